@@ -1,0 +1,5 @@
+pub mod Cuts
+pub mod Laws
+pub mod Names
+pub mod Paths
+pub mod Reading

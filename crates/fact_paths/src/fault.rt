@@ -1,0 +1,34 @@
+ghost use Rattle.std.specs.Prelude.{◌≡◌};
+ghost use Rattle.fact_paths.specs.declared.fault.PathFault.TheVariants.{NoMemory};
+
+use std::alloc::AllocError;
+use std::error::Error;
+use std::fmt;
+
+/// Why no name or path was read.
+#[derive(Clone, Copy, Debug, PartialEq, Eq)]
+pub enum PathFault {
+    /// The text spells none.
+    BadPath,
+    /// No memory was left for a copy of a name.
+    NoMemory,
+}
+
+impl From<AllocError> for PathFault {
+    ghost from_gives = { λ _ fault. fault ≡ NoMemory };
+
+    fn from(_error: AllocError) -> PathFault {
+        PathFault::NoMemory
+    }
+}
+
+impl fmt::Display for PathFault {
+    fn fmt<W: fmt::Write>(&self, f: &mut fmt::Formatter<W>) -> fmt::Result {
+        match self {
+            PathFault::BadPath => write!(f, "not a path"),
+            PathFault::NoMemory => write!(f, "out of memory"),
+        }
+    }
+}
+
+impl Error for PathFault {}

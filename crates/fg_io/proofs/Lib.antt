@@ -1,0 +1,7 @@
+pub mod ConsumedLaws
+pub mod Cuts
+mod Examples
+pub mod Fetched
+pub mod KeptFiles
+pub mod Rising
+pub mod SentLaws

@@ -1,0 +1,10 @@
+-- The numbers of calls, from 1.
+use Rattle.std.specs.Prelude.{ℕ, ◌+◌, ◌-◌, ◌^◌, min, List, Contains}
+
+-- a count, one higher; it stands still at the greatest u64
+abbrev pub next_count : ℕ → ℕ
+next_count count = min (count + 1) (2 ^ 64 - 1)
+
+-- the call after so many is one of those that fail
+abbrev pub Fails : List ℕ → ℕ → Type 0
+Fails failing calls = Contains failing (next_count calls)

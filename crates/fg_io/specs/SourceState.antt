@@ -1,0 +1,26 @@
+-- A source in memory.
+use Rattle.std.specs.Prelude.{ℕ, min, List, length, drop}
+use Rattle.fg_io.specs.Calls.{next_count}
+
+pub record SourceState : Type 0 where
+  -- the bytes left
+  pub left : List ℕ
+  -- how many a call gives at most
+  pub most : ℕ
+  -- the numbers of the calls that fail
+  pub failing : List ℕ
+  -- how many calls there were, and how many of them failed
+  pub calls : ℕ
+  pub faults : ℕ
+
+-- how many bytes a pull into a buffer of this length gives
+abbrev pub given_count : SourceState → ℕ → ℕ
+given_count source len = min source.most (min len (length source.left))
+
+-- after a pull that gave so many bytes
+abbrev pub after_giving : SourceState → ℕ → SourceState
+after_giving source count = record source { left = drop count source.left; calls = next_count source.calls }
+
+-- after a pull that failed
+abbrev pub after_failing : SourceState → SourceState
+after_failing source = record source { calls = next_count source.calls; faults = next_count source.faults }

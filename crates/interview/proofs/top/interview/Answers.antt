@@ -1,0 +1,5 @@
+use Rattle.interview.proofs.ExactLaws.{interviewed}
+use Rattle.interview.proofs.top.interview.Goals as goal
+
+pub returns : goal.returns
+returns g c = interviewed _ _ _ c.attempt.ensures.ends

@@ -1,0 +1,180 @@
+-- How an interview ends: for each status, what was written and why it came.
+use Rattle.std.specs.Prelude.{◌≡◌, ◌⊎◌, ℕ, false, List, [], ◌∷◌, take, Option, Some, None}
+use Rattle.std.specs.Io.KnownBytes.{Appends, Keeps, Consumes}
+use Rattle.fg_io.specs.Outside.{Rose, MayBe, Told, missing, holds, MayHold}
+use Rattle.fg_io.specs.Sent.{Sent}
+use Rattle.script_lines.specs.Lines.{script_lines, ended_lines}
+use Rattle.interview.specs.declared.status.Status.{Status}
+use Rattle.interview.specs.declared.status.Status.TheVariants.{Done, DictionaryRefused, Usage, FetchFault, ReadFault, WriteFault, ScriptTooLong, NoMemory}
+use Rattle.interview.specs.Words.{IsRun, HasNoForm}
+use Rattle.interview.specs.Dictionary.{Dict}
+use Rattle.interview.specs.Json.{dictionary_of}
+use Rattle.interview.specs.Replies.{at_start, replies, state_after}
+use Rattle.interview.specs.Interview.{Defined, usage, defined, defined_script}
+
+-- a count of faults before a call, and after it
+pub record Counted : Type 0 where
+  pub before : ℕ
+  pub after : ℕ
+
+abbrev pub Rises : Counted → Type 0
+Rises count = Rose count.before count.after
+
+-- what a stream tells before a call, and after it: the bytes that a sink took, or those that a source has left
+pub record Stream : Type 0 where
+  pub before : Option (List ℕ)
+  pub after : Option (List ℕ)
+
+abbrev pub SentWhole : Stream → List ℕ → Type 0
+SentWhole taken text = Appends taken.before taken.after text
+
+-- a prefix of the text was written
+abbrev pub SentPart : Stream → List ℕ → Type 0
+SentPart taken text = (rest : List ℕ) × Sent taken.before taken.after text rest
+
+abbrev pub SentNothing : Stream → Type 0
+SentNothing taken = Keeps taken.before taken.after
+
+-- ---- a script over an accepted dictionary
+
+-- what a script did to the outside
+pub record ScriptDid : Type 0 where
+  pub left : Stream
+  pub taken : Stream
+  pub source : Counted
+  pub sink : Counted
+
+-- the replies to these first lines, whole
+abbrev pub RepliedTo : Dict → ScriptDid → List ℕ → Type 0
+RepliedTo dict did bytes = SentWhole did.taken (replies dict (at_start dict) (ended_lines bytes))
+
+-- it ended as defined for some script that it may have been given, with the text whole
+abbrev pub ScriptEndsAs : Dict → ScriptDid → Status → Type 0
+ScriptEndsAs dict did status = (script : List ℕ) × MayBe did.left.before script × ((defined_script dict script).status ≡ status) × SentWhole did.taken (defined_script dict script).text
+
+-- a read failed behind these bytes, in which no `quit` ended: the lines that ended in them were answered, and no other
+pub record ReadSoFar (dict : Dict) (did : ScriptDid) : Type 0 where
+  pub bytes : List ℕ
+  pub read : Consumes did.left.before did.left.after bytes
+  pub unquit : (state_after dict (at_start dict) (ended_lines bytes)).over ≡ false
+  pub replied : RepliedTo dict did bytes
+
+-- whole replies to the first lines of a script that it may have been given
+pub record RepliedFirst (dict : Dict) (did : ScriptDid) : Type 0 where
+  pub script : List ℕ
+  pub read : MayBe did.left.before script
+  pub count : ℕ
+  pub replied : SentWhole did.taken (replies dict (at_start dict) (take count (script_lines script)))
+
+abbrev pub ScriptEnds : Dict → ScriptDid → Status → Type 0
+ScriptEnds dict did Done = ScriptEndsAs dict did Done
+ScriptEnds dict did ScriptTooLong = ScriptEndsAs dict did ScriptTooLong
+ScriptEnds dict did ReadFault = Rises did.source × ReadSoFar dict did
+ScriptEnds dict did WriteFault = Rises did.sink × ((script : List ℕ) × MayBe did.left.before script × SentPart did.taken (defined_script dict script).text)
+ScriptEnds dict did NoMemory = RepliedFirst dict did
+ScriptEnds dict did other = ⊥
+
+-- ---- an interview
+
+-- what an interview is given
+pub record Given : Type 0 where
+  pub words : List (List ℕ)
+  pub told : List ℕ → Told
+  pub left : Option (List ℕ)
+
+-- what an interview did to the outside
+pub record Did : Type 0 where
+  pub shelf : Counted
+  pub failed_name : List ℕ
+  pub script : ScriptDid
+
+-- a run that it may have been given: where contents are told, it was
+pub record Run (given : Given) : Type 0 where
+  pub name : List ℕ
+  pub bytes : List ℕ
+  pub script : List ℕ
+  pub asked : IsRun given.words name
+  pub held : MayHold (given.told name) bytes
+  pub read : MayBe given.left script
+
+-- a dictionary that it may have been given, and that is accepted
+pub record Accepted (given : Given) : Type 0 where
+  pub name : List ℕ
+  pub bytes : List ℕ
+  pub dict : Dict
+  pub asked : IsRun given.words name
+  pub held : MayHold (given.told name) bytes
+  pub accepted : dictionary_of bytes ≡ Some dict
+
+-- the run has this status, and its text was written whole
+abbrev pub EndsAs : Given → Did → Status → Type 0
+EndsAs given did status = (run : Run given) × ((defined run.bytes run.script).status ≡ status) × SentWhole did.script.taken (defined run.bytes run.script).text
+
+-- a prefix of what is to be written was
+abbrev pub WritesPart : Given → Did → Type 0
+WritesPart given did = (HasNoForm given.words × SentPart did.script.taken usage.text) ⊎ ((run : Run given) × SentPart did.script.taken (defined run.bytes run.script).text)
+
+-- The table of ends: the text of each status, and its cause.
+abbrev pub Ends : Given → Did → Status → Type 0
+Ends given did Done = EndsAs given did Done
+Ends given did DictionaryRefused = EndsAs given did DictionaryRefused
+Ends given did Usage = HasNoForm given.words × SentWhole did.script.taken usage.text
+Ends given did FetchFault = Rises did.shelf × IsRun given.words did.failed_name × SentNothing did.script.taken
+Ends given did ReadFault = Rises did.script.source × ((over : Accepted given) × ReadSoFar over.dict did.script)
+Ends given did WriteFault = Rises did.script.sink × WritesPart given did
+Ends given did ScriptTooLong = EndsAs given did ScriptTooLong
+Ends given did NoMemory = SentNothing did.script.taken ⊎ ((over : Accepted given) × RepliedFirst over.dict did.script)
+
+-- ---- the dictionary
+
+-- some bytes that the name may hold spell this dictionary, or none
+abbrev pub FetchedAs : Told → Option Dict → Type 0
+FetchedAs told found = (bytes : List ℕ) × MayHold told bytes × (dictionary_of bytes ≡ found)
+
+-- no dictionary was had: the shelf failed to give the name, or there was no memory
+abbrev pub NotFetched : List ℕ → ℕ → ℕ → List ℕ → Status → Type 0
+NotFetched name faults faults_now failed_name FetchFault = Rose faults faults_now × (failed_name ≡ name)
+NotFetched name faults faults_now failed_name NoMemory = Unit {0}
+NotFetched name faults faults_now failed_name other = ⊥
+
+-- a text was written whole, with this status, or in part after a fault
+abbrev pub EndedBy : Option (List ℕ) → Option (List ℕ) → ℕ → ℕ → List ℕ → Status → Status → Type 0
+EndedBy taken taken_now faults faults_now text whole status =
+    ((status ≡ whole) × Appends taken taken_now text) ⊎ ((status ≡ WriteFault) × Rose faults faults_now × ((rest : List ℕ) × Sent taken taken_now text rest))
+
+-- ---- what is known of an interview when it ends
+
+abbrev pub IsOneOf : Status → List Status → Type 0
+IsOneOf status [] = ⊥
+IsOneOf status (s ∷ ss) = (status ≡ s) ⊎ IsOneOf status ss
+
+-- a run whose dictionary and script are told
+pub record KnownRun (given : Given) : Type 0 where
+  pub name : List ℕ
+  pub bytes : List ℕ
+  pub script : List ℕ
+  pub asked : IsRun given.words name
+  pub held : given.told name ≡ holds bytes
+  pub read : given.left ≡ Some script
+
+-- it ended as defined, with the text whole
+abbrev pub EndedAs : Did → Status → Defined → Type 0
+EndedAs did status d = (status ≡ d.status) × SentWhole did.script.taken d.text
+
+-- a fetch of a name of the words failed
+abbrev pub FetchFailed : Given → Did → Type 0
+FetchFailed given did = Rises did.shelf × IsRun given.words did.failed_name
+
+pub record Interviewed (given : Given) (did : Did) (status : Status) : Type 0 where
+  -- each status with its text and its cause
+  pub ends : Ends given did status
+  -- words without a form are told so
+  pub no_form : HasNoForm given.words → IsOneOf status (Usage ∷ WriteFault ∷ NoMemory ∷ [])
+  -- a name that isn't there is a failed fetch
+  pub missing : (name : List ℕ) → IsRun given.words name → given.told name ≡ missing → IsOneOf status (FetchFault ∷ NoMemory ∷ [])
+  -- a dictionary that is told and refused is said to be, whatever the script
+  pub refused : (name bytes : List ℕ) → IsRun given.words name → given.told name ≡ holds bytes → dictionary_of bytes ≡ None → IsOneOf status (DictionaryRefused ∷ FetchFault ∷ WriteFault ∷ NoMemory ∷ [])
+  -- a run that is told ends as defined, or by a fault of the outside, or for want of memory
+  pub exact : (run : KnownRun given) → EndedAs did status (defined run.bytes run.script) ⊎ IsOneOf status (FetchFault ∷ ReadFault ∷ WriteFault ∷ NoMemory ∷ [])
+  -- and where the outside doesn't fail, it ends as defined, or for want of memory
+  pub complete : (run : KnownRun given) → (FetchFailed given did → ⊥) → (Rises did.script.source → ⊥) → (Rises did.script.sink → ⊥) → EndedAs did status (defined run.bytes run.script) ⊎ (status ≡ NoMemory)

@@ -1,0 +1,12 @@
+pub mod Codes
+pub mod Paths
+pub mod Command
+pub mod Dictionary
+pub mod Json
+pub mod Evaluation
+pub mod Replies
+pub mod Words
+pub mod Interview
+pub mod Hearing
+pub mod Going
+pub mod Ends

@@ -1,0 +1,68 @@
+-- What is kept of a line reads the same as the line.
+use Rattle.std.proofs.Common.{◌≡◌, ◌≢◌, ℕ, ◌+◌, ◌-◌, ◌<◌, ◌≤◌, min, Bool, true, false, List, [], ◌∷◌, ◌++◌, length, take, drop, refl, sym, ◌∙◌, ap, arith, append_assoc, length-append}
+use Rattle.std.specs.Prelude.{map, nat_lt, ◌||◌}
+use Rattle.std.proofs.lemmas.Bool.Decides.{nat_tests}
+use Rattle.std.proofs.lemmas.List.{take_all, length-take, take-append-drop, drop_more}
+use Rattle.std.proofs.lemmas.List.Elements.{All-push, All-take}
+use Rattle.script_lines.specs.Lines.{line_of, script_lines, HasNoNewline, IsNewlineAt}
+use Rattle.script_lines.specs.Kept.{read_as, GoesOnAs}
+use Rattle.script_lines.proofs.Bytes.{HasNoNewline-append, lines_of-newline, lines_of-last, long_same}
+
+pub HasNoNewline-read_as : (bytes : List ℕ) (is_long : Bool) → HasNoNewline bytes → HasNoNewline (read_as bytes is_long)
+HasNoNewline-read_as bytes true none = All-push (λ b. b ≢ 10) bytes 0 none (omega arith)
+HasNoNewline-read_as bytes false none = none
+
+pub length-read_as : (bytes : List ℕ) (is_long : Bool) → length bytes ≤ length (read_as bytes is_long)
+length-read_as bytes true = omega (arith, length-append bytes (0 ∷ []))
+length-read_as bytes false = omega arith
+
+-- a line and what is kept of it are both over the limit
+adds_over : (line text kept : List ℕ) → HasNoNewline line → HasNoNewline text → HasNoNewline kept → 4096 < length line + length text → length kept ≡ 4096
+    → GoesOnAs line text (read_as kept true)
+adds_over line text kept none text_none kept_none over full = λ more.
+    ap script_lines (sym (append_assoc line text more))
+    ∙ long_same (line ++ text) (read_as kept true) more (HasNoNewline-append line text none text_none) (HasNoNewline-read_as kept true kept_none) (omega (arith, length-append line text))
+    (omega (arith, length-append kept (0 ∷ [])))
+
+-- a text is added, of which as much is kept as fits
+pub adds : (bytes text : List ℕ) (is_long : Bool) (count : ℕ) → HasNoNewline bytes → length bytes ≤ 4096 → (is_long ≡ true → length bytes ≡ 4096) → HasNoNewline text
+    → count ≡ min (length text) (4096 - length bytes) → GoesOnAs (read_as bytes is_long) text (read_as (bytes ++ take count text) (is_long || nat_lt count (length text)))
+adds bytes text is_long count none fits full text_none is = by_long is_long full
+  where
+    kept_none : HasNoNewline (bytes ++ take count text)
+    kept_none = HasNoNewline-append bytes (take count text) none (All-take (λ b. b ≢ 10) count text text_none)
+
+    kept_long : length (bytes ++ take count text) ≡ length bytes + count
+    kept_long = omega (arith, length-append bytes (take count text), length-take count text)
+
+    by_rest : (has_rest : Bool) → has_rest ≡ nat_lt count (length text) → GoesOnAs bytes text (read_as (bytes ++ take count text) has_rest)
+    by_rest true says =
+        let less : count < length text = grind (arith, nat_tests) in
+        adds_over bytes text (bytes ++ take count text) none text_none kept_none (omega arith) (omega (arith, kept_long))
+    by_rest false says =
+        let all : length text ≤ count = grind (arith, nat_tests) in
+        λ more. ap script_lines (sym (append_assoc bytes text more)) ∙ ap (λ kept. script_lines ((bytes ++ kept) ++ more)) (sym (take_all count text all))
+
+    by_long : (is_long : Bool) → (is_long ≡ true → length bytes ≡ 4096)
+        → GoesOnAs (read_as bytes is_long) text (read_as (bytes ++ take count text) (is_long || nat_lt count (length text)))
+    by_long true full =
+        let all : length bytes ≡ 4096 = full refl in
+        adds_over (read_as bytes true) text (bytes ++ take count text) (HasNoNewline-read_as bytes true none) text_none kept_none (omega (arith, length-append bytes (0 ∷ []))) (omega (arith, kept_long))
+    by_long false full = by_rest (nat_lt count (length text)) refl
+
+-- the line that a newline ends, and what follows it
+pub ends : (before piece line more : List ℕ) (at : ℕ) → IsNewlineAt piece at → HasNoNewline line → GoesOnAs before (take at piece) line
+    → script_lines (before ++ (piece ++ more)) ≡ line_of line ∷ script_lines (drop (at + 1) piece ++ more)
+ends before piece line more at newline none goes =
+    let rest = drop (at + 1) piece in
+    let parts : piece ≡ take at piece ++ 10 ∷ rest =
+    sym (take-append-drop at piece) ∙ ap (λ l. take at piece ++ l) (drop_more piece at 0 newline.within ∙ ap (λ b. b ∷ rest) newline.here) in
+    ap (λ l. script_lines (before ++ (l ++ more))) parts
+    ∙ ap (λ l. script_lines (before ++ l)) (append_assoc (take at piece) (10 ∷ rest) more)
+    ∙ goes (10 ∷ rest ++ more)
+    ∙ ap (map line_of) (lines_of-newline line (rest ++ more) none)
+
+-- the last line, where it has a byte
+pub ends_script : (line : List ℕ) → HasNoNewline line → 0 < length line → script_lines line ≡ line_of line ∷ []
+ends_script [] none some = absurd (omega arith)
+ends_script (b ∷ line) none some = ap (map line_of) (lines_of-last (b ∷ line) none)

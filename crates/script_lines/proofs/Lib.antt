@@ -1,0 +1,4 @@
+pub mod Bytes
+pub mod EndedLaws
+pub mod JoinedLaws
+pub mod Keeping

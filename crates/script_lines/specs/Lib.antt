@@ -1,0 +1,4 @@
+pub mod Joined
+pub mod Kept
+pub mod Lines
+pub mod Pieces

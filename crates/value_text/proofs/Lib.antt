@@ -1,0 +1,4 @@
+pub mod DigitLemmas
+pub mod DollarExamples
+pub mod PrintedLaws
+pub mod SpellingLaws

@@ -1,0 +1,4 @@
+pub use Rattle.fact_values.specs.Range
+pub mod Digits
+pub mod DollarLaws
+pub mod Dollars
