@@ -1,1 +1,9 @@
+pub mod Days
+pub mod Divisors
 pub mod Examples
+pub mod Nearest
+pub mod NumExamples
+pub mod Rationals
+pub mod RoundingExamples
+pub mod Unique
+pub mod ValueExamples

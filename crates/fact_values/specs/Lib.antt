@@ -1,2 +1,12 @@
+pub mod DayLaws
+pub mod Days
+pub mod Members
+pub mod Numbers
 pub mod Range
+pub mod RatioLaws
+pub mod Rationals
+pub mod Rounding
+pub mod RoundingLaws
+pub mod Texts
 pub mod Totals
+pub mod Values
