@@ -1,16 +1,16 @@
 -- The digits of a member's number.
-use Rattle.std.proofs.Common.{◌≡◌, ◌≢◌, ℕ, ◌^◌, ◌<◌, true, false, ◌&&◌, leb, ltb, List, [], ◌∷◌, length, get_or, Some, None, Result, Err, refl, sym, ap, ◌∙◌, arith}
-use Rattle.std.specs.Prelude.{decimal}
+use Rattle.std.proofs.Common.{◌≡◌, ◌≢◌, ℕ, ◌^◌, ◌<◌, true, false, ◌&&◌, leb, ltb, List, [], ◌∷◌, length, get_or, Option, Some, None, Result, Err, refl, sym, ap, ◌∙◌, arith}
+use Rattle.std.specs.Prelude.{decimal, MatchOption}
 use Rattle.std.specs.Char.{is_ascii_digit}
 use Rattle.std.specs.Str.{all_ascii_digits}
 use Rattle.std.specs.Str.Parse.{digits_value, ParsesUnsigned}
 use Rattle.std.proofs.lemmas.Bool.{and_parts, and_from, false≢true, ltb-true, leb-true, lt-leb, le-leb, lt-ltb}
 use Rattle.std.proofs.lemmas.Fmt.{decimal_digit, decimal-digits_value, digits_decimal, digits_value-decimal, decimal_nonempty, first_decimal}
-use Rattle.std.proofs.lemmas.Option.{cond_some}
+use Rattle.std.proofs.lemmas.Option.{cond_some, none-some}
 use Rattle.std.proofs.lemmas.Result.{OkIff-at_err}
 use Rattle.std.proofs.lemmas.Str.Parse.{IsNumeralModel, numerals_by_value, tells_all_ascii_digits, parse_digits}
 use Rattle.fact_paths.specs.Cuts.{Lacks}
-use Rattle.fact_paths.specs.Paths.{IsMemberNumber}
+use Rattle.fact_paths.specs.Paths.{IsMemberNumber, SpellsMemberNumber}
 use Rattle.fact_paths.specs.Reading.{is_numeral, member_number_of}
 
 -- the digits of `parse`, and their value
@@ -65,6 +65,12 @@ pub member_number-decimal : (k : ℕ) → IsMemberNumber k → member_number_of 
 member_number-decimal k h =
     let value = digits_value-decimal own k (omega (arith, h.1)) in
     rw (numeral-decimal k h, value, le-leb k 1000000 h.1) refl
+
+-- so a text is read as the number that it spells, if there is one
+pub member_number_reads : (text : List ℕ) (read : Option ℕ) → read ≡ member_number_of text
+    → MatchOption read ((k : ℕ) → ¬ (SpellsMemberNumber text k)) (SpellsMemberNumber text)
+member_number_reads text None is = λ k spelled. none-some k (is ∙ ap member_number_of spelled.1 ∙ member_number-decimal k spelled.0)
+member_number_reads text (Some k) is = member_number_some text k (sym is)
 
 -- ---- what `parse` gives
 

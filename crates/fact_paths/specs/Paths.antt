@@ -54,6 +54,10 @@ SpellsUsePath text path = IsUsePath path × (text ≡ use_path_text path)
 abbrev pub IsMemberNumber : ℕ → Type 0
 IsMemberNumber k = (1 ≤ k) × (k ≤ 1000000)
 
+-- a number is spelled in decimal
+abbrev pub SpellsMemberNumber : List ℕ → ℕ → Type 0
+SpellsMemberNumber text k = IsMemberNumber k × (text ≡ decimal k)
+
 -- `/N`, and `/N/#K/M`
 abbrev pub slot_path_text : SlotPath → List ℕ
 slot_path_text (slots.Global n) = codes "/" ++ n

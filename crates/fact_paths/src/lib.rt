@@ -15,5 +15,5 @@ pub use fact_path::{FactPath, read_fact_path};
 pub use fault::PathFault;
 pub use laws::{fact_paths_have_one_text, slot_paths_have_one_text, use_paths_have_one_text};
 pub use name::Name;
-pub use slot_path::{SlotPath, read_slot_path};
+pub use slot_path::{SlotPath, read_member_number, read_slot_path};
 pub use use_path::{UsePath, read_use_path};

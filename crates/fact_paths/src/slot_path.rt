@@ -1,7 +1,7 @@
-ghost use Rattle.std.specs.Prelude.{◌≡◌};
+ghost use Rattle.std.specs.Prelude.{◌≡◌, ℕ, MatchOption};
 ghost use Rattle.std.specs.Str.{all_ascii_digits};
 ghost use Rattle.fact_paths.specs.Cuts.{at_slash};
-ghost use Rattle.fact_paths.specs.Paths.{Reads, SpellsSlotPath};
+ghost use Rattle.fact_paths.specs.Paths.{Reads, SpellsMemberNumber, SpellsSlotPath};
 ghost use Rattle.fact_paths.specs.Reading.{Gives, is_numeral, member_number_of, slot_member_from, slot_path_from};
 
 use crate::cut::{cut_at_slash, strip};
@@ -55,6 +55,14 @@ fn member_number(text: &str) -> Option<u32>
             }
         }
     }
+}
+
+/// The number of a member, from 1 to 1,000,000, that the text spells in decimal without a leading zero.
+pub fn read_member_number(text: &str) -> Option<u32>
+    ensures number { result ≡ member_number_of text.now }
+    ensures spelled { MatchOption result ((k : ℕ) → ¬ (SpellsMemberNumber text.now k)) (SpellsMemberNumber text.now) }
+{
+    member_number(text)
 }
 
 fn read_member(alloc: Global, collection: &str, text: &str) -> Result<SlotPath, PathFault>

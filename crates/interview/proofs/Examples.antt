@@ -8,36 +8,14 @@ use Rattle.serde_json.specs.Data.{Data, string, array, object, Items, no_items, 
 use Rattle.script_lines.specs.Lines.{script_lines}
 use Rattle.interview.specs.declared.body.Body.TheVariants.{Writable, Sum}
 use Rattle.interview.specs.declared.result.Res.TheVariants.{Complete, Incomplete}
-use Rattle.interview.specs.declared.command.Command.TheVariants.{Set, Get, Quit}
 use Rattle.interview.specs.Dictionary.{Dict}
 use Rattle.interview.specs.Json.{fact_after, dict_of}
 use Rattle.interview.specs.Evaluation.{within, plain}
-use Rattle.interview.specs.Command.{nothing, bad_line, command, heard_in}
 use Rattle.interview.specs.Replies.{at_start, replies}
 
 -- `/a` and `/b` are answered, and `/s` is their sum
 abbrev three : Dict
 three = record { names = codes "a" ∷ codes "b" ∷ codes "s" ∷ []; bodies = Writable ∷ Writable ∷ Sum (0 ∷ 1 ∷ []) ∷ [] }
-
--- ---- commands
-
-heard_in-empty : heard_in [] ≡ nothing
-heard_in-empty = refl
-
-heard_in-note : heard_in (codes "# note") ≡ nothing
-heard_in-note = refl
-
-heard_in-quit : heard_in (codes "quit" ++ 13 ∷ []) ≡ command Quit
-unfolding is_utf8 chars encode
-heard_in-quit = refl
-
-heard_in-set : heard_in (codes "set /a  1.50") ≡ command (Set (codes "a") (codes " 1.50"))
-unfolding is_utf8 chars encode
-heard_in-set = refl
-
-heard_in-set_without_value : heard_in (codes "set /a") ≡ bad_line
-unfolding is_utf8 chars encode
-heard_in-set_without_value = refl
 
 -- ---- plain evaluation
 
@@ -74,6 +52,12 @@ replies-refused : replies three (at_start three) (script_lines (codes "get /zz" 
     ≡ codes "refused 3 UnknownFact" ++ newline ++ codes "refused 5 WrongKind" ++ newline ++ codes "refused 6 BadValue" ++ newline ++ codes "refused 1 BadLine" ++ newline
 unfolding within plain is_utf8 chars encode
 replies-refused = refl
+
+-- commands that aren't carried out so far
+replies-other_commands : replies three (at_start three) (script_lines (codes "undo" ++ newline ++ codes "get /c/#1/a" ++ newline ++ codes "remove /a #1"))
+    ≡ codes "refused 1 BadLine" ++ newline ++ codes "refused 1 BadLine" ++ newline ++ codes "refused 1 BadLine" ++ newline
+unfolding within plain is_utf8 chars encode
+replies-other_commands = refl
 
 -- ---- JSON, an object's members in the order of their keys
 

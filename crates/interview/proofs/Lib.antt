@@ -1,4 +1,3 @@
-pub mod CommandLaws
 pub mod DictLaws
 pub mod EndLaws
 pub mod ExactLaws

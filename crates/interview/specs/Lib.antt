@@ -1,6 +1,5 @@
 pub mod Codes
 pub mod Paths
-pub mod Command
 pub mod Dictionary
 pub mod Json
 pub mod Evaluation

@@ -1,6 +1,11 @@
 -- What a command answers, and what it leaves.
 use Rattle.std.specs.Prelude.{◌≡◌, ℕ, ◌<◌, ℤ, Bool, true, false, List, [], ◌∷◌, ◌++◌, length, replicate, codes, slice_get, slice_set, Option, Some, None, if◌then◌else◌}
+use Rattle.fact_paths.specs.declared.slot_path.SlotPath.{SlotPath}
+use Rattle.fact_paths.specs.declared.slot_path.SlotPath.TheVariants.{Global, Member}
 use Rattle.script_lines.specs.Lines.{ScriptLine, whole, long}
+use Rattle.script_lines.specs.Reading.{Heard, nothing, bad_line, command, heard_in}
+use Rattle.script_lines.specs.declared.command.Command.{Command}
+use Rattle.script_lines.specs.declared.command.Command.TheVariants.{Set, Get, Quit}
 use Rattle.value_text.specs.Dollars.{dollar_at, printed_dollar}
 use Rattle.fact_values.specs.declared.fault.ValueFault.{ValueFault}
 use Rattle.fact_values.specs.declared.fault.ValueFault.TheVariants.{Overflow, ZeroDivide}
@@ -8,15 +13,12 @@ use Rattle.interview.specs.declared.body.Body.{Body}
 use Rattle.interview.specs.declared.body.Body.TheVariants.{Writable, Sum}
 use Rattle.interview.specs.declared.result.Res.{Res}
 use Rattle.interview.specs.declared.result.Res.TheVariants.{Complete, Incomplete, Fault}
-use Rattle.interview.specs.declared.command.Command.{Command}
-use Rattle.interview.specs.declared.command.Command.TheVariants.{Set, Get, Quit}
 use Rattle.interview.specs.declared.reply.Reply.{Reply}
 use Rattle.interview.specs.declared.reply.Reply.TheVariants.{Done, Answer, Refused}
 use Rattle.interview.specs.declared.reply.Refusal.{Refusal}
 use Rattle.interview.specs.declared.reply.Refusal.TheVariants.{BadLine, LongLine, UnknownFact, WrongKind, BadValue}
 use Rattle.interview.specs.Dictionary.{Dict, place_of}
 use Rattle.interview.specs.Evaluation.{result_at, plain}
-use Rattle.interview.specs.Command.{Heard, nothing, bad_line, command, heard_in}
 
 -- ---- the text of a reply
 
@@ -82,6 +84,15 @@ abbrev pub said_get_at : Dict → Answers → Option ℕ → Said
 said_get_at dict answers None = refuse answers UnknownFact
 said_get_at dict answers (Some place) = record { reply = Answer (plain dict.bodies answers place); answers = answers }
 
+-- of the slots only those that stand once are known so far
+abbrev pub said_set_slot : Dict → Answers → SlotPath → List ℕ → Said
+said_set_slot dict answers (Global name) value = said_set_at dict answers (place_of dict.names name) value
+said_set_slot dict answers (Member collection member name) value = refuse answers BadLine
+
+abbrev pub said_get_slot : Dict → Answers → SlotPath → Said
+said_get_slot dict answers (Global name) = said_get_at dict answers (place_of dict.names name)
+said_get_slot dict answers (Member collection member name) = refuse answers BadLine
+
 -- what a session stands for
 pub record Standing : Type 0 where
   pub dict : Dict
@@ -110,10 +121,12 @@ pub record Step : Type 0 where
 abbrev pub step_said : Said → Step
 step_said said = record { text = line_with (reply_text said.reply); state = record { answers = said.answers; over = false } }
 
+-- the other commands aren't carried out so far
 abbrev pub step_command : Dict → Answers → Command → Step
-step_command dict answers (Set name value) = step_said (said_set_at dict answers (place_of dict.names name) value)
-step_command dict answers (Get name) = step_said (said_get_at dict answers (place_of dict.names name))
+step_command dict answers (Set slot value) = step_said (said_set_slot dict answers slot value)
+step_command dict answers (Get slot) = step_said (said_get_slot dict answers slot)
 step_command dict answers Quit = record { text = []; state = record { answers = answers; over = true } }
+step_command dict answers _ = step_said (refuse answers BadLine)
 
 abbrev pub step_heard : Dict → Answers → Heard → Step
 step_heard dict answers nothing = record { text = []; state = record { answers = answers; over = false } }

@@ -1,14 +1,14 @@
 // Answers the lines of a script while its bytes come.
-ghost use Rattle.std.specs.Prelude.{◌≡◌, ◌≤◌, ◌∷◌, []};
+ghost use Rattle.std.specs.Prelude.{◌≡◌, ◌≤◌, ◌∷◌, [], length};
 ghost use Rattle.script_lines.specs.Lines.{told, script_lines, whole, HasNoNewline};
-ghost use Rattle.interview.specs.Replies.{reply_text, line_with, step_command};
+ghost use Rattle.interview.specs.Replies.{reply_text, line_with, said_get_slot, said_set_slot, step_command};
 ghost use Rattle.interview.specs.Hearing.{SteppedAs, AnsweredAs, ToldAs, HeardAs};
 
-use crate::command::{Command, LineFault, command_of};
 use crate::reply::{Refusal, Reply, print_reply};
 use crate::session::Session;
+use fact_paths::SlotPath;
 use fg_io::{Failed, Sink, put_all};
-use script_lines::{Lines, Ready};
+use script_lines::{Command, LineFault, Lines, Ready, command_of};
 use std::alloc::Global;
 use value_text::Line;
 
@@ -38,7 +38,29 @@ fn tell<K: Sink>(reply: Reply, out: &mut K) -> Hearing
     }
 }
 
-// Answers a command.
+// Answers a slot by the amount that the text spells.
+fn set(session: &mut Session, slot: &SlotPath, value: &str) -> Reply
+    ensures said { said_set_slot session.old.dict session.old.answers slot.now value.now ≡ record { reply = result; answers = session.new.answers } }
+    ensures dict { session.new.dict ≡ session.old.dict }
+{
+    match slot {
+        SlotPath::Global(name) => session.set(name.as_str(), value),
+        SlotPath::Member(_, _, _) => Reply::Refused(Refusal::BadLine),
+    }
+}
+
+// The result of a slot.
+fn get(session: &mut Session, slot: &SlotPath) -> Reply
+    ensures said { said_get_slot session.old.dict session.old.answers slot.now ≡ record { reply = result; answers = session.new.answers } }
+    ensures dict { session.new.dict ≡ session.old.dict }
+{
+    match slot {
+        SlotPath::Global(name) => session.get(name.as_str()),
+        SlotPath::Member(_, _, _) => Reply::Refused(Refusal::BadLine),
+    }
+}
+
+// Answers a command. Those that aren't carried out so far are bad lines.
 fn obey<K: Sink>(session: &mut Session, command: &Command, out: &mut K) -> Hearing
     ensures stepped { SteppedAs (K.taken out.old) (K.taken out.new) (K.faults out.old) (K.faults out.new)
         (step_command session.old.dict session.old.answers command.now) session.new.answers result }
@@ -46,20 +68,22 @@ fn obey<K: Sink>(session: &mut Session, command: &Command, out: &mut K) -> Heari
     ensures later { K.faults out.old ≤ K.faults out.new }
 {
     match command {
-        Command::Set(name, value) => {
-            let reply = session.set(name.as_str(), value.as_str());
+        Command::Set(slot, value) => {
+            let reply = set(session, slot, value.as_str());
             tell(reply, out)
         }
-        Command::Get(name) => {
-            let reply = session.get(name.as_str());
+        Command::Get(slot) => {
+            let reply = get(session, slot);
             tell(reply, out)
         }
         Command::Quit => Hearing::Over,
+        _ => tell(Reply::Refused(Refusal::BadLine), out),
     }
 }
 
 // Answers a line of at most 4,096 bytes.
 fn answer_line<K: Sink>(alloc: Global, session: &mut Session, line: &[u8], out: &mut K) -> Hearing
+    requires { length line.now ≤ 4096 }
     ensures answered { AnsweredAs session.old.dict (K.taken out.old) (K.taken out.new) (K.faults out.old) (K.faults out.new)
         session.old.answers session.new.answers (whole line.now ∷ []) result }
     ensures dict { session.new.dict ≡ session.old.dict }
@@ -81,6 +105,7 @@ pub fn answer<K: Sink>(
     line: &[u8],
     out: &mut K,
 ) -> Hearing
+    requires { length line.now ≤ 4096 }
     ensures answered { AnsweredAs session.old.dict (K.taken out.old) (K.taken out.new) (K.faults out.old) (K.faults out.new)
         session.old.answers session.new.answers (told ready line.now) result }
     ensures dict { session.new.dict ≡ session.old.dict }

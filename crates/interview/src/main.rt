@@ -2,7 +2,6 @@
 #![tactic(auto)]
 
 mod body;
-mod command;
 mod dictionary;
 mod evaluation;
 mod global;

@@ -1,10 +1,13 @@
 -- What is kept of a line reads the same as the line.
 use Rattle.std.proofs.Common.{◌≡◌, ◌≢◌, ℕ, ◌+◌, ◌-◌, ◌<◌, ◌≤◌, min, Bool, true, false, List, [], ◌∷◌, ◌++◌, length, take, drop, refl, sym, ◌∙◌, ap, arith, append_assoc, length-append}
-use Rattle.std.specs.Prelude.{map, nat_lt, ◌||◌}
+use Rattle.std.specs.Prelude.{map, nat_le, nat_lt, ◌||◌, if◌then◌else◌}
+use Rattle.std.proofs.lemmas.Bool.{leb-true}
 use Rattle.std.proofs.lemmas.Bool.Decides.{nat_tests}
 use Rattle.std.proofs.lemmas.List.{take_all, length-take, take-append-drop, drop_more}
 use Rattle.std.proofs.lemmas.List.Elements.{All-push, All-take}
-use Rattle.script_lines.specs.Lines.{line_of, script_lines, HasNoNewline, IsNewlineAt}
+use Rattle.script_lines.specs.Lines.{ScriptLine, whole, long, line_of, script_lines, told, HasNoNewline, IsNewlineAt, TakesLine, EndsLine}
+use Rattle.script_lines.specs.declared.lines.Ready.{Ready}
+use Rattle.script_lines.specs.declared.lines.Ready.TheVariants.{NotYet, Whole, Long}
 use Rattle.script_lines.specs.Kept.{read_as, GoesOnAs}
 use Rattle.script_lines.proofs.Bytes.{HasNoNewline-append, lines_of-newline, lines_of-last, long_same}
 
@@ -66,3 +69,53 @@ ends before piece line more at newline none goes =
 pub ends_script : (line : List ℕ) → HasNoNewline line → 0 < length line → script_lines line ≡ line_of line ∷ []
 ends_script [] none some = absurd (omega arith)
 ends_script (b ∷ line) none some = ap (map line_of) (lines_of-last (b ∷ line) none)
+
+-- ---- whether a line is long
+
+-- what is told of a line says how long it is
+says_length : (line kept : List ℕ) (ready : Ready) → told ready kept ≡ line_of line ∷ [] → (ready ≢ NotYet) × (ready ≡ Whole → length line ≤ 4096) × (ready ≡ Long → 4096 < length line)
+says_length line kept ready is = by_test (nat_le (length line) 4096) refl ready is
+  where
+    by_test : (short : Bool) → nat_le (length line) 4096 ≡ short → (ready : Ready) → told ready kept ≡ (if short then whole line else long) ∷ []
+        → (ready ≢ NotYet) × (ready ≡ Whole → length line ≤ 4096) × (ready ≡ Long → 4096 < length line)
+    by_test true says NotYet is = absurd cc
+    by_test true says Whole is = (λ e. cc, λ e. leb-true (length line) 4096 says, λ e. absurd cc)
+    by_test true says Long is = absurd cc
+    by_test false says NotYet is = absurd cc
+    by_test false says Whole is = absurd cc
+    by_test false says Long is = (λ e. cc, λ e. absurd cc, λ e. grind (arith, nat_tests))
+
+-- a line that goes on as another is as long, or both are long
+goes_on_alike : (line text other : List ℕ) → HasNoNewline line → HasNoNewline text → HasNoNewline other → GoesOnAs line text other → line_of (line ++ text) ≡ line_of other
+goes_on_alike line text other none text_none other_none goes =
+    let ended : line_of (line ++ text) ∷ [] ≡ line_of other ∷ [] =
+    sym (ap (map line_of) (lines_of-newline (line ++ text) [] (HasNoNewline-append line text none text_none)))
+    ∙ ap script_lines (append_assoc line text (10 ∷ []))
+    ∙ goes (10 ∷ [])
+    ∙ ap (map line_of) (lines_of-newline other [] other_none) in
+    cc
+
+-- what was taken of a piece
+pub takes : (before piece line kept : List ℕ) (at : ℕ) (ready : Ready) → IsNewlineAt piece at → HasNoNewline before → HasNoNewline line → GoesOnAs before (take at piece) line
+    → told ready kept ≡ line_of line ∷ [] → TakesLine before ready piece (at + 1)
+takes before piece line kept at ready newline none line_none goes is = by_ready ready (says_length (before ++ take at piece) kept ready told_is)
+  where
+    told_is : told ready kept ≡ line_of (before ++ take at piece) ∷ []
+    told_is = is ∙ ap (λ (l : ScriptLine). l ∷ []) (sym (goes_on_alike before (take at piece) line none newline.first line_none goes))
+
+    ended : length (before ++ take at piece) ≡ length before + at
+    ended = omega (arith, length-append before (take at piece), length-take at piece, newline.within)
+
+    by_ready : (ready : Ready) → (ready ≢ NotYet) × (ready ≡ Whole → length (before ++ take at piece) ≤ 4096) × (ready ≡ Long → 4096 < length (before ++ take at piece)) → TakesLine before ready piece (at + 1)
+    by_ready NotYet says = absurd (says.0 refl)
+    by_ready Whole says = (at, refl, newline, omega (arith, ended, says.1 refl))
+    by_ready Long says = (at, refl, newline, omega (arith, ended, says.2 refl))
+
+-- what the last line is
+pub ends_last : (line kept : List ℕ) (ready : Ready) → 0 < length line → told ready kept ≡ line_of line ∷ [] → EndsLine line ready
+ends_last line kept ready some is = by_ready ready (says_length line kept ready is)
+  where
+    by_ready : (ready : Ready) → (ready ≢ NotYet) × (ready ≡ Whole → length line ≤ 4096) × (ready ≡ Long → 4096 < length line) → EndsLine line ready
+    by_ready NotYet says = absurd (says.0 refl)
+    by_ready Whole says = (some, says.1 refl)
+    by_ready Long says = says.2 refl

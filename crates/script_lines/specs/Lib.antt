@@ -1,4 +1,6 @@
+pub mod Commands
 pub mod Joined
 pub mod Kept
 pub mod Lines
 pub mod Pieces
+pub mod Reading

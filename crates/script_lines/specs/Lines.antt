@@ -1,5 +1,5 @@
 -- How a script is cut into lines, and what is told of them.
-use Rattle.std.specs.Prelude.{◌≡◌, ◌≢◌, ℕ, ◌+◌, ◌<◌, List, [], ◌∷◌, map, length, take, slice_index, if◌then◌else◌, ◌==◌, nat_le, All, codes, replicate, ◌++◌, refl}
+use Rattle.std.specs.Prelude.{◌≡◌, ◌≢◌, ℕ, ◌+◌, ◌<◌, ◌≤◌, List, [], ◌∷◌, map, length, take, slice_index, if◌then◌else◌, ◌==◌, nat_le, All, codes, replicate, ◌++◌, refl}
 use Rattle.script_lines.specs.declared.lines.Ready.{Ready}
 use Rattle.script_lines.specs.declared.lines.Ready.TheVariants.{NotYet, Whole, Long}
 
@@ -61,11 +61,18 @@ told NotYet line = []
 told Whole line = whole line ∷ []
 told Long line = long ∷ []
 
--- `NotYet` took all, and no newline; another answer took the first newline and what is before it
-abbrev pub TakesLine : Ready → List ℕ → ℕ → Type 0
-TakesLine NotYet piece taken = HasNoNewline piece × (taken ≡ length piece)
-TakesLine Whole piece taken = (at : ℕ) × (taken ≡ at + 1) × IsNewlineAt piece at
-TakesLine Long piece taken = (at : ℕ) × (taken ≡ at + 1) × IsNewlineAt piece at
+-- `NotYet` took all, and no newline; another answer took the first newline and what is before it, and says whether the
+-- line that ends there has over 4,096 bytes
+abbrev pub TakesLine : List ℕ → Ready → List ℕ → ℕ → Type 0
+TakesLine so_far NotYet piece taken = HasNoNewline piece × (taken ≡ length piece)
+TakesLine so_far Whole piece taken = (at : ℕ) × (taken ≡ at + 1) × IsNewlineAt piece at × (length so_far + at ≤ 4096)
+TakesLine so_far Long piece taken = (at : ℕ) × (taken ≡ at + 1) × IsNewlineAt piece at × (4096 < length so_far + at)
+
+-- at the end of the script, `NotYet` says that nothing is left, another answer how long the last line is
+abbrev pub EndsLine : List ℕ → Ready → Type 0
+EndsLine so_far NotYet = so_far ≡ []
+EndsLine so_far Whole = (0 < length so_far) × (length so_far ≤ 4096)
+EndsLine so_far Long = 4096 < length so_far
 
 -- worked examples
 script_lines-empty : script_lines [] ≡ []

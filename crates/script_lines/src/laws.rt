@@ -1,6 +1,10 @@
-// Theorems on the lines of a script. Each function's contract is one.
+// Theorems on the lines of a script and on what they spell. Each function's contract is one.
 ghost use Rattle.std.specs.Prelude.{◌≡◌, [], ◌∷◌, ◌++◌, List, ℕ};
 ghost use Rattle.std.specs.List.{AllByRecursion};
+ghost use Rattle.std.specs.Str.{IsUtf8};
+ghost use Rattle.script_lines.specs.Commands.{command_text, IsCommand, IsSilent, SpellsCommand};
+ghost use Rattle.script_lines.specs.Reading.{SaysExactly, heard_in};
+ghost use Rattle.script_lines.specs.declared.command.Command.{Command};
 ghost use Rattle.script_lines.specs.Joined.{joined, last_line};
 ghost use Rattle.script_lines.specs.Lines.{ScriptLine, lines_of, ended_of, script_lines, ended_lines, HasNoNewline};
 
@@ -24,4 +28,13 @@ pub fn ended_lines_stand()
     ensures told { (bytes so_far : List ℕ) (lines : List ScriptLine) → HasNoNewline so_far
         → ((more : List ℕ) → script_lines (bytes ++ more) ≡ lines ++ script_lines (so_far ++ more))
         → lines ≡ ended_lines bytes }
+{}
+
+/// A line spells at most one command, and has a reply where it spells one. What is heard in it is what it spells, and
+/// each command is spelled by its text with a byte 13 behind it.
+pub fn a_line_says_one_thing()
+    ensures one_command { (line : List ℕ) (c d : Command) → SpellsCommand line c → SpellsCommand line d → c ≡ d }
+    ensures reply { (line : List ℕ) (c : Command) → SpellsCommand line c → ¬ (IsSilent line) }
+    ensures text { (command : Command) → IsCommand command → IsUtf8 (command_text command) → SpellsCommand (command_text command ++ 13 ∷ []) command }
+    ensures heard { (line : List ℕ) → SaysExactly line (heard_in line) }
 {}

@@ -1,14 +1,24 @@
-//! Cuts the bytes of a script into lines, however they come.
+//! Cuts the bytes of a script into lines, however they come, and reads each line as a command.
 #![tactic(auto)]
 
+mod command;
+mod fault;
 mod kept;
 mod laws;
 mod lines;
+mod parts;
 mod pieces;
+mod reading;
+mod value;
+mod verb;
 
-pub use laws::{ended_lines_stand, lines_are_those_joined};
+pub use command::Command;
+pub use fault::LineFault;
+pub use laws::{a_line_says_one_thing, ended_lines_stand, lines_are_those_joined};
 pub use lines::{Fed, Lines, Ready};
 pub use pieces::lines_of_pieces;
+pub use reading::command_of;
+pub use value::ValueText;
 
 #[cfg(test)]
 mod tests;

@@ -1,5 +1,5 @@
 ghost use Rattle.std.specs.Prelude.{◌≡◌, ◌<◌, ◌≤◌, [], ◌++◌, List, ℕ, length, drop, IfSome, IfNone, false, if◌then◌else◌};
-ghost use Rattle.script_lines.specs.Lines.{script_lines, told, HasNoNewline, IsNewlineAt, TakesLine};
+ghost use Rattle.script_lines.specs.Lines.{script_lines, told, HasNoNewline, IsNewlineAt, TakesLine, EndsLine};
 ghost use Rattle.script_lines.specs.Kept.{read_as};
 
 use crate::kept::Kept;
@@ -63,7 +63,7 @@ impl Lines {
     pub fn feed(&mut self, piece: &[u8]) -> Fed
         ensures taken { result.taken ≤ length piece.now }
         ensures some { 0 < length piece.now → 0 < result.taken }
-        ensures line { TakesLine result.ready piece.now result.taken }
+        ensures line { TakesLine self.old.so_far result.ready piece.now result.taken }
         ensures no_newline { HasNoNewline self.new.so_far }
 
         // What is told and what is held make up the script, however it goes on.
@@ -93,6 +93,7 @@ impl Lines {
     /// Ends the script: what came since the last newline is its last line, `NotYet` where that is nothing.
     /// The next piece begins another script.
     pub fn finish(&mut self) -> Ready
+        ensures line { EndsLine self.old.so_far result }
         ensures last { script_lines self.old.so_far ≡ told result self.new.line }
         ensures none { self.new.so_far ≡ [] }
     {

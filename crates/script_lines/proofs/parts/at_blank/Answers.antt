@@ -1,5 +1,5 @@
-use Rattle.interview.proofs.CommandLaws.{cut_is}
-use Rattle.interview.proofs.command.at_blank.Goals as goal
+use Rattle.script_lines.proofs.PartLaws.{cut_is}
+use Rattle.script_lines.proofs.parts.at_blank.Goals as goal
 
 pub returns : goal.returns
 returns c = cut_is c.args.text.now c.split_once.result c.split_once.ensures.cases

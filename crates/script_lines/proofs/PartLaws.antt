@@ -1,0 +1,140 @@
+-- The parts of a command behind its first word: what is read of a text is what it spells.
+use Rattle.std.proofs.Common.{◌≡◌, ℕ, List, [], ◌∷◌, ◌++◌, Option, Some, None, refl, sym, ap, subst, ◌∙◌, arith, Bor}
+use Rattle.std.specs.Prelude.{codes, decimal, option_map, MatchOption}
+use Rattle.std.proofs.lemmas.Option.{cond_some, same_Some, option_and_then_some}
+use Rattle.std.proofs.lemmas.Str.Pattern.{IsSplitOnceResult}
+use Rattle.fact_paths.specs.Cuts.{Lacks, cut, after}
+use Rattle.fact_paths.specs.Names.{is_name, IsName}
+use Rattle.fact_paths.specs.Paths.{IsMemberNumber, IsSlotPath, SpellsSlotPath, slot_path_text}
+use Rattle.fact_paths.specs.Reading.{◌>>=◌, name_of, member_number_of}
+use Rattle.fact_paths.specs.declared.slot_path.SlotPath.{SlotPath}
+use Rattle.fact_paths.specs.declared.slot_path.SlotPath.TheVariants as slots
+use Rattle.fact_paths.proofs.CutLaws.{cut-append, cut_some, cut_from_split, after_some}
+use Rattle.fact_paths.proofs.MemberNumbers.{member_number_some, member_number-decimal, decimal_lacks}
+use Rattle.fact_paths.proofs.NameLaws.{name_lacks}
+use Rattle.fact_paths.proofs.SlotPathLaws.{slot_path_reading}
+use Rattle.script_lines.specs.Reading.{at_blank, slot_of, slot_and_value_of, member_of, slot_and_member_of, name_and_slot_of}
+
+-- ---- blanks
+
+-- what `split_once` says of a blank
+pub cut_is : (text : List ℕ) (parts : Option (Bor (List ℕ) × Bor (List ℕ))) → IsSplitOnceResult 32 text parts
+    → option_map {T = Bor (List ℕ) × Bor (List ℕ)} {U = List ℕ × List ℕ} (λ p. (p.0.now, p.1.now)) parts ≡ at_blank text
+cut_is text parts is = by_cases parts (cut_from_split 32 text parts (omega arith) is)
+  where
+    by_cases : (parts : Option (Bor (List ℕ) × Bor (List ℕ))) → MatchOption parts (cut 32 text ≡ None) (λ p. cut 32 text ≡ Some (p.0.now, p.1.now))
+        → option_map {T = Bor (List ℕ) × Bor (List ℕ)} {U = List ℕ × List ℕ} (λ p. (p.0.now, p.1.now)) parts ≡ at_blank text
+    by_cases None e = sym e
+    by_cases (Some p) e = sym e
+
+Lacks-append : (c : ℕ) (front back : List ℕ) → Lacks c front → Lacks c back → Lacks c (front ++ back)
+Lacks-append c [] back none back_none = back_none
+Lacks-append c (b ∷ front) back none back_none = (none.0, Lacks-append c front back none.1 back_none)
+
+name_lacks_blank : (n : List ℕ) → IsName n → Lacks 32 n
+name_lacks_blank n is = name_lacks 32 refl n is
+
+-- a slot's path has no blank
+slot_lacks_blank : (slot : SlotPath) → IsSlotPath slot → Lacks 32 (slot_path_text slot)
+slot_lacks_blank (slots.Global n) is = (omega arith, name_lacks_blank n is)
+slot_lacks_blank (slots.Member n k m) is = (
+  omega arith,
+  Lacks-append 32 n (codes "/#" ++ (decimal k ++ (codes "/" ++ m))) (name_lacks_blank n is.0) (
+    omega arith,
+    (omega arith, Lacks-append 32 (decimal k) (codes "/" ++ m) (decimal_lacks 32 refl k is.1) (omega arith, name_lacks_blank m is.2)),
+  ),
+)
+
+-- ---- paths and names
+
+pub slot_of-spelled : (text : List ℕ) (slot : SlotPath) → SpellsSlotPath text slot → slot_of text ≡ Some slot
+slot_of-spelled = slot_path_reading.complete
+
+pub slot_of-text : (slot : SlotPath) → IsSlotPath slot → slot_of (slot_path_text slot) ≡ Some slot
+slot_of-text slot is = slot_of-spelled (slot_path_text slot) slot (is, refl)
+
+pub slot_of-none : (text : List ℕ) → ((slot : SlotPath) → ¬ (SpellsSlotPath text slot)) → slot_of text ≡ None
+slot_of-none text none = by_cases (slot_of text) refl
+  where
+    by_cases : (read : Option SlotPath) → slot_of text ≡ read → slot_of text ≡ None
+    by_cases None e = e
+    by_cases (Some slot) e = absurd (none slot (slot_path_reading.sound text slot e))
+
+name_of_some : (text name : List ℕ) → name_of text ≡ Some name → IsName name × (text ≡ name)
+name_of_some text name e =
+    let found = cond_some (is_name text) text name e in
+    (subst IsName found.1 found.0, found.1)
+
+name_of-name : (name : List ℕ) → IsName name → name_of name ≡ Some name
+name_of-name name is = rw is refl
+
+member_of_some : (text : List ℕ) (k : ℕ) → member_of text ≡ Some k → IsMemberNumber k × (text ≡ codes "#" ++ decimal k)
+member_of_some text k e =
+    option_and_then_some member_number_of (after (codes "#") text) k e
+    (λ (digits : List ℕ) (sign : after (codes "#") text ≡ Some digits) (number : member_number_of digits ≡ Some k).
+    let spelled = member_number_some digits k number in
+    (spelled.0, after_some (codes "#") text digits sign ∙ ap (λ (ds : List ℕ). 35 ∷ ds) spelled.1))
+
+-- ---- two parts
+
+-- `SLOT VALUE`
+pub slot_and_value_some : (text : List ℕ) (p : SlotPath × List ℕ) → slot_and_value_of text ≡ Some p → IsSlotPath p.0 × (text ≡ slot_path_text p.0 ++ (codes " " ++ p.1))
+slot_and_value_some text p e =
+    option_and_then_some (λ parts. slot_of parts.0 >>= λ slot. Some (slot, parts.1)) (at_blank text) p e
+    (λ (parts : List ℕ × List ℕ) (blank : at_blank text ≡ Some parts) (rest : (slot_of parts.0 >>= λ slot. Some (slot, parts.1)) ≡ Some p).
+    option_and_then_some (λ slot. Some (slot, parts.1)) (slot_of parts.0) p rest
+    (λ (slot : SlotPath) (read : slot_of parts.0 ≡ Some slot) (made : Some (slot, parts.1) ≡ Some p).
+    let spelled = slot_path_reading.sound parts.0 slot read in
+    let whole : text ≡ slot_path_text slot ++ 32 ∷ parts.1 = cut_some 32 text parts.0 parts.1 blank ∙ ap (λ (x : List ℕ). x ++ 32 ∷ parts.1) spelled.1 in
+    subst (λ (p : SlotPath × List ℕ). IsSlotPath p.0 × (text ≡ slot_path_text p.0 ++ 32 ∷ p.1)) (same_Some (slot, parts.1) p made) (spelled.0, whole)))
+
+pub slot_and_value_of-text : (slot : SlotPath) (value : List ℕ) → IsSlotPath slot → slot_and_value_of (slot_path_text slot ++ (codes " " ++ value)) ≡ Some (slot, value)
+slot_and_value_of-text slot value is =
+    ap (λ (cut : Option (List ℕ × List ℕ)). cut >>= λ parts. slot_of parts.0 >>= λ s. Some (s, parts.1)) (cut-append 32 (slot_path_text slot) value (slot_lacks_blank slot is))
+    ∙ ap (λ (read : Option SlotPath). read >>= λ s. Some (s, value)) (slot_of-text slot is)
+
+-- `SLOT #K`
+pub slot_and_member_some : (text : List ℕ) (p : SlotPath × ℕ) → slot_and_member_of text ≡ Some p → IsSlotPath p.0 × IsMemberNumber p.1 × (text ≡ slot_path_text p.0 ++ (codes " #" ++ decimal p.1))
+slot_and_member_some text p e =
+    option_and_then_some (λ parts. member_of parts.1 >>= λ member. slot_of parts.0 >>= λ slot. Some (slot, member)) (at_blank text) p e
+    (λ (parts : List ℕ × List ℕ) (blank : at_blank text ≡ Some parts) (rest : (member_of parts.1 >>= λ member. slot_of parts.0 >>= λ slot. Some (slot, member)) ≡ Some p).
+    option_and_then_some (λ member. slot_of parts.0 >>= λ slot. Some (slot, member)) (member_of parts.1) p rest
+    (λ (member : ℕ) (number : member_of parts.1 ≡ Some member) (last : (slot_of parts.0 >>= λ slot. Some (slot, member)) ≡ Some p).
+    option_and_then_some (λ slot. Some (slot, member)) (slot_of parts.0) p last
+    (λ (slot : SlotPath) (read : slot_of parts.0 ≡ Some slot) (made : Some (slot, member) ≡ Some p).
+    let spelled = slot_path_reading.sound parts.0 slot read in
+    let numbered = member_of_some parts.1 member number in
+    let whole : text ≡ slot_path_text slot ++ 32 ∷ 35 ∷ decimal member =
+    cut_some 32 text parts.0 parts.1 blank
+    ∙ ap (λ (x : List ℕ). x ++ 32 ∷ parts.1) spelled.1
+    ∙ ap (λ (x : List ℕ). slot_path_text slot ++ 32 ∷ x) numbered.1 in
+    subst (λ (p : SlotPath × ℕ). IsSlotPath p.0 × IsMemberNumber p.1 × (text ≡ slot_path_text p.0 ++ 32 ∷ 35 ∷ decimal p.1)) (same_Some (slot, member) p made) (spelled.0, numbered.0, whole))))
+
+pub slot_and_member_of-text : (slot : SlotPath) (k : ℕ) → IsSlotPath slot → IsMemberNumber k → slot_and_member_of (slot_path_text slot ++ (codes " #" ++ decimal k)) ≡ Some (slot, k)
+slot_and_member_of-text slot k is number =
+    ap (λ (cut : Option (List ℕ × List ℕ)). cut >>= λ parts. member_of parts.1 >>= λ member. slot_of parts.0 >>= λ s. Some (s, member)) (cut-append 32 (slot_path_text slot) (35 ∷ decimal k) (slot_lacks_blank slot is))
+    ∙ ap (λ (read : Option ℕ). read >>= λ member. slot_of (slot_path_text slot) >>= λ s. Some (s, member)) (member_number-decimal k number)
+    ∙ ap (λ (read : Option SlotPath). read >>= λ s. Some (s, k)) (slot_of-text slot is)
+
+-- `NAME SLOT`
+pub name_and_slot_some : (text : List ℕ) (p : List ℕ × SlotPath) → name_and_slot_of text ≡ Some p → IsName p.0 × IsSlotPath p.1 × (text ≡ p.0 ++ (codes " " ++ slot_path_text p.1))
+name_and_slot_some text p e =
+    option_and_then_some (λ parts. name_of parts.0 >>= λ name. slot_of parts.1 >>= λ slot. Some (name, slot)) (at_blank text) p e
+    (λ (parts : List ℕ × List ℕ) (blank : at_blank text ≡ Some parts) (rest : (name_of parts.0 >>= λ name. slot_of parts.1 >>= λ slot. Some (name, slot)) ≡ Some p).
+    option_and_then_some (λ name. slot_of parts.1 >>= λ slot. Some (name, slot)) (name_of parts.0) p rest
+    (λ (name : List ℕ) (named : name_of parts.0 ≡ Some name) (last : (slot_of parts.1 >>= λ slot. Some (name, slot)) ≡ Some p).
+    option_and_then_some (λ slot. Some (name, slot)) (slot_of parts.1) p last
+    (λ (slot : SlotPath) (read : slot_of parts.1 ≡ Some slot) (made : Some (name, slot) ≡ Some p).
+    let spelled = slot_path_reading.sound parts.1 slot read in
+    let is_named = name_of_some parts.0 name named in
+    let whole : text ≡ name ++ 32 ∷ slot_path_text slot =
+    cut_some 32 text parts.0 parts.1 blank
+    ∙ ap (λ (x : List ℕ). x ++ 32 ∷ parts.1) is_named.1
+    ∙ ap (λ (x : List ℕ). name ++ 32 ∷ x) spelled.1 in
+    subst (λ (p : List ℕ × SlotPath). IsName p.0 × IsSlotPath p.1 × (text ≡ p.0 ++ 32 ∷ slot_path_text p.1)) (same_Some (name, slot) p made) (is_named.0, spelled.0, whole))))
+
+pub name_and_slot_of-text : (name : List ℕ) (slot : SlotPath) → IsName name → IsSlotPath slot → name_and_slot_of (name ++ (codes " " ++ slot_path_text slot)) ≡ Some (name, slot)
+name_and_slot_of-text name slot is_name is =
+    ap (λ (cut : Option (List ℕ × List ℕ)). cut >>= λ parts. name_of parts.0 >>= λ n. slot_of parts.1 >>= λ s. Some (n, s)) (cut-append 32 name (slot_path_text slot) (name_lacks_blank name is_name))
+    ∙ ap (λ (read : Option (List ℕ)). read >>= λ n. slot_of (slot_path_text slot) >>= λ s. Some (n, s)) (name_of-name name is_name)
+    ∙ ap (λ (read : Option SlotPath). read >>= λ s. Some (name, s)) (slot_of-text slot is)

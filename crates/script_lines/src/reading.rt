@@ -1,0 +1,110 @@
+// Reads a line as a command.
+ghost use Rattle.std.specs.Prelude.{◌≡◌, ◌≤◌, length};
+ghost use Rattle.script_lines.specs.Commands.{without_return as shorn, ReadsLine};
+ghost use Rattle.script_lines.specs.Reading.{Gives, GivesHeard, command_alone, command_with, command_of_text, heard, heard_in};
+
+use crate::command::Command;
+use crate::fault::LineFault;
+use crate::parts::{
+    at_blank, read_name_and_slot, read_slot, read_slot_and_member, read_slot_and_value,
+};
+use crate::verb::{Verb, verb_of};
+use std::alloc::Global;
+
+// A command of one word.
+fn read_alone(word: &str) -> Result<Command, LineFault>
+    ensures { Gives (command_alone word.now) result }
+{
+    match word {
+        "undo" => Ok(Command::Undo),
+        "redo" => Ok(Command::Redo),
+        "touched" => Ok(Command::Touched),
+        "quit" => Ok(Command::Quit),
+        _ => Err(LineFault::BadLine),
+    }
+}
+
+// A command of more words, by its verb and what stands behind the first blank.
+fn read_with(alloc: Global, verb: Verb, rest: &str) -> Result<Command, LineFault>
+    ensures { Gives (command_with verb rest.now) result }
+{
+    match verb {
+        Verb::Set => {
+            let (slot, value) = read_slot_and_value(alloc, rest)?;
+            Ok(Command::Set(slot, value))
+        }
+        Verb::Clear => Ok(Command::Clear(read_slot(alloc, rest)?)),
+        Verb::OpenList => Ok(Command::OpenList(read_slot(alloc, rest)?)),
+        Verb::Add => Ok(Command::Add(read_slot(alloc, rest)?)),
+        Verb::Remove => {
+            let (slot, member) = read_slot_and_member(alloc, rest)?;
+            Ok(Command::Remove(slot, member))
+        }
+        Verb::Override => {
+            let (slot, value) = read_slot_and_value(alloc, rest)?;
+            Ok(Command::Override(slot, value))
+        }
+        Verb::Release => Ok(Command::Release(read_slot(alloc, rest)?)),
+        Verb::Get => Ok(Command::Get(read_slot(alloc, rest)?)),
+        Verb::Final => Ok(Command::Final(read_slot(alloc, rest)?)),
+        Verb::Stamp => Ok(Command::Stamp(read_slot(alloc, rest)?)),
+        Verb::Missing => Ok(Command::Missing(read_slot(alloc, rest)?)),
+        Verb::Watch => {
+            let (name, slot) = read_name_and_slot(alloc, rest)?;
+            Ok(Command::Watch(name, slot))
+        }
+        Verb::Unwatch => {
+            let (name, slot) = read_name_and_slot(alloc, rest)?;
+            Ok(Command::Unwatch(name, slot))
+        }
+    }
+}
+
+fn read_text(alloc: Global, text: &str) -> Result<Command, LineFault>
+    ensures { Gives (command_of_text text.now) result }
+{
+    let Some((word, rest)) = at_blank(text) else {
+        return read_alone(text);
+    };
+    match verb_of(word) {
+        None => Err(LineFault::BadLine),
+        Some(verb) => read_with(alloc, verb, rest),
+    }
+}
+
+// The line without its final byte 13.
+fn without_return(line: &[u8]) -> &[u8]
+    ensures { result.now ≡ shorn line.now }
+{
+    let Some((last, front)) = line.split_last() else {
+        return line;
+    };
+    if *last == b'\r' { front } else { line }
+}
+
+// Reads a line without its final byte 13.
+fn read_shorn(alloc: Global, line: &[u8]) -> Result<Option<Command>, LineFault>
+    ensures { GivesHeard (heard line.now) result }
+{
+    let Some(first) = line.first() else {
+        return Ok(None);
+    };
+    if *first == b'#' {
+        return Ok(None);
+    }
+    let Ok(text) = str::from_utf8(line) else {
+        return Err(LineFault::BadLine);
+    };
+    let command = read_text(alloc, text)?;
+    Ok(Some(command))
+}
+
+/// The command that the line spells, its newline left out, or None where the line has no reply: where it is empty or
+/// begins with `#`. One final byte 13 doesn't count. `BadLine` comes where the line is neither.
+pub fn command_of(alloc: Global, line: &[u8]) -> Result<Option<Command>, LineFault>
+    requires { length line.now ≤ 4096 }
+    ensures line { ReadsLine line.now result }
+    ensures heard { GivesHeard (heard_in line.now) result }
+{
+    read_shorn(alloc, without_return(line))
+}
