@@ -1,4 +1,14 @@
+pub mod ChoiceLaws
+pub mod DateLemmas
+pub mod DateTextLaws
+pub mod Decimals
 pub mod DigitLemmas
 pub mod DollarExamples
+pub mod EnumLemmas
 pub mod PrintedLaws
+pub mod PrintedTexts
+pub mod ReadingLaws
 pub mod SpellingLaws
+pub mod TypeLaws
+pub mod ValueExamples
+pub mod WholeLaws

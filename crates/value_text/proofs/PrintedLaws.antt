@@ -16,17 +16,17 @@ use Rattle.value_text.proofs.SpellingLaws.{dollar_found}
 -- ---- two digits of cents
 
 -- a digit's byte
-is_digit : (d : ℕ) → d < 10 → IsBetween 48 57 (48 + d)
+pub is_digit : (d : ℕ) → d < 10 → IsBetween 48 57 (48 + d)
 is_digit d small = (omega arith, omega arith)
 
 -- two of them
-two_digits : (a b : ℕ) → a < 10 → b < 10 → all_ascii_digits ((48 + a) ∷ (48 + b) ∷ []) ≡ true
+pub two_digits : (a b : ℕ) → a < 10 → b < 10 → all_ascii_digits ((48 + a) ∷ (48 + b) ∷ []) ≡ true
 two_digits a b small_a small_b =
     let tells = tells_all_ascii_digits in
     tells.more (48 + a) ((48 + b) ∷ []) (is_digit a small_a) (tells.more (48 + b) [] (is_digit b small_b) tells.empty)
 
 -- and their number
-digits_value-two : (a b : ℕ) → a < 10 → b < 10 → digits_value 10 ((48 + a) ∷ (48 + b) ∷ []) ≡ 10 * a + b
+pub digits_value-two : (a b : ℕ) → a < 10 → b < 10 → digits_value 10 ((48 + a) ∷ (48 + b) ∷ []) ≡ 10 * a + b
 digits_value-two a b small_a small_b =
     let value_a = digit_value_digit (48 + a) (is_digit a small_a) in
     let value_b = digit_value_digit (48 + b) (is_digit b small_b) in

@@ -14,24 +14,24 @@ use Rattle.value_text.proofs.DigitLemmas.{own, number_is, number_of}
 -- ---- choices and options
 
 -- the side that a choice took
-chosen : {A : Type 0} (b : Bool) (x y : Option A) (z : A) → (if b then x else y) ≡ Some z → ((b ≡ true) × (x ≡ Some z)) ⊎ ((b ≡ false) × (y ≡ Some z))
+pub chosen : {A : Type 0} (b : Bool) (x y : Option A) (z : A) → (if b then x else y) ≡ Some z → ((b ≡ true) × (x ≡ Some z)) ⊎ ((b ≡ false) × (y ≡ Some z))
 chosen true x y z e = inl (refl, e)
 chosen false x y z e = inr (refl, e)
 
 -- what a map was applied to
-mapped : {A B : Type 0} (f : A → B) (o : Option A) (z : B) → option_map f o ≡ Some z → (x : A) × (o ≡ Some x) × (z ≡ f x)
+pub mapped : {A B : Type 0} (f : A → B) (o : Option A) (z : B) → option_map f o ≡ Some z → (x : A) × (o ≡ Some x) × (z ≡ f x)
 mapped f None z e = absurd cc
 mapped f (Some x) z e = (x, refl, cc)
 
 -- the first of two steps that both gave something
-joined : {A B : Type 0} (f : A → Option B) (o : Option A) (z : B) → option_and_then f o ≡ Some z → (x : A) × (o ≡ Some x) × (f x ≡ Some z)
+pub joined : {A B : Type 0} (f : A → Option B) (o : Option A) (z : B) → option_and_then f o ≡ Some z → (x : A) × (o ≡ Some x) × (f x ≡ Some z)
 joined f None z e = absurd cc
 joined f (Some x) z e = (x, refl, e)
 
 -- ---- texts without a sign
 
 -- digits are neither a minus nor a point
-no_other : (most c : ℕ) (text : List ℕ) (i : ℕ) → AreDigits 1 most text → c < 48 → i < length text → eqb (get_or text i 0) c ≡ false
+pub no_other : (most c : ℕ) (text : List ℕ) (i : ℕ) → AreDigits 1 most text → c < 48 → i < length text → eqb (get_or text i 0) c ≡ false
 no_other most c text i digits low lt = ne_eqb (get_or text i 0) c (not_in_digits own text c digits.2 (λ h. absurd (omega arith)) i lt)
 
 -- dollars alone are read
@@ -99,7 +99,7 @@ dollar_found text amount (inl h) = rw (no_minus text h.0 h.1) (ap (option_map po
 dollar_found text amount (inr h) = ap dollar_at h.2 ∙ negative_found h.0 h.1 h.3 ∙ ap Some (sym h.4)
 
 -- a text whose first byte is a minus
-first_is : (b : ℕ) (rest : List ℕ) → eqb b minus ≡ true → b ∷ rest ≡ minus ∷ rest
+pub first_is : (b : ℕ) (rest : List ℕ) → eqb b minus ≡ true → b ∷ rest ≡ minus ∷ rest
 first_is b rest e = ap (λ (x : ℕ). x ∷ rest) (eqb-true b minus e)
 
 -- nothing else is read

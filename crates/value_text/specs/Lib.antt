@@ -1,4 +1,11 @@
 pub use Rattle.fact_values.specs.Range
+pub mod Dates
 pub mod Digits
 pub mod DollarLaws
 pub mod Dollars
+pub mod Enums
+pub mod Fractions
+pub mod MemberTexts
+pub mod ValueLaws
+pub mod Values
+pub mod Wholes
