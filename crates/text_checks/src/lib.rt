@@ -1,0 +1,13 @@
+//! Checks of texts by code, and a table of checks that its owner makes.
+#![tactic(auto)]
+
+mod check;
+mod checks;
+pub mod laws;
+mod table;
+#[cfg(test)]
+mod tests;
+
+pub use check::{Check, Test};
+pub use checks::{digits, nine_digits, printable_ascii, trimmed};
+pub use table::{CheckTable, TableFault};

@@ -1,0 +1,5 @@
+pub mod EqualityLaws
+pub mod FoldLaws
+pub mod OrderLaws
+pub mod ResultExamples
+pub mod RuleLaws
