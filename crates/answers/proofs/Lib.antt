@@ -1,0 +1,15 @@
+pub mod AnsweredExamples
+pub mod ChangeLaws
+pub mod FiniteLaws
+pub mod FitsLaws
+pub mod GivenExamples
+pub mod ListExamples
+pub mod ListLaws
+pub mod LookUps
+pub mod OpeningLaws
+pub mod Results
+pub mod RoomLaws
+pub mod SideLaws
+pub mod StandLaws
+pub mod Start
+pub mod WellLaws

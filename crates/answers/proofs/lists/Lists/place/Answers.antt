@@ -1,0 +1,13 @@
+use Rattle.std.proofs.Common.{rules, ◌≡◌, ℕ, List, [], Option, Some, None, refl, sym, ap, ◌∙◌, Bool, false, nat_eq}
+use Rattle.std.specs.Prelude.{IsSome, is_some, unwrap_or}
+use Rattle.std.specs.Map.{lookup}
+use Rattle.answers.specs.Finite.{put_at}
+use Rattle.answers.specs.Standing.{lists_of}
+use Rattle.answers.proofs.FiniteLaws.{one_changed}
+use Rattle.answers.proofs.LookUps.{at_key, not_there, placed}
+use Rattle.answers.proofs.lists.Lists.place.Goals as goal
+
+pub returns-clause-same : goal.returns-clause-same
+returns-clause-same c =
+    let none : is_some (lookup (nat_eq c.args.list) c.args.self.now.kept.entries) ≡ false = search rules in
+    placed (λ (o : Option (List ℕ)). o) _ _ c.args.list c.in_ok-listed.listed c.in_ok-listed.ensures none c.in_ok-insert.ensures.updates.0

@@ -1,0 +1,9 @@
+pub mod Answered
+pub mod Change
+pub mod Finite
+pub mod Given
+pub mod Lists
+pub mod Opening
+pub mod Room
+pub mod Standing
+pub mod WellFormed

@@ -1,0 +1,15 @@
+//! The answers of an interview, and every edit of them with its inverse.
+#![tactic(auto)]
+
+mod answers;
+mod edit;
+mod entries;
+mod listed;
+mod lists;
+mod members;
+mod parts;
+#[cfg(test)]
+mod tests;
+
+pub use answers::Answers;
+pub use edit::{Edit, Gone, Side, Unapplied};

@@ -1,0 +1,4 @@
+pub mod PlaceExamples
+pub mod StackLaws
+pub mod ToldLaws
+pub mod UndoneLaws

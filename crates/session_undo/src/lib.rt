@@ -1,0 +1,11 @@
+//! Undo and redo, by the inverse of each edit.
+#![tactic(auto)]
+
+mod history;
+pub mod laws;
+mod refusal;
+#[cfg(test)]
+mod tests;
+
+pub use history::History;
+pub use refusal::UndoRefusal;
