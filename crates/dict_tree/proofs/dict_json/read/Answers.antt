@@ -1,0 +1,17 @@
+use Rattle.std.proofs.Common.{arith}
+use Rattle.std.proofs.lemmas.Result.{err_from_is_err_and}
+use Rattle.serde_json.specs.View.{view as json}
+use Rattle.dict_tree.specs.DictReading.{read_view}
+use Rattle.dict_tree.proofs.DictLaws.{dictionary_is_valid, fault_given, kept_given}
+use Rattle.dict_tree.proofs.dict_json.read.Goals as goal
+
+pub keep-requires : goal.keep-requires
+keep-requires c = dictionary_is_valid (json c.in_ok-value.value) (read_view c.in_ok-found.found) c.in_ok-found.ensures.exact
+
+pub returns-in_err-found : goal.returns-in_err-found
+returns-in_err-found c =
+    let p = err_from_is_err_and c.from_residual-in_err-found.result c.from_residual-in_err-found.ensures.1 in
+    fault_given c.args.bytes.now (json c.in_ok-value.value) c.in_err-found.field-0.0 p.0 c.from_residual-in_err-found.result (omega arith) c.in_ok-value.ensures c.in_err-found.ensures.kind c.in_err-found.ensures.exact p.1 p.2
+
+pub returns : goal.returns
+returns c = kept_given c.args.bytes.now (json c.in_ok-value.value) (read_view c.in_ok-found.found) c.keep.result (omega arith) c.in_ok-value.ensures c.in_ok-found.ensures.exact c.keep.ensures.kept c.keep.ensures.memory

@@ -1,0 +1,12 @@
+use Rattle.std.proofs.Common.{◌≡◌, ◌+◌, ◌++◌, drop, map, Ok}
+use Rattle.serde_json.specs.View.{items_view}
+use Rattle.dict_tree.specs.Facts.{fact_view}
+use Rattle.dict_tree.specs.DictReading.{facts_of, ◌>>=◌}
+use Rattle.dict_tree.proofs.dict_json.read_facts.Given as goal
+
+-- those so far and those of what is left are all
+abbrev pub invariant-loop-item : goal.invariant-loop-item
+invariant-loop-item l = record {
+  count : l.number ≡ l.item-index;
+  rest : (facts_of l.later (l.number + 1) (items_view (drop l.item-index l.items)) >>= λ fs. Ok (map fact_view l.facts.items ++ fs)) ≡ facts_of l.later 1 (items_view l.items);
+}

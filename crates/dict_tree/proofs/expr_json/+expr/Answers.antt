@@ -1,0 +1,48 @@
+use Rattle.std.proofs.Common.{arith, drop, None, Some, option_map, ap, ◌∙◌}
+use Rattle.std.proofs.lemmas.Result.{err_from_is_err_and}
+use Rattle.serde_json.specs.View.{view as json, items_view}
+use Rattle.dict_tree.specs.View.{box_view, pair_view, picked_view, use_view}
+use Rattle.dict_tree.specs.Reading.{picked_of, tree_of, only_tree, pair_tree, picked_tree}
+use Rattle.dict_tree.proofs.OperandLaws.{only_tree_else, pair_tree_else, picked_tree_else, only_tree_at, pair_tree_none, pair_tree_none_second, pair_tree_some, picked_none, picked_some, part_err, part_gives}
+use Rattle.dict_tree.proofs.expr_json.+expr.Goals as goal
+
+pub read_only-returns-then-items-ne2 : goal.read_only-returns-then-items-ne2
+read_only-returns-then-items-ne2 t c = only_tree_else c.args.items.now c.requires (omega arith)
+
+pub read_only-returns : goal.read_only-returns
+read_only-returns t c =
+    part_gives box_view c.read_boxed.result (tree_of (json c.index-items-1.result)) (only_tree (items_view (drop 1 c.args.items.now)))
+    (only_tree_at c.args.items.now c.index-items-1.result (omega arith) c.index-items-1.is) c.read_boxed.ensures
+
+pub read_pair-returns-then-items-ne3 : goal.read_pair-returns-then-items-ne3
+read_pair-returns-then-items-ne3 t c = pair_tree_else c.args.items.now c.requires (omega arith)
+
+pub read_pair-returns-in_err-left : goal.read_pair-returns-in_err-left
+read_pair-returns-in_err-left t c =
+    let p = err_from_is_err_and c.from_residual.result c.from_residual.ensures.1 in
+    part_err box_view pair_view c.in_err-left.field-0.0 p.0 c.from_residual.result (tree_of (json c.index-items-1.result)) (pair_tree (items_view (drop 1 c.args.items.now)))
+    c.in_err-left.ensures (pair_tree_none c.args.items.now c.index-items-1.result (omega arith) c.index-items-1.is) p.1 p.2
+
+pub read_pair-returns-in_err-right : goal.read_pair-returns-in_err-right
+read_pair-returns-in_err-right t c =
+    let p = err_from_is_err_and c.from_residual-in_err-right.result c.from_residual-in_err-right.ensures.1 in
+    part_err box_view pair_view c.in_err-right.field-0.0 p.0 c.from_residual-in_err-right.result (tree_of (json c.index-items-2.result)) (pair_tree (items_view (drop 1 c.args.items.now)))
+    c.in_err-right.ensures (pair_tree_none_second c.args.items.now c.index-items-1.result c.index-items-2.result (box_view c.in_ok-left.left) (omega arith) c.index-items-1.is c.index-items-2.is c.in_ok-left.ensures) p.1 p.2
+
+pub read_pair-returns : goal.read_pair-returns
+read_pair-returns t c =
+    pair_tree_some c.args.items.now c.index-items-1.result c.index-items-2.result (box_view c.in_ok-left.left) (box_view c.in_ok-right.right) (omega arith) c.index-items-1.is c.index-items-2.is c.in_ok-left.ensures c.in_ok-right.ensures
+
+pub read_picked-returns-then-items-ne3 : goal.read_picked-returns-then-items-ne3
+read_picked-returns-then-items-ne3 t c = ap (option_map picked_of) (picked_tree_else c.args.items.now c.requires (omega arith))
+
+pub read_picked-returns-in_err-condition : goal.read_picked-returns-in_err-condition
+read_picked-returns-in_err-condition t c =
+    let p = err_from_is_err_and c.from_residual.result c.from_residual.ensures.1 in
+    part_err box_view picked_view c.in_err-condition.field-0.0 p.0 c.from_residual.result (tree_of (json c.index-items-2.result)) (option_map picked_of (picked_tree (items_view (drop 1 c.args.items.now))))
+    c.in_err-condition.ensures (picked_none c.args.items.now c.index-items-1.result c.index-items-2.result (omega arith) c.index-items-1.is c.index-items-2.is) p.1 p.2
+
+pub read_picked-returns : goal.read_picked-returns
+read_picked-returns t c =
+    picked_some c.args.items.now c.index-items-1.result c.index-items-2.result c.in-Some.text.now (box_view c.in_ok-condition.condition) (use_view c.in_ok-path.path) (omega arith) c.index-items-1.is c.index-items-2.is
+    c.in-Some.ensures c.in_ok-condition.ensures c.in_ok-path.ensures

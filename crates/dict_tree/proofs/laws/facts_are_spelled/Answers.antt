@@ -1,0 +1,8 @@
+use Rattle.dict_tree.proofs.FactJsonLaws.{fact_found, fact_again}
+use Rattle.dict_tree.proofs.laws.facts_are_spelled.Goals as goal
+
+pub returns-clause-spelled : goal.returns-clause-spelled
+returns-clause-spelled c = fact_found
+
+pub returns-clause-read : goal.returns-clause-read
+returns-clause-read c = fact_again

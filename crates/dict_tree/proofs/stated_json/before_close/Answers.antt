@@ -1,0 +1,6 @@
+use Rattle.std.proofs.Common.{arith}
+use Rattle.dict_tree.proofs.StatingLaws.{before_close_from_strip}
+use Rattle.dict_tree.proofs.stated_json.before_close.Goals as goal
+
+pub returns : goal.returns
+returns c = before_close_from_strip c.args.text.now c.strip_suffix.result c.strip_suffix.ensures.cases

@@ -1,0 +1,82 @@
+-- The JSON form of a dictionary, and which part of a value isn't of the form.
+use Rattle.std.specs.Prelude.{◌≡◌, ◌≢◌, ◌⊎◌, ℕ, ◌+◌, Bool, true, false, IsTrue, List, [], ◌∷◌, codes, Option, Some, None}
+use Rattle.std.specs.List.{list_all}
+use Rattle.serde_json.specs.Data.{Data, string, array, Items, no_items, item}
+use Rattle.serde_json.specs.Find.{get}
+use Rattle.fact_paths.specs.Names.{is_name}
+use Rattle.value_text.specs.Enums.{Listed, are_distinct, names_of}
+use Rattle.dict_tree.specs.Facts.{Fact}
+use Rattle.dict_tree.specs.FactJson.{IsObjectOf, IsOptionalText, items_from, SpellsFact}
+use Rattle.dict_tree.specs.DictReading.{enum_keys, top_keys}
+use Rattle.dict_tree.specs.Dictionary.{Dictionary}
+
+-- ---- enums
+
+-- the value spells the list of options
+pub record SpellsEnum (d : Data) (e : Listed) : Type 0 where
+  pub keys : IsObjectOf enum_keys d
+  pub name : get (codes "name") d ≡ Some (string e.name)
+  pub named : IsTrue (is_name e.name)
+  pub options : get (codes "options") d ≡ Some (array (items_from string e.options))
+  pub all_named : IsTrue (list_all is_name e.options)
+  pub some : e.options ≢ []
+  pub distinct : IsTrue (are_distinct e.options)
+
+-- the items spell these, one after the other
+abbrev pub AreSpelled : {X : Type 0} → (Data → X → Type 0) → Items → List X → Type 0
+AreSpelled spells no_items [] = Unit {0}
+AreSpelled spells (item d ds) (x ∷ xs) = spells d x × AreSpelled spells ds xs
+AreSpelled spells no_items (x ∷ xs) = ⊥
+AreSpelled spells (item d ds) [] = ⊥
+
+-- no lists where there is no such member, and each under a name of its own
+abbrev pub SpellEnums : Option Data → List Listed → Type 0
+SpellEnums None es = es ≡ []
+SpellEnums (Some d) es = (items : Items) × (d ≡ array items) × AreSpelled SpellsEnum items es × IsTrue (are_distinct (names_of es))
+
+-- ---- dictionaries
+
+abbrev pub version_text : Bool → List ℕ
+version_text false = codes "1"
+version_text true = codes "2"
+
+-- what lies outside the facts; later says that the version is 2
+pub record SpellsTop (d : Data) (later : Bool) (lists : List Listed) (items : Items) : Type 0 where
+  pub keys : IsObjectOf top_keys d
+  pub description : IsOptionalText (get (codes "description") d)
+  pub version : get (codes "version") d ≡ Some (string (version_text later))
+  pub enums : SpellEnums (get (codes "enums") d) lists
+  pub facts : get (codes "facts") d ≡ Some (array items)
+
+-- the value spells the dictionary
+pub record SpellsDictionary (d : Data) (dict : Dictionary) : Type 0 where
+  pub later : Bool
+  pub items : Items
+  pub top : SpellsTop d later dict.enums items
+  pub facts : AreSpelled (SpellsFact later) items dict.facts
+
+-- ---- what isn't of the form
+
+-- nothing that lies outside the facts is spelled
+abbrev pub IsTopWrong : Data → Type 0
+IsTopWrong d = (later : Bool) (enums : List Listed) (items : Items) → ¬ (SpellsTop d later enums items)
+
+-- no fact is spelled
+abbrev pub IsFactWrong : Bool → Data → Type 0
+IsFactWrong later d = (f : Fact) → ¬ (SpellsFact later d f)
+
+-- the number of the first that spells no fact, where they are counted from n
+abbrev pub IsFirstWrong : Bool → ℕ → Items → ℕ → Type 0
+IsFirstWrong later n no_items m = ⊥
+IsFirstWrong later n (item d ds) m = (IsFactWrong later d × (m ≡ n)) ⊎ ((f : Fact) × SpellsFact later d f × IsFirstWrong later (n + 1) ds m)
+
+pub record IsWrongFact (d : Data) (number : ℕ) : Type 0 where
+  pub later : Bool
+  pub enums : List Listed
+  pub items : Items
+  pub top : SpellsTop d later enums items
+  pub first : IsFirstWrong later 1 items number
+
+-- The part that isn't of the form: 0 where it lies outside the facts, and else the first fact.
+abbrev pub IsWrongAt : Data → ℕ → Type 0
+IsWrongAt d number = (IsTopWrong d × (number ≡ 0)) ⊎ IsWrongFact d number

@@ -1,0 +1,131 @@
+-- The JSON form of a fact.
+use Rattle.std.specs.Prelude.{◌≡◌, ◌⊎◌, ℕ, Bool, true, false, IsTrue, List, [], ◌∷◌, ◌++◌, codes, Option, Some, None}
+use Rattle.serde_json.specs.Data.{Data, null, boolean, number, string, array, object, Items, no_items, item}
+use Rattle.serde_json.specs.Find.{get}
+use Rattle.fact_paths.specs.Names.{is_name}
+use Rattle.fact_paths.specs.Paths.{SpellsFactPath}
+use Rattle.fact_values.specs.declared.fact_type.FactType.{FactType}
+use Rattle.fact_values.specs.declared.fact_type.FactType.TheVariants as types
+use Rattle.dict_tree.specs.Tree.{Source, SourceCase}
+use Rattle.dict_tree.specs.Facts.{Fact, Stated, scalar, enum_of, writable_list, list_of, item_of, Bound, least, greatest, max_length, check}
+use Rattle.dict_tree.specs.Forms.{IsReadFrom, HasForm, IsWritableType, IsDerivedType}
+use Rattle.dict_tree.specs.Json.{text_json, json_of, Spells}
+use Rattle.dict_tree.specs.FactReading.{has_no_other, writable_keys, derived_keys}
+
+-- ---- members of an object
+
+-- an object without a key but these
+abbrev pub IsObjectOf : List (List ℕ) → Data → Type 0
+IsObjectOf keys null = ⊥
+IsObjectOf keys (boolean b) = ⊥
+IsObjectOf keys (number n) = ⊥
+IsObjectOf keys (string s) = ⊥
+IsObjectOf keys (array ds) = ⊥
+IsObjectOf keys (object members) = IsTrue (has_no_other keys members)
+
+-- nothing, or a text
+abbrev pub IsOptionalText : Option Data → Type 0
+IsOptionalText None = Unit {0}
+IsOptionalText (Some d) = (text : List ℕ) × (d ≡ string text)
+
+-- an array's items, one after the other
+abbrev pub items_from : {X : Type 0} → (X → Data) → List X → Items
+items_from json [] = no_items
+items_from json (x ∷ xs) = item (json x) (items_from json xs)
+
+-- ---- types
+
+-- the text of a type
+abbrev pub scalar_text : FactType → List ℕ
+scalar_text types.Boolean = codes "Boolean"
+scalar_text types.Int = codes "Int"
+scalar_text types.Dollar = codes "Dollar"
+scalar_text types.Rational = codes "Rational"
+scalar_text types.Day = codes "Day"
+scalar_text types.Text = codes "Text"
+scalar_text (types.Enum n) = []
+scalar_text (types.Collection c) = []
+scalar_text (types.Item c) = []
+
+abbrev pub stated_text : Stated → List ℕ
+stated_text (scalar t) = scalar_text t
+stated_text (enum_of n) = codes "Enum(" ++ (n ++ codes ")")
+stated_text writable_list = codes "Collection"
+stated_text (list_of p) = codes "Collection(" ++ (p.text ++ codes ")")
+stated_text (item_of p) = codes "Item(" ++ (p.text ++ codes ")")
+
+-- an enum is called by a name
+abbrev pub IsNamed : Stated → Type 0
+IsNamed (scalar t) = Unit {0}
+IsNamed (enum_of n) = IsTrue (is_name n)
+IsNamed writable_list = Unit {0}
+IsNamed (list_of p) = Unit {0}
+IsNamed (item_of p) = Unit {0}
+
+-- ---- limits
+
+abbrev pub limit_json : Bound → Data
+limit_json (least text) = text_json (codes "Min") text
+limit_json (greatest text) = text_json (codes "Max") text
+limit_json (max_length text) = text_json (codes "MaxLength") text
+limit_json (check text) = text_json (codes "Check") text
+
+-- no limits where there is no such member
+abbrev pub SpellLimits : Option Data → List Bound → Type 0
+SpellLimits None limits = limits ≡ []
+SpellLimits (Some d) limits = d ≡ array (items_from limit_json limits)
+
+-- ---- expressions of a fact
+
+-- an expression just where there is such a member
+abbrev pub SpellsOptional : Option Data → Option Source → Type 0
+SpellsOptional None None = Unit {0}
+SpellsOptional (Some d) (Some t) = Spells d t
+SpellsOptional None (Some t) = ⊥
+SpellsOptional (Some d) None = ⊥
+
+abbrev pub SpellsRequired : Option Data → Option Source → Type 0
+SpellsRequired (Some d) (Some t) = Spells d t
+SpellsRequired (Some d) None = ⊥
+SpellsRequired None t = ⊥
+
+-- `[C,V]`
+abbrev pub conditional_json : SourceCase → Data
+conditional_json c = array (item (json_of c.0) (item (json_of c.1) no_items))
+
+abbrev pub SpellsConditional : Option Data → Option SourceCase → Type 0
+SpellsConditional None None = Unit {0}
+SpellsConditional (Some d) (Some c) = HasForm c.0 × HasForm c.1 × (d ≡ conditional_json c)
+SpellsConditional None (Some c) = ⊥
+SpellsConditional (Some d) None = ⊥
+
+-- ---- facts
+
+-- the value spells the writable fact
+pub record SpellsWritable (d : Data) (f : Fact) : Type 0 where
+  pub keys : IsObjectOf writable_keys d
+  pub description : IsOptionalText (get (codes "description") d)
+  pub path : get (codes "path") d ≡ Some (string f.path_text)
+  pub read_path : IsReadFrom SpellsFactPath f.path_text f.path
+  pub stated : get (codes "writable") d ≡ Some (string (stated_text f.stated))
+  pub kind : IsWritableType f.stated × IsNamed f.stated
+  pub limits : SpellLimits (get (codes "limits") d) f.limits
+  pub main : f.main ≡ None
+  pub conditional : f.conditional ≡ None
+  pub placeholder : SpellsOptional (get (codes "placeholder") d) f.placeholder
+
+-- the value spells the derived fact; later says that the version is 2
+pub record SpellsDerived (later : Bool) (d : Data) (f : Fact) : Type 0 where
+  pub keys : IsObjectOf (derived_keys later) d
+  pub description : IsOptionalText (get (codes "description") d)
+  pub path : get (codes "path") d ≡ Some (string f.path_text)
+  pub read_path : IsReadFrom SpellsFactPath f.path_text f.path
+  pub stated : get (codes "derived") d ≡ Some (string (stated_text f.stated))
+  pub kind : IsDerivedType f.stated × IsNamed f.stated
+  pub limits : f.limits ≡ []
+  pub main : SpellsRequired (get (codes "is") d) f.main
+  pub conditional : SpellsConditional (get (codes "conditional") d) f.conditional
+  pub placeholder : SpellsOptional (get (codes "placeholder") d) f.placeholder
+
+abbrev pub SpellsFact : Bool → Data → Fact → Type 0
+SpellsFact later d f = SpellsWritable d f ⊎ SpellsDerived later d f

@@ -1,0 +1,13 @@
+/// A constant as it is written: its text, which may be no value of the type.
+#[derive(Debug, Drop)]
+pub enum Constant {
+    True,
+    False,
+    Int(String),
+    Dollar(String),
+    Rational(String),
+    Day(String),
+    Text(String),
+    /// The name of an enum, and one of its options.
+    Choice(String, String),
+}

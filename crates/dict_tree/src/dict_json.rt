@@ -1,0 +1,185 @@
+// Reads a dictionary of its JSON form.
+ghost use Rattle.std.specs.Prelude.{◌≡◌, ◌++◌, ◌∷◌, [], map, option_map, option_and_then, codes, IfErr, IfOk, OnOk};
+ghost use Rattle.serde_json.specs.Find.{as_array, get};
+ghost use Rattle.serde_json.specs.View.{view as json, items_view, members_view};
+ghost use Rattle.dict_tree.specs.Facts.{fact_view};
+ghost use Rattle.dict_tree.specs.Dictionary.{IsValid, dictionary_view};
+ghost use Rattle.dict_tree.specs.declared.fault.TreeFault.TheVariants.{NoMemory};
+ghost use Rattle.dict_tree.specs.DictReading.{BytesAre, BytesGive, IsOfShape, listed_view, seen, Yields, dictionary_of, facts_of, read_view, version_in, version_of, version_with};
+
+use crate::dict_source::DictSource;
+use crate::enums_json::{EnumSource, read_enums};
+use crate::fact_json::read_fact;
+use crate::fact_source::FactSource;
+use crate::fault::{ReadFault, TreeFault};
+use crate::limits::{first_deep, first_passed};
+use crate::members::{has_no_other, may_be_text, text_under};
+use serde_json::{Map, Value};
+use std::alloc::Global;
+use value_text::EnumLists;
+
+const MOST_BYTES: usize = 8_388_608;
+
+const MOST_ENUMS: u32 = 200;
+
+const MOST_OPTIONS: usize = 100;
+
+/// The lists and the facts of a JSON value, before they are kept.
+#[derive(Drop)]
+pub struct Found {
+    pub enums: Vec<EnumSource>,
+    pub facts: Vec<FactSource>,
+}
+
+fn version_named(text: &str) -> Option<bool>
+    ensures { result ≡ version_of text.now }
+{
+    match text {
+        "1" => Some(false),
+        "2" => Some(true),
+        _ => None,
+    }
+}
+
+fn version_among(value: &Value, members: &Map<String, Value>) -> Option<bool>
+    ensures { result ≡ version_with (json value.now) (members_view members.now.entries) }
+{
+    if !has_no_other(
+        members,
+        ["version", "facts", "enums", "description"].as_slice(),
+    ) {
+        return None;
+    }
+    if !may_be_text(value.get("description")) {
+        return None;
+    }
+    version_named(text_under(value, "version")?)
+}
+
+// Whether the version is 2, and not 1, of an object that has the keys of a dictionary.
+fn version_of_value(value: &Value) -> Option<bool>
+    ensures { result ≡ version_in (json value.now) }
+{
+    version_among(value, value.as_object()?)
+}
+
+fn items_under_facts(value: &Value) -> Option<&Vec<Value>>
+    ensures { option_map (λ v. items_view v.now.items) result ≡ option_and_then as_array (get (codes "facts") (json value.now)) }
+{
+    value.get("facts")?.as_array()
+}
+
+// The facts in their order, or the number of the first that isn't of the form.
+fn read_facts(alloc: Global, later: bool, items: &[Value]) -> Result<Vec<FactSource>, TreeFault>
+    ensures exact { Yields (λ v. map fact_view v.items) result (facts_of later 1 (items_view items.now)) }
+    ensures kind { IfErr result IsOfShape }
+{
+    let mut facts = Vec::new(alloc);
+    let mut number = 0u32;
+    for item in items {
+        let Some(next) = number.checked_add(1) else {
+            return Err(TreeFault::NoMemory);
+        };
+        number = next;
+        match read_fact(alloc, later, item) {
+            Ok(fact) => facts.push(fact)?,
+            Err(ReadFault::Shape) => return Err(TreeFault::Shape(number)),
+            Err(ReadFault::NoMemory) => return Err(TreeFault::NoMemory),
+        }
+    }
+    Ok(facts)
+}
+
+#[tactic(auto, unfolding(crate::specs::DictReading::dictionary_of))]
+fn read_value(alloc: Global, value: &Value) -> Result<Found, TreeFault>
+    ensures exact { Yields read_view result (dictionary_of (json value.now)) }
+    ensures kind { IfErr result IsOfShape }
+{
+    let Some(later) = version_of_value(value) else {
+        return Err(TreeFault::Shape(0));
+    };
+    let enums = match read_enums(alloc, value.get("enums")) {
+        Ok(enums) => enums,
+        Err(ReadFault::Shape) => return Err(TreeFault::Shape(0)),
+        Err(ReadFault::NoMemory) => return Err(TreeFault::NoMemory),
+    };
+    let Some(items) = items_under_facts(value) else {
+        return Err(TreeFault::Shape(0));
+    };
+    let facts = read_facts(alloc, later, items.as_slice())?;
+    if let Some(what) = first_passed(enums.as_slice(), facts.as_slice()) {
+        return Err(TreeFault::TooMany(what));
+    }
+    if let Some(number) = first_deep(facts.as_slice()) {
+        return Err(TreeFault::TooDeep(number));
+    }
+    Ok(Found { enums, facts })
+}
+
+fn read_json(alloc: Global, bytes: &[u8]) -> Result<Value, TreeFault>
+    ensures { BytesAre json bytes.now result }
+{
+    match Value::from_slice(alloc, bytes) {
+        Ok(value) => Ok(value),
+        Err(error) => {
+            if error.is_memory() {
+                return Err(TreeFault::NoMemory);
+            }
+            Err(TreeFault::NotJson)
+        }
+    }
+}
+
+// Appends a list that was read. Its name is new and its options are distinct by then, so only want of memory is left to refuse it.
+fn add_list(lists: &mut EnumLists, list: EnumSource) -> Result<(), TreeFault>
+    ensures appended { OnOk result (lists.new ≡ lists.old ++ listed_view list ∷ []) }
+    ensures memory { IfErr result (λ fault. fault ≡ NoMemory) }
+{
+    if lists.len() > MOST_ENUMS {
+        return Err(TreeFault::NoMemory);
+    }
+    if list.options.len() > MOST_OPTIONS {
+        return Err(TreeFault::NoMemory);
+    }
+    match lists.add(list.name, list.options) {
+        Ok(()) => Ok(()),
+        Err(_) => Err(TreeFault::NoMemory),
+    }
+}
+
+fn lists_of(alloc: Global, enums: Vec<EnumSource>) -> Result<EnumLists, TreeFault>
+    ensures lists { IfOk result (λ lists. lists ≡ map listed_view enums.items) }
+    ensures memory { IfErr result (λ fault. fault ≡ NoMemory) }
+{
+    let mut lists = EnumLists::new(alloc);
+    for list in enums {
+        add_list(&mut lists, list)?;
+    }
+    Ok(lists)
+}
+
+// The dictionary of what was read.
+fn keep(alloc: Global, found: Found) -> Result<DictSource, TreeFault>
+    requires { IsValid (read_view found) }
+    ensures kept { IfOk result (λ source. dictionary_view source ≡ read_view found) }
+    ensures memory { IfErr result (λ fault. fault ≡ NoMemory) }
+{
+    let Found { enums, facts } = found;
+    let lists = lists_of(alloc, enums)?;
+    match DictSource::of_facts(alloc, lists, facts) {
+        Ok(source) => Ok(source),
+        Err(_) => Err(TreeFault::NoMemory),
+    }
+}
+
+/// The dictionary that the bytes spell, or the first fault.
+pub fn read(alloc: Global, bytes: &[u8]) -> Result<DictSource, TreeFault>
+    ensures { BytesGive bytes.now (seen dictionary_view result) }
+{
+    if bytes.len() > MOST_BYTES {
+        return Err(TreeFault::TooLong);
+    }
+    let value = read_json(alloc, bytes)?;
+    let found = read_value(alloc, &value)?;
+    keep(alloc, found)
+}

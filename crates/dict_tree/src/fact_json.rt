@@ -1,0 +1,230 @@
+// Reads a fact of its JSON value.
+ghost use Rattle.std.specs.Prelude.{◌≡◌, map, option_map, option_and_then, string_bytes, codes, Some};
+ghost use Rattle.serde_json.specs.Find.{as_array, get};
+ghost use Rattle.serde_json.specs.View.{view as json, items_view, members_view};
+ghost use Rattle.fact_paths.proofs.FactPathLaws.{fact_path_of};
+ghost use Rattle.dict_tree.specs.View.{view, box_view, pair_view};
+ghost use Rattle.dict_tree.specs.Facts.{fact_view, stated_view, conditional_view};
+ghost use Rattle.dict_tree.specs.Reading.{Gives, pair_tree, tree_of};
+ghost use Rattle.dict_tree.specs.Stating.{writable_stated, derived_stated};
+ghost use Rattle.dict_tree.specs.FactReading.{conditional_in, derived_keys as keys_of_derived, fact_of, fact_with, has_no_other as only, text_at, tree_in, writable_fact, derived_fact, writable_keys};
+
+use crate::expr::Expr;
+use crate::expr_json::read_boxed;
+use crate::fact_source::{Conditional, FactSource, TypeText};
+use crate::fault::ReadFault;
+use crate::limits_json::read_limits;
+use crate::members::{has_no_other, may_be_text, read_text_under, text_under};
+use crate::stated_json::{read_derived_type, read_writable_type};
+use fact_paths::{FactPath, PathFault, read_fact_path};
+use serde_json::{Map, Value};
+use std::alloc::Global;
+
+// What the text spells, if anything.
+fn read_path(alloc: Global, text: &str) -> Result<Option<FactPath>, ReadFault>
+    ensures { Gives (λ path. path) result (Some (fact_path_of text.now)) }
+{
+    match read_fact_path(alloc, text) {
+        Ok(path) => Ok(Some(path)),
+        Err(PathFault::BadPath) => Ok(None),
+        Err(PathFault::NoMemory) => Err(ReadFault::NoMemory),
+    }
+}
+
+// The expression, where there is such a member.
+fn read_optional(alloc: Global, value: Option<&Value>) -> Result<Option<Box<Expr>>, ReadFault>
+    ensures { Gives (option_map box_view) result (tree_in (option_map (λ v. json v.now) value.entry)) }
+{
+    let Some(value) = value else {
+        return Ok(None);
+    };
+    Ok(Some(read_boxed(alloc, value)?))
+}
+
+// `[C,V]`
+fn read_two(alloc: Global, items: &[Value]) -> Result<(Box<Expr>, Box<Expr>), ReadFault>
+    ensures { Gives pair_view result (pair_tree (items_view items.now)) }
+{
+    if items.len() != 2 {
+        return Err(ReadFault::Shape);
+    }
+    let test = read_boxed(alloc, &items[0])?;
+    let value = read_boxed(alloc, &items[1])?;
+    Ok((test, value))
+}
+
+fn read_pair_of(alloc: Global, value: &Value) -> Result<(Box<Expr>, Box<Expr>), ReadFault>
+    ensures { Gives pair_view result (option_and_then pair_tree (as_array (json value.now))) }
+{
+    let Some(items) = value.as_array() else {
+        return Err(ReadFault::Shape);
+    };
+    read_two(alloc, items.as_slice())
+}
+
+// The conditional, where there is such a member.
+fn read_conditional(
+    alloc: Global,
+    value: Option<&Value>,
+) -> Result<Option<(Box<Expr>, Box<Expr>)>, ReadFault>
+    ensures { Gives (option_map pair_view) result (conditional_in (option_map (λ v. json v.now) value.entry)) }
+{
+    let Some(value) = value else {
+        return Ok(None);
+    };
+    Ok(Some(read_pair_of(alloc, value)?))
+}
+
+fn unboxed(expr: Option<Box<Expr>>) -> Option<Expr>
+    ensures { option_map view result ≡ option_map box_view expr }
+{
+    match expr {
+        None => None,
+        Some(expr) => Some(Box::into_inner(expr)),
+    }
+}
+
+fn conditional_of(pair: Option<(Box<Expr>, Box<Expr>)>) -> Option<Conditional>
+    ensures { option_map conditional_view result ≡ option_map pair_view pair }
+{
+    match pair {
+        None => None,
+        Some((test, value)) => Some(Conditional {
+            test: Box::into_inner(test),
+            value: Box::into_inner(value),
+        }),
+    }
+}
+
+// The type that a writable fact states.
+fn read_writable_stated(alloc: Global, value: &Value) -> Result<TypeText, ReadFault>
+    ensures { Gives stated_view result (option_and_then writable_stated (text_at (codes "writable") (json value.now))) }
+{
+    match text_under(value, "writable") {
+        None => Err(ReadFault::Shape),
+        Some(text) => read_writable_type(alloc, text),
+    }
+}
+
+// The type that a derived fact states.
+fn read_derived_stated(alloc: Global, value: &Value) -> Result<TypeText, ReadFault>
+    ensures { Gives stated_view result (option_and_then derived_stated (text_at (codes "derived") (json value.now))) }
+{
+    match text_under(value, "derived") {
+        None => Err(ReadFault::Shape),
+        Some(text) => read_derived_type(alloc, text),
+    }
+}
+
+// How a derived fact follows from others.
+fn read_main(alloc: Global, value: &Value) -> Result<Box<Expr>, ReadFault>
+    ensures { Gives box_view result (option_and_then tree_of (get (codes "is") (json value.now))) }
+{
+    match value.get("is") {
+        None => Err(ReadFault::Shape),
+        Some(form) => read_boxed(alloc, form),
+    }
+}
+
+#[tactic(auto, unfolding(crate::specs::FactReading::writable_fact))]
+fn read_writable(alloc: Global, value: &Value) -> Result<FactSource, ReadFault>
+    ensures { Gives fact_view result (writable_fact (json value.now)) }
+{
+    let path_text = read_text_under(alloc, value, "path")?;
+    let limits = read_limits(alloc, value.get("limits"))?;
+    let placeholder = read_optional(alloc, value.get("placeholder"))?;
+    let path = read_path(alloc, path_text.as_str())?;
+    let stated = read_writable_stated(alloc, value)?;
+    Ok(FactSource {
+        path_text,
+        path,
+        stated,
+        limits,
+        main: None,
+        conditional: None,
+        placeholder: unboxed(placeholder),
+    })
+}
+
+#[tactic(auto, unfolding(crate::specs::FactReading::derived_fact))]
+fn read_derived(alloc: Global, value: &Value) -> Result<FactSource, ReadFault>
+    ensures { Gives fact_view result (derived_fact (json value.now)) }
+{
+    let path_text = read_text_under(alloc, value, "path")?;
+    let main = read_main(alloc, value)?;
+    let conditional = read_conditional(alloc, value.get("conditional"))?;
+    let placeholder = read_optional(alloc, value.get("placeholder"))?;
+    let path = read_path(alloc, path_text.as_str())?;
+    let stated = read_derived_stated(alloc, value)?;
+    Ok(FactSource {
+        path_text,
+        path,
+        stated,
+        limits: Vec::new(alloc),
+        main: Some(Box::into_inner(main)),
+        conditional: conditional_of(conditional),
+        placeholder: unboxed(placeholder),
+    })
+}
+
+fn has_writable_keys(members: &Map<String, Value>) -> bool
+    ensures { result ≡ only writable_keys (members_view members.now.entries) }
+{
+    has_no_other(
+        members,
+        ["path", "writable", "limits", "placeholder", "description"].as_slice(),
+    )
+}
+
+fn has_derived_keys(later: bool, members: &Map<String, Value>) -> bool
+    ensures { result ≡ only (keys_of_derived later) (members_view members.now.entries) }
+{
+    if later {
+        return has_no_other(
+            members,
+            [
+                "path",
+                "derived",
+                "is",
+                "placeholder",
+                "description",
+                "conditional",
+            ]
+            .as_slice(),
+        );
+    }
+    has_no_other(
+        members,
+        ["path", "derived", "is", "placeholder", "description"].as_slice(),
+    )
+}
+
+fn read_fact_with(
+    alloc: Global,
+    later: bool,
+    value: &Value,
+    members: &Map<String, Value>,
+) -> Result<FactSource, ReadFault>
+    ensures { Gives fact_view result (fact_with later (json value.now) (members_view members.now.entries)) }
+{
+    if !may_be_text(value.get("description")) {
+        return Err(ReadFault::Shape);
+    }
+    if has_writable_keys(members) {
+        return read_writable(alloc, value);
+    }
+    if has_derived_keys(later, members) {
+        return read_derived(alloc, value);
+    }
+    Err(ReadFault::Shape)
+}
+
+/// The fact that the value spells; `later` says that the version is 2.
+pub fn read_fact(alloc: Global, later: bool, value: &Value) -> Result<FactSource, ReadFault>
+    ensures { Gives fact_view result (fact_of later (json value.now)) }
+{
+    let Some(members) = value.as_object() else {
+        return Err(ReadFault::Shape);
+    };
+    read_fact_with(alloc, later, value, members)
+}

@@ -1,0 +1,45 @@
+//! A dictionary's JSON form becomes trees, or the first of five faults.
+#![tactic(auto)]
+
+mod constant;
+mod dict_json;
+mod dict_source;
+mod enums_json;
+mod expr;
+mod expr_json;
+mod fact_json;
+mod fact_source;
+mod fault;
+mod finding;
+#[cfg(test)]
+mod json_tests;
+mod laws;
+mod limits;
+mod limits_json;
+mod members;
+mod mentions;
+mod node_name;
+mod operators;
+mod path_index;
+mod path_laws;
+mod path_use;
+#[cfg(test)]
+mod source_tests;
+mod stated_json;
+mod targets;
+
+pub use constant::Constant;
+pub use dict_json::read;
+pub use dict_source::{DictSource, Unpushed};
+pub use expr::{Case, Expr};
+pub use fact_source::{Conditional, FactSource, LimitText, TypeText};
+pub use fault::TreeFault;
+pub use laws::{
+    dictionaries_are_spelled, enums_are_spelled, expressions_are_spelled, facts_are_spelled,
+    facts_are_well_formed, limits_are_of_spelled_dictionaries, the_first_wrong_part_is_named,
+};
+pub use mentions::Mention;
+pub use operators::{ManyOp, OneOp, PickOp, ReadOp, TwoOp};
+pub use path_laws::{targets_are_none_elsewhere, targets_go_by_the_form, the_first_is_found};
+pub use path_use::{PathUse, read_use};
+pub use targets::Targets;

@@ -1,0 +1,72 @@
+ghost use Rattle.std.specs.Prelude.{◌≡◌};
+ghost use Rattle.dict_tree.specs.Names.{node_named};
+
+use crate::operators::{ManyOp, OneOp, PickOp, ReadOp, TwoOp};
+
+/// The kinds of constant.
+#[derive(Clone, Copy, Debug, PartialEq, Eq)]
+pub enum ConstantName {
+    True,
+    False,
+    Int,
+    Dollar,
+    Rational,
+    Day,
+    Text,
+    Enum,
+}
+
+/// The node that a name stands for.
+#[derive(Clone, Copy, Debug, PartialEq, Eq)]
+pub enum NodeName {
+    Constant(ConstantName),
+    Read(ReadOp),
+    Switch,
+    Many(ManyOp),
+    One(OneOp),
+    Two(TwoOp),
+    Pick(PickOp),
+}
+
+/// The node of this name.
+pub fn name_of_node(name: &str) -> Option<NodeName>
+    ensures { result ≡ node_named name.now }
+{
+    match name {
+        "True" => Some(NodeName::Constant(ConstantName::True)),
+        "False" => Some(NodeName::Constant(ConstantName::False)),
+        "Int" => Some(NodeName::Constant(ConstantName::Int)),
+        "Dollar" => Some(NodeName::Constant(ConstantName::Dollar)),
+        "Rational" => Some(NodeName::Constant(ConstantName::Rational)),
+        "Day" => Some(NodeName::Constant(ConstantName::Day)),
+        "Text" => Some(NodeName::Constant(ConstantName::Text)),
+        "Enum" => Some(NodeName::Constant(ConstantName::Enum)),
+        "Dependency" => Some(NodeName::Read(ReadOp::Dependency)),
+        "IsComplete" => Some(NodeName::Read(ReadOp::IsComplete)),
+        "CollectionSize" => Some(NodeName::Read(ReadOp::CollectionSize)),
+        "CollectionSum" => Some(NodeName::Read(ReadOp::CollectionSum)),
+        "Count" => Some(NodeName::Read(ReadOp::Count)),
+        "Switch" => Some(NodeName::Switch),
+        "All" => Some(NodeName::Many(ManyOp::All)),
+        "Any" => Some(NodeName::Many(ManyOp::Any)),
+        "Not" => Some(NodeName::One(OneOp::Not)),
+        "Add" => Some(NodeName::Many(ManyOp::Add)),
+        "Subtract" => Some(NodeName::Many(ManyOp::Subtract)),
+        "Multiply" => Some(NodeName::Two(TwoOp::Multiply)),
+        "Divide" => Some(NodeName::Two(TwoOp::Divide)),
+        "GreaterOf" => Some(NodeName::Many(ManyOp::GreaterOf)),
+        "LesserOf" => Some(NodeName::Many(ManyOp::LesserOf)),
+        "Equal" => Some(NodeName::Two(TwoOp::Equal)),
+        "NotEqual" => Some(NodeName::Two(TwoOp::NotEqual)),
+        "GreaterThan" => Some(NodeName::Two(TwoOp::GreaterThan)),
+        "LessThan" => Some(NodeName::Two(TwoOp::LessThan)),
+        "GreaterThanOrEqual" => Some(NodeName::Two(TwoOp::GreaterThanOrEqual)),
+        "LessThanOrEqual" => Some(NodeName::Two(TwoOp::LessThanOrEqual)),
+        "Round" => Some(NodeName::One(OneOp::Round)),
+        "YearOf" => Some(NodeName::One(OneOp::YearOf)),
+        "AddDays" => Some(NodeName::Two(TwoOp::AddDays)),
+        "Filter" => Some(NodeName::Pick(PickOp::Filter)),
+        "Find" => Some(NodeName::Pick(PickOp::Find)),
+        _ => None,
+    }
+}

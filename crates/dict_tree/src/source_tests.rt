@@ -1,0 +1,73 @@
+ghost use Rattle.std.specs.Prelude.{◌≡◌, [], IfOk, None};
+ghost use Rattle.dict_tree.specs.Facts.{fact_view, scalar};
+ghost use Rattle.dict_tree.specs.Forms.{IsWellFormed};
+ghost use Rattle.fact_values.specs.declared.fact_type.FactType.TheVariants as types;
+
+use crate::{DictSource, FactSource, Targets, TypeText};
+use fact_paths::{PathFault, read_fact_path, read_use_path};
+use fact_values::FactType;
+use std::alloc::{AllocError, Global};
+use std::process::Abort;
+use std::test::Fail;
+use value_text::EnumLists;
+
+// A writable Int without limits.
+fn written(alloc: Global, text: &str) -> Result<FactSource, AllocError>
+    ensures well_formed { IfOk result (λ fact. IsWellFormed (fact_view fact)) }
+    ensures plain { IfOk result (λ fact. fact_view fact ≡ record { path_text = (fact_view fact).path_text; path = fact.path; stated = scalar types.Int; limits = []; main = None; conditional = None; placeholder = None }) }
+{
+    let path_text = String::from_str(alloc, text)?;
+    let path = match read_fact_path(alloc, text) {
+        Ok(path) => Some(path),
+        Err(PathFault::BadPath) => None,
+        Err(PathFault::NoMemory) => return Err(AllocError),
+    };
+    Ok(FactSource {
+        path_text,
+        path,
+        stated: TypeText::Scalar(FactType::Int),
+        limits: Vec::new(alloc),
+        main: None,
+        conditional: None,
+        placeholder: None,
+    })
+}
+
+fn find(alloc: Global, source: &DictSource, text: &str) -> Result<Option<u32>, Fail> {
+    let path = read_fact_path(alloc, text)?;
+    Ok(source.find(&path))
+}
+
+fn targets(
+    alloc: Global,
+    source: &DictSource,
+    fact: u32,
+    base: u32,
+    text: &str,
+) -> Result<Targets, Fail> {
+    let path = read_use_path(alloc, text)?;
+    Ok(source.targets(fact, base, &path))
+}
+
+#[test]
+fn pushed_facts_are_found(rt: HostRuntime) -> Result<(), Fail> {
+    let alloc = rt.alloc();
+    let mut source = DictSource::new(alloc, EnumLists::new(alloc));
+    assert_eq!(rt; find(alloc, &source, "/people/*/age")?, None);
+    let first = written(alloc, "/people/*/age")?;
+    let pushed = source.push(first);
+    assert!(rt; pushed.is_ok());
+    assert_eq!(rt; find(alloc, &source, "/people/*/age")?, Some(1));
+    assert_eq!(rt; find(alloc, &source, "/people")?, None);
+    assert_eq!(rt; targets(alloc, &source, 1, 0, "../age")?.first, Some(1));
+    assert_eq!(rt; targets(alloc, &source, 1, 0, "/age")?.first, None);
+    assert_eq!(rt; source.facts().len(), 1);
+    assert_eq!(rt; source.enums().len(), 0);
+    assert_eq!(rt; source.mentions(alloc, 1)?.len(), 0);
+    let again = written(alloc, "/people/*/age")?;
+    let pushed = source.push(again);
+    assert!(rt; pushed.is_ok());
+    assert_eq!(rt; source.facts().len(), 2);
+    assert_eq!(rt; find(alloc, &source, "/people/*/age")?, Some(1));
+    Ok(())
+}
