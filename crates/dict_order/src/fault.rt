@@ -1,0 +1,35 @@
+ghost use Rattle.std.specs.Prelude.{◌≡◌};
+ghost use Rattle.dict_order.specs.declared.fault.OrderFault.TheVariants as faults;
+
+use fact_values::NoMemory;
+use std::error::Error;
+use std::fmt;
+
+/// Why facts have no ranks.
+#[derive(Clone, Copy, Debug, PartialEq, Eq)]
+pub enum OrderFault {
+    /// The fact of this number, from 1, reaches itself by one or more mentions, and no fact of a
+    /// lower number does.
+    Cycle(u32),
+    /// There was no memory left for the lists that the order needs.
+    NoMemory,
+}
+
+impl From<NoMemory> for OrderFault {
+    ghost from_gives = { λ _ fault. fault ≡ faults.NoMemory };
+
+    fn from(_error: NoMemory) -> OrderFault {
+        OrderFault::NoMemory
+    }
+}
+
+impl fmt::Display for OrderFault {
+    fn fmt<W: fmt::Write>(&self, f: &mut fmt::Formatter<W>) -> fmt::Result {
+        match self {
+            OrderFault::Cycle(fact) => write!(f, "fact {fact} reaches itself"),
+            OrderFault::NoMemory => write!(f, "out of memory"),
+        }
+    }
+}
+
+impl Error for OrderFault {}
