@@ -1,0 +1,17 @@
+pub mod Bools
+pub mod Coincide
+pub mod CompletesLaws
+pub mod MemberLaws
+pub mod Mentions
+pub mod OrderLaws
+pub mod Orders
+pub mod RangeLaws
+pub mod ReadsLaws
+pub mod ResolvingLaws
+pub mod Sureness
+pub mod TypedLaws
+pub mod ValueTypes
+mod NodeExamples
+mod ReadExamples
+mod SureExamples
+mod TypeExamples

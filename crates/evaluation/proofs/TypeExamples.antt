@@ -1,0 +1,125 @@
+-- Which type each kind of node has, by example.
+use Rattle.std.proofs.Common.{ℕ, List, [], ◌∷◌, Some, inl, inr, refl}
+use Rattle.fact_values.specs.declared.fact_type.FactType.{FactType}
+use Rattle.fact_values.specs.declared.fact_type.FactType.TheVariants.{Boolean, Int, Dollar, Rational, Day, Text, Enum, Collection, Item}
+use Rattle.dict_tree.specs.Tree.{Tree, Trees, literal, read, switch, many, one, two, pick, no_trees, tree, no_cases, a_case}
+use Rattle.dict_tree.specs.Typing.{AreTwo, HasType, HaveTypes, ReadType, Types}
+use Rattle.dict_tree.specs.declared.operators.ReadOp.TheVariants as read_op
+use Rattle.dict_tree.specs.declared.operators.ManyOp.TheVariants.{All, Add, Subtract, GreaterOf}
+use Rattle.dict_tree.specs.declared.operators.OneOp.TheVariants.{Not, Round, YearOf}
+use Rattle.dict_tree.specs.declared.operators.TwoOp.TheVariants.{Multiply, Divide, AddDays, Equal, LessThan}
+use Rattle.dict_tree.specs.declared.operators.PickOp.TheVariants.{Filter, Find}
+
+-- ---- expressions whose constants and reads are types themselves, and whose collections are bases
+
+abbrev OfTypes : Type 0
+OfTypes = Tree FactType FactType ℕ
+
+abbrev example_types : Types FactType FactType ℕ
+example_types = record {
+  constant = λ t. Some t;
+  reads = λ b t. Some t;
+  source = λ b c. Some c;
+}
+
+-- outside a condition
+abbrev Has : OfTypes → FactType → Type 0
+Has t u = HasType example_types 0 t u
+
+abbrev a : FactType → OfTypes
+a t = literal t
+
+abbrev operands : List FactType → Trees FactType FactType ℕ
+operands [] = no_trees
+operands (t ∷ ts) = tree (a t) (operands ts)
+
+a_constant : Has (a (Enum 2)) (Enum 2)
+a_constant = refl
+
+a_read : Has (read Day) Day
+a_read = refl
+
+a_dependency : ReadType read_op.Dependency (Item 3) (Item 3)
+a_dependency = refl
+
+a_complete_test : ReadType read_op.IsComplete (Collection 3) Boolean
+a_complete_test = refl
+
+a_size : ReadType read_op.CollectionSize (Collection 3) Int
+a_size = (tt, refl)
+
+no_size_of_an_int : ReadType read_op.CollectionSize Int Int → ⊥
+no_size_of_an_int h = h.0
+
+a_sum_of_fields : ReadType read_op.CollectionSum Dollar Dollar
+a_sum_of_fields = (tt, refl)
+
+no_sum_of_rational_fields : ReadType read_op.CollectionSum Rational Rational → ⊥
+no_sum_of_rational_fields h = h.0
+
+a_count : ReadType read_op.Count Boolean Int
+a_count = (refl, refl)
+
+a_switch : Has (switch (a_case (a Boolean) (a Text) (a_case (a Boolean) (a Text) no_cases))) Text
+a_switch = (tt, (refl, refl, (refl, refl, tt)))
+
+no_empty_switch : Has (switch no_cases) Text → ⊥
+no_empty_switch h = h.0
+
+an_all : Has (many All (operands (Boolean ∷ Boolean ∷ []))) Boolean
+an_all = (Boolean ∷ Boolean ∷ [], (refl, (refl, tt)), ((refl, (refl, tt)), refl))
+
+a_sum : Has (many Add (operands (Dollar ∷ Dollar ∷ Dollar ∷ []))) Dollar
+a_sum = (Dollar ∷ Dollar ∷ Dollar ∷ [], (refl, (refl, (refl, tt))), inl (tt, (refl, (refl, (refl, tt)))))
+
+a_sum_of_two_rationals : Has (many Add (operands (Rational ∷ Rational ∷ []))) Rational
+a_sum_of_two_rationals = (Rational ∷ Rational ∷ [], (refl, (refl, tt)), inr (refl, refl))
+
+a_sum_of_one : Has (many Add (operands (Int ∷ []))) Int
+a_sum_of_one = (Int ∷ [], (refl, tt), inl (tt, (refl, tt)))
+
+a_difference : Has (many Subtract (operands (Int ∷ Int ∷ []))) Int
+a_difference = (Int ∷ Int ∷ [], (refl, (refl, tt)), inl (tt, (refl, (refl, tt))))
+
+-- a difference has two operands at least
+no_difference_of_one : Has (many Subtract (operands (Int ∷ []))) Int → ⊥
+no_difference_of_one (us, k, inr m) = cc
+no_difference_of_one (us, k, inl m) = one_operand us k m.1
+  where
+    one_operand : (us : List FactType) → HaveTypes example_types 0 (operands (Int ∷ [])) us → AreTwo Int us → ⊥
+    one_operand [] k m = m
+    one_operand (u ∷ []) k m = m.1
+    one_operand (u ∷ v ∷ us) k m = k.1
+
+a_greatest_day : Has (many GreaterOf (operands (Day ∷ []))) Day
+a_greatest_day = (Day ∷ [], (refl, tt), (tt, (refl, tt)))
+
+a_negation : Has (one Not (a Boolean)) Boolean
+a_negation = (Boolean, refl, (refl, refl))
+
+a_rounded_dollar : Has (one Round (a Dollar)) Dollar
+a_rounded_dollar = (Dollar, refl, (refl, refl))
+
+a_year : Has (one YearOf (a Day)) Int
+a_year = (Day, refl, (refl, refl))
+
+a_product : Has (two Multiply (a Rational) (a Dollar)) Dollar
+a_product = (Rational, Dollar, refl, refl, refl)
+
+a_quotient : Has (two Divide (a Int) (a Int)) Rational
+a_quotient = (Int, Int, refl, refl, refl)
+
+a_later_day : Has (two AddDays (a Day) (a Int)) Day
+a_later_day = (Day, Int, refl, refl, (refl, refl, refl))
+
+an_equality : Has (two Equal (a (Enum 1)) (a (Enum 1))) Boolean
+an_equality = (Enum 1, Enum 1, refl, refl, (tt, refl, refl))
+
+an_order : Has (two LessThan (a Rational) (a Rational)) Boolean
+an_order = (Rational, Rational, refl, refl, (tt, refl, refl))
+
+a_filter : Has (pick Filter 3 (a Boolean)) (Collection 3)
+a_filter = (3, refl, refl, refl)
+
+a_find : Has (pick Find 3 (a Boolean)) (Item 3)
+a_find = (3, refl, refl, refl)

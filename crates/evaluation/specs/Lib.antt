@@ -1,0 +1,13 @@
+pub mod Agreement
+pub mod ByBases
+pub mod Completes
+pub mod Extremes
+pub mod Mentioned
+pub mod Operations
+pub mod Order
+pub mod Over
+pub mod Reads
+pub mod Resolving
+pub mod SlotsRead
+pub mod Sure
+pub mod Typed
