@@ -140,9 +140,14 @@ fn folder_shelf_reads_files(rt: HostRuntime) -> Result<(), Fail> {
     Ok(())
 }
 
+// A test is run on no input.
 #[test]
-fn standard_streams_are_made_and_written(rt: HostRuntime) -> Result<(), Fail> {
-    let _source = StdinSource::new(rt.stdin());
+fn standard_streams_are_read_and_written(rt: HostRuntime) -> Result<(), Fail> {
+    let alloc = rt.alloc();
+    let mut source = StdinSource::new(rt.stdin());
+    for _ in 0..2 {
+        assert_eq!(rt; pulled(alloc, &mut source)?, Ok(Vec::new(alloc)));
+    }
     let mut out = StdoutSink::new(rt.stdout());
     assert_eq!(rt; put_all(&mut out, "written\n".as_bytes()), Ok(()));
     Ok(())
