@@ -1,0 +1,12 @@
+pub mod DictExamples
+pub mod DictLaws
+pub mod FaultLaws
+pub mod FirstLaws
+pub mod FoundLaws
+pub mod InferenceLaws
+pub mod LimitLaws
+pub mod OperandLaws
+pub mod PlaceLaws
+pub mod SizeLaws
+pub mod TypeLaws
+pub mod ValueLaws

@@ -1,0 +1,9 @@
+use Rattle.std.proofs.Common.{ℕ, List, map}
+use Rattle.dict_types.proofs.DictLaws.{found_facts, found_limits}
+use Rattle.dict_types.proofs.checking.check.Goals as goal
+
+pub returns-clause-facts : goal.returns-clause-facts
+returns-clause-facts g c = found_facts c.args.source.now (map {B = List ℕ} (λ k. k.name) c.args.checks.now.checks.items) c.judge.result c.judge.ensures
+
+pub returns-clause-limits : goal.returns-clause-limits
+returns-clause-limits g c = found_limits c.args.source.now (map {B = List ℕ} (λ k. k.name) c.args.checks.now.checks.items) c.judge.result c.judge.ensures

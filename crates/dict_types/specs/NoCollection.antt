@@ -1,0 +1,108 @@
+-- A path that has to name a collection or an item, and names another fact.
+use Rattle.std.specs.Prelude.{ℕ, Bool, true, false, not, ◌&&◌, ◌||◌, List, Option, Some, None}
+use Rattle.fact_paths.specs.declared.fact_path.FactPath.{FactPath}
+use Rattle.fact_paths.specs.declared.fact_path.FactPath.TheVariants as facts
+use Rattle.fact_paths.specs.declared.use_path.UsePath.{UsePath}
+use Rattle.fact_paths.specs.declared.use_path.UsePath.TheVariants as uses
+use Rattle.dict_tree.specs.Tree.{Use}
+use Rattle.dict_tree.specs.Facts.{Fact, Stated, scalar, enum_of, writable_list, list_of, item_of}
+use Rattle.dict_tree.specs.Dictionary.{Dictionary, is_collection}
+use Rattle.dict_tree.specs.Finding.{fact_at}
+use Rattle.dict_tree.specs.Targets.{find_global, first_target}
+use Rattle.dict_types.specs.declared.reader.Reader.{Reader}
+use Rattle.dict_types.specs.Uses.{Condition, base_of, reads_collection, fact_has_use}
+
+-- ---- kinds of stated types
+
+-- a collection, written or derived
+abbrev pub is_list : Stated → Bool
+is_list (scalar t) = false
+is_list (enum_of n) = false
+is_list writable_list = true
+is_list (list_of u) = true
+is_list (item_of u) = false
+
+abbrev pub is_item : Stated → Bool
+is_item (scalar t) = false
+is_item (enum_of n) = false
+is_item writable_list = false
+is_item (list_of u) = false
+is_item (item_of u) = true
+
+-- ---- writable collections by name
+
+abbrev pub is_written_list : Option Fact → Bool
+is_written_list None = false
+is_written_list (Some f) = is_collection f.stated
+
+-- `/c` is the path of a writable collection
+abbrev pub names_list : Dictionary → Option ℕ → Bool
+names_list d None = false
+names_list d (Some t) = is_written_list (fact_at d.facts t)
+
+-- the path is `/c/*/N`, and `/c` is no writable collection
+abbrev pub lacks_own_list : Dictionary → Option FactPath → Bool
+lacks_own_list d None = false
+lacks_own_list d (Some (facts.Global n)) = false
+lacks_own_list d (Some (facts.Member c n)) = not (names_list d (find_global d c))
+
+-- the path in a stated type is `/c`, and `/c` is no writable collection
+abbrev pub lacks_base : Dictionary → Option UsePath → Bool
+lacks_base d None = false
+lacks_base d (Some (uses.Global c)) = not (names_list d (find_global d c))
+lacks_base d (Some (uses.Sibling n)) = false
+lacks_base d (Some (uses.Inner n)) = false
+lacks_base d (Some (uses.Each n m)) = false
+lacks_base d (Some (uses.Through n m)) = false
+lacks_base d (Some (uses.SiblingThrough n m)) = false
+
+abbrev pub lacks_stated_list : Dictionary → Stated → Bool
+lacks_stated_list d (scalar t) = false
+lacks_stated_list d (enum_of n) = false
+lacks_stated_list d writable_list = false
+lacks_stated_list d (list_of u) = lacks_base d u.path
+lacks_stated_list d (item_of u) = lacks_base d u.path
+
+-- ---- uses
+
+-- a fact, of a type of another kind
+abbrev pub is_no_list : Option Fact → Bool
+is_no_list None = false
+is_no_list (Some f) = not (is_list f.stated)
+
+abbrev pub is_no_item : Option Fact → Bool
+is_no_item None = false
+is_no_item (Some f) = not (is_item f.stated)
+
+-- the same of the fact with a number, where there is one
+abbrev pub is_no_list_at : Dictionary → Option ℕ → Bool
+is_no_list_at d None = false
+is_no_list_at d (Some t) = is_no_list (fact_at d.facts t)
+
+abbrev pub is_no_item_at : Dictionary → Option ℕ → Bool
+is_no_item_at d None = false
+is_no_item_at d (Some t) = is_no_item (fact_at d.facts t)
+
+-- `/N/M` and `../N/M`
+abbrev pub goes_through_item : UsePath → Bool
+goes_through_item (uses.Global n) = false
+goes_through_item (uses.Sibling n) = false
+goes_through_item (uses.Inner n) = false
+goes_through_item (uses.Each n m) = false
+goes_through_item (uses.Through n m) = true
+goes_through_item (uses.SiblingThrough n m) = true
+
+-- the first target is to be a collection or an item, and is a fact of another type
+abbrev pub is_misread : Dictionary → Reader → UsePath → Option ℕ → Bool
+is_misread d reader path first = (reads_collection reader && is_no_list_at d first) || (goes_through_item path && is_no_item_at d first)
+
+abbrev pub path_lacks_list : Dictionary → ℕ → Reader → Condition → Option UsePath → Bool
+path_lacks_list d n reader c None = false
+path_lacks_list d n reader c (Some path) = is_misread d reader path (first_target d n (base_of c) path)
+
+abbrev pub use_lacks_list : Dictionary → ℕ → Reader → Condition → Use → Bool
+use_lacks_list d n reader c u = path_lacks_list d n reader c u.path
+
+-- one of the four cases holds
+abbrev pub lacks_collection : Dictionary → ℕ → Fact → Bool
+lacks_collection d n f = lacks_own_list d f.path || (lacks_stated_list d f.stated || fact_has_use (use_lacks_list d n) d n f)

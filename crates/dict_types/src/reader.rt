@@ -1,0 +1,9 @@
+use dict_tree::{PickOp, ReadOp};
+
+/// What uses a path.
+#[derive(Clone, Copy, Debug, PartialEq, Eq)]
+pub enum Reader {
+    Read(ReadOp),
+    /// The path of the collection whose members are picked.
+    Pick(PickOp),
+}

@@ -1,0 +1,36 @@
+ghost use Rattle.std.specs.Prelude.{◌≡◌, ℕ, List, map};
+ghost use Rattle.dict_tree.specs.Facts.{fact_view, limit_view};
+ghost use Rattle.dict_types.specs.UnknownCheck.{check_place, has_unknown_check as unknown_check, is_unknown_check as check_unknown};
+
+use dict_tree::{FactSource, LimitText};
+use text_checks::CheckTable;
+
+/// The place of the check of this name, from 0.
+pub fn find_check(checks: &CheckTable, name: &str) -> Option<u32>
+    ensures { result ≡ check_place (map {B = List ℕ} (λ c. c.name) checks.now.checks.items) name.now }
+{
+    checks.find(name)
+}
+
+fn is_unknown_check(checks: &CheckTable, limit: &LimitText) -> bool
+    ensures { result ≡ check_unknown (map {B = List ℕ} (λ c. c.name) checks.now.checks.items) (limit_view limit.now) }
+{
+    match limit {
+        LimitText::Min(_) => false,
+        LimitText::Max(_) => false,
+        LimitText::MaxLength(_) => false,
+        LimitText::Check(name) => find_check(checks, name.as_str()).is_none(),
+    }
+}
+
+/// Whether a limit of the fact names no check of the table.
+pub fn has_unknown_check(checks: &CheckTable, fact: &FactSource) -> bool
+    ensures { result ≡ unknown_check (map {B = List ℕ} (λ c. c.name) checks.now.checks.items) (fact_view fact.now) }
+{
+    for limit in &fact.limits {
+        if is_unknown_check(checks, limit) {
+            return true;
+        }
+    }
+    false
+}
