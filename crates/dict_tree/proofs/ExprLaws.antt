@@ -7,7 +7,7 @@ use Rattle.std.proofs.lemmas.Slice.Eq.{bytes_eq-Decides}
 use Rattle.serde_json.specs.Data.{Data, null, boolean, number, string, array, object, Items, no_items, item}
 use Rattle.serde_json.specs.Find.{as_str}
 use Rattle.fact_paths.specs.declared.use_path.UsePath.{UsePath}
-use Rattle.fact_paths.proofs.UsePathLaws.{use_path_of}
+use Rattle.fact_paths.specs.Reading.{use_path_of}
 use Rattle.dict_tree.specs.declared.operators.ManyOp.{ManyOp}
 use Rattle.dict_tree.specs.declared.operators.ManyOp.TheVariants.{All, Any, Add, Subtract, GreaterOf, LesserOf}
 use Rattle.dict_tree.specs.declared.node_name.ConstantName.{ConstantName}

@@ -8,7 +8,7 @@ use Rattle.std.proofs.lemmas.Slice.Eq.{bytes_eq-Decides}
 use Rattle.serde_json.specs.Data.{Data, string, array, object, Items, no_items, item, Members}
 use Rattle.serde_json.specs.Find.{as_str, as_array, as_object, get, get_member}
 use Rattle.fact_paths.specs.declared.fact_path.FactPath.{FactPath}
-use Rattle.fact_paths.proofs.FactPathLaws.{fact_path_of}
+use Rattle.fact_paths.specs.Reading.{fact_path_of}
 use Rattle.dict_tree.specs.declared.limits_json.LimitName.{LimitName}
 use Rattle.dict_tree.specs.declared.limits_json.LimitName.TheVariants as names
 use Rattle.dict_tree.specs.Tree.{Source, SourceCase}

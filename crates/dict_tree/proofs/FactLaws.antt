@@ -6,8 +6,7 @@ use Rattle.std.proofs.lemmas.Option.{none-some, same_Some}
 use Rattle.serde_json.specs.Data.{Data, Items, Members}
 use Rattle.serde_json.specs.Find.{as_array, as_object, get}
 use Rattle.fact_paths.specs.Names.{is_name}
-use Rattle.fact_paths.proofs.FactPathLaws.{fact_path_of}
-use Rattle.fact_paths.proofs.UsePathLaws.{use_path_of}
+use Rattle.fact_paths.specs.Reading.{fact_path_of, use_path_of}
 use Rattle.fact_values.specs.declared.fact_type.FactType.{FactType}
 use Rattle.fact_values.specs.declared.fact_type.FactType.TheVariants as types
 use Rattle.dict_tree.specs.Tree.{Source, SourceCase}

@@ -9,7 +9,8 @@ use Rattle.std.proofs.lemmas.Slice.Eq.{bytes_eq-Decides}
 use Rattle.fact_paths.specs.Paths.{IsFactPath, SpellsFactPath, fact_path_text}
 use Rattle.fact_paths.specs.declared.fact_path.FactPath.{FactPath}
 use Rattle.fact_paths.specs.declared.fact_path.FactPath.TheVariants.{Global, Member}
-use Rattle.fact_paths.proofs.FactPathLaws.{fact_path_of, fact_path_reading}
+use Rattle.fact_paths.specs.Reading.{fact_path_of}
+use Rattle.fact_paths.proofs.FactPathLaws.{fact_path_reading}
 use Rattle.fact_paths.proofs.ReadingLaws.{one_path_from}
 use Rattle.dict_tree.specs.Dictionary.{number_from}
 use Rattle.dict_tree.specs.Facts.{Fact, fact_view}

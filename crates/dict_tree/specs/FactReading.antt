@@ -3,7 +3,7 @@ use Rattle.std.specs.Prelude.{ℕ, Bool, true, false, ◌&&◌, List, [], ◌∷
 use Rattle.std.specs.List.{list_any}
 use Rattle.serde_json.specs.Data.{Data, Items, no_items, item, Members, no_members, member}
 use Rattle.serde_json.specs.Find.{as_str, as_array, as_object, get}
-use Rattle.fact_paths.proofs.FactPathLaws.{fact_path_of}
+use Rattle.fact_paths.specs.Reading.{fact_path_of}
 use Rattle.dict_tree.specs.declared.limits_json.LimitName.{LimitName}
 use Rattle.dict_tree.specs.declared.limits_json.LimitName.TheVariants as names
 use Rattle.dict_tree.specs.Tree.{Source, SourceCase}

@@ -2,7 +2,7 @@
 use Rattle.std.specs.Prelude.{◌≡◌, ℕ, nat_le, Bool, true, false, List, [], ◌∷◌, length, codes, Option, Some, None, option_map, option_and_then, Result, Ok, Err, if◌then◌else◌, bytes_eq}
 use Rattle.serde_json.specs.Data.{Data, null, boolean, number, string, array, object, Items, no_items, item}
 use Rattle.serde_json.specs.Find.{as_str}
-use Rattle.fact_paths.proofs.UsePathLaws.{use_path_of}
+use Rattle.fact_paths.specs.Reading.{use_path_of}
 use Rattle.dict_tree.specs.declared.fault.ReadFault.{ReadFault}
 use Rattle.dict_tree.specs.declared.fault.ReadFault.TheVariants.{Shape, NoMemory}
 use Rattle.dict_tree.specs.declared.operators.ManyOp.{ManyOp}

@@ -2,7 +2,7 @@
 ghost use Rattle.std.specs.Prelude.{◌≡◌, map, option_map, option_and_then, string_bytes, codes, Some};
 ghost use Rattle.serde_json.specs.Find.{as_array, get};
 ghost use Rattle.serde_json.specs.View.{view as json, items_view, members_view};
-ghost use Rattle.fact_paths.proofs.FactPathLaws.{fact_path_of};
+ghost use Rattle.fact_paths.specs.Reading.{fact_path_of};
 ghost use Rattle.dict_tree.specs.View.{view, box_view, pair_view};
 ghost use Rattle.dict_tree.specs.Facts.{fact_view, stated_view, conditional_view};
 ghost use Rattle.dict_tree.specs.Reading.{Gives, pair_tree, tree_of};

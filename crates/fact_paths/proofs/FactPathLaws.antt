@@ -4,7 +4,7 @@ use Rattle.std.specs.Prelude.{codes}
 use Rattle.std.proofs.lemmas.Option.{option_and_then_some}
 use Rattle.fact_paths.specs.Cuts.{cut, after}
 use Rattle.fact_paths.specs.Paths.{SpellsFactPath}
-use Rattle.fact_paths.specs.Reading.{◌>>=◌, of_names, fact_path_from}
+use Rattle.fact_paths.specs.Reading.{of_names, fact_path_from, fact_path_of}
 use Rattle.fact_paths.specs.declared.fact_path.FactPath.{FactPath}
 use Rattle.fact_paths.specs.declared.fact_path.FactPath.TheVariants as facts
 use Rattle.fact_paths.proofs.CutLaws.{cut-lacks, cut-append, cut_some, after_some}
@@ -21,12 +21,6 @@ rooted text (Some parts) c p e =
     let behind : parts.1 ≡ 42 ∷ 47 ∷ member = after_some (codes "*/") parts.1 member star in
     let whole : text ≡ parts.0 ++ 47 ∷ 42 ∷ 47 ∷ member = cut_some 47 text parts.0 parts.1 c ∙ ap (λ (x : List ℕ). parts.0 ++ 47 ∷ x) behind in
     rw h.2 ((h.0, h.1), ap (λ (x : List ℕ). 47 ∷ x) whole))
-
--- the path that a text spells
-abbrev pub fact_path_of : List ℕ → Option FactPath
-fact_path_of text = do
-  rest ← after (codes "/") text
-  fact_path_from rest (cut 47 rest)
 
 -- what is read is spelled
 sound : (text : List ℕ) (p : FactPath) → fact_path_of text ≡ Some p → SpellsFactPath text p

@@ -11,9 +11,10 @@ use Rattle.fact_paths.specs.declared.use_path.UsePath.{UsePath}
 use Rattle.fact_paths.specs.declared.use_path.UsePath.TheVariants as uses
 use Rattle.fact_paths.specs.declared.slot_path.SlotPath.{SlotPath}
 use Rattle.fact_paths.specs.declared.slot_path.SlotPath.TheVariants as slots
-use Rattle.fact_paths.proofs.FactPathLaws.{fact_path_of, fact_path_reading}
-use Rattle.fact_paths.proofs.UsePathLaws.{use_path_of, use_path_reading}
-use Rattle.fact_paths.proofs.SlotPathLaws.{slot_path_of, slot_path_reading}
+use Rattle.fact_paths.specs.Reading.{fact_path_of, use_path_of, slot_path_of}
+use Rattle.fact_paths.proofs.FactPathLaws.{fact_path_reading}
+use Rattle.fact_paths.proofs.UsePathLaws.{use_path_reading}
+use Rattle.fact_paths.proofs.SlotPathLaws.{slot_path_reading}
 use Rattle.fact_paths.proofs.ReadingLaws.{IsReading}
 
 -- ---- names

@@ -5,7 +5,7 @@ use Rattle.std.proofs.lemmas.Option.{none-some, option_and_then_some}
 use Rattle.fact_paths.specs.Cuts.{cut, after}
 use Rattle.fact_paths.specs.Names.{IsName}
 use Rattle.fact_paths.specs.Paths.{IsMemberNumber, SpellsSlotPath}
-use Rattle.fact_paths.specs.Reading.{◌>>=◌, of_names, member_number_of, slot_member_from, slot_path_from}
+use Rattle.fact_paths.specs.Reading.{◌>>=◌, of_names, member_number_of, slot_member_from, slot_path_from, slot_path_of}
 use Rattle.fact_paths.specs.declared.slot_path.SlotPath.{SlotPath}
 use Rattle.fact_paths.specs.declared.slot_path.SlotPath.TheVariants as slots
 use Rattle.fact_paths.proofs.CutLaws.{cut-lacks, cut-append, cut_some, after_some}
@@ -39,12 +39,6 @@ rooted text (Some parts) c p e =
     let behind : parts.1 ≡ 35 ∷ (decimal h.0 ++ 47 ∷ h.1) = after_some (codes "#") parts.1 member sign ∙ ap (λ (x : List ℕ). 35 ∷ x) h.5 in
     let whole : text ≡ parts.0 ++ 47 ∷ 35 ∷ (decimal h.0 ++ 47 ∷ h.1) = cut_some 47 text parts.0 parts.1 c ∙ ap (λ (x : List ℕ). parts.0 ++ 47 ∷ x) behind in
     rw h.6 ((h.3, h.2, h.4), ap (λ (x : List ℕ). 47 ∷ x) whole))
-
--- the path that a text spells
-abbrev pub slot_path_of : List ℕ → Option SlotPath
-slot_path_of text = do
-  rest ← after (codes "/") text
-  slot_path_from rest (cut 47 rest)
 
 -- what is read is spelled
 sound : (text : List ℕ) (p : SlotPath) → slot_path_of text ≡ Some p → SpellsSlotPath text p

@@ -4,22 +4,12 @@ use Rattle.std.specs.Prelude.{codes}
 use Rattle.fact_paths.specs.Cuts.{cut, after}
 use Rattle.fact_paths.specs.Names.{IsName}
 use Rattle.fact_paths.specs.Paths.{SpellsUsePath}
-use Rattle.fact_paths.specs.Reading.{of_name, sibling_path_from, pair_path_from, rooted_path_from}
+use Rattle.fact_paths.specs.Reading.{of_name, sibling_path_from, pair_path_from, rooted_path_from, use_path_from, use_path_of}
 use Rattle.fact_paths.specs.declared.use_path.UsePath.{UsePath}
 use Rattle.fact_paths.specs.declared.use_path.UsePath.TheVariants as uses
 use Rattle.fact_paths.proofs.CutLaws.{cut-lacks, cut-append, cut_some, after_some, after-lacks}
 use Rattle.fact_paths.proofs.NameLaws.{name_lacks, name_lacks_slash}
 use Rattle.fact_paths.proofs.ReadingLaws.{IsReading, of_name_some, of_name-name, of_names_some, of_names-names}
-
--- the path, by what stands behind `../` and what stands behind `/`
-abbrev pub use_path_from : List ℕ → Option (List ℕ) → Option (List ℕ) → Option UsePath
-use_path_from text (Some rest) root = sibling_path_from rest (cut 47 rest)
-use_path_from text None (Some rest) = rooted_path_from rest (cut 47 rest)
-use_path_from text None None = of_name uses.Inner text
-
--- the path that a text spells
-abbrev pub use_path_of : List ℕ → Option UsePath
-use_path_of text = use_path_from text (after (codes "../") text) (after (codes "/") text)
 
 -- ---- what is read is spelled
 

@@ -2,7 +2,7 @@
 use Rattle.std.specs.Prelude.{◌≡◌, ℕ, ◌&&◌, Bool, false, nat_le, nat_lt, codes, List, [], ◌∷◌, Option, Some, None, option_map, option_and_then, Result, Ok, Err, if◌then◌else◌}
 use Rattle.std.specs.Str.{all_ascii_digits}
 use Rattle.std.specs.Str.Parse.{digits_value}
-use Rattle.fact_paths.specs.Cuts.{at_slash, after}
+use Rattle.fact_paths.specs.Cuts.{at_slash, after, cut}
 use Rattle.fact_paths.specs.Names.{is_name}
 use Rattle.fact_paths.specs.declared.fault.PathFault.{PathFault}
 use Rattle.fact_paths.specs.declared.fault.PathFault.TheVariants.{BadPath, NoMemory}
@@ -49,6 +49,12 @@ fact_path_from text (Some parts) = do
   member ← after (codes "*/") parts.1
   of_names facts.Member parts.0 member
 
+-- the path of a fact that a text spells
+abbrev pub fact_path_of : List ℕ → Option FactPath
+fact_path_of text = do
+  rest ← after (codes "/") text
+  fact_path_from rest (cut 47 rest)
+
 -- ---- paths of uses
 
 -- behind `../`: `N`, or the two parts of `N/M`
@@ -65,6 +71,16 @@ pair_path_from first second (Some member) = of_names uses.Each first member
 abbrev pub rooted_path_from : List ℕ → Option (List ℕ × List ℕ) → Option UsePath
 rooted_path_from text None = of_name uses.Global text
 rooted_path_from text (Some parts) = pair_path_from parts.0 parts.1 (after (codes "*/") parts.1)
+
+-- the path of a use, by what stands behind `../` and what stands behind `/`
+abbrev pub use_path_from : List ℕ → Option (List ℕ) → Option (List ℕ) → Option UsePath
+use_path_from text (Some rest) root = sibling_path_from rest (cut 47 rest)
+use_path_from text None (Some rest) = rooted_path_from rest (cut 47 rest)
+use_path_from text None None = of_name uses.Inner text
+
+-- the path of a use that a text spells
+abbrev pub use_path_of : List ℕ → Option UsePath
+use_path_of text = use_path_from text (after (codes "../") text) (after (codes "/") text)
 
 -- ---- paths of slots, behind the first slash
 
@@ -90,3 +106,9 @@ slot_path_from text None = of_name slots.Global text
 slot_path_from text (Some parts) = do
   member ← after (codes "#") parts.1
   slot_member_from parts.0 (at_slash member)
+
+-- the path of a slot that a text spells
+abbrev pub slot_path_of : List ℕ → Option SlotPath
+slot_path_of text = do
+  rest ← after (codes "/") text
+  slot_path_from rest (cut 47 rest)

@@ -1,7 +1,8 @@
 use Rattle.std.proofs.Common.{Err, refl, sym}
 use Rattle.fact_paths.specs.Paths.{SpellsSlotPath}
 use Rattle.fact_paths.specs.declared.fault.PathFault.TheVariants.{BadPath}
-use Rattle.fact_paths.proofs.SlotPathLaws.{slot_path_of, slot_path_reading}
+use Rattle.fact_paths.specs.Reading.{slot_path_of}
+use Rattle.fact_paths.proofs.SlotPathLaws.{slot_path_reading}
 use Rattle.fact_paths.proofs.ReadingLaws.{reads_from_gives}
 use Rattle.fact_paths.proofs.slot_path.read_slot_path.Goals as goal
 
