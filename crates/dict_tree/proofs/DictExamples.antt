@@ -1,7 +1,7 @@
 -- Small dictionaries, read of their JSON values by computation.
-use Rattle.std.proofs.Common.{◌≡◌, List, [], ◌∷◌, Some, None, Ok, Err, Result, refl}
+use Rattle.std.proofs.Common.{◌≡◌, [], ◌∷◌, Some, None, Ok, Err, Result, refl}
 use Rattle.std.specs.Prelude.{codes}
-use Rattle.serde_json.specs.Data.{Data, string, array, object, Items, no_items, item, Members, no_members, member}
+use Rattle.serde_json.specs.Data.{Data, string, array, object, Items, no_items, item, no_members, member}
 use Rattle.fact_paths.specs.declared.fact_path.FactPath.TheVariants as paths
 use Rattle.fact_paths.specs.declared.use_path.UsePath.TheVariants as uses
 use Rattle.fact_values.specs.declared.fact_type.FactType.TheVariants as types

@@ -1,10 +1,10 @@
 -- What is read of a value is spelled by it, and the part that is named isn't of the form.
-use Rattle.std.proofs.Common.{◌≡◌, ◌⊎◌, inl, inr, ℕ, ◌+◌, List, [], ◌∷◌, Bool, true, false, cond, ◌&&◌, Option, Some, None, option_and_then, Result, Ok, Err, refl, sym, ap, subst, ◌∙◌}
+use Rattle.std.proofs.Common.{◌≡◌, inl, inr, ℕ, ◌+◌, List, [], ◌∷◌, Bool, true, false, cond, ◌&&◌, Option, Some, None, option_and_then, Result, Ok, Err, refl, sym, ap, subst, ◌∙◌}
 use Rattle.std.specs.Prelude.{codes}
 use Rattle.std.specs.Str.{bytes_eq}
 use Rattle.std.proofs.lemmas.Option.{none-some, same_Some}
 use Rattle.std.proofs.lemmas.Slice.Eq.{bytes_eq-Decides}
-use Rattle.serde_json.specs.Data.{Data, string, array, Items, no_items, item}
+use Rattle.serde_json.specs.Data.{Data, Items, no_items, item}
 use Rattle.serde_json.specs.Find.{as_str, as_array, as_object, get}
 use Rattle.value_text.specs.Enums.{Listed}
 use Rattle.dict_tree.specs.Facts.{Fact}
@@ -12,7 +12,7 @@ use Rattle.dict_tree.specs.FactJson.{SpellsFact}
 use Rattle.dict_tree.specs.FactReading.{has_no_other, is_optional_text, text_at, fact_of}
 use Rattle.dict_tree.specs.Dictionary.{Dictionary, too_many, too_deep}
 use Rattle.dict_tree.specs.DictReading.{◌>>=◌, or_fault, facts_step, facts_of, top_keys, version_of, version_with, version_in, enums_in, shallow, few, dictionary_with, dictionary_of}
-use Rattle.dict_tree.specs.DictJson.{AreSpelled, version_text, SpellsTop, SpellsDictionary, IsTopWrong, IsFactWrong, IsFirstWrong, IsWrongFact, IsWrongAt}
+use Rattle.dict_tree.specs.DictJson.{AreSpelled, version_text, SpellsTop, SpellsDictionary, IsTopWrong, IsFactWrong, IsFirstWrong, IsWrongAt}
 use Rattle.dict_tree.specs.declared.fault.TreeFault.{TreeFault}
 use Rattle.dict_tree.specs.declared.fault.TreeFault.TheVariants as faults
 use Rattle.dict_tree.proofs.ExprLaws.{both_some, guarded}

@@ -9,7 +9,7 @@ use Rattle.value_text.specs.Enums.{Listed}
 use Rattle.dict_tree.specs.Facts.{Fact}
 use Rattle.dict_tree.specs.Forms.{IsWellFormed}
 use Rattle.dict_tree.specs.FactReading.{fact_of}
-use Rattle.dict_tree.specs.Dictionary.{Dictionary, Written, IsValid, IsWithinLimits, dictionary_view, too_many, too_deep}
+use Rattle.dict_tree.specs.Dictionary.{Dictionary, Written, IsValid, dictionary_view, too_many, too_deep}
 use Rattle.dict_tree.specs.DictReading.{◌>>=◌, or_fault, facts_step, facts_of, version_in, enums_in, shallow, few, dictionary_with, dictionary_of, Yields, IsJson, IsOfShape, BytesGive, max_bytes, seen}
 use Rattle.dict_tree.specs.declared.fault.TreeFault.{TreeFault}
 use Rattle.dict_tree.specs.declared.fault.TreeFault.TheVariants as faults

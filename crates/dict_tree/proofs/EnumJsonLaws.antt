@@ -1,9 +1,9 @@
 -- A list of options that is read is spelled, and one that is spelled is read.
-use Rattle.std.proofs.Common.{◌≡◌, ◌≢◌, ℕ, List, [], ◌∷◌, Bool, true, false, cond, ◌&&◌, length, Option, Some, None, option_map, option_and_then, refl, sym, ap, subst, ◌∙◌, arith}
+use Rattle.std.proofs.Common.{◌≡◌, ◌≢◌, ℕ, List, [], ◌∷◌, true, false, ◌&&◌, length, Option, Some, None, option_map, option_and_then, refl, sym, ap, subst, ◌∙◌, arith}
 use Rattle.std.specs.Prelude.{codes, nat_lt}
 use Rattle.std.specs.List.{list_all}
 use Rattle.std.proofs.lemmas.Bool.{lt-ltb}
-use Rattle.std.proofs.lemmas.Option.{none-some, same_Some}
+use Rattle.std.proofs.lemmas.Option.{same_Some}
 use Rattle.serde_json.specs.Data.{Data, string, array, Items, no_items, item}
 use Rattle.serde_json.specs.Find.{as_str, as_array, as_object, get}
 use Rattle.fact_paths.specs.Names.{is_name}
@@ -50,7 +50,7 @@ not_empty : (xs : List (List ℕ)) → nat_lt 0 (length xs) ≡ true → xs ≢ 
 not_empty [] h = absurd (let e : false ≡ true = h in cc)
 not_empty (x ∷ xs) h = λ e. absurd cc
 
-some_there : (xs : List (List ℕ)) → xs ≢ [] → nat_lt 0 (length xs) ≡ true
+pub some_there : (xs : List (List ℕ)) → xs ≢ [] → nat_lt 0 (length xs) ≡ true
 some_there [] h = absurd (h refl)
 some_there (x ∷ xs) h = lt-ltb 0 (length (x ∷ xs)) (omega arith)
 

@@ -1,7 +1,6 @@
 -- What is read is spelled, and what is spelled is read.
-use Rattle.std.proofs.Common.{◌≡◌, ℕ, ◌≤◌, List, [], ◌∷◌, Bool, true, false, cond, length, Option, Some, None, option_map, option_and_then, refl, sym, ap, subst, ◌∙◌, arith, le-leb}
+use Rattle.std.proofs.Common.{◌≡◌, ℕ, ◌≤◌, List, [], ◌∷◌, Bool, true, false, cond, length, Option, Some, None, option_map, option_and_then, refl, ap, subst, ◌∙◌, arith, le-leb}
 use Rattle.std.specs.Prelude.{codes, nat_le}
-use Rattle.std.specs.Str.{bytes_eq}
 use Rattle.std.proofs.lemmas.Option.{none-some, same_Some}
 use Rattle.std.proofs.lemmas.Slice.Eq.{bytes_eq-Decides}
 use Rattle.serde_json.specs.Data.{Data, null, boolean, number, string, array, object, Items, no_items, item}
@@ -19,7 +18,7 @@ use Rattle.dict_tree.specs.Tree.{Literal, literal_true, literal_false, literal_i
 use Rattle.dict_tree.specs.View.{trees_of, cases_of}
 use Rattle.dict_tree.specs.Forms.{HasForm, HaveForms, HaveCaseForms, AreEnough, AreSome, AreCases, IsUse}
 use Rattle.dict_tree.specs.Json.{node_json, text_json, literal_json, json_of, json_of_trees, json_of_cases, Spells}
-use Rattle.dict_tree.specs.Reading.{use_of, no_operand, one_text, two_texts, constant_of, fewest, at_least, case_if, is_text, node_of, tree_of, array_tree, only_tree, pair_tree, picked_tree, tree_list, case_of, case_in, case_list}
+use Rattle.dict_tree.specs.Reading.{use_of, no_operand, one_text, two_texts, constant_of, fewest, at_least, case_if, is_text, node_of, tree_of, array_tree, only_tree, pair_tree, picked_tree, tree_list, case_of, case_list}
 use Rattle.dict_tree.proofs.NameLaws.{node_named-node_name, node_named_some}
 use Rattle.dict_tree.proofs.UseLaws.{use_path_given, use_path_from}
 

@@ -1,8 +1,7 @@
 -- A fact that is read is spelled, and a fact that is spelled is read.
-use Rattle.std.proofs.Common.{◌≡◌, ◌⊎◌, inl, inr, ℕ, List, [], ◌∷◌, Bool, true, false, cond, Option, Some, None, option_map, option_and_then, refl, sym, ap, subst, ◌∙◌}
+use Rattle.std.proofs.Common.{◌≡◌, inl, inr, ℕ, List, [], ◌∷◌, Bool, true, false, cond, Option, Some, None, option_map, option_and_then, refl, sym, ap, subst, ◌∙◌}
 use Rattle.std.specs.Prelude.{codes}
 use Rattle.std.specs.Str.{bytes_eq}
-use Rattle.std.specs.List.{list_any}
 use Rattle.std.proofs.lemmas.Option.{none-some, same_Some}
 use Rattle.std.proofs.lemmas.Slice.Eq.{bytes_eq-Decides}
 use Rattle.serde_json.specs.Data.{Data, string, array, object, Items, no_items, item, Members}
@@ -13,13 +12,13 @@ use Rattle.dict_tree.specs.declared.limits_json.LimitName.{LimitName}
 use Rattle.dict_tree.specs.declared.limits_json.LimitName.TheVariants as names
 use Rattle.dict_tree.specs.Tree.{Source, SourceCase}
 use Rattle.dict_tree.specs.Facts.{Fact, Stated, Bound, least, greatest, max_length, check}
-use Rattle.dict_tree.specs.Json.{text_json, Spells}
-use Rattle.dict_tree.specs.FactJson.{IsObjectOf, items_from, stated_text, limit_json, SpellLimits, SpellsOptional, SpellsRequired, SpellsConditional, SpellsWritable, SpellsDerived, SpellsFact}
+use Rattle.dict_tree.specs.Json.{text_json}
+use Rattle.dict_tree.specs.FactJson.{items_from, stated_text, limit_json, SpellLimits, SpellsOptional, SpellsRequired, SpellsConditional, SpellsWritable, SpellsDerived, SpellsFact}
 use Rattle.dict_tree.specs.Reading.{two_texts, pair_tree, tree_of}
 use Rattle.dict_tree.specs.Stating.{writable_stated, derived_stated}
 use Rattle.dict_tree.specs.FactReading.{text_at, is_optional_text, has_no_other, limit_name, bound_under, limit_of, limit_list, limits_in, tree_in, conditional_in, writable_keys, derived_keys, writable_fact, derived_fact, fact_with, fact_of}
 use Rattle.dict_tree.proofs.ExprLaws.{both_some, mapped_some, guarded, two_texts_are, found, pair_found, again, spelled_again}
-use Rattle.dict_tree.proofs.FactLaws.{writable_type, derived_type, writable_made, WritableParts, writable_parts, derived_made, DerivedParts, derived_parts}
+use Rattle.dict_tree.proofs.FactLaws.{writable_type, derived_type, writable_made, writable_parts, derived_made, derived_parts}
 use Rattle.dict_tree.proofs.MemberLaws.{object_is, is_object, array_is, optional_text_found, optional_text_again, text_found, key_is_known}
 use Rattle.dict_tree.proofs.StatedLaws.{writable_stated_found, derived_stated_found, writable_stated_again, derived_stated_again}
 use Rattle.dict_tree.proofs.UseLaws.{fact_path_from, fact_path_given}

@@ -1,3 +1,4 @@
+pub mod CountingLaws
 pub mod DictExamples
 pub mod DictJsonLaws
 pub mod DictLaws
@@ -8,6 +9,7 @@ pub mod FactJsonLaws
 pub mod FactLaws
 pub mod FindingLaws
 pub mod LimitLaws
+pub mod ListingLaws
 pub mod MemberLaws
 pub mod MentionLaws
 pub mod NameLaws

@@ -1,5 +1,5 @@
 -- What paths name in a worked dictionary of people.
-use Rattle.std.proofs.Common.{◌≡◌, ℕ, true, false, List, [], ◌∷◌, Option, Some, None, refl}
+use Rattle.std.proofs.Common.{◌≡◌, ℕ, true, false, List, [], ◌∷◌, Some, None, refl}
 use Rattle.std.specs.Prelude.{codes}
 use Rattle.fact_paths.specs.declared.fact_path.FactPath.{FactPath}
 use Rattle.fact_paths.specs.declared.fact_path.FactPath.TheVariants as facts
@@ -12,7 +12,7 @@ use Rattle.dict_tree.specs.declared.operators.ManyOp.TheVariants.{Subtract}
 use Rattle.dict_tree.specs.declared.operators.TwoOp.TheVariants.{GreaterThan}
 use Rattle.dict_tree.specs.declared.operators.PickOp.TheVariants.{Filter, Find}
 use Rattle.dict_tree.specs.declared.mentions.Mention.{Mention}
-use Rattle.dict_tree.specs.Tree.{Use, Source, SourceCase, literal_int, literal_true, literal, read, many, two, pick, no_trees, tree}
+use Rattle.dict_tree.specs.Tree.{Use, Source, literal_int, literal, read, many, two, pick, no_trees, tree}
 use Rattle.dict_tree.specs.Facts.{Fact, Stated, scalar, writable_list, list_of, item_of}
 use Rattle.dict_tree.specs.Dictionary.{Dictionary, too_many, too_deep}
 use Rattle.dict_tree.specs.Finding.{find_path, fact_at}

@@ -12,7 +12,7 @@ use Rattle.fact_values.specs.declared.fact_type.FactType.TheVariants as types
 use Rattle.dict_tree.specs.Tree.{Use}
 use Rattle.dict_tree.specs.Facts.{Stated, scalar, enum_of, writable_list, list_of, item_of}
 use Rattle.dict_tree.specs.FactJson.{scalar_text, stated_text, IsNamed}
-use Rattle.dict_tree.specs.Forms.{IsScalar, IsWritableType, IsDerivedType}
+use Rattle.dict_tree.specs.Forms.{IsWritableType, IsDerivedType}
 use Rattle.dict_tree.specs.Reading.{use_of}
 use Rattle.dict_tree.specs.Stating.{before_close, between, scalar_named, enum_named, enum_stated, list_stated, scalar_or, writable_stated, item_or, list_or, pathed_stated, derived_stated}
 use Rattle.dict_tree.proofs.ExprLaws.{both_some, guarded, use_again}

@@ -1,5 +1,5 @@
 -- Nodes, their number and depth, of worked expressions.
-use Rattle.std.proofs.Common.{◌≡◌, ℕ, List, [], ◌∷◌, Some, None, refl, length}
+use Rattle.std.proofs.Common.{◌≡◌, [], ◌∷◌, Some, refl}
 use Rattle.std.specs.Prelude.{codes}
 use Rattle.fact_paths.specs.declared.use_path.UsePath.TheVariants.{Global}
 use Rattle.dict_tree.specs.declared.operators.ReadOp.TheVariants.{Dependency}

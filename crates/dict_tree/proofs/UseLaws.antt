@@ -1,5 +1,5 @@
 -- What the grammar reads from a text, as a relation and as a function.
-use Rattle.std.proofs.Common.{◌≡◌, ℕ, List, Option, Some, None, Result, Ok, Err, refl, sym, ap, ◌∙◌}
+use Rattle.std.proofs.Common.{◌≡◌, ℕ, List, Option, Some, None, Err, refl, sym, ap, ◌∙◌}
 use Rattle.std.proofs.lemmas.Option.{none-some}
 use Rattle.fact_paths.specs.Paths.{Reads, SpellsUsePath, SpellsFactPath}
 use Rattle.fact_paths.specs.declared.fault.PathFault.{PathFault}

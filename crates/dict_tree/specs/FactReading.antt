@@ -7,7 +7,7 @@ use Rattle.fact_paths.specs.Reading.{fact_path_of}
 use Rattle.dict_tree.specs.declared.limits_json.LimitName.{LimitName}
 use Rattle.dict_tree.specs.declared.limits_json.LimitName.TheVariants as names
 use Rattle.dict_tree.specs.Tree.{Source, SourceCase}
-use Rattle.dict_tree.specs.Facts.{Fact, Stated, Bound, least, greatest, max_length, check}
+use Rattle.dict_tree.specs.Facts.{Fact, Bound, least, greatest, max_length, check}
 use Rattle.dict_tree.specs.Reading.{two_texts, pair_tree, tree_of}
 use Rattle.dict_tree.specs.Stating.{writable_stated, derived_stated}
 

@@ -1,5 +1,5 @@
 -- Laws of reading and spelling.
-use Rattle.std.specs.Prelude.{◌≡◌, ℕ, Bool, Option, Some, None, Result, Ok, Err}
+use Rattle.std.specs.Prelude.{◌≡◌, ℕ, Bool, Some, None, Ok, Err}
 use Rattle.serde_json.specs.Data.{Data}
 use Rattle.value_text.specs.Enums.{Listed}
 use Rattle.dict_tree.specs.Tree.{Source}
@@ -12,7 +12,6 @@ use Rattle.dict_tree.specs.Forms.{IsWellFormed}
 use Rattle.dict_tree.specs.FactReading.{fact_of}
 use Rattle.dict_tree.specs.Dictionary.{Dictionary, too_many, too_deep}
 use Rattle.dict_tree.specs.DictReading.{enum_of, dictionary_of}
-use Rattle.dict_tree.specs.declared.fault.TreeFault.{TreeFault}
 use Rattle.dict_tree.specs.declared.fault.TreeFault.TheVariants as faults
 
 -- ---- expressions

@@ -1,3 +1,4 @@
+pub mod Counting
 pub mod DictJson
 pub mod DictReading
 pub mod Dictionary
@@ -8,6 +9,7 @@ pub mod Finding
 pub mod Forms
 pub mod Json
 pub mod Laws
+pub mod Listing
 pub mod Mentions
 pub mod Names
 pub mod PathIndex

@@ -1,7 +1,7 @@
 -- Which type an expression has: one rule for each kind of node.
 use Rattle.std.specs.Prelude.{◌≡◌, ◌⊎◌, ℕ, List, [], ◌∷◌, Option, Some}
 use Rattle.fact_values.specs.declared.fact_type.FactType.{FactType}
-use Rattle.fact_values.specs.declared.fact_type.FactType.TheVariants.{Boolean, Int, Dollar, Rational, Day, Text, Enum, Collection, Item}
+use Rattle.fact_values.specs.declared.fact_type.FactType.TheVariants.{Boolean, Int, Dollar, Rational, Day, Collection, Item}
 use Rattle.dict_tree.specs.declared.operators.ReadOp.{ReadOp}
 use Rattle.dict_tree.specs.declared.operators.ReadOp.TheVariants as read_op
 use Rattle.dict_tree.specs.declared.operators.ManyOp.{ManyOp}

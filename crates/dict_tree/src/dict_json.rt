@@ -1,11 +1,14 @@
 // Reads a dictionary of its JSON form.
-ghost use Rattle.std.specs.Prelude.{◌≡◌, ◌++◌, ◌∷◌, [], map, option_map, option_and_then, codes, IfErr, IfOk, OnOk};
+ghost use Rattle.std.specs.Prelude.{◌≡◌, ◌≤◌, ◌<◌, ◌^◌, ◌++◌, ◌∷◌, [], length, map, option_map, option_and_then, codes, IfErr, IfOk, IsTrue, OnOk};
 ghost use Rattle.serde_json.specs.Find.{as_array, get};
 ghost use Rattle.serde_json.specs.View.{view as json, items_view, members_view};
+ghost use Rattle.value_text.specs.declared.enum_lists.ListFault.TheVariants as list_faults;
+ghost use Rattle.dict_tree.specs.Counting.{HasFewFacts};
 ghost use Rattle.dict_tree.specs.Facts.{fact_view};
 ghost use Rattle.dict_tree.specs.Dictionary.{IsValid, dictionary_view};
 ghost use Rattle.dict_tree.specs.declared.fault.TreeFault.TheVariants.{NoMemory};
 ghost use Rattle.dict_tree.specs.DictReading.{BytesAre, BytesGive, IsOfShape, listed_view, seen, Yields, dictionary_of, facts_of, read_view, version_in, version_of, version_with};
+ghost use Rattle.dict_tree.specs.Listing.{may_follow, may_all_follow};
 
 use crate::dict_source::DictSource;
 use crate::enums_json::{EnumSource, read_enums};
@@ -16,13 +19,9 @@ use crate::limits::{first_deep, first_passed};
 use crate::members::{has_no_other, may_be_text, text_under};
 use serde_json::{Map, Value};
 use std::alloc::Global;
-use value_text::EnumLists;
+use value_text::{EnumLists, ListFault};
 
 const MOST_BYTES: usize = 8_388_608;
-
-const MOST_ENUMS: u32 = 200;
-
-const MOST_OPTIONS: usize = 100;
 
 /// The lists and the facts of a JSON value, before they are kept.
 #[derive(Drop)]
@@ -71,16 +70,14 @@ fn items_under_facts(value: &Value) -> Option<&Vec<Value>>
 
 // The facts in their order, or the number of the first that isn't of the form.
 fn read_facts(alloc: Global, later: bool, items: &[Value]) -> Result<Vec<FactSource>, TreeFault>
+    requires { length items.now < 2 ^ 32 }
     ensures exact { Yields (λ v. map fact_view v.items) result (facts_of later 1 (items_view items.now)) }
     ensures kind { IfErr result IsOfShape }
 {
     let mut facts = Vec::new(alloc);
     let mut number = 0u32;
     for item in items {
-        let Some(next) = number.checked_add(1) else {
-            return Err(TreeFault::NoMemory);
-        };
-        number = next;
+        number += 1;
         match read_fact(alloc, later, item) {
             Ok(fact) => facts.push(fact)?,
             Err(ReadFault::Shape) => return Err(TreeFault::Shape(number)),
@@ -92,6 +89,7 @@ fn read_facts(alloc: Global, later: bool, items: &[Value]) -> Result<Vec<FactSou
 
 #[tactic(auto, unfolding(crate::specs::DictReading::dictionary_of))]
 fn read_value(alloc: Global, value: &Value) -> Result<Found, TreeFault>
+    requires { HasFewFacts (json value.now) }
     ensures exact { Yields read_view result (dictionary_of (json value.now)) }
     ensures kind { IfErr result IsOfShape }
 {
@@ -130,24 +128,34 @@ fn read_json(alloc: Global, bytes: &[u8]) -> Result<Value, TreeFault>
     }
 }
 
-// Appends a list that was read. Its name is new and its options are distinct by then, so only want of memory is left to refuse it.
+// Want of memory, the only fault of a list that may stand there.
+fn want_of_memory(fault: ListFault) -> TreeFault
+    requires { fault ≡ list_faults.NoMemory }
+    ensures { result ≡ NoMemory }
+{
+    match fault {
+        ListFault::NoMemory => TreeFault::NoMemory,
+        ListFault::Same => unreachable!(),
+        ListFault::Empty => unreachable!(),
+    }
+}
+
+// Appends a list that was read.
 fn add_list(lists: &mut EnumLists, list: EnumSource) -> Result<(), TreeFault>
+    requires few { length lists.old < 200 }
+    requires fit { IsTrue (may_follow lists.old (listed_view list)) }
     ensures appended { OnOk result (lists.new ≡ lists.old ++ listed_view list ∷ []) }
     ensures memory { IfErr result (λ fault. fault ≡ NoMemory) }
 {
-    if lists.len() > MOST_ENUMS {
-        return Err(TreeFault::NoMemory);
-    }
-    if list.options.len() > MOST_OPTIONS {
-        return Err(TreeFault::NoMemory);
-    }
     match lists.add(list.name, list.options) {
         Ok(()) => Ok(()),
-        Err(_) => Err(TreeFault::NoMemory),
+        Err(fault) => Err(want_of_memory(fault)),
     }
 }
 
 fn lists_of(alloc: Global, enums: Vec<EnumSource>) -> Result<EnumLists, TreeFault>
+    requires few { length enums.items ≤ 200 }
+    requires fit { IsTrue (may_all_follow [] (map listed_view enums.items)) }
     ensures lists { IfOk result (λ lists. lists ≡ map listed_view enums.items) }
     ensures memory { IfErr result (λ fault. fault ≡ NoMemory) }
 {
@@ -160,7 +168,8 @@ fn lists_of(alloc: Global, enums: Vec<EnumSource>) -> Result<EnumLists, TreeFaul
 
 // The dictionary of what was read.
 fn keep(alloc: Global, found: Found) -> Result<DictSource, TreeFault>
-    requires { IsValid (read_view found) }
+    requires valid { IsValid (read_view found) }
+    requires lists { IsTrue (may_all_follow [] (read_view found).enums) }
     ensures kept { IfOk result (λ source. dictionary_view source ≡ read_view found) }
     ensures memory { IfErr result (λ fault. fault ≡ NoMemory) }
 {

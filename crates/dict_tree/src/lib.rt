@@ -14,6 +14,8 @@ mod finding;
 #[cfg(test)]
 mod json_tests;
 mod laws;
+#[cfg(test)]
+mod limit_tests;
 mod limits;
 mod limits_json;
 mod members;
@@ -27,6 +29,8 @@ mod path_use;
 mod source_tests;
 mod stated_json;
 mod targets;
+#[cfg(test)]
+mod worked_texts;
 
 pub use constant::Constant;
 pub use dict_json::read;

@@ -3,7 +3,8 @@ ghost use Rattle.dict_tree.specs.Facts.{fact_view, scalar};
 ghost use Rattle.dict_tree.specs.Forms.{IsWellFormed};
 ghost use Rattle.fact_values.specs.declared.fact_type.FactType.TheVariants as types;
 
-use crate::{DictSource, FactSource, Targets, TypeText};
+use crate::worked_texts::MEMBERS;
+use crate::{DictSource, FactSource, Targets, TypeText, read};
 use fact_paths::{PathFault, read_fact_path, read_use_path};
 use fact_values::FactType;
 use std::alloc::{AllocError, Global};
@@ -69,5 +70,54 @@ fn pushed_facts_are_found(rt: HostRuntime) -> Result<(), Fail> {
     assert!(rt; pushed.is_ok());
     assert_eq!(rt; source.facts().len(), 2);
     assert_eq!(rt; find(alloc, &source, "/people/*/age")?, Some(1));
+    Ok(())
+}
+
+// The dictionary with a collection and its members.
+fn members(alloc: Global) -> Result<DictSource, Fail> {
+    let text = format!(in alloc; r#"{{"version":"1","facts":[{MEMBERS}]}}"#)?;
+    Ok(read(alloc, text.as_bytes())?)
+}
+
+#[test]
+fn facts_that_are_read_are_found(rt: HostRuntime) -> Result<(), Fail> {
+    let alloc = rt.alloc();
+    let source = members(alloc)?;
+    for (text, want) in [
+        ("/c", Some(1)),
+        ("/c/*/k", Some(2)),
+        ("/c/*/v", Some(3)),
+        ("/l", Some(4)),
+        ("/g", Some(7)),
+        ("/k", None),
+        ("/l/*/v", None),
+    ] {
+        assert_eq!(rt; find(alloc, &source, text)?, want, "of {text}");
+    }
+    Ok(())
+}
+
+#[test]
+fn targets_of_what_is_read_go_by_the_form(rt: HostRuntime) -> Result<(), Fail> {
+    let alloc = rt.alloc();
+    let source = members(alloc)?;
+    for (fact, base, text, first, second) in [
+        (7, 0, "/c", Some(1), None),
+        (2, 0, "../v", Some(3), None),
+        (7, 0, "../v", None, None),
+        (4, 1, "k", Some(2), None),
+        (4, 0, "k", None, None),
+        (6, 0, "/l/*/v", Some(4), Some(3)),
+        (6, 0, "/c/*/v", Some(1), Some(3)),
+        (7, 0, "/f/v", Some(5), Some(3)),
+        (7, 0, "/l/v", Some(4), None),
+        (2, 0, "../v/k", Some(3), None),
+    ] {
+        assert_eq!(rt;
+            targets(alloc, &source, fact, base, text)?,
+            Targets { first, second },
+            "of {text}"
+        );
+    }
     Ok(())
 }

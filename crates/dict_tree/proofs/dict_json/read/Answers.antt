@@ -2,11 +2,19 @@ use Rattle.std.proofs.Common.{arith}
 use Rattle.std.proofs.lemmas.Result.{err_from_is_err_and}
 use Rattle.serde_json.specs.View.{view as json}
 use Rattle.dict_tree.specs.DictReading.{read_view}
+use Rattle.dict_tree.proofs.CountingLaws.{few_facts}
 use Rattle.dict_tree.proofs.DictLaws.{dictionary_is_valid, fault_given, kept_given}
+use Rattle.dict_tree.proofs.ListingLaws.{lists_may_follow}
 use Rattle.dict_tree.proofs.dict_json.read.Goals as goal
 
+pub read_value-requires : goal.read_value-requires
+read_value-requires c = few_facts c.args.bytes.now (json c.in_ok-value.value) (omega arith) c.in_ok-value.ensures
+
 pub keep-requires : goal.keep-requires
-keep-requires c = dictionary_is_valid (json c.in_ok-value.value) (read_view c.in_ok-found.found) c.in_ok-found.ensures.exact
+keep-requires c = record {
+  valid = dictionary_is_valid (json c.in_ok-value.value) (read_view c.in_ok-found.found) c.in_ok-found.ensures.exact;
+  lists = lists_may_follow (json c.in_ok-value.value) (read_view c.in_ok-found.found) c.in_ok-found.ensures.exact;
+}
 
 pub returns-in_err-found : goal.returns-in_err-found
 returns-in_err-found c =

@@ -1,4 +1,4 @@
-use Rattle.std.proofs.Common.{arith, drop, None, Some, option_map, ap, ◌∙◌}
+use Rattle.std.proofs.Common.{arith, drop, option_map, ap}
 use Rattle.std.proofs.lemmas.Result.{err_from_is_err_and}
 use Rattle.serde_json.specs.View.{view as json, items_view}
 use Rattle.dict_tree.specs.View.{box_view, pair_view, picked_view, use_view}

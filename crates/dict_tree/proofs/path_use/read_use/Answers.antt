@@ -1,4 +1,4 @@
-use Rattle.std.proofs.Common.{Some, None, string_bytes}
+use Rattle.std.proofs.Common.{Some, string_bytes}
 use Rattle.dict_tree.proofs.UseLaws.{use_made, no_use_made}
 use Rattle.dict_tree.proofs.path_use.read_use.Goals as goal
 

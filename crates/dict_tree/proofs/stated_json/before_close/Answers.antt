@@ -1,4 +1,3 @@
-use Rattle.std.proofs.Common.{arith}
 use Rattle.dict_tree.proofs.StatingLaws.{before_close_from_strip}
 use Rattle.dict_tree.proofs.stated_json.before_close.Goals as goal
 
