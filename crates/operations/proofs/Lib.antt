@@ -1,0 +1,6 @@
+pub mod CaseLaws
+pub mod Equality
+pub mod FieldLaws
+pub mod FilterLaws
+pub mod ManyLaws
+pub mod SumLaws

@@ -1,0 +1,7 @@
+pub mod CaseSteps
+pub mod FieldFolds
+pub mod ItemSteps
+pub mod Laws
+pub mod ManyFolds
+pub mod Sources
+pub mod Sums

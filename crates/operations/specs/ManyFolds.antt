@@ -1,0 +1,99 @@
+-- A node with many operands, one operand after another, as loops take them.
+use Rattle.std.specs.Prelude.{ℕ, ◌+◌, pos, true, false, List, [], ◌∷◌, Option, Some, None, Result, Ok}
+use Rattle.fact_values.specs.declared.fault.ValueFault.{ValueFault}
+use Rattle.fact_values.specs.declared.value.Value.{Value}
+use Rattle.fact_values.specs.declared.value.Value.TheVariants.{Int}
+use Rattle.dict_tree.specs.declared.operators.ManyOp.{ManyOp}
+use Rattle.dict_tree.specs.declared.operators.ManyOp.TheVariants as many_op
+use Rattle.three_state.specs.Folds.{junction_next, verdict_next}
+use Rattle.three_state.specs.Results.{after_verdict, all_of, any_of, verdict_of}
+use Rattle.three_state.specs.declared.res.Res.{Res}
+use Rattle.three_state.specs.declared.res.Res.TheVariants.{Complete, Placeholder}
+use Rattle.evaluation.specs.Operations.{greater, lesser}
+use Rattle.operations.specs.Sums.{added, calls_in, difference_of_seen, subtracted, sum_of_seen}
+use Rattle.operations.specs.declared.gathered.Gathered.{Gathered}
+use Rattle.operations.specs.declared.gathered.Gathered.TheVariants.{Added, Subtracted, Greatest, Least}
+use Rattle.operations.specs.declared.kept.Kept.{Kept}
+use Rattle.operations.specs.declared.kept.Kept.TheVariants.{All, Any, Values}
+use Rattle.operations.specs.declared.sum.Summed.TheVariants.{Nothing}
+
+-- ---- the values seen
+
+-- how many numbers were added or taken away
+abbrev pub calls_of : Gathered → ℕ
+calls_of (Added sum) = calls_in sum
+calls_of (Subtracted sum) = calls_in sum
+calls_of _ = 0
+
+abbrev pub greater_next : Option Value → Value → Option Value
+greater_next None v = Some v
+greater_next (Some kept) v = Some (greater kept v)
+
+abbrev pub lesser_next : Option Value → Value → Option Value
+lesser_next None v = Some v
+lesser_next (Some kept) v = Some (lesser kept v)
+
+abbrev pub extreme_end : Option Value → Value
+extreme_end None = Int (pos 0)
+extreme_end (Some v) = v
+
+abbrev pub gathered_next : Gathered → Value → Gathered
+gathered_next (Added sum) v = Added (added sum v)
+gathered_next (Subtracted sum) v = Subtracted (subtracted sum v)
+gathered_next (Greatest v) w = Greatest (greater_next v w)
+gathered_next (Least v) w = Least (lesser_next v w)
+
+-- an operand that has no value leaves the values as they were
+abbrev pub gathered_after : Gathered → Res → Gathered
+gathered_after gathered (Complete v) = gathered_next gathered v
+gathered_after gathered (Placeholder v) = gathered_next gathered v
+gathered_after gathered _ = gathered
+
+abbrev pub gathered_end : Gathered → Result Value ValueFault
+gathered_end (Added sum) = sum_of_seen sum
+gathered_end (Subtracted sum) = difference_of_seen sum
+gathered_end (Greatest v) = Ok (extreme_end v)
+gathered_end (Least v) = Ok (extreme_end v)
+
+-- ---- the operands seen
+
+abbrev pub calls_kept : Kept → ℕ
+calls_kept (Values verdict gathered) = calls_of gathered
+calls_kept _ = 0
+
+unfoldable pub kept_start : ManyOp → Kept
+kept_start many_op.All = All (all_of [])
+kept_start many_op.Any = Any (any_of [])
+kept_start many_op.Add = Values (verdict_of []) (Added Nothing)
+kept_start many_op.Subtract = Values (verdict_of []) (Subtracted Nothing)
+kept_start many_op.GreaterOf = Values (verdict_of []) (Greatest None)
+kept_start many_op.LesserOf = Values (verdict_of []) (Least None)
+
+unfoldable pub kept_next : Kept → Res → Kept
+kept_next (All so_far) r = All (junction_next false so_far r)
+kept_next (Any so_far) r = Any (junction_next true so_far r)
+kept_next (Values verdict gathered) r = Values (verdict_next verdict r) (gathered_after gathered r)
+
+unfoldable pub kept_end : Kept → Res
+kept_end (All so_far) = so_far
+kept_end (Any so_far) = so_far
+kept_end (Values verdict gathered) = after_verdict verdict (gathered_end gathered)
+
+-- how many operands were seen, and what is kept of them
+pub record ManySeen : Type 0 where
+  pub count : ℕ
+  pub kept : Kept
+
+abbrev pub many_start : ManyOp → ManySeen
+many_start op = record { count = 0; kept = kept_start op }
+
+abbrev pub saw : ManySeen → Res → ManySeen
+saw seen r = record { count = seen.count + 1; kept = kept_next seen.kept r }
+
+abbrev pub many_end : ManySeen → Res
+many_end seen = kept_end seen.kept
+
+-- the result, with the operands that are left
+abbrev pub many_from : ManySeen → List Res → Res
+many_from seen [] = many_end seen
+many_from seen (r ∷ rs) = many_from (saw seen r) rs

@@ -1,0 +1,54 @@
+ghost use Rattle.std.specs.Prelude.{◌≡◌, Ok};
+ghost use Rattle.fact_values.specs.Members.{IsMemberList};
+ghost use Rattle.operations.specs.Sources.{verdict_on_source};
+ghost use Rattle.three_state.specs.Folds.{verdict_next};
+ghost use Rattle.three_state.specs.Results.{after_verdict, is_true};
+
+use crate::verdict::{after_verdict, is_true};
+use fact_values::{Members, Value, ValueFault};
+use std::marker::Model;
+use three_state::{Res, Strict};
+
+/// The conditions of a Filter, seen member by member. Contracts see the verdict on the collection
+/// and on them. The members that are kept stand elsewhere.
+#[derive(Debug, Drop)]
+pub struct FilterFold {
+    verdict: Strict,
+}
+
+impl Model for FilterFold {
+    ghost use Rattle.three_state.specs.declared.strict.Verdict.{Verdict};
+
+    ghost Value = { Verdict };
+
+    ghost view = { λ f. f.verdict };
+}
+
+impl FilterFold {
+    /// The collection was seen, and no condition.
+    pub fn new(source: &Res) -> FilterFold
+        ensures { result ≡ verdict_on_source source.now }
+    {
+        let mut verdict = Strict::new();
+        verdict.see(source);
+        FilterFold { verdict }
+    }
+
+    /// Sees the condition at the next member, and tells whether the member is kept.
+    pub fn see(&mut self, condition: &Res) -> bool
+        ensures kept { result ≡ is_true condition.now }
+        ensures next { self.new ≡ verdict_next self.old condition.now }
+    {
+        self.verdict.see(condition);
+        is_true(condition)
+    }
+
+    /// The result of the node, with the members that were kept.
+    pub fn end(&self, kept: Vec<u32>) -> Res
+        requires { IsMemberList kept.items }
+        ensures { result ≡ after_verdict self.now (Ok (Value.Members kept.items)) }
+    {
+        let members = Members::new(kept).unwrap();
+        after_verdict(self.verdict.verdict(), Ok(Value::Members(members)))
+    }
+}

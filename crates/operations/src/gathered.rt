@@ -1,0 +1,79 @@
+ghost use Rattle.std.specs.Prelude.{◌≡◌, ◌<◌, ◌^◌};
+ghost use Rattle.operations.specs.ManyFolds.{calls_of, extreme_end, gathered_end, gathered_next, greater_next, lesser_next};
+
+use crate::numbers::order;
+use crate::sum::Summed;
+use fact_values::{Value, ValueFault, Whole};
+
+/// What an operation with many operands keeps of the values seen.
+#[derive(Debug, Drop)]
+pub enum Gathered {
+    Added(Summed),
+    Subtracted(Summed),
+    /// The greatest value, if one was seen.
+    Greatest(Option<Value>),
+    Least(Option<Value>),
+}
+
+impl Gathered {
+    /// Sees the next value.
+    pub fn see(&mut self, value: Value)
+        requires few { calls_of self.old < 2 ^ 64 }
+        ensures { self.new ≡ gathered_next self.old value }
+    {
+        match self {
+            Gathered::Added(sum) => sum.add(&value),
+            Gathered::Subtracted(sum) => sum.subtract(&value),
+            Gathered::Greatest(greatest) => keep_greater(greatest, value),
+            Gathered::Least(least) => keep_lesser(least, value),
+        }
+    }
+
+    /// What the operation gives.
+    pub fn end(self) -> Result<Value, ValueFault>
+        ensures { result ≡ gathered_end self }
+    {
+        match self {
+            Gathered::Added(sum) => sum.sum(),
+            Gathered::Subtracted(sum) => sum.difference(),
+            Gathered::Greatest(greatest) => Ok(or_zero(greatest)),
+            Gathered::Least(least) => Ok(or_zero(least)),
+        }
+    }
+}
+
+/// The greater one is kept, and the earlier of two that are equal.
+fn keep_greater(greatest: &mut Option<Value>, value: Value)
+    ensures { greatest.new ≡ greater_next greatest.old value }
+{
+    match greatest {
+        Some(kept) => {
+            if order(kept, &value).is_lt() {
+                *kept = value;
+            }
+        }
+        None => *greatest = Some(value),
+    }
+}
+
+fn keep_lesser(least: &mut Option<Value>, value: Value)
+    ensures { least.new ≡ lesser_next least.old value }
+{
+    match least {
+        Some(kept) => {
+            if order(kept, &value).is_gt() {
+                *kept = value;
+            }
+        }
+        None => *least = Some(value),
+    }
+}
+
+fn or_zero(extreme: Option<Value>) -> Value
+    ensures { result ≡ extreme_end extreme }
+{
+    match extreme {
+        Some(value) => value,
+        None => Value::Int(Whole::new(0).unwrap()),
+    }
+}

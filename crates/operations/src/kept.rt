@@ -1,0 +1,72 @@
+ghost use Rattle.std.specs.Prelude.{◌≡◌, ◌<◌, ◌^◌};
+ghost use Rattle.operations.specs.ManyFolds.{calls_kept, calls_of, gathered_after, kept_end, kept_next, kept_start};
+
+use crate::gathered::Gathered;
+use crate::sum::Summed;
+use crate::verdict::after_verdict;
+use dict_tree::ManyOp;
+use three_state::{AllFold, AnyFold, Res, Strict};
+
+/// What a node with many operands keeps of those seen.
+#[derive(Debug, Drop)]
+pub enum Kept {
+    All(AllFold),
+    Any(AnyFold),
+    /// The verdict on them, and what is kept of their values.
+    Values(Strict, Gathered),
+}
+
+impl Kept {
+    #[tactic(auto, unfolding(crate::specs::ManyFolds::kept_start))]
+    pub fn new(op: ManyOp) -> Kept
+        ensures { result ≡ kept_start op }
+    {
+        match op {
+            ManyOp::All => Kept::All(AllFold::new()),
+            ManyOp::Any => Kept::Any(AnyFold::new()),
+            ManyOp::Add => Kept::Values(Strict::new(), Gathered::Added(Summed::Nothing)),
+            ManyOp::Subtract => Kept::Values(Strict::new(), Gathered::Subtracted(Summed::Nothing)),
+            ManyOp::GreaterOf => Kept::Values(Strict::new(), Gathered::Greatest(None)),
+            ManyOp::LesserOf => Kept::Values(Strict::new(), Gathered::Least(None)),
+        }
+    }
+
+    #[tactic(auto, unfolding(crate::specs::ManyFolds::kept_next))]
+    pub fn see(&mut self, operand: Res)
+        requires few { calls_kept self.old < 2 ^ 64 }
+        ensures { self.new ≡ kept_next self.old operand }
+    {
+        match self {
+            Kept::All(fold) => fold.see(&operand),
+            Kept::Any(fold) => fold.see(&operand),
+            Kept::Values(verdict, gathered) => {
+                verdict.see(&operand);
+                gather(gathered, operand);
+            }
+        }
+    }
+
+    #[tactic(auto, unfolding(crate::specs::ManyFolds::kept_end))]
+    pub fn end(self) -> Res
+        ensures { result ≡ kept_end self }
+    {
+        match self {
+            Kept::All(fold) => fold.end(),
+            Kept::Any(fold) => fold.end(),
+            Kept::Values(verdict, gathered) => after_verdict(verdict.verdict(), gathered.end()),
+        }
+    }
+}
+
+/// Sees the operand's value, if it has one.
+fn gather(gathered: &mut Gathered, operand: Res)
+    requires few { calls_of gathered.old < 2 ^ 64 }
+    ensures { gathered.new ≡ gathered_after gathered.old operand }
+{
+    match operand {
+        Res::Complete(v) => gathered.see(v),
+        Res::Placeholder(v) => gathered.see(v),
+        Res::Incomplete => {}
+        Res::Fault(_) => {}
+    }
+}

@@ -1,0 +1,28 @@
+//! What each node does with the results of its operands. None of it takes memory.
+#![tactic(auto)]
+
+mod cases;
+mod fields;
+mod filter;
+mod gathered;
+mod kept;
+pub mod laws;
+mod many_operands;
+mod numbers;
+mod one_operand;
+mod reads;
+mod sum;
+#[cfg(test)]
+mod tests;
+mod two_operands;
+mod values;
+mod verdict;
+
+pub use cases::{CaseStep, case_step, found, taken};
+pub use fields::{CountFold, SumFold};
+pub use filter::FilterFold;
+pub use many_operands::ManyFold;
+pub use one_operand::one;
+pub use reads::{ItemStep, complete_test, item_step, members, size};
+pub use two_operands::two;
+pub use verdict::{is_true, source_verdict};

@@ -1,0 +1,56 @@
+ghost use Rattle.std.specs.Prelude.{◌≡◌, ◌+◌, ◌<◌, ◌^◌};
+ghost use Rattle.operations.specs.ManyFolds.{many_end, many_start, saw};
+
+use crate::kept::Kept;
+use dict_tree::ManyOp;
+use std::marker::Model;
+use three_state::Res;
+
+/// The operands of a node that has many, seen one by one in their order. Contracts see how many
+/// were seen, and what is kept of them.
+#[derive(Debug, Drop)]
+pub struct ManyFold {
+    count: u64,
+    kept: Kept,
+}
+
+impl Model for ManyFold {
+    ghost use Rattle.std.specs.Prelude.{◌≤◌};
+    ghost use Rattle.operations.specs.ManyFolds.{ManySeen, calls_kept};
+
+    ghost Value = { ManySeen };
+
+    ghost view = { λ f. record { count = f.count; kept = f.kept } };
+
+    ghost invariant = { λ f. calls_kept f.kept ≤ f.count };
+}
+
+impl ManyFold {
+    /// No operand was seen.
+    #[tactic(auto, unfolding(crate::specs::ManyFolds::kept_start))]
+    pub fn new(op: ManyOp) -> ManyFold
+        ensures { result ≡ many_start op }
+    {
+        ManyFold {
+            count: 0,
+            kept: Kept::new(op),
+        }
+    }
+
+    /// Sees the next operand.
+    #[tactic(auto, unfolding(crate::specs::ManyFolds::kept_next))]
+    pub fn see(&mut self, operand: Res)
+        requires few { self.old.count + 1 < 2 ^ 64 }
+        ensures { self.new ≡ saw self.old operand }
+    {
+        self.kept.see(operand);
+        self.count += 1;
+    }
+
+    /// The result of the node.
+    pub fn end(self) -> Res
+        ensures { result ≡ many_end self }
+    {
+        self.kept.end()
+    }
+}
