@@ -1,0 +1,68 @@
+-- Where two maps of results agree on what a slot's fact reads, the slot has one weight over both.
+use Rattle.std.proofs.Common.{◌≡◌, ℕ, ◌+◌, List, Option, Some, None, refl, sym, ap, ◌∙◌}
+use Rattle.fact_values.specs.declared.slot.Slot.{Slot}
+use Rattle.dict_tree.specs.declared.mentions.Mention.{Mention}
+use Rattle.dict_tree.specs.Dictionary.{Dictionary as Tree}
+use Rattle.dict_tree.specs.Facts.{Fact}
+use Rattle.dict_tree.specs.Finding.{fact_at}
+use Rattle.dict_tree.specs.Tree.{Source}
+use Rattle.evaluation.specs.Over.{weight}
+use Rattle.answers.specs.Answered.{Answered}
+use Rattle.dictionary.specs.Accepted.{Accepted, IsAccepted}
+use Rattle.dictionary.specs.Fits.{AnswersFit}
+use Rattle.dictionary.specs.Plain.{IsPlainBelow, at_fact, body, plain, rank}
+use Rattle.dictionary.specs.Reading.{Look, Place, outermost, source_env}
+use Rattle.dictionary.specs.Weights.{expression_weight, slot_weight}
+use Rattle.dictionary.proofs.FactMentions.{EachUse}
+use Rattle.dictionary.proofs.PlainLaws.{AgreeBelow, agree_under as agree_below, at_fact_same}
+use Rattle.dictionary.proofs.RankLaws.{IsLowerMention, lower_uses}
+use Rattle.dictionary.proofs.ReadAgreement.{AgreeUnder, weight_same}
+use Rattle.dictionary.proofs.TargetAgreement.{IsReached, StaysBy, agree_under}
+use Rattle.dictionary.proofs.UntouchedLaws.{IsQuiet, outside, own, uses}
+
+-- the weight of an expression of the slot's fact, and of the slot, over a map
+abbrev pub weight_over : Tree → Look → Slot → Option Source → ℕ
+weight_over d look s None = 0
+weight_over d look s (Some t) = weight (source_env d look s.fact) (outermost s.member) t
+
+abbrev pub fact_weight : Tree → Look → Slot → Fact → ℕ
+fact_weight d look s f = weight_over d look s (body f) + weight_over d look s f.placeholder
+
+module _ (d : Tree) (look look' : Look) (s : Slot) (M : Mention → Type 0) (J : Place → Type 0) (h : AgreeUnder d s.fact M J look look') (j : J (outermost s.member)) where
+  one_same : (t : Option Source) → EachUse d s.fact M t → weight_over d look s t ≡ weight_over d look' s t
+  one_same None k = refl
+  one_same (Some t) k = weight_same d s.fact M J look look' h t k s.member j
+
+  fact_same : (f : Fact) → EachUse d s.fact M (body f) × EachUse d s.fact M f.placeholder → fact_weight d look s f ≡ fact_weight d look' s f
+  fact_same f k =
+      ap (λ n. n + weight_over d look s f.placeholder) (one_same (body f) k.0) ∙ ap (λ n. weight_over d look' s (body f) + n) (one_same f.placeholder k.1)
+
+-- over a map that agrees with another on the facts of lower rank
+pub lower_weighs : (names : List (List ℕ)) (d : Accepted) → IsAccepted names d → (look look' : Look) (s : Slot) (f : Fact) → fact_at d.tree.facts s.fact ≡ Some f → AgreeBelow d s.fact look look' → fact_weight d.tree look s f ≡ fact_weight d.tree look' s f
+lower_weighs names d accepted look look' s f e h =
+    fact_same d.tree look look' s (IsLowerMention d s.fact) (λ at. Unit {0}) (agree_below d s.fact look look' h) tt f (lower_uses names d accepted s.fact f e)
+
+-- over plain evaluation it is the slot's weight
+weighs_alike : (d : Accepted) (a : Answered) (s : Slot) (t : Option Source) → expression_weight d a s t ≡ weight_over d.tree (plain d a) s t
+weighs_alike d a s None = refl
+weighs_alike d a s (Some t) = refl
+
+pub weight_is : (d : Accepted) (a : Answered) (s : Slot) → slot_weight d a s ≡ at_fact (fact_at d.tree.facts s.fact) 0 (fact_weight d.tree (plain d a) s)
+weight_is d a s = at_fact_same (fact_at d.tree.facts s.fact) 0 _ _ (λ f e.
+    ap (λ n. n + expression_weight d a s f.placeholder) (weighs_alike d a s (body f)) ∙ ap (λ n. weight_over d.tree (plain d a) s (body f) + n) (weighs_alike d a s f.placeholder))
+
+-- so the weight of a slot is had over any map that has plain evaluation of the facts of lower rank
+pub weight_over_lower : (names : List (List ℕ)) (d : Accepted) → IsAccepted names d → (a : Answered) (look : Look) (s : Slot) → IsPlainBelow d a (rank d s.fact) look → at_fact (fact_at d.tree.facts s.fact) 0 (fact_weight d.tree look s) ≡ slot_weight d a s
+weight_over_lower names d accepted a look s h =
+    at_fact_same (fact_at d.tree.facts s.fact) 0 _ _ (λ f e. lower_weighs names d accepted look (plain d a) s f e (λ t low. h t low.0 low.1))
+    ∙ sym (weight_is d a s)
+
+-- a slot of which nothing differs, nor of what feeds it, has one weight
+pub quiet_weighs : (names : List (List ℕ)) (d : Accepted) → IsAccepted names d → (a b : Answered) → AnswersFit d.tree a → AnswersFit d.tree b → (s : Slot) → IsQuiet d a b s → slot_weight d a s ≡ slot_weight d b s
+quiet_weighs names d accepted a b before after s q =
+    weight_is d a s
+    ∙ at_fact_same (fact_at d.tree.facts s.fact) 0 _ _ (λ f e.
+    fact_same d.tree (plain d a) (plain d b) s (StaysBy d a b s) (IsReached d a b s)
+    (agree_under names d accepted a b before after s (own names d accepted a b before after s q))
+    (outside names d accepted a b before after s q) f (uses names d accepted a b before after s q f e))
+    ∙ sym (weight_is d b s)

@@ -1,0 +1,127 @@
+-- Plain evaluation: the result of each slot, from the answers alone, by rank.
+use Rattle.std.specs.Prelude.{◌≡◌, ℕ, zero, suc, ◌<◌, ◌&&◌, nat_lt, if◌then◌else◌, List, Option, Some, None, is_some, IsSome, option_map}
+use Rattle.std.specs.FinMap as map
+use Rattle.fact_values.specs.declared.slot.Slot.{Slot}
+use Rattle.fact_values.specs.declared.value.Value.{Value}
+use Rattle.fact_values.specs.declared.value.Value.TheVariants.{Members}
+use Rattle.dict_tree.specs.Tree.{Source, SourceCase, literal_true, literal, switch, no_cases, a_case}
+use Rattle.dict_tree.specs.Facts.{Fact, Stated, scalar, enum_of, writable_list, list_of, item_of}
+use Rattle.dict_tree.specs.Dictionary.{Dictionary as Tree}
+use Rattle.dict_tree.specs.Finding.{fact_at}
+use Rattle.dict_order.specs.Ranks.{rank_of}
+use Rattle.three_state.specs.declared.res.Res.{Res}
+use Rattle.three_state.specs.declared.res.Res.TheVariants.{Complete, Placeholder, Incomplete, Fault}
+use Rattle.three_state.specs.Results.{down}
+use Rattle.evaluation.specs.Over.{over}
+use Rattle.answers.specs.Answered.{Answered, value_of}
+use Rattle.answers.specs.declared.edit.Side.TheVariants.{Answer, Override}
+use Rattle.dictionary.specs.Accepted.{Accepted, IsAccepted}
+use Rattle.dictionary.specs.Reading.{Look, outermost, source_env}
+use Rattle.dictionary.specs.Slots.{stands}
+
+-- ---- one slot, over any map of results
+
+-- the body where there is a conditional: its value where the condition is true, else the main expression
+abbrev pub conditional_body : Option SourceCase → Source → Source
+conditional_body None main = main
+conditional_body (Some c) main = switch (a_case c.0 c.1 (a_case (literal literal_true) main no_cases))
+
+-- a Writable fact has none
+abbrev pub body : Fact → Option Source
+body f = option_map (conditional_body f.conditional) f.main
+
+-- an answer, or none
+abbrev pub answer_result : Option Value → Res
+answer_result None = Incomplete
+answer_result (Some v) = Complete v
+
+-- the value of an open collection
+abbrev pub open_list : Option (List ℕ) → Option Value
+open_list members = option_map (λ ms. Members ms) members
+
+-- what a person gave to a Writable slot: the members of an open collection, or an answer
+abbrev pub given_value : Stated → Answered → Slot → Option Value
+given_value writable_list a s = open_list (map.get a.lists s.fact)
+given_value (scalar t) a s = value_of Answer a s
+given_value (enum_of n) a s = value_of Answer a s
+given_value (list_of u) a s = value_of Answer a s
+given_value (item_of u) a s = value_of Answer a s
+
+abbrev pub or_override : Option Value → Res → Res
+or_override None r = r
+or_override (Some v) r = Complete v
+
+-- the result of an expression of the slot's fact
+abbrev pub expression : Tree → Look → Slot → Source → Res
+expression d look s t = over (source_env d look s.fact) (outermost s.member) t
+
+abbrev pub main_result : Tree → Answered → Look → Slot → Stated → Option Source → Res
+main_result d a look s stated None = answer_result (given_value stated a s)
+main_result d a look s stated (Some t) = or_override (value_of Override a s) (expression d look s t)
+
+-- an incomplete result gives way to the placeholder
+abbrev pub or_placeholder : Tree → Look → Slot → Option Source → Res → Res
+or_placeholder d look s None r = r
+or_placeholder d look s (Some t) (Complete v) = Complete v
+or_placeholder d look s (Some t) (Placeholder v) = Placeholder v
+or_placeholder d look s (Some t) Incomplete = down (expression d look s t)
+or_placeholder d look s (Some t) (Fault fault) = Fault fault
+
+-- the result of a slot of this fact, given those of the slots that it reads
+abbrev pub slot_result : Tree → Answered → Look → Slot → Fact → Res
+slot_result d a look s f = or_placeholder d look s f.placeholder (main_result d a look s f.stated (body f))
+
+-- ---- all slots
+
+abbrev pub rank : Accepted → ℕ → ℕ
+rank d fact = rank_of d.ranks fact
+
+abbrev pub at_fact : {A : Type 0} → Option Fact → A → (Fact → A) → A
+at_fact None none f = none
+at_fact (Some fact) none f = f fact
+
+-- the results of the slots of facts of rank below n
+unfoldable pub table : Accepted → Answered → ℕ → Look
+table d a zero s = None
+table d a (suc n) s =
+    at_fact (fact_at d.tree.facts s.fact) None
+    (λ f. if nat_lt (rank d s.fact) (suc n) && stands d.tree a s then Some (slot_result d.tree a (table d a n) s f) else None)
+
+-- the result of a slot, and none where it doesn't stand
+unfoldable pub plain : Accepted → Answered → Look
+plain d a s = table d a (suc (rank d s.fact)) s
+
+-- ---- laws
+
+-- a slot's result over a map, where it stands
+abbrev pub plain_step : Accepted → Answered → Look → Slot → Option Res
+plain_step d a look s = at_fact (fact_at d.tree.facts s.fact) None (λ f. if stands d.tree a s then Some (slot_result d.tree a look s f) else None)
+
+-- plain evaluation is one step over itself
+abbrev pub PlainIsRecursive : Type 0
+PlainIsRecursive = (names : List (List ℕ)) (d : Accepted) → IsAccepted names d → (a : Answered) (s : Slot) → plain d a s ≡ plain_step d a (plain d a) s
+
+-- exactly the slots that stand have a result
+abbrev pub StandingHaveResults : Type 0
+StandingHaveResults = (d : Accepted) (a : Answered) (s : Slot) → is_some (plain d a s) ≡ stands d.tree a s
+
+-- a map that has plain evaluation of the facts of rank below n
+abbrev pub IsPlainBelow : Accepted → Answered → ℕ → Look → Type 0
+IsPlainBelow d a n look = (s : Slot) → IsSome (fact_at d.tree.facts s.fact) → rank d s.fact < n → look s ≡ plain d a s
+
+-- over such a map, a slot's result is plain evaluation
+abbrev pub StepOverLower : Type 0
+StepOverLower =
+    (names : List (List ℕ)) (d : Accepted) → IsAccepted names d → (a : Answered) (look : Look) (s : Slot)
+    → IsPlainBelow d a (rank d s.fact) look → plain_step d a look s ≡ plain d a s
+
+-- a map that has what is told of the facts of rank below n
+abbrev pub HasTold : Accepted → (Slot → Option Value) → ℕ → Look → Type 0
+HasTold d told n look = (s : Slot) (v : Value) → told s ≡ Some v → rank d s.fact < n → look s ≡ Some (Complete v)
+
+-- where each slot has its told value over told values of lower rank, plain evaluation has them all
+abbrev pub JoinedByRank : Type 0
+JoinedByRank =
+    (names : List (List ℕ)) (d : Accepted) → IsAccepted names d → (a : Answered) (told : Slot → Option Value)
+    → ((s : Slot) (v : Value) → told s ≡ Some v → (look : Look) → HasTold d told (rank d s.fact) look → plain_step d a look s ≡ Some (Complete v))
+    → (s : Slot) (v : Value) → told s ≡ Some v → plain d a s ≡ Some (Complete v)

@@ -1,0 +1,68 @@
+ghost use Rattle.std.specs.Prelude.{◌≡◌, ℕ, List, map, IfErr, IfOk};
+ghost use Rattle.dict_tree.specs.Dictionary.{dictionary_view};
+ghost use Rattle.dict_types.specs.DictFaults.{IsTypedDictionary};
+ghost use Rattle.dict_order.specs.MentionGraph.{mention_graph};
+ghost use Rattle.dict_order.specs.Ranks.{AreRanks};
+ghost use Rattle.dictionary.specs.Accepted.{IsAccepted, accepted};
+ghost use Rattle.dictionary.specs.Faults.{AreAccepted, IsCycleOf, IsFault, IsFaultOf, Refuses};
+
+use crate::dictionary::Dictionary;
+use crate::fault::{DictFault, fault_of_trees, fault_of_types};
+use dict_order::{OrderFault, order};
+use dict_tree::{DictSource, read};
+use dict_types::{Typed, check};
+use std::alloc::Global;
+use text_checks::CheckTable;
+
+// The types, constants and limits, or the first fault of paths, checks, types and limits.
+fn type_source(alloc: Global, source: &DictSource, checks: &CheckTable) -> Result<Typed, DictFault>
+    ensures typed { IfOk result (IsTypedDictionary (dictionary_view source.now) (map {B = List ℕ} (λ c. c.name) checks.now.checks.items)) }
+    ensures refused { IfErr result (Refuses (IsFaultOf (dictionary_view source.now) (map {B = List ℕ} (λ c. c.name) checks.now.checks.items))) }
+{
+    match check(alloc, source, checks) {
+        Ok(typed) => Ok(typed),
+        Err(fault) => Err(fault_of_types(fault)),
+    }
+}
+
+// The ranks, or the first fact that reaches itself.
+fn rank_source(alloc: Global, source: &DictSource) -> Result<Vec<u32>, DictFault>
+    ensures ranked { IfOk result (λ ranks. AreRanks (mention_graph (dictionary_view source.now)) ranks.items) }
+    ensures refused { IfErr result (Refuses (IsCycleOf (dictionary_view source.now))) }
+{
+    match order(alloc, source) {
+        Ok(ranks) => Ok(ranks),
+        Err(OrderFault::Cycle(fact)) => Err(DictFault::Cycle(fact)),
+        Err(OrderFault::NoMemory) => Err(DictFault::NoMemory),
+    }
+}
+
+/// The dictionary of this source, or its first fault: paths and checks first, kind by kind, then types, then limits, then
+/// cycles; of one kind the first fact's, and of a fact its first node's.
+pub fn of_source(
+    alloc: Global,
+    source: DictSource,
+    checks: &CheckTable,
+) -> Result<Dictionary, DictFault>
+    ensures is_accepted { IfOk result (λ d. IsAccepted (map {B = List ℕ} (λ c. c.name) checks.now.checks.items) (accepted d)) }
+    ensures source { IfOk result (λ d. d.source ≡ source) }
+    ensures checks { IfOk result (λ d. d.checks ≡ map {B = List ℕ × ℕ} (λ c. (c.name, c.code)) checks.now.checks.items) }
+    ensures refused { IfErr result (Refuses (IsFaultOf (dictionary_view source) (map {B = List ℕ} (λ c. c.name) checks.now.checks.items))) }
+{
+    let typed = type_source(alloc, &source, checks)?;
+    let ranks = rank_source(alloc, &source)?;
+    Dictionary::keep(alloc, source, typed, ranks, checks)
+}
+
+/// The dictionary that the bytes spell, or its first fault: the bytes and their shape first, then the limits, then what
+/// [`of_source`] names.
+pub fn accept(alloc: Global, bytes: &[u8], checks: &CheckTable) -> Result<Dictionary, DictFault>
+    ensures is_accepted { IfOk result (λ d. AreAccepted bytes.now (map {B = List ℕ} (λ c. c.name) checks.now.checks.items) (accepted d)) }
+    ensures checks { IfOk result (λ d. d.checks ≡ map {B = List ℕ × ℕ} (λ c. (c.name, c.code)) checks.now.checks.items) }
+    ensures refused { IfErr result (Refuses (IsFault bytes.now (map {B = List ℕ} (λ c. c.name) checks.now.checks.items))) }
+{
+    match read(alloc, bytes) {
+        Ok(source) => of_source(alloc, source, checks),
+        Err(fault) => Err(fault_of_trees(fault)),
+    }
+}

@@ -1,0 +1,147 @@
+ghost use Rattle.std.specs.Prelude.{◌≡◌, ◌↔◌, ◌⊎◌, ℕ, List, false, length, map, IfErr, IfOk, IsTrue};
+ghost use Rattle.dict_tree.specs.Dictionary.{dictionary_view};
+ghost use Rattle.dict_tree.specs.Finding.{IsNumber};
+ghost use Rattle.dict_order.specs.Ranks.{rank_of};
+ghost use Rattle.dictionary.specs.Accepted.{IsAccepted, accepted, names_of};
+ghost use Rattle.dictionary.specs.ByRank.{AreByRank};
+ghost use Rattle.dictionary.specs.Checks.{has_check};
+ghost use Rattle.dictionary.specs.Homes.{home};
+ghost use Rattle.dictionary.specs.Keeping.{node_count};
+ghost use Rattle.dictionary.specs.Steady.{IsSteady, steady};
+ghost use Rattle.dictionary.specs.declared.fault.DictFault.TheVariants.{NoMemory};
+
+use crate::fault::DictFault;
+use crate::kept_check::{KeptCheck, are_of_table, keep_checks};
+use crate::worked::{Worked, work_out};
+use dict_tree::DictSource;
+use dict_types::Typed;
+use std::alloc::Global;
+use std::marker::Model;
+use text_checks::CheckTable;
+
+/// A dictionary that has no fault, with the types and ranks of its facts. Facts are numbered from 1.
+#[derive(Drop)]
+pub struct Dictionary {
+    source: DictSource,
+    typed: Typed,
+    ranks: Vec<u32>,
+    checks: Vec<KeptCheck>,
+    worked: Worked,
+}
+
+impl Model for Dictionary {
+    ghost use Rattle.std.specs.Coded.{codes};
+    ghost use Rattle.dict_tree.specs.contracts.fact_source.FactSource as fact;
+    ghost use Rattle.dictionary.specs.Accepted.{Kept};
+    ghost use Rattle.dictionary.specs.Keeping.{IsKept};
+
+    ghost Value = { Kept };
+
+    ghost coded = { Prim.hlevel (codes, fact.the_row.coded) };
+
+    ghost view = { λ d. record { source = d.source; typed = d.typed; ranks = d.ranks.items; checks = d.checks.items } };
+
+    ghost invariant = { λ d. IsKept (record { source = d.source; typed = d.typed; ranks = d.ranks.items; checks = d.checks.items }) d.worked };
+}
+
+impl Dictionary {
+    // The dictionary of these parts.
+    pub(crate) fn keep(
+        alloc: Global,
+        source: DictSource,
+        typed: Typed,
+        ranks: Vec<u32>,
+        table: &CheckTable,
+    ) -> Result<Dictionary, DictFault>
+        requires { IsAccepted (map {B = List ℕ} (λ c. c.name) table.now.checks.items) (record { tree = dictionary_view source; typed = typed; ranks = ranks.items }) }
+        ensures kept { IfOk result (λ d. d ≡ record { source = source; typed = typed; ranks = ranks.items; checks = map {B = List ℕ × ℕ} (λ c. (c.name, c.code)) table.now.checks.items }) }
+        ensures memory { IfErr result (λ fault. fault ≡ NoMemory) }
+    {
+        let Ok(checks) = keep_checks(alloc, table) else {
+            return Err(DictFault::NoMemory);
+        };
+        let Ok(worked) = work_out(alloc, &source, ranks.as_slice()) else {
+            return Err(DictFault::NoMemory);
+        };
+        Ok(Dictionary {
+            source,
+            typed,
+            ranks,
+            checks,
+            worked,
+        })
+    }
+
+    /// The dictionary as it is written.
+    pub fn source(&self) -> &DictSource
+        ensures value { result.now ≡ self.now.source }
+        ensures is_accepted { IsAccepted (names_of self.now.checks) (accepted self.now) }
+    {
+        &self.source
+    }
+
+    /// The types, constants and limits of its facts.
+    pub fn typed(&self) -> &Typed
+        ensures { result.now ≡ self.now.typed }
+    {
+        &self.typed
+    }
+
+    /// The rank of the fact: 0 where it mentions nothing, and else 1 more than the greatest rank that it mentions.
+    pub fn rank(&self, fact: u32) -> u32
+        requires { IsNumber (accepted self.now).tree.facts fact }
+        ensures { result ≡ rank_of self.now.ranks fact }
+    {
+        self.ranks[fact as usize - 1]
+    }
+
+    /// The number of the collection whose members have the fact, and 0 for a global fact.
+    pub fn home(&self, fact: u32) -> u32
+        requires { IsNumber (accepted self.now).tree.facts fact }
+        ensures { result ≡ home (accepted self.now).tree fact }
+    {
+        self.worked.homes[fact as usize - 1]
+    }
+
+    /// Each fact once, by rising rank, and those of one rank by rising number. What a fact mentions comes before it.
+    pub fn by_rank(&self) -> &[u32]
+        ensures { AreByRank self.now.ranks result.now }
+    {
+        self.worked.by_rank.as_slice()
+    }
+
+    /// Whether no IsComplete stands in the body of the fact, nor in that of any fact that is reached from it by mentions of
+    /// bodies.
+    pub fn steady(&self, fact: u32) -> bool
+        requires { IsNumber (accepted self.now).tree.facts fact }
+        ensures tells { IsTrue result ↔ IsSteady (accepted self.now).tree fact }
+        ensures value { result ≡ steady (accepted self.now) fact }
+    {
+        self.worked.steady[fact as usize - 1]
+    }
+
+    /// How many facts there are.
+    pub fn fact_count(&self) -> u32
+        ensures { result ≡ length (accepted self.now).tree.facts }
+    {
+        self.ranks.len() as u32
+    }
+
+    /// How many nodes all facts have.
+    pub fn node_count(&self) -> u32
+        ensures { result ≡ node_count (accepted self.now).tree }
+    {
+        self.worked.nodes
+    }
+
+    /// Whether the table has the checks with which the dictionary was accepted, by name and code and in their order, or no
+    /// fact has a check.
+    pub fn same_checks(&self, table: &CheckTable) -> bool
+        ensures { IsTrue result ↔ ((self.now.checks ≡ map {B = List ℕ × ℕ} (λ c. (c.name, c.code)) table.now.checks.items) ⊎ (has_check (accepted self.now).tree ≡ false)) }
+    {
+        if !self.worked.checked {
+            return true;
+        }
+        are_of_table(self.checks.as_slice(), table)
+    }
+}

@@ -1,0 +1,43 @@
+//! A dictionary is accepted, or refused for its first fault; and what the facts of an accepted one mean over answers.
+#![tactic(auto)]
+
+mod accepting;
+mod by_rank;
+mod dictionary;
+mod engine;
+mod extension_laws;
+mod fault;
+mod feed_laws;
+mod final_laws;
+mod fit_laws;
+mod homes;
+mod kept_check;
+mod laws;
+mod plain_laws;
+mod sizes;
+mod slot_laws;
+mod steady;
+#[cfg(test)]
+mod tests;
+mod touched_laws;
+mod typed_laws;
+mod worked;
+
+pub use accepting::{accept, of_source};
+pub use dictionary::Dictionary;
+pub use engine::FactEngine;
+pub use extension_laws::extensions_are_tested;
+pub use fault::DictFault;
+pub use feed_laws::{feeding_slots_are_lower, slots_feed_by_mentions};
+pub use final_laws::final_results_stay;
+pub use fit_laws::{allowed_changes_fit, the_start_fits};
+pub use laws::{
+    mentions_come_first, the_dictionary_is_one, the_fault_is_one, the_test_tells_steady,
+};
+pub use plain_laws::{
+    lower_facts_are_enough, plain_evaluation_is_recursive, standing_slots_have_results,
+    told_values_are_joined_by_rank,
+};
+pub use slot_laws::listed_slots_stand;
+pub use touched_laws::untouched_slots_keep_their_results;
+pub use typed_laws::results_have_their_types;
