@@ -32,6 +32,7 @@ pub mod SettleLaws
 pub mod SlotLaws
 pub mod SteadyLaws
 pub mod TargetAgreement
+pub mod TargetHomes
 pub mod TypedResultLaws
 pub mod UntouchedLaws
 pub mod WeightLaws

@@ -28,7 +28,7 @@ use Rattle.dictionary.specs.Homes.{home}
 use Rattle.dictionary.specs.Plain.{plain}
 use Rattle.dictionary.specs.Reading.{Place, result_at, slot}
 use Rattle.dictionary.specs.Slots.{is_member, stands, stands_at}
-use Rattle.dictionary.proofs.HomeLaws.{base_named, global_there, member_home, member_there}
+use Rattle.dictionary.proofs.TargetHomes.{base_named, global_there, member_home, member_there}
 use Rattle.dictionary.proofs.MemberLaws.{member_stands, named_by_item, named_by_list, zero_is_none}
 use Rattle.dictionary.proofs.PlainLaws.{standing_have_results}
 use Rattle.dictionary.proofs.ReadAgreement.{AgreeOn, AgreeUnder, IsSameAt, first_member, listed_in, names}

@@ -13,6 +13,7 @@ pub mod Keeping
 pub mod Plain
 pub mod Reading
 pub mod Slots
+pub mod SlotText
 pub mod Steady
 pub mod SteadyReading
 pub mod Touched

@@ -16,6 +16,7 @@ mod laws;
 mod plain_laws;
 mod sizes;
 mod slot_laws;
+mod slot_text;
 mod steady;
 #[cfg(test)]
 mod tests;
@@ -32,7 +33,8 @@ pub use feed_laws::{feeding_slots_are_lower, slots_feed_by_mentions};
 pub use final_laws::final_results_stay;
 pub use fit_laws::{allowed_changes_fit, the_start_fits};
 pub use laws::{
-    mentions_come_first, the_dictionary_is_one, the_fault_is_one, the_test_tells_steady,
+    homes_are_collections, mentions_come_first, slot_texts_spell_paths, the_dictionary_is_one,
+    the_fault_is_one, the_test_tells_steady,
 };
 pub use plain_laws::{
     lower_facts_are_enough, plain_evaluation_is_recursive, standing_slots_have_results,

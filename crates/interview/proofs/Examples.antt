@@ -12,6 +12,8 @@ use Rattle.interview.specs.Dictionary.{Dict}
 use Rattle.interview.specs.Json.{fact_after, dict_of}
 use Rattle.interview.specs.Evaluation.{within, plain}
 use Rattle.interview.specs.Replies.{at_start, replies}
+use Rattle.interview.specs.FaultLines.{fault_line, accepted_line}
+use Rattle.dictionary.specs.declared.fault.DictFault.TheVariants.{TooLong, Shape, TooMany, IllTyped}
 
 -- `/a` and `/b` are answered, and `/s` is their sum
 abbrev three : Dict
@@ -93,3 +95,24 @@ dict_of-sum_of_nothing = refl
 dict_of-name_twice : dict_of (top (item fact_a (item fact_a no_items))) ≡ None
 unfolding dict_of fact_after
 dict_of-name_twice = refl
+
+-- ---- what a dictionary came to
+
+accepted_line-three : accepted_line 3 3 ≡ codes "dictionary accepted 3 facts 3 nodes" ++ newline
+unfolding digits
+accepted_line-three = refl
+
+fault_line-no_place : fault_line TooLong ≡ codes "dictionary refused 1 TooLong" ++ newline
+fault_line-no_place = refl
+
+fault_line-outside_the_facts : fault_line (Shape 0) ≡ codes "dictionary refused 3 Shape fact 0" ++ newline
+unfolding digits
+fault_line-outside_the_facts = refl
+
+fault_line-what : fault_line (TooMany 2) ≡ codes "dictionary refused 4 TooMany what 2" ++ newline
+unfolding digits
+fault_line-what = refl
+
+fault_line-node : fault_line (IllTyped 12 34) ≡ codes "dictionary refused 12 IllTyped fact 12 node 34" ++ newline
+unfolding digits
+fault_line-node = refl

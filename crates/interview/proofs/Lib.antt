@@ -1,3 +1,4 @@
+pub mod CheckLaws
 pub mod DictLaws
 pub mod EndLaws
 pub mod ExactLaws

@@ -14,7 +14,7 @@ use Rattle.interview.specs.Words.{IsRun, HasNoForm, texts}
 use Rattle.interview.specs.Dictionary.{Dict}
 use Rattle.interview.specs.Json.{json_of, dict_of, dictionary_of}
 use Rattle.interview.specs.Interview.{Defined, usage, refused, defined, defined_over, defined_script}
-use Rattle.interview.specs.Ends.{ScriptDid, ScriptEnds, Given, Did, Run, Accepted, Ends, SentWhole, SentPart, NotFetched, EndedBy}
+use Rattle.interview.specs.Ends.{ScriptDid, ScriptEnds, Given, Did, Run, Accepted, Ends, SentWhole, SentPart, NotFetched, EndedBy, Unread}
 
 -- ---- words
 
@@ -51,35 +51,30 @@ not_begun dict did still = record {
 abbrev Ended : Did → List ℕ → Status → Status → Type 0
 Ended did text whole status = EndedBy did.script.taken.before did.script.taken.after did.script.sink.before did.script.sink.after text whole status
 
-pub ends_by_usage : (given : Given) (did : Did) (status : Status) → HasNoForm given.words → Ended did usage.text Usage status → Ends given did status
-ends_by_usage given did status none (inl (is, wrote)) = subst (Ends given did) (sym is) (none, wrote)
-ends_by_usage given did status none (inr (is, rose, part)) = subst (Ends given did) (sym is) (rose, inl (none, part))
+pub ends_by_usage : (given : Given) (did : Did) (status : Status) → HasNoForm given.words → Unread did → Ended did usage.text Usage status → Ends given did status
+ends_by_usage given did status none unread (inl (is, wrote)) = subst (Ends given did) (sym is) (none, wrote, unread)
+ends_by_usage given did status none unread (inr (is, rose, part)) = subst (Ends given did) (sym is) (rose, inl (none, part, unread))
 
 module _ (given : Given) (did : Did) (name : List ℕ) (asked : IsRun given.words name) where
-  pub ends_unfetched : (status : Status) → did.script.taken.before ≡ did.script.taken.after → NotFetched name did.shelf.before did.shelf.after did.failed_name status → Ends given did status
-  ends_unfetched Done still not = absurd not
-  ends_unfetched DictionaryRefused still not = absurd not
-  ends_unfetched Usage still not = absurd not
-  ends_unfetched FetchFault still not = (not.0, subst (IsRun given.words) (sym not.1) asked, subst (Keeps did.script.taken.before) still (Keeps-refl did.script.taken.before))
-  ends_unfetched ReadFault still not = absurd not
-  ends_unfetched WriteFault still not = absurd not
-  ends_unfetched ScriptTooLong still not = absurd not
-  ends_unfetched NoMemory still not = inl (subst (Keeps did.script.taken.before) still (Keeps-refl did.script.taken.before))
+  pub ends_unfetched : (status : Status) → did.script.taken.before ≡ did.script.taken.after → Unread did → NotFetched name did.shelf.before did.shelf.after did.failed_name status → Ends given did status
+  ends_unfetched FetchFault still unread not = (not.0, inl (subst (IsRun given.words) (sym not.1) asked), subst (Keeps did.script.taken.before) still (Keeps-refl did.script.taken.before), unread)
+  ends_unfetched NoMemory still unread not = inl (subst (Keeps did.script.taken.before) still (Keeps-refl did.script.taken.before), unread)
+  ends_unfetched status still unread not = absurd not
 
   module _ (bytes : List ℕ) (held : MayHold (given.told name) bytes) where
     abbrev over : (script : List ℕ) → MayBe given.left script → Run given
     over script read = record { name = name; bytes = bytes; script = script; asked = asked; held = held; read = read }
 
     module _ (is : dictionary_of bytes ≡ None) where
-      abbrev unread : Run given
-      unread = over (some_script given.left).0 (some_script given.left).1
+      abbrev some_run : Run given
+      some_run = over (some_script given.left).0 (some_script given.left).1
 
-      is_refused : refused ≡ defined bytes unread.script
-      is_refused = ap (λ d. defined_over d unread.script) (sym is)
+      is_refused : refused ≡ defined bytes some_run.script
+      is_refused = ap (λ d. defined_over d some_run.script) (sym is)
 
       pub ends_refused : (status : Status) → Ended did refused.text DictionaryRefused status → Ends given did status
-      ends_refused status (inl (same, wrote)) = subst (Ends given did) (sym same) (unread, ap (λ d. d.status) (sym is_refused), subst (λ (d : Defined). SentWhole did.script.taken d.text) is_refused wrote)
-      ends_refused status (inr (same, rose, part)) = subst (Ends given did) (sym same) (rose, inr (unread, subst (λ (d : Defined). SentPart did.script.taken d.text) is_refused part))
+      ends_refused status (inl (same, wrote)) = subst (Ends given did) (sym same) (inl (some_run, ap (λ d. d.status) (sym is_refused), subst (λ (d : Defined). SentWhole did.script.taken d.text) is_refused wrote))
+      ends_refused status (inr (same, rose, part)) = subst (Ends given did) (sym same) (rose, inr (inl (some_run, subst (λ (d : Defined). SentPart did.script.taken d.text) is_refused part)))
 
     module _ (dict : Dict) (is : dictionary_of bytes ≡ Some dict) (same_left : did.script.left.before ≡ given.left) where
       abbrev accepted : Accepted given
@@ -92,11 +87,11 @@ module _ (given : Given) (did : Did) (name : List ℕ) (asked : IsRun given.word
       is_defined script = ap (λ d. defined_over d script) (sym is)
 
       pub ends_run : (status : Status) → ScriptEnds dict did.script status → Ends given did status
-      ends_run Done ends = (over ends.0 (subst (λ l. MayBe l ends.0) same_left ends.1), ap (λ d. d.status) (sym (is_defined ends.0)) ∙ ends.2, subst (λ (d : Defined). SentWhole did.script.taken d.text) (is_defined ends.0) ends.3)
+      ends_run Done ends = inl (over ends.0 (subst (λ l. MayBe l ends.0) same_left ends.1), ap (λ d. d.status) (sym (is_defined ends.0)) ∙ ends.2, subst (λ (d : Defined). SentWhole did.script.taken d.text) (is_defined ends.0) ends.3)
       ends_run DictionaryRefused ends = absurd ends
       ends_run Usage ends = absurd ends
       ends_run FetchFault ends = absurd ends
       ends_run ReadFault ends = (ends.0, (accepted, ends.1))
-      ends_run WriteFault ends = (ends.0, inr (over ends.1.0 (subst (λ l. MayBe l ends.1.0) same_left ends.1.1), subst (λ (d : Defined). SentPart did.script.taken d.text) (is_defined ends.1.0) ends.1.2))
+      ends_run WriteFault ends = (ends.0, inr (inl (over ends.1.0 (subst (λ l. MayBe l ends.1.0) same_left ends.1.1), subst (λ (d : Defined). SentPart did.script.taken d.text) (is_defined ends.1.0) ends.1.2)))
       ends_run ScriptTooLong ends = (over ends.0 (subst (λ l. MayBe l ends.0) same_left ends.1), ap (λ d. d.status) (sym (is_defined ends.0)) ∙ ends.2, subst (λ (d : Defined). SentWhole did.script.taken d.text) (is_defined ends.0) ends.3)
       ends_run NoMemory ends = inr (accepted, ends)

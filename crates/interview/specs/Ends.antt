@@ -6,11 +6,13 @@ use Rattle.fg_io.specs.Sent.{Sent}
 use Rattle.script_lines.specs.Lines.{script_lines, ended_lines}
 use Rattle.interview.specs.declared.status.Status.{Status}
 use Rattle.interview.specs.declared.status.Status.TheVariants.{Done, DictionaryRefused, Usage, FetchFault, ReadFault, WriteFault, ScriptTooLong, NoMemory}
-use Rattle.interview.specs.Words.{IsRun, HasNoForm}
+use Rattle.dictionary.specs.declared.fault.DictFault.{DictFault}
+use Rattle.dictionary.specs.Faults.{IsFault}
+use Rattle.interview.specs.Words.{IsRun, IsCheck, Fetches, HasNoForm}
 use Rattle.interview.specs.Dictionary.{Dict}
 use Rattle.interview.specs.Json.{dictionary_of}
 use Rattle.interview.specs.Replies.{at_start, replies, state_after}
-use Rattle.interview.specs.Interview.{Defined, usage, defined, defined_script}
+use Rattle.interview.specs.Interview.{Defined, usage, defined, defined_script, defined_fault, ChecksTo}
 
 -- a count of faults before a call, and after it
 pub record Counted : Type 0 where
@@ -79,6 +81,8 @@ ScriptEnds dict did other = ⊥
 -- what an interview is given
 pub record Given : Type 0 where
   pub words : List (List ℕ)
+  -- the names of the checks
+  pub checks : List (List ℕ)
   pub told : List ℕ → Told
   pub left : Option (List ℕ)
 
@@ -87,6 +91,10 @@ pub record Did : Type 0 where
   pub shelf : Counted
   pub failed_name : List ℕ
   pub script : ScriptDid
+
+-- nothing was read of the script
+abbrev pub Unread : Did → Type 0
+Unread did = (did.script.left.after ≡ did.script.left.before) × (did.script.source.after ≡ did.script.source.before)
 
 -- a run that it may have been given: where contents are told, it was
 pub record Run (given : Given) : Type 0 where
@@ -97,7 +105,7 @@ pub record Run (given : Given) : Type 0 where
   pub held : MayHold (given.told name) bytes
   pub read : MayBe given.left script
 
--- a dictionary that it may have been given, and that is accepted
+-- a dictionary that it may have been given to run, and that is accepted
 pub record Accepted (given : Given) : Type 0 where
   pub name : List ℕ
   pub bytes : List ℕ
@@ -106,24 +114,43 @@ pub record Accepted (given : Given) : Type 0 where
   pub held : MayHold (given.told name) bytes
   pub accepted : dictionary_of bytes ≡ Some dict
 
+-- a check that it may have been given, and what it comes to
+pub record Check (given : Given) : Type 0 where
+  pub name : List ℕ
+  pub bytes : List ℕ
+  pub outcome : Defined
+  pub asked : IsCheck given.words name
+  pub held : MayHold (given.told name) bytes
+  pub judged : ChecksTo bytes given.checks outcome
+
 -- the run has this status, and its text was written whole
+abbrev pub RunEndsAs : Given → Did → Status → Type 0
+RunEndsAs given did status = (run : Run given) × ((defined run.bytes run.script).status ≡ status) × SentWhole did.script.taken (defined run.bytes run.script).text
+
+-- the same of the check, without the script
+abbrev pub CheckEndsAs : Given → Did → Status → Type 0
+CheckEndsAs given did status = (check : Check given) × (check.outcome.status ≡ status) × SentWhole did.script.taken check.outcome.text × Unread did
+
 abbrev pub EndsAs : Given → Did → Status → Type 0
-EndsAs given did status = (run : Run given) × ((defined run.bytes run.script).status ≡ status) × SentWhole did.script.taken (defined run.bytes run.script).text
+EndsAs given did status = RunEndsAs given did status ⊎ CheckEndsAs given did status
 
 -- a prefix of what is to be written was
 abbrev pub WritesPart : Given → Did → Type 0
-WritesPart given did = (HasNoForm given.words × SentPart did.script.taken usage.text) ⊎ ((run : Run given) × SentPart did.script.taken (defined run.bytes run.script).text)
+WritesPart given did =
+    (HasNoForm given.words × SentPart did.script.taken usage.text × Unread did)
+    ⊎ (((run : Run given) × SentPart did.script.taken (defined run.bytes run.script).text)
+    ⊎ ((check : Check given) × SentPart did.script.taken check.outcome.text × Unread did))
 
 -- The table of ends: the text of each status, and its cause.
 abbrev pub Ends : Given → Did → Status → Type 0
 Ends given did Done = EndsAs given did Done
 Ends given did DictionaryRefused = EndsAs given did DictionaryRefused
-Ends given did Usage = HasNoForm given.words × SentWhole did.script.taken usage.text
-Ends given did FetchFault = Rises did.shelf × IsRun given.words did.failed_name × SentNothing did.script.taken
+Ends given did Usage = HasNoForm given.words × SentWhole did.script.taken usage.text × Unread did
+Ends given did FetchFault = Rises did.shelf × Fetches given.words did.failed_name × SentNothing did.script.taken × Unread did
 Ends given did ReadFault = Rises did.script.source × ((over : Accepted given) × ReadSoFar over.dict did.script)
 Ends given did WriteFault = Rises did.script.sink × WritesPart given did
-Ends given did ScriptTooLong = EndsAs given did ScriptTooLong
-Ends given did NoMemory = SentNothing did.script.taken ⊎ ((over : Accepted given) × RepliedFirst over.dict did.script)
+Ends given did ScriptTooLong = RunEndsAs given did ScriptTooLong
+Ends given did NoMemory = (SentNothing did.script.taken × Unread did) ⊎ ((over : Accepted given) × RepliedFirst over.dict did.script)
 
 -- ---- the dictionary
 
@@ -142,6 +169,31 @@ abbrev pub EndedBy : Option (List ℕ) → Option (List ℕ) → ℕ → ℕ →
 EndedBy taken taken_now faults faults_now text whole status =
     ((status ≡ whole) × Appends taken taken_now text) ⊎ ((status ≡ WriteFault) × Rose faults faults_now × ((rest : List ℕ) × Sent taken taken_now text rest))
 
+-- ---- a check
+
+-- what a check did to the outside
+pub record CheckDid : Type 0 where
+  pub shelf : Counted
+  pub failed_name : List ℕ
+  pub taken : Stream
+  pub sink : Counted
+
+-- some bytes that the name may hold come to this text and status
+abbrev pub JudgedAs : Told → List (List ℕ) → List ℕ → Status → Type 0
+JudgedAs told checks text status = (bytes : List ℕ) × MayHold told bytes × ChecksTo bytes checks (record { text = text; status = status })
+
+-- it came to this status, and the text of it was written whole
+abbrev pub CheckedAs : Told → List (List ℕ) → CheckDid → Status → Type 0
+CheckedAs told checks did status = (text : List ℕ) × JudgedAs told checks text status × SentWhole did.taken text
+
+abbrev pub CheckEnds : Told → List (List ℕ) → List ℕ → CheckDid → Status → Type 0
+CheckEnds told checks name did Done = CheckedAs told checks did Done
+CheckEnds told checks name did DictionaryRefused = CheckedAs told checks did DictionaryRefused
+CheckEnds told checks name did FetchFault = Rises did.shelf × (did.failed_name ≡ name) × SentNothing did.taken
+CheckEnds told checks name did WriteFault = Rises did.sink × ((text : List ℕ) × ((status : Status) × (JudgedAs told checks text status × SentPart did.taken text)))
+CheckEnds told checks name did NoMemory = SentNothing did.taken
+CheckEnds told checks name did other = ⊥
+
 -- ---- what is known of an interview when it ends
 
 abbrev pub IsOneOf : Status → List Status → Type 0
@@ -157,13 +209,24 @@ pub record KnownRun (given : Given) : Type 0 where
   pub held : given.told name ≡ holds bytes
   pub read : given.left ≡ Some script
 
+-- a check whose dictionary is told
+pub record KnownCheck (given : Given) : Type 0 where
+  pub name : List ℕ
+  pub bytes : List ℕ
+  pub asked : IsCheck given.words name
+  pub held : given.told name ≡ holds bytes
+
 -- it ended as defined, with the text whole
 abbrev pub EndedAs : Did → Status → Defined → Type 0
 EndedAs did status d = (status ≡ d.status) × SentWhole did.script.taken d.text
 
+-- it ended as a check of the bytes comes to, with the text whole
+abbrev pub EndedByCheck : Given → Did → Status → List ℕ → Type 0
+EndedByCheck given did status bytes = (d : Defined) × ChecksTo bytes given.checks d × EndedAs did status d
+
 -- a fetch of a name of the words failed
 abbrev pub FetchFailed : Given → Did → Type 0
-FetchFailed given did = Rises did.shelf × IsRun given.words did.failed_name
+FetchFailed given did = Rises did.shelf × Fetches given.words did.failed_name
 
 pub record Interviewed (given : Given) (did : Did) (status : Status) : Type 0 where
   -- each status with its text and its cause
@@ -171,10 +234,18 @@ pub record Interviewed (given : Given) (did : Did) (status : Status) : Type 0 wh
   -- words without a form are told so
   pub no_form : HasNoForm given.words → IsOneOf status (Usage ∷ WriteFault ∷ NoMemory ∷ [])
   -- a name that isn't there is a failed fetch
-  pub missing : (name : List ℕ) → IsRun given.words name → given.told name ≡ missing → IsOneOf status (FetchFault ∷ NoMemory ∷ [])
-  -- a dictionary that is told and refused is said to be, whatever the script
+  pub missing : (name : List ℕ) → Fetches given.words name → given.told name ≡ missing → IsOneOf status (FetchFault ∷ NoMemory ∷ [])
+  -- a dictionary to run that is told and refused is said to be, whatever the script
   pub refused : (name bytes : List ℕ) → IsRun given.words name → given.told name ≡ holds bytes → dictionary_of bytes ≡ None → IsOneOf status (DictionaryRefused ∷ FetchFault ∷ WriteFault ∷ NoMemory ∷ [])
   -- a run that is told ends as defined, or by a fault of the outside, or for want of memory
   pub exact : (run : KnownRun given) → EndedAs did status (defined run.bytes run.script) ⊎ IsOneOf status (FetchFault ∷ ReadFault ∷ WriteFault ∷ NoMemory ∷ [])
   -- and where the outside doesn't fail, it ends as defined, or for want of memory
   pub complete : (run : KnownRun given) → (FetchFailed given did → ⊥) → (Rises did.script.source → ⊥) → (Rises did.script.sink → ⊥) → EndedAs did status (defined run.bytes run.script) ⊎ (status ≡ NoMemory)
+  -- a check reads nothing of the script
+  pub check_unread : (name : List ℕ) → IsCheck given.words name → Unread did
+  -- a check of a dictionary that is told and has this fault says so
+  pub check_refused : (check : KnownCheck given) (fault : DictFault) → IsFault check.bytes given.checks fault → EndedAs did status (defined_fault fault) ⊎ IsOneOf status (FetchFault ∷ WriteFault ∷ NoMemory ∷ [])
+  -- a check that is told ends as defined, or by a fault of the outside, or for want of memory
+  pub check_exact : (check : KnownCheck given) → EndedByCheck given did status check.bytes ⊎ IsOneOf status (FetchFault ∷ WriteFault ∷ NoMemory ∷ [])
+  -- and where the outside doesn't fail, it ends as defined, or for want of memory
+  pub check_complete : (check : KnownCheck given) → (FetchFailed given did → ⊥) → (Rises did.script.sink → ⊥) → EndedByCheck given did status check.bytes ⊎ (status ≡ NoMemory)

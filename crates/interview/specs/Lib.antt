@@ -5,6 +5,7 @@ pub mod Json
 pub mod Evaluation
 pub mod Replies
 pub mod Words
+pub mod FaultLines
 pub mod Interview
 pub mod Hearing
 pub mod Going

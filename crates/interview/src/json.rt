@@ -9,8 +9,8 @@ ghost use Rattle.interview.specs.Json.{has_no_other as only, says as is_said, te
 ghost use Rattle.interview.specs.Paths.{global_name};
 ghost use Rattle.interview.specs.declared.json.DictionaryFault.TheVariants.{NoMemory};
 
+use crate::amounts::Dictionary;
 use crate::body::{Body, Places};
-use crate::dictionary::Dictionary;
 use crate::global::read_global;
 use fact_paths::{Name, PathFault};
 use serde_json::{Map, Value};

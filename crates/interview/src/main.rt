@@ -1,13 +1,19 @@
 //! The program `interview`: runs a script of commands over a dictionary of facts, and prints a reply a command.
 #![tactic(auto)]
 
+ghost use Rattle.std.specs.Prelude.{◌≡◌, ◌+◌, ◌-◌, ◌≤◌, ◌<◌, ◌^◌, Bool, OnOk, length};
+ghost use Rattle.text_checks.specs.Checks.{IsCode, check_says};
+
+mod amounts;
 mod body;
-mod dictionary;
-mod evaluation;
+mod checking;
+mod ending;
+mod fault_line;
 mod global;
 mod hearing;
 mod json;
 mod laws;
+mod plain;
 mod reply;
 mod result;
 mod script;
@@ -16,13 +22,18 @@ mod status;
 mod top;
 mod words;
 
+use fact_paths::Name;
 use fg_io::{FolderShelf, StdinSource, StdoutSink};
 pub use status::Status;
+use std::alloc::{AllocError, Global};
 use std::io::ErrorKind;
 use std::process::ExitCode;
 use std::{env, io};
+use text_checks::{CheckTable, Test, digits, nine_digits, printable_ascii, trimmed};
 pub use top::interview;
 
+#[cfg(test)]
+mod check_tests;
 #[cfg(test)]
 mod tests;
 
@@ -38,14 +49,52 @@ fn given_words(rt: &HostRuntime) -> io::Result<Vec<String>> {
     Ok(words)
 }
 
+// Adds a check under another name than those that are there, so that nothing but want of memory hinders it.
+fn add_check(
+    alloc: Global,
+    checks: &mut CheckTable,
+    name: &str,
+    code: u32,
+    check: Test,
+) -> Result<(), AllocError>
+    requires room { length checks.old.checks.items < 2 ^ 32 - 1 }
+    requires code { IsCode code }
+    requires callable { (text : _) → length text.now ≤ 1000 → Test.pre check text }
+    requires says { (text : _) (answer : Bool) → length text.now ≤ 1000
+        → Test.post check text answer → answer ≡ check_says code text.now }
+    ensures { OnOk result (length checks.new.checks.items ≡ length checks.old.checks.items + 1) }
+{
+    let Ok(name) = Name::read(alloc, name) else {
+        return Err(AllocError);
+    };
+    match checks.add(name, code, check) {
+        Ok(()) => Ok(()),
+        Err(_) => Err(AllocError),
+    }
+}
+
+// Runs the program over the words, the current folder and the standard streams.
+fn run(rt: HostRuntime) -> io::Result<Status> {
+    let alloc = rt.alloc();
+    let words = given_words(&rt)?;
+    let mut checks = CheckTable::new(alloc);
+    let check = Box::new(alloc, |text: &str| digits(text))?;
+    add_check(alloc, &mut checks, "digits", 1, check)?;
+    let check = Box::new(alloc, |text: &str| nine_digits(text))?;
+    add_check(alloc, &mut checks, "nine-digits", 2, check)?;
+    let check = Box::new(alloc, |text: &str| printable_ascii(text))?;
+    add_check(alloc, &mut checks, "printable-ascii", 3, check)?;
+    let check = Box::new(alloc, |text: &str| trimmed(text))?;
+    add_check(alloc, &mut checks, "trimmed", 4, check)?;
+    let mut shelf = FolderShelf::new(rt, alloc);
+    let mut script = StdinSource::new(rt.stdin());
+    let mut out = StdoutSink::new(rt.stdout());
+    Ok(interview(alloc, &words, &checks, &mut shelf, &mut script, &mut out))
+}
+
 fn main(rt: HostRuntime) -> ExitCode {
-    let status = match given_words(&rt) {
-        Ok(words) => {
-            let mut shelf = FolderShelf::new(rt, rt.alloc());
-            let mut script = StdinSource::new(rt.stdin());
-            let mut out = StdoutSink::new(rt.stdout());
-            interview(rt.alloc(), &words, &mut shelf, &mut script, &mut out)
-        }
+    let status = match run(rt) {
+        Ok(status) => status,
         Err(error) if error.kind() == ErrorKind::OutOfMemory => Status::NoMemory,
         Err(_) => {
             let _ = eprintln!(rt; "interview: {WORDS_FAULT} WordsFault");

@@ -3,9 +3,9 @@ ghost use Rattle.interview.specs.Dictionary.{AreRanked, place_of};
 ghost use Rattle.interview.specs.Evaluation.{result_at, plain};
 ghost use Rattle.interview.specs.Replies.{start, said_set_at, said_get_at};
 
+use crate::amounts::Dictionary;
 use crate::body::Body;
-use crate::dictionary::Dictionary;
-use crate::evaluation::evaluate;
+use crate::plain::evaluate;
 use crate::reply::{Refusal, Reply};
 use crate::result::Res;
 use fact_values::{Dollar, NoMemory};

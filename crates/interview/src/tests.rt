@@ -4,6 +4,7 @@ use fg_io::{MemShelf, MemSink, MemSource};
 use std::alloc::{AllocError, Global};
 use std::process::Abort;
 use std::test::Fail;
+use text_checks::CheckTable;
 
 const THREE_FACTS: &str =
     r#"{"version":"1","facts":[{"path":"/a","writable":"Dollar"},{"path":"/b","writable":"Dollar"},
@@ -60,7 +61,8 @@ fn end_of(
     shelf.fail_at(vec![in alloc; devices.fetch_fails]?);
     let mut source = MemSource::new(script, devices.pulled, vec![in alloc; devices.pull_fails]?);
     let mut sink = MemSink::new(alloc, devices.put, vec![in alloc; devices.put_fails]?)?;
-    let status = interview(alloc, &words, &mut shelf, &mut source, &mut sink);
+    let checks = CheckTable::new(alloc);
+    let status = interview(alloc, &words, &checks, &mut shelf, &mut source, &mut sink);
     let text = sink.bytes().to_vec(alloc)?;
     Ok(Ended { status, text })
 }
@@ -224,11 +226,13 @@ fn ends_by_the_first_fault(rt: HostRuntime) -> Result<(), Fail> {
 fn other_words_and_other_names(rt: HostRuntime) -> Result<(), Fail> {
     let alloc = rt.alloc();
     let usage = "usage: interview COMMAND ARGUMENTS\n";
-    let cases: [(&[&str], Status, &str); 5] = [
+    let cases: [(&[&str], Status, &str); 7] = [
         (&["frob"], Status::Usage, usage),
         (&[], Status::Usage, usage),
         (&["run"], Status::Usage, usage),
         (&["run", "d", "d"], Status::Usage, usage),
+        (&["check"], Status::Usage, usage),
+        (&["check", "d", "d"], Status::Usage, usage),
         (&["run", "x"], Status::FetchFault, ""),
     ];
     for (words, status, text) in cases {

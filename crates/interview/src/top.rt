@@ -1,20 +1,20 @@
 // The top call: all that the program does, over the words of its command line and what it sees of the outside.
-ghost use Rattle.std.specs.Prelude.{◌≡◌, IfOk, IfErr};
+ghost use Rattle.std.specs.Prelude.{◌≡◌, ℕ, List, map, IfOk, IfErr};
 ghost use Rattle.interview.specs.Words.{texts};
-ghost use Rattle.interview.specs.Ends.{ScriptEnds, Ends, Interviewed, FetchedAs, NotFetched, EndedBy};
+ghost use Rattle.interview.specs.Ends.{ScriptEnds, Ends, Interviewed, FetchedAs, NotFetched};
 
 use crate::Status;
-use crate::dictionary::Dictionary;
+use crate::amounts::Dictionary;
+use crate::checking::check;
+use crate::ending::{DICTIONARY_LIMIT, end_by};
 use crate::json::{DictionaryFault, read_dictionary};
 use crate::script::run;
 use crate::session::Session;
-use crate::words::run_name;
+use crate::words::{Form, form_of};
 use fact_values::NoMemory;
-use fg_io::{Failed, FetchFault, Shelf, Sink, Source, put_all};
+use fg_io::{FetchFault, Shelf, Sink, Source};
 use std::alloc::Global;
-
-/// The most bytes of a dictionary.
-const DICTIONARY_LIMIT: u64 = 8_388_608;
+use text_checks::CheckTable;
 
 // Fetches the dictionary of this name. None is one that is refused.
 fn fetch<H: Shelf>(alloc: Global, shelf: &mut H, name: &str) -> Result<Option<Dictionary>, Status>
@@ -31,16 +31,6 @@ fn fetch<H: Shelf>(alloc: Global, shelf: &mut H, name: &str) -> Result<Option<Di
         Ok(dictionary) => Ok(Some(dictionary)),
         Err(DictionaryFault::Refused) => Ok(None),
         Err(DictionaryFault::NoMemory) => Err(Status::NoMemory),
-    }
-}
-
-// Writes a text that ends the interview.
-fn end_by<K: Sink>(out: &mut K, text: &str, status: Status) -> Status
-    ensures { EndedBy (K.taken out.old) (K.taken out.new) (K.faults out.old) (K.faults out.new) text.now status result }
-{
-    match put_all(out, text.as_bytes()) {
-        Ok(()) => status,
-        Err(Failed) => Status::WriteFault,
     }
 }
 
@@ -69,12 +59,13 @@ fn run_over<S: Source, K: Sink>(
 fn attempt<H: Shelf, S: Source, K: Sink>(
     alloc: Global,
     words: &[String],
+    checks: &CheckTable,
     shelf: &mut H,
     script: &mut S,
     out: &mut K,
 ) -> Status
     ensures ends { Ends
-        (record { words = texts words.now; told = H.told shelf.old; left = S.left script.old })
+        (record { words = texts words.now; checks = map {B = List ℕ} (λ c. c.name) checks.now.checks.items; told = H.told shelf.old; left = S.left script.old })
         (record {
           shelf = record { before = H.faults shelf.old; after = H.faults shelf.new };
           failed_name = H.failed_name shelf.new;
@@ -87,32 +78,35 @@ fn attempt<H: Shelf, S: Source, K: Sink>(
         })
         result }
 {
-    let Some(name) = run_name(words) else {
-        return end_by(out, "usage: interview COMMAND ARGUMENTS\n", Status::Usage);
-    };
-    match fetch(alloc, shelf, name) {
-        Ok(Some(dictionary)) => run_over(alloc, dictionary, script, out),
-        Ok(None) => end_by(
-            out,
-            "dictionary refused 3 Shape fact 0\n",
-            Status::DictionaryRefused,
-        ),
-        Err(status) => status,
+    match form_of(words) {
+        Form::Run(name) => match fetch(alloc, shelf, name) {
+            Ok(Some(dictionary)) => run_over(alloc, dictionary, script, out),
+            Ok(None) => end_by(
+                out,
+                b"dictionary refused 3 Shape fact 0\n",
+                Status::DictionaryRefused,
+            ),
+            Err(status) => status,
+        },
+        Form::Check(name) => check(alloc, name, checks, shelf, out),
+        Form::Unknown => end_by(out, b"usage: interview COMMAND ARGUMENTS\n", Status::Usage),
     }
 }
 
-/// Does all that the program does, over the words of its command line, without the program's name.
+/// Does all that the program does, over the words of its command line, without the program's name. The checks are those
+/// that a dictionary may name.
 ///
 /// A dictionary has at most 8,388,608 bytes, a script at most 67,108,864.
 pub fn interview<H: Shelf, S: Source, K: Sink>(
     alloc: Global,
     words: &[String],
+    checks: &CheckTable,
     shelf: &mut H,
     script: &mut S,
     out: &mut K,
 ) -> Status
     ensures { Interviewed
-        (record { words = texts words.now; told = H.told shelf.old; left = S.left script.old })
+        (record { words = texts words.now; checks = map {B = List ℕ} (λ c. c.name) checks.now.checks.items; told = H.told shelf.old; left = S.left script.old })
         (record {
           shelf = record { before = H.faults shelf.old; after = H.faults shelf.new };
           failed_name = H.failed_name shelf.new;
@@ -125,5 +119,5 @@ pub fn interview<H: Shelf, S: Source, K: Sink>(
         })
         result }
 {
-    attempt(alloc, words, shelf, script, out)
+    attempt(alloc, words, checks, shelf, script, out)
 }
