@@ -1,9 +1,0 @@
-use Rattle.std.proofs.Common.{arith, ◌≡◌, ◌∙◌, sym, rules}
-use Rattle.std.specs.Prelude.{codes}
-use Rattle.interview.proofs.TopLaws.{two_words}
-use Rattle.interview.proofs.words.run_name.Goals as goal
-
-pub returns-in-len2 : goal.returns-in-len2
-returns-in-len2 c =
-    let same : c.as_str.result.now ≡ codes "run" = search rules in
-    rw c.as_str-in-len2.ensures.value (two_words c.args.words.now c.command-item.result c.name-item.result _ (omega arith) (omega arith) c.command-item.is c.name-item.is (sym c.as_str.ensures.value ∙ same))
