@@ -14,7 +14,7 @@ use Rattle.dict_tree.specs.Targets.{targets}
 use Rattle.dict_tree.specs.declared.mentions.Mention.{Mention}
 use Rattle.dict_order.specs.Graph.{mentioned}
 use Rattle.dict_order.specs.MentionGraph.{facts_of}
-use Rattle.evaluation.specs.Order.{has_no_complete_test, is_value_read, reads_pass, reads_pass_in_all, reads_pass_in_cases}
+use Rattle.evaluation.specs.Order.{has_no_complete_test, is_value_read, reads_pass_in_all, reads_pass_in_cases}
 use Rattle.dictionary.specs.Steady.{bodies_from, body_graph, body_mentions, body_untested, conditional_untested, is_untested, option_untested, steady_over}
 use Rattle.dictionary.specs.SteadyReading.{steady_body, steady_cases, steady_conditional, steady_option, steady_source, steady_target, steady_trees, steady_use}
 

@@ -1,6 +1,6 @@
 -- Lists of checks, and whether they are the same.
 use Rattle.std.proofs.Common.{◌≡◌, ◌≢◌, ℕ, suc, Bool, true, false, List, [], ◌∷◌, length, inl, inr, refl, sym, ap, ◌∙◌}
-use Rattle.std.specs.Prelude.{◌&&◌, ◌==◌, ◌⊎◌, ◌↔◌, IsTrue, bytes_eq}
+use Rattle.std.specs.Prelude.{◌==◌, ◌⊎◌, ◌↔◌, IsTrue, bytes_eq}
 use Rattle.std.proofs.lemmas.Bool.{and_from, and_parts, and_right, both_ways, eq-eqb, eqb-true}
 use Rattle.std.proofs.lemmas.Slice.Eq.{bytes_eq-Decides}
 use Rattle.dict_tree.specs.Dictionary.{Dictionary as Tree}

@@ -83,13 +83,6 @@ test_standing d a test all s there = test_at test (standing d a) all s (listed_s
 
 -- ---- what is there
 
--- both are equal, or neither is there
-same_equal : {A : Type 0} (same : A → A → Bool) → ((x y : A) → IsTrue (same x y) ↔ (x ≡ y)) → (o p : Option A) → IsTrue (both_same same o p) → p ≡ o
-same_equal same tells None None h = refl
-same_equal same tells (Some x) (Some y) h = ap (λ z. Some z) (sym ((tells x y).0 h))
-same_equal same tells None (Some y) h = absurd (cc)
-same_equal same tells (Some x) None h = absurd (cc)
-
 equal_same : {A : Type 0} (same : A → A → Bool) → ((x y : A) → IsTrue (same x y) ↔ (x ≡ y)) → (o : Option A) → IsTrue (both_same same o o)
 equal_same same tells None = refl
 equal_same same tells (Some x) = (tells x x).1 refl
@@ -105,6 +98,13 @@ equal_kept same tells (Some w) p h = rw (h w refl) ((tells w w).1 refl)
 
 -- ---- the test tells
 
+-- both are equal, or neither is there
+pub same_option : {A : Type 0} (same : A → A → Bool) → ((x y : A) → same x y ≡ true → x ≡ y) → (x y : Option A) → both_same same x y ≡ true → x ≡ y
+same_option same tells None None h = refl
+same_option same tells (Some x) (Some y) h = ap (λ z. Some z) (tells x y h)
+same_option same tells None (Some y) h = absurd (cc)
+same_option same tells (Some x) None h = absurd (cc)
+
 -- answers and overrides stand in slots that stand
 is_placed : (d : Tree) (a : Answered) → AnswersFit d a → (side : Side) (s : Slot) (v : Value) → value_of side a s ≡ Some v → IsTrue (stands d a s)
 is_placed d a fits side s v e = (both (stands d a s) (takes side d s.fact) (fits.placed side s (rw e refl))).0
@@ -114,7 +114,7 @@ same_overrides : (d : Tree) (a b : Answered) → AnswersFit d a → AnswersFit d
 same_overrides d a b fa fb ha hb s = by (value_of Override a s) (value_of Override b s) refl refl
   where
     told : IsTrue (same_override a b s) → value_of Override b s ≡ value_of Override a s
-    told = same_equal value_same value_same-Decides (value_of Override a s) (value_of Override b s)
+    told h = sym (same_option value_same (λ v w. (value_same-Decides v w).0) (value_of Override a s) (value_of Override b s) h)
 
     by : (o p : Option Value) → value_of Override a s ≡ o → value_of Override b s ≡ p → value_of Override b s ≡ value_of Override a s
     by (Some v) p e k = told (test_standing d a (same_override a b) ha s (is_placed d a fa Override s v e))

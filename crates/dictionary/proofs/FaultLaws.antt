@@ -1,5 +1,5 @@
 -- The faults that the parts of acceptance find are those of the dictionary.
-use Rattle.std.proofs.Common.{◌≡◌, ℕ, List, Result, Ok, Err, sym, subst}
+use Rattle.std.proofs.Common.{◌≡◌, ℕ, List, Ok, Err, sym, subst}
 use Rattle.dict_tree.specs.Dictionary.{Dictionary as Tree}
 use Rattle.dict_tree.specs.DictReading.{BytesGive}
 use Rattle.dict_tree.specs.declared.fault.TreeFault.{TreeFault}

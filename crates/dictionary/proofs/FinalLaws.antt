@@ -1,5 +1,5 @@
 -- A final result stays under every extension.
-use Rattle.std.proofs.Common.{◌≡◌, ℕ, zero, suc, Bool, true, false, ◌&&◌, ◌||◌, nat_eq, nat_lt, if◌then◌else◌, IsTrue, is_some, List, [], ◌∷◌, ◌++◌, Option, Some, None, option_map, unwrap_or, inl, inr, refl, sym, ap, subst, ◌∙◌}
+use Rattle.std.proofs.Common.{◌≡◌, ℕ, zero, suc, Bool, true, false, ◌&&◌, ◌||◌, nat_eq, nat_lt, if◌then◌else◌, IsTrue, is_some, List, [], ◌∷◌, ◌++◌, Option, Some, None, option_map, unwrap_or, refl, sym, ap, subst, ◌∙◌}
 use Rattle.std.specs.List.{list_any}
 use Rattle.std.specs.FinMap as map
 use Rattle.fact_values.specs.declared.slot.Slot.{Slot}
@@ -11,7 +11,6 @@ use Rattle.dict_tree.specs.Finding.{fact_at}
 use Rattle.dict_tree.specs.Mentions.{conditional_mentions, mentions, option_mentions}
 use Rattle.dict_tree.specs.declared.mentions.Mention.{Mention}
 use Rattle.dict_order.specs.Graph.{Has, mentioned}
-use Rattle.dict_order.specs.MentionGraph.{facts_of}
 use Rattle.three_state.specs.declared.res.Res.{Res}
 use Rattle.three_state.specs.declared.res.Res.TheVariants.{Complete, Placeholder, Incomplete, Fault}
 use Rattle.three_state.specs.Order.{Keeps}
@@ -31,15 +30,11 @@ use Rattle.dictionary.specs.Reading.{Look}
 use Rattle.dictionary.specs.Slots.{is_member, stands, stands_of}
 use Rattle.dictionary.specs.Steady.{body_graph, body_mentions, body_untested, conditional_untested, option_untested, steady}
 use Rattle.dictionary.proofs.KeepsLaws.{KeepsMaybe, KeepsOf, OfFact, expression_keeps}
+use Rattle.dictionary.proofs.FactMentions.{all_facts}
 use Rattle.dictionary.proofs.BodyGraph.{found_body, mentioned_by_body}
 use Rattle.dictionary.proofs.SteadyLaws.{parts, steady_mentioned}
 
 -- ---- a body
-
--- what holds of the fact of each mention
-of_facts : (P : ℕ → Type 0) (ms : List Mention) → ((x : ℕ) → Has (facts_of ms) x → P x) → AllOf (OfFact P) ms
-of_facts P [] h = tt
-of_facts P (m ∷ ms) h = (h m.fact (inl refl), of_facts P ms (λ x i. h x (inr i)))
 
 -- the body of an untested fact is untested
 body_is_untested : (c : Option SourceCase) (t : Source) → IsTrue (has_no_complete_test t) → IsTrue (conditional_untested c) → IsTrue (has_no_complete_test (conditional_body c t))
@@ -84,7 +79,7 @@ steady_body names d accepted fact f e h =
     let graph_is : mentioned (body_graph d.tree) fact ≡ body_mentions d.tree fact f = mentioned_by_body d.tree fact ∙ ap (found_body d.tree fact) e in
     body_is (IsSteadyFact d) d.tree fact f.main f.conditional
     (subst (λ (o : Option Fact). IsTrue (body_untested o)) e (parts d.tree d.ranks accepted.ranked fact h).0)
-    (of_facts (IsSteadyFact d) (option_mentions d.tree fact f.main ++ conditional_mentions d.tree fact f.conditional)
+    (all_facts (IsSteadyFact d) (option_mentions d.tree fact f.main ++ conditional_mentions d.tree fact f.conditional)
     (λ x i. steady_mentioned d.tree d.ranks accepted.ranked fact x h (subst (λ (l : List ℕ). Has l x) (sym graph_is) i)))
 
 -- ---- a slot

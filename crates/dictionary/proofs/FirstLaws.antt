@@ -1,14 +1,12 @@
 -- Bytes have one first fault at most, or they spell one dictionary, which has none.
-use Rattle.std.proofs.Common.{◌≡◌, ℕ, ◌<◌, ◌≤◌, List, length, Option, Some, Result, Ok, Err, ◌⊎◌, inl, inr, refl, sym, ap, subst, ◌∙◌, arith}
+use Rattle.std.proofs.Common.{◌≡◌, ℕ, ◌<◌, ◌≤◌, List, length, Some, Result, Ok, Err, ◌⊎◌, inl, inr, refl, sym, ap, subst, ◌∙◌, arith}
 use Rattle.serde_json.specs.Data.{Data}
-use Rattle.serde_json.specs.Read.{read}
 use Rattle.dict_tree.specs.Dictionary.{Dictionary as Tree}
-use Rattle.dict_tree.specs.DictReading.{BytesGive, IsJson, IsOfValue, dictionary_of, max_bytes}
+use Rattle.dict_tree.specs.DictReading.{IsJson, IsOfValue, dictionary_of, max_bytes}
 use Rattle.dict_tree.specs.declared.fault.TreeFault.{TreeFault}
 use Rattle.dict_tree.specs.declared.fault.TreeFault.TheVariants as trees
 use Rattle.dict_types.specs.declared.fault.TypeFault.{TypeFault}
 use Rattle.dict_types.specs.declared.fault.TypeFault.TheVariants as types
-use Rattle.dict_types.specs.DictFaults.{IsFirstFault, IsTypedDictionary}
 use Rattle.dict_types.specs.Typed.{typed_dictionary}
 use Rattle.dict_types.specs.TypedParts.{TypedDictionary}
 use Rattle.dict_types.proofs.FoundLaws.{first_is_named, well_typed_is_found}

@@ -1,20 +1,19 @@
 -- Paths of the facts of an accepted dictionary: each is there, and a member's fact has a collection.
 use Rattle.std.proofs.Common.{◌≡◌, ℕ, zero, suc, ◌≤◌, Bool, true, false, List, [], ◌∷◌, length, slice_get, Option, Some, None, is_none, refl, sym, ap, subst, ◌∙◌, arith}
-use Rattle.std.specs.Prelude.{◌||◌, IsTrue, not, option_and_then, option_map, unwrap_or}
+use Rattle.std.specs.Prelude.{◌||◌, IsTrue, option_and_then, unwrap_or}
 use Rattle.std.specs.List.{All}
-use Rattle.std.proofs.lemmas.Bool.{both_ways, not-false, or_left, or_parts, false_from_ne_true}
+use Rattle.std.proofs.lemmas.Bool.{not-false, or_parts, false_from_ne_true}
 use Rattle.std.proofs.lemmas.List.Elements.{All-head, All-tail}
 use Rattle.fact_paths.specs.Paths.{IsFactPath, SpellsFactPath, SpellsSlotPath}
 use Rattle.fact_paths.specs.declared.fact_path.FactPath.{FactPath}
 use Rattle.fact_paths.specs.declared.fact_path.FactPath.TheVariants.{Global, Member}
 use Rattle.fact_paths.specs.declared.slot_path.SlotPath.{SlotPath}
-use Rattle.fact_paths.specs.declared.slot_path.SlotPath.TheVariants as slots
 use Rattle.fact_values.specs.declared.slot.Slot.{Slot}
 use Rattle.dict_tree.specs.Facts.{Fact}
 use Rattle.dict_tree.specs.Dictionary.{Dictionary as Tree}
-use Rattle.dict_tree.specs.Finding.{HasPath, IsFirst, IsNumber, fact_at, find_path}
+use Rattle.dict_tree.specs.Finding.{HasPath, IsFirst, IsNumber, fact_at}
 use Rattle.dict_tree.specs.Forms.{IsReadFrom, IsWellFormed}
-use Rattle.dict_tree.specs.Targets.{collection_at, find_global, member_collection}
+use Rattle.dict_tree.specs.Targets.{find_global, member_collection}
 use Rattle.dict_tree.proofs.FindingLaws.{find_path-first}
 use Rattle.dict_types.specs.FirstFact.{Passes}
 use Rattle.dict_types.specs.NoCollection.{lacks_own_list, names_list}

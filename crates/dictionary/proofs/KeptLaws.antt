@@ -1,5 +1,5 @@
 -- What a dictionary keeps, and what follows of it.
-use Rattle.std.proofs.Common.{◌≡◌, ℕ, zero, suc, ◌<◌, ◌≤◌, Bool, false, List, [], ◌∷◌, length, map, get_or, slice_get, Option, Some, None, Result, Ok, Err, refl, sym, ap, subst, ◌∙◌, arith}
+use Rattle.std.proofs.Common.{◌≡◌, ℕ, zero, suc, ◌<◌, ◌≤◌, Bool, false, List, [], ◌∷◌, length, map, get_or, slice_get, Result, Ok, Err, refl, sym, ap, subst, ◌∙◌, arith}
 use Rattle.std.specs.Prelude.{◌↔◌, option_and_then, unwrap_or, IfErr, IfOk, IsTrue}
 use Rattle.std.proofs.lemmas.List.{get_or_default, length-map}
 use Rattle.dict_tree.specs.Facts.{Fact}
@@ -7,7 +7,6 @@ use Rattle.dict_tree.specs.Dictionary.{Dictionary as Tree}
 use Rattle.dict_tree.specs.DictReading.{BytesGive}
 use Rattle.dict_tree.specs.Finding.{IsNumber}
 use Rattle.dict_tree.specs.Targets.{find_global, member_collection}
-use Rattle.dict_order.specs.MentionGraph.{mention_graph}
 use Rattle.dict_order.specs.Ranks.{rank_of}
 use Rattle.dict_order.proofs.DictionaryLaws.{few_facts, length_mention_graph}
 use Rattle.dictionary.specs.Accepted.{Accepted, IsAccepted, Kept, Named, accepted, names_of}

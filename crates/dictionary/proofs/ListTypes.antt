@@ -26,6 +26,7 @@ use Rattle.evaluation.proofs.Bools.{and_intro, is_not}
 use Rattle.answers.specs.Answered.{Answered, list_of}
 use Rattle.answers.specs.Lists.{IsIn, Once}
 use Rattle.answers.specs.WellFormed.{WellFormed, FromOne}
+use Rattle.answers.proofs.StandLaws.{none_some}
 use Rattle.dictionary.specs.Fits.{domains}
 use Rattle.dictionary.specs.Slots.{is_member}
 
@@ -51,10 +52,6 @@ once_distinct (x ∷ ms) h =
     and_intro (not (list_any (λ other. other == x) ms)) (values.are_distinct ms) (is_not (list_any (λ other. other == x) ms) (turned x ms ∙ h.0)) (once_distinct ms h.1)
 
 -- ---- members of answers
-
-none_some : {X : Type 0} (o : Option X) → o ≡ None → IsSome o → ⊥
-none_some None e h = absurd cc
-none_some (Some x) e h = absurd cc
 
 below_next : (a : Answered) → WellFormed a → (m : ℕ) → IsSome (map.get a.members m) → m < a.next
 below_next a well m h = elim (cases_lt m a.next) [

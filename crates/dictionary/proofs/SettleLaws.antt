@@ -1,14 +1,14 @@
 -- Steady facts become known by rising rank.
-use Rattle.std.proofs.Common.{◌≡◌, ℕ, zero, suc, ◌+◌, ◌-◌, ◌<◌, ◌≤◌, Bool, false, List, length, get_or, set, refl, sym, ap, subst, ◌∙◌, inl, inr, arith}
+use Rattle.std.proofs.Common.{◌≡◌, ℕ, zero, suc, ◌+◌, ◌-◌, ◌<◌, ◌≤◌, Bool, false, List, length, get_or, set, refl, sym, ap, ◌∙◌, inl, inr, arith}
 use Rattle.std.proofs.lemmas.Bool.{cases_eq}
 use Rattle.std.proofs.lemmas.List.{get_or-set_same, get_or-set_other}
 use Rattle.dict_tree.specs.Dictionary.{Dictionary as Tree}
-use Rattle.dict_tree.specs.Finding.{IsNumber, fact_at}
+use Rattle.dict_tree.specs.Finding.{fact_at}
 use Rattle.dict_order.specs.Graph.{Mentions}
 use Rattle.dict_order.specs.MentionGraph.{mention_graph}
 use Rattle.dict_order.specs.Ranks.{AreRanks}
 use Rattle.dictionary.specs.ByRank.{AreByRank}
-use Rattle.dictionary.specs.Steady.{body_graph, steady_by_rank, steady_over}
+use Rattle.dictionary.specs.Steady.{body_graph, steady_by_rank}
 use Rattle.dictionary.specs.SteadyReading.{TellsSteady, known_at, steady_body}
 use Rattle.dictionary.proofs.BodyLaws.{steady_body_is}
 use Rattle.dict_order.proofs.DictionaryLaws.{length_mention_graph}

@@ -1,5 +1,5 @@
 -- Which facts are steady: the test by rank tells, and it follows from the facts that a body mentions.
-use Rattle.std.proofs.Common.{◌≡◌, ℕ, zero, suc, ◌+◌, ◌<◌, ◌≤◌, Bool, true, false, List, [], ◌∷◌, ◌++◌, map, get_or, ◌⊎◌, inl, inr, refl, sym, ap, subst, ◌∙◌, arith}
+use Rattle.std.proofs.Common.{◌≡◌, ℕ, zero, suc, ◌<◌, Bool, true, List, [], ◌∷◌, ◌++◌, get_or, inl, inr, refl, sym, ap, ◌∙◌, arith}
 use Rattle.std.specs.Prelude.{◌&&◌, IsTrue, ◌↔◌}
 use Rattle.std.specs.List.{list_all}
 use Rattle.std.proofs.lemmas.Bool.{and_from, and_parts}
@@ -7,12 +7,11 @@ use Rattle.dict_tree.specs.Facts.{Fact}
 use Rattle.dict_tree.specs.Dictionary.{Dictionary as Tree}
 use Rattle.dict_tree.specs.Mentions.{conditional_mentions, option_mentions}
 use Rattle.dict_tree.specs.declared.mentions.Mention.{Mention}
-use Rattle.dict_order.specs.Graph.{Graph, Has, Leads, Mentions, Reaches, mentioned}
+use Rattle.dict_order.specs.Graph.{Has, Leads, Mentions, mentioned}
 use Rattle.dict_order.specs.MentionGraph.{facts_of, graph_from, mention_graph}
 use Rattle.dict_order.specs.Ranks.{AreRanks, rank_of}
 use Rattle.dict_order.proofs.RankLaws.{falls_once}
-use Rattle.dictionary.specs.Accepted.{Accepted, IsAccepted}
-use Rattle.dictionary.specs.Steady.{IsSteady, bodies_from, body_graph, body_mentions, is_untested, steady, steady_by_rank, steady_over, steady_within}
+use Rattle.dictionary.specs.Steady.{IsSteady, bodies_from, body_graph, is_untested, steady_by_rank, steady_over, steady_within}
 
 -- ---- what a body mentions is mentioned
 

@@ -25,7 +25,7 @@ use Rattle.dictionary.specs.Plain.{at_fact, body, given_value, open_list, plain,
 use Rattle.dictionary.specs.Reading.{outermost}
 use Rattle.dictionary.specs.Slots.{stands}
 use Rattle.dictionary.specs.Touched.{has_moved, is_fed, same_entry, UntouchedKeeps}
-use Rattle.dictionary.proofs.ExtensionLaws.{test_tells_extends}
+use Rattle.dictionary.proofs.ExtensionLaws.{same_option, test_tells_extends}
 use Rattle.dictionary.proofs.FactMentions.{EachUse, uses_of_fact}
 use Rattle.dictionary.proofs.FinalLaws.{final_stays}
 use Rattle.dictionary.proofs.PlainLaws.{plain_is_recursive}
@@ -88,12 +88,6 @@ module _ (names : List (List ℕ)) (d : Accepted) (accepted : IsAccepted names d
 not_false : (b : Bool) → not b ≡ false → IsTrue b
 not_false true h = refl
 not_false false h = absurd (cc)
-
-same_option : {A : Type 0} (same : A → A → Bool) → ((x y : A) → same x y ≡ true → x ≡ y) → (x y : Option A) → both_same same x y ≡ true → x ≡ y
-same_option same tells None None h = refl
-same_option same tells (Some x) (Some y) h = ap (λ z. Some z) (tells x y h)
-same_option same tells None (Some y) h = absurd (cc)
-same_option same tells (Some x) None h = absurd (cc)
 
 unmoved : (d : Accepted) (a b : Answered) (s t : Slot) → (feeds d.tree t s && has_moved d a b t) ≡ false → IsTrue (feeds d.tree t s) → Stays d a b t
 unmoved d a b s t h f x y =

@@ -4,7 +4,7 @@ use Rattle.fact_paths.specs.declared.use_path.UsePath.{UsePath}
 use Rattle.dict_tree.specs.Tree.{Source, Sources, SourceCase, SourceCases, literal, read, switch, many, one, two, pick, no_trees, tree, no_cases, a_case}
 use Rattle.dict_tree.specs.Facts.{Fact}
 use Rattle.dict_tree.specs.Dictionary.{Dictionary as Tree}
-use Rattle.dict_tree.specs.Finding.{IsNumber, fact_at}
+use Rattle.dict_tree.specs.Finding.{IsNumber}
 use Rattle.dict_tree.specs.Mentions.{condition_base}
 use Rattle.dict_tree.specs.Targets.{targets}
 use Rattle.evaluation.specs.Order.{is_value_read}

@@ -1,4 +1,4 @@
-use Rattle.std.proofs.Common.{◌≡◌, ◌≤◌, Bool, List, length, get_or, ap, arith, length-set, refl, ◌∙◌}
+use Rattle.std.proofs.Common.{◌≤◌, Bool, List, length, get_or, ap, arith, length-set, refl, ◌∙◌}
 use Rattle.dict_tree.specs.Dictionary.{dictionary_view}
 use Rattle.dictionary.specs.SteadyReading.{known_at}
 use Rattle.dictionary.proofs.SettleLaws.{all_known, settled}
