@@ -88,7 +88,8 @@ pub fn constant_type(
 
 // ---- the values of the constants among nodes
 
-fn found_value(
+/// The value that a constant's text spells, or none where it spells none of the constant's type.
+pub fn constant_value(
     alloc: Global,
     enums: &EnumLists,
     constant: &Constant,
@@ -110,7 +111,7 @@ fn note_constant(
 ) -> Result<(), NoMemory>
     ensures { OnOk result (out.new.items ≡ out.old.items ++ literal_value enums.now (literal_of constant.now) ∷ []) }
 {
-    let found = found_value(alloc, enums, constant)?;
+    let found = constant_value(alloc, enums, constant)?;
     out.push(found)?;
     Ok(())
 }

@@ -27,10 +27,12 @@ mod uses;
 mod wrong_place;
 
 pub use checking::check;
+pub use constants::constant_value;
 pub use fault::TypeFault;
 pub use laws::{
     the_fault_is_first, the_first_is_least, the_first_node_is_named, typed_is_well_typed,
     types_are_inferred, values_are_of_nodes,
 };
 pub use limit::Limit;
+pub use stated_types::type_at;
 pub use typed::Typed;
