@@ -1,0 +1,4 @@
+pub mod EvalLaws
+pub mod FillingLaws
+pub mod WholeLaws
+pub mod WorkLaws

@@ -1,0 +1,65 @@
+-- How much work it is to fill the whole table, whatever the order of the facts.
+use Rattle.std.proofs.Common.{◌≡◌, ℕ, zero, suc, ◌+◌, List, [], ◌∷◌, map, length, sum_by, Option, Some, None, refl, sym, ap, ◌∙◌, arith, add-one}
+use Rattle.std.specs.List.{range_with_len}
+use Rattle.std.proofs.lemmas.List.Sums.{sum_by-append, sum_by-cons}
+use Rattle.std.proofs.lemmas.List.Sorted.{sum_by-IsPermutation}
+use Rattle.std.proofs.lemmas.List.FromFn.{sum_by-map-range_with_len_more}
+use Rattle.fact_values.specs.declared.slot.Slot.{Slot}
+use Rattle.dict_tree.specs.Facts.{Fact}
+use Rattle.dict_tree.specs.Finding.{fact_at}
+use Rattle.dict_tree.specs.Tree.{Source}
+use Rattle.dict_tree.specs.Dictionary.{Dictionary as Tree}
+use Rattle.answers.specs.Answered.{Answered}
+use Rattle.dictionary.specs.Accepted.{Accepted, IsAccepted}
+use Rattle.dictionary.specs.ByRank.{AreByRank}
+use Rattle.dictionary.specs.Plain.{IsPlainBelow, at_fact, body, rank}
+use Rattle.dictionary.specs.Reading.{slot}
+use Rattle.dictionary.specs.Slots.{slots_of, slots_up_to, standing}
+use Rattle.dictionary.specs.Weights.{slot_weight, whole_weight}
+use Rattle.dictionary.proofs.WeightLaws.{fact_weight, weight_over, weight_over_lower}
+use Rattle.plain_table.specs.Ground.{look_on, option_weight, tree_of}
+use Rattle.plain_table.specs.declared.ground.Ground.{Ground}
+
+-- ---- one slot
+
+weighs_alike : (g : Ground) (m : ℕ) (t : Option Source) → option_weight g m t ≡ weight_over (tree_of g) (look_on g) (slot g.fact m) t
+weighs_alike g m None = refl
+weighs_alike g m (Some t) = refl
+
+pub slot_weighs : (names : List (List ℕ)) (d : Accepted) → IsAccepted names d → (a : Answered) (g : Ground) (m : ℕ) (f : Fact) → tree_of g ≡ d.tree → fact_at d.tree.facts g.fact ≡ Some f
+    → IsPlainBelow d a (rank d g.fact) (look_on g) → option_weight g m (body f) + option_weight g m f.placeholder ≡ slot_weight d a (slot g.fact m)
+slot_weighs names d accepted a g m f same e below =
+    ap (λ n. n + option_weight g m f.placeholder) (weighs_alike g m (body f))
+    ∙ ap (λ n. weight_over (tree_of g) (look_on g) (slot g.fact m) (body f) + n) (weighs_alike g m f.placeholder)
+    ∙ ap (λ (t : Tree). fact_weight t (look_on g) (slot g.fact m) f) same
+    ∙ sym (ap (λ (o : Option Fact). at_fact o 0 (fact_weight d.tree (look_on g) (slot g.fact m))) e)
+    ∙ weight_over_lower names d accepted a (look_on g) (slot g.fact m) below
+
+-- ---- sums
+
+sum_mapped : {X Y : Type 0} (w : Y → ℕ) (f : X → Y) (xs : List X) → sum_by w (map f xs) ≡ sum_by (λ x. w (f x)) xs
+sum_mapped w f [] = refl
+sum_mapped w f (x ∷ xs) =
+    sum_by-cons w (f x) (map f xs) ∙ ap (λ n. w (f x) + n) (sum_mapped w f xs) ∙ sym (sum_by-cons (λ y. w (f y)) x xs)
+
+-- the slots of a fact, member by member
+pub members_work : (d : Accepted) (a : Answered) (fact : ℕ) (ms : List ℕ) → sum_by (slot_weight d a) (map (slot fact) ms) ≡ sum_by (λ m. slot_weight d a (slot fact m)) ms
+members_work d a fact ms = sum_mapped (slot_weight d a) (slot fact) ms
+
+up_to_work : (d : Tree) (a : Answered) (w : Slot → ℕ) (n : ℕ) → sum_by w (slots_up_to d a n) ≡ sum_by (sum_by w) (map (slots_of d a) (range_with_len 1 n))
+up_to_work d a w zero = refl
+up_to_work d a w (suc n) =
+    sum_by-append w (slots_up_to d a n) (slots_of d a (suc n))
+    ∙ ap (λ k. k + sum_by w (slots_of d a (suc n))) (up_to_work d a w n)
+    ∙ sym (sum_by-map-range_with_len_more (sum_by w) (slots_of d a) 1 n (suc n) (omega arith))
+    ∙ ap (λ (k : ℕ). sum_by (sum_by w) (map (slots_of d a) (range_with_len 1 k))) (add-one n)
+
+-- in the order of the ranks
+pub whole_work : (d : Accepted) (a : Answered) (order : List ℕ) → AreByRank d.ranks order → length d.ranks ≡ length d.tree.facts
+    → sum_by (λ n. sum_by (slot_weight d a) (slots_of d.tree a n)) order ≡ whole_weight d a
+unfolding standing
+whole_work d a order by_rank count =
+    sum_by-IsPermutation (λ n. sum_by (slot_weight d a) (slots_of d.tree a n)) (range_with_len 1 (length d.ranks)) order by_rank.each_once
+    ∙ ap (λ (k : ℕ). sum_by (λ n. sum_by (slot_weight d a) (slots_of d.tree a n)) (range_with_len 1 k)) count
+    ∙ sym (sum_mapped (sum_by (slot_weight d a)) (slots_of d.tree a) (range_with_len 1 (length d.tree.facts)))
+    ∙ sym (up_to_work d.tree a (slot_weight d a) (length d.tree.facts))

@@ -1,0 +1,44 @@
+use Rattle.std.proofs.Common.{ℕ, ◌+◌, ◌≤◌, Some, sym, ap, subst, ◌∙◌}
+use Rattle.std.proofs.lemmas.Result.{on_ok_weaker}
+use Rattle.dict_tree.specs.Dictionary.{Written, dictionary_view}
+use Rattle.dict_tree.specs.Facts.{fact_view}
+use Rattle.dict_tree.specs.Finding.{fact_at}
+use Rattle.three_state.specs.declared.res.Res.{Res}
+use Rattle.answers.specs.Standing.{answered}
+use Rattle.dictionary.specs.Accepted.{accepted, names_of}
+use Rattle.dictionary.specs.Plain.{slot_result}
+use Rattle.plain_table.specs.Table.{look_of}
+use Rattle.plain_table.specs.declared.ground.Ground.{Ground}
+use Rattle.plain_table.proofs.FillingLaws.{put_is_filled, result_is_plain}
+use Rattle.plain_table.proofs.WorkLaws.{slot_weighs}
+use Rattle.plain_table.proofs.whole.put_slot.Goals as goal
+
+pub returns-in_err-res-clause-most : goal.returns-in_err-res-clause-most
+returns-in_err-res-clause-most g c =
+    let d = accepted c.args.dict.now in
+    let ground : Ground = record { source = c.source-source.result; fact = c.args.slot.fact; table = record { ref_ptr = c.args.table.ref_ptr; now = c.args.table.now } } in
+    let here = sym (c.in-Some.ensures ∙ ap (λ (w : Written). fact_at (dictionary_view w).facts c.args.slot.fact) c.source-source.ensures.value) in
+    subst (λ (n : ℕ). c.slot_result.new.steps ≤ c.args.steps.now + n)
+    (slot_weighs (names_of c.args.dict.now.checks) d c.source-source.ensures.is_accepted (answered c.args.answers.now) ground c.args.slot.member (fact_view c.in-Some.fact.now) (ap dictionary_view c.source-source.ensures.value) here c.requires.below)
+    c.slot_result.ensures.most
+
+pub returns-clause-filled : goal.returns-clause-filled
+returns-clause-filled g c =
+    let d = accepted c.args.dict.now in
+    let a = answered c.args.answers.now in
+    let look = look_of c.args.table.now in
+    let fact = fact_view c.in-Some.fact.now in
+    let here = sym (c.in-Some.ensures ∙ ap (λ (w : Written). fact_at (dictionary_view w).facts c.args.slot.fact) c.source-source.ensures.value) in
+    let plain =
+    ap (λ (r : Res). Some r) (c.in_ok-res.ensures.value ∙ ap (λ (w : Written). slot_result (dictionary_view w) a look c.args.slot fact) c.source-source.ensures.value)
+    ∙ result_is_plain (names_of c.args.dict.now.checks) d c.source-source.ensures.is_accepted a look c.args.slot fact here c.requires.stands c.requires.below in
+    on_ok_weaker c.put.result (put_is_filled d a look (look_of c.put.new.self) c.args.slot.fact c.args.slot.member c.in_ok-res.res plain) c.put.ensures
+
+pub returns-clause-most : goal.returns-clause-most
+returns-clause-most g c =
+    let d = accepted c.args.dict.now in
+    let ground : Ground = record { source = c.source-source.result; fact = c.args.slot.fact; table = record { ref_ptr = c.args.table.ref_ptr; now = c.args.table.now } } in
+    let here = sym (c.in-Some.ensures ∙ ap (λ (w : Written). fact_at (dictionary_view w).facts c.args.slot.fact) c.source-source.ensures.value) in
+    subst (λ (n : ℕ). c.slot_result.new.steps ≤ c.args.steps.now + n)
+    (slot_weighs (names_of c.args.dict.now.checks) d c.source-source.ensures.is_accepted (answered c.args.answers.now) ground c.args.slot.member (fact_view c.in-Some.fact.now) (ap dictionary_view c.source-source.ensures.value) here c.requires.below)
+    c.slot_result.ensures.most

@@ -1,0 +1,54 @@
+use Rattle.std.proofs.Common.{ℕ, ◌+◌, drop, get_or, arith, sum_by}
+use Rattle.answers.specs.Standing.{answered}
+use Rattle.dictionary.specs.Accepted.{accepted, names_of}
+use Rattle.dictionary.specs.Slots.{slots_of}
+use Rattle.dictionary.specs.Weights.{slot_weight}
+use Rattle.dictionary.proofs.ByRankLaws.{fact_at_place}
+use Rattle.dictionary.proofs.KeptLaws.{count_ranks}
+use Rattle.plain_table.specs.Table.{look_of}
+use Rattle.plain_table.proofs.EvalLaws.{members_weigh, next_member}
+use Rattle.plain_table.proofs.WholeLaws.{all_done, below_next, facts_next}
+use Rattle.plain_table.proofs.WorkLaws.{whole_work}
+use Rattle.plain_table.proofs.whole.whole_table.Goals as goal
+
+pub loop-fact-init : goal.loop-fact-init
+loop-fact-init g c =
+    let d = accepted c.args.dict.now in
+    let count = count_ranks (names_of c.args.dict.now.checks) d c.source.ensures.is_accepted in
+    record {
+      done = c.in_ok-table.ensures;
+      most = omega (arith, whole_work d (answered c.args.answers.now) c.by_rank-fact-items.result.now c.by_rank-fact-items.ensures count);
+    }
+
+pub put_fact-requires-clause-number : goal.put_fact-requires-clause-number
+put_fact-requires-clause-number g c =
+    let d = accepted c.args.dict.now in
+    let place = fact_at_place d.ranks c.by_rank-fact-items.result.now c.loop-fact.fact-index c.by_rank-fact-items.ensures c.loop-fact-test.true in
+    let count = count_ranks (names_of c.args.dict.now.checks) d c.source.ensures.is_accepted in
+    (place.0, omega (arith, place.1, count))
+
+pub put_fact-requires-clause-below : goal.put_fact-requires-clause-below
+put_fact-requires-clause-below g c =
+    let d = accepted c.args.dict.now in
+    let count = count_ranks (names_of c.args.dict.now.checks) d c.source.ensures.is_accepted in
+    below_next d (answered c.args.answers.now) c.by_rank-fact-items.result.now c.by_rank-fact-items.ensures count c.loop-fact.fact-index (look_of c.loop-fact.table) c.loop-fact-test.true c.loop-fact.invariant.done
+
+pub loop-fact-preserved : goal.loop-fact-preserved
+loop-fact-preserved g c =
+    let d = accepted c.args.dict.now in
+    let a = answered c.args.answers.now in
+    let order = c.by_rank-fact-items.result.now in
+    let i = c.loop-fact.fact-index in
+    let count = count_ranks (names_of c.args.dict.now.checks) d c.source.ensures.is_accepted in
+    let work = λ (n : ℕ). sum_by (slot_weight d a) (slots_of d.tree a n) in
+    let weigh = members_weigh work (drop i order) (drop (i + 1) order) (get_or order i 0) (next_member order i c.loop-fact-test.true) in
+    record {
+      done = facts_next d a order c.by_rank-fact-items.ensures count i (look_of c.loop-fact.table) (look_of c.put_fact.new.table) c.loop-fact-test.true c.loop-fact.invariant.done c.in_ok-put_fact.ensures.filled;
+      most = omega (arith, weigh, c.in_ok-put_fact.ensures.most, c.loop-fact.invariant.most);
+    }
+
+pub returns-clause-all : goal.returns-clause-all
+returns-clause-all g c =
+    let d = accepted c.args.dict.now in
+    let count = count_ranks (names_of c.args.dict.now.checks) d c.source.ensures.is_accepted in
+    all_done d (answered c.args.answers.now) c.by_rank-fact-items.result.now c.by_rank-fact-items.ensures count c.loop-fact.fact-index (look_of c.loop-fact.table) c.loop-fact-test.false c.loop-fact.invariant.done

@@ -1,0 +1,36 @@
+-- How the table is filled: slot by slot, and fact by fact.
+use Rattle.std.specs.Prelude.{◌≡◌, ℕ, ◌&&◌, Bool, nat_eq, if◌then◌else◌, List, None}
+use Rattle.std.specs.List.{list_any}
+use Rattle.fact_values.specs.declared.slot.Slot.{Slot}
+use Rattle.answers.specs.Answered.{Answered}
+use Rattle.dictionary.specs.Accepted.{Accepted}
+use Rattle.dictionary.specs.Engines.{Marks}
+use Rattle.dictionary.specs.Plain.{plain}
+use Rattle.dictionary.specs.Reading.{Look}
+
+-- the same results, but plain evaluation of the slots that pass a test
+abbrev pub filled : Accepted → Answered → Look → (Slot → Bool) → Look
+filled d a look test s = if test s then plain d a s else look s
+
+abbrev pub IsFilled : Accepted → Answered → Look → (Slot → Bool) → Look → Type 0
+IsFilled d a before test after = (s : Slot) → after s ≡ filled d a before test s
+
+-- it is a slot of the fact, at one of these members
+abbrev pub is_at : ℕ → List ℕ → Slot → Bool
+is_at fact ms s = nat_eq s.fact fact && list_any (nat_eq s.member) ms
+
+-- it is a slot of one of these facts
+abbrev pub is_of : List ℕ → Slot → Bool
+is_of facts s = list_any (nat_eq s.fact) facts
+
+-- exactly the slots of these facts have their results
+abbrev pub HasFacts : Accepted → Answered → List ℕ → Look → Type 0
+HasFacts d a facts look = IsFilled d a (λ s. None) (is_of facts) look
+
+-- all have
+abbrev pub HasAll : Accepted → Answered → Look → Type 0
+HasAll d a look = (s : Slot) → look s ≡ plain d a s
+
+-- changes aren't counted
+abbrev pub no_marks : Marks
+no_marks = record { changes = 0; stamps = λ s. 0; touched = 0 }

@@ -1,0 +1,15 @@
+//! The whole table of results, computed anew after each change, in order of rank.
+#![tactic(auto)]
+
+mod eval;
+mod ground;
+mod place;
+mod plain_table;
+mod reads;
+mod slots;
+mod table;
+#[cfg(test)]
+mod tests;
+mod whole;
+
+pub use plain_table::PlainTable;

@@ -1,0 +1,211 @@
+// The result of one slot.
+ghost use Rattle.std.specs.Prelude.{◌≡◌, ◌+◌, ◌≤◌, List, ℕ, option_copied, option_map, IfOk, Some};
+ghost use Rattle.std.specs.FinMap as map;
+ghost use Rattle.answers.specs.Answered.{value_of};
+ghost use Rattle.answers.specs.Standing.{answered};
+ghost use Rattle.answers.specs.WellFormed.{FromOne, WellFormed};
+ghost use Rattle.answers.specs.declared.edit.Side.TheVariants.{Override};
+ghost use Rattle.dict_tree.specs.Facts.{conditional_view, fact_view, stated_view};
+ghost use Rattle.dict_tree.specs.View.{view};
+ghost use Rattle.evaluation.specs.Over.{over, weight};
+ghost use Rattle.fact_values.specs.Members.{IsMemberList};
+ghost use Rattle.dictionary.specs.Plain.{answer_result, body, conditional_body, given_value, main_result, open_list, or_override, or_placeholder, slot_result};
+ghost use Rattle.dictionary.specs.Reading.{outermost, slot};
+ghost use Rattle.plain_table.specs.Ground.{env_of, look_on, option_weight, tree_of};
+
+use crate::eval::eval;
+use crate::ground::Ground;
+use crate::place::Place;
+use answers::Answers;
+use dict_tree::{Conditional, Expr, FactSource, TypeText};
+use fact_values::{Members, NoMemory, Slot, Value};
+use operations::{CaseStep, case_step, taken};
+use std::alloc::Global;
+use std::sync::ledger::Ledger;
+use steps::Steps;
+use three_state::{Res, down};
+
+// An answer, or none.
+fn answer_result(alloc: Global, answer: Option<&Value>) -> Result<Res, NoMemory>
+    ensures { IfOk result (λ r. r ≡ answer_result (option_copied answer.entry)) }
+{
+    match answer {
+        None => Ok(Res::Incomplete),
+        Some(value) => Ok(Res::Complete(value.copy(alloc)?)),
+    }
+}
+
+// The members of an open collection, or none.
+fn list_result(alloc: Global, list: Option<&[u32]>) -> Result<Res, NoMemory>
+    requires { (ms : List ℕ) → option_copied list ≡ Some ms → IsMemberList ms }
+    ensures { IfOk result (λ r. r ≡ answer_result (open_list (option_copied list.entry))) }
+{
+    match list {
+        None => Ok(Res::Incomplete),
+        Some(list) => {
+            let members = Members::new(Vec::from_slice(alloc, list)?).unwrap();
+            Ok(Res::Complete(Value::Members(members)))
+        }
+    }
+}
+
+// What a person gave to the slot of a writable fact.
+fn given_result(
+    alloc: Global,
+    answers: &Answers,
+    slot: Slot,
+    stated: &TypeText,
+) -> Result<Res, NoMemory>
+    requires well { WellFormed (answered answers.now) }
+    requires from_one { FromOne (answered answers.now) }
+    ensures { IfOk result (λ r. r ≡ answer_result (given_value (stated_view stated.now) (answered answers.now) slot)) }
+{
+    match stated {
+        TypeText::WritableList => list_result(alloc, answers.members(slot.fact)),
+        TypeText::Scalar(_) => answer_result(alloc, answers.value(slot)),
+        TypeText::EnumOf(_) => answer_result(alloc, answers.value(slot)),
+        TypeText::ListOf(_) => answer_result(alloc, answers.value(slot)),
+        TypeText::ItemOf(_) => answer_result(alloc, answers.value(slot)),
+    }
+}
+
+// The value of the conditional where its condition is true, else the main expression.
+fn eval_conditional<L: Ledger>(
+    alloc: Global,
+    ground: &Ground,
+    at: Place,
+    pair: &Conditional,
+    main: &Expr,
+    steps: &mut Steps<L>,
+) -> Result<Res, NoMemory>
+    ensures value { IfOk result (λ r. r ≡ over (env_of ground.now) at (conditional_body (Some (conditional_view pair.now)) (view main.now))) }
+    ensures most { steps.new ≤ steps.old + weight (env_of ground.now) at (conditional_body (Some (conditional_view pair.now)) (view main.now)) }
+{
+    let condition = eval(alloc, ground, at, &pair.test, steps)?;
+    match case_step(true, &condition) {
+        CaseStep::Next(still) => {
+            let res = eval(alloc, ground, at, main, steps)?;
+            Ok(taken(still, res))
+        }
+        CaseStep::Take(still) => {
+            let res = eval(alloc, ground, at, &pair.value, steps)?;
+            Ok(taken(still, res))
+        }
+        CaseStep::End(res) => Ok(res),
+    }
+}
+
+// The body of a derived fact.
+fn eval_body<L: Ledger>(
+    alloc: Global,
+    ground: &Ground,
+    at: Place,
+    conditional: &Option<Conditional>,
+    main: &Expr,
+    steps: &mut Steps<L>,
+) -> Result<Res, NoMemory>
+    ensures value { IfOk result (λ r. r ≡ over (env_of ground.now) at (conditional_body (option_map conditional_view conditional.now) (view main.now))) }
+    ensures most { steps.new ≤ steps.old + weight (env_of ground.now) at (conditional_body (option_map conditional_view conditional.now) (view main.now)) }
+{
+    match conditional {
+        None => eval(alloc, ground, at, main, steps),
+        Some(pair) => eval_conditional(alloc, ground, at, pair, main, steps),
+    }
+}
+
+// The body of a derived fact, or the override that stands in its place.
+fn derived_result<L: Ledger>(
+    alloc: Global,
+    ground: &Ground,
+    answers: &Answers,
+    member: u32,
+    fact: &FactSource,
+    main: &Expr,
+    steps: &mut Steps<L>,
+) -> Result<Res, NoMemory>
+    ensures value { IfOk result (λ r. r ≡ or_override (value_of Override (answered answers.now) (slot ground.now.fact member)) (over (env_of ground.now) (outermost member) (conditional_body (fact_view fact.now).conditional (view main.now)))) }
+    ensures most { steps.new ≤ steps.old + weight (env_of ground.now) (outermost member) (conditional_body (fact_view fact.now).conditional (view main.now)) }
+{
+    let slot = Slot {
+        fact: ground.fact,
+        member,
+    };
+    match answers.override_of(slot) {
+        Some(value) => Ok(Res::Complete(value.copy(alloc)?)),
+        None => {
+            let at = Place::outermost(member);
+            eval_body(alloc, ground, at, &fact.conditional, main, steps)
+        }
+    }
+}
+
+// The result of a slot before its placeholder.
+fn main_result<L: Ledger>(
+    alloc: Global,
+    ground: &Ground,
+    answers: &Answers,
+    member: u32,
+    fact: &FactSource,
+    steps: &mut Steps<L>,
+) -> Result<Res, NoMemory>
+    requires well { WellFormed (answered answers.now) }
+    requires from_one { FromOne (answered answers.now) }
+    ensures value { IfOk result (λ r. r ≡ main_result (tree_of ground.now) (answered answers.now) (look_on ground.now) (slot ground.now.fact member) (stated_view fact.now.stated) (body (fact_view fact.now))) }
+    ensures most { steps.new ≤ steps.old + option_weight ground.now member (body (fact_view fact.now)) }
+{
+    match &fact.main {
+        Some(main) => derived_result(alloc, ground, answers, member, fact, main, steps),
+        None => {
+            let slot = Slot {
+                fact: ground.fact,
+                member,
+            };
+            given_result(alloc, answers, slot, &fact.stated)
+        }
+    }
+}
+
+// An incomplete result gives way to the placeholder.
+fn with_placeholder<L: Ledger>(
+    alloc: Global,
+    ground: &Ground,
+    member: u32,
+    placeholder: &Expr,
+    res: Res,
+    steps: &mut Steps<L>,
+) -> Result<Res, NoMemory>
+    ensures value { IfOk result (λ r. r ≡ or_placeholder (tree_of ground.now) (look_on ground.now) (slot ground.now.fact member) (Some (view placeholder.now)) res) }
+    ensures most { steps.new ≤ steps.old + weight (env_of ground.now) (outermost member) (view placeholder.now) }
+{
+    match res {
+        Res::Incomplete => {
+            let at = Place::outermost(member);
+            let stand_in = eval(alloc, ground, at, placeholder, steps)?;
+            Ok(down(stand_in))
+        }
+        Res::Complete(value) => Ok(Res::Complete(value)),
+        Res::Placeholder(value) => Ok(Res::Placeholder(value)),
+        Res::Fault(fault) => Ok(Res::Fault(fault)),
+    }
+}
+
+/// The result of the fact's slot at a member, from the results that stand on the ground.
+pub fn slot_result<L: Ledger>(
+    alloc: Global,
+    ground: &Ground,
+    answers: &Answers,
+    member: u32,
+    fact: &FactSource,
+    steps: &mut Steps<L>,
+) -> Result<Res, NoMemory>
+    requires well { WellFormed (answered answers.now) }
+    requires from_one { FromOne (answered answers.now) }
+    ensures value { IfOk result (λ r. r ≡ slot_result (tree_of ground.now) (answered answers.now) (look_on ground.now) (slot ground.now.fact member) (fact_view fact.now)) }
+    ensures most { steps.new ≤ steps.old + (option_weight ground.now member (body (fact_view fact.now)) + option_weight ground.now member (fact_view fact.now).placeholder) }
+{
+    let res = main_result(alloc, ground, answers, member, fact, steps)?;
+    match &fact.placeholder {
+        None => Ok(res),
+        Some(placeholder) => with_placeholder(alloc, ground, member, placeholder, res, steps),
+    }
+}

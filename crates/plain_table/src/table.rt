@@ -1,0 +1,63 @@
+// The results of slots so far.
+ghost use Rattle.std.specs.Prelude.{◌≡◌, IfOk, None, OnOk, option_copied};
+ghost use Rattle.fact_values.specs.declared.slot.Slot.{Slot};
+ghost use Rattle.three_state.specs.declared.res.Res.TheVariants.{Incomplete};
+
+use fact_values::{NoMemory, Slot};
+use std::alloc::Global;
+use std::collections::HashMap;
+use three_state::Res;
+
+/// The result of each slot that was computed, by its fact and its member.
+#[derive(Drop)]
+pub struct Table {
+    cells: HashMap<(u32, u32), Res>,
+    /// What is read of a slot that has no result.
+    missing: Res,
+    ghost missing_is_incomplete: { missing ≡ Incomplete },
+}
+
+impl Table {
+    ghost use Rattle.dictionary.specs.Reading.{result_at};
+    ghost use Rattle.plain_table.specs.Table.{look_of, with_cell};
+
+    /// No slot was computed. There is room for so many.
+    pub fn with_room(alloc: Global, count: usize) -> Result<Table, NoMemory>
+        ensures { IfOk result (λ t. (s : Slot) → look_of t s ≡ None) }
+    {
+        Ok(Table {
+            cells: HashMap::with_capacity(alloc, count)?,
+            missing: Res::Incomplete,
+        })
+    }
+
+    /// The result of a slot.
+    pub fn get(&self, slot: Slot) -> Option<&Res>
+        ensures { option_copied result ≡ look_of self.now slot }
+    {
+        self.cells.get(&(slot.fact, slot.member))
+    }
+
+    /// What is read of a fact at a member: a slot that has no result counts as incomplete.
+    pub fn result_at(&self, fact: Option<u32>, member: u32) -> &Res
+        ensures { result.now ≡ result_at (look_of self.now) fact member }
+    {
+        let Some(fact) = fact else {
+            return &self.missing;
+        };
+        match self.get(Slot { fact, member }) {
+            Some(res) => res,
+            None => &self.missing,
+        }
+    }
+
+    /// Keeps the result of a slot.
+    pub fn put(&mut self, slot: Slot, res: Res) -> Result<(), NoMemory>
+        ensures { OnOk result ((s : Slot) → look_of self.new s ≡ with_cell (look_of self.old) slot res s) }
+    {
+        match self.cells.insert((slot.fact, slot.member), res) {
+            Ok(_) => Ok(()),
+            Err(_) => Err(NoMemory),
+        }
+    }
+}

@@ -1,0 +1,125 @@
+// All slots, fact by fact in the order of the ranks.
+ghost use Rattle.std.specs.Prelude.{◌≡◌, ◌+◌, ◌≤◌, ℕ, IfOk, IsTrue, OnOk, sum_by};
+ghost use Rattle.answers.specs.Standing.{answered};
+ghost use Rattle.answers.specs.WellFormed.{FromOne, WellFormed};
+ghost use Rattle.dict_tree.specs.Finding.{IsNumber};
+ghost use Rattle.evaluation.specs.Agreement.{IsIn};
+ghost use Rattle.dictionary.specs.Accepted.{accepted};
+ghost use Rattle.dictionary.specs.Homes.{home};
+ghost use Rattle.dictionary.specs.Plain.{IsPlainBelow, rank};
+ghost use Rattle.dictionary.specs.Reading.{slot};
+ghost use Rattle.dictionary.specs.Slots.{members_of_home, slot_same, slots_of, stands};
+ghost use Rattle.dictionary.specs.Weights.{slot_weight, whole_weight};
+ghost use Rattle.plain_table.specs.Filling.{HasAll, IsFilled, is_at};
+ghost use Rattle.plain_table.specs.Table.{look_of};
+
+use crate::ground::Ground;
+use crate::slots::slot_result;
+use crate::table::Table;
+use answers::Answers;
+use dictionary::Dictionary;
+use fact_values::{NoMemory, Slot};
+use std::alloc::Global;
+use std::sync::ledger::Ledger;
+use steps::Steps;
+
+// Puts the result of a slot that stands.
+fn put_slot<L: Ledger>(
+    alloc: Global,
+    dict: &Dictionary,
+    answers: &Answers,
+    slot: Slot,
+    table: &mut Table,
+    steps: &mut Steps<L>,
+) -> Result<(), NoMemory>
+    requires well { WellFormed (answered answers.now) }
+    requires from_one { FromOne (answered answers.now) }
+    requires stands { IsTrue (stands (accepted dict.now).tree (answered answers.now) slot) }
+    requires below { IsPlainBelow (accepted dict.now) (answered answers.now) (rank (accepted dict.now) slot.fact) (look_of table.old) }
+    ensures filled { OnOk result (IsFilled (accepted dict.now) (answered answers.now) (look_of table.old) (λ t. slot_same t slot) (look_of table.new)) }
+    ensures most { steps.new ≤ steps.old + slot_weight (accepted dict.now) (answered answers.now) slot }
+{
+    let source = dict.source();
+    let Some(fact) = source.fact(slot.fact) else {
+        return Ok(());
+    };
+    let ground = Ground {
+        source,
+        fact: slot.fact,
+        table,
+    };
+    let res = slot_result(alloc, &ground, answers, slot.member, fact, steps)?;
+    table.put(slot, res)
+}
+
+// Puts the results of a fact's slots at these members.
+fn put_members<L: Ledger>(
+    alloc: Global,
+    dict: &Dictionary,
+    answers: &Answers,
+    fact: u32,
+    members: &[u32],
+    table: &mut Table,
+    steps: &mut Steps<L>,
+) -> Result<(), NoMemory>
+    requires well { WellFormed (answered answers.now) }
+    requires from_one { FromOne (answered answers.now) }
+    requires stand { (m : ℕ) → IsIn members.now m → IsTrue (stands (accepted dict.now).tree (answered answers.now) (slot fact m)) }
+    requires below { IsPlainBelow (accepted dict.now) (answered answers.now) (rank (accepted dict.now) fact) (look_of table.old) }
+    ensures filled { OnOk result (IsFilled (accepted dict.now) (answered answers.now) (look_of table.old) (is_at fact members.now) (look_of table.new)) }
+    ensures most { steps.new ≤ steps.old + sum_by (λ m. slot_weight (accepted dict.now) (answered answers.now) (slot fact m)) members.now }
+{
+    for member in members {
+        let slot = Slot {
+            fact,
+            member: *member,
+        };
+        put_slot(alloc, dict, answers, slot, table, steps)?;
+    }
+    Ok(())
+}
+
+// Puts the results of a fact's slots.
+fn put_fact<L: Ledger>(
+    alloc: Global,
+    dict: &Dictionary,
+    answers: &Answers,
+    fact: u32,
+    table: &mut Table,
+    steps: &mut Steps<L>,
+) -> Result<(), NoMemory>
+    requires well { WellFormed (answered answers.now) }
+    requires from_one { FromOne (answered answers.now) }
+    requires number { IsNumber (accepted dict.now).tree.facts fact }
+    requires below { IsPlainBelow (accepted dict.now) (answered answers.now) (rank (accepted dict.now) fact) (look_of table.old) }
+    ensures filled { OnOk result (IsFilled (accepted dict.now) (answered answers.now) (look_of table.old) (is_at fact (members_of_home (answered answers.now) (home (accepted dict.now).tree fact))) (look_of table.new)) }
+    ensures most { steps.new ≤ steps.old + sum_by (slot_weight (accepted dict.now) (answered answers.now)) (slots_of (accepted dict.now).tree (answered answers.now) fact) }
+{
+    let home = dict.home(fact);
+    if home == 0 {
+        return put_members(alloc, dict, answers, fact, &[0], table, steps);
+    }
+    match answers.members(home) {
+        None => Ok(()),
+        Some(members) => put_members(alloc, dict, answers, fact, members, table, steps),
+    }
+}
+
+/// The results of all slots that stand.
+pub fn whole_table<L: Ledger>(
+    alloc: Global,
+    dict: &Dictionary,
+    answers: &Answers,
+    steps: &mut Steps<L>,
+) -> Result<Table, NoMemory>
+    requires well { WellFormed (answered answers.now) }
+    requires from_one { FromOne (answered answers.now) }
+    ensures all { IfOk result (λ t. HasAll (accepted dict.now) (answered answers.now) (look_of t)) }
+    ensures most { steps.new ≤ steps.old + whole_weight (accepted dict.now) (answered answers.now) }
+{
+    let mut table = Table::with_room(alloc, dict.source().facts().len())?;
+    for fact in dict.by_rank() {
+        put_fact(alloc, dict, answers, *fact, &mut table, steps)?;
+    }
+    Ok(table)
+}
