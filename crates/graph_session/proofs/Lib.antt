@@ -1,0 +1,10 @@
+pub mod AllowedLaws
+pub mod CountLaws
+pub mod LimitLaws
+pub mod NamingLaws
+pub mod RunLaws
+pub mod ShownLaws
+pub mod SoundLaws
+pub mod StartLaws
+pub mod StepLaws
+pub mod TypeLaws

@@ -1,0 +1,192 @@
+-- From a refusal, or from none, to the step.
+use Rattle.std.proofs.Common.{◌≡◌, ℕ, Bool, true, false, not, if◌then◌else◌, List, [], ◌∷◌, ◌++◌, Option, Some, None, is_some, option_map, refl, sym, ap, ◌∙◌, subst}
+use Rattle.std.specs.Prelude.{IfErr, Result, Ok, Err}
+use Rattle.fact_paths.specs.declared.slot_path.SlotPath.{SlotPath}
+use Rattle.fact_values.specs.declared.slot.Slot.{Slot}
+use Rattle.script_lines.specs.declared.command.Command.{Command}
+use Rattle.script_lines.specs.declared.command.Command.TheVariants as commands
+use Rattle.answers.specs.Answered.{Answered}
+use Rattle.answers.specs.Change.{Change, applied}
+use Rattle.session_undo.specs.Told.{Told}
+use Rattle.dictionary.specs.Fits.{is_answered_by}
+use Rattle.graph_session.specs.Changes.{change_of, change_refusals, change_reply}
+use Rattle.graph_session.specs.Moves.{end_refusal, is_end, step_command, told_stepped}
+use Rattle.graph_session.specs.Naming.{fact_of, is_unknown, lacks_member, slot_of}
+use Rattle.graph_session.specs.Refusals.{Refused, decided, first_of, is_empty, set_refusals, slot_found, slot_refusals, value_refusals, when}
+use Rattle.graph_session.specs.Rules.{Rules, tree_of}
+use Rattle.graph_session.specs.Shown.{Course, moved}
+use Rattle.graph_session.specs.Step.{most_steps, moved_by, refusal, reply, step, steps_to, told_by, with_change}
+use Rattle.graph_session.specs.declared.reply.Refusal.{Refusal}
+use Rattle.graph_session.specs.declared.reply.Refusal.TheVariants.{UnknownFact, NoMember, WrongKind, BadValue, Limit, Check, Full, AlreadyOpen, NotAnswered, NoOverride, NothingToUndo, NothingToRedo, NoStamps, NoMemory}
+use Rattle.graph_session.specs.declared.reply.Reply.{Reply}
+use Rattle.graph_session.specs.declared.reply.Reply.TheVariants.{Done}
+
+-- ---- what comes of a decision
+
+pub decided_ok : {A : Type 0} (o : Option Refusal) (x y : A) → ◌≡◌ {A = Result A Refusal} (Ok y) (decided o x) → (o ≡ None) × (y ≡ x)
+decided_ok None x y e = (refl, cc)
+decided_ok (Some r) x y e = absurd cc
+
+pub decided_err : {A : Type 0} (o : Option Refusal) (x : A) (r : Refusal) → ◌≡◌ {A = Result A Refusal} (Err r) (decided o x) → o ≡ Some r
+decided_err None x r e = absurd cc
+decided_err (Some q) x r e = cc
+
+-- ---- where the slot is found, the first refusal is one of the rest
+
+pub found_then : (k : Rules) (a : Answered) (path : SlotPath) (s : Slot) (rest : List (Option Refusal)) → ◌≡◌ {A = Result Slot Refusal} (Ok s) (slot_found k a path)
+    → (first_of (slot_refusals k a path ++ rest) ≡ first_of rest) × (s ≡ slot_of (tree_of k) path)
+found_then k a path s rest e = at (is_unknown (tree_of k) path) (lacks_member (tree_of k) a path) e
+  where
+    at : (u l : Bool) → ◌≡◌ {A = Result Slot Refusal} (Ok s) (decided (first_of (when u UnknownFact ∷ when l NoMember ∷ [])) (slot_of (tree_of k) path))
+        → (first_of (when u UnknownFact ∷ when l NoMember ∷ rest) ≡ first_of rest) × (s ≡ slot_of (tree_of k) path)
+    at true l e = absurd cc
+    at false true e = absurd cc
+    at false false e = (refl, cc)
+
+-- of `set`, where the fact may have an answer, one of the value's
+pub set_then : (k : Rules) (a : Answered) (path : SlotPath) (text : List ℕ) (s : Slot) → ◌≡◌ {A = Result Slot Refusal} (Ok s) (slot_found k a path) → is_answered_by (tree_of k) s.fact ≡ true
+    → first_of (set_refusals k a path text) ≡ first_of (value_refusals k s.fact text)
+set_then k a path text s e h =
+    let f = found_then k a path s (when (not (is_answered_by (tree_of k) (fact_of (tree_of k) path))) WrongKind ∷ value_refusals k (fact_of (tree_of k) path) text) e in
+    f.0 ∙ at (fact_of (tree_of k) path) (ap (λ (t : Slot). t.fact) f.1)
+  where
+    at : (n : ℕ) → s.fact ≡ n → first_of (when (not (is_answered_by (tree_of k) n)) WrongKind ∷ value_refusals k n text) ≡ first_of (value_refusals k s.fact text)
+    at n same = ap (λ (m : ℕ). first_of (when (not (is_answered_by (tree_of k) m)) WrongKind ∷ value_refusals k m text)) (sym same)
+        ∙ ap (λ (b : Bool). first_of (when (not b) WrongKind ∷ value_refusals k s.fact text)) h
+
+-- ---- refusals
+
+pub refused_as : (r : Refusal) (o : Option Refusal) → o ≡ Some r → Refused r o
+refused_as UnknownFact o e = e
+refused_as NoMember o e = e
+refused_as WrongKind o e = e
+refused_as BadValue o e = e
+refused_as (Limit n) o e = e
+refused_as (Check n) o e = e
+refused_as Full o e = e
+refused_as AlreadyOpen o e = e
+refused_as NotAnswered o e = e
+refused_as NoOverride o e = e
+refused_as NothingToUndo o e = e
+refused_as NothingToRedo o e = e
+refused_as NoStamps o e = e
+refused_as NoMemory o e = tt
+
+-- of a decision, where it is another command's
+pub refused_by : {A : Type 0} (o : Option Refusal) (x : A) (r : Refusal) → ◌≡◌ {A = Result A Refusal} (Err r) (decided o x) → Refused r o
+refused_by o x r e = refused_as r o (decided_err o x r e)
+
+-- ---- commands that make a change
+
+some_same : {A : Type 0} (x y : A) → Some x ≡ Some y → x ≡ y
+some_same x y e = cc
+
+refusal_of_change : (k : Rules) (s : Course) (c : Command) → is_some (change_of (tree_of k) c) ≡ true → refusal k s c ≡ first_of (change_refusals k s.told.now c)
+refusal_of_change k s (commands.Set path text) e = refl
+refusal_of_change k s (commands.Clear path) e = refl
+refusal_of_change k s (commands.OpenList path) e = refl
+refusal_of_change k s (commands.Add path) e = refl
+refusal_of_change k s (commands.Remove path member) e = refl
+refusal_of_change k s (commands.Override path text) e = refl
+refusal_of_change k s (commands.Release path) e = refl
+refusal_of_change k s c e = absurd cc
+
+reply_of_change : (k : Rules) (s : Course) (c : Command) (x : Change) → change_of (tree_of k) c ≡ Some x → reply k s c ≡ change_reply s.told.now.next c
+reply_of_change k s (commands.Set path text) x e = refl
+reply_of_change k s (commands.Clear path) x e = refl
+reply_of_change k s (commands.OpenList path) x e = refl
+reply_of_change k s (commands.Add path) x e = refl
+reply_of_change k s (commands.Remove path member) x e = refl
+reply_of_change k s (commands.Override path text) x e = refl
+reply_of_change k s (commands.Release path) x e = refl
+reply_of_change k s c x e = absurd cc
+
+told_of_change : (k : Rules) (s : Course) (c : Command) (x : Change) → change_of (tree_of k) c ≡ Some x → told_by (tree_of k) s.told c ≡ Some (with_change s.told x)
+told_of_change k s (commands.Set path text) x e = ap (option_map (with_change s.told)) e
+told_of_change k s (commands.Clear path) x e = ap (option_map (with_change s.told)) e
+told_of_change k s (commands.OpenList path) x e = ap (option_map (with_change s.told)) e
+told_of_change k s (commands.Add path) x e = ap (option_map (with_change s.told)) e
+told_of_change k s (commands.Remove path member) x e = ap (option_map (with_change s.told)) e
+told_of_change k s (commands.Override path text) x e = ap (option_map (with_change s.told)) e
+told_of_change k s (commands.Release path) x e = ap (option_map (with_change s.told)) e
+told_of_change k s c x e = absurd cc
+
+-- what a command that isn't refused comes to
+pub step_by : (k : Rules) (s : Course) (c : Command) (r : Reply) (o : Option Told) → refusal k s c ≡ None → reply k s c ≡ r → told_by (tree_of k) s.told c ≡ o → step k s c ≡ Ok (r, moved_by k s o)
+step_by k s c r o h e t =
+    ap (λ (q : Option Refusal). decided q (reply k s c, moved_by k s (told_by (tree_of k) s.told c))) h
+    ∙ ap (λ (q : Reply). done (q, moved_by k s (told_by (tree_of k) s.told c))) e
+    ∙ ap (λ (q : Option Told). done (r, moved_by k s q)) t
+  where
+    done : Reply × Course → Result (Reply × Course) Refusal
+    done p = Ok p
+
+pub most_by : (most : Answered → Answered → ℕ) (k : Rules) (s : Course) (c : Command) (o : Option Told) → refusal k s c ≡ None → told_by (tree_of k) s.told c ≡ o → most_steps most k s c ≡ steps_to most s.told.now o
+most_by most k s c o h t =
+    ap (λ (q : Option Refusal). if is_some q then 0 else steps_to most s.told.now (told_by (tree_of k) s.told c)) h
+    ∙ ap (steps_to most s.told.now) t
+
+pub change_refused : (k : Rules) (s : Course) (c : Command) → is_some (change_of (tree_of k) c) ≡ true → (r : Refusal) → Refused r (first_of (change_refusals k s.told.now c)) → Refused r (refusal k s c)
+change_refused k s c e r h = subst (Refused r) (sym (refusal_of_change k s c e)) h
+
+ok_pair : (r r' : Reply) (t t' : Course) → r ≡ r' → t ≡ t' → ◌≡◌ {A = Result (Reply × Course) Refusal} (Ok (r, t)) (Ok (r', t'))
+ok_pair r r' t t' er et = λ i. Ok (er i, et i)
+
+module _ (k : Rules) (s : Course) (c : Command) (x : Change) (e : change_of (tree_of k) c ≡ Some x) (h : first_of (change_refusals k s.told.now c) ≡ None) where
+  pub change_step : step k s c ≡ Ok (change_reply s.told.now.next c, moved k.accepted s (with_change s.told x))
+  change_step = step_by k s c (change_reply s.told.now.next c) (Some (with_change s.told x)) (refusal_of_change k s c (ap is_some e) ∙ h) (reply_of_change k s c x e) (told_of_change k s c x e)
+
+  -- as a call leaves it
+  pub change_step_as : (r : Reply) (t : Course) → r ≡ change_reply s.told.now.next c → t ≡ moved k.accepted s (with_change s.told x) → step k s c ≡ Ok (r, t)
+  change_step_as r t er et = change_step ∙ ok_pair _ r _ t (sym er) (sym et)
+
+  pub change_steps : (most : Answered → Answered → ℕ) → most_steps most k s c ≡ most s.told.now (applied x s.told.now)
+  change_steps most = most_by most k s c (Some (with_change s.told x)) (refusal_of_change k s c (ap is_some e) ∙ h) (told_of_change k s c x e)
+
+-- ---- steps along the history
+
+when_true : (b : Bool) (r : Refusal) → b ≡ false → when b r ≡ None
+when_true b r e = ap (λ (t : Bool). when t r) e
+
+refusal_of_move : (k : Rules) (s : Course) (forth : Bool) → refusal k s (step_command forth) ≡ when (is_end forth s.told) (end_refusal forth)
+refusal_of_move k s true = alone (when (is_empty s.told.after) NothingToRedo)
+  where
+    alone : (o : Option Refusal) → first_of (o ∷ []) ≡ o
+    alone None = refl
+    alone (Some r) = refl
+refusal_of_move k s false = alone (when (is_empty s.told.before) NothingToUndo)
+  where
+    alone : (o : Option Refusal) → first_of (o ∷ []) ≡ o
+    alone None = refl
+    alone (Some r) = refl
+
+reply_of_move : (k : Rules) (s : Course) (forth : Bool) → reply k s (step_command forth) ≡ Done
+reply_of_move k s true = refl
+reply_of_move k s false = refl
+
+told_of_move : (k : Rules) (s : Course) (forth : Bool) → told_by (tree_of k) s.told (step_command forth) ≡ Some (told_stepped forth s.told)
+told_of_move k s true = refl
+told_of_move k s false = refl
+
+pub move_refused : (k : Rules) (s : Course) (forth : Bool) (r : Refusal) → Refused r (when (is_end forth s.told) (end_refusal forth)) → Refused r (refusal k s (step_command forth))
+move_refused k s forth r h = subst (Refused r) (sym (refusal_of_move k s forth)) h
+
+pub move_step : (k : Rules) (s : Course) (forth : Bool) → is_end forth s.told ≡ false → step k s (step_command forth) ≡ Ok (Done, moved k.accepted s (told_stepped forth s.told))
+move_step k s forth h = step_by k s (step_command forth) Done (Some (told_stepped forth s.told)) (refusal_of_move k s forth ∙ when_true (is_end forth s.told) (end_refusal forth) h) (reply_of_move k s forth) (told_of_move k s forth)
+
+pub move_step_as : (k : Rules) (s : Course) (forth : Bool) → is_end forth s.told ≡ false → (t : Course) → t ≡ moved k.accepted s (told_stepped forth s.told) → step k s (step_command forth) ≡ Ok (Done, t)
+move_step_as k s forth h t e = move_step k s forth h ∙ ok_pair Done Done _ t refl (sym e)
+
+pub move_steps : (most : Answered → Answered → ℕ) (k : Rules) (s : Course) (forth : Bool) → is_end forth s.told ≡ false → most_steps most k s (step_command forth) ≡ most s.told.now (told_stepped forth s.told).now
+move_steps most k s forth h = most_by most k s (step_command forth) (Some (told_stepped forth s.told)) (refusal_of_move k s forth ∙ when_true (is_end forth s.told) (end_refusal forth) h) (told_of_move k s forth)
+
+-- ---- questions
+
+pub asked_ok : (k : Rules) (s : Course) (c : Command) (r : Reply) → told_by (tree_of k) s.told c ≡ None → ◌≡◌ {A = Result Reply Refusal} (Ok r) (decided (refusal k s c) (reply k s c)) → step k s c ≡ Ok (r, s)
+asked_ok k s c r t e =
+    let d = decided_ok (refusal k s c) (reply k s c) r e in
+    step_by k s c r None d.0 (sym d.1) t
+
+pub asked_refused : {A : Type 0} (o : Option Refusal) (x : A) (answer : Result A Refusal) → answer ≡ decided o x → IfErr answer (λ r. Refused r o)
+asked_refused o x (Ok y) e = tt
+asked_refused o x (Err r) e = refused_by o x r e

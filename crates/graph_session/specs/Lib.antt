@@ -1,0 +1,11 @@
+pub mod Changes
+pub mod Counts
+pub mod Keeping
+pub mod Kinds
+pub mod Moves
+pub mod Naming
+pub mod Refusals
+pub mod Rules
+pub mod Run
+pub mod Shown
+pub mod Step

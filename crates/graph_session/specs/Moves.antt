@@ -1,0 +1,44 @@
+-- Steps forth and back, by one definition.
+use Rattle.std.specs.Prelude.{Bool, true, false, List}
+use Rattle.script_lines.specs.declared.command.Command.{Command}
+use Rattle.script_lines.specs.declared.command.Command.TheVariants.{Undo, Redo}
+use Rattle.answers.specs.Change.{Change}
+use Rattle.answers.specs.declared.parts.Parts.{Parts}
+use Rattle.session_undo.specs.History.{CanBack, CanForth}
+use Rattle.session_undo.specs.Place.{Place, moved_back, moved_forth}
+use Rattle.session_undo.specs.Told.{Told, told_back, told_forth}
+use Rattle.session_undo.specs.declared.history.History.{History}
+use Rattle.graph_session.specs.Refusals.{is_empty}
+use Rattle.graph_session.specs.declared.reply.Refusal.{Refusal}
+use Rattle.graph_session.specs.declared.reply.Refusal.TheVariants.{NothingToUndo, NothingToRedo}
+
+abbrev pub stepped : Bool → Place → Place
+stepped true p = moved_forth p
+stepped false p = moved_back p
+
+abbrev pub told_stepped : Bool → Told → Told
+told_stepped true t = told_forth t
+told_stepped false t = told_back t
+
+-- the changes along which a step goes
+abbrev pub changes_along : Bool → Place → List Change
+changes_along true p = p.ahead
+changes_along false p = p.back
+
+-- there are no answers to step to
+abbrev pub is_end : Bool → Told → Bool
+is_end true t = is_empty t.after
+is_end false t = is_empty t.before
+
+abbrev pub end_refusal : Bool → Refusal
+end_refusal true = NothingToRedo
+end_refusal false = NothingToUndo
+
+abbrev pub step_command : Bool → Command
+step_command true = Redo
+step_command false = Undo
+
+-- the next step needs no memory
+abbrev pub CanStep : Bool → History → Parts → Type 0
+CanStep true h a = CanForth h a
+CanStep false h a = CanBack h a

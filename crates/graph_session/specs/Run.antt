@@ -1,0 +1,49 @@
+-- A list of commands, one after another.
+use Rattle.std.specs.Prelude.{Bool, true, false, List, [], ◌∷◌, Result, Ok, Err}
+use Rattle.script_lines.specs.declared.command.Command.{Command}
+use Rattle.graph_session.specs.Rules.{Rules}
+use Rattle.graph_session.specs.Shown.{Course}
+use Rattle.graph_session.specs.Step.{step}
+use Rattle.graph_session.specs.declared.reply.Refusal.{Refusal}
+use Rattle.graph_session.specs.declared.reply.Refusal.TheVariants.{UnknownFact, NoMember, WrongKind, BadValue, Limit, Check, Full, AlreadyOpen, NotAnswered, NoOverride, NothingToUndo, NothingToRedo, NoStamps, NoMemory}
+use Rattle.graph_session.specs.declared.reply.Reply.{Reply}
+
+-- what a step answers
+abbrev pub said : Result (Reply × Course) Refusal → Result Reply Refusal
+said (Ok p) = Ok p.0
+said (Err r) = Err r
+
+-- the session after it: the same after a refusal
+abbrev pub next : Course → Result (Reply × Course) Refusal → Course
+next s (Ok p) = p.1
+next s (Err r) = s
+
+-- the answer to each command, in order
+abbrev pub replies : Rules → Course → List Command → List (Result Reply Refusal)
+replies r s [] = []
+replies r s (c ∷ cs) = said (step r s c) ∷ replies r (next s (step r s c)) cs
+
+-- the session after all of them
+abbrev pub ended : Rules → Course → List Command → Course
+ended r s [] = s
+ended r s (c ∷ cs) = ended r (next s (step r s c)) cs
+
+abbrev pub is_memory : Refusal → Bool
+is_memory UnknownFact = false
+is_memory NoMember = false
+is_memory WrongKind = false
+is_memory BadValue = false
+is_memory (Limit n) = false
+is_memory (Check n) = false
+is_memory Full = false
+is_memory AlreadyOpen = false
+is_memory NotAnswered = false
+is_memory NoOverride = false
+is_memory NothingToUndo = false
+is_memory NothingToRedo = false
+is_memory NoStamps = false
+is_memory NoMemory = true
+
+abbrev pub memory_said : Result Reply Refusal → Bool
+memory_said (Ok r) = false
+memory_said (Err r) = is_memory r

@@ -1,0 +1,71 @@
+// A list of commands, one after another.
+ghost use Rattle.std.specs.Prelude.{◌≡◌, ℕ, ◌+◌, ◌≤◌, ◌^◌, List, length, map, IfOk, OnOk};
+ghost use Rattle.graph_session.specs.Refusals.{SameChecks};
+ghost use Rattle.graph_session.specs.Rules.{rules};
+ghost use Rattle.graph_session.specs.Run.{ended, is_memory as wants_memory, memory_said, replies};
+ghost use Rattle.graph_session.specs.Shown.{course};
+
+use crate::reply::{Refusal, Reply};
+use crate::session::Session;
+use dictionary::FactEngine;
+use fact_values::NoMemory;
+use script_lines::Command;
+use std::alloc::Global;
+use std::sync::ledger::Ledger;
+use steps::Steps;
+use text_checks::CheckTable;
+
+// Whether memory was wanting.
+fn is_memory(said: &Result<Reply, Refusal>) -> bool
+    ensures { result ≡ memory_said said.now }
+{
+    match said {
+        Ok(_) => false,
+        Err(refusal) => is_want_of_memory(*refusal),
+    }
+}
+
+fn is_want_of_memory(refusal: Refusal) -> bool
+    ensures { result ≡ wants_memory refusal }
+{
+    match refusal {
+        Refusal::NoMemory => true,
+        Refusal::UnknownFact
+        | Refusal::NoMember
+        | Refusal::WrongKind
+        | Refusal::BadValue
+        | Refusal::Limit(_)
+        | Refusal::Check(_)
+        | Refusal::Full
+        | Refusal::AlreadyOpen
+        | Refusal::NotAnswered
+        | Refusal::NoOverride
+        | Refusal::NothingToUndo
+        | Refusal::NothingToRedo
+        | Refusal::NoStamps => false,
+    }
+}
+
+/// The answers to the commands, in their order. For want of memory it stops, after some of them.
+pub fn run<E: FactEngine, L: Ledger>(
+    alloc: Global,
+    session: &mut Session<E>,
+    commands: &[Command],
+    checks: &CheckTable,
+    steps: &mut Steps<L>,
+) -> Result<Vec<Result<Reply, Refusal>>, NoMemory>
+    requires same_checks { SameChecks (rules session.old.dict) (map {B = List ℕ × ℕ} (λ c. (c.name, c.code)) checks.now.checks.items) }
+    requires few { session.old.changes + length commands.now ≤ 2 ^ 63 }
+    ensures replies { IfOk result (λ rs. rs.items ≡ replies (rules session.old.dict) (course session.old) commands.now) }
+    ensures ended { OnOk result (course session.new ≡ ended (rules session.old.dict) (course session.old) commands.now) }
+{
+    let mut all = Vec::new(alloc);
+    for command in commands {
+        let said = session.command(command, checks, steps);
+        if is_memory(&said) {
+            return Err(NoMemory);
+        }
+        all.push(said)?;
+    }
+    Ok(all)
+}

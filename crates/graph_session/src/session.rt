@@ -1,0 +1,329 @@
+// A session: a dictionary, answers with their history, and an engine that has the results.
+ghost use Rattle.std.specs.Prelude.{◌≡◌, ℕ, ◌+◌, ◌<◌, ◌≤◌, ◌^◌, List, [], ◌∷◌, map, IfErr, IfOk, IsSome, IsTrue, OnErr, OnOk, option_copied, is_none, None, Ok};
+ghost use Rattle.answers.specs.Answered.{start};
+ghost use Rattle.answers.specs.Change.{Fits, applied};
+ghost use Rattle.answers.specs.Room.{HasRoom};
+ghost use Rattle.answers.specs.Standing.{answered, change};
+ghost use Rattle.session_undo.specs.History.{CanPush, ahead_of, behind};
+ghost use Rattle.dictionary.specs.Accepted.{accepted};
+ghost use Rattle.dictionary.specs.Fits.{AnswersFit};
+ghost use Rattle.dictionary.specs.Plain.{plain};
+ghost use Rattle.dictionary.specs.Slots.{stands};
+ghost use Rattle.graph_session.specs.Changes.{CanBeMade, change_of};
+ghost use Rattle.graph_session.specs.Counts.{stamp_of, stamp_offered, touched_of};
+ghost use Rattle.graph_session.specs.Moves.{step_command};
+ghost use Rattle.graph_session.specs.Naming.{slot_of as slot_named};
+ghost use Rattle.graph_session.specs.Refusals.{Refused, SameChecks, decided, first_of, slot_found, stamp_refusals, when};
+ghost use Rattle.graph_session.specs.Rules.{rules, tree_of};
+ghost use Rattle.graph_session.specs.Shown.{course, moved_to, start_at};
+ghost use Rattle.graph_session.specs.Step.{most_steps, refusal, reply, step, told_by, with_change};
+ghost use Rattle.graph_session.specs.declared.reply.Refusal.TheVariants.{NoStamps};
+ghost use Rattle.graph_session.specs.declared.reply.Reply.TheVariants as replies;
+
+use crate::changes::{change_reply, edit_of};
+use crate::moves::{step_again, step_along};
+use crate::naming::find_slot;
+use crate::questions::{ask_answer, ask_final, ask_missing, ask_unwatch, ask_watch};
+use crate::reply::{Refusal, Reply};
+use answers::{Answers, Edit};
+use dictionary::{Dictionary, FactEngine};
+use fact_paths::SlotPath;
+use fact_values::{NoMemory, Slot};
+use script_lines::Command;
+use session_undo::History;
+use std::alloc::Global;
+use std::marker::Model;
+use std::sync::ledger::Ledger;
+use steps::Steps;
+use text_checks::CheckTable;
+use three_state::Res;
+
+/// Answers to a dictionary, the changes that led to them and that lead on, and the results.
+#[derive(Drop)]
+pub struct Session<E: FactEngine> {
+    alloc: Global,
+    dict: Dictionary,
+    answers: Answers,
+    history: History,
+    engine: E,
+    changes: u64,
+}
+
+impl<E: FactEngine> Model for Session<E> {
+    ghost use Rattle.std.specs.Prelude.{◌≡◌, IsTrue, Some, None, if◌then◌else◌};
+    ghost use Rattle.answers.specs.Standing.{answered};
+    ghost use Rattle.session_undo.specs.History.{place};
+    ghost use Rattle.session_undo.specs.Told.{told};
+    ghost use Rattle.dictionary.specs.Accepted.{accepted};
+    ghost use Rattle.graph_session.specs.Counts.{counts_of};
+    ghost use Rattle.graph_session.specs.Keeping.{IsSound};
+    ghost use Rattle.graph_session.specs.Shown.{Shown, coded_shown};
+
+    ghost Value = { Shown };
+
+    ghost coded = { coded_shown };
+
+    ghost view = { λ s. record {
+      dict = s.dict;
+      told = told (place s.history s.answers);
+      changes = s.changes;
+      counts = if E.STAMPS then Some (counts_of (accepted s.dict) (answered s.answers) (E.marks s.engine)) else None;
+    } };
+
+    ghost invariant = { λ s. IsSound s.dict (place s.history s.answers)
+        × E.stands_for s.engine (accepted s.dict) (answered s.answers)
+        × (IsTrue E.STAMPS → (E.marks s.engine).changes ≡ s.changes) };
+}
+
+impl<E: FactEngine> Session<E> {
+    /// Nothing is answered yet.
+    pub fn new(alloc: Global, dict: Dictionary) -> Result<Session<E>, NoMemory>
+        ensures { IfOk result (λ s. s ≡ start_at dict start E.STAMPS) }
+    {
+        Session::resume(alloc, dict, Answers::new(alloc))
+    }
+
+    /// Goes on from these answers. There is nothing to undo.
+    pub fn resume(alloc: Global, dict: Dictionary, answers: Answers) -> Result<Session<E>, NoMemory>
+        requires { AnswersFit (accepted dict).tree (answered answers) }
+        ensures { IfOk result (λ s. s ≡ start_at dict (answered answers) E.STAMPS) }
+    {
+        let _accepted = dict.source();
+        let engine = E::begin(alloc, &dict, &answers)?;
+        Ok(Session {
+            alloc,
+            dict,
+            answers,
+            history: History::new(alloc),
+            engine,
+            changes: 0,
+        })
+    }
+
+    /// The dictionary.
+    pub fn dict(&self) -> &Dictionary
+        ensures { result.now ≡ self.now.dict }
+    {
+        &self.dict
+    }
+
+    /// The answers.
+    pub fn answers(&self) -> &Answers
+        ensures value { answered result.now ≡ self.now.told.now }
+        ensures fit { AnswersFit (accepted self.now.dict).tree self.now.told.now }
+    {
+        &self.answers
+    }
+
+    /// How many changes were made, undo and redo among them.
+    pub fn changes(&self) -> u64
+        ensures { result ≡ self.now.changes }
+    {
+        self.changes
+    }
+
+    /// The result of a slot: none where it doesn't stand.
+    pub fn result(&self, slot: Slot) -> Option<&Res>
+        ensures { option_copied result ≡ plain (accepted self.now.dict) self.now.told.now slot }
+    {
+        self.engine.result(slot)
+    }
+
+    /// The number of the last change that touched the slot, and 0 if none did: none where the slot doesn't stand, or the
+    /// engine keeps no stamps.
+    pub fn stamp(&self, slot: Slot) -> Option<u64>
+        ensures { result ≡ stamp_offered (stands (accepted self.now.dict).tree self.now.told.now slot) self.now.counts slot }
+    {
+        self.engine.stamp(slot)
+    }
+
+    // Makes a change, with its results. For want of memory all is as before.
+    fn change<L: Ledger>(&mut self, edit: Edit, steps: &mut Steps<L>) -> Result<(), NoMemory>
+        requires few { self.old.changes < 2 ^ 63 }
+        requires made { CanBeMade (rules self.old.dict) self.old.told.now (change edit) }
+        ensures ok { OnOk result (self.new ≡ moved_to self.old (with_change self.old.told (change edit))) }
+        ensures unchanged { OnErr result (self.new ≡ self.old) }
+        ensures steps { steps.new ≤ steps.old + E.most (accepted self.old.dict) self.old.told.now (applied (change edit) self.old.told.now) }
+    {
+        self.history.room()?;
+        match self.answers.apply(edit) {
+            Err(_) => Err(NoMemory),
+            Ok(undo) => match self.engine.refresh(&self.dict, &self.answers, &undo, steps) {
+                Ok(()) => {
+                    keep(&mut self.history, undo);
+                    self.changes += 1;
+                    Ok(())
+                }
+                Err(NoMemory) => {
+                    restore(&mut self.answers, undo);
+                    Err(NoMemory)
+                }
+            },
+        }
+    }
+
+    // Makes the change that the command asks for.
+    fn edit<L: Ledger>(
+        &mut self,
+        command: &Command,
+        checks: &CheckTable,
+        steps: &mut Steps<L>,
+    ) -> Result<Reply, Refusal>
+        requires makes_one { IsSome (change_of (tree_of (rules self.old.dict)) command.now) }
+        requires same_checks { SameChecks (rules self.old.dict) (map {B = List ℕ × ℕ} (λ c. (c.name, c.code)) checks.now.checks.items) }
+        requires few { self.old.changes < 2 ^ 63 }
+        ensures ok { IfOk result (λ r. step (rules self.old.dict) (course self.old) command.now ≡ Ok (r, course self.new)) }
+        ensures dict { self.new.dict ≡ self.old.dict }
+        ensures refused { IfErr result (λ r. Refused r (refusal (rules self.old.dict) (course self.old) command.now)) }
+        ensures unchanged { OnErr result (self.new ≡ self.old) }
+        ensures steps { steps.new ≤ steps.old + most_steps (E.most (accepted self.old.dict)) (rules self.old.dict) (course self.old) command.now }
+    {
+        let number = self.answers.next_number();
+        match edit_of(self.alloc, &self.dict, &self.answers, checks, command) {
+            Err(refusal) => Err(refusal),
+            Ok(edit) => match self.change(edit, steps) {
+                Err(NoMemory) => Err(Refusal::NoMemory),
+                Ok(()) => Ok(change_reply(command, number)),
+            },
+        }
+    }
+
+    // Goes forth or back by one change.
+    fn go<L: Ledger>(&mut self, forth: bool, steps: &mut Steps<L>) -> Result<Reply, Refusal>
+        requires few { self.old.changes < 2 ^ 63 }
+        ensures ok { IfOk result (λ r. step (rules self.old.dict) (course self.old) (step_command forth) ≡ Ok (r, course self.new)) }
+        ensures dict { self.new.dict ≡ self.old.dict }
+        ensures refused { IfErr result (λ r. Refused r (refusal (rules self.old.dict) (course self.old) (step_command forth))) }
+        ensures unchanged { OnErr result (self.new ≡ self.old) }
+        ensures steps { steps.new ≤ steps.old + most_steps (E.most (accepted self.old.dict)) (rules self.old.dict) (course self.old) (step_command forth) }
+    {
+        match step_along(&mut self.history, &mut self.answers, forth) {
+            Err(refusal) => Err(refusal),
+            Ok(()) => match self.history.newest(!forth) {
+                None => unreachable!(),
+                Some(undo) => match self.engine.refresh(&self.dict, &self.answers, undo, steps) {
+                    Ok(()) => {
+                        self.changes += 1;
+                        Ok(Reply::Done)
+                    }
+                    Err(NoMemory) => {
+                        step_again(&mut self.history, &mut self.answers, !forth);
+                        Err(Refusal::NoMemory)
+                    }
+                },
+            },
+        }
+    }
+
+    /// The standing slot that the path names.
+    pub fn slot_of(&self, path: &SlotPath) -> Result<Slot, Refusal>
+        ensures found { result ≡ slot_found (rules self.now.dict) self.now.told.now path.now }
+        ensures stands { IfOk result (λ s. IsTrue (stands (accepted self.now.dict).tree self.now.told.now s)) }
+    {
+        find_slot(&self.dict, &self.answers, path)
+    }
+
+    // The stamp of a slot.
+    fn ask_stamp(&self, path: &SlotPath) -> Result<Reply, Refusal>
+        ensures { result ≡ decided (first_of (stamp_refusals (rules self.now.dict) self.now.told.now self.now.counts path.now)) (replies.Stamp (stamp_of self.now.counts (slot_named (tree_of (rules self.now.dict)) path.now))) }
+    {
+        match self.slot_of(path) {
+            Err(refusal) => Err(refusal),
+            Ok(slot) => match self.stamp(slot) {
+                None => Err(Refusal::NoStamps),
+                Some(number) => Ok(Reply::Stamp(number)),
+            },
+        }
+    }
+
+    // How many slots the last change touched.
+    fn ask_touched(&self) -> Result<Reply, Refusal>
+        ensures { result ≡ decided (when (is_none self.now.counts) NoStamps) (replies.Touched (touched_of self.now.counts)) }
+    {
+        match self.engine.touched() {
+            None => Err(Refusal::NoStamps),
+            Some(number) => Ok(Reply::Touched(number)),
+        }
+    }
+
+    // The answer to a command that makes no change.
+    fn ask(&self, command: &Command) -> Result<Reply, Refusal>
+        requires { told_by (tree_of (rules self.now.dict)) self.now.told command.now ≡ None }
+        ensures { result ≡ decided (refusal (rules self.now.dict) (course self.now) command.now) (reply (rules self.now.dict) (course self.now) command.now) }
+    {
+        match command {
+            Command::Get(path) => ask_answer(&self.dict, &self.answers, path),
+            Command::Final(path) => ask_final(&self.dict, &self.answers, path),
+            Command::Stamp(path) => self.ask_stamp(path),
+            Command::Touched => self.ask_touched(),
+            Command::Missing(path) => ask_missing(&self.dict, &self.answers, path),
+            Command::Watch(_, path) => ask_watch(&self.dict, &self.answers, path),
+            Command::Unwatch(_, path) => ask_unwatch(&self.dict, &self.answers, path),
+            Command::Quit => Ok(Reply::Quit),
+            Command::Set(..)
+            | Command::Clear(_)
+            | Command::OpenList(_)
+            | Command::Add(_)
+            | Command::Remove(..)
+            | Command::Override(..)
+            | Command::Release(_)
+            | Command::Undo
+            | Command::Redo => unreachable!(),
+        }
+    }
+
+    /// Carries out a command: the reply, or the first refusal that holds. After a refusal, want of memory included, nothing
+    /// has changed. The table has the checks with which the dictionary was accepted, or no fact of it has a check.
+    pub fn command<L: Ledger>(
+        &mut self,
+        command: &Command,
+        checks: &CheckTable,
+        steps: &mut Steps<L>,
+    ) -> Result<Reply, Refusal>
+        requires same_checks { SameChecks (rules self.old.dict) (map {B = List ℕ × ℕ} (λ c. (c.name, c.code)) checks.now.checks.items) }
+        requires few { self.old.changes < 2 ^ 63 }
+        ensures ok { IfOk result (λ r. step (rules self.old.dict) (course self.old) command.now ≡ Ok (r, course self.new)) }
+        ensures dict { self.new.dict ≡ self.old.dict }
+        ensures refused { IfErr result (λ r. Refused r (refusal (rules self.old.dict) (course self.old) command.now)) }
+        ensures unchanged { OnErr result (self.new ≡ self.old) }
+        ensures steps { steps.new ≤ steps.old + most_steps (E.most (accepted self.old.dict)) (rules self.old.dict) (course self.old) command.now }
+    {
+        match command {
+            Command::Set(..)
+            | Command::Clear(_)
+            | Command::OpenList(_)
+            | Command::Add(_)
+            | Command::Remove(..)
+            | Command::Override(..)
+            | Command::Release(_) => self.edit(command, checks, steps),
+            Command::Undo => self.go(false, steps),
+            Command::Redo => self.go(true, steps),
+            Command::Get(_)
+            | Command::Final(_)
+            | Command::Stamp(_)
+            | Command::Touched
+            | Command::Missing(_)
+            | Command::Watch(..)
+            | Command::Unwatch(..)
+            | Command::Quit => self.ask(command),
+        }
+    }
+}
+
+// Applies an edit for which there is room.
+fn restore(answers: &mut Answers, undo: Edit)
+    requires room { HasRoom (change undo) answers.old }
+    requires fits { Fits (change undo) (answered answers.old) }
+    ensures { answered answers.new ≡ applied (change undo) (answered answers.old) }
+{
+    let _ = answers.apply(undo);
+}
+
+// Adds a change, for which there is room.
+fn keep(history: &mut History, undo: Edit)
+    requires { CanPush history.old }
+    ensures back { behind history.new ≡ change undo ∷ behind history.old }
+    ensures ahead { ahead_of history.new ≡ [] }
+{
+    let _ = history.push(undo);
+}
