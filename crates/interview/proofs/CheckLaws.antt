@@ -1,40 +1,58 @@
--- What a check comes to, and how it ends.
-use Rattle.std.proofs.Common.{◌≡◌, ℕ, List, length, inl, inr, refl, sym, ap, subst, ◌∙◌}
+-- What a check and a run come to, and how a check ends.
+use Rattle.std.proofs.Common.{◌≡◌, ℕ, false, List, inl, inr, refl, sym, ap, subst, ◌∙◌}
 use Rattle.std.specs.Io.KnownBytes.{Keeps}
 use Rattle.std.proofs.KnownBytes.{Keeps-refl}
 use Rattle.fg_io.specs.Outside.{Told}
 use Rattle.dictionary.specs.declared.fault.DictFault.{DictFault}
-use Rattle.dictionary.specs.Accepted.{Accepted}
-use Rattle.dictionary.specs.Faults.{AreAccepted, IsFault}
-use Rattle.dictionary.specs.Keeping.{node_count}
+use Rattle.dictionary.specs.declared.fault.DictFault.TheVariants as faults
+use Rattle.dictionary.specs.Accepted.{Accepted, Named, accepted, names_of}
+use Rattle.dictionary.specs.Faults.{IsFault, Refuses}
 use Rattle.dictionary.proofs.FirstLaws.{accepted_has_none, one_dictionary, one_fault}
 use Rattle.interview.specs.declared.status.Status.{Status}
 use Rattle.interview.specs.declared.status.Status.TheVariants.{Done, DictionaryRefused, FetchFault, WriteFault, NoMemory}
+use Rattle.interview.specs.declared.fetching.Fetched.{Fetched}
+use Rattle.interview.specs.declared.fetching.Fetched.TheVariants as fetches
 use Rattle.interview.specs.Words.{IsCheck}
-use Rattle.interview.specs.FaultLines.{accepted_line, fault_line}
-use Rattle.interview.specs.Interview.{Defined, defined_accepted, defined_fault, ChecksTo, OneEndOfCheck}
-use Rattle.interview.specs.Ends.{Given, Did, Check, CheckDid, CheckEnds, Ends, EndedBy, JudgedAs, NotFetched, SentWhole, Unread}
+use Rattle.interview.specs.FaultLines.{is_memory}
+use Rattle.interview.specs.Interview.{Defined, defined_accepted, defined_fault, defined_script, rules_by, OneEndOfCheck, OneEndOfRun}
+use Rattle.interview.specs.Ends.{Given, Did, Check, CheckDid, CheckEnds, Ends, EndedBy, FetchedAs, JudgedAs, NotFetched, SentWhole, Unread, defined_fetched}
 
--- ---- what a check comes to
+-- ---- what they come to
 
 pub one_end : OneEndOfCheck
-one_end bytes names d e (inl (dict, is, to)) (inl (other, is_other, to_other)) = to ∙ ap defined_accepted (one_dictionary bytes names dict other is is_other) ∙ sym to_other
-one_end bytes names d e (inl (dict, is, to)) (inr (fault, is_fault, to_fault)) = absurd (accepted_has_none bytes names dict fault is is_fault)
-one_end bytes names d e (inr (fault, is_fault, to_fault)) (inl (dict, is, to)) = absurd (accepted_has_none bytes names dict fault is is_fault)
-one_end bytes names d e (inr (fault, is, to)) (inr (other, is_other, to_other)) = to ∙ ap defined_fault (one_fault bytes names fault other is is_other) ∙ sym to_other
+one_end bytes checks d e (inl (dict, is, to)) (inl (other, is_other, to_other)) = to ∙ ap defined_accepted (one_dictionary bytes (names_of checks) dict other is is_other) ∙ sym to_other
+one_end bytes checks d e (inl (dict, is, to)) (inr (fault, is_fault, to_fault)) = absurd (accepted_has_none bytes (names_of checks) dict fault is is_fault)
+one_end bytes checks d e (inr (fault, is_fault, to_fault)) (inl (dict, is, to)) = absurd (accepted_has_none bytes (names_of checks) dict fault is is_fault)
+one_end bytes checks d e (inr (fault, is, to)) (inr (other, is_other, to_other)) = to ∙ ap defined_fault (one_fault bytes (names_of checks) fault other is is_other) ∙ sym to_other
 
-pub judged_accepted : (bytes : List ℕ) (names : List (List ℕ)) (dict : Accepted) (facts nodes : ℕ) (text : List ℕ) → AreAccepted bytes names dict → facts ≡ length dict.tree.facts → nodes ≡ node_count dict.tree → text ≡ accepted_line facts nodes
-    → ChecksTo bytes names (record { text = text; status = Done })
-judged_accepted bytes names dict facts nodes text is same_facts same_nodes line =
-    let whole : text ≡ accepted_line (length dict.tree.facts) (node_count dict.tree) = line ∙ (λ i. accepted_line (same_facts i) (same_nodes i)) in
-    inl (dict, is, λ i. record { text = whole i; status = Done })
+pub one_run : OneEndOfRun
+one_run bytes checks script d e (inl (dict, is, to)) (inl (other, is_other, to_other)) =
+    to ∙ ap (λ (a : Accepted). defined_script (rules_by checks a) script) (one_dictionary bytes (names_of checks) dict other is is_other) ∙ sym to_other
+one_run bytes checks script d e (inl (dict, is, to)) (inr (fault, is_fault, to_fault)) = absurd (accepted_has_none bytes (names_of checks) dict fault is is_fault)
+one_run bytes checks script d e (inr (fault, is_fault, to_fault)) (inl (dict, is, to)) = absurd (accepted_has_none bytes (names_of checks) dict fault is is_fault)
+one_run bytes checks script d e (inr (fault, is, to)) (inr (other, is_other, to_other)) = to ∙ ap defined_fault (one_fault bytes (names_of checks) fault other is is_other) ∙ sym to_other
 
-pub judged_refused : (bytes : List ℕ) (names : List (List ℕ)) (fault : DictFault) (text : List ℕ) (status : Status) → IsFault bytes names fault → status ≡ DictionaryRefused → text ≡ fault_line fault → ChecksTo bytes names (record { text = text; status = status })
-judged_refused bytes names fault text status is refused line = inr (fault, is, λ i. record { text = line i; status = refused i })
+-- what refuses it, but for want of memory, is its fault
+pub refused_for : (bytes : List ℕ) (names : List (List ℕ)) (fault : DictFault) → is_memory fault ≡ false → Refuses (IsFault bytes names) fault → IsFault bytes names fault
+refused_for bytes names faults.TooLong none h = h
+refused_for bytes names faults.NotJson none h = h
+refused_for bytes names (faults.Shape n) none h = h
+refused_for bytes names (faults.TooMany n) none h = h
+refused_for bytes names (faults.TooDeep n) none h = h
+refused_for bytes names (faults.BadPath n) none h = h
+refused_for bytes names (faults.DuplicatePath n) none h = h
+refused_for bytes names (faults.NoCollection n) none h = h
+refused_for bytes names (faults.UnknownPath n) none h = h
+refused_for bytes names (faults.WrongPlace n) none h = h
+refused_for bytes names (faults.UnknownCheck n) none h = h
+refused_for bytes names (faults.IllTyped n node) none h = h
+refused_for bytes names (faults.BadLimit n) none h = h
+refused_for bytes names (faults.Cycle n) none h = h
+refused_for bytes names faults.NoMemory none h = absurd cc
 
 -- ---- how it ends
 
-module _ (told : Told) (checks : List (List ℕ)) (name : List ℕ) (did : CheckDid) where
+module _ (told : Told) (checks : List Named) (name : List ℕ) (did : CheckDid) where
   ends_whole : (text : List ℕ) (whole : Status) → JudgedAs told checks text whole → SentWhole did.taken text → CheckEnds told checks name did whole
   ends_whole text whole (bytes, held, inl (dict, is, to)) wrote =
       let done : whole ≡ Done = ap (λ (d : Defined). d.status) to in
@@ -45,9 +63,18 @@ module _ (told : Told) (checks : List (List ℕ)) (name : List ℕ) (did : Check
       let judged : JudgedAs told checks text whole = (bytes, held, inr (fault, is, to)) in
       subst (CheckEnds told checks name did) (sym refused) (text, subst (JudgedAs told checks text) refused judged, wrote)
 
-  pub ends_judged : (text : List ℕ) (whole status : Status) → JudgedAs told checks text whole → EndedBy did.taken.before did.taken.after did.sink.before did.sink.after text whole status → CheckEnds told checks name did status
+  ends_judged : (text : List ℕ) (whole status : Status) → JudgedAs told checks text whole → EndedBy did.taken.before did.taken.after did.sink.before did.sink.after text whole status → CheckEnds told checks name did status
   ends_judged text whole status judged (inl (is, wrote)) = subst (CheckEnds told checks name did) (sym is) (ends_whole text whole judged wrote)
   ends_judged text whole status judged (inr (is, rose, part)) = subst (CheckEnds told checks name did) (sym is) (rose, (text, (whole, (judged, part))))
+
+  -- a dictionary, or its fault, that was fetched
+  judged : (fetched : Fetched) → FetchedAs told checks fetched → JudgedAs told checks (defined_fetched fetched).text (defined_fetched fetched).status
+  judged (fetches.Accepted dict) (bytes, held, is) = (bytes, held, inl (accepted dict, is.0, refl))
+  judged (fetches.Refused fault) (bytes, held, is) = (bytes, held, inr (fault, is, refl))
+
+  pub ends_fetched : (fetched : Fetched) (status : Status) → FetchedAs told checks fetched
+      → EndedBy did.taken.before did.taken.after did.sink.before did.sink.after (defined_fetched fetched).text (defined_fetched fetched).status status → CheckEnds told checks name did status
+  ends_fetched fetched status found ended = ends_judged (defined_fetched fetched).text (defined_fetched fetched).status status (judged fetched found) ended
 
   pub ends_unjudged : (status : Status) → did.taken.before ≡ did.taken.after → NotFetched name did.shelf.before did.shelf.after did.failed_name status → CheckEnds told checks name did status
   ends_unjudged FetchFault still not = (not.0, not.1, subst (Keeps did.taken.before) still (Keeps-refl did.taken.before))

@@ -1,30 +1,41 @@
 -- What follows from the table of ends where the outside tells its contents.
-use Rattle.std.proofs.Common.{◌≡◌, ℕ, List, [], ◌∷◌, Option, None, inl, inr, refl, sym, ap, subst, ◌∙◌}
+use Rattle.std.proofs.Common.{◌≡◌, ℕ, List, [], ◌∷◌, Option, inl, inr, refl, sym, ap, subst, ◌∙◌}
 use Rattle.std.specs.Prelude.{codes, ◌⊎◌}
-use Rattle.std.proofs.lemmas.Option.{none-some}
 use Rattle.fg_io.specs.Outside.{MayBe, MayHold, Told, missing, holds}
 use Rattle.dictionary.specs.declared.fault.DictFault.{DictFault}
+use Rattle.dictionary.specs.Accepted.{names_of}
 use Rattle.dictionary.specs.Faults.{IsFault}
+use Rattle.dictionary.proofs.FirstLaws.{accepted_has_none}
 use Rattle.interview.specs.declared.status.Status.{Status}
 use Rattle.interview.specs.declared.status.Status.TheVariants.{Done, DictionaryRefused, Usage, FetchFault, ReadFault, WriteFault, ScriptTooLong, NoMemory}
 use Rattle.interview.specs.Words.{IsRun, IsCheck, Fetches, HasNoForm}
-use Rattle.interview.specs.Dictionary.{Dict}
-use Rattle.interview.specs.Json.{dictionary_of}
-use Rattle.interview.specs.Interview.{Defined, defined, defined_over, defined_fault, ChecksTo}
-use Rattle.interview.specs.Ends.{Given, Did, Run, Check, KnownRun, KnownCheck, Ends, RunEndsAs, EndsAs, EndedAs, EndedByCheck, FetchFailed, Interviewed, IsOneOf, Rises, SentWhole, Unread}
-use Rattle.interview.proofs.CheckLaws.{one_end}
+use Rattle.interview.specs.Interview.{defined_fault, ChecksTo, RunsTo}
+use Rattle.interview.specs.Ends.{Given, Did, Run, Check, KnownRun, KnownCheck, Ends, RunEndsAs, EndsAs, EndedAs, EndedByCheck, EndedByRun, FetchFailed, Interviewed, IsOneOf, Rises, Unread, rules_over}
+use Rattle.interview.specs.Replies.{at_start, state_after}
+use Rattle.interview.proofs.CheckLaws.{one_end, one_run}
+use Rattle.interview.proofs.FinalLineLaws.{final_lines_stay}
 
 -- ---- words
 
 not_both : (words : List (List ℕ)) (a b : List ℕ) → IsRun words a → IsCheck words b → ⊥
-not_both words a b p q = let both : codes "run" ∷ a ∷ [] ≡ codes "check" ∷ b ∷ [] = sym p ∙ q in cc
+not_both words a b (inl p) q = let both : codes "run" ∷ a ∷ [] ≡ codes "check" ∷ b ∷ [] = sym p ∙ q in cc
+not_both words a b (inr p) q = let both : codes "run-plain" ∷ a ∷ [] ≡ codes "check" ∷ b ∷ [] = sym p ∙ q in cc
+
+-- two words have one second word
+same_second : (first other a b : List ℕ) → first ∷ a ∷ [] ≡ other ∷ b ∷ [] → a ≡ b
+same_second first other a b both = cc
 
 -- one name is in the words
 same_name : (words : List (List ℕ)) (a b : List ℕ) → Fetches words a → Fetches words b → a ≡ b
-same_name words a b (inl p) (inl q) = let both : codes "run" ∷ a ∷ [] ≡ codes "run" ∷ b ∷ [] = sym p ∙ q in cc
-same_name words a b (inl p) (inr q) = absurd (not_both words a b p q)
-same_name words a b (inr p) (inl q) = absurd (not_both words b a q p)
-same_name words a b (inr p) (inr q) = let both : codes "check" ∷ a ∷ [] ≡ codes "check" ∷ b ∷ [] = sym p ∙ q in cc
+same_name words a b (inl (inl p)) (inl (inl q)) = same_second _ _ a b (sym p ∙ q)
+same_name words a b (inl (inl p)) (inl (inr q)) = same_second _ _ a b (sym p ∙ q)
+same_name words a b (inl (inl p)) (inr q) = same_second _ _ a b (sym p ∙ q)
+same_name words a b (inl (inr p)) (inl (inl q)) = same_second _ _ a b (sym p ∙ q)
+same_name words a b (inl (inr p)) (inl (inr q)) = same_second _ _ a b (sym p ∙ q)
+same_name words a b (inl (inr p)) (inr q) = same_second _ _ a b (sym p ∙ q)
+same_name words a b (inr p) (inl (inl q)) = same_second _ _ a b (sym p ∙ q)
+same_name words a b (inr p) (inl (inr q)) = same_second _ _ a b (sym p ∙ q)
+same_name words a b (inr p) (inr q) = same_second _ _ a b (sym p ∙ q)
 
 module _ (given : Given) where
   -- ---- what is told
@@ -40,11 +51,11 @@ module _ (given : Given) where
   not_there name other may asked gone asked_other held_other = subst (λ (t : Told). MayHold t may) (told_at name other missing asked gone asked_other) held_other
 
   -- a run that may have been given is the one that is told
-  known_run : (k : KnownRun given) (run : Run given) → defined run.bytes run.script ≡ defined k.bytes k.script
+  known_run : (k : KnownRun given) (run : Run given) → RunsTo k.bytes given.checks k.script run.outcome
   known_run k run =
       let bytes = told_bytes k.name run.name k.bytes run.bytes (inl k.asked) k.held (inl run.asked) run.held in
       let script = subst (λ (o : Option (List ℕ)). MayBe o run.script) k.read run.read in
-      λ i. defined (sym bytes i) (sym script i)
+      subst (λ b. RunsTo b given.checks k.script run.outcome) (sym bytes) (subst (λ l. RunsTo run.bytes given.checks l run.outcome) (sym script) run.ran)
 
   -- a check that may have been given is that of the dictionary that is told
   known_check : (k : KnownCheck given) (check : Check given) → ChecksTo k.bytes given.checks check.outcome
@@ -93,32 +104,34 @@ module _ (given : Given) where
     ran status (inl ends) name asked = ends
     ran status (inr ends) name asked = absurd (not_both given.words name ends.0.name asked ends.0.asked)
 
-    ended : (status : Status) → RunEndsAs given did status → (k : KnownRun given) → EndedAs did status (defined k.bytes k.script)
-    ended status ends k =
-        let same = known_run k ends.0 in
-        (sym ends.1 ∙ ap (λ d. d.status) same, subst (λ (d : Defined). SentWhole did.script.taken d.text) same ends.2)
+    ended : (status : Status) → RunEndsAs given did status → (k : KnownRun given) → EndedByRun given did status k.bytes k.script
+    ended status ends k = (ends.0.outcome, known_run k ends.0, (sym ends.1, ends.2))
 
-    -- a refused dictionary gives one status
-    one_status : (status : Status) → RunEndsAs given did status → (name bytes : List ℕ) → IsRun given.words name → given.told name ≡ holds bytes → dictionary_of bytes ≡ None → status ≡ DictionaryRefused
-    one_status status ends name bytes asked held none =
-        let same = told_bytes name ends.0.name bytes ends.0.bytes (inl asked) held (inl ends.0.asked) ends.0.held in
-        sym ends.1 ∙ ap (λ b. (defined b ends.0.script).status) (sym same) ∙ ap (λ (d : Option Dict). (defined_over d ends.0.script).status) none
+    -- a dictionary with a fault comes to its line
+    fault_told : (status : Status) → RunEndsAs given did status → (name bytes : List ℕ) (fault : DictFault) → IsRun given.words name → given.told name ≡ holds bytes → IsFault bytes (names_of given.checks) fault
+        → EndedAs did status (defined_fault fault)
+    fault_told status ends name bytes fault asked held is =
+        let run = ends.0 in
+        let same = told_bytes name run.name bytes run.bytes (inl asked) held (inl run.asked) run.held in
+        let outcome : run.outcome ≡ defined_fault fault =
+        one_run run.bytes given.checks run.script run.outcome (defined_fault fault) run.ran (inr (fault, subst (λ b. IsFault b (names_of given.checks) fault) same is, refl)) in
+        subst (EndedAs did status) outcome (sym ends.1, ends.2)
 
-    refused : (status : Status) → Ends given did status → (name bytes : List ℕ) → IsRun given.words name → given.told name ≡ holds bytes → dictionary_of bytes ≡ None
-        → IsOneOf status (DictionaryRefused ∷ FetchFault ∷ WriteFault ∷ NoMemory ∷ [])
-    refused Done ends name bytes asked held none = inl (one_status Done (ran Done ends name asked) name bytes asked held none)
-    refused DictionaryRefused ends name bytes asked held none = inl refl
-    refused Usage ends name bytes asked held none = absurd (ends.0 name (inl asked))
-    refused FetchFault ends name bytes asked held none = inr (inl refl)
-    refused ReadFault ends name bytes asked held none =
+    refused : (status : Status) → Ends given did status → (name bytes : List ℕ) (fault : DictFault) → IsRun given.words name → given.told name ≡ holds bytes → IsFault bytes (names_of given.checks) fault
+        → EndedAs did status (defined_fault fault) ⊎ IsOneOf status (FetchFault ∷ WriteFault ∷ NoMemory ∷ [])
+    refused Done ends name bytes fault asked held is = inl (fault_told Done (ran Done ends name asked) name bytes fault asked held is)
+    refused DictionaryRefused ends name bytes fault asked held is = inl (fault_told DictionaryRefused (ran DictionaryRefused ends name asked) name bytes fault asked held is)
+    refused Usage ends name bytes fault asked held is = absurd (ends.0 name (inl asked))
+    refused FetchFault ends name bytes fault asked held is = inr (inl refl)
+    refused ReadFault ends name bytes fault asked held is =
         let over = ends.1.0 in
         let same = told_bytes name over.name bytes over.bytes (inl asked) held (inl over.asked) over.held in
-        absurd (none-some over.dict (sym none ∙ ap dictionary_of same ∙ over.accepted))
-    refused WriteFault ends name bytes asked held none = inr (inr (inl refl))
-    refused ScriptTooLong ends name bytes asked held none = inl (one_status ScriptTooLong ends name bytes asked held none)
-    refused NoMemory ends name bytes asked held none = inr (inr (inr (inl refl)))
+        absurd (accepted_has_none over.bytes (names_of given.checks) over.dict fault over.is_accepted (subst (λ b. IsFault b (names_of given.checks) fault) same is))
+    refused WriteFault ends name bytes fault asked held is = inr (inr (inl refl))
+    refused ScriptTooLong ends name bytes fault asked held is = inl (fault_told ScriptTooLong ends name bytes fault asked held is)
+    refused NoMemory ends name bytes fault asked held is = inr (inr (inr (inl refl)))
 
-    exact : (status : Status) → Ends given did status → (k : KnownRun given) → EndedAs did status (defined k.bytes k.script) ⊎ IsOneOf status (FetchFault ∷ ReadFault ∷ WriteFault ∷ NoMemory ∷ [])
+    exact : (status : Status) → Ends given did status → (k : KnownRun given) → EndedByRun given did status k.bytes k.script ⊎ IsOneOf status (FetchFault ∷ ReadFault ∷ WriteFault ∷ NoMemory ∷ [])
     exact Done ends k = inl (ended Done (ran Done ends k.name k.asked) k)
     exact DictionaryRefused ends k = inl (ended DictionaryRefused (ran DictionaryRefused ends k.name k.asked) k)
     exact Usage ends k = absurd (ends.0 k.name (inl k.asked))
@@ -129,7 +142,7 @@ module _ (given : Given) where
     exact NoMemory ends k = inr (inr (inr (inr (inl refl))))
 
     complete : (status : Status) → Ends given did status → (k : KnownRun given) → (FetchFailed given did → ⊥) → (Rises did.script.source → ⊥) → (Rises did.script.sink → ⊥)
-        → EndedAs did status (defined k.bytes k.script) ⊎ (status ≡ NoMemory)
+        → EndedByRun given did status k.bytes k.script ⊎ (status ≡ NoMemory)
     complete FetchFault ends k fetch read write = absurd (fetch (ends.0, ends.1))
     complete ReadFault ends k fetch read write = absurd (read ends.0)
     complete WriteFault ends k fetch read write = absurd (write ends.0)
@@ -181,10 +194,10 @@ module _ (given : Given) where
     check_complete NoMemory ends k fetch write = inr refl
 
     -- the fault that a dictionary has is the one that is named
-    fault_named : (status : Status) (bytes : List ℕ) (fault : DictFault) → IsFault bytes given.checks fault → EndedByCheck given did status bytes → EndedAs did status (defined_fault fault)
+    fault_named : (status : Status) (bytes : List ℕ) (fault : DictFault) → IsFault bytes (names_of given.checks) fault → EndedByCheck given did status bytes → EndedAs did status (defined_fault fault)
     fault_named status bytes fault is ended_by = subst (EndedAs did status) (one_end bytes given.checks ended_by.0 (defined_fault fault) ended_by.1 (inr (fault, is, refl))) ended_by.2
 
-    check_refused : (status : Status) → Ends given did status → (k : KnownCheck given) (fault : DictFault) → IsFault k.bytes given.checks fault → EndedAs did status (defined_fault fault) ⊎ IsOneOf status (FetchFault ∷ WriteFault ∷ NoMemory ∷ [])
+    check_refused : (status : Status) → Ends given did status → (k : KnownCheck given) (fault : DictFault) → IsFault k.bytes (names_of given.checks) fault → EndedAs did status (defined_fault fault) ⊎ IsOneOf status (FetchFault ∷ WriteFault ∷ NoMemory ∷ [])
     check_refused status ends k fault is =
         elim (check_exact status ends k) as (λ _. EndedAs did status (defined_fault fault) ⊎ IsOneOf status (FetchFault ∷ WriteFault ∷ NoMemory ∷ [])) [
           | inl ended_by ↦ inl (fault_named status k.bytes fault is ended_by)
@@ -199,6 +212,7 @@ module _ (given : Given) where
       refused = refused status ends;
       exact = exact status ends;
       complete = complete status ends;
+      finals = λ over lines. final_lines_stay (names_of given.checks) (rules_over given over) over.is_accepted.1 (state_after (rules_over given over) (at_start (rules_over given over)) lines).course;
       check_unread = check_unread status ends;
       check_refused = check_refused status ends;
       check_exact = check_exact status ends;

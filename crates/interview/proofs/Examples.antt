@@ -1,100 +1,83 @@
 -- Worked examples of the definitions.
-use Rattle.std.proofs.Common.{◌≡◌, ℕ, List, [], ◌∷◌, ◌++◌, Some, None, refl}
+use Rattle.std.proofs.Common.{◌≡◌, ℕ, List, [], ◌∷◌, ◌++◌, false, true, refl}
 use Rattle.std.specs.Prelude.{codes, pos}
 use Rattle.std.specs.Fmt.{digits}
 use Rattle.std.specs.Str.{is_utf8, chars}
 use lib.Utf8.{encode}
-use Rattle.serde_json.specs.Data.{Data, string, array, object, Items, no_items, item, no_members, member}
+use Rattle.fact_values.specs.declared.fault.ValueFault.TheVariants.{ZeroDivide}
+use Rattle.fact_values.specs.declared.value.Value.TheVariants.{Choice, Dollar, Members}
+use Rattle.value_text.specs.Enums.{Listed}
+use Rattle.three_state.specs.declared.res.Res.TheVariants.{Complete, Placeholder, Fault}
 use Rattle.script_lines.specs.Lines.{script_lines}
-use Rattle.interview.specs.declared.body.Body.TheVariants.{Writable, Sum}
-use Rattle.interview.specs.declared.result.Res.TheVariants.{Complete, Incomplete}
-use Rattle.interview.specs.Dictionary.{Dict}
-use Rattle.interview.specs.Json.{fact_after, dict_of}
-use Rattle.interview.specs.Evaluation.{within, plain}
-use Rattle.interview.specs.Replies.{at_start, replies}
-use Rattle.interview.specs.FaultLines.{fault_line, accepted_line}
 use Rattle.dictionary.specs.declared.fault.DictFault.TheVariants.{TooLong, Shape, TooMany, IllTyped}
-
--- `/a` and `/b` are answered, and `/s` is their sum
-abbrev three : Dict
-three = record { names = codes "a" ∷ codes "b" ∷ codes "s" ∷ []; bodies = Writable ∷ Writable ∷ Sum (0 ∷ 1 ∷ []) ∷ [] }
-
--- ---- plain evaluation
-
-plain-unanswered : plain three.bodies (Some (pos 500) ∷ None ∷ None ∷ []) 2 ≡ Incomplete
-unfolding within plain
-plain-unanswered = refl
-
-plain-sum : plain three.bodies (Some (pos 150) ∷ Some (pos 200) ∷ None ∷ []) 2 ≡ Complete (pos 350)
-unfolding within plain
-plain-sum = refl
-
--- ---- replies
+use Rattle.graph_session.specs.Rules.{Rules}
+use Rattle.graph_session.specs.Shown.{Course}
+use Rattle.graph_session.specs.declared.reply.Refusal.TheVariants.{Full, Limit, Check}
+use Rattle.graph_session.specs.declared.reply.Reply.TheVariants.{Added, Stamp}
+use Rattle.interview.specs.Replies.{final_text, open_at, refusal_text, replies, reply_text, result_text}
+use Rattle.interview.specs.FaultLines.{fault_line, accepted_line}
 
 abbrev newline : List ℕ
 newline = 10 ∷ []
 
-replies-two_lines : replies three (at_start three) (script_lines (codes "set /a 5" ++ newline ++ codes "get /s" ++ newline)) ≡ codes "ok" ++ newline ++ codes "incomplete" ++ newline
-unfolding within plain is_utf8 chars encode
-replies-two_lines = refl
+abbrev colors : List Listed
+colors = record { name = codes "color"; options = codes "red" ∷ codes "green" ∷ [] } ∷ []
 
-replies-quit : replies three (at_start three) (script_lines (codes "set /a 5" ++ newline ++ codes "quit" ++ newline ++ codes "get /a")) ≡ codes "ok" ++ newline
-unfolding within plain is_utf8 chars encode
-replies-quit = refl
+-- ---- texts
 
-replies-sum : replies three (at_start three) (script_lines (codes "set /a 1.50" ++ newline ++ codes "set /b 2" ++ newline ++ codes "get /s" ++ newline)) ≡ codes "ok" ++ newline ++ codes "ok" ++ newline ++ codes "complete 3.50" ++ newline
-unfolding within plain is_utf8 chars encode digits
-replies-sum = refl
+result_text-amount : result_text [] (Complete (Dollar (pos 350))) ≡ codes "complete 3.50"
+unfolding digits
+result_text-amount = refl
 
-replies-overflow : replies three (at_start three) (script_lines (codes "set /a 9999999999999.99" ++ newline ++ codes "set /b 0.01" ++ newline ++ codes "get /s")) ≡ codes "ok" ++ newline ++ codes "ok" ++ newline ++ codes "fault overflow" ++ newline
-unfolding within plain is_utf8 chars encode
-replies-overflow = refl
+result_text-option : result_text colors (Placeholder (Choice 0 1)) ≡ codes "placeholder green"
+result_text-option = refl
 
-replies-refused : replies three (at_start three) (script_lines (codes "get /zz" ++ newline ++ codes "set /s 1" ++ newline ++ codes "set /a 1.5" ++ newline ++ codes "Get /a"))
-    ≡ codes "refused 3 UnknownFact" ++ newline ++ codes "refused 5 WrongKind" ++ newline ++ codes "refused 6 BadValue" ++ newline ++ codes "refused 1 BadLine" ++ newline
-unfolding within plain is_utf8 chars encode
-replies-refused = refl
+result_text-members : result_text [] (Complete (Members (2 ∷ 13 ∷ []))) ≡ codes "complete [#2 #13]"
+unfolding digits
+result_text-members = refl
 
--- commands that aren't carried out so far
-replies-other_commands : replies three (at_start three) (script_lines (codes "undo" ++ newline ++ codes "get /c/#1/a" ++ newline ++ codes "remove /a #1"))
-    ≡ codes "refused 1 BadLine" ++ newline ++ codes "refused 1 BadLine" ++ newline ++ codes "refused 1 BadLine" ++ newline
-unfolding within plain is_utf8 chars encode
-replies-other_commands = refl
+result_text-fault : result_text [] (Fault ZeroDivide) ≡ codes "fault zero-divide"
+result_text-fault = refl
 
--- ---- JSON, an object's members in the order of their keys
+final_text-final : final_text colors true (Complete (Choice 0 0)) ≡ codes "final red"
+final_text-final = refl
 
-abbrev text : List ℕ → Data
-text t = string t
+final_text-not_steady : final_text colors false (Complete (Choice 0 0)) ≡ codes "open"
+final_text-not_steady = refl
 
-abbrev fact_a : Data
-fact_a = object (member (codes "path") (text (codes "/a")) (member (codes "writable") (text (codes "Dollar")) no_members))
+final_text-placeholder : final_text colors false (Placeholder (Choice 0 0)) ≡ codes "open"
+final_text-placeholder = refl
 
--- a fact that adds up the facts of these paths
-abbrev fact_s : Items → Data
-fact_s operands =
-    object (member (codes "derived") (text (codes "Dollar")) (member (codes "is") (array (item (text (codes "Add")) operands)) (member (codes "path") (text (codes "/s")) no_members)))
+refusal_text-place : refusal_text (Limit 1) ≡ codes "refused 7 Limit 1"
+unfolding digits
+refusal_text-place = refl
 
-abbrev operand : List ℕ → Items
-operand path = item (array (item (text (codes "Dependency")) (item (text path) no_items))) no_items
+refusal_text-check : refusal_text (Check 2) ≡ codes "refused 8 Check 2"
+unfolding digits
+refusal_text-check = refl
 
-abbrev top : Items → Data
-top facts = object (member (codes "facts") (array facts) (member (codes "version") (text (codes "1")) no_members))
+refusal_text-no_place : refusal_text Full ≡ codes "refused 9 Full"
+refusal_text-no_place = refl
 
-dict_of-sum : dict_of (top (item fact_a (item (fact_s (operand (codes "/a"))) no_items))) ≡ Some (record { names = codes "a" ∷ codes "s" ∷ []; bodies = Writable ∷ Sum (0 ∷ []) ∷ [] })
-unfolding dict_of fact_after
-dict_of-sum = refl
+-- ---- lines, over any dictionary and from any answers
 
-dict_of-late_operand : dict_of (top (item (fact_s (operand (codes "/a"))) (item fact_a no_items))) ≡ None
-unfolding dict_of fact_after
-dict_of-late_operand = refl
+module _ (r : Rules) (c : Course) where
+  reply_text-added : reply_text r c (Added 101) ≡ codes "ok #101"
+  unfolding digits
+  reply_text-added = refl
 
-dict_of-sum_of_nothing : dict_of (top (item (fact_s no_items) no_items)) ≡ None
-unfolding dict_of fact_after
-dict_of-sum_of_nothing = refl
+  reply_text-stamp : reply_text r c (Stamp 0) ≡ codes "stamp 0"
+  unfolding digits
+  reply_text-stamp = refl
 
-dict_of-name_twice : dict_of (top (item fact_a (item fact_a no_items))) ≡ None
-unfolding dict_of fact_after
-dict_of-name_twice = refl
+  replies-without_form : replies r (open_at c) (script_lines (codes "Get /a" ++ newline ++ newline ++ codes "# note" ++ newline ++ codes "missing /a"))
+      ≡ codes "refused 1 BadLine" ++ newline ++ codes "refused 1 BadLine" ++ newline
+  unfolding is_utf8 chars encode
+  replies-without_form = refl
+
+  replies-quit : replies r (open_at c) (script_lines (codes "quit" ++ newline ++ codes "get /a")) ≡ []
+  unfolding is_utf8 chars encode
+  replies-quit = refl
 
 -- ---- what a dictionary came to
 

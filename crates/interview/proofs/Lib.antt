@@ -1,11 +1,10 @@
 pub mod CheckLaws
-pub mod DictLaws
 pub mod EndLaws
 pub mod ExactLaws
 mod Examples
-pub mod GlobalLaws
+pub mod FinalLineLaws
 pub mod HearingLaws
-pub mod JsonLaws
-pub mod PlainLaws
+pub mod PrintLaws
 pub mod ScriptLaws
 pub mod TopLaws
+pub mod UndoLaws

@@ -1,20 +1,20 @@
 -- Words, the dictionary, and the ends of an interview from those of its steps.
-use Rattle.std.proofs.Common.{◌≡◌, ℕ, ◌<◌, ◌≤◌, List, [], ◌∷◌, length, get_or, Option, None, Some, String, string_bytes, inl, inr, sym, ap, subst, ◌∙◌, arith}
-use Rattle.std.specs.Prelude.{option_and_then, if◌then◌else◌}
+use Rattle.std.proofs.Common.{◌≡◌, ℕ, ◌<◌, ◌≤◌, List, [], ◌∷◌, length, get_or, map, Option, String, string_bytes, inl, inr, refl, sym, ap, subst, ◌∙◌, arith}
 use Rattle.std.specs.declared.alloc.Global.{Global}
-use Rattle.std.proofs.lemmas.Bool.{lt-leb}
 use Rattle.std.specs.Io.KnownBytes.{Appends, Keeps}
 use Rattle.std.proofs.KnownBytes.{Keeps-refl}
 use Rattle.fg_io.specs.Outside.{MayBe, MayHold}
 use Rattle.fg_io.proofs.SentLaws.{appends_none}
 use Rattle.fg_io.proofs.ConsumedLaws.{consumes_none, may_go_on}
+use Rattle.dictionary.specs.declared.fault.DictFault.{DictFault}
+use Rattle.dictionary.specs.Accepted.{Accepted, Kept, accepted, names_of}
+use Rattle.dictionary.specs.Faults.{AreAccepted, IsFault}
+use Rattle.graph_session.specs.Rules.{Rules, rules}
 use Rattle.interview.specs.declared.status.Status.{Status}
 use Rattle.interview.specs.declared.status.Status.TheVariants.{Done, DictionaryRefused, Usage, FetchFault, ReadFault, WriteFault, ScriptTooLong, NoMemory}
 use Rattle.interview.specs.Words.{IsRun, HasNoForm, texts}
-use Rattle.interview.specs.Dictionary.{Dict}
-use Rattle.interview.specs.Json.{json_of, dict_of, dictionary_of}
-use Rattle.interview.specs.Interview.{Defined, usage, refused, defined, defined_over, defined_script}
-use Rattle.interview.specs.Ends.{ScriptDid, ScriptEnds, Given, Did, Run, Accepted, Ends, SentWhole, SentPart, NotFetched, EndedBy, Unread}
+use Rattle.interview.specs.Interview.{usage, defined_fault, defined_script, rules_by}
+use Rattle.interview.specs.Ends.{ScriptDid, ScriptEnds, Given, Did, Run, AcceptedRun, Ends, NotFetched, EndedBy, Unread}
 
 -- ---- words
 
@@ -25,11 +25,12 @@ two_words (x ∷ []) a b first low high is_a is_b same = absurd (omega arith)
 two_words (x ∷ y ∷ []) a b first low high is_a is_b same = λ i. (ap string_bytes (sym is_a) ∙ same) i ∷ string_bytes (sym is_b i) ∷ []
 two_words (x ∷ y ∷ z ∷ words) a b first low high is_a is_b same = absurd (omega arith)
 
--- ---- the dictionary
+-- ---- the checks
 
-pub too_long_refused : (bytes : List ℕ) → 8388608 < length bytes → dictionary_of bytes ≡ None
-unfolding dictionary_of
-too_long_refused bytes long = ap (λ b. if b then option_and_then dict_of (json_of bytes) else None) (lt-leb (length bytes) 8388608 long)
+-- the names of a table's checks are those of its pairs of names and codes
+pub names_are : {C : Type 0} (name : C → List ℕ) (code : C → ℕ) (items : List C) → names_of (map (λ c. (name c, code c)) items) ≡ map name items
+names_are name code [] = refl
+names_are name code (c ∷ items) = ap (λ l. name c ∷ l) (names_are name code items)
 
 -- ---- a script that isn't begun
 
@@ -37,8 +38,8 @@ too_long_refused bytes long = ap (λ b. if b then option_and_then dict_of (json_
 some_script : (left : Option (List ℕ)) → (script : List ℕ) × MayBe left script
 some_script left = may_go_on left left [] (consumes_none left)
 
-pub not_begun : (dict : Dict) (did : ScriptDid) → did.taken.before ≡ did.taken.after → ScriptEnds dict did NoMemory
-not_begun dict did still = record {
+pub not_begun : (r : Rules) (did : ScriptDid) → did.taken.before ≡ did.taken.after → ScriptEnds r did NoMemory
+not_begun r did still = record {
   script = (some_script did.left.before).0;
   read = (some_script did.left.before).1;
   count = 0;
@@ -62,36 +63,51 @@ module _ (given : Given) (did : Did) (name : List ℕ) (asked : IsRun given.word
   ends_unfetched status still unread not = absurd not
 
   module _ (bytes : List ℕ) (held : MayHold (given.told name) bytes) where
-    abbrev over : (script : List ℕ) → MayBe given.left script → Run given
-    over script read = record { name = name; bytes = bytes; script = script; asked = asked; held = held; read = read }
+    -- ---- a dictionary with a fault
 
-    module _ (is : dictionary_of bytes ≡ None) where
-      abbrev some_run : Run given
-      some_run = over (some_script given.left).0 (some_script given.left).1
+    module _ (fault : DictFault) (is : IsFault bytes (names_of given.checks) fault) where
+      -- the script may have been any
+      abbrev refused_run : Run given
+      refused_run =
+          let some = some_script given.left in
+          record { name = name; bytes = bytes; script = some.0; outcome = defined_fault fault; asked = asked; held = held; read = some.1; ran = inr (fault, is, refl) }
 
-      is_refused : refused ≡ defined bytes some_run.script
-      is_refused = ap (λ d. defined_over d some_run.script) (sym is)
+      pub ends_refused : (status : Status) → Ended did (defined_fault fault).text DictionaryRefused status → Ends given did status
+      ends_refused status (inl (same, wrote)) = subst (Ends given did) (sym same) (inl (refused_run, refl, wrote))
+      ends_refused status (inr (same, rose, part)) = subst (Ends given did) (sym same) (rose, inr (inl (refused_run, part)))
 
-      pub ends_refused : (status : Status) → Ended did refused.text DictionaryRefused status → Ends given did status
-      ends_refused status (inl (same, wrote)) = subst (Ends given did) (sym same) (inl (some_run, ap (λ d. d.status) (sym is_refused), subst (λ (d : Defined). SentWhole did.script.taken d.text) is_refused wrote))
-      ends_refused status (inr (same, rose, part)) = subst (Ends given did) (sym same) (rose, inr (inl (some_run, subst (λ (d : Defined). SentPart did.script.taken d.text) is_refused part)))
+    -- ---- an accepted one
 
-    module _ (dict : Dict) (is : dictionary_of bytes ≡ Some dict) (same_left : did.script.left.before ≡ given.left) where
-      abbrev accepted : Accepted given
-      accepted = record { name = name; bytes = bytes; dict = dict; asked = asked; held = held; accepted = is }
+    module _ (dict : Accepted) (is : AreAccepted bytes (names_of given.checks) dict) (same_left : did.script.left.before ≡ given.left) where
+      abbrev r : Rules
+      r = rules_by given.checks dict
 
-      over_script : (script : List ℕ) → MayBe did.script.left.before script → Run given
-      over_script script read = over script (subst (λ l. MayBe l script) same_left read)
+      abbrev over : AcceptedRun given
+      over = record { name = name; bytes = bytes; dict = dict; asked = asked; held = held; is_accepted = is }
 
-      is_defined : (script : List ℕ) → defined_script dict script ≡ defined bytes script
-      is_defined script = ap (λ d. defined_over d script) (sym is)
+      abbrev run_of : (script : List ℕ) → MayBe did.script.left.before script → Run given
+      run_of script read = record {
+        name = name;
+        bytes = bytes;
+        script = script;
+        outcome = defined_script r script;
+        asked = asked;
+        held = held;
+        read = subst (λ l. MayBe l script) same_left read;
+        ran = inl (dict, is, refl);
+      }
 
-      pub ends_run : (status : Status) → ScriptEnds dict did.script status → Ends given did status
-      ends_run Done ends = inl (over ends.0 (subst (λ l. MayBe l ends.0) same_left ends.1), ap (λ d. d.status) (sym (is_defined ends.0)) ∙ ends.2, subst (λ (d : Defined). SentWhole did.script.taken d.text) (is_defined ends.0) ends.3)
-      ends_run DictionaryRefused ends = absurd ends
-      ends_run Usage ends = absurd ends
-      ends_run FetchFault ends = absurd ends
-      ends_run ReadFault ends = (ends.0, (accepted, ends.1))
-      ends_run WriteFault ends = (ends.0, inr (inl (over ends.1.0 (subst (λ l. MayBe l ends.1.0) same_left ends.1.1), subst (λ (d : Defined). SentPart did.script.taken d.text) (is_defined ends.1.0) ends.1.2)))
-      ends_run ScriptTooLong ends = (over ends.0 (subst (λ l. MayBe l ends.0) same_left ends.1), ap (λ d. d.status) (sym (is_defined ends.0)) ∙ ends.2, subst (λ (d : Defined). SentWhole did.script.taken d.text) (is_defined ends.0) ends.3)
-      ends_run NoMemory ends = inr (accepted, ends)
+      ends_over : (status : Status) → ScriptEnds r did.script status → Ends given did status
+      ends_over Done ends = inl (run_of ends.0 ends.1, ends.2, ends.3)
+      ends_over DictionaryRefused ends = absurd ends
+      ends_over Usage ends = absurd ends
+      ends_over FetchFault ends = absurd ends
+      ends_over ReadFault ends = (ends.0, (over, ends.1))
+      ends_over WriteFault ends = (ends.0, inr (inl (run_of ends.1.0 ends.1.1, ends.1.2)))
+      ends_over ScriptTooLong ends = (run_of ends.0 ends.1, ends.2, ends.3)
+      ends_over NoMemory ends = inr (over, ends)
+
+    pub ends_run : (dict : Kept) → AreAccepted bytes (names_of given.checks) (accepted dict) × (dict.checks ≡ given.checks) → did.script.left.before ≡ given.left
+        → (status : Status) → ScriptEnds (rules dict) did.script status → Ends given did status
+    ends_run dict is same_left status ends =
+        ends_over (accepted dict) is.0 same_left status (subst (λ checks. ScriptEnds (rules_by checks (accepted dict)) did.script status) is.1 ends)

@@ -1,10 +1,15 @@
 -- The line that says what a dictionary came to.
-use Rattle.std.specs.Prelude.{ℕ, List, [], ◌++◌, codes, decimal}
+use Rattle.std.specs.Prelude.{ℕ, Bool, true, false, List, [], ◌++◌, codes}
 use Rattle.dictionary.specs.declared.fault.DictFault.{DictFault}
 use Rattle.dictionary.specs.declared.fault.DictFault.TheVariants.{TooLong, NotJson, Shape, TooMany, TooDeep, BadPath, DuplicatePath, NoCollection, UnknownPath, WrongPlace, UnknownCheck, IllTyped, BadLimit, Cycle, NoMemory}
-use Rattle.interview.specs.Replies.{line_with}
+use Rattle.interview.specs.Replies.{line_with, numbered}
 
--- its number and its name; want of memory is no fault of a dictionary
+-- want of memory is no fault of a dictionary
+abbrev pub is_memory : DictFault → Bool
+is_memory NoMemory = true
+is_memory _ = false
+
+-- its number and its name
 abbrev pub fault_name : DictFault → List ℕ
 fault_name TooLong = codes "1 TooLong"
 fault_name NotJson = codes "2 NotJson"
@@ -21,9 +26,6 @@ fault_name (IllTyped fact node) = codes "12 IllTyped"
 fault_name (BadLimit fact) = codes "13 BadLimit"
 fault_name (Cycle fact) = codes "14 Cycle"
 fault_name NoMemory = []
-
-abbrev pub numbered : List ℕ → ℕ → List ℕ
-numbered text number = text ++ decimal number
 
 abbrev pub at_fact : ℕ → List ℕ
 at_fact fact = numbered (codes " fact ") fact

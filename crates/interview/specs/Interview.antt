@@ -1,15 +1,24 @@
 -- The defined interview: what words, a dictionary and a script are to write, and the status at the end.
-use Rattle.std.specs.Prelude.{◌≡◌, ◌⊎◌, ℕ, List, length, take, codes, nat_le, Option, Some, None, if◌then◌else◌}
+use Rattle.std.specs.Prelude.{◌≡◌, ◌⊎◌, ℕ, List, ◌++◌, length, take, codes, nat_le, IsSome, None, if◌then◌else◌}
+use Rattle.fact_paths.specs.declared.slot_path.SlotPath.{SlotPath}
+use Rattle.value_text.specs.Values.{printed}
 use Rattle.dictionary.specs.declared.fault.DictFault.{DictFault}
-use Rattle.dictionary.specs.Accepted.{Accepted}
+use Rattle.dictionary.specs.Accepted.{Accepted, IsAccepted, Named, names_of}
+use Rattle.dictionary.specs.Extension.{IsExtension}
 use Rattle.dictionary.specs.Faults.{AreAccepted, IsFault}
 use Rattle.dictionary.specs.Keeping.{node_count}
 use Rattle.script_lines.specs.Lines.{script_lines, ended_lines}
+use Rattle.script_lines.specs.declared.command.Command.{Command}
+use Rattle.script_lines.specs.declared.command.Command.TheVariants.{Final, Undo}
+use Rattle.graph_session.specs.Changes.{change_of}
+use Rattle.graph_session.specs.Naming.{slot_of}
+use Rattle.graph_session.specs.Rules.{Rules, tree_of}
+use Rattle.graph_session.specs.Shown.{Course}
+use Rattle.graph_session.specs.Step.{refusal}
+use Rattle.placeholder_laws.specs.Stays.{Stays}
 use Rattle.interview.specs.declared.status.Status.{Status}
 use Rattle.interview.specs.declared.status.Status.TheVariants.{Done, DictionaryRefused, Usage, ScriptTooLong}
-use Rattle.interview.specs.Dictionary.{Dict}
-use Rattle.interview.specs.Json.{dictionary_of}
-use Rattle.interview.specs.Replies.{line_with, at_start, replies, state_after}
+use Rattle.interview.specs.Replies.{line_with, at_start, replies, state_after, step_command}
 use Rattle.interview.specs.FaultLines.{fault_line, accepted_line}
 
 -- a text, and the status that comes with it
@@ -20,48 +29,86 @@ pub record Defined : Type 0 where
 abbrev pub usage : Defined
 usage = record { text = line_with (codes "usage: interview COMMAND ARGUMENTS"); status = Usage }
 
-abbrev pub refused : Defined
-refused = record { text = line_with (codes "dictionary refused 3 Shape fact 0"); status = DictionaryRefused }
+-- the line of a dictionary's first fault
+abbrev pub defined_fault : DictFault → Defined
+defined_fault fault = record { text = fault_line fault; status = DictionaryRefused }
+
+-- ---- a script over an accepted dictionary
 
 abbrev pub script_limit : ℕ
 script_limit = 67108864
 
 -- the replies to the lines that end within the limit: whole where one of them is `quit`, else the script is too long
-abbrev pub defined_cut : Dict → List ℕ → Defined
-defined_cut dict front = record {
-  text = replies dict (at_start dict) (ended_lines front);
-  status = if (state_after dict (at_start dict) (ended_lines front)).over then Done else ScriptTooLong;
+abbrev pub defined_cut : Rules → List ℕ → Defined
+defined_cut r front = record {
+  text = replies r (at_start r) (ended_lines front);
+  status = if (state_after r (at_start r) (ended_lines front)).over then Done else ScriptTooLong;
 }
 
--- what a script over an accepted dictionary is to give
-unfoldable pub defined_script : Dict → List ℕ → Defined
-defined_script dict script =
+-- what a script is to give
+unfoldable pub defined_script : Rules → List ℕ → Defined
+defined_script r script =
     if nat_le (length script) script_limit
-    then record { text = replies dict (at_start dict) (script_lines script); status = Done }
-    else defined_cut dict (take script_limit script)
+    then record { text = replies r (at_start r) (script_lines script); status = Done }
+    else defined_cut r (take script_limit script)
 
-abbrev pub defined_over : Option Dict → List ℕ → Defined
-defined_over None script = refused
-defined_over (Some dict) script = defined_script dict script
+-- the line of a value that is final
+abbrev pub final_line : List ℕ → List ℕ
+final_line text = line_with (codes "final " ++ text)
 
--- what `run` is to give, over the bytes of a dictionary and of a script
-abbrev pub defined : List ℕ → List ℕ → Defined
-defined bytes script = defined_over (dictionary_of bytes) script
+-- ---- `run`
+
+-- by an accepted dictionary and the checks that it may name
+abbrev pub rules_by : List Named → Accepted → Rules
+rules_by checks dict = record { accepted = dict; checks = checks }
+
+-- what a run is to give over the bytes of a dictionary and of a script, with these checks: the replies, or the first fault
+abbrev pub RunsTo : List ℕ → List Named → List ℕ → Defined → Type 0
+RunsTo bytes checks script d =
+    ((dict : Accepted) × AreAccepted bytes (names_of checks) dict × (d ≡ defined_script (rules_by checks dict) script))
+    ⊎ ((fault : DictFault) × IsFault bytes (names_of checks) fault × (d ≡ defined_fault fault))
 
 -- ---- `check`
 
 abbrev pub defined_accepted : Accepted → Defined
 defined_accepted dict = record { text = accepted_line (length dict.tree.facts) (node_count dict.tree); status = Done }
 
-abbrev pub defined_fault : DictFault → Defined
-defined_fault fault = record { text = fault_line fault; status = DictionaryRefused }
+-- what a check is to give over the bytes of a dictionary, with these checks of texts
+abbrev pub ChecksTo : List ℕ → List Named → Defined → Type 0
+ChecksTo bytes checks d =
+    ((dict : Accepted) × AreAccepted bytes (names_of checks) dict × (d ≡ defined_accepted dict))
+    ⊎ ((fault : DictFault) × IsFault bytes (names_of checks) fault × (d ≡ defined_fault fault))
 
--- what `check` is to give over the bytes of a dictionary, with checks of these names
-abbrev pub ChecksTo : List ℕ → List (List ℕ) → Defined → Type 0
-ChecksTo bytes names d =
-    ((dict : Accepted) × AreAccepted bytes names dict × (d ≡ defined_accepted dict))
-    ⊎ ((fault : DictFault) × IsFault bytes names fault × (d ≡ defined_fault fault))
+-- ---- laws
 
--- it is one at most
+-- a check comes to one text and one status at most, and so does a run
 abbrev pub OneEndOfCheck : Type 0
-OneEndOfCheck = (bytes : List ℕ) (names : List (List ℕ)) (d e : Defined) → ChecksTo bytes names d → ChecksTo bytes names e → d ≡ e
+OneEndOfCheck = (bytes : List ℕ) (checks : List Named) (d e : Defined) → ChecksTo bytes checks d → ChecksTo bytes checks e → d ≡ e
+
+abbrev pub OneEndOfRun : Type 0
+OneEndOfRun = (bytes : List ℕ) (checks : List Named) (script : List ℕ) (d e : Defined) → RunsTo bytes checks script d → RunsTo bytes checks script e → d ≡ e
+
+-- ---- what is printed as final
+
+-- What `final PATH` printed as a value holds: the result of the path's slot is complete, with a value of this text, and so it is
+-- under every extension of the answers; and there the command prints the same.
+pub record HoldsAsFinal (r : Rules) (c : Course) (path : SlotPath) (text : List ℕ) : Type 0 where
+  pub stays : Stays r.accepted c.told.now (slot_of (tree_of r) path)
+  pub printed_so : text ≡ printed (tree_of r).enums stays.0
+  pub again : (d : Course) → IsExtension (tree_of r) c.told.now d.told.now → (step_command r d (Final path)).text ≡ final_line text
+
+-- what is printed as final by a session that stands so
+abbrev pub FinalsHold : Rules → Course → Type 0
+FinalsHold r c = (path : SlotPath) (text : List ℕ) → (step_command r c (Final path)).text ≡ final_line text → HoldsAsFinal r c path text
+
+-- wherever the session came from, and however it goes on
+abbrev pub FinalLinesStay : Type 0
+FinalLinesStay = (names : List (List ℕ)) (r : Rules) → IsAccepted names r.accepted → (c : Course) → FinalsHold r c
+
+-- ---- undo
+
+-- behind a change that was accepted, `undo` is accepted, and leads to the answers before the change: all of them
+abbrev pub UndoRestores : Type 0
+UndoRestores =
+    (r : Rules) (c : Course) (asked : Command) → IsSome (change_of (tree_of r) asked) → refusal r c asked ≡ None
+    → let undone = step_command r (step_command r c asked).state.course Undo in (undone.text ≡ line_with (codes "ok")) × (undone.state.course.told.now ≡ c.told.now)

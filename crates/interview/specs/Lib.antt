@@ -1,8 +1,4 @@
 pub mod Codes
-pub mod Paths
-pub mod Dictionary
-pub mod Json
-pub mod Evaluation
 pub mod Replies
 pub mod Words
 pub mod FaultLines

@@ -1,151 +1,196 @@
 -- What a command answers, and what it leaves.
-use Rattle.std.specs.Prelude.{◌≡◌, ℕ, ◌<◌, ℤ, Bool, true, false, List, [], ◌∷◌, ◌++◌, length, replicate, codes, slice_get, slice_set, Option, Some, None, if◌then◌else◌}
-use Rattle.fact_paths.specs.declared.slot_path.SlotPath.{SlotPath}
-use Rattle.fact_paths.specs.declared.slot_path.SlotPath.TheVariants.{Global, Member}
+use Rattle.std.specs.Prelude.{ℕ, Bool, true, false, List, [], ◌∷◌, ◌++◌, codes, decimal, Option, Some, None, Result, Ok, Err, if◌then◌else◌}
+use Rattle.fact_values.specs.declared.fault.ValueFault.{ValueFault}
+use Rattle.fact_values.specs.declared.fault.ValueFault.TheVariants.{Overflow, ZeroDivide}
+use Rattle.value_text.specs.Enums.{Listed}
+use Rattle.value_text.specs.Values.{IsPrinted, printed}
+use Rattle.three_state.specs.declared.res.Res.{Res}
+use Rattle.three_state.specs.declared.res.Res.TheVariants.{Complete, Placeholder, Incomplete, Fault}
+use Rattle.answers.specs.Answered.{start}
 use Rattle.script_lines.specs.Lines.{ScriptLine, whole, long}
 use Rattle.script_lines.specs.Reading.{Heard, nothing, bad_line, command, heard_in}
 use Rattle.script_lines.specs.declared.command.Command.{Command}
-use Rattle.script_lines.specs.declared.command.Command.TheVariants.{Set, Get, Quit}
-use Rattle.value_text.specs.Dollars.{dollar_at, printed_dollar}
-use Rattle.fact_values.specs.declared.fault.ValueFault.{ValueFault}
-use Rattle.fact_values.specs.declared.fault.ValueFault.TheVariants.{Overflow, ZeroDivide}
-use Rattle.interview.specs.declared.body.Body.{Body}
-use Rattle.interview.specs.declared.body.Body.TheVariants.{Writable, Sum}
-use Rattle.interview.specs.declared.result.Res.{Res}
-use Rattle.interview.specs.declared.result.Res.TheVariants.{Complete, Incomplete, Fault}
-use Rattle.interview.specs.declared.reply.Reply.{Reply}
-use Rattle.interview.specs.declared.reply.Reply.TheVariants.{Done, Answer, Refused}
-use Rattle.interview.specs.declared.reply.Refusal.{Refusal}
-use Rattle.interview.specs.declared.reply.Refusal.TheVariants.{BadLine, LongLine, UnknownFact, WrongKind, BadValue}
-use Rattle.interview.specs.Dictionary.{Dict, place_of}
-use Rattle.interview.specs.Evaluation.{result_at, plain}
-
--- ---- the text of a reply
-
-abbrev pub fault_text : ValueFault → List ℕ
-fault_text Overflow = codes "fault overflow"
-fault_text ZeroDivide = codes "fault zero-divide"
-
-abbrev pub result_text : Res → List ℕ
-result_text (Complete z) = codes "complete " ++ printed_dollar z
-result_text Incomplete = codes "incomplete"
-result_text (Fault f) = fault_text f
-
-abbrev pub refusal_text : Refusal → List ℕ
-refusal_text BadLine = codes "refused 1 BadLine"
-refusal_text LongLine = codes "refused 2 LongLine"
-refusal_text UnknownFact = codes "refused 3 UnknownFact"
-refusal_text WrongKind = codes "refused 5 WrongKind"
-refusal_text BadValue = codes "refused 6 BadValue"
-
-abbrev pub reply_text : Reply → List ℕ
-reply_text Done = codes "ok"
-reply_text (Answer res) = result_text res
-reply_text (Refused refusal) = refusal_text refusal
+use Rattle.script_lines.specs.declared.command.Command.TheVariants as commands
+use Rattle.dictionary.specs.Final.{is_final}
+use Rattle.dictionary.specs.Plain.{plain}
+use Rattle.graph_session.specs.Rules.{Rules, tree_of}
+use Rattle.graph_session.specs.Shown.{Course, begun}
+use Rattle.graph_session.specs.Step as session
+use Rattle.graph_session.specs.declared.reply.Refusal.{Refusal}
+use Rattle.graph_session.specs.declared.reply.Refusal.TheVariants.{UnknownFact, NoMember, WrongKind, BadValue, Limit, Check, Full, AlreadyOpen, NotAnswered, NoOverride, NothingToUndo, NothingToRedo, NoStamps, NoMemory}
+use Rattle.graph_session.specs.declared.reply.Reply.{Reply}
+use Rattle.graph_session.specs.declared.reply.Reply.TheVariants.{Done, Added, Answer, FinalAsked, Stamp, Touched, MissingAsked, WatchAsked, UnwatchAsked, Quit}
 
 -- a text and the newline that ends it
 abbrev pub line_with : List ℕ → List ℕ
 line_with text = text ++ 10 ∷ []
 
+-- a text and a number behind it
+abbrev pub numbered : List ℕ → ℕ → List ℕ
+numbered text number = text ++ decimal number
+
+-- ---- the text of a result
+
+abbrev pub fault_text : ValueFault → List ℕ
+fault_text Overflow = codes "fault overflow"
+fault_text ZeroDivide = codes "fault zero-divide"
+
+-- options go by these lists
+abbrev pub result_text : List Listed → Res → List ℕ
+result_text lists (Complete v) = codes "complete " ++ printed lists v
+result_text lists (Placeholder v) = codes "placeholder " ++ printed lists v
+result_text lists Incomplete = codes "incomplete"
+result_text lists (Fault fault) = fault_text fault
+
+-- of a complete result that is final, and of every other
+abbrev pub final_text : List Listed → Bool → Res → List ℕ
+final_text lists final (Complete v) = if final then codes "final " ++ printed lists v else codes "open"
+final_text lists final (Placeholder v) = codes "open"
+final_text lists final Incomplete = codes "open"
+final_text lists final (Fault fault) = codes "open"
+
+-- an option that the result has is in its list
+abbrev pub IsResPrinted : List Listed → Res → Type 0
+IsResPrinted lists (Complete v) = IsPrinted lists v
+IsResPrinted lists (Placeholder v) = IsPrinted lists v
+IsResPrinted lists Incomplete = Unit {0}
+IsResPrinted lists (Fault fault) = Unit {0}
+
+-- a slot that stands has a result, and no other is asked for
+abbrev pub asked_text : (Res → List ℕ) → Option Res → List ℕ → List ℕ
+asked_text text None otherwise = otherwise
+asked_text text (Some res) otherwise = text res
+
+-- ---- the text of a refusal
+
+-- its number and its name; want of memory isn't told so
+abbrev pub refusal_name : Refusal → List ℕ
+refusal_name UnknownFact = codes "3 UnknownFact"
+refusal_name NoMember = codes "4 NoMember"
+refusal_name WrongKind = codes "5 WrongKind"
+refusal_name BadValue = codes "6 BadValue"
+refusal_name (Limit place) = codes "7 Limit"
+refusal_name (Check place) = codes "8 Check"
+refusal_name Full = codes "9 Full"
+refusal_name AlreadyOpen = codes "10 AlreadyOpen"
+refusal_name NotAnswered = codes "11 NotAnswered"
+refusal_name NoOverride = codes "12 NoOverride"
+refusal_name NothingToUndo = codes "13 NothingToUndo"
+refusal_name NothingToRedo = codes "14 NothingToRedo"
+refusal_name NoStamps = codes "15 NoStamps"
+refusal_name NoMemory = []
+
+-- the place of the limit that refuses
+abbrev pub refusal_place : Refusal → List ℕ
+refusal_place UnknownFact = []
+refusal_place NoMember = []
+refusal_place WrongKind = []
+refusal_place BadValue = []
+refusal_place (Limit place) = numbered (codes " ") place
+refusal_place (Check place) = numbered (codes " ") place
+refusal_place Full = []
+refusal_place AlreadyOpen = []
+refusal_place NotAnswered = []
+refusal_place NoOverride = []
+refusal_place NothingToUndo = []
+refusal_place NothingToRedo = []
+refusal_place NoStamps = []
+refusal_place NoMemory = []
+
+abbrev pub refusal_text : Refusal → List ℕ
+refusal_text refusal = codes "refused " ++ refusal_name refusal ++ refusal_place refusal
+
+-- a line that has no form of a command, and one that is too long
+abbrev pub bad_line_text : List ℕ
+bad_line_text = codes "refused 1 BadLine"
+
+abbrev pub long_line_text : List ℕ
+long_line_text = codes "refused 2 LongLine"
+
+-- ---- the text of a reply
+
+-- of a reply that leaves this course; the last four have no text of their own
+abbrev pub reply_text : Rules → Course → Reply → List ℕ
+reply_text r c Done = codes "ok"
+reply_text r c (Added member) = numbered (codes "ok #") member
+reply_text r c (Answer slot) = asked_text (result_text (tree_of r).enums) (plain r.accepted c.told.now slot) (codes "incomplete")
+reply_text r c (FinalAsked slot) = asked_text (final_text (tree_of r).enums (is_final r.accepted c.told.now slot)) (plain r.accepted c.told.now slot) (codes "open")
+reply_text r c (Stamp number) = numbered (codes "stamp ") number
+reply_text r c (Touched number) = numbered (codes "touched ") number
+reply_text r c (MissingAsked slot) = []
+reply_text r c (WatchAsked slot) = []
+reply_text r c (UnwatchAsked slot) = []
+reply_text r c Quit = []
+
 -- ---- one command
 
--- the answers then standing, each by its fact's place
-abbrev pub Answers : Type 0
-Answers = List (Option ℤ)
-
--- nothing is answered
-abbrev pub start : Dict → Answers
-start dict = replicate (length dict.bodies) None
-
-pub record Said : Type 0 where
-  pub reply : Reply
-  pub answers : Answers
-
-abbrev pub refuse : Answers → Refusal → Said
-refuse answers refusal = record { reply = Refused refusal; answers = answers }
-
--- an answer for the fact at this place
-abbrev pub answered : Answers → ℕ → Option ℤ → Said
-answered answers place None = refuse answers BadValue
-answered answers place (Some z) = record { reply = Done; answers = slice_set answers place (Some z) }
-
--- `set`: the fact must be there and be answered by a person, and the text must spell an amount
-abbrev pub said_set : Answers → ℕ → Option Body → List ℕ → Said
-said_set answers place None value = refuse answers UnknownFact
-said_set answers place (Some (Sum operands)) value = refuse answers WrongKind
-said_set answers place (Some Writable) value = answered answers place (dollar_at value)
-
-abbrev pub said_set_at : Dict → Answers → Option ℕ → List ℕ → Said
-said_set_at dict answers None value = refuse answers UnknownFact
-said_set_at dict answers (Some place) value = said_set answers place (slice_get dict.bodies place) value
-
--- `get`: the plain evaluation of the answers then standing
-abbrev pub said_get_at : Dict → Answers → Option ℕ → Said
-said_get_at dict answers None = refuse answers UnknownFact
-said_get_at dict answers (Some place) = record { reply = Answer (plain dict.bodies answers place); answers = answers }
-
--- of the slots only those that stand once are known so far
-abbrev pub said_set_slot : Dict → Answers → SlotPath → List ℕ → Said
-said_set_slot dict answers (Global name) value = said_set_at dict answers (place_of dict.names name) value
-said_set_slot dict answers (Member collection member name) value = refuse answers BadLine
-
-abbrev pub said_get_slot : Dict → Answers → SlotPath → Said
-said_get_slot dict answers (Global name) = said_get_at dict answers (place_of dict.names name)
-said_get_slot dict answers (Member collection member name) = refuse answers BadLine
-
--- what a session stands for
-pub record Standing : Type 0 where
-  pub dict : Dict
-  pub answers : Answers
-
--- a session keeps an answer and a result for each fact, and says of its results whether they are those of its answers
-pub record IsKept (dict : Dict) (answers : Answers) (results : List Res) (current : Bool) : Type 0 where
-  pub answered : length answers ≡ length dict.bodies
-  pub sized : length results ≡ length dict.bodies
-  pub right : current ≡ true → (place : ℕ) → place < length dict.bodies → result_at results place ≡ plain dict.bodies answers place
-
--- ---- lines in order
-
--- the answers then standing, and whether the script has been quit
+-- where a session stands, and whether the script has been quit
 pub record State : Type 0 where
-  pub answers : Answers
+  pub course : Course
   pub over : Bool
 
-abbrev pub at_start : Dict → State
-at_start dict = record { answers = start dict; over = false }
+abbrev pub open_at : Course → State
+open_at c = record { course = c; over = false }
 
 pub record Step : Type 0 where
   pub text : List ℕ
   pub state : State
 
-abbrev pub step_said : Said → Step
-step_said said = record { text = line_with (reply_text said.reply); state = record { answers = said.answers; over = false } }
+-- a line is told, and nothing changes
+abbrev pub step_told : Course → List ℕ → Step
+step_told c text = record { text = line_with text; state = open_at c }
 
--- the other commands aren't carried out so far
-abbrev pub step_command : Dict → Answers → Command → Step
-step_command dict answers (Set slot value) = step_said (said_set_slot dict answers slot value)
-step_command dict answers (Get slot) = step_said (said_get_slot dict answers slot)
-step_command dict answers Quit = record { text = []; state = record { answers = answers; over = true } }
-step_command dict answers _ = step_said (refuse answers BadLine)
+abbrev pub is_quit : Command → Bool
+is_quit commands.Quit = true
+is_quit _ = false
 
-abbrev pub step_heard : Dict → Answers → Heard → Step
-step_heard dict answers nothing = record { text = []; state = record { answers = answers; over = false } }
-step_heard dict answers bad_line = step_said (refuse answers BadLine)
-step_heard dict answers (command c) = step_command dict answers c
+-- commands that this program doesn't know so far
+abbrev pub is_unknown : Command → Bool
+is_unknown (commands.Missing path) = true
+is_unknown (commands.Watch name path) = true
+is_unknown (commands.Unwatch name path) = true
+is_unknown _ = false
 
-abbrev pub step_line : Dict → Answers → ScriptLine → Step
-step_line dict answers (whole line) = step_heard dict answers (heard_in line)
-step_line dict answers long = step_said (refuse answers LongLine)
+-- a session's reply and the course that it leaves, or its refusal
+abbrev pub step_answered : Rules → Course → Result (Reply × Course) Refusal → Step
+step_answered r c (Ok answer) = step_told answer.1 (reply_text r answer.1 answer.0)
+step_answered r c (Err refusal) = step_told c (refusal_text refusal)
+
+abbrev pub step_known : Rules → Course → Command → Step
+step_known r c asked = if is_unknown asked then step_told c bad_line_text else step_answered r c (session.step r c asked)
+
+abbrev pub step_command : Rules → Course → Command → Step
+step_command r c asked = if is_quit asked then record { text = []; state = record { course = c; over = true } } else step_known r c asked
+
+-- ---- lines in order
+
+abbrev pub step_heard : Rules → Course → Heard → Step
+step_heard r c nothing = record { text = []; state = open_at c }
+step_heard r c bad_line = step_told c bad_line_text
+step_heard r c (command asked) = step_command r c asked
+
+abbrev pub step_line : Rules → Course → ScriptLine → Step
+step_line r c (whole line) = step_heard r c (heard_in line)
+step_line r c long = step_told c long_line_text
 
 -- what follows `quit` has no effect
-abbrev pub step : Dict → State → ScriptLine → Step
-step dict state line = if state.over then record { text = []; state = state } else step_line dict state.answers line
+abbrev pub step : Rules → State → ScriptLine → Step
+step r state line = if state.over then record { text = []; state = state } else step_line r state.course line
 
 -- the replies to lines in order, and the state behind them
-abbrev pub replies : Dict → State → List ScriptLine → List ℕ
-replies dict state [] = []
-replies dict state (line ∷ lines) = (step dict state line).text ++ replies dict (step dict state line).state lines
+abbrev pub replies : Rules → State → List ScriptLine → List ℕ
+replies r state [] = []
+replies r state (line ∷ lines) = (step r state line).text ++ replies r (step r state line).state lines
 
-abbrev pub state_after : Dict → State → List ScriptLine → State
-state_after dict state [] = state
-state_after dict state (line ∷ lines) = state_after dict (step dict state line).state lines
+abbrev pub state_after : Rules → State → List ScriptLine → State
+state_after r state [] = state
+state_after r state (line ∷ lines) = state_after r (step r state line).state lines
+
+-- ---- the start
+
+-- nothing is answered, and no stamps are kept
+abbrev pub beginning : Rules → Course
+beginning r = begun r.accepted start false
+
+abbrev pub at_start : Rules → State
+at_start r = open_at (beginning r)

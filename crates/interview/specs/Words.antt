@@ -4,9 +4,9 @@ use Rattle.std.specs.declared.alloc.Global.{Global}
 use Rattle.interview.specs.declared.words.Form.{Form}
 use Rattle.interview.specs.declared.words.Form.TheVariants.{Run, Check, Unknown}
 
--- the words are `run` and this name
+-- the words are `run` or `run-plain` and this name
 abbrev pub IsRun : List (List ℕ) → List ℕ → Type 0
-IsRun words name = words ≡ codes "run" ∷ name ∷ []
+IsRun words name = (words ≡ codes "run" ∷ name ∷ []) ⊎ (words ≡ codes "run-plain" ∷ name ∷ [])
 
 -- the words are `check` and this name
 abbrev pub IsCheck : List (List ℕ) → List ℕ → Type 0

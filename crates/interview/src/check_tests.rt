@@ -7,19 +7,19 @@ use std::process::Abort;
 use std::test::Fail;
 use text_checks::{CheckTable, digits, nine_digits};
 
-const TWO_AND_SUM: &str =
+pub const TWO_AND_SUM: &str =
     r#"{"path":"/a","writable":"Dollar"},{"path":"/b","writable":"Dollar"},{"path":"/s","derived":"Dollar","is":["Add",["Dependency","/a"],["Dependency","/b"]]}"#;
 
-const PLACEHOLDER: &str =
+pub const PLACEHOLDER: &str =
     r#"{"path":"/a","writable":"Dollar"},{"path":"/b","writable":"Dollar","placeholder":["Dollar","0"]},{"path":"/s","derived":"Dollar","is":["Add",["Dependency","/a"],["Dependency","/b"]]}"#;
 
-const CHOICES: &str =
+pub const CHOICES: &str =
     r#"{"path":"/p","writable":"Boolean"},{"path":"/q","writable":"Boolean"},{"path":"/r","derived":"Boolean","is":["All",["Dependency","/p"],["Dependency","/q"]]},{"path":"/w","derived":"Int","is":["Switch",["Case",["Dependency","/p"],["Int","1"]],["Case",["Dependency","/q"],["Int","2"]]]},{"path":"/i","derived":"Boolean","is":["IsComplete","/p"]}"#;
 
-const ARITHMETIC: &str =
+pub const ARITHMETIC: &str =
     r#"{"path":"/p","writable":"Boolean"},{"path":"/d1","derived":"Dollar","is":["Add",["Dollar","9999999999999.99"],["Dollar","0.01"],["Dollar","-0.01"]]},{"path":"/d2","derived":"Dollar","is":["Add",["Dollar","9999999999999.99"],["Dollar","0.01"]]},{"path":"/d3","derived":"Dollar","is":["Multiply",["Dollar","100.05"],["Rational","1/2"]]},{"path":"/d4","derived":"Dollar","is":["Divide",["Dollar","1"],["Int","0"]]},{"path":"/d5","derived":"Boolean","is":["Any",["Equal",["Dependency","/d4"],["Dollar","0"]],["Dependency","/p"]]}"#;
 
-const MEMBERS: &str =
+pub const MEMBERS: &str =
     r#"{"path":"/c","writable":"Collection"},{"path":"/c/*/k","writable":"Boolean"},{"path":"/c/*/v","writable":"Int"},{"path":"/l","derived":"Collection(/c)","is":["Filter","/c",["Dependency","k"]]},{"path":"/f","derived":"Item(/c)","is":["Find","/c",["Dependency","k"]]},{"path":"/t","derived":"Int","is":["CollectionSum","/l/*/v"]},{"path":"/g","derived":"Int","is":["Dependency","/f/v"]}"#;
 
 const CYCLE_BY_FILTER: &str =
@@ -28,16 +28,16 @@ const CYCLE_BY_FILTER: &str =
 const CYCLE_BY_FIND: &str =
     r#"{"path":"/c","writable":"Collection"},{"path":"/c/*/v","writable":"Int"},{"path":"/f","derived":"Item(/c)","is":["Find","/c",["Dependency","k"]]},{"path":"/c/*/k","derived":"Boolean","is":["Equal",["Dependency","/f/v"],["Int","1"]]}"#;
 
-const CONDITIONAL: &str =
+pub const CONDITIONAL: &str =
     r#"{"path":"/p","writable":"Boolean"},{"path":"/a","writable":"Int"},{"path":"/x","derived":"Int","is":["Dependency","/a"],"conditional":[["Dependency","/p"],["Int","7"]]}"#;
 
 const CONDITIONAL_DOLLAR: &str =
     r#"{"path":"/p","writable":"Boolean"},{"path":"/a","writable":"Int"},{"path":"/x","derived":"Int","is":["Dependency","/a"],"conditional":[["Dependency","/p"],["Dollar","7"]]}"#;
 
-const CASE_ON_PLACEHOLDER: &str =
+pub const CASE_ON_PLACEHOLDER: &str =
     r#"{"path":"/p","writable":"Boolean","placeholder":["False"]},{"path":"/x","derived":"Int","is":["Switch",["Case",["Dependency","/p"],["Int","1"]],["Case",["True"],["Int","2"]]]}"#;
 
-const NUMBERED: &str =
+pub const NUMBERED: &str =
     r#"{"path":"/z","writable":"Text","limits":[["MaxLength","9"],["Check","nine-digits"]]}"#;
 
 // What shelf and sink do: the number of the call that fails, from 1; 0 is none.
@@ -92,7 +92,7 @@ fn says(alloc: Global, checks: &CheckTable, dictionary: Vec<u8>, line: &str) -> 
     )
 }
 
-fn with_facts(alloc: Global, version: &str, facts: &str) -> Result<Vec<u8>, AllocError> {
+pub fn with_facts(alloc: Global, version: &str, facts: &str) -> Result<Vec<u8>, AllocError> {
     let text = format!(in alloc; "{{\"version\":\"{version}\",\"facts\":[{facts}]}}")?;
     Ok(text.into_bytes())
 }
@@ -302,7 +302,7 @@ fn enums(alloc: Global, lists: u32, options: u32) -> Result<Vec<u8>, AllocError>
 }
 
 // Two thousand facts, each one more than the next.
-fn chain(alloc: Global) -> Result<Vec<u8>, AllocError> {
+pub fn chain(alloc: Global) -> Result<Vec<u8>, AllocError> {
     let mut text = String::from_str(alloc, r#"{"version":"1","facts":["#)?;
     for k in 1..2000u32 {
         let next = k + 1;

@@ -1,67 +1,27 @@
 // Whether a dictionary is accepted.
-ghost use Rattle.std.specs.Prelude.{◌≡◌, [], IfErr, IfOk, ℕ, List, map};
-ghost use Rattle.interview.specs.Interview.{ChecksTo};
-ghost use Rattle.interview.specs.FaultLines.{fault_line};
-ghost use Rattle.interview.specs.Ends.{CheckEnds, JudgedAs, NotFetched};
-ghost use Rattle.interview.specs.declared.status.Status.TheVariants.{DictionaryRefused, NoMemory};
+ghost use Rattle.std.specs.Prelude.{◌≡◌, ℕ, List, map};
+ghost use Rattle.dictionary.specs.Accepted.{accepted};
+ghost use Rattle.interview.specs.Interview.{defined_accepted};
+ghost use Rattle.interview.specs.Ends.{CheckEnds, EndedBy};
+ghost use Rattle.interview.specs.declared.status.Status.TheVariants.{Done};
 
 use crate::Status;
-use crate::ending::{DICTIONARY_LIMIT, end_by};
-use crate::fault_line::{print_accepted, print_fault};
-use dictionary::{DictFault, accept};
-use fg_io::{FetchFault, Shelf, Sink};
+use crate::ending::{end_by, end_by_fault};
+use crate::fault_line::print_accepted;
+use crate::fetching::{Fetched, fetch};
+use dictionary::Dictionary;
+use fg_io::{Shelf, Sink};
 use std::alloc::Global;
 use text_checks::CheckTable;
 use value_text::Line;
 
-fn refuse(fault: DictFault, line: &mut Line) -> Status
-    requires { line.old ≡ [] }
-    ensures status { result ≡ DictionaryRefused }
-    ensures text { line.new ≡ fault_line fault }
+// Writes that a dictionary is accepted, which ends the interview.
+fn end_accepted<K: Sink>(out: &mut K, dictionary: &Dictionary) -> Status
+    ensures { EndedBy (K.taken out.old) (K.taken out.new) (K.faults out.old) (K.faults out.new) (defined_accepted (accepted dictionary.now)).text Done result }
 {
-    print_fault(fault, line);
-    Status::DictionaryRefused
-}
-
-// Prints into an empty line what a dictionary of these bytes comes to.
-fn judge(
-    alloc: Global,
-    bytes: &[u8],
-    checks: &CheckTable,
-    line: &mut Line,
-) -> Result<Status, Status>
-    requires { line.old ≡ [] }
-    ensures judged { IfOk result (λ status. ChecksTo bytes.now (map {B = List ℕ} (λ c. c.name) checks.now.checks.items) (record { text = line.new; status = status })) }
-    ensures memory { IfErr result (λ status. status ≡ NoMemory) }
-{
-    match accept(alloc, bytes, checks) {
-        Ok(dictionary) => {
-            print_accepted(dictionary.fact_count(), dictionary.node_count(), line);
-            Ok(Status::Done)
-        }
-        Err(DictFault::NoMemory) => Err(Status::NoMemory),
-        Err(fault) => Ok(refuse(fault, line)),
-    }
-}
-
-// Fetches the dictionary of this name, and prints into an empty line what it comes to.
-fn fetch_and_judge<H: Shelf>(
-    alloc: Global,
-    name: &str,
-    checks: &CheckTable,
-    shelf: &mut H,
-    line: &mut Line,
-) -> Result<Status, Status>
-    requires { line.old ≡ [] }
-    ensures judged { IfOk result (JudgedAs (H.told shelf.old name.now) (map {B = List ℕ} (λ c. c.name) checks.now.checks.items) line.new) }
-    ensures not_fetched { IfErr result (NotFetched name.now (H.faults shelf.old) (H.faults shelf.new) (H.failed_name shelf.new)) }
-{
-    match shelf.fetch(name, DICTIONARY_LIMIT) {
-        Ok(bytes) => judge(alloc, bytes.as_slice(), checks, line),
-        Err(FetchFault::TooLong) => Ok(refuse(DictFault::TooLong, line)),
-        Err(FetchFault::Failed) => Err(Status::FetchFault),
-        Err(FetchFault::NoMemory) => Err(Status::NoMemory),
-    }
+    let mut line = Line::new();
+    print_accepted(dictionary.fact_count(), dictionary.node_count(), &mut line);
+    end_by(out, line.bytes(), Status::Done)
 }
 
 /// Writes whether the dictionary of this name is accepted, or else its first fault.
@@ -72,7 +32,7 @@ pub fn check<H: Shelf, K: Sink>(
     shelf: &mut H,
     out: &mut K,
 ) -> Status
-    ensures ends { CheckEnds (H.told shelf.old name.now) (map {B = List ℕ} (λ c. c.name) checks.now.checks.items) name.now
+    ensures ends { CheckEnds (H.told shelf.old name.now) (map {B = List ℕ × ℕ} (λ c. (c.name, c.code)) checks.now.checks.items) name.now
         (record {
           shelf = record { before = H.faults shelf.old; after = H.faults shelf.new };
           failed_name = H.failed_name shelf.new;
@@ -81,9 +41,9 @@ pub fn check<H: Shelf, K: Sink>(
         })
         result }
 {
-    let mut line = Line::new();
-    match fetch_and_judge(alloc, name, checks, shelf, &mut line) {
-        Ok(status) => end_by(out, line.bytes(), status),
+    match fetch(alloc, name, checks, shelf) {
+        Ok(Fetched::Accepted(dictionary)) => end_accepted(out, &dictionary),
+        Ok(Fetched::Refused(fault)) => end_by_fault(out, fault),
         Err(status) => status,
     }
 }

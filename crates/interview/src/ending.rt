@@ -1,11 +1,13 @@
 // Texts that end an interview.
 ghost use Rattle.interview.specs.Ends.{EndedBy};
+ghost use Rattle.interview.specs.FaultLines.{fault_line};
+ghost use Rattle.interview.specs.declared.status.Status.TheVariants.{DictionaryRefused};
 
 use crate::Status;
+use crate::fault_line::print_fault;
+use dictionary::DictFault;
 use fg_io::{Failed, Sink, put_all};
-
-/// The most bytes of a dictionary.
-pub const DICTIONARY_LIMIT: u64 = 8_388_608;
+use value_text::Line;
 
 /// Writes a text that ends the interview with this status.
 pub fn end_by<K: Sink>(out: &mut K, text: &[u8], status: Status) -> Status
@@ -15,4 +17,13 @@ pub fn end_by<K: Sink>(out: &mut K, text: &[u8], status: Status) -> Status
         Ok(()) => status,
         Err(Failed) => Status::WriteFault,
     }
+}
+
+/// Writes the line of a dictionary's first fault, which ends the interview.
+pub fn end_by_fault<K: Sink>(out: &mut K, fault: DictFault) -> Status
+    ensures { EndedBy (K.taken out.old) (K.taken out.new) (K.faults out.old) (K.faults out.new) (fault_line fault) DictionaryRefused result }
+{
+    let mut line = Line::new();
+    print_fault(fault, &mut line);
+    end_by(out, line.bytes(), Status::DictionaryRefused)
 }

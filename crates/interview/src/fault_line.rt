@@ -1,9 +1,10 @@
 // The line that says what a dictionary came to. Nothing here takes memory.
 ghost use Rattle.std.specs.Prelude.{◌≡◌, ◌+◌, ◌≤◌, [], ◌++◌, length, codes};
-ghost use Rattle.interview.specs.FaultLines.{accepted_line, at_fact, fault_line, fault_name as name_of_fault, fault_place, numbered};
+ghost use Rattle.interview.specs.FaultLines.{accepted_line, at_fact, fault_line, fault_name as name_of_fault, fault_place};
+ghost use Rattle.interview.specs.Replies.{numbered};
 
+use crate::numbered::print_numbered;
 use dictionary::DictFault;
-use itoa::Buffer;
 use value_text::Line;
 
 fn fault_name(fault: DictFault) -> &'static str
@@ -29,23 +30,12 @@ fn fault_name(fault: DictFault) -> &'static str
     }
 }
 
-// A text and a number behind it.
-fn print_numbered(text: &str, number: u32, line: &mut Line)
-    requires { length line.old + (length text.now + 40) ≤ 1100 }
-    ensures text { line.new ≡ line.old ++ numbered text.now number }
-    ensures short { length line.new ≤ length line.old + (length text.now + 40) }
-{
-    line.push(text.as_bytes());
-    let mut buffer = Buffer::new();
-    line.push(buffer.format(number).as_bytes());
-}
-
 fn print_fact(fact: u32, line: &mut Line)
     requires { length line.old + 50 ≤ 1100 }
     ensures text { line.new ≡ line.old ++ at_fact fact }
     ensures short { length line.new ≤ length line.old + 50 }
 {
-    print_numbered(" fact ", fact, line);
+    print_numbered(" fact ", fact as u64, line);
 }
 
 fn print_node(fact: u32, node: u32, line: &mut Line)
@@ -54,7 +44,7 @@ fn print_node(fact: u32, node: u32, line: &mut Line)
     ensures short { length line.new ≤ length line.old + 100 }
 {
     print_fact(fact, line);
-    print_numbered(" node ", node, line);
+    print_numbered(" node ", node as u64, line);
 }
 
 // Where the fault is.
@@ -67,7 +57,7 @@ fn print_place(fault: DictFault, line: &mut Line)
         DictFault::TooLong => {}
         DictFault::NotJson => {}
         DictFault::Shape(fact) => print_fact(fact, line),
-        DictFault::TooMany(what) => print_numbered(" what ", what, line),
+        DictFault::TooMany(what) => print_numbered(" what ", what as u64, line),
         DictFault::TooDeep(fact) => print_fact(fact, line),
         DictFault::BadPath(fact) => print_fact(fact, line),
         DictFault::DuplicatePath(fact) => print_fact(fact, line),
@@ -98,8 +88,8 @@ pub fn print_accepted(facts: u32, nodes: u32, line: &mut Line)
     requires { line.old ≡ [] }
     ensures { line.new ≡ accepted_line facts nodes }
 {
-    print_numbered("dictionary accepted ", facts, line);
-    print_numbered(" facts ", nodes, line);
+    print_numbered("dictionary accepted ", facts as u64, line);
+    print_numbered(" facts ", nodes as u64, line);
     line.push(" nodes".as_bytes());
     line.push(b"\n");
 }

@@ -1,15 +1,24 @@
 // Answers the lines of a script while its bytes come.
-ghost use Rattle.std.specs.Prelude.{◌≡◌, ◌≤◌, ◌∷◌, [], length};
+ghost use Rattle.std.specs.Prelude.{◌≡◌, ℕ, List, ◌+◌, ◌<◌, ◌≤◌, ◌^◌, ◌∷◌, [], length, map, IfErr, IfOk, Ok, OnErr};
 ghost use Rattle.script_lines.specs.Lines.{told, script_lines, whole, HasNoNewline};
-ghost use Rattle.interview.specs.Replies.{reply_text, line_with, said_get_slot, said_set_slot, step_command};
-ghost use Rattle.interview.specs.Hearing.{SteppedAs, AnsweredAs, ToldAs, HeardAs};
+ghost use Rattle.graph_session.specs.Refusals.{Refused, SameChecks};
+ghost use Rattle.graph_session.specs.Rules.{rules};
+ghost use Rattle.graph_session.specs.Run.{is_memory as wants_memory};
+ghost use Rattle.graph_session.specs.Shown.{course};
+ghost use Rattle.graph_session.specs.Step.{refusal, step};
+ghost use Rattle.interview.specs.Replies.{is_quit as quits, is_unknown as unknown, line_with, reply_text, step_command};
+ghost use Rattle.interview.specs.Hearing.{SteppedAs, AnsweredAs, RefusedAs, ToldAs, HeardAs};
 
-use crate::reply::{Refusal, Reply, print_reply};
-use crate::session::Session;
-use fact_paths::SlotPath;
+use crate::reply::{print_refusal, print_reply};
 use fg_io::{Failed, Sink, put_all};
+use graph_session::{Refusal, Reply, Session};
+use plain_table::PlainTable;
 use script_lines::{Command, LineFault, Lines, Ready, command_of};
 use std::alloc::Global;
+use std::marker::Brand;
+use std::sync::ledger::{Blank, Ledger};
+use steps::Steps;
+use text_checks::CheckTable;
 use value_text::Line;
 
 /// How far a script was heard.
@@ -25,74 +34,195 @@ pub enum Hearing {
     OutOfMemory,
 }
 
-// Writes a reply.
-fn tell<K: Sink>(reply: Reply, out: &mut K) -> Hearing
-    ensures told { ToldAs (K.taken out.old) (K.taken out.new) (K.faults out.old) (K.faults out.new) (line_with (reply_text reply)) result }
+// Writes a text.
+fn write<K: Sink>(text: &[u8], out: &mut K) -> Hearing
+    ensures told { ToldAs (K.taken out.old) (K.taken out.new) (K.faults out.old) (K.faults out.new) text.now result }
     ensures later { K.faults out.old ≤ K.faults out.new }
 {
-    let mut line = Line::new();
-    print_reply(reply, &mut line);
-    match put_all(out, line.bytes()) {
+    match put_all(out, text) {
         Ok(()) => Hearing::More,
         Err(Failed) => Hearing::Unwritten,
     }
 }
 
-// Answers a slot by the amount that the text spells.
-fn set(session: &mut Session, slot: &SlotPath, value: &str) -> Reply
-    ensures said { said_set_slot session.old.dict session.old.answers slot.now value.now ≡ record { reply = result; answers = session.new.answers } }
-    ensures dict { session.new.dict ≡ session.old.dict }
-{
-    match slot {
-        SlotPath::Global(name) => session.set(name.as_str(), value),
-        SlotPath::Member(_, _, _) => Reply::Refused(Refusal::BadLine),
-    }
-}
-
-// The result of a slot.
-fn get(session: &mut Session, slot: &SlotPath) -> Reply
-    ensures said { said_get_slot session.old.dict session.old.answers slot.now ≡ record { reply = result; answers = session.new.answers } }
-    ensures dict { session.new.dict ≡ session.old.dict }
-{
-    match slot {
-        SlotPath::Global(name) => session.get(name.as_str()),
-        SlotPath::Member(_, _, _) => Reply::Refused(Refusal::BadLine),
-    }
-}
-
-// Answers a command. Those that aren't carried out so far are bad lines.
-fn obey<K: Sink>(session: &mut Session, command: &Command, out: &mut K) -> Hearing
-    ensures stepped { SteppedAs (K.taken out.old) (K.taken out.new) (K.faults out.old) (K.faults out.new)
-        (step_command session.old.dict session.old.answers command.now) session.new.answers result }
-    ensures dict { session.new.dict ≡ session.old.dict }
+// Writes what the session says.
+fn tell<K: Sink>(session: &Session<PlainTable>, reply: Reply, out: &mut K) -> Hearing
+    ensures told { ToldAs (K.taken out.old) (K.taken out.new) (K.faults out.old) (K.faults out.new) (line_with (reply_text (rules session.now.dict) (course session.now) reply)) result }
     ensures later { K.faults out.old ≤ K.faults out.new }
 {
+    let mut line = Line::new();
+    print_reply(session, reply, &mut line);
+    line.push(b"\n");
+    write(line.bytes(), out)
+}
+
+fn is_memory(refusal: Refusal) -> bool
+    ensures { result ≡ wants_memory refusal }
+{
+    match refusal {
+        Refusal::NoMemory => true,
+        Refusal::UnknownFact
+        | Refusal::NoMember
+        | Refusal::WrongKind
+        | Refusal::BadValue
+        | Refusal::Limit(_)
+        | Refusal::Check(_)
+        | Refusal::Full
+        | Refusal::AlreadyOpen
+        | Refusal::NotAnswered
+        | Refusal::NoOverride
+        | Refusal::NothingToUndo
+        | Refusal::NothingToRedo
+        | Refusal::NoStamps => false,
+    }
+}
+
+// Writes why a command is refused.
+fn tell_refusal<K: Sink>(refusal: Refusal, out: &mut K) -> Hearing
+    ensures told { RefusedAs (K.taken out.old) (K.taken out.new) (K.faults out.old) (K.faults out.new) refusal result }
+    ensures later { K.faults out.old ≤ K.faults out.new }
+{
+    if is_memory(refusal) {
+        return Hearing::OutOfMemory;
+    }
+    let mut line = Line::new();
+    print_refusal(refusal, &mut line);
+    line.push(b"\n");
+    write(line.bytes(), out)
+}
+
+// Carries out a command, with a counter of steps.
+fn carry_out_counted<L: Ledger>(
+    session: &mut Session<PlainTable>,
+    command: &Command,
+    checks: &CheckTable,
+    blank: Blank,
+) -> Result<Reply, Refusal>
+    requires same_checks { SameChecks (rules session.old.dict) (map {B = List ℕ × ℕ} (λ c. (c.name, c.code)) checks.now.checks.items) }
+    requires few { session.old.changes < 2 ^ 63 }
+    requires name { blank.name ≡ L.name }
+    requires parts { blank.parts ≡ L.parts }
+    requires some { 0 < blank.parts }
+    ensures ok { IfOk result (λ r. step (rules session.old.dict) (course session.old) command.now ≡ Ok (r, course session.new)) }
+    ensures dict { session.new.dict ≡ session.old.dict }
+    ensures refused { IfErr result (λ r. Refused r (refusal (rules session.old.dict) (course session.old) command.now)) }
+    ensures unchanged { OnErr result (session.new ≡ session.old) }
+{
+    let mut steps = Steps::<L>::new(blank);
+    session.command(command, checks, &mut steps)
+}
+
+// Carries out a command. Its steps are counted for nobody.
+fn carry_out(
+    session: &mut Session<PlainTable>,
+    command: &Command,
+    checks: &CheckTable,
+) -> Result<Reply, Refusal>
+    requires same_checks { SameChecks (rules session.old.dict) (map {B = List ℕ × ℕ} (λ c. (c.name, c.code)) checks.now.checks.items) }
+    requires few { session.old.changes < 2 ^ 63 }
+    ensures ok { IfOk result (λ r. step (rules session.old.dict) (course session.old) command.now ≡ Ok (r, course session.new)) }
+    ensures dict { session.new.dict ≡ session.old.dict }
+    ensures refused { IfErr result (λ r. Refused r (refusal (rules session.old.dict) (course session.old) command.now)) }
+    ensures unchanged { OnErr result (session.new ≡ session.old) }
+{
+    carry_out_counted::<Brand>(session, command, checks, Blank::new(1))
+}
+
+fn is_quit(command: &Command) -> bool
+    ensures { result ≡ quits command.now }
+{
     match command {
-        Command::Set(slot, value) => {
-            let reply = set(session, slot, value.as_str());
-            tell(reply, out)
-        }
-        Command::Get(slot) => {
-            let reply = get(session, slot);
-            tell(reply, out)
-        }
-        Command::Quit => Hearing::Over,
-        _ => tell(Reply::Refused(Refusal::BadLine), out),
+        Command::Quit => true,
+        Command::Set(..)
+        | Command::Clear(_)
+        | Command::OpenList(_)
+        | Command::Add(_)
+        | Command::Remove(..)
+        | Command::Override(..)
+        | Command::Release(_)
+        | Command::Undo
+        | Command::Redo
+        | Command::Get(_)
+        | Command::Final(_)
+        | Command::Stamp(_)
+        | Command::Touched
+        | Command::Missing(_)
+        | Command::Watch(..)
+        | Command::Unwatch(..) => false,
+    }
+}
+
+// Whether it is a command that this program doesn't know so far.
+fn is_unknown(command: &Command) -> bool
+    ensures { result ≡ unknown command.now }
+{
+    match command {
+        Command::Missing(_) | Command::Watch(..) | Command::Unwatch(..) => true,
+        Command::Set(..)
+        | Command::Clear(_)
+        | Command::OpenList(_)
+        | Command::Add(_)
+        | Command::Remove(..)
+        | Command::Override(..)
+        | Command::Release(_)
+        | Command::Undo
+        | Command::Redo
+        | Command::Get(_)
+        | Command::Final(_)
+        | Command::Stamp(_)
+        | Command::Touched
+        | Command::Quit => false,
+    }
+}
+
+// Answers a command.
+fn obey<K: Sink>(
+    session: &mut Session<PlainTable>,
+    command: &Command,
+    checks: &CheckTable,
+    out: &mut K,
+) -> Hearing
+    requires same_checks { SameChecks (rules session.old.dict) (map {B = List ℕ × ℕ} (λ c. (c.name, c.code)) checks.now.checks.items) }
+    requires few { session.old.changes < 2 ^ 63 }
+    ensures stepped { SteppedAs (K.taken out.old) (K.taken out.new) (K.faults out.old) (K.faults out.new)
+        (step_command (rules session.old.dict) (course session.old) command.now) (course session.new) result }
+    ensures dict { session.new.dict ≡ session.old.dict }
+    ensures few { session.new.changes ≤ session.old.changes + 1 }
+    ensures later { K.faults out.old ≤ K.faults out.new }
+{
+    if is_quit(command) {
+        return Hearing::Over;
+    }
+    if is_unknown(command) {
+        return write(b"refused 1 BadLine\n", out);
+    }
+    match carry_out(session, command, checks) {
+        Ok(reply) => tell(session, reply, out),
+        Err(refusal) => tell_refusal(refusal, out),
     }
 }
 
 // Answers a line of at most 4,096 bytes.
-fn answer_line<K: Sink>(alloc: Global, session: &mut Session, line: &[u8], out: &mut K) -> Hearing
-    requires { length line.now ≤ 4096 }
-    ensures answered { AnsweredAs session.old.dict (K.taken out.old) (K.taken out.new) (K.faults out.old) (K.faults out.new)
-        session.old.answers session.new.answers (whole line.now ∷ []) result }
+fn answer_line<K: Sink>(
+    alloc: Global,
+    session: &mut Session<PlainTable>,
+    checks: &CheckTable,
+    line: &[u8],
+    out: &mut K,
+) -> Hearing
+    requires short { length line.now ≤ 4096 }
+    requires same_checks { SameChecks (rules session.old.dict) (map {B = List ℕ × ℕ} (λ c. (c.name, c.code)) checks.now.checks.items) }
+    requires few { session.old.changes < 2 ^ 63 }
+    ensures answered { AnsweredAs (rules session.old.dict) (K.taken out.old) (K.taken out.new) (K.faults out.old) (K.faults out.new)
+        (course session.old) (course session.new) (whole line.now ∷ []) result }
     ensures dict { session.new.dict ≡ session.old.dict }
+    ensures few { session.new.changes ≤ session.old.changes + 1 }
     ensures later { K.faults out.old ≤ K.faults out.new }
 {
     match command_of(alloc, line) {
         Ok(None) => Hearing::More,
-        Ok(Some(command)) => obey(session, &command, out),
-        Err(LineFault::BadLine) => tell(Reply::Refused(Refusal::BadLine), out),
+        Ok(Some(command)) => obey(session, &command, checks, out),
+        Err(LineFault::BadLine) => write(b"refused 1 BadLine\n", out),
         Err(LineFault::NoMemory) => Hearing::OutOfMemory,
     }
 }
@@ -100,42 +230,50 @@ fn answer_line<K: Sink>(alloc: Global, session: &mut Session, line: &[u8], out: 
 /// Answers the line that is ready, if there is one.
 pub fn answer<K: Sink>(
     alloc: Global,
-    session: &mut Session,
+    session: &mut Session<PlainTable>,
+    checks: &CheckTable,
     ready: Ready,
     line: &[u8],
     out: &mut K,
 ) -> Hearing
-    requires { length line.now ≤ 4096 }
-    ensures answered { AnsweredAs session.old.dict (K.taken out.old) (K.taken out.new) (K.faults out.old) (K.faults out.new)
-        session.old.answers session.new.answers (told ready line.now) result }
+    requires short { length line.now ≤ 4096 }
+    requires same_checks { SameChecks (rules session.old.dict) (map {B = List ℕ × ℕ} (λ c. (c.name, c.code)) checks.now.checks.items) }
+    requires few { session.old.changes < 2 ^ 63 }
+    ensures answered { AnsweredAs (rules session.old.dict) (K.taken out.old) (K.taken out.new) (K.faults out.old) (K.faults out.new)
+        (course session.old) (course session.new) (told ready line.now) result }
     ensures dict { session.new.dict ≡ session.old.dict }
+    ensures few { session.new.changes ≤ session.old.changes + 1 }
     ensures later { K.faults out.old ≤ K.faults out.new }
 {
     match ready {
         Ready::NotYet => Hearing::More,
-        Ready::Whole => answer_line(alloc, session, line, out),
-        Ready::Long => tell(Reply::Refused(Refusal::LongLine), out),
+        Ready::Whole => answer_line(alloc, session, checks, line, out),
+        Ready::Long => write(b"refused 2 LongLine\n", out),
     }
 }
 
-/// Answers each line that ends in the bytes, in order.
+/// Answers each line that ends in the bytes, in order. A line makes one change at most.
 pub fn hear<K: Sink>(
     alloc: Global,
-    session: &mut Session,
+    session: &mut Session<PlainTable>,
+    checks: &CheckTable,
     lines: &mut Lines,
     out: &mut K,
     bytes: &[u8],
 ) -> Hearing
-    requires { HasNoNewline lines.old.so_far }
-    ensures heard { HeardAs session.old.dict (K.taken out.old) (K.taken out.new) (K.faults out.old) (K.faults out.new)
-        session.old.answers session.new.answers lines.old.so_far lines.new.so_far bytes.now result }
+    requires unended { HasNoNewline lines.old.so_far }
+    requires same_checks { SameChecks (rules session.old.dict) (map {B = List ℕ × ℕ} (λ c. (c.name, c.code)) checks.now.checks.items) }
+    requires few { session.old.changes + length bytes.now < 2 ^ 63 }
+    ensures heard { HeardAs (rules session.old.dict) (K.taken out.old) (K.taken out.new) (K.faults out.old) (K.faults out.new)
+        (course session.old) (course session.new) lines.old.so_far lines.new.so_far bytes.now result }
     ensures dict { session.new.dict ≡ session.old.dict }
+    ensures few { session.new.changes ≤ session.old.changes + length bytes.now }
     ensures later { K.faults out.old ≤ K.faults out.new }
 {
     let mut rest = bytes;
     while !rest.is_empty() {
         let fed = lines.feed(rest);
-        match answer(alloc, session, fed.ready, lines.line(), out) {
+        match answer(alloc, session, checks, fed.ready, lines.line(), out) {
             Hearing::More => {}
             Hearing::Over => return Hearing::Over,
             Hearing::Unwritten => return Hearing::Unwritten,

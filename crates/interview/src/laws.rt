@@ -1,13 +1,24 @@
 // Laws of the definitions, each the contract of a function that does nothing.
-ghost use Rattle.interview.specs.Evaluation.{PlainIsRecursive};
-ghost use Rattle.interview.specs.Interview.{OneEndOfCheck};
-
-/// The result of a fact comes from its answer, or from the results of the facts that it is the sum of.
-pub fn plain_is_recursive()
-    ensures { PlainIsRecursive }
-{}
+ghost use Rattle.interview.specs.Interview.{FinalLinesStay, OneEndOfCheck, OneEndOfRun, UndoRestores};
 
 /// A check of the bytes of a dictionary comes to one text and one status at most.
 pub fn a_check_has_one_end()
     ensures { OneEndOfCheck }
+{}
+
+/// A run of the bytes of a dictionary and of a script comes to one text and one status at most.
+pub fn a_run_has_one_end()
+    ensures { OneEndOfRun }
+{}
+
+/// A value that is printed as final is that of a complete result, and both stay so under every extension of the answers then
+/// standing.
+pub fn final_lines_stay()
+    ensures { FinalLinesStay }
+{}
+
+/// `undo` behind a change that was accepted leads to the answers before it: members in their order, values, overrides and the
+/// next number.
+pub fn undo_restores()
+    ensures { UndoRestores }
 {}

@@ -4,20 +4,15 @@
 ghost use Rattle.std.specs.Prelude.{◌≡◌, ◌+◌, ◌-◌, ◌≤◌, ◌<◌, ◌^◌, Bool, OnOk, length};
 ghost use Rattle.text_checks.specs.Checks.{IsCode, check_says};
 
-mod amounts;
-mod body;
 mod checking;
 mod ending;
 mod fault_line;
-mod global;
+mod fetching;
 mod hearing;
-mod json;
 mod laws;
-mod plain;
+mod numbered;
 mod reply;
-mod result;
 mod script;
-mod session;
 mod status;
 mod top;
 mod words;
@@ -34,6 +29,8 @@ pub use top::interview;
 
 #[cfg(test)]
 mod check_tests;
+#[cfg(test)]
+mod session_tests;
 #[cfg(test)]
 mod tests;
 

@@ -1,16 +1,21 @@
 // Runs a script over a session, while it is read.
-ghost use Rattle.std.specs.Prelude.{◌≡◌, ◌≤◌, ◌<◌, ℕ, length};
-ghost use Rattle.script_lines.specs.Lines.{script_lines, HasNoNewline};
-ghost use Rattle.interview.specs.Replies.{start};
+ghost use Rattle.std.specs.Prelude.{◌≡◌, ◌≤◌, ◌<◌, ◌^◌, ℕ, List, map};
+ghost use Rattle.script_lines.specs.Lines.{script_lines};
+ghost use Rattle.graph_session.specs.Refusals.{SameChecks};
+ghost use Rattle.graph_session.specs.Rules.{rules};
+ghost use Rattle.graph_session.specs.Shown.{course};
+ghost use Rattle.interview.specs.Replies.{beginning};
 ghost use Rattle.interview.specs.Hearing.{AnsweredAs, ending_of};
 ghost use Rattle.interview.specs.Ends.{ScriptEnds};
 
 use crate::Status;
 use crate::hearing::{Hearing, answer, hear};
-use crate::session::Session;
 use fg_io::{Failed, Sink, Source};
+use graph_session::Session;
+use plain_table::PlainTable;
 use script_lines::Lines;
 use std::alloc::Global;
+use text_checks::CheckTable;
 
 /// The most bytes of a script.
 const LIMIT: usize = 67_108_864;
@@ -18,13 +23,21 @@ const LIMIT: usize = 67_108_864;
 const BUFFER: usize = 4_096;
 
 // Answers the last line.
-fn finish<K: Sink>(alloc: Global, session: &mut Session, lines: &mut Lines, out: &mut K) -> Hearing
-    ensures answered { AnsweredAs session.old.dict (K.taken out.old) (K.taken out.new) (K.faults out.old) (K.faults out.new)
-        session.old.answers session.new.answers (script_lines lines.old.so_far) result }
+fn finish<K: Sink>(
+    alloc: Global,
+    session: &mut Session<PlainTable>,
+    checks: &CheckTable,
+    lines: &mut Lines,
+    out: &mut K,
+) -> Hearing
+    requires same_checks { SameChecks (rules session.old.dict) (map {B = List ℕ × ℕ} (λ c. (c.name, c.code)) checks.now.checks.items) }
+    requires few { session.old.changes < 2 ^ 63 }
+    ensures answered { AnsweredAs (rules session.old.dict) (K.taken out.old) (K.taken out.new) (K.faults out.old) (K.faults out.new)
+        (course session.old) (course session.new) (script_lines lines.old.so_far) result }
     ensures later { K.faults out.old ≤ K.faults out.new }
 {
     let ready = lines.finish();
-    answer(alloc, session, ready, lines.line(), out)
+    answer(alloc, session, checks, ready, lines.line(), out)
 }
 
 fn status_at_end(hearing: Hearing) -> Status
@@ -41,12 +54,14 @@ fn status_at_end(hearing: Hearing) -> Status
 /// Runs a script over a session at its start. It is read in pieces, and each line is answered before the next piece.
 pub fn run<S: Source, K: Sink>(
     alloc: Global,
-    session: &mut Session,
+    session: &mut Session<PlainTable>,
+    checks: &CheckTable,
     script: &mut S,
     out: &mut K,
 ) -> Status
-    requires { session.old.answers ≡ start session.old.dict }
-    ensures ends { ScriptEnds session.old.dict
+    requires same_checks { SameChecks (rules session.old.dict) (map {B = List ℕ × ℕ} (λ c. (c.name, c.code)) checks.now.checks.items) }
+    requires begun { course session.old ≡ beginning (rules session.old.dict) }
+    ensures ends { ScriptEnds (rules session.old.dict)
         (record {
           left = record { before = S.left script.old; after = S.left script.new };
           taken = record { before = K.taken out.old; after = K.taken out.new };
@@ -61,9 +76,9 @@ pub fn run<S: Source, K: Sink>(
     while taken < LIMIT {
         let room = BUFFER.min(LIMIT - taken);
         match script.pull(&mut buf[..room]) {
-            Ok(0) => return status_at_end(finish(alloc, session, &mut lines, out)),
+            Ok(0) => return status_at_end(finish(alloc, session, checks, &mut lines, out)),
             Ok(count) => {
-                match hear(alloc, session, &mut lines, out, &buf[..count]) {
+                match hear(alloc, session, checks, &mut lines, out, &buf[..count]) {
                     Hearing::More => taken += count,
                     Hearing::Over => return Status::Done,
                     Hearing::Unwritten => return Status::WriteFault,
@@ -74,7 +89,7 @@ pub fn run<S: Source, K: Sink>(
         }
     }
     match script.pull(&mut buf[..1]) {
-        Ok(0) => status_at_end(finish(alloc, session, &mut lines, out)),
+        Ok(0) => status_at_end(finish(alloc, session, checks, &mut lines, out)),
         Ok(_) => Status::ScriptTooLong,
         Err(Failed) => Status::ReadFault,
     }

@@ -226,8 +226,10 @@ fn ends_by_the_first_fault(rt: HostRuntime) -> Result<(), Fail> {
 fn other_words_and_other_names(rt: HostRuntime) -> Result<(), Fail> {
     let alloc = rt.alloc();
     let usage = "usage: interview COMMAND ARGUMENTS\n";
-    let cases: [(&[&str], Status, &str); 7] = [
+    let cases: [(&[&str], Status, &str); 9] = [
         (&["frob"], Status::Usage, usage),
+        (&["run-plain"], Status::Usage, usage),
+        (&["run-plain", "x"], Status::FetchFault, ""),
         (&[], Status::Usage, usage),
         (&["run"], Status::Usage, usage),
         (&["run", "d", "d"], Status::Usage, usage),
@@ -243,31 +245,41 @@ fn other_words_and_other_names(rt: HostRuntime) -> Result<(), Fail> {
     Ok(())
 }
 
+// Values, words and notes of as many bytes as a line may have, and of one more.
+fn longest_lines(alloc: Global) -> Result<Vec<u8>, AllocError> {
+    let mut script = Vec::new(alloc);
+    for (front, byte, count, end) in [
+        ("set /a ", b'1', 4089, "\n"),
+        ("set /a ", b'1', 4090, "\n"),
+        ("", b'0', 4096, "\n"),
+        ("", b'#', 4096, "\n"),
+        ("", b'#', 4097, "\n"),
+        ("", b'#', 4096, "\r\n"),
+    ] {
+        script.extend_from_slice(front.as_bytes())?;
+        script.extend_from_slice(&vec![in alloc; byte; count]?)?;
+        script.extend_from_slice(end.as_bytes())?;
+    }
+    script.extend_from_slice("get /a".as_bytes())?;
+    Ok(script)
+}
+
 #[test]
 fn lines_at_the_longest(rt: HostRuntime) -> Result<(), Fail> {
     let alloc = rt.alloc();
-    let mut script = Vec::new(alloc);
-    for digits in [4089, 4090] {
-        script.extend_from_slice("set /a ".as_bytes())?;
-        script.extend_from_slice(&vec![in alloc; b'1'; digits]?)?;
-        script.push(b'\n')?;
-    }
-    script.extend_from_slice("get /a".as_bytes())?;
+    let text =
+        "refused 6 BadValue\nrefused 2 LongLine\nrefused 1 BadLine\nrefused 2 LongLine\nrefused 2 LongLine\nincomplete\n";
     for pulled in [1, 7, 4097] {
-        let bytes = script.clone()?;
         let end = end_of(
             &rt,
             alloc,
             &["run", "d"],
             THREE_FACTS,
-            bytes,
+            longest_lines(alloc)?,
             Devices { pulled, ..SOUND },
         )?;
         assert_eq!(rt; end.status, Status::Done);
-        assert_eq!(rt;
-            end.text.as_slice(),
-            "refused 6 BadValue\nrefused 2 LongLine\nincomplete\n".as_bytes()
-        );
+        assert_eq!(rt; end.text.as_slice(), text.as_bytes());
     }
     Ok(())
 }
@@ -307,46 +319,5 @@ fn sums_are_tested_at_their_end(rt: HostRuntime) -> Result<(), Fail> {
     let end = end_of(&rt, alloc, &["run", "d"], dictionary, script, SOUND)?;
     assert_eq!(rt; end.status, Status::Done);
     assert_eq!(rt; end.text.as_slice(), text.as_bytes());
-    Ok(())
-}
-
-#[test]
-fn other_dictionaries_are_refused(rt: HostRuntime) -> Result<(), Fail> {
-    let alloc = rt.alloc();
-    let refused = "dictionary refused 3 Shape fact 0\n";
-    let cases = [
-        r#"{"version":"1","facts":[]}"#,
-        "",
-        "{",
-        "[]",
-        r#"{"facts":[]}"#,
-        r#"{"version":"2","facts":[]}"#,
-        r#"{"version":1,"facts":[]}"#,
-        r#"{"version":"1","facts":{}}"#,
-        r#"{"version":"1","facts":[],"description":"none"}"#,
-        r#"{"version":"1","facts":[{"path":"/a"}]}"#,
-        r#"{"version":"1","facts":[{"path":"/a","writable":"Int"}]}"#,
-        r#"{"version":"1","facts":[{"path":"a","writable":"Dollar"}]}"#,
-        r#"{"version":"1","facts":[{"path":"/c/*/a","writable":"Dollar"}]}"#,
-        r#"{"version":"1","facts":[{"path":"/a","writable":"Dollar","limits":[]}]}"#,
-        r#"{"version":"1","facts":[{"path":"/a","writable":"Dollar"},{"path":"/a","writable":"Dollar"}]}"#,
-        r#"{"version":"1","facts":[{"path":"/s","derived":"Dollar","is":["Add"]}]}"#,
-        r#"{"version":"1","facts":[{"path":"/s","derived":"Dollar","is":["Add",["Dependency","/s"]]}]}"#,
-        r#"{"version":"1","facts":[{"path":"/s","derived":"Dollar","is":["Add",["Dependency","/a"]]},{"path":"/a","writable":"Dollar"}]}"#,
-        r#"{"version":"1","facts":[{"path":"/a","writable":"Dollar"},{"path":"/s","derived":"Dollar","is":["Sum",["Dependency","/a"]]}]}"#,
-        r#"{"version":"1","facts":[{"path":"/a","writable":"Dollar"},{"path":"/s","derived":"Dollar","is":["Add",["Dependency","/a","/a"]]}]}"#,
-        r#"{"version":"1","facts":[{"path":"/a","writable":"Dollar"},{"path":"/s","derived":"Dollar","is":["Add",["Dependency"]]}]}"#,
-    ];
-    for (number, dictionary) in cases.iter().enumerate() {
-        let script = "get /a\n".as_bytes().to_vec(alloc)?;
-        let end = end_of(&rt, alloc, &["run", "d"], dictionary, script, SOUND)?;
-        if number == 0 {
-            assert_eq!(rt; end.status, Status::Done);
-            assert_eq!(rt; end.text.as_slice(), "refused 3 UnknownFact\n".as_bytes());
-        } else {
-            assert_eq!(rt; end.status, Status::DictionaryRefused, "{dictionary}");
-            assert_eq!(rt; end.text.as_slice(), refused.as_bytes(), "{dictionary}");
-        }
-    }
     Ok(())
 }

@@ -1,5 +1,13 @@
-use Rattle.interview.proofs.CheckLaws.{ends_judged}
+use Rattle.interview.specs.declared.fetching.Fetched.TheVariants as fetches
+use Rattle.interview.proofs.CheckLaws.{ends_fetched}
 use Rattle.interview.proofs.checking.check.Goals as goal
 
-pub returns-in-Ok : goal.returns-in-Ok
-returns-in-Ok g c = record { ends = ends_judged _ _ _ _ _ _ _ c.in-Ok.ensures.judged (rw c.bytes.ensures.value at c.end_by.ensures) }
+pub returns-in-Ok-Accepted : goal.returns-in-Ok-Accepted
+returns-in-Ok-Accepted g c =
+    let found = rw c.in-Ok-Accepted.field-0-is at c.in-Ok-Accepted.ensures.fetched in
+    record { ends = ends_fetched _ _ _ _ (fetches.Accepted _) c.end_accepted.result found c.end_accepted.ensures }
+
+pub returns-in-Ok-Refused : goal.returns-in-Ok-Refused
+returns-in-Ok-Refused g c =
+    let found = rw c.in-Ok-Refused.field-0-is at c.in-Ok-Refused.ensures.fetched in
+    record { ends = ends_fetched _ _ _ _ (fetches.Refused _) c.end_by_fault.result found c.end_by_fault.ensures }

@@ -1,4 +1,8 @@
-use Rattle.std.proofs.Common.{drop, refl, arith, ◌∙◌}
+use Rattle.std.proofs.Common.{ℕ, ◌<◌, length, drop, rules as the_rules, refl, ap, arith, ◌∙◌, length-drop}
+use Rattle.std.proofs.lemmas.List.{length-take}
+use Rattle.graph_session.specs.Rules.{rules}
+use Rattle.graph_session.specs.Shown.{course}
+use Rattle.interview.specs.Replies.{open_at}
 use Rattle.interview.proofs.HearingLaws.{hears_fed, behind_is}
 use Rattle.interview.proofs.hearing.hear.Goals as goal
 
@@ -8,8 +12,8 @@ returns-in-Over-clause-heard g c = (
     state_now = _;
     held_now = c.feed-fed.new.self.so_far;
     behind = drop c.feed-fed.result.taken c.loop-rest.rest.now;
-    hears = hears_fed _ _ _ _ _ _ c.loop-rest.session.answers _ _ c.loop-rest.lines.so_far c.loop-rest.rest.now _ _ _ c.feed-fed.new.self.line c.line.result.now c.feed-fed.result.ready c.feed-fed.result.taken _
-        c.loop-rest.invariant.hears c.loop-rest.invariant.dict c.feed-fed.ensures.stream c.line.ensures.line refl c.in-Over.ensures.answered.0 refl;
+    hears = hears_fed _ _ _ _ _ _ (course c.loop-rest.session) _ _ c.loop-rest.lines.so_far c.loop-rest.rest.now _ _ _ c.feed-fed.new.self.line c.line.result.now c.feed-fed.result.ready c.feed-fed.result.taken _
+        c.loop-rest.invariant.hears (ap rules c.loop-rest.invariant.dict) c.feed-fed.ensures.stream c.line.ensures.line refl c.in-Over.ensures.answered.0 refl;
   },
   c.in-Over.ensures.answered.1,
 )
@@ -23,17 +27,28 @@ returns-in-Unwritten-clause-heard g c = (
       state_now = _;
       held_now = c.feed-fed.new.self.so_far;
       behind = drop c.feed-fed.result.taken c.loop-rest.rest.now;
-      hears = hears_fed _ _ _ _ _ _ c.loop-rest.session.answers _ _ c.loop-rest.lines.so_far c.loop-rest.rest.now _ _ _ c.feed-fed.new.self.line c.line.result.now c.feed-fed.result.ready c.feed-fed.result.taken _
-          c.loop-rest.invariant.hears c.loop-rest.invariant.dict c.feed-fed.ensures.stream c.line.ensures.line refl c.in-Unwritten.ensures.answered.1.1 refl;
+      hears = hears_fed _ _ _ _ _ _ (course c.loop-rest.session) _ _ c.loop-rest.lines.so_far c.loop-rest.rest.now _ _ _ c.feed-fed.new.self.line c.line.result.now c.feed-fed.result.ready c.feed-fed.result.taken _
+          c.loop-rest.invariant.hears (ap rules c.loop-rest.invariant.dict) c.feed-fed.ensures.stream c.line.ensures.line refl c.in-Unwritten.ensures.answered.1.1 refl;
     },
   ),
 )
 
+pub returns-in-OutOfMemory-clause-heard : goal.returns-in-OutOfMemory-clause-heard
+returns-in-OutOfMemory-clause-heard g c = record {
+  state_now = open_at (course c.loop-rest.session);
+  held_now = c.loop-rest.lines.so_far;
+  behind = c.loop-rest.rest.now;
+  hears = rw c.in-OutOfMemory.ensures.answered c.loop-rest.invariant.hears;
+}
+
 pub loop-rest-preserved : goal.loop-rest-preserved
 loop-rest-preserved g c = record {
-  hears = hears_fed _ _ _ _ _ _ c.loop-rest.session.answers _ _ c.loop-rest.lines.so_far c.loop-rest.rest.now _ _ _ c.feed-fed.new.self.line c.line.result.now c.feed-fed.result.ready c.feed-fed.result.taken _
-      c.loop-rest.invariant.hears c.loop-rest.invariant.dict c.feed-fed.ensures.stream c.line.ensures.line (behind_is c.loop-rest.rest.now c.feed-fed.result.taken _ (omega arith)) c.in-More.ensures.answered.0 c.in-More.ensures.answered.1;
+  hears = hears_fed _ _ _ _ _ _ (course c.loop-rest.session) _ _ c.loop-rest.lines.so_far c.loop-rest.rest.now _ _ _ c.feed-fed.new.self.line c.line.result.now c.feed-fed.result.ready c.feed-fed.result.taken _
+      c.loop-rest.invariant.hears (ap rules c.loop-rest.invariant.dict) c.feed-fed.ensures.stream c.line.ensures.line (behind_is c.loop-rest.rest.now c.feed-fed.result.taken _ (omega arith)) c.in-More.ensures.answered.0 c.in-More.ensures.answered.1;
   unended = c.feed-fed.ensures.no_newline;
   dict = c.answer.ensures.dict ∙ c.loop-rest.invariant.dict;
+  few =
+      let some : 0 < length c.loop-rest.rest.now = search the_rules in
+      omega (arith, c.loop-rest.invariant.few, c.answer.ensures.few, c.feed-fed.ensures.some some, c.feed-fed.ensures.taken, length-take {A = ℕ}, length-drop c.feed-fed.result.taken c.loop-rest.rest.now);
   later = omega (arith, c.loop-rest.invariant.later, c.answer.ensures.later);
 }

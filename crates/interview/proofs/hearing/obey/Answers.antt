@@ -1,15 +1,20 @@
-use Rattle.std.proofs.Common.{sym, ◌∙◌}
-use Rattle.interview.specs.Replies.{said_set_slot, said_get_slot}
-use Rattle.interview.proofs.HearingLaws.{steps}
+use Rattle.std.proofs.Common.{sym, ap, ◌∙◌}
+use Rattle.graph_session.specs.Rules.{rules}
+use Rattle.graph_session.specs.Shown.{course}
+use Rattle.graph_session.proofs.RunLaws.{step_count}
+use Rattle.interview.proofs.HearingLaws.{refusal_steps, reply_steps}
 use Rattle.interview.proofs.hearing.obey.Goals as goal
 
-pub returns-in-Set-clause-stepped : goal.returns-in-Set-clause-stepped
-returns-in-Set-clause-stepped g c =
-    let s = c.args.session.now in
-    let said = (λ i. said_set_slot s.dict s.answers c.in-Set.slot (sym c.as_str.ensures i)) ∙ c.set-reply.ensures.said in
-    rw c.in-Set.is (steps _ _ _ _ _ (said_set_slot s.dict s.answers c.in-Set.slot c.in-Set.value) c.set-reply.result c.tell.result said c.tell.ensures.told)
+pub returns-in-Ok-clause-stepped : goal.returns-in-Ok-clause-stepped
+returns-in-Ok-clause-stepped g c =
+    reply_steps _ _ _ _ (rules c.args.session.now.dict) (course c.args.session.now) (course c.carry_out.new.session) c.args.command.now c.in-Ok.reply c.tell.result
+    (sym c.is_quit.ensures ∙ c.if-is_quit.false) (sym c.is_unknown.ensures ∙ c.if-is_unknown.false) c.in-Ok.ensures.ok
+    (rw c.carry_out.ensures.dict at c.tell.ensures.told)
 
-pub returns-in-Get-clause-stepped : goal.returns-in-Get-clause-stepped
-returns-in-Get-clause-stepped g c =
-    let s = c.args.session.now in
-    rw c.in-Get.is (steps _ _ _ _ _ (said_get_slot s.dict s.answers c.in-Get.slot) c.get-reply.result c.tell-in-Get.result c.get-reply.ensures.said c.tell-in-Get.ensures.told)
+pub returns-in-Ok-clause-few : goal.returns-in-Ok-clause-few
+returns-in-Ok-clause-few g c = step_count (rules c.args.session.now.dict) (course c.args.session.now) c.args.command.now c.in-Ok.reply (course c.carry_out.new.session) c.in-Ok.ensures.ok
+
+pub returns-in-Err-clause-stepped : goal.returns-in-Err-clause-stepped
+returns-in-Err-clause-stepped g c =
+    refusal_steps _ _ _ _ (rules c.args.session.now.dict) (course c.args.session.now) (course c.carry_out.new.session) c.args.command.now c.in-Err.refusal c.tell_refusal.result
+    (sym c.is_quit.ensures ∙ c.if-is_quit.false) (sym c.is_unknown.ensures ∙ c.if-is_unknown.false) c.in-Err.ensures.refused (ap course c.in-Err.ensures.unchanged) c.tell_refusal.ensures.told

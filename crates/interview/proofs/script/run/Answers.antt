@@ -1,8 +1,9 @@
 use Rattle.std.proofs.Common.{◌≡◌, ℕ, ◌<◌, length, refl, arith}
 use Rattle.std.proofs.lemmas.List.{take-append-le, length-take}
 use Rattle.std.specs.Prelude.{List, Option}
+use Rattle.graph_session.specs.Rules.{rules}
 use Rattle.interview.specs.Ends.{ScriptDid}
-use Rattle.interview.proofs.ScriptLaws.{goes_on}
+use Rattle.interview.proofs.ScriptLaws.{going_none, goes_on}
 use Rattle.interview.proofs.EndLaws.{ends_at, ends_over, ends_unwritten, ends_out_of_memory, ends_unread, ends_too_long}
 use Rattle.interview.proofs.script.run.Goals as goal
 
@@ -15,18 +16,21 @@ did_by left left_now taken taken_now read read_now put put_now = record {
   sink = record { before = put; after = put_now };
 }
 
+pub loop-taken-init : goal.loop-taken-init
+loop-taken-init g c = (rw c.new-lines.ensures (going_none c.args.session.now _ _ c.requires.begun), omega arith, omega arith, omega arith)
+
 pub returns-in-Ok-eq0 : goal.returns-in-Ok-eq0
 returns-in-Ok-eq0 g c =
     let zero : c.in-Ok-eq0.field-0 ≡ 0 = omega arith in
     let room : 0 < length c.pull.new.buf = omega (arith, length-take {A = ℕ}) in
     let read = rw zero at c.in-Ok-eq0.ensures.bytes.0 in
     record {
-      ends = ends_at c.args.session.now.dict (did_by _ _ _ _ (g.S.Source.faults c.args.script.now) (g.S.Source.faults c.pull.new.self) (g.K.Sink.faults c.args.out.now) (g.K.Sink.faults c.finish.new.out)) _ _ _ _ _ c.loop-taken.invariant.0 _ _ c.finish.result _ c.status_at_end.ensures (omega arith) read (c.in-Ok-eq0.ensures.bytes.1 zero room) c.loop-taken.invariant.2 c.finish.ensures.answered;
+      ends = ends_at (rules c.args.session.now.dict) (did_by _ _ _ _ (g.S.Source.faults c.args.script.now) (g.S.Source.faults c.pull.new.self) (g.K.Sink.faults c.args.out.now) (g.K.Sink.faults c.finish.new.out)) _ _ _ _ _ c.loop-taken.invariant.0 _ _ c.finish.result _ c.status_at_end.ensures (omega arith) read (c.in-Ok-eq0.ensures.bytes.1 zero room) c.loop-taken.invariant.2 c.finish.ensures.answered;
     }
 
 pub loop-taken-preserved : goal.loop-taken-preserved
 loop-taken-preserved g c = (
-  goes_on _ _ _ _ _ _ _ _ _ _ _ _ _ _ _ c.loop-taken.invariant.0 c.in-Ok.ensures.bytes.0 c.in-Ok.ensures.bound.1 (take-append-le c.in-Ok.count c.pull.new.buf _ c.in-Ok.ensures.bound.0) c.hear.ensures.dict c.in-More.ensures.heard.0 c.in-More.ensures.heard.1,
+  goes_on _ _ _ _ _ _ _ _ _ _ _ _ _ _ _ c.loop-taken.invariant.0 c.in-Ok.ensures.bytes.0 c.in-Ok.ensures.bound.1 (take-append-le c.in-Ok.count c.pull.new.buf _ c.in-Ok.ensures.bound.0) c.hear.ensures.dict c.hear.ensures.few c.in-More.ensures.heard.0 c.in-More.ensures.heard.1,
   omega (arith, c.in-Ok.ensures.bound.0, length-take {A = ℕ}),
   omega (arith, c.loop-taken.invariant.2, c.hear.ensures.later),
   omega (arith, c.loop-taken.invariant.3, c.in-Ok.ensures.cause.later),
@@ -34,22 +38,22 @@ loop-taken-preserved g c = (
 
 pub returns-in-Over : goal.returns-in-Over
 returns-in-Over g c = record {
-  ends = ends_over c.args.session.now.dict (did_by _ _ _ _ (g.S.Source.faults c.args.script.now) (g.S.Source.faults c.pull.new.self) (g.K.Sink.faults c.args.out.now) (g.K.Sink.faults c.hear.new.out)) _ _ _ _ _ c.loop-taken.invariant.0 _ _ c.in-Ok.count c.in-Ok.ensures.bytes.0 c.in-Ok.ensures.bound.1 (take-append-le c.in-Ok.count c.pull.new.buf _ c.in-Ok.ensures.bound.0) (omega (arith, c.in-Ok.ensures.bound.0, length-take {A = ℕ})) c.in-Over.ensures.heard.0 c.in-Over.ensures.heard.1;
+  ends = ends_over (rules c.args.session.now.dict) (did_by _ _ _ _ (g.S.Source.faults c.args.script.now) (g.S.Source.faults c.pull.new.self) (g.K.Sink.faults c.args.out.now) (g.K.Sink.faults c.hear.new.out)) _ _ _ _ _ c.loop-taken.invariant.0 _ _ c.in-Ok.count c.in-Ok.ensures.bytes.0 c.in-Ok.ensures.bound.1 (take-append-le c.in-Ok.count c.pull.new.buf _ c.in-Ok.ensures.bound.0) (omega (arith, c.in-Ok.ensures.bound.0, length-take {A = ℕ})) c.in-Over.ensures.heard.0 c.in-Over.ensures.heard.1;
 }
 
 pub returns-in-Unwritten : goal.returns-in-Unwritten
 returns-in-Unwritten g c = record {
-  ends = ends_unwritten c.args.session.now.dict (did_by _ _ _ _ (g.S.Source.faults c.args.script.now) (g.S.Source.faults c.pull.new.self) (g.K.Sink.faults c.args.out.now) (g.K.Sink.faults c.hear.new.out)) _ _ _ _ _ c.loop-taken.invariant.0 _ _ c.in-Ok.count c.in-Ok.ensures.bytes.0 c.in-Ok.ensures.bound.1 (take-append-le c.in-Ok.count c.pull.new.buf _ c.in-Ok.ensures.bound.0) (omega (arith, c.in-Ok.ensures.bound.0, length-take {A = ℕ})) _ _ c.loop-taken.invariant.2 c.in-Unwritten.ensures.heard.0 c.in-Unwritten.ensures.heard.1.1;
+  ends = ends_unwritten (rules c.args.session.now.dict) (did_by _ _ _ _ (g.S.Source.faults c.args.script.now) (g.S.Source.faults c.pull.new.self) (g.K.Sink.faults c.args.out.now) (g.K.Sink.faults c.hear.new.out)) _ _ _ _ _ c.loop-taken.invariant.0 _ _ c.in-Ok.count c.in-Ok.ensures.bytes.0 c.in-Ok.ensures.bound.1 (take-append-le c.in-Ok.count c.pull.new.buf _ c.in-Ok.ensures.bound.0) (omega (arith, c.in-Ok.ensures.bound.0, length-take {A = ℕ})) _ _ c.loop-taken.invariant.2 c.in-Unwritten.ensures.heard.0 c.in-Unwritten.ensures.heard.1.1;
 }
 
 pub returns-in-OutOfMemory : goal.returns-in-OutOfMemory
 returns-in-OutOfMemory g c = record {
-  ends = ends_out_of_memory c.args.session.now.dict (did_by _ _ _ _ (g.S.Source.faults c.args.script.now) (g.S.Source.faults c.pull.new.self) (g.K.Sink.faults c.args.out.now) (g.K.Sink.faults c.hear.new.out)) _ _ _ _ _ c.loop-taken.invariant.0 _ _ c.in-Ok.count c.in-Ok.ensures.bytes.0 c.in-Ok.ensures.bound.1 (take-append-le c.in-Ok.count c.pull.new.buf _ c.in-Ok.ensures.bound.0) (omega (arith, c.in-Ok.ensures.bound.0, length-take {A = ℕ})) c.in-OutOfMemory.ensures.heard;
+  ends = ends_out_of_memory (rules c.args.session.now.dict) (did_by _ _ _ _ (g.S.Source.faults c.args.script.now) (g.S.Source.faults c.pull.new.self) (g.K.Sink.faults c.args.out.now) (g.K.Sink.faults c.hear.new.out)) _ _ _ _ _ c.loop-taken.invariant.0 _ _ c.in-Ok.count c.in-Ok.ensures.bytes.0 c.in-Ok.ensures.bound.1 (take-append-le c.in-Ok.count c.pull.new.buf _ c.in-Ok.ensures.bound.0) (omega (arith, c.in-Ok.ensures.bound.0, length-take {A = ℕ})) c.in-OutOfMemory.ensures.heard;
 }
 
 pub returns-in-Err : goal.returns-in-Err
 returns-in-Err g c = record {
-  ends = ends_unread c.args.session.now.dict (did_by _ _ _ _ (g.S.Source.faults c.args.script.now) (g.S.Source.faults c.pull.new.self) (g.K.Sink.faults c.args.out.now) (g.K.Sink.faults c.loop-taken.out)) _ _ _ _ _ c.loop-taken.invariant.0 refl c.in-Err.ensures.bytes (omega (arith, c.loop-taken.invariant.3, c.in-Err.ensures.cause.failed));
+  ends = ends_unread (rules c.args.session.now.dict) (did_by _ _ _ _ (g.S.Source.faults c.args.script.now) (g.S.Source.faults c.pull.new.self) (g.K.Sink.faults c.args.out.now) (g.K.Sink.faults c.loop-taken.out)) _ _ _ _ _ c.loop-taken.invariant.0 refl c.in-Err.ensures.bytes (omega (arith, c.loop-taken.invariant.3, c.in-Err.ensures.cause.failed));
 }
 
 pub returns-in-Ok-eq0-pull : goal.returns-in-Ok-eq0-pull
@@ -58,15 +62,15 @@ returns-in-Ok-eq0-pull g c =
     let room : 0 < length c.pull-2.new.buf = omega (arith, length-take {A = ℕ}) in
     let read = rw zero at c.in-Ok-eq0-pull.ensures.bytes.0 in
     record {
-      ends = ends_at c.args.session.now.dict (did_by _ _ _ _ (g.S.Source.faults c.args.script.now) (g.S.Source.faults c.pull-2.new.self) (g.K.Sink.faults c.args.out.now) (g.K.Sink.faults c.finish-in-Ok-eq0-pull.new.out)) _ _ _ _ _ c.loop-taken.invariant.0 _ _ c.finish-in-Ok-eq0-pull.result _ c.status_at_end-in-Ok-eq0-pull.ensures c.loop-taken.invariant.1 read (c.in-Ok-eq0-pull.ensures.bytes.1 zero room) c.loop-taken.invariant.2 c.finish-in-Ok-eq0-pull.ensures.answered;
+      ends = ends_at (rules c.args.session.now.dict) (did_by _ _ _ _ (g.S.Source.faults c.args.script.now) (g.S.Source.faults c.pull-2.new.self) (g.K.Sink.faults c.args.out.now) (g.K.Sink.faults c.finish-in-Ok-eq0-pull.new.out)) _ _ _ _ _ c.loop-taken.invariant.0 _ _ c.finish-in-Ok-eq0-pull.result _ c.status_at_end-in-Ok-eq0-pull.ensures c.loop-taken.invariant.1 read (c.in-Ok-eq0-pull.ensures.bytes.1 zero room) c.loop-taken.invariant.2 c.finish-in-Ok-eq0-pull.ensures.answered;
     }
 
 pub returns-in-Ok-pull : goal.returns-in-Ok-pull
 returns-in-Ok-pull g c = record {
-  ends = ends_too_long c.args.session.now.dict (did_by _ _ _ _ (g.S.Source.faults c.args.script.now) (g.S.Source.faults c.pull-2.new.self) (g.K.Sink.faults c.args.out.now) (g.K.Sink.faults c.loop-taken.out)) _ _ _ _ _ c.loop-taken.invariant.0 _ refl c.in-Ok-pull.ensures.bytes.0 (omega arith) (omega (arith, c.in-Ok-pull.ensures.bound.1));
+  ends = ends_too_long (rules c.args.session.now.dict) (did_by _ _ _ _ (g.S.Source.faults c.args.script.now) (g.S.Source.faults c.pull-2.new.self) (g.K.Sink.faults c.args.out.now) (g.K.Sink.faults c.loop-taken.out)) _ _ _ _ _ c.loop-taken.invariant.0 _ refl c.in-Ok-pull.ensures.bytes.0 (omega arith) (omega (arith, c.in-Ok-pull.ensures.bound.1));
 }
 
 pub returns-in-Err-pull : goal.returns-in-Err-pull
 returns-in-Err-pull g c = record {
-  ends = ends_unread c.args.session.now.dict (did_by _ _ _ _ (g.S.Source.faults c.args.script.now) (g.S.Source.faults c.pull-2.new.self) (g.K.Sink.faults c.args.out.now) (g.K.Sink.faults c.loop-taken.out)) _ _ _ _ _ c.loop-taken.invariant.0 refl c.in-Err-pull.ensures.bytes (omega (arith, c.loop-taken.invariant.3, c.in-Err-pull.ensures.cause.failed));
+  ends = ends_unread (rules c.args.session.now.dict) (did_by _ _ _ _ (g.S.Source.faults c.args.script.now) (g.S.Source.faults c.pull-2.new.self) (g.K.Sink.faults c.args.out.now) (g.K.Sink.faults c.loop-taken.out)) _ _ _ _ _ c.loop-taken.invariant.0 refl c.in-Err-pull.ensures.bytes (omega (arith, c.loop-taken.invariant.3, c.in-Err-pull.ensures.cause.failed));
 }

@@ -1,0 +1,123 @@
+-- A line `final V` stays.
+use Rattle.std.proofs.Common.{◌≡◌, ℕ, Bool, true, false, not, ◌||◌, IsTrue, List, [], ◌∷◌, ◌++◌, Option, Some, None, is_some, unwrap_or, refl, sym, ap, ◌∙◌, arith}
+use Rattle.std.specs.Prelude.{codes, nat_eq}
+use Rattle.std.proofs.lemmas.List.{append_cancel_left, append_cancel_right}
+use Rattle.std.specs.FinMap as map
+use Rattle.std.specs.List.{list_any}
+use Rattle.fact_paths.specs.declared.slot_path.SlotPath.{SlotPath}
+use Rattle.fact_paths.specs.declared.slot_path.SlotPath.TheVariants as paths
+use Rattle.fact_values.specs.declared.slot.Slot.{Slot}
+use Rattle.fact_values.specs.declared.value.Value.{Value}
+use Rattle.value_text.specs.Enums.{Listed}
+use Rattle.value_text.specs.Values.{printed}
+use Rattle.dict_tree.specs.Dictionary.{Dictionary as Tree}
+use Rattle.dict_tree.specs.Targets.{find_global}
+use Rattle.three_state.specs.declared.res.Res.{Res}
+use Rattle.three_state.specs.declared.res.Res.TheVariants.{Complete, Placeholder, Incomplete, Fault}
+use Rattle.evaluation.proofs.Bools.{both}
+use Rattle.answers.specs.Answered.{Answered, value_of}
+use Rattle.answers.specs.declared.edit.Side.TheVariants.{Override}
+use Rattle.dictionary.specs.Accepted.{Accepted, IsAccepted}
+use Rattle.dictionary.specs.Extension.{Extends, IsExtension}
+use Rattle.dictionary.specs.Final.{is_complete_in, is_final}
+use Rattle.dictionary.specs.Plain.{plain}
+use Rattle.dictionary.specs.Steady.{steady}
+use Rattle.graph_session.specs.Naming.{is_unknown, lacks_member, slot_of}
+use Rattle.graph_session.specs.Refusals.{decided, first_of, when}
+use Rattle.graph_session.specs.Rules.{Rules, tree_of}
+use Rattle.graph_session.specs.Shown.{Course}
+use Rattle.graph_session.specs.declared.reply.Refusal.TheVariants.{UnknownFact, NoMember}
+use Rattle.graph_session.specs.declared.reply.Reply.TheVariants.{FinalAsked}
+use Rattle.interview.specs.Replies.{Step, asked_text, final_text, line_with, step_answered}
+use Rattle.placeholder_laws.specs.Stays.{Stays}
+use Rattle.placeholder_laws.proofs.StayLaws.{final_result_stays}
+use Rattle.interview.specs.Interview.{FinalLinesStay, final_line}
+
+-- ---- texts that begin with another byte
+
+abbrev first_byte : List ℕ → ℕ
+first_byte [] = 0
+first_byte (b ∷ bs) = b
+
+-- what is answered where the path is unknown, or has a member that isn't there
+abbrev answered_by : Rules → Course → Slot → Bool → Bool → Step
+answered_by r c s unknown lacks = step_answered r c (decided (first_of (when unknown UnknownFact ∷ when lacks NoMember ∷ [])) (FinalAsked s, c))
+
+-- ---- what a value that is told says
+
+-- the result is final and complete
+final_told : (lists : List Listed) (final : Bool) (o : Option Res) (value : List ℕ) → line_with (asked_text (final_text lists final) o (codes "open")) ≡ final_line value
+    → IsTrue final
+final_told lists true o value is = refl
+final_told lists false None value is = absurd (omega (arith, ap first_byte is))
+final_told lists false (Some (Complete v)) value is = absurd (omega (arith, ap first_byte is))
+final_told lists false (Some (Placeholder v)) value is = absurd (omega (arith, ap first_byte is))
+final_told lists false (Some Incomplete) value is = absurd (omega (arith, ap first_byte is))
+final_told lists false (Some (Fault fault)) value is = absurd (omega (arith, ap first_byte is))
+
+shown_as : (lists : List Listed) (final : Bool) (o : Option Res) (v : Value) → IsTrue final → o ≡ Some (Complete v) → asked_text (final_text lists final) o (codes "open") ≡ codes "final " ++ printed lists v
+shown_as lists final o v holds is = λ i. asked_text (final_text lists (holds i)) (is i) (codes "open")
+
+-- ---- what stays
+
+list_stays : (o p : Option (List ℕ)) (m : ℕ) → ((ms : List ℕ) → o ≡ Some ms → p ≡ Some ms) → not (list_any (nat_eq m) (unwrap_or o [])) ≡ false → not (list_any (nat_eq m) (unwrap_or p [])) ≡ false
+list_stays None p m h i = absurd (cc)
+list_stays (Some ms) p m h i = rw (h ms refl) i
+
+-- a member that is there stays
+there_still : (d : Tree) (a b : Answered) → Extends a b → (path : SlotPath) → lacks_member d a path ≡ false → lacks_member d b path ≡ false
+there_still d a b ext (paths.Global n) h = refl
+there_still d a b ext (paths.Member c k n) h =
+    let collection = unwrap_or (find_global d c) 0 in
+    list_stays (map.get a.lists collection) (map.get b.lists collection) k (ext.lists collection) h
+
+final_still : (d : Accepted) (a b : Answered) → Extends a b → (s : Slot) (v : Value) → plain d b s ≡ Some (Complete v) → IsTrue (is_final d a s) → IsTrue (is_final d b s)
+final_still d a b ext s v is final =
+    let kept = (both (is_complete_in (plain d a s)) (is_some (value_of Override a s) || steady d s.fact) final).1 in
+    rw (is, ext.overrides s) kept
+
+-- the text of a value behind the same words
+value_text : (v w : List ℕ) → final_line v ≡ final_line w → w ≡ v
+value_text v w is = sym (append_cancel_left (codes "final ") v w (append_cancel_right (codes "final " ++ v) (codes "final " ++ w) (10 ∷ []) is))
+
+module _ (names : List (List ℕ)) (r : Rules) (accepted : IsAccepted names r.accepted) (c : Course) (s : Slot) where
+  abbrev told_in : Course → List ℕ
+  told_in e = line_with (asked_text (final_text (tree_of r).enums (is_final r.accepted e.told.now s)) (plain r.accepted e.told.now s) (codes "open"))
+
+  module _ (final : IsTrue (is_final r.accepted c.told.now s)) where
+    stays : Stays r.accepted c.told.now s
+    stays = final_result_stays names r.accepted accepted c.told.now s final
+
+    told_now : told_in c ≡ final_line (printed (tree_of r).enums stays.0)
+    told_now = ap line_with (shown_as (tree_of r).enums (is_final r.accepted c.told.now s) (plain r.accepted c.told.now s) stays.0 final stays.1)
+
+    told_again : (d : Course) → IsExtension (tree_of r) c.told.now d.told.now → told_in d ≡ final_line (printed (tree_of r).enums stays.0)
+    told_again d ext =
+        let there = stays.2 d.told.now ext in
+        let still = final_still r.accepted c.told.now d.told.now ext.extends s stays.0 there final in
+        ap line_with (shown_as (tree_of r).enums (is_final r.accepted d.told.now s) (plain r.accepted d.told.now s) stays.0 still there)
+
+  -- what a value that is told says of the path's slot, and what is told under an extension
+  pub record Told (text : List ℕ) (lacks : Bool) : Type 0 where
+    pub final : IsTrue (is_final r.accepted c.told.now s)
+    pub told : told_in c ≡ final_line text
+    pub lacks_none : lacks ≡ false
+
+  told_by : (unknown lacks : Bool) (text : List ℕ) → (answered_by r c s unknown lacks).text ≡ final_line text → Told text lacks × (unknown ≡ false)
+  told_by true lacks text is = absurd (omega (arith, ap first_byte is))
+  told_by false true text is = absurd (omega (arith, ap first_byte is))
+  told_by false false text is = (record { final = final_told (tree_of r).enums (is_final r.accepted c.told.now s) (plain r.accepted c.told.now s) text is; told = is; lacks_none = refl }, refl)
+
+pub final_lines_stay : FinalLinesStay
+final_lines_stay names r accepted c path text is =
+    let s = slot_of (tree_of r) path in
+    let told = told_by names r accepted c s (is_unknown (tree_of r) path) (lacks_member (tree_of r) c.told.now path) text is in
+    let final = told.0.final in
+    let same : text ≡ printed (tree_of r).enums (stays names r accepted c s final).0 = value_text _ text (sym (told_now names r accepted c s final) ∙ told.0.told) in
+    record {
+      stays = stays names r accepted c s final;
+      printed_so = same;
+      again = λ d ext.
+          (λ i. (answered_by r d s (told.1 i) (there_still (tree_of r) c.told.now d.told.now ext.extends path told.0.lacks_none i)).text)
+          ∙ told_again names r accepted c s final d ext ∙ ap final_line (sym same);
+    }

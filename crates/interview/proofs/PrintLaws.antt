@@ -1,0 +1,89 @@
+-- Each result of a slot has a text.
+use Rattle.std.proofs.Common.{◌≡◌, ℕ, zero, suc, ◌<◌, IsTrue, IsSome, List, [], ◌∷◌, length, slice_get, Option, Some, None, is_some, option_map, unwrap_or, refl, sym, ap, subst, ◌∙◌, arith}
+use Rattle.std.specs.Prelude.{option_and_then}
+use Rattle.fact_values.specs.declared.fact_type.FactType.{FactType}
+use Rattle.fact_values.specs.declared.fact_type.FactType.TheVariants as types
+use Rattle.fact_values.specs.declared.slot.Slot.{Slot}
+use Rattle.fact_values.specs.declared.value.Value.{Value}
+use Rattle.fact_values.specs.declared.value.Value.TheVariants as values
+use Rattle.value_text.specs.Enums.{Listed, option_at}
+use Rattle.value_text.specs.Values.{IsPrinted}
+use Rattle.dict_tree.specs.Facts.{Fact}
+use Rattle.dict_tree.specs.Dictionary.{Dictionary as Tree, Written}
+use Rattle.dict_tree.specs.Finding.{fact_at}
+use Rattle.three_state.specs.declared.res.Res.{Res}
+use Rattle.three_state.specs.declared.res.Res.TheVariants.{Complete, Placeholder, Incomplete, Fault}
+use Rattle.evaluation.specs.Typed.{IsOfType, IsResOfType}
+use Rattle.answers.specs.Answered.{Answered}
+use Rattle.dictionary.specs.Accepted.{Accepted, IsAccepted, Kept, accepted, names_of}
+use Rattle.dictionary.specs.Fits.{AnswersFit, domains}
+use Rattle.dictionary.specs.Homes.{home}
+use Rattle.dictionary.specs.Plain.{plain}
+use Rattle.dictionary.specs.Slots.{stands, stands_of}
+use Rattle.dictionary.proofs.FactTypes.{typed_fact, type_of_number}
+use Rattle.dictionary.proofs.PlainLaws.{standing_have_results}
+use Rattle.dictionary.proofs.TypedResultLaws.{typed_results}
+use Rattle.interview.specs.Replies.{IsResPrinted}
+
+-- ---- an option of a type is in its list
+
+item_there : {X : Type 0} (xs : List X) (place : ℕ) → place < length xs → IsSome (slice_get xs place)
+item_there [] place h = absurd (omega (arith, h))
+item_there (x ∷ xs) zero h = refl
+item_there (x ∷ xs) (suc n) h = item_there xs n (omega (arith, h))
+
+option_there : (o : Option Listed) (place : ℕ) → place < unwrap_or (option_map (λ (e : Listed). length e.options) o) 0
+    → IsSome (option_and_then (λ options. slice_get options place) (option_map (λ (e : Listed). e.options) o))
+option_there None place h = absurd (omega (arith, h))
+option_there (Some e) place h = item_there e.options place h
+
+choice_there : (d : Tree) (list n place : ℕ) → list ≡ n → place < unwrap_or (option_map (λ (e : Listed). length e.options) (slice_get d.enums n)) 0 → IsSome (option_at d.enums list place)
+choice_there d list n place same h = rw same (option_there (slice_get d.enums n) place h)
+
+value_printed : (d : Tree) (a : Answered) (v : Value) (t : FactType) → IsOfType (domains d a) v t → IsPrinted d.enums v
+value_printed d a (values.Boolean b) t h = tt
+value_printed d a (values.Int n) t h = tt
+value_printed d a (values.Dollar cents) t h = tt
+value_printed d a (values.Rational q) t h = tt
+value_printed d a (values.Day n) t h = tt
+value_printed d a (values.Text s) t h = tt
+value_printed d a (values.Members ms) t h = tt
+value_printed d a (values.Item m) t h = tt
+value_printed d a (values.Choice list place) (types.Enum n) h = choice_there d list n place h.0 h.1
+value_printed d a (values.Choice list place) types.Boolean h = absurd h
+value_printed d a (values.Choice list place) types.Int h = absurd h
+value_printed d a (values.Choice list place) types.Dollar h = absurd h
+value_printed d a (values.Choice list place) types.Rational h = absurd h
+value_printed d a (values.Choice list place) types.Day h = absurd h
+value_printed d a (values.Choice list place) types.Text h = absurd h
+value_printed d a (values.Choice list place) (types.Collection c) h = absurd h
+value_printed d a (values.Choice list place) (types.Item c) h = absurd h
+
+res_printed : (d : Tree) (a : Answered) (r : Res) (t : FactType) → IsResOfType (domains d a) r t → IsResPrinted d.enums r
+res_printed d a (Complete v) t h = value_printed d a v t h
+res_printed d a (Placeholder v) t h = value_printed d a v t h
+res_printed d a Incomplete t h = tt
+res_printed d a (Fault fault) t h = tt
+
+-- ---- a slot with a result stands, and has a type
+
+pub stands_with : (d : Accepted) (a : Answered) (s : Slot) (r : Res) → plain d a s ≡ Some r → IsTrue (stands d.tree a s)
+stands_with d a s r e = sym (standing_have_results d a s) ∙ ap is_some e
+
+fact_there : (a : Answered) (h m : ℕ) (o : Option Fact) → IsTrue (stands_of a h m o) → (f : Fact) × (o ≡ Some f)
+fact_there a h m None i = absurd (cc)
+fact_there a h m (Some f) i = (f, refl)
+
+pub result_printed : (names : List (List ℕ)) (d : Accepted) → IsAccepted names d → (a : Answered) → AnswersFit d.tree a → (s : Slot) (r : Res) → plain d a s ≡ Some r → IsResPrinted d.tree.enums r
+result_printed names d accepted a fit s r e =
+    let there = fact_there a (home d.tree s.fact) s.member (fact_at d.tree.facts s.fact) (stands_with d a s r e) in
+    let typed = typed_fact d.tree names d.typed accepted.typed s.fact there.0 there.1 in
+    res_printed d.tree a r typed.0 (typed_results names d accepted a fit s r e typed.0 (type_of_number d.tree s.fact there.0 typed.0 there.1 typed.1.stated))
+
+-- the same of a session's result: its dictionary is seen through the source and the lists that were asked for
+pub result_listed : (k : Kept) (a : Answered) (s : Slot) (r : Res) (dict : Kept) (source : Written) (lists : List Listed) → dict ≡ k → source ≡ dict.source → lists ≡ source.enums
+    → IsAccepted (names_of dict.checks) (accepted dict) → AnswersFit (accepted k).tree a → plain (accepted k) a s ≡ Some r → IsResPrinted lists r
+result_listed k a s r dict source lists same of_dict of_source is fit e =
+    let enums : lists ≡ (accepted k).tree.enums = of_source ∙ ap (λ (w : Written). w.enums) (of_dict ∙ ap (λ (d : Kept). d.source) same) in
+    let kept : IsAccepted (names_of k.checks) (accepted k) = subst (λ d. IsAccepted (names_of d.checks) (accepted d)) same is in
+    subst (λ l. IsResPrinted l r) (sym enums) (result_printed (names_of k.checks) (accepted k) kept a fit s r e)

@@ -1,0 +1,11 @@
+use Rattle.std.proofs.Common.{◌≡◌, ◌∙◌}
+use Rattle.dictionary.specs.Accepted.{accepted}
+use Rattle.interview.specs.Interview.{defined_accepted}
+use Rattle.interview.specs.FaultLines.{accepted_line}
+use Rattle.interview.proofs.checking.end_accepted.Goals as goal
+
+pub returns : goal.returns
+returns g c =
+    let text : c.bytes.result.now ≡ (defined_accepted (accepted c.args.dictionary.now)).text =
+    c.bytes.ensures.value ∙ c.print_accepted.ensures ∙ (λ i. accepted_line (c.fact_count.ensures i) (c.node_count.ensures i)) in
+    rw text at c.end_by.ensures

@@ -1,0 +1,82 @@
+// Fetches a dictionary.
+ghost use Rattle.std.specs.Prelude.{◌≡◌, ℕ, List, map, IfErr, IfOk};
+ghost use Rattle.dictionary.specs.Accepted.{accepted, names_of};
+ghost use Rattle.dictionary.specs.Faults.{AreAccepted, IsFault, Refuses};
+ghost use Rattle.interview.specs.Ends.{FetchedAs, NotFetched};
+ghost use Rattle.interview.specs.FaultLines.{is_memory as wants_memory};
+
+use crate::Status;
+use dictionary::{DictFault, Dictionary, accept};
+use fg_io::{FetchFault, Shelf};
+use std::alloc::Global;
+use text_checks::CheckTable;
+
+/// The most bytes of a dictionary.
+const LIMIT: u64 = 8_388_608;
+
+/// What the bytes of a dictionary came to.
+#[derive(Drop)]
+pub enum Fetched {
+    /// A dictionary without a fault.
+    Accepted(Dictionary),
+    /// The first fault.
+    Refused(DictFault),
+}
+
+// The dictionary that the bytes spell, with the checks of the table by name and code.
+fn accept_named(alloc: Global, bytes: &[u8], checks: &CheckTable) -> Result<Dictionary, DictFault>
+    ensures is_accepted { IfOk result (λ d. AreAccepted bytes.now (names_of (map {B = List ℕ × ℕ} (λ c. (c.name, c.code)) checks.now.checks.items)) (accepted d)) }
+    ensures checks { IfOk result (λ d. d.checks ≡ map {B = List ℕ × ℕ} (λ c. (c.name, c.code)) checks.now.checks.items) }
+    ensures refused { IfErr result (Refuses (IsFault bytes.now (names_of (map {B = List ℕ × ℕ} (λ c. (c.name, c.code)) checks.now.checks.items)))) }
+{
+    accept(alloc, bytes, checks)
+}
+
+fn is_memory(fault: DictFault) -> bool
+    ensures { result ≡ wants_memory fault }
+{
+    match fault {
+        DictFault::NoMemory => true,
+        DictFault::TooLong
+        | DictFault::NotJson
+        | DictFault::Shape(_)
+        | DictFault::TooMany(_)
+        | DictFault::TooDeep(_)
+        | DictFault::BadPath(_)
+        | DictFault::DuplicatePath(_)
+        | DictFault::NoCollection(_)
+        | DictFault::UnknownPath(_)
+        | DictFault::WrongPlace(_)
+        | DictFault::UnknownCheck(_)
+        | DictFault::IllTyped(_, _)
+        | DictFault::BadLimit(_)
+        | DictFault::Cycle(_) => false,
+    }
+}
+
+/// Fetches the dictionary of this name.
+pub fn fetch<H: Shelf>(
+    alloc: Global,
+    name: &str,
+    checks: &CheckTable,
+    shelf: &mut H,
+) -> Result<Fetched, Status>
+    ensures fetched { IfOk result (FetchedAs (H.told shelf.old name.now) (map {B = List ℕ × ℕ} (λ c. (c.name, c.code)) checks.now.checks.items)) }
+    ensures not_fetched { IfErr result (NotFetched name.now (H.faults shelf.old) (H.faults shelf.new) (H.failed_name shelf.new)) }
+{
+    let bytes = match shelf.fetch(name, LIMIT) {
+        Ok(bytes) => bytes,
+        Err(FetchFault::TooLong) => return Ok(Fetched::Refused(DictFault::TooLong)),
+        Err(FetchFault::Failed) => return Err(Status::FetchFault),
+        Err(FetchFault::NoMemory) => return Err(Status::NoMemory),
+    };
+    match accept_named(alloc, bytes.as_slice(), checks) {
+        Ok(dictionary) => Ok(Fetched::Accepted(dictionary)),
+        Err(fault) => {
+            if is_memory(fault) {
+                return Err(Status::NoMemory);
+            }
+            Ok(Fetched::Refused(fault))
+        }
+    }
+}
