@@ -1,3 +1,4 @@
+pub mod Checks
 pub mod Codes
 pub mod Replies
 pub mod Words

@@ -1,8 +1,9 @@
 //! The program `interview`: runs a script of commands over a dictionary of facts, and prints a reply a command.
 #![tactic(auto)]
 
-ghost use Rattle.std.specs.Prelude.{◌≡◌, ◌+◌, ◌-◌, ◌≤◌, ◌<◌, ◌^◌, Bool, OnOk, length};
+ghost use Rattle.std.specs.Prelude.{◌≡◌, ℕ, ◌+◌, ◌-◌, ◌≤◌, ◌<◌, ◌^◌, Bool, List, [], ◌∷◌, ◌++◌, OnOk, length, map};
 ghost use Rattle.text_checks.specs.Checks.{IsCode, check_says};
+ghost use Rattle.interview.specs.Checks.{standard_checks};
 
 mod checking;
 mod ending;
@@ -59,7 +60,9 @@ fn add_check(
     requires callable { (text : _) → length text.now ≤ 1000 → Test.pre check text }
     requires says { (text : _) (answer : Bool) → length text.now ≤ 1000
         → Test.post check text answer → answer ≡ check_says code text.now }
-    ensures { OnOk result (length checks.new.checks.items ≡ length checks.old.checks.items + 1) }
+    ensures added { OnOk result (map {B = List ℕ × ℕ} (λ c. (c.name, c.code)) checks.new.checks.items
+        ≡ map {B = List ℕ × ℕ} (λ c. (c.name, c.code)) checks.old.checks.items ++ (name.now, code) ∷ []) }
+    ensures count { OnOk result (length checks.new.checks.items ≡ length checks.old.checks.items + 1) }
 {
     let Ok(name) = Name::read(alloc, name) else {
         return Err(AllocError);
@@ -70,7 +73,17 @@ fn add_check(
     }
 }
 
-// Runs the program over the words, the current folder and the standard streams.
+// Runs the program over the words, the current folder and the standard streams. A dictionary may name the four checks.
+fn run_with(rt: HostRuntime, alloc: Global, words: &[String], checks: &CheckTable) -> Status
+    requires { map {B = List ℕ × ℕ} (λ c. (c.name, c.code)) checks.now.checks.items ≡ standard_checks }
+{
+    let mut shelf = FolderShelf::new(rt, alloc);
+    let mut script = StdinSource::new(rt.stdin());
+    let mut out = StdoutSink::new(rt.stdout());
+    interview(alloc, words, checks, &mut shelf, &mut script, &mut out)
+}
+
+// Makes the table of checks, and runs the program.
 fn run(rt: HostRuntime) -> io::Result<Status> {
     let alloc = rt.alloc();
     let words = given_words(&rt)?;
@@ -83,10 +96,7 @@ fn run(rt: HostRuntime) -> io::Result<Status> {
     add_check(alloc, &mut checks, "printable-ascii", 3, check)?;
     let check = Box::new(alloc, |text: &str| trimmed(text))?;
     add_check(alloc, &mut checks, "trimmed", 4, check)?;
-    let mut shelf = FolderShelf::new(rt, alloc);
-    let mut script = StdinSource::new(rt.stdin());
-    let mut out = StdoutSink::new(rt.stdout());
-    Ok(interview(alloc, &words, &checks, &mut shelf, &mut script, &mut out))
+    Ok(run_with(rt, alloc, &words, &checks))
 }
 
 fn main(rt: HostRuntime) -> ExitCode {
