@@ -1,21 +1,19 @@
 -- A change's inverse gives back what was before, all of it.
-use Rattle.std.proofs.Common.{◌≡◌, ℕ, zero, suc, Bool, true, false, List, [], ◌∷◌, ◌++◌, length, take, Option, Some, None, refl, sym, ap, ◌∙◌, arith, subst, ◌<◌, ◌≤◌, ◌-◌, ◌+◌, ◌||◌, length-append}
+use Rattle.std.proofs.Common.{◌≡◌, ℕ, Bool, true, false, List, [], ◌∷◌, ◌++◌, Option, Some, None, refl, sym, ap, ◌∙◌, arith, subst, ◌≤◌, ◌-◌, ◌+◌}
 use Rattle.std.specs.Prelude.{nat_eq, is_some, not, option_map, unwrap_or, insert, IsSome, if◌then◌else◌}
-use Rattle.std.specs.List.{list_any}
 use Rattle.std.specs.FinMap as map
 use Rattle.fact_values.specs.declared.slot.Slot.{Slot}
 use Rattle.fact_values.specs.declared.value.Value.{Value}
 use Rattle.answers.specs.declared.edit.Side.{Side}
 use Rattle.answers.specs.declared.edit.Side.TheVariants.{Answer, Override}
 use Rattle.answers.specs.Finite.{Numbered, put_at, and_then}
-use Rattle.answers.specs.Lists.{IsNotIn, without, place_of, without_last}
+use Rattle.answers.specs.Lists.{IsNotIn, without, without_last}
 use Rattle.answers.proofs.ListLaws.{put_in_place, taken_out, last_off}
-use Rattle.answers.specs.Answered.{Entry, blank, Answered, entry, of_side, value_of, list_of}
+use Rattle.answers.specs.Answered.{Entry, blank, Answered, entry, of_side, list_of}
 use Rattle.answers.specs.Change.{Change, sets, opens, closes, adds, takes, removes, puts_back, with_value, applied, inverse, Fits}
 use Rattle.answers.specs.WellFormed.{WellFormed}
-use Rattle.answers.proofs.StandLaws.{entry_stands, member_stands, not_listed, list_there, some_below}
-use Rattle.answers.proofs.FiniteLaws.{put_back, put_same, put_twice, get_put_own, own, equal}
-use Rattle.std.proofs.lemmas.Grind.{common_steps}
+use Rattle.answers.proofs.StandLaws.{entry_stands, list_is, not_listed, list_there, some_below}
+use Rattle.answers.proofs.FiniteLaws.{put_back, get_put_own}
 
 -- the four parts of two answers
 pub answered_same : (a b : Answered) → a.next ≡ b.next → a.lists ≡ b.lists → a.globals ≡ b.globals → a.members ≡ b.members → a ≡ b
@@ -35,9 +33,6 @@ member_back side ms m f v None h there = absurd cc
 at_global : (side : Side) (a : Answered) (s : Slot) (v : Option Value) (b : Bool) → nat_eq s.member 0 ≡ b → IsSome (entry a s.member) → applied (inverse (sets side s v) a) (applied (sets side s v) a) ≡ a
 at_global side a s v true e h = rw e (answered_same _ a refl refl (value_back side s.fact v (map.get (of_side side a.globals) s.fact) a.globals refl) refl)
 at_global side a s v false e h = rw e (answered_same _ a refl refl refl (member_back side a.members s.member s.fact v (map.get a.members s.member) refl (rw e at h)))
-
-list_at : (a : Answered) (c : ℕ) (xs : List ℕ) → map.get a.lists c ≡ Some xs → list_of a c ≡ xs
-list_at a c xs h = ap (λ o. unwrap_or o []) h
 
 whole : (o : Option Entry) (d : Entry) → IsSome o → Some (unwrap_or o d) ≡ o
 whole (Some e) d h = refl
@@ -64,15 +59,15 @@ fits_inverse_undoes (adds c) a w fits =
 fits_inverse_undoes (takes c closed) a w (xs, at, empty, one) =
     let low : 1 ≤ a.next = some_below a w (rw empty refl) in
     let n : a.next - 1 + 1 ≡ a.next = omega arith in
-    let listed : list_of a c ≡ xs ++ (a.next - 1) ∷ [] = list_at a c (xs ++ (a.next - 1) ∷ []) at in
+    let listed : list_of a c ≡ xs ++ (a.next - 1) ∷ [] = list_is a c (xs ++ (a.next - 1) ∷ []) at in
     answered_same _ a n (rw listed (lists_taken a.lists c (a.next - 1) xs closed at one)) refl (put_back a.members (a.next - 1) None (Some blank) empty)
 fits_inverse_undoes (removes c m) a w here =
     answered_same _ a refl
     (rw (get_put_own a.lists c (Some (without m (list_of a c)))) (rw (put_in_place m (list_of a c) here) (put_back a.lists c (Some (without m (list_of a c))) (Some (list_of a c)) (list_there a c m here))))
     refl
-    (put_back a.members m None (Some (unwrap_or (map.get a.members m) blank)) (sym (whole (map.get a.members m) blank (member_stands a c m w here))))
+    (put_back a.members m None (Some (unwrap_or (map.get a.members m) blank)) (sym (whole (map.get a.members m) blank (w.listed c m here))))
 fits_inverse_undoes (puts_back c place m e) a w (xs, at, short, within, out, early) =
-    let listed : list_of a c ≡ xs = list_at a c xs at in
+    let listed : list_of a c ≡ xs = list_is a c xs at in
     answered_same _ a refl
     (rw (get_put_own a.lists c (Some (insert (list_of a c) place m))) (rw listed (rw (taken_out m place xs within (subst (IsNotIn m) listed (out c))) (put_back a.lists c (Some (insert xs place m)) (Some xs) at))))
     refl

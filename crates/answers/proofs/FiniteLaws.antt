@@ -2,11 +2,13 @@
 use Rattle.std.proofs.Common.{◌≡◌, ℕ, Bool, true, false, cond, List, [], ◌∷◌, Option, Some, None, refl, sym, ap, ◌∙◌, arith}
 use Rattle.std.specs.Prelude.{nat_eq, is_some}
 use Rattle.std.specs.Ordering.{nat_cmp, eq_by_cmp}
-use Rattle.std.specs.Cmp.{nat_cmp_total, nat_eq_equiv}
+use Rattle.std.specs.Cmp.{nat_cmp_total}
 use Rattle.std.proofs.lemmas.Cmp.{eq_by_cmp_equiv}
 use Rattle.std.specs.Map.{lookup}
 use Rattle.std.specs.FinMap as map
 use Rattle.std.proofs.lemmas.Bool.Decides.{nat_tests}
+use Rattle.common_lemmas.proofs.Numbers.{same_number, equal_number, nat_eq-comm}
+use Rattle.common_lemmas.proofs.Options.{nothing}
 use Rattle.answers.specs.Finite.{Numbered, put_at, map_of, and_then}
 
 -- maps with the same at each key are one
@@ -16,16 +18,13 @@ same m n h = map.same_map nat_cmp_total map.nat_cmp-IsAntisymmetric m n h
 ties : (q k : ℕ) → eq_by_cmp nat_cmp q k ≡ nat_eq k q
 ties q k = grind (arith, nat_tests, eq_by_cmp_equiv)
 
-pub equal : (k q : ℕ) → nat_eq k q ≡ true → k ≡ q
-equal k q h = grind (arith, nat_tests)
-
 pub get_put : {X : Type 0} (m : Numbered X) (k : ℕ) (o : Option X) (q : ℕ) → map.get (put_at m k o) q ≡ cond (nat_eq k q) o (map.get m q)
 get_put m k None q = map.get-remove nat_cmp_total m k q ∙ ap (λ b. cond b None (map.get m q)) (ties q k)
 get_put m k (Some x) q = map.get-insert nat_cmp_total m k x q ∙ ap (λ b. cond b (Some x) (map.get m q)) (ties q k)
 
 -- what was there, put back
 back_at : {X : Type 0} (m : Numbered X) (k q : ℕ) (o old : Option X) (b : Bool) → nat_eq k q ≡ b → map.get m k ≡ old → cond b old (cond b o (map.get m q)) ≡ map.get m q
-back_at m k q o old true e h = let s : k ≡ q = equal k q e in sym h ∙ ap (map.get m) s
+back_at m k q o old true e h = let s : k ≡ q = same_number k q e in sym h ∙ ap (map.get m) s
 back_at m k q o old false e h = refl
 
 pub put_back : {X : Type 0} (m : Numbered X) (k : ℕ) (o old : Option X) → map.get m k ≡ old → put_at (put_at m k o) k old ≡ m
@@ -36,13 +35,10 @@ found : {A X : Type 0} (f : A → Option X) (b : Bool) (a : A) (o : Option A) �
 found f true a o = refl
 found f false a o = refl
 
-swapped : (q k : ℕ) → nat_eq k q ≡ nat_eq q k
-swapped q k = nat_eq_equiv.symm k q
-
 pub get_map_of : {A X : Type 0} (f : A → Option X) (es : List (ℕ × A)) (q : ℕ) → map.get (map_of f es) q ≡ and_then f (lookup (nat_eq q) es)
 get_map_of f [] q = map.get-empty nat_cmp q
 get_map_of f (e ∷ es) q = get_put (map_of f es) e.0 (f e.1) q
-    ∙ ap (λ b. cond b (f e.1) (map.get (map_of f es) q)) (swapped q e.0)
+    ∙ ap (λ b. cond b (f e.1) (map.get (map_of f es) q)) (nat_eq-comm e.0 q)
     ∙ ap (cond (nat_eq q e.0) (f e.1)) (get_map_of f es q)
     ∙ found f (nat_eq q e.0) e.1 (lookup (nat_eq q) es)
 
@@ -60,29 +56,14 @@ pub put_same : {X : Type 0} (m : Numbered X) (k : ℕ) (o : Option X) → map.ge
 put_same m k o h = same _ _ (λ q. get_put m k o q ∙ there (nat_eq k q) q refl)
   where
     there : (b : Bool) (q : ℕ) → nat_eq k q ≡ b → cond b o (map.get m q) ≡ map.get m q
-    there true q e = let s : k ≡ q = equal k q e in sym h ∙ ap (map.get m) s
+    there true q e = let s : k ≡ q = same_number k q e in sym h ∙ ap (map.get m) s
     there false q e = refl
 
--- the last put at a key stands
-pub put_twice : {X : Type 0} (m : Numbered X) (k : ℕ) (o p : Option X) → put_at (put_at m k o) k p ≡ put_at m k p
-put_twice m k o p = same _ _ (λ q. get_put (put_at m k o) k p q ∙ ap (cond (nat_eq k q) p) (get_put m k o q) ∙ twice (nat_eq k q) q ∙ sym (get_put m k p q))
-  where
-    twice : (b : Bool) (q : ℕ) → cond b p (cond b o (map.get m q)) ≡ cond b p (map.get m q)
-    twice true q = refl
-    twice false q = refl
-
-pub own : (k : ℕ) → nat_eq k k ≡ true
-own k = grind (arith, nat_tests)
-
 pub get_put_own : {X : Type 0} (m : Numbered X) (k : ℕ) (o : Option X) → map.get (put_at m k o) k ≡ o
-get_put_own m k o = get_put m k o k ∙ ap (λ b. cond b o (map.get m k)) (own k)
+get_put_own m k o = get_put m k o k ∙ ap (λ b. cond b o (map.get m k)) (equal_number k)
 
 pub get_put_other : {X : Type 0} (m : Numbered X) (k q : ℕ) (o : Option X) → nat_eq k q ≡ false → map.get (put_at m k o) q ≡ map.get m q
 get_put_other m k q o h = get_put m k o q ∙ ap (λ b. cond b o (map.get m q)) h
-
-pub nothing : {A : Type 0} (o : Option A) → is_some o ≡ false → o ≡ None
-nothing None e = refl
-nothing (Some a) e = cc
 
 -- nothing is put where no entry is
 pub absent : {A X : Type 0} (f : A → Option X) (es : List (ℕ × A)) (k : ℕ) → is_some (lookup (nat_eq k) es) ≡ false → map_of f es ≡ put_at (map_of f es) k None

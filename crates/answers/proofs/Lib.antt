@@ -1,12 +1,10 @@
-pub mod AnsweredExamples
 pub mod ChangeLaws
 pub mod FiniteLaws
 pub mod FitsLaws
-pub mod GivenExamples
 pub mod ListExamples
 pub mod ListLaws
 pub mod LookUps
-pub mod OpeningLaws
+pub mod OpenedListsLaws
 pub mod Results
 pub mod RoomLaws
 pub mod SideLaws

@@ -1,13 +1,14 @@
 -- Look-ups in lists of pairs, and in the maps of them.
-use Rattle.std.proofs.Common.{◌≡◌, ℕ, Bool, true, false, cond, List, Option, Some, None, refl, sym, ap, ◌∙◌}
-use Rattle.std.specs.Prelude.{nat_eq, IsSome, is_some, option_map}
+use Rattle.std.proofs.Common.{◌≡◌, ℕ, false, cond, List, Option, Some, None, refl, sym, ap, ◌∙◌}
+use Rattle.std.specs.Prelude.{nat_eq, IsSome, is_some}
 use Rattle.std.specs.Map.{lookup}
 use Rattle.std.specs.FinMap as map
-use Rattle.answers.specs.Finite.{Numbered, put_at, and_then, map_of}
-use Rattle.answers.specs.Answered.{Entry}
-use Rattle.answers.specs.Standing.{maybe_entry}
+use Rattle.answers.specs.Finite.{put_at, and_then, map_of}
+use Rattle.answers.specs.Room.{HasList}
+use Rattle.answers.specs.Meaning.{lists_of, maybe_entry}
+use Rattle.answers.specs.declared.lists.Lists.{Lists}
 use Rattle.answers.specs.declared.entries.Entries.{Entries}
-use Rattle.answers.proofs.FiniteLaws.{get_map_of, put_same, one_changed, absent}
+use Rattle.answers.proofs.FiniteLaws.{get_map_of, one_changed, absent}
 
 -- what the map has, where a list of entries has something
 pub at_key : {A X : Type 0} (f : A → Option X) (es : List (ℕ × A)) (m : ℕ) (k : A) → Some k ≡ lookup (nat_eq m) es → map.get (map_of f es) m ≡ f k
@@ -31,3 +32,11 @@ not_there f es m h some = none_some _ (no_key f es m h) some
 pub placed : {A X : Type 0} (f : A → Option X) (es fs : List (ℕ × A)) (m : ℕ) (k : A) → f k ≡ None → is_some (lookup (nat_eq m) es) ≡ false
     → ((q : ℕ) → lookup (nat_eq q) fs ≡ cond (nat_eq m q) (Some k) (lookup (nat_eq q) es)) → map_of f fs ≡ map_of f es
 placed f es fs m k none away h = one_changed f es fs m (Some k) h ∙ ap (put_at (map_of f es) m) none ∙ sym (absent f es m away)
+
+-- an open collection has a place
+pub open_place : (l : Lists) (c : ℕ) → IsSome (map.get (lists_of l) c) → HasList l c
+open_place l c some = by (lookup (nat_eq c) l.kept.entries) refl
+  where
+    by : (o : Option (Option (List ℕ))) → lookup (nat_eq c) l.kept.entries ≡ o → IsSome o
+    by None e = absurd (not_there (λ (o : Option (List ℕ)). o) l.kept.entries c (sym e) some)
+    by (Some k) e = refl

@@ -1,5 +1,5 @@
 -- Where a place is, and what there is room for.
-use Rattle.std.proofs.Common.{◌≡◌, ℕ, Bool, true, false, Option, Some, None, refl, sym, ap, ◌∙◌, subst}
+use Rattle.std.proofs.Common.{◌≡◌, ℕ, Bool, true, false, Option, Some, None, refl, sym, ap, subst}
 use Rattle.std.specs.Prelude.{nat_eq, IsSome, if◌then◌else◌}
 use Rattle.std.specs.Map.{lookup}
 use Rattle.std.specs.FinMap as map
@@ -12,7 +12,7 @@ use Rattle.answers.specs.declared.parts.Parts.{Parts}
 use Rattle.answers.specs.Finite.{and_then}
 use Rattle.answers.specs.Answered.{Entry, Answered, of_side, value_of}
 use Rattle.answers.specs.Change.{Change, sets, opens, closes, adds, takes, removes, puts_back, applied, inverse}
-use Rattle.answers.specs.Standing.{answered, entry_of, maybe_entry, side_of}
+use Rattle.answers.specs.Meaning.{answered, entry_of, maybe_entry, side_of}
 use Rattle.answers.specs.Room.{HasFact, HasMember, AtMember, SlotPlace, HasSlot, HasRoom, HasPlaces}
 use Rattle.answers.proofs.FiniteLaws.{get_map_of}
 use Rattle.answers.proofs.SideLaws.{side_at}

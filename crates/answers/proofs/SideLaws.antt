@@ -1,6 +1,6 @@
 -- One side of what stands at a slot, and the maps of both sides.
-use Rattle.std.proofs.Common.{◌≡◌, ℕ, cond, List, Option, Some, None, refl, sym, ap, ◌∙◌}
-use Rattle.std.specs.Prelude.{nat_eq, is_some}
+use Rattle.std.proofs.Common.{◌≡◌, ℕ, cond, Option, Some, None, refl, sym, ap, ◌∙◌}
+use Rattle.std.specs.Prelude.{nat_eq}
 use Rattle.std.specs.Map.{lookup}
 use Rattle.std.specs.FinMap as map
 use Rattle.fact_values.specs.declared.value.Value.{Value}
@@ -8,10 +8,10 @@ use Rattle.answers.specs.declared.edit.Side.{Side}
 use Rattle.answers.specs.declared.edit.Side.TheVariants.{Answer, Override}
 use Rattle.answers.specs.declared.entries.Pair.{Pair}
 use Rattle.answers.specs.declared.entries.Entries.{Entries}
-use Rattle.answers.specs.Finite.{and_then, put_at, map_of}
+use Rattle.answers.specs.Finite.{and_then, put_at}
 use Rattle.answers.specs.Answered.{Entry, of_side}
 use Rattle.answers.specs.Change.{with_value}
-use Rattle.answers.specs.Standing.{side_of, entry_of}
+use Rattle.answers.specs.Meaning.{side_of, entry_of}
 use Rattle.answers.proofs.FiniteLaws.{get_map_of, one_changed, put_same}
 
 pub entry_same : (d e : Entry) → d.values ≡ e.values → d.overrides ≡ e.overrides → d ≡ e

@@ -1,5 +1,5 @@
 -- The start is well formed.
-use Rattle.std.proofs.Common.{◌≡◌, ℕ, List, [], sym, ap, subst, arith, length, ◌≤◌}
+use Rattle.std.proofs.Common.{◌≡◌, ℕ, [], sym, ap, subst, arith, ◌≤◌}
 use Rattle.std.specs.Prelude.{unwrap_or, IsSome}
 use Rattle.std.specs.Ordering.{nat_cmp}
 use Rattle.std.specs.FinMap as map

@@ -1,6 +1,6 @@
 -- What answers are: which collections are open and with which members, which slots have an answer or an override, and
 -- the number of the next member. No order and no memory is in it, so two such records are equal where all of this is.
-use Rattle.std.specs.Prelude.{◌≡◌, ℕ, List, [], Option, Some, nat_eq, unwrap_or, if◌then◌else◌}
+use Rattle.std.specs.Prelude.{ℕ, List, [], Option, Some, nat_eq, unwrap_or, if◌then◌else◌}
 use Rattle.std.specs.FinMap as map
 use Rattle.fact_values.specs.declared.slot.Slot.{Slot}
 use Rattle.fact_values.specs.declared.value.Value.{Value}

@@ -7,7 +7,7 @@ use Rattle.answers.specs.declared.edit.Side.{Side}
 use Rattle.answers.specs.declared.edit.Side.TheVariants.{Answer, Override}
 use Rattle.answers.specs.Finite.{put_at}
 use Rattle.answers.specs.Lists.{IsIn, IsNotIn, without, place_of, without_last}
-use Rattle.answers.specs.Answered.{Entry, blank, Answered, list_of, of_side, value_of}
+use Rattle.answers.specs.Answered.{Entry, blank, Answered, list_of, value_of}
 
 pub data Change : Type 0 where
   sets : Side → Slot → Option Value → Change  -- answers or overrides a slot, or takes that away

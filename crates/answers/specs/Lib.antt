@@ -1,9 +1,10 @@
 pub mod Answered
 pub mod Change
 pub mod Finite
-pub mod Given
+pub mod GivenLists
+pub mod ListEdits
 pub mod Lists
-pub mod Opening
+pub mod OpenedLists
 pub mod Room
-pub mod Standing
+pub mod Meaning
 pub mod WellFormed

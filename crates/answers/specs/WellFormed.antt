@@ -1,5 +1,5 @@
 -- What is true of all answers.
-use Rattle.std.specs.Prelude.{◌≡◌, ◌≤◌, ℕ, length, Option, None, IsSome}
+use Rattle.std.specs.Prelude.{◌≡◌, ◌≤◌, ℕ, length, None, IsSome}
 use Rattle.std.specs.FinMap as map
 use Rattle.answers.specs.Lists.{IsIn, Once}
 use Rattle.answers.specs.Answered.{Answered, list_of}

@@ -4,8 +4,8 @@ ghost use Rattle.std.specs.FinMap as map;
 ghost use Rattle.answers.specs.Answered.{start, value_of};
 ghost use Rattle.answers.specs.Change.{applied, inverse, Fits};
 ghost use Rattle.answers.specs.WellFormed.{WellFormed, FromOne};
-ghost use Rattle.answers.specs.Given.{FactsRise, AreApart, AreBelow, IsOfLists};
-ghost use Rattle.answers.specs.Standing.{answered, change};
+ghost use Rattle.answers.specs.GivenLists.{FactsRise, AreApart, AreBelow, IsOfLists};
+ghost use Rattle.answers.specs.Meaning.{answered, change};
 ghost use Rattle.answers.specs.Room.{HasRoom, HasPlaces};
 ghost use Rattle.answers.specs.declared.edit.Side.TheVariants.{Answer, Override};
 
@@ -26,7 +26,7 @@ impl Model for Answers {
     ghost use Rattle.answers.specs.declared.parts.Parts.{Parts as Kept};
     ghost use Rattle.answers.specs.contracts.parts.Parts as kept;
     ghost use Rattle.answers.specs.WellFormed.{WellFormed, FromOne};
-    ghost use Rattle.answers.specs.Standing.{answered};
+    ghost use Rattle.answers.specs.Meaning.{answered};
 
     ghost Value = { Kept };
 
@@ -59,7 +59,9 @@ impl Answers {
         requires below { AreBelow next lists.items }
         requires low { 1 ≤ next }
         requires high { next ≤ 1000001 }
-        ensures { IfOk result (λ a. IsOfLists lists.items next (answered a)) }
+        ensures lists { IfOk result (λ a. IsOfLists lists.items next (answered a)) }
+        ensures well { IfOk result (λ a. WellFormed (answered a)) }
+        ensures from_one { IfOk result (λ a. FromOne (answered a)) }
     {
         let mut parts = Parts::starting_at(alloc, next);
         parts.open_lists(lists.as_slice())?;

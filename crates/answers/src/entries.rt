@@ -3,7 +3,7 @@ ghost use Rattle.std.specs.Prelude.{◌≡◌, ℕ, Option, Some, None, IfOk, On
 ghost use Rattle.std.specs.FinMap as map;
 ghost use Rattle.answers.specs.Answered.{blank, of_side};
 ghost use Rattle.answers.specs.Change.{with_value};
-ghost use Rattle.answers.specs.Standing.{entry_of, side_of};
+ghost use Rattle.answers.specs.Meaning.{entry_of, side_of};
 ghost use Rattle.answers.specs.Room.{HasFact};
 
 use crate::edit::Side;

@@ -4,12 +4,11 @@
 mod answers;
 mod edit;
 mod entries;
+pub mod laws;
 mod listed;
 mod lists;
 mod members;
 mod parts;
-#[cfg(test)]
-mod tests;
 
 pub use answers::Answers;
 pub use edit::{Edit, Gone, Side, Unapplied};

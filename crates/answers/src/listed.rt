@@ -1,9 +1,27 @@
 // The members of one collection.
-ghost use Rattle.std.specs.Prelude.{◌≡◌, ◌<◌, ◌≤◌, ℕ, List, [], ◌∷◌, ◌++◌, length, insert, IsTrue, is_some, Option, Some, None, unwrap_or, if◌then◌else◌, IfOk, true, vec_capacity, option_map};
-ghost use Rattle.answers.specs.Lists.{IsIn, without, place_of, without_last};
+ghost use Rattle.std.specs.Prelude.{◌≡◌, ◌<◌, ◌≤◌, ℕ, List, [], ◌∷◌, ◌++◌, length, insert, remove, IsTrue, is_some, Option, Some, None, unwrap_or, if◌then◌else◌, IfOk, true, vec_capacity, option_map};
+ghost use Rattle.answers.specs.Lists.{IsIn, place_of, without_last};
+ghost use Rattle.answers.specs.ListEdits.{edited, MayEdit};
 
 use std::alloc::{AllocError, Global};
 use std::marker::Model;
+
+/// An edit of the members of a collection.
+#[derive(Clone, Copy)]
+pub enum ListEdit {
+    /// Opens it, without members.
+    Open,
+    /// Closes it.
+    Close,
+    /// Appends a member, and opens it.
+    Push(u32),
+    /// Takes the last member out, and closes it or not.
+    Pop(bool),
+    /// Takes the member at a place out.
+    TakeOut(u32),
+    /// At a place, puts a member in.
+    PutIn(u32, u32),
+}
 
 /// Room for the members of a collection, which is open or not.
 #[derive(Drop)]
@@ -46,7 +64,7 @@ impl Listed {
         if self.open { Some(&self.members) } else { None }
     }
 
-    pub fn open_empty(&mut self)
+    fn open_empty(&mut self)
         requires { self.old ≡ None }
         ensures { self.new ≡ Some [] }
     {
@@ -63,7 +81,7 @@ impl Listed {
         let _ = self.members.extend_from_slice(members);
     }
 
-    pub fn close(&mut self)
+    fn close(&mut self)
         requires { self.old ≡ Some [] }
         ensures { self.new ≡ None }
     {
@@ -71,7 +89,7 @@ impl Listed {
     }
 
     /// Appends a member, and opens the list.
-    pub fn push(&mut self, member: u32)
+    fn push(&mut self, member: u32)
         requires { length (unwrap_or self.old []) < 100 }
         ensures { self.new ≡ Some (unwrap_or self.old [] ++ member ∷ []) }
     {
@@ -80,7 +98,7 @@ impl Listed {
     }
 
     /// Takes the last member out.
-    pub fn pop(&mut self, close: bool)
+    fn pop(&mut self, close: bool)
         requires is_open { IsTrue (is_some self.old) }
         requires one { IsTrue close → without_last (unwrap_or self.old []) ≡ [] }
         ensures { self.new ≡ (if close then None else Some (without_last (unwrap_or self.old []))) }
@@ -91,24 +109,47 @@ impl Listed {
         }
     }
 
-    /// Takes a member out, and answers its place.
-    pub fn take_out(&mut self, member: u32) -> u32
-        requires is_open { IsTrue (is_some self.old) }
-        requires there { IsIn member (unwrap_or self.old []) }
-        ensures place { result ≡ place_of member (unwrap_or self.old []) }
-        ensures new { self.new ≡ Some (without member (unwrap_or self.old [])) }
+    /// The place of a member that is there.
+    pub fn place_of(&self, member: u32) -> u32
+        requires is_open { IsTrue (is_some self.now) }
+        requires there { IsIn member (unwrap_or self.now []) }
+        ensures { result ≡ place_of member (unwrap_or self.now []) }
     {
-        take_member(&mut self.members, member)
+        find(&self.members, member) as u32
+    }
+
+    /// Takes the member at a place out.
+    fn take_out(&mut self, place: u32)
+        requires is_open { IsTrue (is_some self.old) }
+        requires within { place < length (unwrap_or self.old []) }
+        ensures { self.new ≡ Some (remove (unwrap_or self.old []) place) }
+    {
+        let _ = self.members.remove(place as usize);
     }
 
     /// Puts a member at a place.
-    pub fn put_in(&mut self, place: u32, member: u32)
+    fn put_in(&mut self, place: u32, member: u32)
         requires is_open { IsTrue (is_some self.old) }
         requires short { length (unwrap_or self.old []) < 100 }
         requires within { place ≤ length (unwrap_or self.old []) }
         ensures { self.new ≡ Some (insert (unwrap_or self.old []) place member) }
     {
         let _ = self.members.insert(place as usize, member);
+    }
+
+    /// Makes an edit.
+    pub fn edit(&mut self, edit: ListEdit)
+        requires { MayEdit edit self.old }
+        ensures { self.new ≡ edited edit self.old }
+    {
+        match edit {
+            ListEdit::Open => self.open_empty(),
+            ListEdit::Close => self.close(),
+            ListEdit::Push(member) => self.push(member),
+            ListEdit::Pop(close) => self.pop(close),
+            ListEdit::TakeOut(place) => self.take_out(place),
+            ListEdit::PutIn(place, member) => self.put_in(place, member),
+        }
     }
 }
 
@@ -124,19 +165,4 @@ fn find(members: &[u32], member: u32) -> usize
         }
     }
     0
-}
-
-/// Takes out a member that is there, and answers its place.
-#[tactic(auto, using(crate::proofs::ListLaws::remove_place))]
-fn take_member(members: &mut Vec<u32>, member: u32) -> u32
-    requires there { IsIn member members.old.items }
-    requires short { length members.old.items ≤ 100 }
-    ensures place { result ≡ place_of member members.old.items }
-    ensures items { members.new.items ≡ without member members.old.items }
-    ensures len { length members.new.items ≤ length members.old.items }
-    ensures capacity { vec_capacity members.new ≡ vec_capacity members.old }
-{
-    let place = find(members, member);
-    let _ = members.remove(place);
-    place as u32
 }

@@ -2,11 +2,12 @@
 ghost use Rattle.std.specs.Prelude.{◌≡◌, ◌<◌, ◌≤◌, ◌++◌, ◌∷◌, [], ℕ, length, insert, IsTrue, is_some, IsSome, Option, Some, None, unwrap_or, if◌then◌else◌, true, nat_eq, OnOk, OnErr, IsOk, option_map};
 ghost use Rattle.std.specs.FinMap as map;
 ghost use Rattle.answers.specs.Finite.{put_at};
-ghost use Rattle.answers.specs.Lists.{IsIn, without, place_of, without_last};
-ghost use Rattle.answers.specs.Standing.{lists_of};
+ghost use Rattle.answers.specs.Lists.{IsIn, place_of};
+ghost use Rattle.answers.specs.ListEdits.{edited, MayEdit};
+ghost use Rattle.answers.specs.Meaning.{lists_of};
 ghost use Rattle.answers.specs.Room.{HasList};
 
-use crate::listed::Listed;
+use crate::listed::{ListEdit, Listed};
 use fact_values::NoMemory;
 use indexmap::IndexMap;
 use std::alloc::Global;
@@ -50,18 +51,6 @@ impl Lists {
         Ok(())
     }
 
-    pub fn open_empty(&mut self, list: u32)
-        requires place { HasList self.old list }
-        requires closed { map.get (lists_of self.old) list ≡ None }
-        ensures new { lists_of self.new ≡ put_at (lists_of self.old) list (Some []) }
-        ensures has_place { HasList self.new list }
-    {
-        match self.kept.get_mut(&list) {
-            Some(listed) => listed.open_empty(),
-            None => (),
-        }
-    }
-
     /// Opens a collection that has a place, with these members.
     pub fn open_with(&mut self, list: u32, members: &[u32])
         requires place { HasList self.old list }
@@ -75,72 +64,28 @@ impl Lists {
         }
     }
 
-    pub fn close(&mut self, list: u32)
-        requires empty { map.get (lists_of self.old) list ≡ Some [] }
-        ensures has_place { HasList self.new list }
-        ensures new { lists_of self.new ≡ put_at (lists_of self.old) list None }
+    /// The place of a member in its collection.
+    #[tactic(auto, using(crate::proofs::FiniteLaws::laws))]
+    pub fn place_of(&self, list: u32, member: u32) -> u32
+        requires is_open { IsSome (map.get (lists_of self.now) list) }
+        requires there { IsIn member (unwrap_or (map.get (lists_of self.now) list) []) }
+        ensures { result ≡ place_of member (unwrap_or (map.get (lists_of self.now) list) []) }
     {
-        match self.kept.get_mut(&list) {
-            Some(listed) => listed.close(),
-            None => (),
-        }
-    }
-
-    /// Appends a member, and answers whether the collection was open.
-    pub fn push(&mut self, list: u32, member: u32) -> bool
-        requires place { HasList self.old list }
-        requires short { length (unwrap_or (map.get (lists_of self.old) list) []) < 100 }
-        ensures open { result ≡ is_some (map.get (lists_of self.old) list) }
-        ensures new { lists_of self.new ≡ put_at (lists_of self.old) list (Some (unwrap_or (map.get (lists_of self.old) list) [] ++ member ∷ [])) }
-        ensures has_place { HasList self.new list }
-    {
-        match self.kept.get_mut(&list) {
-            Some(listed) => {
-                let was_open = listed.is_open();
-                listed.push(member);
-                was_open
-            }
-            None => false,
-        }
-    }
-
-    /// Takes the last member out, and closes the collection if it was the only one.
-    pub fn pop(&mut self, list: u32, close: bool)
-        requires is_open { IsSome (map.get (lists_of self.old) list) }
-        requires one { IsTrue close → without_last (unwrap_or (map.get (lists_of self.old) list) []) ≡ [] }
-        ensures has_place { HasList self.new list }
-        ensures new { lists_of self.new ≡ put_at (lists_of self.old) list (if close then None else Some (without_last (unwrap_or (map.get (lists_of self.old) list) []))) }
-    {
-        match self.kept.get_mut(&list) {
-            Some(listed) => listed.pop(close),
-            None => (),
-        }
-    }
-
-    /// Takes a member out, and answers its place.
-    pub fn take_out(&mut self, list: u32, member: u32) -> u32
-        requires is_open { IsSome (map.get (lists_of self.old) list) }
-        requires there { IsIn member (unwrap_or (map.get (lists_of self.old) list) []) }
-        ensures place { result ≡ place_of member (unwrap_or (map.get (lists_of self.old) list) []) }
-        ensures new { lists_of self.new ≡ put_at (lists_of self.old) list (Some (without member (unwrap_or (map.get (lists_of self.old) list) []))) }
-        ensures has_place { HasList self.new list }
-    {
-        match self.kept.get_mut(&list) {
-            Some(listed) => listed.take_out(member),
+        match self.kept.get(&list) {
+            Some(listed) => listed.place_of(member),
             None => 0,
         }
     }
 
-    /// Puts a member at a place.
-    pub fn put_in(&mut self, list: u32, place: u32, member: u32)
-        requires is_open { IsSome (map.get (lists_of self.old) list) }
-        requires short { length (unwrap_or (map.get (lists_of self.old) list) []) < 100 }
-        requires within { place ≤ length (unwrap_or (map.get (lists_of self.old) list) []) }
-        ensures new { lists_of self.new ≡ put_at (lists_of self.old) list (Some (insert (unwrap_or (map.get (lists_of self.old) list) []) place member)) }
+    /// Edits the members of a collection that has a place.
+    pub fn edit(&mut self, list: u32, edit: ListEdit)
+        requires place { HasList self.old list }
+        requires fits { MayEdit edit (map.get (lists_of self.old) list) }
+        ensures new { lists_of self.new ≡ put_at (lists_of self.old) list (edited edit (map.get (lists_of self.old) list)) }
         ensures has_place { HasList self.new list }
     {
         match self.kept.get_mut(&list) {
-            Some(listed) => listed.put_in(place, member),
+            Some(listed) => listed.edit(edit),
             None => (),
         }
     }

@@ -4,8 +4,8 @@ ghost use Rattle.std.specs.FinMap as map;
 ghost use Rattle.answers.specs.Finite.{and_then, put_at};
 ghost use Rattle.answers.specs.Answered.{Entry, blank, of_side};
 ghost use Rattle.answers.specs.Change.{with_value};
-ghost use Rattle.answers.specs.Standing.{entry_of, maybe_entry, members_of};
-ghost use Rattle.answers.specs.Opening.{all_blank};
+ghost use Rattle.answers.specs.Meaning.{entry_of, maybe_entry, members_of};
+ghost use Rattle.answers.specs.OpenedLists.{all_blank};
 ghost use Rattle.answers.specs.Room.{HasMember, HasMemberFact, InEntry};
 
 use crate::edit::Side;

@@ -4,13 +4,14 @@ ghost use Rattle.std.specs.FinMap as map;
 ghost use Rattle.answers.specs.Answered.{start_at, entry, value_of, list_of};
 ghost use Rattle.answers.specs.Change.{sets, adds, takes, removes, puts_back, applied, inverse, Fits};
 ghost use Rattle.answers.specs.WellFormed.{WellFormed, FromOne, PutsFromOne};
-ghost use Rattle.answers.specs.Standing.{answered, change, entry_of};
-ghost use Rattle.answers.specs.Opening.{Opening, with_list, with_all};
+ghost use Rattle.answers.specs.Meaning.{answered, change, entry_of};
+ghost use Rattle.answers.specs.OpenedLists.{MayOpen, with_list, with_all};
 ghost use Rattle.fact_values.specs.Members.{IsMemberList};
 ghost use Rattle.answers.specs.Room.{HasSlot, HasList, HasMember, HasRoom, HasPlaces};
 
 use crate::edit::{Edit, Gone, Side, Taken, Unapplied};
 use crate::entries::Entries;
+use crate::listed::ListEdit;
 use crate::lists::Lists;
 use crate::members::Members;
 use fact_values::{Members as MemberList, NoMemory, Slot, Value};
@@ -42,9 +43,9 @@ impl Parts {
 
     /// Opens collections, each with its members, which have no entries.
     pub fn open_lists(&mut self, lists: &[(u32, MemberList)]) -> Result<(), NoMemory>
-        requires { Opening lists.now (answered self.old) }
+        requires { MayOpen lists.now (answered self.old) }
         ensures new { OnOk result (answered self.new ≡ with_all lists.now (answered self.old)) }
-        ensures opened { OnOk result (Opening [] (answered self.new)) }
+        ensures opened { OnOk result (MayOpen [] (answered self.new)) }
     {
         for opened in lists {
             self.open_list(opened)?;
@@ -116,7 +117,7 @@ impl Parts {
             },
             Edit::OpenList(list) => match self.lists.place(self.alloc, list) {
                 Ok(()) => {
-                    self.lists.open_empty(list);
+                    self.lists.edit(list, ListEdit::Open);
                     Ok(Edit::CloseList(list))
                 }
                 Err(_) => Err(Unapplied {
@@ -124,7 +125,7 @@ impl Parts {
                 }),
             },
             Edit::CloseList(list) => {
-                self.lists.close(list);
+                self.lists.edit(list, ListEdit::Close);
                 Ok(Edit::OpenList(list))
             }
             Edit::AddNew(list) => match self.add_new(list) {
@@ -187,7 +188,8 @@ impl Parts {
         self.lists.place(self.alloc, list)?;
         let number = self.next;
         self.members.store_blank(self.alloc, number)?;
-        let was_open = self.lists.push(list, number);
+        let was_open = self.lists.members(list).is_some();
+        self.lists.edit(list, ListEdit::Push(number));
         self.next += 1;
         Ok(was_open)
     }
@@ -198,7 +200,7 @@ impl Parts {
         ensures new { answered self.new ≡ applied (takes list close) (answered self.old) }
         ensures places { HasPlaces (takes list close) (answered self.old) self.new }
     {
-        self.lists.pop(list, close);
+        self.lists.edit(list, ListEdit::Pop(close));
         self.next -= 1;
         let _ = self.members.take(self.next);
     }
@@ -212,7 +214,8 @@ impl Parts {
         ensures back { puts_back list result.place result.member (entry_of result.entries) ≡ inverse (removes list member) (answered self.old) }
         ensures places { HasPlaces (removes list member) (answered self.old) self.new }
     {
-        let place = self.lists.take_out(list, member);
+        let place = self.lists.place_of(list, member);
+        self.lists.edit(list, ListEdit::TakeOut(place));
         match self.members.take(member) {
             Some(entries) => Gone::new(place, member, entries),
             None => Gone::new(place, member, Entries::new(self.alloc)),
@@ -234,7 +237,7 @@ impl Parts {
         } = gone.into_taken();
         match self.members.store(member, entries) {
             Ok(()) => {
-                self.lists.put_in(list, place, member);
+                self.lists.edit(list, ListEdit::PutIn(place, member));
                 Ok(())
             }
             Err(entries) => Err(Gone::new(place, member, entries)),

@@ -1,8 +1,9 @@
 -- The graph of a dictionary has the mentions of each fact.
-use Rattle.std.proofs.Common.{◌≡◌, ℕ, zero, suc, ◌+◌, ◌<◌, ◌≤◌, Bool, true, false, List, [], ◌∷◌, ◌++◌, length, get_or, drop, None, Result, Ok, Err, Vec, Global, inl, inr, refl, sym, ap, subst, ◌∙◌, arith, append_assoc, append-nil, drop-cons}
+use Rattle.std.proofs.Common.{◌≡◌, ℕ, zero, suc, ◌+◌, ◌<◌, ◌≤◌, Bool, true, false, List, [], ◌∷◌, ◌++◌, length, get_or, drop, take, None, Result, Ok, Err, Vec, Global, inl, inr, refl, sym, ap, ap₂, subst, ◌∙◌, arith}
+use Rattle.std.proofs.Math.Seq.{take-suc}
 use Rattle.std.specs.Prelude.{slice_get, nat_lt}
 use Rattle.std.specs.List.{All}
-use Rattle.std.proofs.lemmas.List.{drop_all, length-map, map-append}
+use Rattle.std.proofs.lemmas.List.{length-map, map-append}
 use Rattle.std.proofs.lemmas.List.Elements.{All-head, All-tail}
 use Rattle.dict_tree.specs.Dictionary.{Dictionary, Written, dictionary_view, IsValid, number_from, passed}
 use Rattle.dict_tree.specs.Facts.{Fact, fact_view}
@@ -68,21 +69,12 @@ few_facts d valid =
 
 -- ---- the list of one fact more
 
-pub one_list_more : (graph : Graph) (lists new : List (Vec ℕ Global)) (list : Vec ℕ Global) (place next : ℕ) → next ≡ suc place → place < length graph → graph_of lists ++ drop place graph ≡ graph → new ≡ lists ++ list ∷ [] → list.items ≡ mentioned graph next → graph_of new ++ drop next graph ≡ graph
-one_list_more graph lists new list place next e lt so_far pushed is =
-    ap (λ (k : ℕ). graph_of new ++ drop k graph) e
-    ∙ ap (λ (l : List (Vec ℕ Global)). graph_of l ++ drop (suc place) graph) pushed
-    ∙ ap (λ (l : Graph). l ++ drop (suc place) graph) (map-append (λ (v : Vec ℕ Global). v.items) lists (list ∷ []))
-    ∙ append_assoc (graph_of lists) (list.items ∷ []) (drop (suc place) graph)
-    ∙ ap (λ (l : List ℕ). graph_of lists ++ (l ∷ drop (suc place) graph)) (is ∙ ap (mentioned graph) e)
-    ∙ ap (λ (l : Graph). graph_of lists ++ l) (sym (drop-cons graph place [] lt))
-    ∙ so_far
-
-pub all_lists : (graph : Graph) (lists : List (Vec ℕ Global)) (place : ℕ) → length graph ≤ place → graph_of lists ++ drop place graph ≡ graph → graph_of lists ≡ graph
-all_lists graph lists place past so_far =
-    sym (append-nil (graph_of lists))
-    ∙ ap (λ (l : Graph). graph_of lists ++ l) (sym (drop_all place graph past))
-    ∙ so_far
+pub one_list_more : (graph : Graph) (lists new : List (Vec ℕ Global)) (list : Vec ℕ Global) (place : ℕ) → place < length graph → graph_of lists ≡ take place graph → new ≡ lists ++ list ∷ [] → list.items ≡ mentioned graph (suc place) → graph_of new ≡ take (suc place) graph
+one_list_more graph lists new list place lt so_far pushed is =
+    ap graph_of pushed
+    ∙ map-append (λ (v : Vec ℕ Global). v.items) lists (list ∷ [])
+    ∙ ap₂ (λ (ls : Graph) (l : List ℕ). ls ++ l ∷ []) so_far is
+    ∙ sym (take-suc graph place [] lt)
 
 -- ---- a written list
 

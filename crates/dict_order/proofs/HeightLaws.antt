@@ -1,12 +1,14 @@
 -- How high a fact stands, by mentions in a row; and that a long row of mentions comes back.
-use Rattle.std.proofs.Common.{◌≡◌, ℕ, zero, suc, ◌+◌, ◌-◌, ◌<◌, ◌≤◌, min, Bool, true, false, List, ◌∷◌, length, map, get_or, set, ◌⊎◌, inl, inr, refl, sym, ap, subst, ◌∙◌, arith, length-set, replicate}
+use Rattle.std.proofs.Common.{◌≡◌, ℕ, zero, suc, ◌+◌, ◌-◌, ◌<◌, ◌≤◌, min, Bool, true, false, not, cond, List, ◌∷◌, length, map, get_or, set, ◌⊎◌, inl, inr, refl, sym, ap, subst, ◌∙◌, arith, length-set, replicate}
+use Rattle.std.proofs.lemmas.List.{length-replicate}
+use Rattle.std.proofs.lemmas.List.Sums.{sum_by-cons}
 use Rattle.dict_order.specs.Graph.{Graph, mentioned, Mentions, Leads, Reaches, IsFact, HasNoCycle}
 use Rattle.dict_order.specs.Ranks.{above}
 use Rattle.dict_order.specs.Ranking.{height, HasRank}
 use Rattle.dict_order.specs.Walking.{IsSeen, unseen}
 use Rattle.dict_order.proofs.ListLaws.{true_or_false, at_most_or_above, above_has, above_greatest, above_min, has_map, map_has, map_same}
 use Rattle.dict_order.proofs.MentionLaws.{mentions_is_fact, reaches_on}
-use Rattle.dict_order.proofs.WalkLaws.{unseen_set, set_seen, blank, unseen_blank, length_blank}
+use Rattle.dict_order.proofs.WalkLaws.{unseen_set, set_seen, blank, unseen_blank}
 
 height_step : (g : Graph) (j fact : ℕ) → height g j fact ≡ min j (height g (suc j) fact)
 height_step g zero fact = omega arith
@@ -132,7 +134,7 @@ none_seen_is g fact (suc x) h is = absurd (blank (length g) x h)
 -- a row of more mentions than there are facts leads to a fact that reaches itself
 long_row : (g : Graph) (k fact : ℕ) → length g < k → Row g k fact → (c : ℕ) × Reaches g c c × ((fact ≡ c) ⊎ Reaches g fact c)
 long_row g k fact lt row =
-    comes_back g k fact (none_seen (length g)) (omega (arith, length_blank (length g))) (none_seen_is g fact) (omega (arith, unseen_blank (length g))) row
+    comes_back g k fact (none_seen (length g)) (omega (arith, length-replicate (length g) false)) (none_seen_is g fact) (omega (arith, sum_by-cons (λ b. cond (not b) 1 0) true (replicate (length g) false), unseen_blank (length g))) row
 
 -- no rank is above the number of facts
 pub rank_small : (g : Graph) (fact rank : ℕ) → HasRank g fact rank → rank ≤ length g

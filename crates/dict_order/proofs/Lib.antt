@@ -1,9 +1,7 @@
-pub mod DictionaryExamples
 pub mod DictionaryLaws
 pub mod HeightLaws
 pub mod ListLaws
 pub mod MentionLaws
 pub mod PassLaws
-pub mod RankExamples
 pub mod RankLaws
 pub mod WalkLaws

@@ -1,95 +1,54 @@
 -- The pass that gives ranks: what each of its steps keeps.
-use Rattle.std.proofs.Common.{◌≡◌, ◌≢◌, ℕ, zero, suc, ◌+◌, ◌<◌, true, false, List, [], ◌∷◌, ◌++◌, length, map, get_or, set, drop, inl, inr, refl, sym, ap, subst, ◌∙◌, arith, length-set, get_or-set_same, get_or-set_other, true≢false, replicate}
+use Rattle.std.proofs.Common.{◌≡◌, ◌≢◌, ℕ, zero, suc, ◌+◌, ◌<◌, true, false, List, [], ◌∷◌, ◌++◌, length, map, get_or, set, drop, inl, inr, refl, sym, ap, subst, ◌∙◌, arith, cond, length-set, get_or-set_same, get_or-set_other, true≢false, replicate}
 use Rattle.std.proofs.lemmas.Bool.{cases_eq}
-use Rattle.std.proofs.lemmas.List.{get_or_past, get_or-map, length-map, length-replicate}
+use Rattle.std.proofs.lemmas.List.Sums.{sum_by-set}
+use Rattle.std.proofs.lemmas.List.{get_or-map, length-map, length-replicate}
 use Rattle.dict_order.specs.Graph.{Graph, mentioned, Has, Mentions, IsFact, HasCycle, MentionsFacts}
-use Rattle.dict_order.specs.Ranks.{rank_of, AreRanks}
-use Rattle.dict_order.specs.Ranking.{is_new, is_open, is_ranked, passed_of, rank_at, mark_of, AreRanked, rank_by, unmet, HasRank, IsTrail, Pass, StayMet}
+use Rattle.dict_order.specs.Ranks.{AreRanks}
+use Rattle.dict_order.specs.Ranking.{is_new, is_open, is_ranked, passed_of, rank_at, mark_of, AreRanked, rank_by, unmet, HasRank, IsTrail, Pass}
 use Rattle.dict_order.specs.declared.ranks.Mark.{Mark}
 use Rattle.dict_order.specs.declared.ranks.Mark.TheVariants.{New, Open, Ranked}
-use Rattle.dict_order.proofs.ListLaws.{has_append, has_last, has_at, has_cases, has_place, at_most_or_above}
+use Rattle.dict_order.proofs.ListLaws.{has_append, has_last, has_at, has_cases, has_place}
 use Rattle.dict_order.proofs.MentionLaws.{trail_front, trail_on, trail_reaches, reaches_on}
 use Rattle.dict_order.proofs.HeightLaws.{rank_from, not_itself}
-use Rattle.dict_order.proofs.RankLaws.{are_ranks_if, no_fact_has_rank}
+use Rattle.dict_order.proofs.RankLaws.{are_ranks_if}
 
 -- ---- marks
 
-set_same : (marks : List Mark) (fact : ℕ) (mark : Mark) → fact < length marks → mark_of (set marks fact mark) fact ≡ mark
-set_same marks fact mark lt = get_or-set_same marks fact mark New lt
-
-set_other : (marks : List Mark) (fact : ℕ) (mark : Mark) (other : ℕ) → other ≢ fact → mark_of (set marks fact mark) other ≡ mark_of marks other
-set_other marks fact mark other n = get_or-set_other marks fact other mark New n
-
--- a mark that is ranked stays so where another is set, or a rank
-stays_ranked : (marks : List Mark) (fact : ℕ) (mark : Mark) → fact < length marks → (is_ranked (mark_of marks fact) ≡ true → is_ranked mark ≡ true) → (x : ℕ) → is_ranked (mark_of marks x) ≡ true → is_ranked (mark_of (set marks fact mark) x) ≡ true
-stays_ranked marks fact mark lt k x h = elim (cases_eq x fact) [
-  | inl e ↦ rw (e, set_same marks fact mark lt) (k (subst (λ (y : ℕ). is_ranked (mark_of marks y) ≡ true) e h))
-  | inr n ↦ rw (set_other marks fact mark x n) h
+-- what holds of each mark once one was set
+each_set : (P : ℕ → Mark → Type 0) (marks : List Mark) (fact : ℕ) (mark : Mark) → fact < length marks → P fact mark → ((x : ℕ) → x ≢ fact → P x (mark_of marks x)) → (x : ℕ) → P x (mark_of (set marks fact mark) x)
+each_set P marks fact mark lt here others x = elim (cases_eq x fact) [
+  | inl e ↦ rw (e, get_or-set_same marks fact mark New lt) here
+  | inr n ↦ rw (get_or-set_other marks fact x mark New n) (others x n)
 ]
 
 kinds : (mark : Mark) → is_new mark ≡ false → is_ranked mark ≡ false → is_open mark ≡ true
-kinds New n r = absurd (true≢false n)
 kinds (Open k) n r = refl
-kinds (Ranked k) n r = absurd (true≢false r)
+kinds _ n r = cc
 
 open_not_ranked : (mark : Mark) → is_open mark ≡ true → is_ranked mark ≡ true → ⊥
-open_not_ranked New o r = true≢false (sym o)
-open_not_ranked (Open k) o r = true≢false (sym r)
-open_not_ranked (Ranked k) o r = true≢false (sym o)
+open_not_ranked New o r = cc
+open_not_ranked _ o r = cc
 
 open_not_new : (mark : Mark) → is_open mark ≡ true → is_new mark ≡ false
-open_not_new New o = absurd (true≢false (sym o))
-open_not_new (Open k) o = refl
-open_not_new (Ranked k) o = refl
+open_not_new New o = cc
+open_not_new _ o = refl
 
 new_not_ranked : (mark : Mark) → is_new mark ≡ true → is_ranked mark ≡ true → ⊥
-new_not_ranked New o r = true≢false (sym r)
-new_not_ranked (Open k) o r = true≢false (sym o)
-new_not_ranked (Ranked k) o r = true≢false (sym o)
+new_not_ranked New o r = cc
+new_not_ranked _ o r = cc
 
 ranked_or_open : (mark : Mark) → is_new mark ≡ false → (is_open mark ≡ true → ⊥) → is_ranked mark ≡ true
-ranked_or_open New n o = absurd (true≢false n)
+ranked_or_open New n o = cc
 ranked_or_open (Open k) n o = absurd (o refl)
 ranked_or_open (Ranked k) n o = refl
 
--- ---- how many are new
+-- how many are new, once one was set
+unmet_with : (marks : List Mark) (fact : ℕ) (mark : Mark) → fact < length marks → unmet (set marks fact mark) + cond (is_new (mark_of marks fact)) 1 0 ≡ unmet marks + cond (is_new mark) 1 0
+unmet_with marks fact mark lt = sum_by-set (λ m. cond (is_new m) 1 0) marks fact mark New lt
 
-unmet_head : (mark : Mark) (marks : List Mark) → is_new mark ≡ false → unmet (mark ∷ marks) ≡ unmet marks
-unmet_head New marks n = absurd (true≢false n)
-unmet_head (Open k) marks n = refl
-unmet_head (Ranked k) marks n = refl
-
-unmet_head_new : (mark : Mark) (marks : List Mark) → is_new mark ≡ true → unmet (mark ∷ marks) ≡ 1 + unmet marks
-unmet_head_new New marks n = refl
-unmet_head_new (Open k) marks n = absurd (true≢false (sym n))
-unmet_head_new (Ranked k) marks n = absurd (true≢false (sym n))
-
-unmet_on : (mark : Mark) (xs ys : List Mark) → unmet xs ≡ unmet ys → unmet (mark ∷ xs) ≡ unmet (mark ∷ ys)
-unmet_on New xs ys e = omega (arith, e)
-unmet_on (Open k) xs ys e = e
-unmet_on (Ranked k) xs ys e = e
-
-unmet_less : (mark : Mark) (xs ys : List Mark) → unmet xs + 1 ≡ unmet ys → unmet (mark ∷ xs) + 1 ≡ unmet (mark ∷ ys)
-unmet_less New xs ys e = omega (arith, e)
-unmet_less (Open k) xs ys e = e
-unmet_less (Ranked k) xs ys e = e
-
-pub unmet_set : (marks : List Mark) (fact : ℕ) (mark : Mark) → is_new (mark_of marks fact) ≡ false → is_new mark ≡ false → unmet (set marks fact mark) ≡ unmet marks
-unmet_set [] fact mark o n = refl
-unmet_set (m ∷ marks) zero mark o n = unmet_head mark marks n ∙ sym (unmet_head m marks o)
-unmet_set (m ∷ marks) (suc fact) mark o n = unmet_on m (set marks fact mark) marks (unmet_set marks fact mark o n)
-
-pub unmet_enter : (marks : List Mark) (fact : ℕ) (mark : Mark) → fact < length marks → is_new (mark_of marks fact) ≡ true → is_new mark ≡ false → unmet (set marks fact mark) + 1 ≡ unmet marks
-unmet_enter [] fact mark lt o n = absurd (omega arith)
-unmet_enter (m ∷ marks) zero mark lt o n = let a = unmet_head mark marks n in let b = unmet_head_new m marks o in omega (arith, a, b)
-unmet_enter (m ∷ marks) (suc fact) mark lt o n = unmet_less m (set marks fact mark) marks (unmet_enter marks fact mark (omega arith) o n)
-
--- what is not new stays so
-pub stays_met : (marks : List Mark) (fact : ℕ) (mark : Mark) → fact < length marks → is_new mark ≡ false → StayMet marks (set marks fact mark)
-stays_met marks fact mark lt n = λ x h. elim (cases_eq x fact) [
-  | inl e ↦ rw (e, set_same marks fact mark lt) n
-  | inr k ↦ rw (set_other marks fact mark x k) h
-]
+pub unmet_set : (marks : List Mark) (fact : ℕ) (mark : Mark) → fact < length marks → is_new (mark_of marks fact) ≡ false → is_new mark ≡ false → unmet (set marks fact mark) ≡ unmet marks
+unmet_set marks fact mark lt o n = let e = rw (o, n) at (unmet_with marks fact mark lt) in omega (arith, e)
 
 -- ---- steps
 
@@ -105,93 +64,55 @@ all_ranked g marks fact passed r e x m =
 pub rank_is : (g : Graph) (marks : List Mark) (path : List ℕ) (fact : ℕ) → Pass g marks path → ((x : ℕ) → Mentions g fact x → is_ranked (mark_of marks x) ≡ true) → HasRank g fact (rank_by marks (mentioned g fact))
 rank_is g marks path fact p all = rank_from g fact (λ x. rank_at (mark_of marks x)) (λ x m. p.ranked x (all x m))
 
+-- a mark that was no rank is set, and the path is another, by what the new mark says of its fact
+pass_set : (g : Graph) (marks : List Mark) (path after : List ℕ) (fact : ℕ) (mark : Mark) → Pass g marks path → IsFact g fact → (is_ranked (mark_of marks fact) ≡ true → ⊥)
+    → (is_ranked mark ≡ true → HasRank g fact (rank_at mark)) → AreRanked marks (passed_of mark) (mentioned g fact) → (is_open mark ≡ true → Has after fact) → (Has after fact → is_open mark ≡ true)
+    → ((x : ℕ) → x ≢ fact → Has path x → Has after x) → ((x : ℕ) → x ≢ fact → Has after x → Has path x) → ((x : ℕ) → Has after x → IsFact g x) → IsTrail g after
+    → Pass g (set marks fact mark) after
+pass_set g marks path after fact mark p is old rank passed on off to from facts trail =
+    let lt : fact < length marks = has_mark g marks fact is p.len in
+    let stays : (x : ℕ) → is_ranked (mark_of marks x) ≡ true → is_ranked (mark_of (set marks fact mark) x) ≡ true =
+    each_set (λ x m. is_ranked (mark_of marks x) ≡ true → is_ranked m ≡ true) marks fact mark lt (λ r. absurd (old r)) (λ x n r. r) in record {
+      len = length-set marks fact mark ∙ p.len;
+      ranked = each_set (λ x m. is_ranked m ≡ true → HasRank g x (rank_at m)) marks fact mark lt rank (λ x n. p.ranked x);
+      passed = each_set (λ x m. AreRanked (set marks fact mark) (passed_of m) (mentioned g x)) marks fact mark lt
+          (λ k l m. stays (get_or (mentioned g fact) k 0) (passed k l m)) (λ x n k l m. stays (get_or (mentioned g x) k 0) (p.passed x k l m));
+      on_path = each_set (λ x m. is_open m ≡ true → Has after x) marks fact mark lt on (λ x n o. to x n (p.on_path x o));
+      open_ones = each_set (λ x m. Has after x → is_open m ≡ true) marks fact mark lt off (λ x n h. p.open_ones x (from x n h));
+      facts = facts;
+      trail = trail;
+    }
+
+not_last : (path : List ℕ) (fact x : ℕ) → x ≢ fact → Has (path ++ fact ∷ []) x → Has path x
+not_last path fact x n h = elim (has_cases path fact x h) [ inl a ↦ a | inr i ↦ absurd (n i) ]
+
 -- the last fact of the path is ranked
 pub ranks_last : (g : Graph) (marks : List Mark) (path : List ℕ) (fact rank : ℕ) → Pass g marks (path ++ fact ∷ []) → HasRank g fact rank → Pass g (set marks fact (Ranked rank)) path
 ranks_last g marks path fact rank p h =
-    let lt : fact < length marks = has_mark g marks fact (p.facts fact (has_last path fact)) p.len in
-    let same : mark_of (set marks fact (Ranked rank)) fact ≡ Ranked rank = set_same marks fact (Ranked rank) lt in
-    let stays : (x : ℕ) → is_ranked (mark_of marks x) ≡ true → is_ranked (mark_of (set marks fact (Ranked rank)) x) ≡ true = stays_ranked marks fact (Ranked rank) lt (λ k. refl) in record {
-      len = length-set marks fact (Ranked rank) ∙ p.len;
-      ranked = λ x r. elim (cases_eq x fact) [
-        | inl e ↦ rw (e, same) h
-        | inr n ↦ rw (set_other marks fact (Ranked rank) x n) (p.ranked x (rw (set_other marks fact (Ranked rank) x n) at r))
-      ];
-      passed = λ x. elim (cases_eq x fact) [
-        | inl e ↦ λ k l m. absurd (let z : passed_of (mark_of (set marks fact (Ranked rank)) x) ≡ 0 = rw (e, same) refl in omega (arith, z, l))
-        | inr n ↦ λ k l m. stays (get_or (mentioned g x) k 0) (p.passed x k (rw (set_other marks fact (Ranked rank) x n) at l) m)
-      ];
-      on_path = λ x o. elim (cases_eq x fact) [
-        | inl e ↦ absurd (let z : is_open (mark_of (set marks fact (Ranked rank)) x) ≡ false = rw (e, same) refl in true≢false (sym o ∙ z))
-        | inr n ↦ elim (has_cases path fact x (p.on_path x (rw (set_other marks fact (Ranked rank) x n) at o))) [ inl q ↦ q | inr i ↦ absurd (n i) ]
-      ];
-      open_ones = λ x q. elim (cases_eq x fact) [
-        | inl e ↦ absurd (not_itself g fact rank h (trail_reaches g path fact fact p.trail (subst (λ (y : ℕ). Has path y) e q)))
-        | inr n ↦ rw (set_other marks fact (Ranked rank) x n) (p.open_ones x (has_append path (fact ∷ []) x q))
-      ];
-      facts = λ x q. p.facts x (has_append path (fact ∷ []) x q);
-      trail = trail_front g path fact p.trail;
-    }
+    let here = has_last path fact in
+    pass_set g marks (path ++ fact ∷ []) path fact (Ranked rank) p (p.facts fact here) (open_not_ranked (mark_of marks fact) (p.open_ones fact here))
+    (λ r. h) (λ k l m. absurd (omega (arith, l))) (λ o. absurd (true≢false (sym o))) (λ q. absurd (not_itself g fact rank h (trail_reaches g path fact fact p.trail q)))
+    (not_last path fact) (λ x n. has_append path (fact ∷ []) x) (λ x q. p.facts x (has_append path (fact ∷ []) x q)) (trail_front g path fact p.trail)
 
 -- more mentions of a fact of the path are passed
-pub passes_on : (g : Graph) (marks : List Mark) (path : List ℕ) (fact passed : ℕ) → Pass g marks path → Has path fact → AreRanked marks passed (mentioned g fact) → Pass g (set marks fact (Open passed)) path
+passes_on : (g : Graph) (marks : List Mark) (path : List ℕ) (fact passed : ℕ) → Pass g marks path → Has path fact → AreRanked marks passed (mentioned g fact) → Pass g (set marks fact (Open passed)) path
 passes_on g marks path fact passed p here r =
-    let lt : fact < length marks = has_mark g marks fact (p.facts fact here) p.len in
-    let same : mark_of (set marks fact (Open passed)) fact ≡ Open passed = set_same marks fact (Open passed) lt in
-    let stays : (x : ℕ) → is_ranked (mark_of marks x) ≡ true → is_ranked (mark_of (set marks fact (Open passed)) x) ≡ true = stays_ranked marks fact (Open passed) lt (λ k. absurd (open_not_ranked (mark_of marks fact) (p.open_ones fact here) k)) in record {
-      len = length-set marks fact (Open passed) ∙ p.len;
-      ranked = λ x k. elim (cases_eq x fact) [
-        | inl e ↦ absurd (let z : is_ranked (mark_of (set marks fact (Open passed)) x) ≡ false = rw (e, same) refl in true≢false (sym k ∙ z))
-        | inr n ↦ rw (set_other marks fact (Open passed) x n) (p.ranked x (rw (set_other marks fact (Open passed) x n) at k))
-      ];
-      passed = λ x. elim (cases_eq x fact) [
-        | inl e ↦ λ k l m. stays (get_or (mentioned g x) k 0) (subst (λ (y : ℕ). (k : ℕ) → k < passed → k < length (mentioned g y) → is_ranked (mark_of marks (get_or (mentioned g y) k 0)) ≡ true) (sym e) r k (let z : passed_of (mark_of (set marks fact (Open passed)) x) ≡ passed = rw (e, same) refl in omega (arith, z, l)) m)
-        | inr n ↦ λ k l m. stays (get_or (mentioned g x) k 0) (p.passed x k (rw (set_other marks fact (Open passed) x n) at l) m)
-      ];
-      on_path = λ x o. elim (cases_eq x fact) [
-        | inl e ↦ subst (λ (y : ℕ). Has path y) (sym e) here
-        | inr n ↦ p.on_path x (rw (set_other marks fact (Open passed) x n) at o)
-      ];
-      open_ones = λ x q. elim (cases_eq x fact) [
-        | inl e ↦ rw (e, same) refl
-        | inr n ↦ rw (set_other marks fact (Open passed) x n) (p.open_ones x q)
-      ];
-      facts = p.facts;
-      trail = p.trail;
-    }
+    pass_set g marks path path fact (Open passed) p (p.facts fact here) (open_not_ranked (mark_of marks fact) (p.open_ones fact here))
+    (λ k. absurd (true≢false (sym k))) r (λ o. here) (λ q. refl) (λ x n q. q) (λ x n q. q) p.facts p.trail
 
 -- the path goes on to a new fact
 pub enters : (g : Graph) (marks : List Mark) (path : List ℕ) (fact : ℕ) → Pass g marks path → is_new (mark_of marks fact) ≡ true → IsFact g fact → IsTrail g (path ++ fact ∷ []) → Pass g (set marks fact (Open 0)) (path ++ fact ∷ [])
 enters g marks path fact p new is t =
-    let lt : fact < length marks = has_mark g marks fact is p.len in
-    let same : mark_of (set marks fact (Open 0)) fact ≡ Open 0 = set_same marks fact (Open 0) lt in
-    let stays : (x : ℕ) → is_ranked (mark_of marks x) ≡ true → is_ranked (mark_of (set marks fact (Open 0)) x) ≡ true = stays_ranked marks fact (Open 0) lt (λ k. absurd (new_not_ranked (mark_of marks fact) new k)) in record {
-      len = length-set marks fact (Open 0) ∙ p.len;
-      ranked = λ x k. elim (cases_eq x fact) [
-        | inl e ↦ absurd (let z : is_ranked (mark_of (set marks fact (Open 0)) x) ≡ false = rw (e, same) refl in true≢false (sym k ∙ z))
-        | inr n ↦ rw (set_other marks fact (Open 0) x n) (p.ranked x (rw (set_other marks fact (Open 0) x n) at k))
-      ];
-      passed = λ x. elim (cases_eq x fact) [
-        | inl e ↦ λ k l m. absurd (let z : passed_of (mark_of (set marks fact (Open 0)) x) ≡ 0 = rw (e, same) refl in omega (arith, z, l))
-        | inr n ↦ λ k l m. stays (get_or (mentioned g x) k 0) (p.passed x k (rw (set_other marks fact (Open 0) x n) at l) m)
-      ];
-      on_path = λ x o. elim (cases_eq x fact) [
-        | inl e ↦ rw e (has_last path fact)
-        | inr n ↦ has_append path (fact ∷ []) x (p.on_path x (rw (set_other marks fact (Open 0) x n) at o))
-      ];
-      open_ones = λ x q. elim (cases_eq x fact) [
-        | inl e ↦ rw (e, same) refl
-        | inr n ↦ rw (set_other marks fact (Open 0) x n) (elim (has_cases path fact x q) [ inl a ↦ p.open_ones x a | inr i ↦ absurd (n i) ])
-      ];
-      facts = λ x q. elim (has_cases path fact x q) [ inl a ↦ p.facts x a | inr i ↦ subst (IsFact g) (sym i) is ];
-      trail = t;
-    }
+    pass_set g marks path (path ++ fact ∷ []) fact (Open 0) p is (new_not_ranked (mark_of marks fact) new)
+    (λ k. absurd (true≢false (sym k))) (λ k l m. absurd (omega (arith, l))) (λ o. has_last path fact) (λ q. refl)
+    (λ x n. has_append path (fact ∷ []) x) (not_last path fact) (λ x q. elim (has_cases path fact x q) [ inl a ↦ p.facts x a | inr i ↦ subst (IsFact g) (sym i) is ]) t
 
 -- the path goes on to a new fact that its last one mentions
 pub goes_to : (g : Graph) (marks : List Mark) (path : List ℕ) (fact passed other : ℕ) → MentionsFacts g → Pass g marks (path ++ fact ∷ []) → AreRanked marks passed (mentioned g fact) → Mentions g fact other → is_new (mark_of marks other) ≡ true → Pass g (set (set marks fact (Open passed)) other (Open 0)) ((path ++ fact ∷ []) ++ other ∷ [])
 goes_to g marks path fact passed other w p r m new =
     let here = has_last path fact in
     let differs : other ≢ fact = λ e. true≢false (sym (subst (λ (y : ℕ). is_new (mark_of marks y) ≡ true) e new) ∙ open_not_new (mark_of marks fact) (p.open_ones fact here)) in
-    enters g (set marks fact (Open passed)) (path ++ fact ∷ []) other (passes_on g marks (path ++ fact ∷ []) fact passed p here r) (rw (set_other marks fact (Open passed) other differs) new) (w fact other m) (trail_on g path fact other p.trail m)
+    enters g (set marks fact (Open passed)) (path ++ fact ∷ []) other (passes_on g marks (path ++ fact ∷ []) fact passed p here r) (rw (get_or-set_other marks fact other (Open passed) New differs) new) (w fact other m) (trail_on g path fact other p.trail m)
 
 -- a mention of a fact of the path closes a cycle
 pub closes : (g : Graph) (marks : List Mark) (path : List ℕ) (fact other : ℕ) → Pass g marks (path ++ fact ∷ []) → Mentions g fact other → is_new (mark_of marks other) ≡ false → is_ranked (mark_of marks other) ≡ false → HasCycle g
@@ -227,8 +148,9 @@ pub fewer_unmet : (g : Graph) (marks : List Mark) (path : List ℕ) (fact passed
 fewer_unmet g marks path fact passed other p lt new =
     let met = last_is_met g marks path fact p in
     let differs : other ≢ fact = λ e. true≢false (sym (subst (λ (y : ℕ). is_new (mark_of marks y) ≡ true) e new) ∙ met) in
-    unmet_enter (set marks fact (Open passed)) other (Open 0) (omega (arith, lt, length-set marks fact (Open passed))) (rw (set_other marks fact (Open passed) other differs) new) refl
-    ∙ unmet_set marks fact (Open passed) met refl
+    let same = unmet_set marks fact (Open passed) (last_has_mark g marks path fact p) met refl in
+    let less = rw (get_or-set_other marks fact other (Open passed) New differs, new) at (unmet_with (set marks fact (Open passed)) other (Open 0) (omega (arith, lt, length-set marks fact (Open passed)))) in
+    omega (arith, same, less)
 
 -- ---- the begin and the end
 
@@ -240,13 +162,10 @@ new_at zero fact = refl
 new_at (suc n) zero = refl
 new_at (suc n) (suc fact) = new_at n fact
 
-length_new : (n : ℕ) → length (all_new n) ≡ n
-length_new n = length-replicate n New
-
 pub begins : (g : Graph) (marks : List Mark) → marks ≡ all_new (length g + 1) → Pass g marks []
 begins g marks e =
     let at = λ (x : ℕ). (ap (λ (l : List Mark). mark_of l x) e ∙ new_at (length g + 1) x) in record {
-      len = ap length e ∙ length_new (length g + 1);
+      len = ap length e ∙ length-replicate (length g + 1) New;
       ranked = λ x r. absurd (true≢false (sym r ∙ ap is_ranked (at x)));
       passed = λ x k l m. absurd (let z = ap passed_of (at x) in omega (arith, z, l));
       on_path = λ x o. absurd (true≢false (sym o ∙ ap is_open (at x)));
@@ -259,23 +178,15 @@ begins g marks e =
 pub met_is_ranked : (g : Graph) (marks : List Mark) (fact : ℕ) → Pass g marks [] → is_new (mark_of marks fact) ≡ false → is_ranked (mark_of marks fact) ≡ true
 met_is_ranked g marks fact p n = ranked_or_open (mark_of marks fact) n (p.on_path fact)
 
-rank_at_place : (marks : List Mark) (n place : ℕ) → length marks ≡ n + 1 → get_or (map rank_at (drop 1 marks)) place 0 ≡ rank_at (mark_of marks (suc place))
-rank_at_place [] n place e = absurd (omega arith)
-rank_at_place (mark ∷ marks) n place e = elim (at_most_or_above (length marks) place) [
-  | inl l ↦ get_or_past (map rank_at marks) place 0 (omega (arith, length-map marks rank_at, l)) ∙ sym (ap rank_at (get_or_past marks place New l))
-  | inr l ↦ get_or-map rank_at marks place New 0 l
-]
+rank_at_place : (marks : List Mark) (n place : ℕ) → length marks ≡ n + 1 → place < n → get_or (map rank_at (drop 1 marks)) place 0 ≡ rank_at (mark_of marks (suc place))
+rank_at_place [] n place e l = absurd (omega arith)
+rank_at_place (mark ∷ marks) n place e l = get_or-map rank_at marks place New 0 (omega arith)
 
 count_of : (marks : List Mark) (n : ℕ) → length marks ≡ n + 1 → length (map rank_at (drop 1 marks)) ≡ n
 count_of [] n e = absurd (omega arith)
 count_of (mark ∷ marks) n e = omega (arith, length-map marks rank_at, e)
 
-rank_of_mark : (g : Graph) (marks : List Mark) → Pass g marks [] → ((fact : ℕ) → IsFact g fact → is_new (mark_of marks fact) ≡ false) → (fact : ℕ) → HasRank g fact (rank_of (map rank_at (drop 1 marks)) fact)
-rank_of_mark g marks p met zero = record { is = refl }
-rank_of_mark g marks p met (suc place) = elim (at_most_or_above (length g) place) [
-  | inl l ↦ subst (HasRank g (suc place)) (sym (get_or_past (map rank_at (drop 1 marks)) place 0 (omega (arith, count_of marks (length g) p.len, l)))) (no_fact_has_rank g place l)
-  | inr l ↦ subst (HasRank g (suc place)) (sym (rank_at_place marks (length g) place p.len)) (p.ranked (suc place) (met_is_ranked g marks (suc place) p (met (suc place) (omega arith, omega (arith, l)))))
-]
-
 pub ends : (g : Graph) (marks : List Mark) → Pass g marks [] → ((fact : ℕ) → IsFact g fact → is_new (mark_of marks fact) ≡ false) → AreRanks g (map rank_at (drop 1 marks))
-ends g marks p met = are_ranks_if g (map rank_at (drop 1 marks)) (count_of marks (length g) p.len) (rank_of_mark g marks p met)
+ends g marks p met =
+    are_ranks_if g (map rank_at (drop 1 marks)) (count_of marks (length g) p.len) (λ place l. subst (HasRank g (suc place)) (sym (rank_at_place marks (length g) place p.len l))
+    (p.ranked (suc place) (met_is_ranked g marks (suc place) p (met (suc place) (omega arith, omega (arith, l))))))

@@ -71,34 +71,33 @@ only_one g ranks others r o =
     ext_get_or 0 ranks others (r.count ∙ sym o.count)
     (λ place lt. one_rank g (suc place) (rank_of ranks (suc place)) (rank_of others (suc place)) (has_rank g ranks (suc place) r) (has_rank g others (suc place) o))
 
--- a list that gives each fact its rank
-pub are_ranks_if : (g : Graph) (ranks : List ℕ) → length ranks ≡ length g → ((fact : ℕ) → HasRank g fact (rank_of ranks fact)) → AreRanks g ranks
-are_ranks_if g ranks e h = record {
-  count = e;
-  each = λ fact is. one_rank g fact (rank_of ranks fact) (rank_over ranks (mentioned g fact)) (h fact) (rank_from g fact (rank_of ranks) (λ x m. h x));
-}
-
 -- what is no fact has rank 0
-pub no_fact_has_rank : (g : Graph) (place : ℕ) → length g ≤ place → HasRank g (suc place) 0
+no_fact_has_rank : (g : Graph) (place : ℕ) → length g ≤ place → HasRank g (suc place) 0
 no_fact_has_rank g place h = record { is = ap (λ (l : List ℕ). above (map (height g 0) l)) (mentions_nothing g place h) }
+
+rank_of_each : (g : Graph) (ranks : List ℕ) → length ranks ≡ length g → ((place : ℕ) → place < length g → HasRank g (suc place) (get_or ranks place 0)) → (fact : ℕ) → HasRank g fact (rank_of ranks fact)
+rank_of_each g ranks e h zero = record { is = refl }
+rank_of_each g ranks e h (suc place) = elim (at_most_or_above (length g) place) [
+  | inl l ↦ subst (HasRank g (suc place)) (sym (rank_past g ranks place e l)) (no_fact_has_rank g place l)
+  | inr l ↦ h place l
+]
+
+-- a list that gives each fact its rank
+pub are_ranks_if : (g : Graph) (ranks : List ℕ) → length ranks ≡ length g → ((place : ℕ) → place < length g → HasRank g (suc place) (get_or ranks place 0)) → AreRanks g ranks
+are_ranks_if g ranks e h = let each = rank_of_each g ranks e h in record {
+  count = e;
+  each = λ fact is. one_rank g fact (rank_of ranks fact) (rank_over ranks (mentioned g fact)) (each fact) (rank_from g fact (rank_of ranks) (λ x m. each x));
+}
 
 heights : Graph → List ℕ
 heights g = map (λ place. height g (suc (length g)) (suc place)) (range_with_len 0 (length g))
 
-heights_rank : (g : Graph) (fact : ℕ) → HasNoCycle g → HasRank g fact (rank_of (heights g) fact)
-unfolding heights
-heights_rank g zero acyclic = record { is = refl }
-heights_rank g (suc place) acyclic =
-    let n : ℕ = length g in
-    let h = λ (k : ℕ). height g (suc n) (suc k) in
-    elim (at_most_or_above n place) [
-      | inl l ↦ subst (HasRank g (suc place)) (sym (get_or_past (map h (range_with_len 0 n)) place 0 (omega (arith, length-map-range_with_len h 0 n, l)))) (no_fact_has_rank g place l)
-      | inr l ↦ subst (HasRank g (suc place)) (sym (get_or-map-range_with_len h 0 n place place 0 l (omega arith))) (rank_exists g (suc place) acyclic)
-    ]
-
 pub ranks_exist : (g : Graph) → HasNoCycle g → (ranks : List ℕ) × AreRanks g ranks
 unfolding heights
-ranks_exist g acyclic = (heights g, are_ranks_if g (heights g) (length-map-range_with_len (λ k. height g (suc (length g)) (suc k)) 0 (length g)) (λ fact. heights_rank g fact acyclic))
+ranks_exist g acyclic =
+    let n : ℕ = length g in
+    let h = λ (k : ℕ). height g (suc n) (suc k) in
+    (heights g, are_ranks_if g (heights g) (length-map-range_with_len h 0 n) (λ place l. subst (HasRank g (suc place)) (sym (get_or-map-range_with_len h 0 n place place 0 l (omega arith))) (rank_exists g (suc place) acyclic)))
 
 -- ---- the test
 

@@ -1,18 +1,15 @@
 -- A walk from a fact: what is seen at each moment, and at its end.
-use Rattle.std.proofs.Common.{◌≡◌, ℕ, zero, suc, ◌+◌, ◌*◌, ◌<◌, ◌≤◌, Bool, true, false, cond, List, [], ◌∷◌, ◌++◌, length, get_or, set, drop, ◌⊎◌, inl, inr, refl, sym, ap, subst, ◌∙◌, arith, length-append, length-set, get_or-set_same, get_or-set_other, drop-cons, true≢false, replicate}
+use Rattle.std.proofs.Common.{◌≡◌, ℕ, zero, suc, ◌+◌, ◌*◌, ◌<◌, ◌≤◌, Bool, true, false, not, cond, List, [], ◌∷◌, ◌++◌, length, get_or, set, drop, ◌⊎◌, inl, inr, refl, sym, ap, subst, ◌∙◌, arith, length-append, length-set, get_or-set_same, get_or-set_other, drop-cons, true≢false, replicate}
 use Rattle.std.proofs.lemmas.Bool.{cases_eq}
-use Rattle.std.proofs.lemmas.List.{length-replicate}
+use Rattle.std.proofs.lemmas.List.Folds.{sum_by-replicate}
+use Rattle.std.proofs.lemmas.List.Sums.{sum_by-set}
 use Rattle.dict_order.specs.Graph.{Graph, mentioned, Has, Mentions, Leads, Reaches, IsFact, MentionsFacts}
 use Rattle.dict_order.specs.Walking.{State, see, see_all, IsSeen, unseen}
 use Rattle.dict_order.proofs.ListLaws.{has_append, has_last, has_cases}
 use Rattle.dict_order.proofs.MentionLaws.{reaches_on}
 
 pub unseen_set : (bs : List Bool) (x : ℕ) → x < length bs → get_or bs x false ≡ false → unseen (set bs x true) + 1 ≡ unseen bs
-unseen_set [] x lt e = absurd (omega arith)
-unseen_set (true ∷ bs) zero lt e = absurd (true≢false e)
-unseen_set (false ∷ bs) zero lt e = omega arith
-unseen_set (true ∷ bs) (suc x) lt e = unseen_set bs x (omega arith) e
-unseen_set (false ∷ bs) (suc x) lt e = omega (arith, unseen_set bs x (omega arith) e)
+unseen_set bs x lt e = let less = rw e at (sum_by-set (λ b. cond (not b) 1 0) bs x true false lt) in omega (arith, less)
 
 pub set_seen : (bs : List Bool) (x k : ℕ) → IsSeen (set bs x true) k → IsSeen bs k ⊎ (k ≡ x)
 set_seen bs x k h = elim (cases_eq k x) [ inl e ↦ inr e | inr n ↦ inl (rw (get_or-set_other bs x k true false n) at h) ]
@@ -26,16 +23,7 @@ blank (suc n) zero h = true≢false (sym h)
 blank (suc n) (suc k) h = blank n k h
 
 pub unseen_blank : (n : ℕ) → unseen (replicate n false) ≡ n
-unseen_blank zero = refl
-unseen_blank (suc n) = omega (arith, unseen_blank n)
-
-pub length_blank : (n : ℕ) → length (replicate n false) ≡ n
-length_blank n = length-replicate n false
-
-seen_within : (bs : List Bool) (k : ℕ) → IsSeen bs k → k < length bs
-seen_within [] k h = absurd cc
-seen_within (b ∷ bs) zero h = omega arith
-seen_within (b ∷ bs) (suc k) h = omega (arith, seen_within bs k h)
+unseen_blank n = omega (arith, sum_by-replicate (λ b. cond (not b) 1 0) n false)
 
 -- ---- what seeing the facts of a list leaves
 
@@ -43,7 +31,6 @@ pub record Seen (facts : List ℕ) (s t : State) : Type 0 where
   pub len : length t.0 ≡ length s.0
   pub keeps : (k : ℕ) → IsSeen s.0 k → IsSeen t.0 k
   pub marks : (k : ℕ) → Has facts k → IsSeen t.0 k
-  pub only : (k : ℕ) → IsSeen t.0 k → IsSeen s.0 k ⊎ Has facts k
   pub queued : (k : ℕ) → IsSeen t.0 k → IsSeen s.0 k ⊎ Has t.1 k
   pub still : (k : ℕ) → Has s.1 k → Has t.1 k
   pub from : (k : ℕ) → Has t.1 k → Has s.1 k ⊎ Has facts k
@@ -54,7 +41,6 @@ one_at x s true lt e = record {
   len = refl;
   keeps = λ k h. h;
   marks = λ k h. elim h [ inl i ↦ rw i e | inr n ↦ absurd n ];
-  only = λ k h. inl h;
   queued = λ k h. inl h;
   still = λ k h. h;
   from = λ k h. inl h;
@@ -64,7 +50,6 @@ one_at x s false lt e = record {
   len = length-set s.0 x true;
   keeps = λ k h. set_keeps s.0 x k lt h;
   marks = λ k h. elim h [ inl i ↦ rw i (get_or-set_same s.0 x true false lt) | inr n ↦ absurd n ];
-  only = λ k h. elim (set_seen s.0 x k h) [ inl p ↦ inl p | inr q ↦ inr (inl q) ];
   queued = λ k h. elim (set_seen s.0 x k h) [ inl p ↦ inl p | inr q ↦ inr (rw q (has_last s.1 x)) ];
   still = λ k h. has_append s.1 (x ∷ []) k h;
   from = λ k h. elim (has_cases s.1 x k h) [ inl p ↦ inl p | inr q ↦ inr (inl q) ];
@@ -79,7 +64,6 @@ then x xs s t u p q = record {
   len = q.len ∙ p.len;
   keeps = λ k h. q.keeps k (p.keeps k h);
   marks = λ k h. elim h [ inl i ↦ q.keeps k (p.marks k (inl i)) | inr n ↦ q.marks k n ];
-  only = λ k h. elim (q.only k h) [ inl a ↦ elim (p.only k a) [ inl b ↦ inl b | inr b ↦ elim b [ inl i ↦ inr (inl i) | inr n ↦ absurd n ] ] | inr a ↦ inr (inr a) ];
   queued = λ k h. elim (q.queued k h) [ inl a ↦ elim (p.queued k a) [ inl b ↦ inl b | inr b ↦ inr (q.still k b) ] | inr a ↦ inr a ];
   still = λ k h. q.still k (p.still k h);
   from = λ k h. elim (q.from k h) [ inl a ↦ elim (p.from k a) [ inl b ↦ inl b | inr b ↦ elim b [ inl i ↦ inr (inl i) | inr n ↦ absurd n ] ] | inr a ↦ inr (inr a) ];
@@ -87,7 +71,7 @@ then x xs s t u p q = record {
 }
 
 pub sees_all : (facts : List ℕ) (s : State) → ((k : ℕ) → Has facts k → k < length s.0) → Seen facts s (see_all facts s)
-sees_all [] s lt = record { len = refl; keeps = λ k h. h; marks = λ k h. absurd h; only = λ k h. inl h; queued = λ k h. inl h; still = λ k h. h; from = λ k h. inl h; work = omega arith }
+sees_all [] s lt = record { len = refl; keeps = λ k h. h; marks = λ k h. absurd h; queued = λ k h. inl h; still = λ k h. h; from = λ k h. inl h; work = omega arith }
 sees_all (x ∷ xs) s lt =
     let one : Seen (x ∷ []) s (see x s) = sees_one x s (lt x (inl refl)) in
     then x xs s (see x s) (see_all xs (see x s)) one (sees_all xs (see x s) (λ k h. let l = lt k (inr h) in omega (arith, l, one.len)))
@@ -122,7 +106,7 @@ within g a n w e k h = let f = w a k h in omega (arith, f.1, e)
 pub starts : (g : Graph) (a : ℕ) (bs : List Bool) (s : State) → MentionsFacts g → length bs ≡ length g + 1 → ((k : ℕ) → IsSeen bs k → ⊥) → Seen (mentioned g a) (bs, []) s → Walk g a s.0 s.1
 starts g a bs s w len none m = record {
   len = m.len ∙ len;
-  sound = λ k h. elim (m.only k h) [ inl p ↦ absurd (none k p) | inr q ↦ (0, q) ];
+  sound = λ k h. elim (m.queued k h) [ inl p ↦ absurd (none k p) | inr q ↦ elim (m.from k q) [ inl l ↦ absurd l | inr f ↦ (0, f) ] ];
   listed = λ k h. elim (m.from k h) [ inl p ↦ absurd p | inr q ↦ (m.marks k q, w a k q) ];
   first = λ k h. m.marks k h;
   closed = λ b c h n. elim (m.queued b h) [ inl p ↦ absurd (none b p) | inr q ↦ inr q ];
@@ -134,7 +118,7 @@ goes_on g a seen todo left next s w e so m =
     let here : Has todo next = rw e (has_last left next) in
     let reached = so.sound next (so.listed next here).0 in record {
       len = m.len ∙ so.len;
-      sound = λ k h. elim (m.only k h) [ inl p ↦ so.sound k p | inr q ↦ reaches_on g a next k reached q ];
+      sound = λ k h. elim (m.queued k h) [ inl p ↦ so.sound k p | inr q ↦ elim (m.from k q) [ inl l ↦ so.sound k (so.listed k (rw e (has_append left (next ∷ []) k l))).0 | inr f ↦ reaches_on g a next k reached f ] ];
       listed = λ k h. elim (m.from k h) [ inl p ↦ let old = so.listed k (rw e (has_append left (next ∷ []) k p)) in (m.keeps k old.0, old.1) | inr q ↦ (m.marks k q, w next k q) ];
       first = λ k h. m.keeps k (so.first k h);
       closed = λ b c h n. elim (m.queued b h) [

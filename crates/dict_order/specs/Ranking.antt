@@ -1,5 +1,5 @@
 -- The pass that gives ranks: what is known of each fact, and the path on which it stands.
-use Rattle.std.specs.Prelude.{◌≡◌, ℕ, zero, suc, ◌+◌, ◌<◌, List, [], ◌∷◌, length, map, Bool, true, false, slice_index, slice_index_or}
+use Rattle.std.specs.Prelude.{◌≡◌, ℕ, zero, suc, ◌+◌, ◌<◌, List, [], ◌∷◌, length, map, Bool, true, false, count_by, slice_index, slice_index_or}
 use Rattle.dict_order.specs.Graph.{Graph, IsFact, mentioned, Mentions, Has}
 use Rattle.dict_order.specs.Ranks.{above}
 use Rattle.dict_order.specs.declared.ranks.Mark.{Mark}
@@ -44,10 +44,7 @@ rank_by marks mentions = above (map (λ fact. rank_at (mark_of marks fact)) ment
 
 -- how many are new
 abbrev pub unmet : List Mark → ℕ
-unmet [] = 0
-unmet (New ∷ marks) = 1 + unmet marks
-unmet (Open passed ∷ marks) = unmet marks
-unmet (Ranked rank ∷ marks) = unmet marks
+unmet marks = count_by is_new marks
 
 -- the rank of a fact as far as so many mentions in a row show it
 abbrev pub height : Graph → ℕ → ℕ → ℕ

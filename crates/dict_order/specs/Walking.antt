@@ -1,6 +1,6 @@
 -- A walk from a fact along mentions: which facts were seen, and which are still to be looked at.
 -- A list of marks has a place for each number from 0 on; no fact stands at place 0.
-use Rattle.std.specs.Prelude.{◌≡◌, ℕ, ◌+◌, List, [], ◌∷◌, ◌++◌, Bool, true, false, if◌then◌else◌, slice_index_or, slice_set}
+use Rattle.std.specs.Prelude.{◌≡◌, ℕ, ◌+◌, List, [], ◌∷◌, ◌++◌, Bool, true, false, not, count_by, if◌then◌else◌, slice_index_or, slice_set}
 
 abbrev pub State : Type 0
 State = List Bool × List ℕ
@@ -17,6 +17,4 @@ abbrev pub IsSeen : List Bool → ℕ → Type 0
 IsSeen seen fact = slice_index_or seen fact false ≡ true
 
 abbrev pub unseen : List Bool → ℕ
-unseen [] = 0
-unseen (true ∷ bs) = unseen bs
-unseen (false ∷ bs) = 1 + unseen bs
+unseen seen = count_by not seen

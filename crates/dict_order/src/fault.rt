@@ -2,8 +2,6 @@ ghost use Rattle.std.specs.Prelude.{◌≡◌};
 ghost use Rattle.dict_order.specs.declared.fault.OrderFault.TheVariants as faults;
 
 use fact_values::NoMemory;
-use std::error::Error;
-use std::fmt;
 
 /// Why facts have no ranks.
 #[derive(Clone, Copy, Debug, PartialEq, Eq)]
@@ -22,14 +20,3 @@ impl From<NoMemory> for OrderFault {
         OrderFault::NoMemory
     }
 }
-
-impl fmt::Display for OrderFault {
-    fn fmt<W: fmt::Write>(&self, f: &mut fmt::Formatter<W>) -> fmt::Result {
-        match self {
-            OrderFault::Cycle(fact) => write!(f, "fact {fact} reaches itself"),
-            OrderFault::NoMemory => write!(f, "out of memory"),
-        }
-    }
-}
-
-impl Error for OrderFault {}

@@ -1,16 +1,12 @@
 //! Ranks of facts, and the first fact that reaches itself.
 #![tactic(auto)]
 
-#[cfg(test)]
-mod dictionary_tests;
 mod fault;
 mod graph;
 pub mod laws;
 mod mention_graph;
 mod ordering;
 mod ranks;
-#[cfg(test)]
-mod tests;
 mod walk;
 
 pub use fault::OrderFault;

@@ -40,11 +40,7 @@ abbrev mutual
 
 some_weight : (d : Data) → 1 ≤ weight d
 some_weight null = omega arith
-some_weight (boolean b) = omega arith
-some_weight (number n) = omega arith
-some_weight (string s) = omega arith
-some_weight (array ds) = omega arith
-some_weight (object ms) = omega arith
+some_weight d = omega arith
 
 count-weight : (ds : Items) → count_of ds ≤ items_weight ds
 count-weight no_items = omega arith
@@ -110,20 +106,11 @@ last_within (Some (j, t ∷ r)) n h = tt
 
 one_lexeme : (m : Mode) (c : Class) (x : ℕ) (xs : List ℕ) (k : Mode → List Lexeme) (n : ℕ) → ((next : Mode) → length (k next) ≤ n) → length (lex_byte m c x xs k) ≤ suc n
 one_lexeme between quote x xs k n h = omega (arith, h in_string)
-one_lexeme between backslash x xs k n h = omega (arith, h in_word)
-one_lexeme between operator x xs k n h = omega (arith, h between)
-one_lexeme between space x xs k n h = omega (arith, h between)
-one_lexeme between other x xs k n h = omega (arith, h in_word)
+one_lexeme between c x xs k n h = omega (arith, h between, h in_word)
 one_lexeme in_word quote x xs k n h = omega (arith, h in_word)
-one_lexeme in_word backslash x xs k n h = omega (arith, h in_word)
-one_lexeme in_word operator x xs k n h = omega (arith, h between)
-one_lexeme in_word space x xs k n h = omega (arith, h between)
-one_lexeme in_word other x xs k n h = omega (arith, h in_word)
+one_lexeme in_word c x xs k n h = omega (arith, h between, h in_word)
 one_lexeme in_string quote x xs k n h = omega (arith, h between)
-one_lexeme in_string backslash x xs k n h = omega (arith, h in_escape)
-one_lexeme in_string operator x xs k n h = omega (arith, h in_string)
-one_lexeme in_string space x xs k n h = omega (arith, h in_string)
-one_lexeme in_string other x xs k n h = omega (arith, h in_string)
+one_lexeme in_string c x xs k n h = omega (arith, h in_escape, h in_string)
 one_lexeme in_escape c x xs k n h = omega (arith, h in_string)
 
 length-lex : (m : Mode) (xs : List ℕ) → length (lex m xs) ≤ length xs
@@ -151,21 +138,13 @@ one_token p Token.bad b k n h = omega arith
 length-punctuate : (p : Place) (ls : List Lexeme) → length (punctuate p ls) ≤ suc (length ls)
 unfolding punctuate
 length-punctuate fresh [] = omega arith
-length-punctuate after_value [] = omega arith
-length-punctuate after_comma [] = omega arith
-length-punctuate after_key [] = omega arith
+length-punctuate p [] = omega arith
 length-punctuate fresh (token t ∷ ls) = one_token fresh t (begins_colon ls) (λ next. punctuate next ls) (suc (length ls)) (λ next. length-punctuate next ls)
-length-punctuate after_value (token t ∷ ls) = one_token after_value t (begins_colon ls) (λ next. punctuate next ls) (suc (length ls)) (λ next. length-punctuate next ls)
-length-punctuate after_comma (token t ∷ ls) = one_token after_comma t (begins_colon ls) (λ next. punctuate next ls) (suc (length ls)) (λ next. length-punctuate next ls)
-length-punctuate after_key (token t ∷ ls) = one_token after_key t (begins_colon ls) (λ next. punctuate next ls) (suc (length ls)) (λ next. length-punctuate next ls)
-length-punctuate fresh (comma ∷ ls) = omega arith
+length-punctuate p (token t ∷ ls) = one_token p t (begins_colon ls) (λ next. punctuate next ls) (suc (length ls)) (λ next. length-punctuate next ls)
 length-punctuate after_value (comma ∷ ls) = omega (arith, length-punctuate after_comma ls)
-length-punctuate after_comma (comma ∷ ls) = omega arith
-length-punctuate after_key (comma ∷ ls) = omega arith
-length-punctuate fresh (colon ∷ ls) = omega arith
-length-punctuate after_value (colon ∷ ls) = omega arith
-length-punctuate after_comma (colon ∷ ls) = omega arith
+length-punctuate p (comma ∷ ls) = omega arith
 length-punctuate after_key (colon ∷ ls) = omega (arith, length-punctuate fresh ls)
+length-punctuate p (colon ∷ ls) = omega arith
 
 length-tokens : (text : List ℕ) → length (tokens text) ≤ suc (length text)
 length-tokens text = omega (arith, length-punctuate fresh (lex between text), length-lex between text)
@@ -198,12 +177,8 @@ weight-get_member k (member l e ms) =
     of_one (slice_cmp nat_cmp k l) (get_member k ms) (get_member k ms) e (members_weight (member l e ms)) later (omega arith) later
 
 weight-get : (k : List ℕ) (d : Data) → AtMost weight (weight d) (get k d)
-weight-get k null = tt
-weight-get k (boolean b) = tt
-weight-get k (number n) = tt
-weight-get k (string s) = tt
-weight-get k (array ds) = tt
 weight-get k (object ms) = more (members_weight ms) (suc (members_weight ms)) (get_member k ms) (omega arith) (weight-get_member k ms)
+weight-get k d = tt
 
 pub few_facts : (bytes : List ℕ) (d : Data) → length bytes ≤ max_bytes → IsJson bytes d → HasFewFacts d
 few_facts bytes d le h ds e =

@@ -1,9 +1,9 @@
 -- What is read of a value is spelled by it, and the part that is named isn't of the form.
-use Rattle.std.proofs.Common.{◌≡◌, inl, inr, ℕ, ◌+◌, List, [], ◌∷◌, Bool, true, false, cond, ◌&&◌, Option, Some, None, option_and_then, Result, Ok, Err, refl, sym, ap, subst, ◌∙◌}
+use Rattle.std.proofs.Common.{◌≡◌, inl, inr, ℕ, ◌+◌, List, [], ◌∷◌, Bool, true, false, ◌&&◌, Option, Some, None, option_and_then, Result, Ok, Err, refl, sym, ap, subst, ◌∙◌}
 use Rattle.std.specs.Prelude.{codes}
-use Rattle.std.specs.Str.{bytes_eq}
 use Rattle.std.proofs.lemmas.Option.{none-some, same_Some}
-use Rattle.std.proofs.lemmas.Slice.Eq.{bytes_eq-Decides}
+use Rattle.common_lemmas.proofs.Bools.{both}
+use Rattle.common_lemmas.proofs.Options.{both_some}
 use Rattle.serde_json.specs.Data.{Data, Items, no_items, item}
 use Rattle.serde_json.specs.Find.{as_str, as_array, as_object, get}
 use Rattle.value_text.specs.Enums.{Listed}
@@ -11,21 +11,16 @@ use Rattle.dict_tree.specs.Facts.{Fact}
 use Rattle.dict_tree.specs.FactJson.{SpellsFact}
 use Rattle.dict_tree.specs.FactReading.{has_no_other, is_optional_text, text_at, fact_of}
 use Rattle.dict_tree.specs.Dictionary.{Dictionary, too_many, too_deep}
-use Rattle.dict_tree.specs.DictReading.{◌>>=◌, or_fault, facts_step, facts_of, top_keys, version_of, version_with, version_in, enums_in, shallow, few, dictionary_with, dictionary_of}
-use Rattle.dict_tree.specs.DictJson.{AreSpelled, version_text, SpellsTop, SpellsDictionary, IsTopWrong, IsFactWrong, IsFirstWrong, IsWrongAt}
+use Rattle.dict_tree.specs.DictReading.{facts_step, facts_of, version_names, version_of, version_with, version_in, enums_in, shallow, few, with_facts, from_parts, dictionary_with, dictionary_of}
+use Rattle.dict_tree.specs.DictJson.{AreSpelled, version_text, top_keys, SpellsTop, SpellsDictionary, IsTopWrong, IsFactWrong, IsFirstWrong, IsWrongAt, ValueGives}
 use Rattle.dict_tree.specs.declared.fault.TreeFault.{TreeFault}
 use Rattle.dict_tree.specs.declared.fault.TreeFault.TheVariants as faults
-use Rattle.dict_tree.proofs.ExprLaws.{both_some, guarded}
-use Rattle.dict_tree.proofs.MemberLaws.{and_parts, object_is, is_object, optional_text_found, optional_text_again, text_found, array_found}
+use Rattle.dict_tree.proofs.NameLaws.{named_so}
+use Rattle.dict_tree.proofs.MemberLaws.{guarded, object_is, is_object, optional_text_found, optional_text_again, text_found, array_found}
 use Rattle.dict_tree.proofs.FactJsonLaws.{fact_found, fact_again}
 use Rattle.dict_tree.proofs.EnumJsonLaws.{enums_found, enums_again}
 
 -- ---- outside the facts
-
-version_is : (one two : Bool) (text : List ℕ) (later : Bool) → bytes_eq text (codes "1") ≡ one → bytes_eq text (codes "2") ≡ two → cond one (Some false) (cond two (Some true) None) ≡ Some later → text ≡ version_text later
-version_is true two text later a b e = (bytes_eq-Decides text (codes "1")).0 a ∙ ap version_text (same_Some false later e)
-version_is false true text later a b e = (bytes_eq-Decides text (codes "2")).0 b ∙ ap version_text (same_Some true later e)
-version_is false false text later a b e = absurd (none-some later e)
 
 version_again : (later : Bool) → version_of (version_text later) ≡ Some later
 version_again false = refl
@@ -34,14 +29,13 @@ version_again true = refl
 top_found : (d : Data) (later : Bool) (es : List Listed) (ds : Items) → version_in d ≡ Some later → enums_in (get (codes "enums") d) ≡ Some es → option_and_then as_array (get (codes "facts") d) ≡ Some ds → SpellsTop d later es ds
 top_found d later es ds v e f =
     let a = both_some (version_with d) (as_object d) later v in
-    let g = guarded (has_no_other top_keys a.0 && is_optional_text (get (codes "description") d)) (option_and_then version_of (text_at (codes "version") d)) later a.2 in
-    let p = and_parts (has_no_other top_keys a.0) (is_optional_text (get (codes "description") d)) g.0 in
+    let g = guarded (has_no_other top_keys a.0 && is_optional_text (get (codes "description") d)) _ later a.2 in
+    let p = both (has_no_other top_keys a.0) (is_optional_text (get (codes "description") d)) g.0 in
     let t = both_some version_of (text_at (codes "version") d) later g.1 in
-    let is : t.0 ≡ version_text later = version_is (bytes_eq t.0 (codes "1")) (bytes_eq t.0 (codes "2")) t.0 later refl refl t.2 in
     record {
       keys = object_is top_keys d a.0 a.1 p.0;
       description = optional_text_found (get (codes "description") d) p.1;
-      version = text_found (get (codes "version") d) (version_text later) (t.1 ∙ ap Some is);
+      version = text_found (get (codes "version") d) (version_text later) (t.1 ∙ ap Some (named_so version_text version_names t.0 later refl t.2));
       enums = enums_found (get (codes "enums") d) es e;
       facts = array_found (get (codes "facts") d) ds f;
     }
@@ -51,9 +45,6 @@ top_version d later es ds h =
     let o = is_object top_keys d h.keys in
     ap (λ (x : Data). option_and_then (version_with d) (as_object x)) o.1
     ∙ rw (o.2, optional_text_again (get (codes "description") d) h.description) (ap (λ (x : Option Data). option_and_then version_of (option_and_then as_str x)) h.version ∙ version_again later)
-
-top_facts : (d : Data) (later : Bool) (es : List Listed) (ds : Items) → SpellsTop d later es ds → option_and_then as_array (get (codes "facts") d) ≡ Some ds
-top_facts d later es ds h = ap (option_and_then as_array) h.facts
 
 -- ---- facts in order
 
@@ -78,9 +69,8 @@ facts_found later n (item d ds) fs e = step_found later n d ds fs (fact_of later
 
 facts_again : (later : Bool) (n : ℕ) (ds : Items) (fs : List Fact) → Spelled later ds fs → facts_of later n ds ≡ done fs
 facts_again later n no_items [] h = refl
-facts_again later n no_items (f ∷ fs) h = absurd h
-facts_again later n (item d ds) [] h = absurd h
 facts_again later n (item d ds) (f ∷ fs) h = rw (fact_again later d f h.0, facts_again later (n + 1) ds fs h.1) refl
+facts_again later n ds fs h = absurd h
 
 abbrev NamesFirst : Bool → ℕ → Items → TreeFault → Type 0
 NamesFirst later n ds e = (m : ℕ) × (e ≡ faults.Shape m) × IsFirstWrong later n ds m
@@ -109,107 +99,57 @@ first_again later n no_items m h = absurd h
 first_again later n (item d ds) m (inl h) = rw (wrong_fact later d (fact_of later d) refl h.0, h.1) refl
 first_again later n (item d ds) m (inr h) = rw (fact_again later d h.0 h.1, first_again later (n + 1) ds m h.2) refl
 
--- ---- the whole, by its parts
-
-abbrev with_facts : List Listed → Result (List Fact) TreeFault → Result Dictionary TreeFault
-with_facts es (Ok fs) = few (dictionary_with es fs) (too_many (dictionary_with es fs))
-with_facts es (Err e) = Err e
-
-abbrev from_parts : Option Bool → Option (List Listed) → Option Items → Result Dictionary TreeFault
-from_parts None es ds = Err (faults.Shape 0)
-from_parts (Some later) None ds = Err (faults.Shape 0)
-from_parts (Some later) (Some es) None = Err (faults.Shape 0)
-from_parts (Some later) (Some es) (Some ds) = with_facts es (facts_of later 1 ds)
-
-facts_joined : (es : List Listed) (r : Result (List Fact) TreeFault) → (r >>= λ fs. few (dictionary_with es fs) (too_many (dictionary_with es fs))) ≡ with_facts es r
-facts_joined es (Ok fs) = refl
-facts_joined es (Err e) = refl
-
-joined : (v : Option Bool) (o : Option (List Listed)) (i : Option Items)
-    → (or_fault (faults.Shape 0) v >>= λ later. or_fault (faults.Shape 0) o >>= λ es. or_fault (faults.Shape 0) i >>= λ ds. facts_of later 1 ds >>= λ fs. few (dictionary_with es fs) (too_many (dictionary_with es fs))) ≡ from_parts v o i
-joined None o i = refl
-joined (Some later) None i = refl
-joined (Some later) (Some es) None = refl
-joined (Some later) (Some es) (Some ds) = facts_joined es (facts_of later 1 ds)
-
-abbrev parts : Data → Result Dictionary TreeFault
-parts d = from_parts (version_in d) (enums_in (get (codes "enums") d)) (option_and_then as_array (get (codes "facts") d))
-
-by_parts : (d : Data) → dictionary_of d ≡ parts d
-unfolding dictionary_of
-by_parts d = joined (version_in d) (enums_in (get (codes "enums") d)) (option_and_then as_array (get (codes "facts") d))
-
 -- ---- what is read
 
--- what a result says of the value
-abbrev Explains : Data → Result Dictionary TreeFault → Type 0
-Explains d (Ok dict) = SpellsDictionary d dict × (too_many dict ≡ None) × (too_deep dict ≡ None)
-Explains d (Err faults.TooLong) = ⊥
-Explains d (Err faults.NotJson) = ⊥
-Explains d (Err (faults.Shape n)) = IsWrongAt d n
-Explains d (Err (faults.TooMany n)) = (dict : Dictionary) × SpellsDictionary d dict × (too_many dict ≡ Some n)
-Explains d (Err (faults.TooDeep n)) = (dict : Dictionary) × SpellsDictionary d dict × (too_many dict ≡ None) × (too_deep dict ≡ Some n)
-Explains d (Err faults.NoMemory) = ⊥
+shallow_given : (d : Data) (dict : Dictionary) (o : Option ℕ) → SpellsDictionary d dict → too_many dict ≡ None → too_deep dict ≡ o → ValueGives d (shallow dict o)
+shallow_given d dict None s few deep = (s, record { many = few; deep = deep })
+shallow_given d dict (Some n) s few deep = (dict, s, few, deep)
 
-shallow_explained : (d : Data) (dict : Dictionary) (o : Option ℕ) → SpellsDictionary d dict → too_many dict ≡ None → too_deep dict ≡ o → Explains d (shallow dict o)
-shallow_explained d dict None s few deep = (s, few, deep)
-shallow_explained d dict (Some n) s few deep = (dict, s, few, deep)
+few_given : (d : Data) (dict : Dictionary) (o : Option ℕ) → SpellsDictionary d dict → too_many dict ≡ o → ValueGives d (few dict o)
+few_given d dict None s is = shallow_given d dict (too_deep dict) s is refl
+few_given d dict (Some n) s is = (dict, s, is)
 
-few_explained : (d : Data) (dict : Dictionary) (o : Option ℕ) → SpellsDictionary d dict → too_many dict ≡ o → Explains d (few dict o)
-few_explained d dict None s is = shallow_explained d dict (too_deep dict) s is refl
-few_explained d dict (Some n) s is = (dict, s, is)
-
-facts_explained : (d : Data) (later : Bool) (es : List Listed) (ds : Items) (r : Result (List Fact) TreeFault) → SpellsTop d later es ds → facts_of later 1 ds ≡ r → Explains d (with_facts es r)
-facts_explained d later es ds (Ok fs) top is =
-    few_explained d (dictionary_with es fs) (too_many (dictionary_with es fs)) (record { later = later; items = ds; top = top; facts = facts_found later 1 ds fs is }) refl
-facts_explained d later es ds (Err e) top is =
+facts_given : (d : Data) (later : Bool) (es : List Listed) (ds : Items) (r : Result (List Fact) TreeFault) → SpellsTop d later es ds → facts_of later 1 ds ≡ r → ValueGives d (with_facts es r)
+facts_given d later es ds (Ok fs) top is =
+    few_given d (dictionary_with es fs) (too_many (dictionary_with es fs)) (record { later = later; items = ds; top = top; facts = facts_found later 1 ds fs is }) refl
+facts_given d later es ds (Err e) top is =
     let w = first_found later 1 ds e is in
-    subst (λ (x : TreeFault). Explains d (Err x)) (sym w.1) (inr (record { later = later; enums = es; items = ds; top = top; first = w.2 }))
+    rw w.1 (inr (record { later = later; enums = es; items = ds; top = top; first = w.2 }))
 
-explained : (d : Data) (v : Option Bool) (o : Option (List Listed)) (i : Option Items) → version_in d ≡ v → enums_in (get (codes "enums") d) ≡ o → option_and_then as_array (get (codes "facts") d) ≡ i → Explains d (from_parts v o i)
-explained d None o i v e f = inl (λ later es ds top. none-some later (sym v ∙ top_version d later es ds top), refl)
-explained d (Some later) None i v e f = inl (λ l es ds top. none-some es (sym e ∙ enums_again (get (codes "enums") d) es top.enums), refl)
-explained d (Some later) (Some es) None v e f = inl (λ l xs ds top. none-some ds (sym f ∙ top_facts d l xs ds top), refl)
-explained d (Some later) (Some es) (Some ds) v e f = facts_explained d later es ds (facts_of later 1 ds) (top_found d later es ds v e f) refl
+given : (d : Data) (v : Option Bool) (o : Option (List Listed)) (i : Option Items) → version_in d ≡ v → enums_in (get (codes "enums") d) ≡ o → option_and_then as_array (get (codes "facts") d) ≡ i → ValueGives d (from_parts v o i)
+given d (Some later) (Some es) (Some ds) v e f = facts_given d later es ds (facts_of later 1 ds) (top_found d later es ds v e f) refl
+given d None o i v e f = inl (λ later es ds top. none-some later (sym v ∙ top_version d later es ds top), refl)
+given d v None i h e f = inl (λ later es ds top. none-some es (sym e ∙ enums_again (get (codes "enums") d) es top.enums), refl)
+given d v o None h e f = inl (λ later es ds top. none-some ds (sym f ∙ ap (option_and_then as_array) top.facts), refl)
 
-pub read_explained : (d : Data) (r : Result Dictionary TreeFault) → dictionary_of d ≡ r → Explains d r
-read_explained d r e =
-    subst (Explains d) (sym (by_parts d) ∙ e) (explained d (version_in d) (enums_in (get (codes "enums") d)) (option_and_then as_array (get (codes "facts") d)) refl refl refl)
+-- what is read of a value is what the value gives
+pub read_given : (d : Data) (r : Result Dictionary TreeFault) → dictionary_of d ≡ r → ValueGives d r
+unfolding dictionary_of
+read_given d r e = subst (ValueGives d) e (given d (version_in d) (enums_in (get (codes "enums") d)) (option_and_then as_array (get (codes "facts") d)) refl refl refl)
 
 -- ---- what is spelled
 
 spelled_top : (d : Data) (later : Bool) (es : List Listed) (ds : Items) → SpellsTop d later es ds → dictionary_of d ≡ with_facts es (facts_of later 1 ds)
-spelled_top d later es ds h =
-    by_parts d
-    ∙ ap (λ (v : Option Bool). from_parts v (enums_in (get (codes "enums") d)) (option_and_then as_array (get (codes "facts") d))) (top_version d later es ds h)
-    ∙ ap (λ (o : Option (List Listed)). from_parts (Some later) o (option_and_then as_array (get (codes "facts") d))) (enums_again (get (codes "enums") d) es h.enums)
-    ∙ ap (from_parts (Some later) (Some es)) (top_facts d later es ds h)
+unfolding dictionary_of
+spelled_top d later es ds h = rw (top_version d later es ds h, enums_again (get (codes "enums") d) es h.enums, ap (option_and_then as_array) h.facts) refl
 
 spelled_few : (d : Data) (dict : Dictionary) → SpellsDictionary d dict → dictionary_of d ≡ few dict (too_many dict)
 spelled_few d dict h = spelled_top d h.later dict.enums h.items h.top ∙ ap (with_facts dict.enums) (facts_again h.later 1 h.items dict.facts h.facts)
 
-pub spelled_read : (d : Data) (dict : Dictionary) → SpellsDictionary d dict → too_many dict ≡ None → too_deep dict ≡ None → dictionary_of d ≡ Ok dict
-spelled_read d dict h few_of deep = spelled_few d dict h ∙ ap (few dict) few_of ∙ ap (shallow dict) deep
-
-pub spelled_many : (d : Data) (what : ℕ) (dict : Dictionary) → SpellsDictionary d dict → too_many dict ≡ Some what → dictionary_of d ≡ Err (faults.TooMany what)
-spelled_many d what dict h many = spelled_few d dict h ∙ ap (few dict) many
-
-pub spelled_deep : (d : Data) (number : ℕ) (dict : Dictionary) → SpellsDictionary d dict → too_many dict ≡ None → too_deep dict ≡ Some number → dictionary_of d ≡ Err (faults.TooDeep number)
-spelled_deep d number dict h few_of deep = spelled_few d dict h ∙ ap (few dict) few_of ∙ ap (shallow dict) deep
-
--- ---- what isn't of the form
-
 top_wrong : (d : Data) (v : Option Bool) (o : Option (List Listed)) (i : Option Items) → IsTopWrong d → version_in d ≡ v → enums_in (get (codes "enums") d) ≡ o → option_and_then as_array (get (codes "facts") d) ≡ i
     → from_parts v o i ≡ fails (faults.Shape 0)
-top_wrong d None o i h v e f = refl
-top_wrong d (Some later) None i h v e f = refl
-top_wrong d (Some later) (Some es) None h v e f = refl
 top_wrong d (Some later) (Some es) (Some ds) h v e f = absurd (h later es ds (top_found d later es ds v e f))
+top_wrong d v o i h is e f = refl
 
-abbrev named : ℕ → Result Dictionary TreeFault
-named n = Err (faults.Shape n)
-
-pub wrong_named : (d : Data) (number : ℕ) → IsWrongAt d number → dictionary_of d ≡ Err (faults.Shape number)
-wrong_named d number (inl h) =
-    by_parts d ∙ top_wrong d (version_in d) (enums_in (get (codes "enums") d)) (option_and_then as_array (get (codes "facts") d)) h.0 refl refl refl ∙ ap named (sym h.1)
+wrong_named : (d : Data) (number : ℕ) → IsWrongAt d number → dictionary_of d ≡ Err (faults.Shape number)
+unfolding dictionary_of
+wrong_named d number (inl h) = rw h.1 (top_wrong d (version_in d) (enums_in (get (codes "enums") d)) (option_and_then as_array (get (codes "facts") d)) h.0 refl refl refl)
 wrong_named d number (inr h) = spelled_top d h.later h.enums h.items h.top ∙ ap (with_facts h.enums) (first_again h.later 1 h.items number h.first)
+
+-- what the value gives is read of it
+pub given_read : (d : Data) (r : Result Dictionary TreeFault) → ValueGives d r → dictionary_of d ≡ r
+given_read d (Ok dict) h = spelled_few d dict h.0 ∙ ap (few dict) h.1.many ∙ ap (shallow dict) h.1.deep
+given_read d (Err (faults.Shape number)) h = wrong_named d number h
+given_read d (Err (faults.TooMany what)) h = spelled_few d h.0 h.1 ∙ ap (few h.0) h.2
+given_read d (Err (faults.TooDeep number)) h = spelled_few d h.0 h.1 ∙ ap (few h.0) h.2 ∙ ap (shallow h.0) h.3
+given_read d (Err e) h = absurd h

@@ -4,6 +4,8 @@ use Rattle.std.specs.Prelude.{bytes_eq}
 use Rattle.std.specs.List.{list_any}
 use Rattle.std.proofs.lemmas.List.Folds.{list_any-append}
 use Rattle.std.proofs.lemmas.Slice.Eq.{bytes_eq-Decides}
+use Rattle.common_lemmas.proofs.Bools.{and_true}
+use Rattle.common_lemmas.proofs.Bytes.{bytes_eq-comm}
 use Rattle.value_text.specs.Enums.{is_among, are_distinct}
 
 -- none stands among those that were seen, nor twice
@@ -14,18 +16,6 @@ are_new seen (x ∷ xs) = not (is_among x seen) && are_new (seen ++ x ∷ []) xs
 abbrev none_among : List (List ℕ) → List (List ℕ) → Bool
 none_among seen [] = true
 none_among seen (x ∷ xs) = not (is_among x seen) && none_among seen xs
-
-apart_sym : (a b : List ℕ) → bytes_eq a b ≡ false → bytes_eq b a ≡ false
-apart_sym a b h = grind (arith, bytes_eq-Decides)
-
-same_way : (a b : List ℕ) (p q : Bool) → bytes_eq a b ≡ p → bytes_eq b a ≡ q → p ≡ q
-same_way a b true true e f = refl
-same_way a b false false e f = refl
-same_way a b true false e f = let g : bytes_eq a b ≡ false = apart_sym b a f in absurd cc
-same_way a b false true e f = let g : bytes_eq b a ≡ false = apart_sym a b e in absurd cc
-
-bytes_eq-comm : (a b : List ℕ) → bytes_eq a b ≡ bytes_eq b a
-bytes_eq-comm a b = same_way a b (bytes_eq a b) (bytes_eq b a) refl refl
 
 one_more : (a b n m : Bool) → (not (a || (b || false)) && (n && not m)) ≡ ((not a && n) && not (b || m))
 one_more true b n m = refl
@@ -59,10 +49,6 @@ are_new-is seen (x ∷ xs) = rw (are_new-is (seen ++ x ∷ []) xs, none_more see
 none_of_none : (xs : List (List ℕ)) → none_among [] xs ≡ true
 none_of_none [] = refl
 none_of_none (x ∷ xs) = none_of_none xs
-
-and_true : (b : Bool) → (b && true) ≡ b
-and_true true = refl
-and_true false = refl
 
 -- with none seen before, they are distinct
 pub are_new_none : (xs : List (List ℕ)) → are_new [] xs ≡ are_distinct xs

@@ -6,6 +6,7 @@ use Rattle.std.proofs.lemmas.Bool.{and_parts, and_from, true≢false}
 use Rattle.std.proofs.lemmas.List.Elements.{All-head, All-tail}
 use Rattle.std.proofs.lemmas.Option.{slice_get-map, slice_get_within}
 use Rattle.std.proofs.lemmas.Slice.Eq.{bytes_eq-Decides}
+use Rattle.common_lemmas.proofs.Bytes.{equal_bytes}
 use Rattle.fact_paths.specs.Paths.{IsFactPath, SpellsFactPath, fact_path_text}
 use Rattle.fact_paths.specs.declared.fact_path.FactPath.{FactPath}
 use Rattle.fact_paths.specs.declared.fact_path.FactPath.TheVariants.{Global, Member}
@@ -21,12 +22,9 @@ use Rattle.dict_tree.specs.PathIndex.{is_spelled}
 
 -- ---- one path and another
 
-bytes_eq-same : (text : List ℕ) → bytes_eq text text ≡ true
-bytes_eq-same text = (bytes_eq-Decides text text).1 refl
-
 pub same_path-same : (p : FactPath) → same_path p p ≡ true
-same_path-same (Global n) = bytes_eq-same n
-same_path-same (Member c n) = and_from (bytes_eq c c) (bytes_eq n n) (bytes_eq-same c) (bytes_eq-same n)
+same_path-same (Global n) = equal_bytes n
+same_path-same (Member c n) = and_from (bytes_eq c c) (bytes_eq n n) (equal_bytes c) (equal_bytes n)
 
 pub same_path-one : (p q : FactPath) → same_path p q ≡ true → p ≡ q
 same_path-one (Global n) (Global m) h = ap Global ((bytes_eq-Decides n m).0 h)

@@ -1,5 +1,4 @@
 pub mod CountingLaws
-pub mod DictExamples
 pub mod DictJsonLaws
 pub mod DictLaws
 pub mod DistinctLaws
@@ -19,8 +18,9 @@ pub mod PathIndexLaws
 pub mod SourceExamples
 pub mod SourceLaws
 pub mod StatedLaws
-pub mod StatingLaws
+pub mod StatedReadingLaws
 pub mod TargetsLaws
 pub mod TreeExamples
 pub mod UseLaws
+pub mod TypeLaws
 pub mod Views

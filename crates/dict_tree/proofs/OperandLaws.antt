@@ -15,59 +15,43 @@ no_operand_else x (v ∷ []) p h = absurd (h refl)
 no_operand_else x (v ∷ w ∷ vs) p h = refl
 
 pub one_text_else : (vs : List Value) → 0 < length vs → length vs ≢ 2 → one_text (items_view (drop 1 vs)) ≡ None
-one_text_else [] p h = absurd (omega arith)
-one_text_else (v ∷ []) p h = refl
 one_text_else (v ∷ w ∷ []) p h = absurd (h refl)
-one_text_else (v ∷ w ∷ x ∷ vs) p h = refl
+one_text_else [] p h = absurd (omega arith)
+one_text_else vs p h = refl
 
 pub two_texts_else : (vs : List Value) → 0 < length vs → length vs ≢ 3 → two_texts (items_view (drop 1 vs)) ≡ None
-two_texts_else [] p h = absurd (omega arith)
-two_texts_else (v ∷ []) p h = refl
-two_texts_else (v ∷ w ∷ []) p h = refl
 two_texts_else (v ∷ w ∷ x ∷ []) p h = absurd (h refl)
-two_texts_else (v ∷ w ∷ x ∷ y ∷ vs) p h = refl
+two_texts_else [] p h = absurd (omega arith)
+two_texts_else vs p h = refl
 
 pub only_tree_else : (vs : List Value) → 0 < length vs → length vs ≢ 2 → only_tree (items_view (drop 1 vs)) ≡ None
-only_tree_else [] p h = absurd (omega arith)
-only_tree_else (v ∷ []) p h = refl
 only_tree_else (v ∷ w ∷ []) p h = absurd (h refl)
-only_tree_else (v ∷ w ∷ x ∷ vs) p h = refl
+only_tree_else [] p h = absurd (omega arith)
+only_tree_else vs p h = refl
 
 pub pair_tree_else : (vs : List Value) → 0 < length vs → length vs ≢ 3 → pair_tree (items_view (drop 1 vs)) ≡ None
-pair_tree_else [] p h = absurd (omega arith)
-pair_tree_else (v ∷ []) p h = refl
-pair_tree_else (v ∷ w ∷ []) p h = refl
 pair_tree_else (v ∷ w ∷ x ∷ []) p h = absurd (h refl)
-pair_tree_else (v ∷ w ∷ x ∷ y ∷ vs) p h = refl
+pair_tree_else [] p h = absurd (omega arith)
+pair_tree_else vs p h = refl
 
 pub picked_tree_else : (vs : List Value) → 0 < length vs → length vs ≢ 3 → picked_tree (items_view (drop 1 vs)) ≡ None
-picked_tree_else [] p h = absurd (omega arith)
-picked_tree_else (v ∷ []) p h = refl
-picked_tree_else (v ∷ w ∷ []) p h = refl
 picked_tree_else (v ∷ w ∷ x ∷ []) p h = absurd (h refl)
-picked_tree_else (v ∷ w ∷ x ∷ y ∷ vs) p h = refl
+picked_tree_else [] p h = absurd (omega arith)
+picked_tree_else vs p h = refl
 
 -- ---- the operands by place
 
 only_tree_is : (vs : List Value) (d : Value) → length vs ≡ 2 → only_tree (items_view (drop 1 vs)) ≡ tree_of (json (get_or vs 1 d))
-only_tree_is [] d h = absurd (omega arith)
-only_tree_is (v ∷ []) d h = absurd (omega arith)
 only_tree_is (v ∷ w ∷ []) d h = refl
-only_tree_is (v ∷ w ∷ x ∷ vs) d h = absurd (omega arith)
+only_tree_is vs d h = absurd (omega arith)
 
 pair_tree_is : (vs : List Value) (d e : Value) → length vs ≡ 3 → pair_tree (items_view (drop 1 vs)) ≡ option_and_then (λ a. option_map (λ b. (a, b)) (tree_of (json (get_or vs 2 e)))) (tree_of (json (get_or vs 1 d)))
-pair_tree_is [] d e h = absurd (omega arith)
-pair_tree_is (v ∷ []) d e h = absurd (omega arith)
-pair_tree_is (v ∷ w ∷ []) d e h = absurd (omega arith)
 pair_tree_is (v ∷ w ∷ x ∷ []) d e h = refl
-pair_tree_is (v ∷ w ∷ x ∷ y ∷ vs) d e h = absurd (omega arith)
+pair_tree_is vs d e h = absurd (omega arith)
 
 picked_tree_is : (vs : List Value) (d e : Value) → length vs ≡ 3 → picked_tree (items_view (drop 1 vs)) ≡ option_and_then (λ s. option_map (λ t. (s, t)) (tree_of (json (get_or vs 2 e)))) (as_str (json (get_or vs 1 d)))
-picked_tree_is [] d e h = absurd (omega arith)
-picked_tree_is (v ∷ []) d e h = absurd (omega arith)
-picked_tree_is (v ∷ w ∷ []) d e h = absurd (omega arith)
 picked_tree_is (v ∷ w ∷ x ∷ []) d e h = refl
-picked_tree_is (v ∷ w ∷ x ∷ y ∷ vs) d e h = absurd (omega arith)
+picked_tree_is vs d e h = absurd (omega arith)
 
 -- what a reader of one part answers is what the reader of the whole does
 abbrev pub pair_of : Option Source → Option Source → Option SourceCase
@@ -126,16 +110,12 @@ picked_some vs v w text t u h first second is found used = ap (option_map picked
 -- ---- a list without a name before it
 
 pub two_texts_none : (vs : List Value) → length vs ≢ 2 → None ≡ two_texts (items_view vs)
-two_texts_none [] h = refl
-two_texts_none (v ∷ []) h = refl
 two_texts_none (v ∷ w ∷ []) h = absurd (h refl)
-two_texts_none (v ∷ w ∷ x ∷ vs) h = refl
+two_texts_none vs h = refl
 
 pub no_pair : (vs : List Value) → length vs ≢ 2 → pair_tree (items_view vs) ≡ None
-no_pair [] h = refl
-no_pair (v ∷ []) h = refl
 no_pair (v ∷ w ∷ []) h = absurd (h refl)
-no_pair (v ∷ w ∷ x ∷ vs) h = refl
+no_pair vs h = refl
 
 pub pair_none : (vs : List Value) (v : Value) → length vs ≡ 2 → v ≡ get_or vs 0 v → tree_of (json v) ≡ None → pair_tree (items_view vs) ≡ None
 pair_none vs v h first none = pair_tree_none (v ∷ vs) v (ap suc h) first none

@@ -129,9 +129,3 @@ IsIndexSoFar-next facts entries later i n k f e h noted number next = λ text.
     ∙ ap (λ (j : ℕ). left_from text entries f (suc i) j (drop k facts)) (ap suc next)
     ∙ ap left (sym e)
     ∙ h text
-
-pub IsIndexSoFar-end : (facts : List Fact) (entries : List Entry) (i : ℕ) → drop i facts ≡ [] → IsIndexSoFar facts entries i → IsIndex facts entries
-IsIndexSoFar-end facts entries i e h = λ text.
-    sym (option_or-none (place_of text entries))
-    ∙ ap (λ (l : List Fact). option_or (place_of text entries) (number_from (is_spelled text) (suc i) l)) (sym e)
-    ∙ h text

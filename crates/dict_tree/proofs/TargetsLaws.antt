@@ -40,12 +40,10 @@ second_under d base_at m (Some x) t = (
 )
 
 second_is : (d : Dictionary) (first : Option ℕ) (path : UsePath) (t : ℕ) → (second_target d first path ≡ Some t) ↔ ((f : ℕ) × (first ≡ Some f) × IsSecondTarget d f path t)
-second_is d first (uses.Global n) t = no_second d first t
-second_is d first (uses.Sibling n) t = no_second d first t
-second_is d first (uses.Inner n) t = no_second d first t
 second_is d first (uses.Each n m) t = second_under d (list_base_at d) m first t
 second_is d first (uses.Through n m) t = second_under d (item_base_at d) m first t
 second_is d first (uses.SiblingThrough n m) t = second_under d (item_base_at d) m first t
+second_is d first path t = no_second d first t
 
 pub targets-AreTargets : (d : Dictionary) (fact base : ℕ) (path : UsePath) → AreTargets d fact base path (targets d fact base path)
 targets-AreTargets d fact base path = record {
@@ -93,12 +91,10 @@ first_within d fact base (uses.Through n m) t h = first_is_there d.facts (facts.
 first_within d fact base (uses.SiblingThrough n m) t h = first_is_there d.facts (facts.Member h.0 n) t h.2
 
 second_within : (d : Dictionary) (f : ℕ) (path : UsePath) (t : ℕ) → IsSecondTarget d f path t → IsNumber d.facts t
-second_within d f (uses.Global n) t h = absurd h
-second_within d f (uses.Sibling n) t h = absurd h
-second_within d f (uses.Inner n) t h = absurd h
 second_within d f (uses.Each n m) t h = first_is_there d.facts (facts.Member h.0 m) t h.2
 second_within d f (uses.Through n m) t h = first_is_there d.facts (facts.Member h.0 m) t h.2
 second_within d f (uses.SiblingThrough n m) t h = first_is_there d.facts (facts.Member h.0 m) t h.2
+second_within d f path t h = absurd h
 
 -- where every value is a fact's number, the one that is there is
 each_some : (P : ℕ → Type 0) (o : Option ℕ) → ((t : ℕ) → o ≡ Some t → P t) → IfSome o P

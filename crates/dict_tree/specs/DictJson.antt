@@ -1,5 +1,5 @@
 -- The JSON form of a dictionary, and which part of a value isn't of the form.
-use Rattle.std.specs.Prelude.{◌≡◌, ◌≢◌, ◌⊎◌, ℕ, ◌+◌, Bool, true, false, IsTrue, List, [], ◌∷◌, codes, Option, Some, None}
+use Rattle.std.specs.Prelude.{◌≡◌, ◌≢◌, ◌⊎◌, ℕ, ◌+◌, Bool, true, false, IsTrue, List, [], ◌∷◌, codes, Option, Some, None, Result, Ok, Err}
 use Rattle.std.specs.List.{list_all}
 use Rattle.serde_json.specs.Data.{Data, string, array, Items, no_items, item}
 use Rattle.serde_json.specs.Find.{get}
@@ -7,10 +7,14 @@ use Rattle.fact_paths.specs.Names.{is_name}
 use Rattle.value_text.specs.Enums.{Listed, are_distinct, names_of}
 use Rattle.dict_tree.specs.Facts.{Fact}
 use Rattle.dict_tree.specs.FactJson.{IsObjectOf, IsOptionalText, items_from, SpellsFact}
-use Rattle.dict_tree.specs.DictReading.{enum_keys, top_keys}
-use Rattle.dict_tree.specs.Dictionary.{Dictionary}
+use Rattle.dict_tree.specs.Dictionary.{Dictionary, IsWithinLimits, too_many, too_deep}
+use Rattle.dict_tree.specs.declared.fault.TreeFault.{TreeFault}
+use Rattle.dict_tree.specs.declared.fault.TreeFault.TheVariants as faults
 
 -- ---- enums
+
+abbrev pub enum_keys : List (List ℕ)
+enum_keys = codes "name" ∷ codes "options" ∷ []
 
 -- the value spells the list of options
 pub record SpellsEnum (d : Data) (e : Listed) : Type 0 where
@@ -35,6 +39,9 @@ SpellEnums None es = es ≡ []
 SpellEnums (Some d) es = (items : Items) × (d ≡ array items) × AreSpelled SpellsEnum items es × IsTrue (are_distinct (names_of es))
 
 -- ---- dictionaries
+
+abbrev pub top_keys : List (List ℕ)
+top_keys = codes "version" ∷ codes "facts" ∷ codes "enums" ∷ codes "description" ∷ []
 
 abbrev pub version_text : Bool → List ℕ
 version_text false = codes "1"
@@ -80,3 +87,16 @@ pub record IsWrongFact (d : Data) (number : ℕ) : Type 0 where
 -- The part that isn't of the form: 0 where it lies outside the facts, and else the first fact.
 abbrev pub IsWrongAt : Data → ℕ → Type 0
 IsWrongAt d number = (IsTopWrong d × (number ≡ 0)) ⊎ IsWrongFact d number
+
+-- ---- what a value gives
+
+-- The dictionary that it spells, where that keeps the limits, or the first fault: the part that isn't of the form
+-- before the limits, and what there is too many of before what is too deep.
+abbrev pub ValueGives : Data → Result Dictionary TreeFault → Type 0
+ValueGives d (Ok dict) = SpellsDictionary d dict × IsWithinLimits dict
+ValueGives d (Err (faults.Shape number)) = IsWrongAt d number
+ValueGives d (Err (faults.TooMany what)) = (dict : Dictionary) × SpellsDictionary d dict × (too_many dict ≡ Some what)
+ValueGives d (Err (faults.TooDeep number)) = (dict : Dictionary) × SpellsDictionary d dict × (too_many dict ≡ None) × (too_deep dict ≡ Some number)
+ValueGives d (Err faults.TooLong) = ⊥
+ValueGives d (Err faults.NotJson) = ⊥
+ValueGives d (Err faults.NoMemory) = ⊥

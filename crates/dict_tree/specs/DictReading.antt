@@ -9,6 +9,8 @@ use Rattle.value_text.specs.Enums.{Listed, are_distinct, names_of}
 use Rattle.dict_tree.specs.Facts.{Fact, fact_view}
 use Rattle.dict_tree.specs.FactReading.{has_no_other, text_at, is_optional_text, fact_of}
 use Rattle.dict_tree.specs.Dictionary.{Dictionary, too_many, too_deep}
+use Rattle.dict_tree.specs.Names.{under_name}
+use Rattle.dict_tree.specs.DictJson.{enum_keys, top_keys, ValueGives}
 use Rattle.dict_tree.specs.declared.dict_json.Found.{Found}
 use Rattle.dict_tree.specs.declared.enums_json.EnumSource.{EnumSource}
 use Rattle.dict_tree.specs.declared.fault.TreeFault.{TreeFault}
@@ -22,9 +24,6 @@ listed_view e = record { name = e.name; options = e.options.items }
 abbrev pub name_list : Items → Option (List (List ℕ))
 name_list no_items = Some []
 name_list (item d ds) = option_and_then (λ n. option_map (λ ns. n ∷ ns) (name_list ds)) (option_and_then name_of (as_str d))
-
-abbrev pub enum_keys : List (List ℕ)
-enum_keys = codes "name" ∷ codes "options" ∷ []
 
 -- one or more distinct options
 abbrev pub if_sound : Listed → Option Listed
@@ -67,16 +66,6 @@ Yields view (Err (faults.TooMany n)) read = read ≡ Err (faults.TooMany n)
 Yields view (Err (faults.TooDeep n)) read = read ≡ Err (faults.TooDeep n)
 Yields view (Err faults.NoMemory) read = Unit {0}
 
--- the next step, where the one before found no fault
-infixl 10 ◌>>=◌
-abbrev pub ◌>>=◌ : {A B : Type 0} → Result A TreeFault → (A → Result B TreeFault) → Result B TreeFault
-(Ok x) >>= f = f x
-(Err e) >>= f = Err e
-
-abbrev pub or_fault : {A : Type 0} → TreeFault → Option A → Result A TreeFault
-or_fault e None = Err e
-or_fault e (Some x) = Ok x
-
 -- ---- facts in order, numbered from n
 
 abbrev pub facts_step : ℕ → Option Fact → Result (List Fact) TreeFault → Result (List Fact) TreeFault
@@ -90,12 +79,12 @@ facts_of later n (item d ds) = facts_step n (fact_of later d) (facts_of later (n
 
 -- ---- the whole
 
-abbrev pub top_keys : List (List ℕ)
-top_keys = codes "version" ∷ codes "facts" ∷ codes "enums" ∷ codes "description" ∷ []
+abbrev pub version_names : List (List ℕ × Bool)
+version_names = (codes "1", false) ∷ (codes "2", true) ∷ []
 
 -- whether it is version 2, and not 1
 abbrev pub version_of : List ℕ → Option Bool
-version_of text = if bytes_eq text (codes "1") then Some false else (if bytes_eq text (codes "2") then Some true else None)
+version_of text = under_name text version_names
 
 abbrev pub version_with : Data → Members → Option Bool
 version_with d members =
@@ -115,14 +104,18 @@ few d (Some what) = Err (faults.TooMany what)
 abbrev pub dictionary_with : List Listed → List Fact → Dictionary
 dictionary_with enums facts = record { enums = enums; facts = facts }
 
+abbrev pub with_facts : List Listed → Result (List Fact) TreeFault → Result Dictionary TreeFault
+with_facts enums (Ok facts) = few (dictionary_with enums facts) (too_many (dictionary_with enums facts))
+with_facts enums (Err e) = Err e
+
+-- of the version, the lists and the facts, where each is there
+abbrev pub from_parts : Option Bool → Option (List Listed) → Option Items → Result Dictionary TreeFault
+from_parts (Some later) (Some enums) (Some items) = with_facts enums (facts_of later 1 items)
+from_parts later enums items = Err (faults.Shape 0)
+
 -- the dictionary that the value spells, or the first fault: the shape of all before the limits, and fact 0 first
 unfoldable pub dictionary_of : Data → Result Dictionary TreeFault
-dictionary_of d = do
-  later ← or_fault (faults.Shape 0) (version_in d)
-  enums ← or_fault (faults.Shape 0) (enums_in (get (codes "enums") d))
-  items ← or_fault (faults.Shape 0) (option_and_then as_array (get (codes "facts") d))
-  facts ← facts_of later 1 items
-  few (dictionary_with enums facts) (too_many (dictionary_with enums facts))
+dictionary_of d = from_parts (version_in d) (enums_in (get (codes "enums") d)) (option_and_then as_array (get (codes "facts") d))
 
 -- ---- bytes
 
@@ -134,7 +127,7 @@ max_bytes = 8388608
 
 -- what the value gives, where the bytes are a value
 abbrev pub IsOfValue : List ℕ → Result Dictionary TreeFault → Type 0
-IsOfValue bytes r = (length bytes ≤ max_bytes) × (d : Data) × IsJson bytes d × (dictionary_of d ≡ r)
+IsOfValue bytes r = (length bytes ≤ max_bytes) × (d : Data) × IsJson bytes d × ValueGives d r
 
 -- the dictionary of the bytes, or the first fault
 abbrev pub BytesGive : List ℕ → Result Dictionary TreeFault → Type 0

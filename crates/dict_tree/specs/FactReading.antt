@@ -7,13 +7,10 @@ use Rattle.fact_paths.specs.Reading.{fact_path_of}
 use Rattle.dict_tree.specs.declared.limits_json.LimitName.{LimitName}
 use Rattle.dict_tree.specs.declared.limits_json.LimitName.TheVariants as names
 use Rattle.dict_tree.specs.Tree.{Source, SourceCase}
-use Rattle.dict_tree.specs.Facts.{Fact, Bound, least, greatest, max_length, check}
+use Rattle.dict_tree.specs.Facts.{Fact, Stated, Bound, least, greatest, max_length, check}
+use Rattle.dict_tree.specs.Names.{under_name}
 use Rattle.dict_tree.specs.Reading.{two_texts, pair_tree, tree_of}
-use Rattle.dict_tree.specs.Stating.{writable_stated, derived_stated}
-
-infixl 10 ◌>>=◌
-abbrev pub ◌>>=◌ : {A B : Type 0} → Option A → (A → Option B) → Option B
-o >>= f = option_and_then f o
+use Rattle.dict_tree.specs.StatedReading.{writable_stated, derived_stated}
 
 -- ---- members of an object
 
@@ -34,13 +31,11 @@ is_optional_text (Some d) = is_some (as_str d)
 -- ---- limits
 
 -- `["Min",T]`, `["Max",T]`, `["MaxLength",T]` or `["Check",T]`
+abbrev pub limit_names : List (List ℕ × LimitName)
+limit_names = (codes "Min", names.Min) ∷ (codes "Max", names.Max) ∷ (codes "MaxLength", names.MaxLength) ∷ (codes "Check", names.Check) ∷ []
+
 abbrev pub limit_name : List ℕ → Option LimitName
-limit_name name =
-    if bytes_eq name (codes "Min") then Some names.Min
-    else (if bytes_eq name (codes "Max") then Some names.Max
-    else (if bytes_eq name (codes "MaxLength") then Some names.MaxLength
-    else (if bytes_eq name (codes "Check") then Some names.Check
-    else None)))
+limit_name name = under_name name limit_names
 
 abbrev pub bound_under : LimitName → List ℕ → Bound
 bound_under names.Min text = least text
@@ -62,6 +57,10 @@ limits_in (Some d) = option_and_then limit_list (as_array d)
 
 -- ---- expressions of a fact
 
+-- an expression
+abbrev pub main_in : Option Data → Option (Option Source)
+main_in o = option_map (λ t. Some t) (option_and_then tree_of o)
+
 -- an expression, where there is such a member
 abbrev pub tree_in : Option Data → Option (Option Source)
 tree_in None = Some None
@@ -82,22 +81,17 @@ abbrev pub derived_keys : Bool → List (List ℕ)
 derived_keys false = codes "path" ∷ codes "derived" ∷ codes "is" ∷ codes "placeholder" ∷ codes "description" ∷ []
 derived_keys true = codes "path" ∷ codes "derived" ∷ codes "is" ∷ codes "placeholder" ∷ codes "description" ∷ codes "conditional" ∷ []
 
+-- the fact of these parts, where each is there
+abbrev pub fact_from : Option (List ℕ) → Option (List Bound) → Option (Option Source) → Option (Option SourceCase) → Option (Option Source) → Option Stated → Option Fact
+fact_from (Some text) (Some limits) (Some main) (Some conditional) (Some placeholder) (Some stated) =
+    Some (record { path_text = text; path = fact_path_of text; stated = stated; limits = limits; main = main; conditional = conditional; placeholder = placeholder })
+fact_from text limits main conditional placeholder stated = None
+
 unfoldable pub writable_fact : Data → Option Fact
-writable_fact d = do
-  text ← text_at (codes "path") d
-  limits ← limits_in (get (codes "limits") d)
-  placeholder ← tree_in (get (codes "placeholder") d)
-  stated ← option_and_then writable_stated (text_at (codes "writable") d)
-  Some (record { path_text = text; path = fact_path_of text; stated = stated; limits = limits; main = None; conditional = None; placeholder = placeholder })
+writable_fact d = fact_from (text_at (codes "path") d) (limits_in (get (codes "limits") d)) (Some None) (Some None) (tree_in (get (codes "placeholder") d)) (option_and_then writable_stated (text_at (codes "writable") d))
 
 unfoldable pub derived_fact : Data → Option Fact
-derived_fact d = do
-  text ← text_at (codes "path") d
-  main ← option_and_then tree_of (get (codes "is") d)
-  conditional ← conditional_in (get (codes "conditional") d)
-  placeholder ← tree_in (get (codes "placeholder") d)
-  stated ← option_and_then derived_stated (text_at (codes "derived") d)
-  Some (record { path_text = text; path = fact_path_of text; stated = stated; limits = []; main = Some main; conditional = conditional; placeholder = placeholder })
+derived_fact d = fact_from (text_at (codes "path") d) (Some []) (main_in (get (codes "is") d)) (conditional_in (get (codes "conditional") d)) (tree_in (get (codes "placeholder") d)) (option_and_then derived_stated (text_at (codes "derived") d))
 
 abbrev pub fact_with : Bool → Data → Members → Option Fact
 fact_with later d members =

@@ -12,10 +12,11 @@ pub mod Laws
 pub mod Listing
 pub mod Mentions
 pub mod Names
+pub mod OperandTypes
 pub mod PathIndex
 pub mod PathLaws
 pub mod Reading
-pub mod Stating
+pub mod StatedReading
 pub mod Sources
 pub mod Targets
 pub mod Tree

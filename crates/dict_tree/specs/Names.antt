@@ -1,5 +1,5 @@
 -- The names of nodes.
-use Rattle.std.specs.Prelude.{ℕ, List, codes, Option, Some, None, if◌then◌else◌, bytes_eq}
+use Rattle.std.specs.Prelude.{ℕ, List, [], ◌∷◌, codes, Option, Some, None, if◌then◌else◌, bytes_eq}
 use Rattle.dict_tree.specs.declared.operators.ReadOp.{ReadOp}
 use Rattle.dict_tree.specs.declared.operators.ReadOp.TheVariants as reads
 use Rattle.dict_tree.specs.declared.operators.ManyOp.{ManyOp}
@@ -70,41 +70,50 @@ node_name (names.One op) = one_name op
 node_name (names.Two op) = two_name op
 node_name (names.Pick op) = pick_name op
 
+-- what stands under the name
+abbrev pub under_name : {A : Type 0} → List ℕ → List (List ℕ × A) → Option A
+under_name name [] = None
+under_name name (r ∷ rows) = if bytes_eq name r.0 then Some r.1 else under_name name rows
+
+-- the names of the nodes
+abbrev pub node_names : List (List ℕ × NodeName)
+node_names =
+    (codes "True", names.Constant constants.True)
+    ∷ (codes "False", names.Constant constants.False)
+    ∷ (codes "Int", names.Constant constants.Int)
+    ∷ (codes "Dollar", names.Constant constants.Dollar)
+    ∷ (codes "Rational", names.Constant constants.Rational)
+    ∷ (codes "Day", names.Constant constants.Day)
+    ∷ (codes "Text", names.Constant constants.Text)
+    ∷ (codes "Enum", names.Constant constants.Enum)
+    ∷ (codes "Dependency", names.Read reads.Dependency)
+    ∷ (codes "IsComplete", names.Read reads.IsComplete)
+    ∷ (codes "CollectionSize", names.Read reads.CollectionSize)
+    ∷ (codes "CollectionSum", names.Read reads.CollectionSum)
+    ∷ (codes "Count", names.Read reads.Count)
+    ∷ (codes "Switch", names.Switch)
+    ∷ (codes "All", names.Many manies.All)
+    ∷ (codes "Any", names.Many manies.Any)
+    ∷ (codes "Not", names.One ones.Not)
+    ∷ (codes "Add", names.Many manies.Add)
+    ∷ (codes "Subtract", names.Many manies.Subtract)
+    ∷ (codes "Multiply", names.Two twos.Multiply)
+    ∷ (codes "Divide", names.Two twos.Divide)
+    ∷ (codes "GreaterOf", names.Many manies.GreaterOf)
+    ∷ (codes "LesserOf", names.Many manies.LesserOf)
+    ∷ (codes "Equal", names.Two twos.Equal)
+    ∷ (codes "NotEqual", names.Two twos.NotEqual)
+    ∷ (codes "GreaterThan", names.Two twos.GreaterThan)
+    ∷ (codes "LessThan", names.Two twos.LessThan)
+    ∷ (codes "GreaterThanOrEqual", names.Two twos.GreaterThanOrEqual)
+    ∷ (codes "LessThanOrEqual", names.Two twos.LessThanOrEqual)
+    ∷ (codes "Round", names.One ones.Round)
+    ∷ (codes "YearOf", names.One ones.YearOf)
+    ∷ (codes "AddDays", names.Two twos.AddDays)
+    ∷ (codes "Filter", names.Pick picks.Filter)
+    ∷ (codes "Find", names.Pick picks.Find)
+    ∷ []
+
 -- the node of a name
 abbrev pub node_named : List ℕ → Option NodeName
-node_named name =
-    if bytes_eq name (codes "True") then Some (names.Constant constants.True)
-    else (if bytes_eq name (codes "False") then Some (names.Constant constants.False)
-    else (if bytes_eq name (codes "Int") then Some (names.Constant constants.Int)
-    else (if bytes_eq name (codes "Dollar") then Some (names.Constant constants.Dollar)
-    else (if bytes_eq name (codes "Rational") then Some (names.Constant constants.Rational)
-    else (if bytes_eq name (codes "Day") then Some (names.Constant constants.Day)
-    else (if bytes_eq name (codes "Text") then Some (names.Constant constants.Text)
-    else (if bytes_eq name (codes "Enum") then Some (names.Constant constants.Enum)
-    else (if bytes_eq name (codes "Dependency") then Some (names.Read reads.Dependency)
-    else (if bytes_eq name (codes "IsComplete") then Some (names.Read reads.IsComplete)
-    else (if bytes_eq name (codes "CollectionSize") then Some (names.Read reads.CollectionSize)
-    else (if bytes_eq name (codes "CollectionSum") then Some (names.Read reads.CollectionSum)
-    else (if bytes_eq name (codes "Count") then Some (names.Read reads.Count)
-    else (if bytes_eq name (codes "Switch") then Some names.Switch
-    else (if bytes_eq name (codes "All") then Some (names.Many manies.All)
-    else (if bytes_eq name (codes "Any") then Some (names.Many manies.Any)
-    else (if bytes_eq name (codes "Not") then Some (names.One ones.Not)
-    else (if bytes_eq name (codes "Add") then Some (names.Many manies.Add)
-    else (if bytes_eq name (codes "Subtract") then Some (names.Many manies.Subtract)
-    else (if bytes_eq name (codes "Multiply") then Some (names.Two twos.Multiply)
-    else (if bytes_eq name (codes "Divide") then Some (names.Two twos.Divide)
-    else (if bytes_eq name (codes "GreaterOf") then Some (names.Many manies.GreaterOf)
-    else (if bytes_eq name (codes "LesserOf") then Some (names.Many manies.LesserOf)
-    else (if bytes_eq name (codes "Equal") then Some (names.Two twos.Equal)
-    else (if bytes_eq name (codes "NotEqual") then Some (names.Two twos.NotEqual)
-    else (if bytes_eq name (codes "GreaterThan") then Some (names.Two twos.GreaterThan)
-    else (if bytes_eq name (codes "LessThan") then Some (names.Two twos.LessThan)
-    else (if bytes_eq name (codes "GreaterThanOrEqual") then Some (names.Two twos.GreaterThanOrEqual)
-    else (if bytes_eq name (codes "LessThanOrEqual") then Some (names.Two twos.LessThanOrEqual)
-    else (if bytes_eq name (codes "Round") then Some (names.One ones.Round)
-    else (if bytes_eq name (codes "YearOf") then Some (names.One ones.YearOf)
-    else (if bytes_eq name (codes "AddDays") then Some (names.Two twos.AddDays)
-    else (if bytes_eq name (codes "Filter") then Some (names.Pick picks.Filter)
-    else (if bytes_eq name (codes "Find") then Some (names.Pick picks.Find)
-    else None)))))))))))))))))))))))))))))))))
+node_named name = under_name name node_names

@@ -6,7 +6,7 @@ ghost use Rattle.fact_paths.specs.Reading.{fact_path_of};
 ghost use Rattle.dict_tree.specs.View.{view, box_view, pair_view};
 ghost use Rattle.dict_tree.specs.Facts.{fact_view, stated_view, conditional_view};
 ghost use Rattle.dict_tree.specs.Reading.{Gives, pair_tree, tree_of};
-ghost use Rattle.dict_tree.specs.Stating.{writable_stated, derived_stated};
+ghost use Rattle.dict_tree.specs.StatedReading.{writable_stated, derived_stated};
 ghost use Rattle.dict_tree.specs.FactReading.{conditional_in, derived_keys as keys_of_derived, fact_of, fact_with, has_no_other as only, text_at, tree_in, writable_fact, derived_fact, writable_keys};
 
 use crate::expr::Expr;

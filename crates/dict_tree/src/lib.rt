@@ -11,11 +11,7 @@ mod fact_json;
 mod fact_source;
 mod fault;
 mod finding;
-#[cfg(test)]
-mod json_tests;
 mod laws;
-#[cfg(test)]
-mod limit_tests;
 mod limits;
 mod limits_json;
 mod members;
@@ -25,12 +21,8 @@ mod operators;
 mod path_index;
 mod path_laws;
 mod path_use;
-#[cfg(test)]
-mod source_tests;
 mod stated_json;
 mod targets;
-#[cfg(test)]
-mod worked_texts;
 
 pub use constant::Constant;
 pub use dict_json::read;
@@ -40,7 +32,7 @@ pub use fact_source::{Conditional, FactSource, LimitText, TypeText};
 pub use fault::TreeFault;
 pub use laws::{
     dictionaries_are_spelled, enums_are_spelled, expressions_are_spelled, facts_are_spelled,
-    facts_are_well_formed, limits_are_of_spelled_dictionaries, the_first_wrong_part_is_named,
+    facts_are_well_formed,
 };
 pub use mentions::Mention;
 pub use operators::{ManyOp, OneOp, PickOp, ReadOp, TwoOp};

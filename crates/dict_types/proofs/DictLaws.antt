@@ -1,12 +1,13 @@
 -- What is found of a dictionary is right, or its fault is the first.
 use Rattle.std.proofs.Common.{◌≡◌, ◌≢◌, ℕ, suc, ◌+◌, Bool, true, false, cond, List, [], ◌∷◌, ◌++◌, length, Option, Some, None, option_map, Result, Ok, Err, ◌⊎◌, inl, inr, refl, sym, ap, subst, ◌∙◌}
-use Rattle.std.specs.Prelude.{ok_or, ⊤, IfOk}
+use Rattle.std.specs.Prelude.{ok_or, ⊤, IfErr, IfOk}
 use Rattle.std.specs.Option.{option_or}
 use Rattle.std.proofs.lemmas.Bool.{true≢false}
 use Rattle.std.proofs.lemmas.List.{length-map}
 use Rattle.fact_values.specs.declared.fact_type.FactType.{FactType}
 use Rattle.fact_values.specs.declared.fact_type.FactType.TheVariants.{Boolean}
 use Rattle.dict_tree.specs.Tree.{Source, SourceCase, size}
+use Rattle.dict_tree.specs.OperandTypes.{same_type}
 use Rattle.dict_tree.specs.Typing.{HasType}
 use Rattle.dict_tree.specs.Facts.{Fact, fact_view, option_size, conditional_size}
 use Rattle.dict_tree.specs.Dictionary.{Dictionary, Written, dictionary_view}
@@ -20,26 +21,16 @@ use Rattle.dict_types.specs.DictFaults.{AreKept, AreLimits, AreTypedFacts, HaveW
 use Rattle.dict_types.specs.FactTyping.{conditional_as, expr_as, fact_typed, nodes_as, option_as, root_as, types_in}
 use Rattle.dict_types.specs.Inferring.{◌>>=◌, type_of}
 use Rattle.dict_types.specs.NodeFaults.{SourceTypes}
-use Rattle.dict_types.specs.OperandTypes.{same_type}
 use Rattle.dict_types.specs.Rules.{breaks, fault_of, first_breaking, first_fault as fault_by_rules, rule_order}
 use Rattle.dict_types.specs.StatedTypes.{stated_type}
-use Rattle.dict_types.specs.Typed.{Finds, at_fact, limits_of, or_bad_limit, or_fault, typed_dictionary, typed_fact, typed_facts}
+use Rattle.dict_types.specs.Typed.{Finds, Refuses, at_fact, limits_of, or_bad_limit, or_fault, typed_dictionary, typed_fact, typed_facts}
 use Rattle.dict_types.specs.TypedParts.{TypedFact, TypedDictionary}
 use Rattle.dict_types.proofs.FaultLaws.{first_fault}
 use Rattle.dict_types.proofs.FirstLaws.{first_is_least, none_is_found}
-use Rattle.dict_types.proofs.InferenceLaws.{sound}
-use Rattle.dict_types.proofs.TypeLaws.{same_is, same_itself}
+use Rattle.dict_types.proofs.InferenceLaws.{bind_err, bind_ok, sound}
+use Rattle.dict_tree.proofs.TypeLaws.{same_is, same_itself}
 
 -- ---- results
-
-module _ {A B E : Type 0} where
-  next_ok : (r : Result A E) (f : A → Result B E) (y : B) → (r >>= f) ≡ Ok y → (x : A) × (r ≡ Ok x) × (f x ≡ Ok y)
-  next_ok (Ok x) f y e = (x, refl, e)
-  next_ok (Err d) f y e = absurd cc
-
-  next_err : (r : Result A E) (f : A → Result B E) (m : E) → (r >>= f) ≡ Err m → (r ≡ Err m) ⊎ ((x : A) × (r ≡ Ok x) × (f x ≡ Err m))
-  next_err (Ok x) f m e = inr (x, refl, e)
-  next_err (Err d) f m e = inl cc
 
 abbrev good : {A E : Type 0} → A → Result A E
 good x = Ok x
@@ -122,12 +113,12 @@ module _ (ty : SourceTypes) where
 
   expr_ok : (p : Part) → expr_as ty p.start p.want p.tree ≡ Ok tt → HasType ty 0 p.tree p.want
   expr_ok p e =
-      let k = next_ok (type_of ty p.start 0 p.tree) (λ u. root_as p.start p.want u) tt e in
+      let k = bind_ok (type_of ty p.start 0 p.tree) (λ u. root_as p.start p.want u) tt e in
       subst (HasType ty 0 p.tree) (root_ok (same_type k.0 p.want) p.start p.want k.0 refl k.2) (sound ty p.start 0 p.tree k.0 k.1)
 
   expr_err : (p : Part) (m : ℕ) → expr_as ty p.start p.want p.tree ≡ Err m → IsFaultOf ty p m
   expr_err p m e =
-      elim (next_err (type_of ty p.start 0 p.tree) (λ u. root_as p.start p.want u) m e) [
+      elim (bind_err (type_of ty p.start 0 p.tree) (λ u. root_as p.start p.want u) m e) [
         | inl h ↦ inr (first_fault ty p.start 0 p.tree m h)
         | inr k ↦ let r = root_err (same_type k.0 p.want) p.start m p.want k.0 refl k.2 in
             inl (r.0, k.0, sound ty p.start 0 p.tree k.0 k.1, r.1)
@@ -136,13 +127,13 @@ module _ (ty : SourceTypes) where
   parts_ok : (ps : List Part) → parts_as ps ≡ Ok tt → HaveWanted ty ps
   parts_ok [] e = tt
   parts_ok (p ∷ ps) e =
-      let k = next_ok (expr_as ty p.start p.want p.tree) (λ _. parts_as ps) tt e in
+      let k = bind_ok (expr_as ty p.start p.want p.tree) (λ _. parts_as ps) tt e in
       (expr_ok p k.1, parts_ok ps k.2)
 
   parts_err : (ps : List Part) (m : ℕ) → parts_as ps ≡ Err m → IsFirstOf ty ps m
   parts_err [] m e = absurd cc
   parts_err (p ∷ ps) m e =
-      elim (next_err (expr_as ty p.start p.want p.tree) (λ _. parts_as ps) m e) [
+      elim (bind_err (expr_as ty p.start p.want p.tree) (λ _. parts_as ps) m e) [
         | inl h ↦ inl (expr_err p m h)
         | inr k ↦ inr (expr_ok p k.1, parts_err ps m k.2)
       ]
@@ -151,8 +142,8 @@ module _ (ty : SourceTypes) where
 
 fact_ok : (d : Dictionary) (n : ℕ) (f : Fact) (t : FactType) → fact_typed d n f ≡ Ok t → IsTypedFact d n f t
 fact_ok d n f t e =
-    let want = next_ok (ok_or {E = ℕ} (stated_type d f) 0) (λ w. nodes_as (types_in d n) w f >>= λ _. Ok w) t e in
-    let all = next_ok (nodes_as (types_in d n) want.0 f) (λ _. Ok want.0) t want.2 in
+    let want = bind_ok (ok_or {E = ℕ} (stated_type d f) 0) (λ w. nodes_as (types_in d n) w f >>= λ _. Ok w) t e in
+    let all = bind_ok (nodes_as (types_in d n) want.0 f) (λ _. Ok want.0) t want.2 in
     let same : want.0 ≡ t = goods want.0 t all.2 in
     let has = parts_ok (types_in d n) (fact_parts want.0 f) (sym (nodes_are (types_in d n) want.0 f) ∙ all.1) in
     subst (IsTypedFact d n f) same (stated (stated_type d f) want.0 want.1, has)
@@ -167,7 +158,7 @@ fact_err d n f m e = by (stated_type d f) refl e
     by : (o : Option FactType) → stated_type d f ≡ o → (ok_or {E = ℕ} o 0 >>= λ w. nodes_as (types_in d n) w f >>= λ _. good w) ≡ Err m → IsFirstNode d n f m
     by None s h = inl ((let k : m ≡ 0 = cc in k), s)
     by (Some w) s h =
-        elim (next_err (nodes_as (types_in d n) w f) (λ _. good w) m h) [
+        elim (bind_err (nodes_as (types_in d n) w f) (λ _. good w) m h) [
           | inl k ↦ inr (w, s, parts_err (types_in d n) (fact_parts w f) m (sym (nodes_are (types_in d n) w f) ∙ k))
           | inr k ↦ absurd (let z : good w ≡ Err m = k.2 in cc)
         ]
@@ -185,14 +176,14 @@ kept d f t = record { stated = t; constants = fact_values d.enums f }
 
 typed_ok : (d : Dictionary) (n : ℕ) (f : Fact) (t : TypedFact) → typed_fact d n f ≡ Ok t → IsTypedFact d n f t.stated × (t.constants ≡ fact_values d.enums f)
 typed_ok d n f t e =
-    let k = next_ok (at_fact n (fact_typed d n f)) (λ u. Ok (kept d f u)) t e in
+    let k = bind_ok (at_fact n (fact_typed d n f)) (λ u. Ok (kept d f u)) t e in
     let same : kept d f k.0 ≡ t = goods (kept d f k.0) t k.2 in
     let has = fact_ok d n f k.0 (at_ok n (fact_typed d n f) k.0 k.1) in
     (subst (λ (u : TypedFact). IsTypedFact d n f u.stated) same has, sym (ap (λ (u : TypedFact). u.constants) same))
 
 typed_err : (d : Dictionary) (n : ℕ) (f : Fact) (fault : TypeFault) → typed_fact d n f ≡ Err fault → (m : ℕ) × (fault ≡ faults.IllTyped n m) × IsFirstNode d n f m
 typed_err d n f fault e =
-    elim (next_err (at_fact n (fact_typed d n f)) (λ u. Ok (kept d f u)) fault e) [
+    elim (bind_err (at_fact n (fact_typed d n f)) (λ u. Ok (kept d f u)) fault e) [
       | inl h ↦ let k = at_err n (fact_typed d n f) fault h in (k.0, k.1, fact_err d n f k.0 k.2)
       | inr k ↦ absurd (let z : good (kept d f k.0) ≡ Err fault = k.2 in cc)
     ]
@@ -202,17 +193,17 @@ typed_err d n f fault e =
 facts_ok : (d : Dictionary) (n : ℕ) (fs : List Fact) (ts : List TypedFact) → typed_facts d n fs ≡ Ok ts → AreTypedFacts d n fs ts
 facts_ok d n [] ts e = subst (AreTypedFacts d n []) (goods [] ts e) tt
 facts_ok d n (f ∷ fs) ts e =
-    let k = next_ok (typed_fact d n f) (λ t. typed_facts d (suc n) fs >>= λ us. Ok (t ∷ us)) ts e in
-    let l = next_ok (typed_facts d (suc n) fs) (λ us. Ok (k.0 ∷ us)) ts k.2 in
+    let k = bind_ok (typed_fact d n f) (λ t. typed_facts d (suc n) fs >>= λ us. Ok (t ∷ us)) ts e in
+    let l = bind_ok (typed_facts d (suc n) fs) (λ us. Ok (k.0 ∷ us)) ts k.2 in
     let has = typed_ok d n f k.0 k.1 in
     subst (AreTypedFacts d n (f ∷ fs)) (goods (k.0 ∷ l.0) ts l.2) (has.0, has.1, facts_ok d (suc n) fs l.0 l.1)
 
 facts_err : (d : Dictionary) (n : ℕ) (fs : List Fact) (fault : TypeFault) → typed_facts d n fs ≡ Err fault → IsFirstIllTyped d n fs fault
 facts_err d n [] fault e = absurd cc
 facts_err d n (f ∷ fs) fault e =
-    elim (next_err (typed_fact d n f) (λ t. typed_facts d (suc n) fs >>= λ us. Ok (t ∷ us)) fault e) [
+    elim (bind_err (typed_fact d n f) (λ t. typed_facts d (suc n) fs >>= λ us. Ok (t ∷ us)) fault e) [
       | inl h ↦ inl (typed_err d n f fault h)
-      | inr k ↦ elim (next_err (typed_facts d (suc n) fs) (λ us. Ok (k.0 ∷ us)) fault k.2) [
+      | inr k ↦ elim (bind_err (typed_facts d (suc n) fs) (λ us. Ok (k.0 ∷ us)) fault k.2) [
         | inl h ↦ inr (k.0.stated, (typed_ok d n f k.0 k.1).0, facts_err d (suc n) fs fault h)
         | inr l ↦ absurd (let z : good (k.0 ∷ l.0) ≡ Err fault = l.2 in cc)
       ]
@@ -229,16 +220,16 @@ or_bad_err n (Some l) fault e = absurd cc
 limits_ok : (names : List (List ℕ)) (d : Dictionary) (n : ℕ) (fs : List Fact) (ls : List (List Limit)) → limits_of names d n fs ≡ Ok ls → AreLimits names d fs ls
 limits_ok names d n [] ls e = subst (AreLimits names d []) (goods [] ls e) tt
 limits_ok names d n (f ∷ fs) ls e =
-    let k = next_ok (or_bad_limit n (fact_limits names d.enums f)) (λ l. limits_of names d (suc n) fs >>= λ ms. Ok (l ∷ ms)) ls e in
-    let m = next_ok (limits_of names d (suc n) fs) (λ ms. Ok (k.0 ∷ ms)) ls k.2 in
+    let k = bind_ok (or_bad_limit n (fact_limits names d.enums f)) (λ l. limits_of names d (suc n) fs >>= λ ms. Ok (l ∷ ms)) ls e in
+    let m = bind_ok (limits_of names d (suc n) fs) (λ ms. Ok (k.0 ∷ ms)) ls k.2 in
     subst (AreLimits names d (f ∷ fs)) (goods (k.0 ∷ m.0) ls m.2) (or_bad_ok n (fact_limits names d.enums f) k.0 k.1, limits_ok names d (suc n) fs m.0 m.1)
 
 limits_err : (names : List (List ℕ)) (d : Dictionary) (n : ℕ) (fs : List Fact) (fault : TypeFault) → limits_of names d n fs ≡ Err fault → IsFirstBadLimit names d n fs fault
 limits_err names d n [] fault e = absurd cc
 limits_err names d n (f ∷ fs) fault e =
-    elim (next_err (or_bad_limit n (fact_limits names d.enums f)) (λ l. limits_of names d (suc n) fs >>= λ ms. Ok (l ∷ ms)) fault e) [
+    elim (bind_err (or_bad_limit n (fact_limits names d.enums f)) (λ l. limits_of names d (suc n) fs >>= λ ms. Ok (l ∷ ms)) fault e) [
       | inl h ↦ inl (or_bad_err n (fact_limits names d.enums f) fault h)
-      | inr k ↦ elim (next_err (limits_of names d (suc n) fs) (λ ms. Ok (k.0 ∷ ms)) fault k.2) [
+      | inr k ↦ elim (bind_err (limits_of names d (suc n) fs) (λ ms. Ok (k.0 ∷ ms)) fault k.2) [
         | inl h ↦ inr (k.0, or_bad_ok n (fact_limits names d.enums f) k.0 k.1, limits_err names d (suc n) fs fault h)
         | inr l ↦ absurd (let z : good (k.0 ∷ l.0) ≡ Err fault = l.2 in cc)
       ]
@@ -259,20 +250,20 @@ found fs ls = record { facts = fs; limits = ls }
 
 pub typed_is_well_typed : (d : Dictionary) (names : List (List ℕ)) (t : TypedDictionary) → typed_dictionary d names ≡ Ok t → IsTypedDictionary d names t
 typed_is_well_typed d names t e =
-    let a = next_ok (or_fault (fault_by_rules d names rule_order)) (λ _. typed_facts d 1 d.facts >>= λ fs. limits_of names d 1 d.facts >>= λ ls. Ok (found fs ls)) t e in
-    let b = next_ok (typed_facts d 1 d.facts) (λ fs. limits_of names d 1 d.facts >>= λ ls. Ok (found fs ls)) t a.2 in
-    let c = next_ok (limits_of names d 1 d.facts) (λ ls. Ok (found b.0 ls)) t b.2 in
+    let a = bind_ok (or_fault (fault_by_rules d names rule_order)) (λ _. typed_facts d 1 d.facts >>= λ fs. limits_of names d 1 d.facts >>= λ ls. Ok (found fs ls)) t e in
+    let b = bind_ok (typed_facts d 1 d.facts) (λ fs. limits_of names d 1 d.facts >>= λ ls. Ok (found fs ls)) t a.2 in
+    let c = bind_ok (limits_of names d 1 d.facts) (λ ls. Ok (found b.0 ls)) t b.2 in
     subst (IsTypedDictionary d names) (goods (found b.0 c.0) t c.2)
     (are_kept d names rule_order (or_ok (fault_by_rules d names rule_order) a.1), facts_ok d 1 d.facts b.0 b.1, limits_ok names d 1 d.facts c.0 c.1)
 
 pub fault_is_first : (d : Dictionary) (names : List (List ℕ)) (fault : TypeFault) → typed_dictionary d names ≡ Err fault → IsFirstFault d names fault
 fault_is_first d names fault e =
-    elim (next_err (or_fault (fault_by_rules d names rule_order)) (λ _. typed_facts d 1 d.facts >>= λ fs. limits_of names d 1 d.facts >>= λ ls. Ok (found fs ls)) fault e) [
+    elim (bind_err (or_fault (fault_by_rules d names rule_order)) (λ _. typed_facts d 1 d.facts >>= λ fs. limits_of names d 1 d.facts >>= λ ls. Ok (found fs ls)) fault e) [
       | inl h ↦ inl (is_first_broken d names rule_order fault (or_err (fault_by_rules d names rule_order) fault h))
       | inr a ↦ let all = are_kept d names rule_order (or_ok (fault_by_rules d names rule_order) a.1) in
-          elim (next_err (typed_facts d 1 d.facts) (λ fs. limits_of names d 1 d.facts >>= λ ls. Ok (found fs ls)) fault a.2) [
+          elim (bind_err (typed_facts d 1 d.facts) (λ fs. limits_of names d 1 d.facts >>= λ ls. Ok (found fs ls)) fault a.2) [
             | inl h ↦ inr (inl (all, facts_err d 1 d.facts fault h))
-            | inr b ↦ elim (next_err (limits_of names d 1 d.facts) (λ ls. Ok (found b.0 ls)) fault b.2) [
+            | inr b ↦ elim (bind_err (limits_of names d 1 d.facts) (λ ls. Ok (found b.0 ls)) fault b.2) [
               | inl h ↦ inr (inr (all, b.0, facts_ok d 1 d.facts b.0 b.1, limits_err names d 1 d.facts fault h))
               | inr c ↦ absurd (let z : good (found b.0 c.0) ≡ Err fault = c.2 in cc)
             ]
@@ -281,27 +272,41 @@ fault_is_first d names fault e =
 
 -- ---- how many they are
 
-facts_length : (d : Dictionary) (n : ℕ) (fs : List Fact) (ts : List TypedFact) → AreTypedFacts d n fs ts → length ts ≡ length fs
+pub facts_length : (d : Dictionary) (n : ℕ) (fs : List Fact) (ts : List TypedFact) → AreTypedFacts d n fs ts → length ts ≡ length fs
 facts_length d n [] [] h = refl
 facts_length d n [] (t ∷ ts) h = absurd h
 facts_length d n (f ∷ fs) [] h = absurd h
 facts_length d n (f ∷ fs) (t ∷ ts) h = ap suc (facts_length d (suc n) fs ts h.2)
 
-limits_length : (names : List (List ℕ)) (d : Dictionary) (fs : List Fact) (ls : List (List Limit)) → AreLimits names d fs ls → length ls ≡ length fs
+pub limits_length : (names : List (List ℕ)) (d : Dictionary) (fs : List Fact) (ls : List (List Limit)) → AreLimits names d fs ls → length ls ≡ length fs
 limits_length names d [] [] h = refl
 limits_length names d [] (l ∷ ls) h = absurd h
 limits_length names d (f ∷ fs) [] h = absurd h
 limits_length names d (f ∷ fs) (l ∷ ls) h = ap suc (limits_length names d fs ls h.1)
 
-pub typed_counts : (d : Dictionary) (names : List (List ℕ)) (t : TypedDictionary) → typed_dictionary d names ≡ Ok t → (length t.facts ≡ length d.facts) × (length t.limits ≡ length d.facts)
-typed_counts d names t e =
-    let h = typed_is_well_typed d names t e in
-    (facts_length d 1 d.facts t.facts h.1, limits_length names d d.facts t.limits h.2)
+abbrev Found : Written → List (List ℕ) → Result TypedDictionary TypeFault → Type 0
+Found w names r = Finds (λ t. t) (typed_dictionary (dictionary_view w) names) r
 
-pub found_facts : (w : Written) (names : List (List ℕ)) (r : Result TypedDictionary TypeFault) → Finds (λ t. t) (typed_dictionary (dictionary_view w) names) r → IfOk r (λ t. length t.facts ≡ length w.facts)
-found_facts w names (Ok t) h = (typed_counts (dictionary_view w) names t h).0 ∙ length-map w.facts fact_view
+pub found_typed : (w : Written) (names : List (List ℕ)) (r : Result TypedDictionary TypeFault) → Found w names r → IfOk r (IsTypedDictionary (dictionary_view w) names)
+found_typed w names (Ok t) h = typed_is_well_typed (dictionary_view w) names t h
+found_typed w names (Err e) h = tt
+
+pub found_refused : (w : Written) (names : List (List ℕ)) (r : Result TypedDictionary TypeFault) → Found w names r → IfErr r (Refuses (IsFirstFault (dictionary_view w) names))
+found_refused w names (Ok t) h = tt
+found_refused w names (Err faults.NoMemory) h = tt
+found_refused w names (Err (faults.BadPath n)) h = fault_is_first (dictionary_view w) names (faults.BadPath n) h
+found_refused w names (Err (faults.DuplicatePath n)) h = fault_is_first (dictionary_view w) names (faults.DuplicatePath n) h
+found_refused w names (Err (faults.NoCollection n)) h = fault_is_first (dictionary_view w) names (faults.NoCollection n) h
+found_refused w names (Err (faults.UnknownPath n)) h = fault_is_first (dictionary_view w) names (faults.UnknownPath n) h
+found_refused w names (Err (faults.WrongPlace n)) h = fault_is_first (dictionary_view w) names (faults.WrongPlace n) h
+found_refused w names (Err (faults.UnknownCheck n)) h = fault_is_first (dictionary_view w) names (faults.UnknownCheck n) h
+found_refused w names (Err (faults.IllTyped n node)) h = fault_is_first (dictionary_view w) names (faults.IllTyped n node) h
+found_refused w names (Err (faults.BadLimit n)) h = fault_is_first (dictionary_view w) names (faults.BadLimit n) h
+
+pub found_facts : (w : Written) (names : List (List ℕ)) (r : Result TypedDictionary TypeFault) → Found w names r → IfOk r (λ t. length t.facts ≡ length w.facts)
+found_facts w names (Ok t) h = facts_length (dictionary_view w) 1 (dictionary_view w).facts t.facts (typed_is_well_typed (dictionary_view w) names t h).1 ∙ length-map w.facts fact_view
 found_facts w names (Err e) h = tt
 
-pub found_limits : (w : Written) (names : List (List ℕ)) (r : Result TypedDictionary TypeFault) → Finds (λ t. t) (typed_dictionary (dictionary_view w) names) r → IfOk r (λ t. length t.limits ≡ length w.facts)
-found_limits w names (Ok t) h = (typed_counts (dictionary_view w) names t h).1 ∙ length-map w.facts fact_view
+pub found_limits : (w : Written) (names : List (List ℕ)) (r : Result TypedDictionary TypeFault) → Found w names r → IfOk r (λ t. length t.limits ≡ length w.facts)
+found_limits w names (Ok t) h = limits_length names (dictionary_view w) (dictionary_view w).facts t.limits (typed_is_well_typed (dictionary_view w) names t h).2 ∙ length-map w.facts fact_view
 found_limits w names (Err e) h = tt

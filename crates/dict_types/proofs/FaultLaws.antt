@@ -3,12 +3,13 @@ use Rattle.std.proofs.Common.{◌≡◌, ℕ, zero, suc, ◌+◌, List, [], ◌�
 use Rattle.std.specs.Prelude.{unwrap_or}
 use Rattle.fact_values.specs.declared.fact_type.FactType.{FactType}
 use Rattle.fact_values.specs.declared.fact_type.FactType.TheVariants.{Boolean}
+use Rattle.dict_tree.specs.OperandTypes.{many_type, one_type, two_type}
 use Rattle.dict_tree.specs.Tree.{Tree, literal, read, switch, many, one, two, pick, Trees, no_trees, tree, Cases, no_cases, a_case, size, size_of_trees, size_of_cases}
 use Rattle.dict_tree.specs.Typing.{Types, HasType, HaveTypes, HaveCaseTypes}
 use Rattle.dict_types.specs.declared.operand_types.CaseType.{CaseType}
 use Rattle.dict_types.specs.Inferring.{◌>>=◌, or_fault, type_of, types_of, case_types}
 use Rattle.dict_types.specs.NodeFaults.{inner_base, IsTyped, AreTyped, CasesTyped, OperandsTyped, Placed, IsAtFault, placed, placed_trees, placed_cases, FirstIn}
-use Rattle.dict_types.specs.OperandTypes.{many_type, one_type, picked_type, switch_type, two_type}
+use Rattle.dict_types.specs.CaseTypes.{picked_type, switch_type}
 use Rattle.dict_types.proofs.InferenceLaws.{bind_err, or_err, done, EachCase, sound, sounds, case_sound, complete}
 
 -- ---- lists

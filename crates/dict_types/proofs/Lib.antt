@@ -1,12 +1,13 @@
-pub mod DictExamples
 pub mod DictLaws
 pub mod FaultLaws
 pub mod FirstLaws
 pub mod FoundLaws
 pub mod InferenceLaws
 pub mod LimitLaws
-pub mod OperandLaws
 pub mod PlaceLaws
+pub mod ReadLaws
+pub mod RuleLaws
 pub mod SizeLaws
-pub mod TypeLaws
+pub mod UnfitLaws
+pub mod UseLaws
 pub mod ValueLaws

@@ -1,6 +1,6 @@
 -- The limits of a fact, and whether they fit it.
-use Rattle.std.specs.Prelude.{◌≡◌, ℕ, ℤ, pos, negsuc, Bool, true, false, ◌||◌, nat_le, nat_lt, List, [], ◌∷◌, Option, Some, None, option_map, option_and_then, unwrap_or, Result, Ok, Err, if◌then◌else◌}
-use Rattle.std.specs.List.{list_any}
+use Rattle.std.specs.Prelude.{◌≡◌, ◌⊎◌, ◌≤◌, ℕ, ℤ, pos, negsuc, Bool, true, false, ◌||◌, IsTrue, nat_le, nat_lt, List, [], ◌∷◌, Option, Some, None, option_map, option_and_then, unwrap_or, Result, Ok, Err, if◌then◌else◌}
+use Rattle.std.specs.List.{Any, list_any}
 use Rattle.fact_values.specs.declared.fact_type.FactType.{FactType}
 use Rattle.fact_values.specs.declared.fact_type.FactType.TheVariants as types
 use Rattle.fact_values.specs.declared.value.Value.{Value}
@@ -8,6 +8,7 @@ use Rattle.fact_values.specs.declared.value.Value.TheVariants as values
 use Rattle.value_text.specs.Enums.{Listed}
 use Rattle.value_text.specs.Values.{value_at}
 use Rattle.dict_tree.specs.Facts.{Fact, Stated, scalar, enum_of, writable_list, list_of, item_of, Bound, least, greatest, max_length, check}
+use Rattle.dict_tree.specs.Typing.{IsOrdered}
 use Rattle.dict_types.specs.declared.limit.Limit.{Limit}
 use Rattle.dict_types.specs.declared.limit.Limit.TheVariants as limits
 use Rattle.dict_types.specs.declared.bad_limit.LimitFault.{LimitFault}
@@ -106,6 +107,26 @@ has_twice (b ∷ bs) = list_any (is_again b) bs || has_twice bs
 -- the limits of a fact: none where one doesn't fit or stands twice
 abbrev pub fact_limits : List (List ℕ) → List Listed → Fact → Option (List Limit)
 fact_limits names enums f = if has_twice f.limits then None else limits_at names enums f.stated f.limits
+
+-- ---- the rule in its own words
+
+-- the text is a value of a type whose values have an order
+abbrev pub IsBoundOf : List Listed → Stated → List ℕ → Type 0
+IsBoundOf enums stated text = (t : FactType) × (v : Value) × (stated ≡ scalar t) × IsOrdered t × (value_at enums t text ≡ Some v)
+
+-- a length stands on a Text alone, and is a whole number from 0 to 1,000
+abbrev pub IsLengthOf : List Listed → Stated → List ℕ → Type 0
+IsLengthOf enums stated text = (n : ℕ) × (stated ≡ scalar types.Text) × (value_at enums types.Int text ≡ Some (values.Int (pos n))) × (n ≤ 1000)
+
+abbrev pub Fits : List Listed → Stated → Bound → Type 0
+Fits enums stated (least text) = IsBoundOf enums stated text
+Fits enums stated (greatest text) = IsBoundOf enums stated text
+Fits enums stated (max_length text) = IsLengthOf enums stated text
+Fits enums stated (check name) = stated ≡ scalar types.Text
+
+-- some limit doesn't fit, or Min, Max or MaxLength stands twice
+abbrev pub HasBadLimit : List Listed → Fact → Type 0
+HasBadLimit enums f = IsTrue (has_twice f.limits) ⊎ Any (λ b. ¬ Fits enums f.stated b) f.limits
 
 -- the answer is what is wanted, and BadLimit where that is none; want of memory says nothing
 abbrev pub Gives : {X Y : Type 0} → (X → Y) → Option Y → Result X LimitFault → Type 0

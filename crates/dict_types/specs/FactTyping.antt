@@ -1,5 +1,5 @@
 -- The types of the nodes of a dictionary's facts, and the first fault among them.
-use Rattle.std.specs.Prelude.{◌≡◌, ℕ, suc, ◌+◌, ◌==◌, Bool, List, [], ◌∷◌, Option, Some, None, Result, Ok, Err, ok_or, option_and_then, if◌then◌else◌, ⊤}
+use Rattle.std.specs.Prelude.{◌≡◌, ◌↔◌, ℕ, suc, ◌+◌, ◌==◌, Bool, List, [], ◌∷◌, Option, Some, None, Result, Ok, Err, ok_or, option_and_then, if◌then◌else◌, ⊤}
 use Rattle.fact_paths.specs.declared.use_path.UsePath.{UsePath}
 use Rattle.fact_paths.specs.declared.use_path.UsePath.TheVariants as uses
 use Rattle.fact_values.specs.declared.fact_type.FactType.{FactType}
@@ -12,10 +12,10 @@ use Rattle.dict_tree.specs.Facts.{Fact, option_size, conditional_size}
 use Rattle.dict_tree.specs.Dictionary.{Dictionary}
 use Rattle.dict_tree.specs.Targets.{targets}
 use Rattle.dict_tree.specs.Mentions.{condition_base}
-use Rattle.dict_tree.specs.Typing.{Types}
+use Rattle.dict_tree.specs.OperandTypes.{same_type}
+use Rattle.dict_tree.specs.Typing.{ReadType, Types}
 use Rattle.dict_types.specs.Constants.{literal_type}
 use Rattle.dict_types.specs.Inferring.{◌>>=◌, type_of}
-use Rattle.dict_types.specs.OperandTypes.{same_type}
 use Rattle.dict_types.specs.StatedTypes.{stated_type, type_at}
 
 -- ---- reads
@@ -57,6 +57,21 @@ target_type d op (Some n) = read_type op (type_at d n)
 abbrev pub path_type : Dictionary → ℕ → ℕ → ReadOp → Option UsePath → Option FactType
 path_type d fact base op None = None
 path_type d fact base op (Some path) = target_type d op (last_target path (targets d fact base path))
+
+-- ---- the same by the rules of reads
+
+-- from the type of the fact that is read, where it has one; IsComplete may read any fact
+abbrev pub ReadsAs : ReadOp → Option FactType → FactType → Type 0
+ReadsAs reads.IsComplete o t = t ≡ types.Boolean
+ReadsAs op o t = (u : FactType) × (o ≡ Some u) × ReadType op u t
+
+-- the path's last target is a fact
+abbrev pub PathReadsAs : Dictionary → ℕ → ℕ → ReadOp → Option UsePath → FactType → Type 0
+PathReadsAs d fact base op path t = (p : UsePath) × (n : ℕ) × (path ≡ Some p) × (last_target p (targets d fact base p) ≡ Some n) × ReadsAs op (type_at d n) t
+
+-- a law: a node that reads a path has exactly the type by the rules
+abbrev pub ReadsAreByRule : Type 0
+ReadsAreByRule = (d : Dictionary) (fact base : ℕ) (op : ReadOp) (path : Option UsePath) (t : FactType) → (path_type d fact base op path ≡ Some t) ↔ PathReadsAs d fact base op path t
 
 -- ---- what a fact's expressions are made of
 

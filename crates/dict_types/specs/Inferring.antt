@@ -1,12 +1,13 @@
 -- Types from below, with the number of the first node at fault. A node's number is counted in preorder.
 use Rattle.std.specs.Prelude.{◌≡◌, ℕ, suc, ◌+◌, List, [], ◌∷◌, Option, Some, None, Result, Ok, Err, unwrap_or, ⊤}
 use Rattle.fact_values.specs.declared.fact_type.FactType.{FactType}
+use Rattle.dict_tree.specs.OperandTypes.{many_type, one_type, two_type}
 use Rattle.dict_tree.specs.Tree.{Tree, literal, read, switch, many, one, two, pick, Trees, no_trees, tree, Cases, no_cases, a_case, size}
 use Rattle.dict_tree.specs.Typing.{Types}
 use Rattle.dict_types.specs.declared.node_fault.NodeFault.{NodeFault}
 use Rattle.dict_types.specs.declared.node_fault.NodeFault.TheVariants as faults
 use Rattle.dict_types.specs.declared.operand_types.CaseType.{CaseType}
-use Rattle.dict_types.specs.OperandTypes.{many_type, one_type, two_type, switch_type, picked_type}
+use Rattle.dict_types.specs.CaseTypes.{picked_type, switch_type}
 
 infixl 10 ◌>>=◌
 -- what follows a result; the first fault stays

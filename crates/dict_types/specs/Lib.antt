@@ -1,5 +1,6 @@
 pub mod BadLimit
 pub mod BadPath
+pub mod CaseTypes
 pub mod Constants
 pub mod DictFaults
 pub mod DuplicatePath
@@ -8,7 +9,7 @@ pub mod FirstFact
 pub mod Inferring
 pub mod NoCollection
 pub mod NodeFaults
-pub mod OperandTypes
+pub mod RuleWords
 pub mod Rules
 pub mod StatedTypes
 pub mod Typed

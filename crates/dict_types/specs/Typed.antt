@@ -63,6 +63,11 @@ abbrev pub typed_dictionary : Dictionary → List (List ℕ) → Result TypedDic
 typed_dictionary d names =
     or_fault (first_fault d names rule_order) >>= λ _. typed_facts d 1 d.facts >>= λ fs. limits_of names d 1 d.facts >>= λ ls. Ok (record { facts = fs; limits = ls })
 
+-- the fault is right, save want of memory, which says nothing
+abbrev pub Refuses : (TypeFault → Type 0) → TypeFault → Type 0
+Refuses is_fault faults.NoMemory = Unit {0}
+Refuses is_fault fault = is_fault fault
+
 -- the answer is what is found, and so is its fault; want of memory says nothing
 abbrev pub Finds : {X Y : Type 0} → (X → Y) → Result Y TypeFault → Result X TypeFault → Type 0
 Finds view found (Ok x) = found ≡ Ok (view x)

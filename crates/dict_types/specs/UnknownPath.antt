@@ -1,5 +1,6 @@
 -- A use path in its place that names no fact.
-use Rattle.std.specs.Prelude.{ℕ, Bool, true, false, not, ◌&&◌, ◌||◌, ◌==◌, Option, Some, None, is_some, is_none, option_and_then}
+use Rattle.std.specs.Prelude.{◌≡◌, ◌⊎◌, ℕ, Bool, true, false, not, ◌&&◌, ◌||◌, ◌==◌, IsTrue, Option, Some, None, is_some, is_none, option_and_then}
+use Rattle.std.specs.List.{Any}
 use Rattle.fact_paths.specs.declared.use_path.UsePath.{UsePath}
 use Rattle.fact_paths.specs.declared.use_path.UsePath.TheVariants as uses
 use Rattle.dict_tree.specs.Tree.{Use}
@@ -8,7 +9,7 @@ use Rattle.dict_tree.specs.Dictionary.{Dictionary}
 use Rattle.dict_tree.specs.Targets.{list_base_at, item_base_at, targets}
 use Rattle.dict_tree.specs.declared.targets.Targets.{Targets}
 use Rattle.dict_types.specs.declared.reader.Reader.{Reader}
-use Rattle.dict_types.specs.Uses.{Condition, base_of, fact_has_use}
+use Rattle.dict_types.specs.Uses.{Condition, UseAt, base_of, fact_has_use, fact_uses}
 use Rattle.dict_types.specs.WrongPlace.{is_in_place}
 
 -- the first target is judged, save that of `N` under a condition whose base isn't known
@@ -43,3 +44,16 @@ is_unknown_use d n reader c u = is_unknown_path d n reader c u.path
 -- a use path in its place has a target that is no fact
 abbrev pub has_unknown_path : Dictionary → ℕ → Fact → Bool
 has_unknown_path d n f = fact_has_use (is_unknown_use d n) d n f
+
+-- ---- the rule in its own words
+
+-- a target of the use's path is judged, and is no fact
+abbrev pub LacksTarget : Dictionary → UsePath → Condition → Targets → Type 0
+LacksTarget d path c t = (IsTrue (is_judged path c) × (t.first ≡ None)) ⊎ (IsTrue (is_second_judged d path t.first) × (t.second ≡ None))
+
+-- the use's path stands in its place
+abbrev pub IsUnknown : Dictionary → ℕ → UseAt → Type 0
+IsUnknown d n u = (path : UsePath) × (u.used.path ≡ Some path) × IsTrue (is_in_place d n u.reader u.condition path) × LacksTarget d path u.condition (targets d n (base_of u.condition) path)
+
+abbrev pub NamesNoFact : Dictionary → ℕ → Fact → Type 0
+NamesNoFact d n f = Any (IsUnknown d n) (fact_uses d n f)

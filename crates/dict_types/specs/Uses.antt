@@ -1,5 +1,5 @@
 -- The uses of paths in a fact, each with what reads it, and with the condition that it stands under.
-use Rattle.std.specs.Prelude.{ℕ, Bool, true, false, ◌||◌, Option, Some, None, unwrap_or}
+use Rattle.std.specs.Prelude.{ℕ, Bool, true, false, ◌||◌, List, [], ◌∷◌, ◌++◌, Option, Some, None, unwrap_or}
 use Rattle.dict_tree.specs.declared.operators.ReadOp.{ReadOp}
 use Rattle.dict_tree.specs.declared.operators.ReadOp.TheVariants as reads
 use Rattle.dict_tree.specs.Tree.{Use, Source, Sources, SourceCase, SourceCases, literal, read, switch, many, one, two, pick, no_trees, tree, no_cases, a_case}
@@ -91,3 +91,45 @@ conditional_has_use test d fact (Some c) = has_use test d fact None c.0 || has_u
 -- whether a use in the main expression, in the conditional or in the placeholder passes the test
 abbrev pub fact_has_use : UseTest → Dictionary → ℕ → Fact → Bool
 fact_has_use test d fact f = option_has_use test d fact f.main || (conditional_has_use test d fact f.conditional || option_has_use test d fact f.placeholder)
+
+-- ---- the uses one by one
+
+-- a use, with what reads it, and with the condition that it stands under
+pub record UseAt : Type 0 where
+  pub reader : Reader
+  pub condition : Condition
+  pub used : Use
+
+abbrev pub use_at : Reader → Condition → Use → UseAt
+use_at reader c u = record { reader = reader; condition = c; used = u }
+
+-- in preorder
+abbrev mutual
+  pub uses_in : Dictionary → ℕ → Condition → Source → List UseAt
+  uses_in d fact c (literal l) = []
+  uses_in d fact c (read r) = use_at (Read r.0) c r.1 ∷ []
+  uses_in d fact c (switch cs) = uses_in_cases d fact c cs
+  uses_in d fact c (many op ts) = uses_in_all d fact c ts
+  uses_in d fact c (one op t) = uses_in d fact c t
+  uses_in d fact c (two op a b) = uses_in d fact c a ++ uses_in d fact c b
+  uses_in d fact c (pick op p t) = use_at (Pick op) c p ∷ uses_in d fact (condition_under d fact c p) t
+
+  pub uses_in_all : Dictionary → ℕ → Condition → Sources → List UseAt
+  uses_in_all d fact c no_trees = []
+  uses_in_all d fact c (tree t ts) = uses_in d fact c t ++ uses_in_all d fact c ts
+
+  pub uses_in_cases : Dictionary → ℕ → Condition → SourceCases → List UseAt
+  uses_in_cases d fact c no_cases = []
+  uses_in_cases d fact c (a_case t o cs) = uses_in d fact c t ++ (uses_in d fact c o ++ uses_in_cases d fact c cs)
+
+abbrev pub option_uses : Dictionary → ℕ → Option Source → List UseAt
+option_uses d fact None = []
+option_uses d fact (Some t) = uses_in d fact None t
+
+abbrev pub conditional_uses : Dictionary → ℕ → Option SourceCase → List UseAt
+conditional_uses d fact None = []
+conditional_uses d fact (Some c) = uses_in d fact None c.0 ++ uses_in d fact None c.1
+
+-- in the main expression, then in the conditional, then in the placeholder
+abbrev pub fact_uses : Dictionary → ℕ → Fact → List UseAt
+fact_uses d fact f = option_uses d fact f.main ++ (conditional_uses d fact f.conditional ++ option_uses d fact f.placeholder)

@@ -1,5 +1,6 @@
 -- What stands out of its place.
-use Rattle.std.specs.Prelude.{ℕ, Bool, true, false, not, ◌&&◌, ◌||◌, Option, Some, None, is_some}
+use Rattle.std.specs.Prelude.{◌≡◌, ◌⊎◌, ℕ, Bool, true, false, not, ◌&&◌, ◌||◌, IsTrue, List, Option, Some, None, is_some}
+use Rattle.std.specs.List.{Any}
 use Rattle.fact_paths.specs.declared.fact_path.FactPath.{FactPath}
 use Rattle.fact_paths.specs.declared.fact_path.FactPath.TheVariants as facts
 use Rattle.fact_paths.specs.declared.use_path.UsePath.{UsePath}
@@ -10,7 +11,7 @@ use Rattle.dict_tree.specs.Facts.{Fact}
 use Rattle.dict_tree.specs.Dictionary.{Dictionary}
 use Rattle.dict_tree.specs.Targets.{collection_at}
 use Rattle.dict_types.specs.declared.reader.Reader.{Reader}
-use Rattle.dict_types.specs.Uses.{Condition, goes_through_members, reads_each, reads_fact, fact_has_use}
+use Rattle.dict_types.specs.Uses.{Condition, goes_through_members, UseAt, reads_each, reads_fact, fact_has_use, fact_uses}
 use Rattle.dict_types.specs.NoCollection.{is_list}
 
 -- the fact with the number is one of the members of a collection
@@ -43,3 +44,15 @@ is_member_path (Some (facts.Member c n)) = true
 -- a use or a node is out of its place, or a fact of a collection type has the path of a member's fact
 abbrev pub has_wrong_place : Dictionary → ℕ → Fact → Bool
 has_wrong_place d n f = (is_list f.stated && is_member_path f.path) || fact_has_use (is_misplaced d n) d n f
+
+-- ---- the rule in its own words
+
+-- a node that goes through members stands under a condition, or the use's path isn't in its place
+abbrev pub IsMisplaced : Dictionary → ℕ → UseAt → Type 0
+IsMisplaced d n u =
+    (IsTrue (goes_through_members u.reader) × ((b : ℕ) × (u.condition ≡ Some b)))
+    ⊎ ((path : UsePath) × (u.used.path ≡ Some path) × ¬ IsTrue (is_in_place d n u.reader u.condition path))
+
+-- a fact of a collection type is one of the members of a collection, or some use is misplaced
+abbrev pub HasWrongPlace : Dictionary → ℕ → Fact → Type 0
+HasWrongPlace d n f = (IsTrue (is_list f.stated) × ((c m : List ℕ) × (f.path ≡ Some (facts.Member c m)))) ⊎ Any (IsMisplaced d n) (fact_uses d n f)

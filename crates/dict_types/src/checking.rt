@@ -1,9 +1,10 @@
-ghost use Rattle.std.specs.Prelude.{◌≡◌, ◌≤◌, ℕ, List, IfOk, length, map};
+ghost use Rattle.std.specs.Prelude.{◌≡◌, ◌≤◌, ℕ, List, IfErr, IfOk, length, map};
 ghost use Rattle.dict_tree.specs.Dictionary.{dictionary_view};
 ghost use Rattle.dict_tree.specs.Facts.{fact_size, fact_view};
 ghost use Rattle.dict_types.specs.BadLimit.{fact_limits as limits_in};
 ghost use Rattle.dict_types.specs.Rules.{first_fault as fault_by_rules, rule_order};
-ghost use Rattle.dict_types.specs.Typed.{Finds, at_fact, limits_of, or_bad_limit, typed_dictionary, typed_fact, typed_facts};
+ghost use Rattle.dict_types.specs.DictFaults.{IsFirstFault, IsTypedDictionary};
+ghost use Rattle.dict_types.specs.Typed.{Finds, Refuses, at_fact, limits_of, or_bad_limit, typed_dictionary, typed_fact, typed_facts};
 ghost use Rattle.dict_types.specs.FactTyping.{fact_typed};
 
 use crate::bad_limit::{LimitFault, fact_limits};
@@ -125,7 +126,8 @@ fn judge(alloc: Global, source: &DictSource, checks: &CheckTable) -> Result<Type
 /// The types, constants and limits of a dictionary, or its first fault: paths and checks first, rule by rule, then types,
 /// then limits; of one kind the first fact's, and of a fact its first node's.
 pub fn check(alloc: Global, source: &DictSource, checks: &CheckTable) -> Result<Typed, TypeFault>
-    ensures found { Finds (λ t. t) (typed_dictionary (dictionary_view source.now) (map {B = List ℕ} (λ c. c.name) checks.now.checks.items)) result }
+    ensures typed { IfOk result (IsTypedDictionary (dictionary_view source.now) (map {B = List ℕ} (λ c. c.name) checks.now.checks.items)) }
+    ensures refused { IfErr result (Refuses (IsFirstFault (dictionary_view source.now) (map {B = List ℕ} (λ c. c.name) checks.now.checks.items))) }
     ensures facts { IfOk result (λ typed. length typed.facts ≡ length source.now.facts) }
     ensures limits { IfOk result (λ typed. length typed.limits ≡ length source.now.facts) }
 {

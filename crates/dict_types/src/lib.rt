@@ -18,8 +18,6 @@ mod read_types;
 mod reader;
 mod rules;
 mod stated_types;
-#[cfg(test)]
-mod tests;
 mod typed;
 mod unknown_check;
 mod unknown_path;
@@ -30,8 +28,8 @@ pub use checking::check;
 pub use constants::constant_value;
 pub use fault::TypeFault;
 pub use laws::{
-    the_fault_is_first, the_first_is_least, the_first_node_is_named, typed_is_well_typed,
-    types_are_inferred, values_are_of_nodes,
+    tests_say_the_rules, the_fault_is_first, the_first_is_least, the_first_node_is_named,
+    typed_is_well_typed, types_are_inferred, values_are_of_nodes,
 };
 pub use limit::Limit;
 pub use stated_types::type_at;

@@ -3,7 +3,7 @@ ghost use Rattle.dict_tree.specs.Dictionary.{dictionary_view, is_collection};
 ghost use Rattle.dict_tree.specs.Facts.{fact_view, stated_view};
 ghost use Rattle.dict_tree.specs.Targets.{find_global};
 ghost use Rattle.dict_tree.specs.View.{use_view};
-ghost use Rattle.dict_types.specs.NoCollection.{goes_through_item as through_item, is_item as of_item, is_list as of_list, is_misread as misread, is_no_item as no_item, is_no_item_at as no_item_at, is_no_list as no_list, is_no_list_at as no_list_at, is_written_list as written_list, lacks_base as without_base, lacks_collection as without_collection, lacks_own_list as without_own_list, lacks_stated_list as without_stated_list, names_list as list_named, path_lacks_list as path_without_list};
+ghost use Rattle.dict_types.specs.NoCollection.{goes_through_item as through_item, is_item as of_item, is_list as of_list, is_misread as misread, is_other as of_other, is_other_at as of_other_at, is_written_list as written_list, lacks_base as without_base, lacks_collection as without_collection, lacks_own_list as without_own_list, lacks_stated_list as without_stated_list, names_list as list_named, path_lacks_list as path_without_list};
 ghost use Rattle.dict_types.specs.NoCollection.{use_lacks_list as use_without_list};
 
 use crate::reader::Reader;
@@ -126,7 +126,7 @@ fn lacks_stated_list(source: &DictSource, stated: &TypeText) -> bool
 // ---- uses
 
 fn is_no_list(fact: Option<&FactSource>) -> bool
-    ensures { result ≡ no_list (option_map fact_view (option_copied fact.entry)) }
+    ensures { result ≡ of_other of_list (option_map fact_view (option_copied fact.entry)) }
 {
     match fact {
         None => false,
@@ -135,7 +135,7 @@ fn is_no_list(fact: Option<&FactSource>) -> bool
 }
 
 fn is_no_item(fact: Option<&FactSource>) -> bool
-    ensures { result ≡ no_item (option_map fact_view (option_copied fact.entry)) }
+    ensures { result ≡ of_other of_item (option_map fact_view (option_copied fact.entry)) }
 {
     match fact {
         None => false,
@@ -144,7 +144,7 @@ fn is_no_item(fact: Option<&FactSource>) -> bool
 }
 
 fn is_no_list_at(source: &DictSource, number: Option<u32>) -> bool
-    ensures { result ≡ no_list_at (dictionary_view source.now) number }
+    ensures { result ≡ of_other_at of_list (dictionary_view source.now) number }
 {
     match number {
         None => false,
@@ -153,7 +153,7 @@ fn is_no_list_at(source: &DictSource, number: Option<u32>) -> bool
 }
 
 fn is_no_item_at(source: &DictSource, number: Option<u32>) -> bool
-    ensures { result ≡ no_item_at (dictionary_view source.now) number }
+    ensures { result ≡ of_other_at of_item (dictionary_view source.now) number }
 {
     match number {
         None => false,

@@ -3,7 +3,7 @@ ghost use Rattle.std.specs.Prelude.{◌≡◌};
 ghost use Rattle.dict_tree.specs.Dictionary.{dictionary_view};
 ghost use Rattle.dict_tree.specs.Mentions.{condition_base};
 ghost use Rattle.dict_tree.specs.View.{use_view};
-ghost use Rattle.dict_types.specs.FactTyping.{count_type as type_of_count, field_sum_type as type_of_sum, known as known_base, last_target as last_of, path_type as type_of_path, read_type as type_of_read, size_type as type_of_size, target_type as type_of_target};
+ghost use Rattle.dict_types.specs.FactTyping.{known as known_base, last_target as last_of, path_type as type_of_path, read_type as type_of_read, target_type as type_of_target};
 
 use crate::stated_types::type_at;
 use dict_tree::{DictSource, PathUse, ReadOp, Targets};
@@ -23,63 +23,16 @@ fn last_target(path: &UsePath, targets: Targets) -> Option<u32>
     }
 }
 
-fn size_type(of: FactType) -> Option<FactType>
-    ensures { result ≡ type_of_size of }
-{
-    match of {
-        FactType::Collection(_) => Some(FactType::Int),
-        FactType::Boolean
-        | FactType::Int
-        | FactType::Dollar
-        | FactType::Rational
-        | FactType::Day
-        | FactType::Text
-        | FactType::Enum(_)
-        | FactType::Item(_) => None,
-    }
-}
-
-fn field_sum_type(of: FactType) -> Option<FactType>
-    ensures { result ≡ type_of_sum of }
-{
-    match of {
-        FactType::Int => Some(FactType::Int),
-        FactType::Dollar => Some(FactType::Dollar),
-        FactType::Boolean
-        | FactType::Rational
-        | FactType::Day
-        | FactType::Text
-        | FactType::Enum(_)
-        | FactType::Collection(_)
-        | FactType::Item(_) => None,
-    }
-}
-
-fn count_type(of: FactType) -> Option<FactType>
-    ensures { result ≡ type_of_count of }
-{
-    match of {
-        FactType::Boolean => Some(FactType::Int),
-        FactType::Int
-        | FactType::Dollar
-        | FactType::Rational
-        | FactType::Day
-        | FactType::Text
-        | FactType::Enum(_)
-        | FactType::Collection(_)
-        | FactType::Item(_) => None,
-    }
-}
-
 fn read_type(op: ReadOp, of: Option<FactType>) -> Option<FactType>
     ensures { result ≡ type_of_read op of }
 {
-    match op {
-        ReadOp::Dependency => of,
-        ReadOp::IsComplete => Some(FactType::Boolean),
-        ReadOp::CollectionSize => size_type(of?),
-        ReadOp::CollectionSum => field_sum_type(of?),
-        ReadOp::Count => count_type(of?),
+    match (op, of) {
+        (ReadOp::Dependency, _) => of,
+        (ReadOp::IsComplete, _) => Some(FactType::Boolean),
+        (ReadOp::CollectionSize, Some(FactType::Collection(_))) => Some(FactType::Int),
+        (ReadOp::CollectionSum, Some(FactType::Int | FactType::Dollar)) => of,
+        (ReadOp::Count, Some(FactType::Boolean)) => Some(FactType::Int),
+        _ => None,
     }
 }
 

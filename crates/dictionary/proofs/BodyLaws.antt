@@ -14,15 +14,12 @@ use Rattle.dict_tree.specs.Targets.{targets}
 use Rattle.dict_tree.specs.declared.mentions.Mention.{Mention}
 use Rattle.dict_order.specs.Graph.{mentioned}
 use Rattle.dict_order.specs.MentionGraph.{facts_of}
+use Rattle.common_lemmas.proofs.Bools.{and_true}
 use Rattle.evaluation.specs.Order.{has_no_complete_test, is_value_read, reads_pass_in_all, reads_pass_in_cases}
 use Rattle.dictionary.specs.Steady.{bodies_from, body_graph, body_mentions, body_untested, conditional_untested, is_untested, option_untested, steady_over}
 use Rattle.dictionary.specs.SteadyReading.{steady_body, steady_cases, steady_conditional, steady_option, steady_source, steady_target, steady_trees, steady_use}
 
 -- ---- tests in a row
-
-and_same : (a : Bool) → a ≡ (a && true)
-and_same true = refl
-and_same false = refl
 
 four : (a b c d : Bool) → ((a && b) && (c && d)) ≡ ((a && c) && (b && d))
 four true true c d = refl
@@ -53,7 +50,7 @@ joined test s t u v ms ns h k =
 module _ (d : Tree) (test : ℕ → Bool) (fact : ℕ) where
   target_is : (same : Bool) (o : Option ℕ) → steady_target test o ≡ all_of test (mention_of same o)
   target_is same None = refl
-  target_is same (Some n) = and_same (test n)
+  target_is same (Some n) = sym (and_true (test n))
 
   use_is : (base : ℕ) (p : Option UsePath) → steady_use d test fact base p ≡ all_of test (use_mentions d fact base p)
   use_is base None = refl

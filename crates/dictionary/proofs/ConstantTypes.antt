@@ -21,11 +21,11 @@ use Rattle.dictionary.specs.Reading.{constant_value}
 
 -- ---- options
 
-option_within : (o : Option (List ℕ)) → IsSome o → (x : List ℕ) × (o ≡ Some x)
+pub option_within : (o : Option (List ℕ)) → IsSome o → (x : List ℕ) × (o ≡ Some x)
 option_within None h = absurd cc
 option_within (Some x) h = (x, refl)
 
-place_within : (o : Option Listed) (place : ℕ) → IsSome (option_and_then (λ (options : List (List ℕ)). slice_get options place) (option_map (λ (listed : Listed). listed.options) o)) → place < unwrap_or (option_map (λ (e : Listed). length e.options) o) 0
+pub place_within : (o : Option Listed) (place : ℕ) → IsSome (option_and_then (λ (options : List (List ℕ)). slice_get options place) (option_map (λ (listed : Listed). listed.options) o)) → place < unwrap_or (option_map (λ (e : Listed). length e.options) o) 0
 place_within None place h = absurd cc
 place_within (Some e) place h =
     let x = option_within (slice_get e.options place) h in

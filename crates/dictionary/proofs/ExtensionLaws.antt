@@ -18,7 +18,7 @@ use Rattle.dict_types.specs.WrongPlace.{has_wrong_place, is_member_path, is_misp
 use Rattle.dict_types.specs.Uses.{fact_has_use}
 use Rattle.three_state.specs.Equality.{value_same}
 use Rattle.three_state.proofs.EqualityLaws.{value_same-Decides}
-use Rattle.evaluation.proofs.Bools.{and_intro, both, or_left}
+use Rattle.common_lemmas.proofs.Bools.{and_intro, both, or_left}
 use Rattle.answers.specs.Answered.{Answered, value_of}
 use Rattle.answers.specs.declared.edit.Side.{Side}
 use Rattle.answers.specs.declared.edit.Side.TheVariants.{Answer, Override}
@@ -52,7 +52,7 @@ opens_once names d accepted c (Some f) e h =
     no_collection f.path
     (λ member. accepted.typed.0.1.1.1.1.0 c (record { fact = f; is_there = e; passes = wrong_place d.tree c f (collection_is_list f.stated h) member }))
 
-list_home : (names : List (List ℕ)) (d : Accepted) → IsAccepted names d → (c : ℕ) → IsTrue (is_list d.tree c) → home d.tree c ≡ 0
+pub list_home : (names : List (List ℕ)) (d : Accepted) → IsAccepted names d → (c : ℕ) → IsTrue (is_list d.tree c) → home d.tree c ≡ 0
 list_home names d accepted c h = ap (λ (o : Option (List ℕ)). unwrap_or (option_and_then (find_global d.tree) o) 0) (opens_once names d accepted c (fact_at d.tree.facts c) refl h)
 
 stands_once : (a : Answered) (o : Option Fact) → IsTrue (opens_of o) → IsTrue (stands_of a 0 0 o)
@@ -83,16 +83,16 @@ test_standing d a test all s there = test_at test (standing d a) all s (listed_s
 
 -- ---- what is there
 
-equal_same : {A : Type 0} (same : A → A → Bool) → ((x y : A) → IsTrue (same x y) ↔ (x ≡ y)) → (o : Option A) → IsTrue (both_same same o o)
+pub equal_same : {A : Type 0} (same : A → A → Bool) → ((x y : A) → IsTrue (same x y) ↔ (x ≡ y)) → (o : Option A) → IsTrue (both_same same o o)
 equal_same same tells None = refl
 equal_same same tells (Some x) = (tells x x).1 refl
 
-kept_equal : {A : Type 0} (same : A → A → Bool) → ((x y : A) → IsTrue (same x y) ↔ (x ≡ y)) → (o p : Option A) → IsTrue (is_kept same o p) → (x : A) → o ≡ Some x → p ≡ Some x
+pub kept_equal : {A : Type 0} (same : A → A → Bool) → ((x y : A) → IsTrue (same x y) ↔ (x ≡ y)) → (o p : Option A) → IsTrue (is_kept same o p) → (x : A) → o ≡ Some x → p ≡ Some x
 kept_equal same tells None p h x e = absurd (cc)
 kept_equal same tells (Some w) (Some y) h x e = ap (λ z. Some z) (sym ((tells w y).0 h)) ∙ e
 kept_equal same tells (Some w) None h x e = absurd (cc)
 
-equal_kept : {A : Type 0} (same : A → A → Bool) → ((x y : A) → IsTrue (same x y) ↔ (x ≡ y)) → (o p : Option A) → ((x : A) → o ≡ Some x → p ≡ Some x) → IsTrue (is_kept same o p)
+pub equal_kept : {A : Type 0} (same : A → A → Bool) → ((x y : A) → IsTrue (same x y) ↔ (x ≡ y)) → (o p : Option A) → ((x : A) → o ≡ Some x → p ≡ Some x) → IsTrue (is_kept same o p)
 equal_kept same tells None p h = refl
 equal_kept same tells (Some w) p h = rw (h w refl) ((tells w w).1 refl)
 

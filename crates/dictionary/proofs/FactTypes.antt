@@ -21,7 +21,7 @@ use Rattle.dict_types.specs.StatedTypes.{stated_type, type_at}
 use Rattle.dict_types.specs.TypedParts.{TypedFact, TypedDictionary}
 use Rattle.dict_types.specs.Uses.{conditional_has_use, fact_has_use, has_use, option_has_use}
 use Rattle.dict_types.specs.WrongPlace.{has_wrong_place, is_member_path, is_misplaced}
-use Rattle.evaluation.proofs.Bools.{or_neither}
+use Rattle.common_lemmas.proofs.Bools.{or_neither}
 use Rattle.dictionary.specs.Plain.{body}
 use Rattle.dictionary.proofs.PlacedReads.{placed_type, placed_types}
 

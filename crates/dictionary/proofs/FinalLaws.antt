@@ -17,7 +17,7 @@ use Rattle.three_state.specs.Order.{Keeps}
 use Rattle.three_state.proofs.OrderLaws.{down-never-complete, kept_itself}
 use Rattle.evaluation.specs.Mentioned.{AllOf}
 use Rattle.evaluation.specs.Order.{has_no_complete_test}
-use Rattle.evaluation.proofs.Bools.{and_intro, both, or_right}
+use Rattle.common_lemmas.proofs.Bools.{and_intro, both, or_right}
 use Rattle.evaluation.proofs.Mentions.{all-left, all-right}
 use Rattle.answers.specs.Answered.{Answered, value_of}
 use Rattle.answers.specs.declared.edit.Side.TheVariants.{Answer, Override}
@@ -166,7 +166,7 @@ tables_keep names d accepted a b ext (suc n) s final =
 
 -- ---- the law
 
-complete_value : (o : Option Res) → IsTrue (is_complete_in o) → (v : Value) × (o ≡ Some (Complete v))
+pub complete_value : (o : Option Res) → IsTrue (is_complete_in o) → (v : Value) × (o ≡ Some (Complete v))
 complete_value (Some (Complete v)) h = (v, refl)
 complete_value _ h = absurd (cc)
 

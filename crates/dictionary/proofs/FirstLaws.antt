@@ -5,6 +5,7 @@ use Rattle.dict_tree.specs.Dictionary.{Dictionary as Tree}
 use Rattle.dict_tree.specs.DictReading.{IsJson, IsOfValue, dictionary_of, max_bytes}
 use Rattle.dict_tree.specs.declared.fault.TreeFault.{TreeFault}
 use Rattle.dict_tree.specs.declared.fault.TreeFault.TheVariants as trees
+use Rattle.dict_tree.proofs.DictJsonLaws.{given_read}
 use Rattle.dict_types.specs.declared.fault.TypeFault.{TypeFault}
 use Rattle.dict_types.specs.declared.fault.TypeFault.TheVariants as types
 use Rattle.dict_types.specs.Typed.{typed_dictionary}
@@ -26,7 +27,7 @@ one_value : (bytes : List ℕ) (d e : Data) → IsJson bytes d → IsJson bytes 
 one_value bytes d e h k = let same : Some d ≡ Some e = sym h.1 ∙ k.1 in cc
 
 one_reading : (bytes : List ℕ) (r s : Result Tree TreeFault) → IsOfValue bytes r → IsOfValue bytes s → r ≡ s
-one_reading bytes r s h k = sym h.3 ∙ ap dictionary_of (one_value bytes h.1 k.1 h.2 k.2) ∙ k.3
+one_reading bytes r s h k = sym (given_read h.1 r h.3) ∙ ap dictionary_of (one_value bytes h.1 k.1 h.2 k.2) ∙ given_read k.1 s k.3
 
 abbrev tree : Tree → Result Tree TreeFault
 tree d = Ok d
@@ -104,38 +105,38 @@ Follows names (Ok d) fault = Judged d names fault
 Follows names (Err e) fault = fault ≡ of_trees e
 
 -- too long, no JSON, or a fault of what the value gives
-abbrev Told : List ℕ → List (List ℕ) → DictFault → Type 0
-Told bytes names fault =
+abbrev FaultCause : List ℕ → List (List ℕ) → DictFault → Type 0
+FaultCause bytes names fault =
     ((max_bytes < length bytes) × (fault ≡ faults.TooLong))
     ⊎ (((length bytes ≤ max_bytes) × ((d : Data) → IsJson bytes d → ⊥) × (fault ≡ faults.NotJson))
     ⊎ ((r : Result Tree TreeFault) × IsOfValue bytes r × Follows names r fault))
 
-told_of : (bytes : List ℕ) (names : List (List ℕ)) (fault : DictFault) → IsFaultOfRead bytes names fault → Told bytes names fault
-told_of bytes names fault h = inr (inr (Ok h.0, h.1, judged h.0 names fault h.2))
+cause_of : (bytes : List ℕ) (names : List (List ℕ)) (fault : DictFault) → IsFaultOfRead bytes names fault → FaultCause bytes names fault
+cause_of bytes names fault h = inr (inr (Ok h.0, h.1, judged h.0 names fault h.2))
 
-told : (bytes : List ℕ) (names : List (List ℕ)) (fault : DictFault) → IsFault bytes names fault → Told bytes names fault
-told bytes names faults.TooLong h = inl (h, refl)
-told bytes names faults.NotJson h = inr (inl (h.0, h.1, refl))
-told bytes names (faults.Shape n) h = inr (inr (Err (trees.Shape n), h, refl))
-told bytes names (faults.TooMany n) h = inr (inr (Err (trees.TooMany n), h, refl))
-told bytes names (faults.TooDeep n) h = inr (inr (Err (trees.TooDeep n), h, refl))
-told bytes names (faults.BadPath n) h = told_of bytes names (faults.BadPath n) h
-told bytes names (faults.DuplicatePath n) h = told_of bytes names (faults.DuplicatePath n) h
-told bytes names (faults.NoCollection n) h = told_of bytes names (faults.NoCollection n) h
-told bytes names (faults.UnknownPath n) h = told_of bytes names (faults.UnknownPath n) h
-told bytes names (faults.WrongPlace n) h = told_of bytes names (faults.WrongPlace n) h
-told bytes names (faults.UnknownCheck n) h = told_of bytes names (faults.UnknownCheck n) h
-told bytes names (faults.IllTyped n node) h = told_of bytes names (faults.IllTyped n node) h
-told bytes names (faults.BadLimit n) h = told_of bytes names (faults.BadLimit n) h
-told bytes names (faults.Cycle n) h = told_of bytes names (faults.Cycle n) h
-told bytes names faults.NoMemory h = absurd h
+cause : (bytes : List ℕ) (names : List (List ℕ)) (fault : DictFault) → IsFault bytes names fault → FaultCause bytes names fault
+cause bytes names faults.TooLong h = inl (h, refl)
+cause bytes names faults.NotJson h = inr (inl (h.0, h.1, refl))
+cause bytes names (faults.Shape n) h = inr (inr (Err (trees.Shape n), h, refl))
+cause bytes names (faults.TooMany n) h = inr (inr (Err (trees.TooMany n), h, refl))
+cause bytes names (faults.TooDeep n) h = inr (inr (Err (trees.TooDeep n), h, refl))
+cause bytes names (faults.BadPath n) h = cause_of bytes names (faults.BadPath n) h
+cause bytes names (faults.DuplicatePath n) h = cause_of bytes names (faults.DuplicatePath n) h
+cause bytes names (faults.NoCollection n) h = cause_of bytes names (faults.NoCollection n) h
+cause bytes names (faults.UnknownPath n) h = cause_of bytes names (faults.UnknownPath n) h
+cause bytes names (faults.WrongPlace n) h = cause_of bytes names (faults.WrongPlace n) h
+cause bytes names (faults.UnknownCheck n) h = cause_of bytes names (faults.UnknownCheck n) h
+cause bytes names (faults.IllTyped n node) h = cause_of bytes names (faults.IllTyped n node) h
+cause bytes names (faults.BadLimit n) h = cause_of bytes names (faults.BadLimit n) h
+cause bytes names (faults.Cycle n) h = cause_of bytes names (faults.Cycle n) h
+cause bytes names faults.NoMemory h = absurd h
 
 one_follows : (names : List (List ℕ)) (r : Result Tree TreeFault) (f g : DictFault) → Follows names r f → Follows names r g → f ≡ g
 one_follows names (Ok d) f g h k = one_judged d names f g h k
 one_follows names (Err e) f g h k = h ∙ sym k
 
-one_told : (bytes : List ℕ) (names : List (List ℕ)) (f g : DictFault) → Told bytes names f → Told bytes names g → f ≡ g
-one_told bytes names f g h k = elim h [
+one_cause : (bytes : List ℕ) (names : List (List ℕ)) (f g : DictFault) → FaultCause bytes names f → FaultCause bytes names g → f ≡ g
+one_cause bytes names f g h k = elim h [
   | inl a ↦ elim k [
     | inl b ↦ a.1 ∙ sym b.1
     | inr other ↦ elim other [
@@ -162,7 +163,7 @@ one_told bytes names f g h k = elim h [
 ]
 
 pub one_fault : (bytes : List ℕ) (names : List (List ℕ)) (fault other : DictFault) → IsFault bytes names fault → IsFault bytes names other → fault ≡ other
-one_fault bytes names fault other h k = one_told bytes names fault other (told bytes names fault h) (told bytes names other k)
+one_fault bytes names fault other h k = one_cause bytes names fault other (cause bytes names fault h) (cause bytes names other k)
 
 -- ---- what is accepted
 
@@ -171,7 +172,7 @@ none_follows names d (Ok e) fault is same h = let t : e ≡ d.tree = cc in subst
 none_follows names d (Err e) fault is same h = absurd cc
 
 pub accepted_has_none : (bytes : List ℕ) (names : List (List ℕ)) (d : Accepted) (fault : DictFault) → AreAccepted bytes names d → IsFault bytes names fault → ⊥
-accepted_has_none bytes names d fault is h = elim (told bytes names fault h) [
+accepted_has_none bytes names d fault is h = elim (cause bytes names fault h) [
   | inl a ↦ absurd (omega (arith, a.0, is.0.0))
   | inr rest ↦ elim rest [
     | inl a ↦ a.1 is.0.1 is.0.2

@@ -10,21 +10,23 @@ use Rattle.fact_values.specs.declared.value.Value.{Value}
 use Rattle.dict_tree.specs.Facts.{Fact}
 use Rattle.dict_tree.specs.Dictionary.{Dictionary as Tree}
 use Rattle.dict_tree.specs.Finding.{fact_at}
-use Rattle.evaluation.proofs.Bools.{and_intro, both, or_left}
-use Rattle.answers.specs.Answered.{Answered, Entry, blank, list_of, of_side, value_of}
+use Rattle.common_lemmas.proofs.Bools.{and_intro, both, or_left}
+use Rattle.common_lemmas.proofs.Numbers.{same_number}
+use Rattle.answers.specs.Answered.{Answered, Entry, blank, entry, list_of, of_side, value_of}
 use Rattle.answers.specs.Change.{Change, sets, opens, closes, adds, takes as takes_newest, removes, puts_back, applied, Fits}
 use Rattle.answers.specs.Finite.{Numbered, and_then, put_at}
 use Rattle.answers.specs.Lists.{IsIn, without}
 use Rattle.answers.specs.WellFormed.{FromOne, WellFormed}
 use Rattle.answers.specs.declared.edit.Side.{Side}
-use Rattle.answers.proofs.FiniteLaws.{equal, get_put}
-use Rattle.answers.proofs.StandLaws.{list_after, list_there, none_some}
-use Rattle.answers.proofs.WellLaws.{applied_from_one, applied_well}
+use Rattle.answers.proofs.FiniteLaws.{get_put}
+use Rattle.answers.proofs.StandLaws.{entry_stands, list_after, list_there, none_some}
+use Rattle.answers.proofs.WellLaws.{any_kept, applied_from_one, applied_well}
 use Rattle.dictionary.specs.Accepted.{Accepted, IsAccepted}
 use Rattle.dictionary.specs.Allowed.{IsAllowed}
 use Rattle.dictionary.specs.Fits.{AnswersFit, IsOfFact, is_list, takes}
 use Rattle.dictionary.specs.Homes.{home}
 use Rattle.dictionary.specs.Slots.{is_member, stands, stands_of}
+use Rattle.dictionary.proofs.ChangedAnswers.{nothing_put}
 use Rattle.dictionary.proofs.FitStart.{blank_value}
 use Rattle.dictionary.proofs.MemberLaws.{zero_is_none}
 use Rattle.dictionary.proofs.MemberlessTypes.{still_of_fact}
@@ -73,7 +75,7 @@ lists_put : (d : Tree) (a : Answered) → AnswersFit d a → (c : ℕ) (o : Opti
 lists_put d a fits c o is k some = at (nat_eq c k) refl (subst (λ (p : Option (List ℕ)). IsSome p) (get_put a.lists c o k) some)
   where
     at : (b : Bool) → nat_eq c k ≡ b → IsSome (cond b o (map.get a.lists k)) → IsTrue (is_list d k)
-    at true e some = subst (λ (n : ℕ). IsTrue (is_list d n)) (equal c k e) is
+    at true e some = subst (λ (n : ℕ). IsTrue (is_list d n)) (same_number c k e) is
     at false e some = fits.lists k some
 
 -- a member of the answers a that stays in that list is still a member
@@ -81,11 +83,11 @@ still_member : (a : Answered) (c : ℕ) (ys : List ℕ) (m : ℕ) → (IsIn m (l
 still_member a c ys m stays k i = subst (λ (xs : List ℕ). IsIn m xs) (sym (list_after a.lists c k (Some ys))) (at (nat_eq c k) refl)
   where
     at : (b : Bool) → nat_eq c k ≡ b → IsIn m (if b then ys else list_of a k)
-    at true e = stays (subst (λ (n : ℕ). IsIn m (list_of a n)) (sym (equal c k e)) i)
+    at true e = stays (subst (λ (n : ℕ). IsIn m (list_of a n)) (sym (same_number c k e)) i)
     at false e = i
 
 -- a slot at a member that stays still stands
-still_stands : (d : Tree) (a b : Answered) (s : Slot) → ((k : ℕ) → IsTrue (is_member a k s.member) → IsTrue (is_member b k s.member)) → IsTrue (stands d a s) → IsTrue (stands d b s)
+pub still_stands : (d : Tree) (a b : Answered) (s : Slot) → ((k : ℕ) → IsTrue (is_member a k s.member) → IsTrue (is_member b k s.member)) → IsTrue (stands d a s) → IsTrue (stands d b s)
 still_stands d a b s stays h = at (fact_at d.facts s.fact) h
   where
     once : (o : Bool) → IsTrue (if o then nat_eq s.member 0 else is_member a (home d s.fact) s.member) → IsTrue (if o then nat_eq s.member 0 else is_member b (home d s.fact) s.member)
@@ -102,9 +104,9 @@ given_value : (d : Accepted) (a : Answered) (side : Side) (s : Slot) (v : Option
 given_value d a side s None allowed w e = absurd (cc)
 given_value d a side s (Some v) allowed w e = let same : v ≡ w = cc in subst (λ (x : Value). MayHave d.tree a side s x) same allowed
 
-set_value : (d : Accepted) (a : Answered) (side : Side) (s : Slot) (v : Option Value) → IsAllowed d a (sets side s v) → (other : Side) (t : Slot) (w : Value) → value_of other (applied (sets side s v) a) t ≡ Some w
+set_value : (d : Accepted) (a : Answered) (side : Side) (s : Slot) (v : Option Value) → IsSome (entry a s.member) → IsAllowed d a (sets side s v) → (other : Side) (t : Slot) (w : Value) → value_of other (applied (sets side s v) a) t ≡ Some w
     → HadOrMay d.tree a (applied (sets side s v) a) other t w
-set_value d a side s v allowed other t w h = at (set_has side other a s t v w h)
+set_value d a side s v there allowed other t w h = at (set_has side other a s t v w there h)
   where
     at : (value_of other a t ≡ Some w) ⊎ ((side ≡ other) × (s ≡ t) × (v ≡ Some w)) → HadOrMay d.tree a (applied (sets side s v) a) other t w
     at (inl had) = inl (had, λ i. i)
@@ -114,38 +116,17 @@ set_value d a side s v allowed other t w h = at (set_has side other a s t v w h)
 -- ---- a new member
 
 -- its slots have nothing
-add_value : (a : Answered) (c : ℕ) (side : Side) (s : Slot) (v : Value) → value_of side (applied (adds c) a) s ≡ Some v → value_of side a s ≡ Some v
-add_value a c side s v h = at (nat_eq s.member 0) h
-  where
-    member : (b : Bool) → and_then (λ (e : Entry). map.get (of_side side e) s.fact) (cond b (Some blank) (map.get a.members s.member)) ≡ Some v → and_then (λ (e : Entry). map.get (of_side side e) s.fact) (map.get a.members s.member) ≡ Some v
-    member true k = absurd (none_some (map.get (of_side side blank) s.fact) (blank_value side s.fact) (rw k refl))
-    member false k = k
-
-    at : (b : Bool) → and_then (λ (e : Entry). map.get (of_side side e) s.fact) (if b then Some a.globals else map.get (put_at a.members a.next (Some blank)) s.member) ≡ Some v
-        → and_then (λ (e : Entry). map.get (of_side side e) s.fact) (if b then Some a.globals else map.get a.members s.member) ≡ Some v
-    at true k = k
-    at false k = member (nat_eq a.next s.member) (sym (ap (and_then (λ (e : Entry). map.get (of_side side e) s.fact)) (get_put a.members a.next (Some blank) s.member)) ∙ k)
+add_value : (a : Answered) → WellFormed a → (c : ℕ) (side : Side) (s : Slot) → value_of side (applied (adds c) a) s ≡ value_of side a s
+add_value a well c side s =
+    nothing_put side a.globals a.members a.next s.fact s.member (Some blank) (blank_value side s.fact) (ap (and_then (λ (e : Entry). map.get (of_side side e) s.fact)) (well.below a.next (omega arith)))
 
 -- ---- a member less
-
-others_head : (k m x : ℕ) (xs : List ℕ) (b : Bool) → nat_eq m x ≡ b → nat_eq k m ≡ false → (IsIn k xs → IsIn k (without m xs)) → IsIn k (x ∷ xs) → IsIn k (if b then xs else x ∷ without m xs)
-others_head k m x xs true e other rest i = let not_x : nat_eq k x ≡ false = subst (λ (n : ℕ). nat_eq k n ≡ false) (equal m x e) other in sym (ap (λ (b : Bool). b || list_any (nat_eq k) xs) not_x) ∙ i
-others_head k m x xs false e other rest i = at (nat_eq k x) i
-  where
-    at : (b : Bool) → IsTrue (b || list_any (nat_eq k) xs) → IsTrue (b || list_any (nat_eq k) (without m xs))
-    at true i = refl
-    at false i = rest i
-
--- the others stay
-others_stay : (k m : ℕ) (xs : List ℕ) → nat_eq k m ≡ false → IsIn k xs → IsIn k (without m xs)
-others_stay k m [] other i = i
-others_stay k m (x ∷ xs) other i = others_head k m x xs (nat_eq m x) refl other (others_stay k m xs other) i
 
 not_zero : (d : Tree) (a : Answered) → AnswersFit d a → (c m : ℕ) → IsIn m (list_of a c) → nat_eq m 0 ≡ false
 not_zero d a fits c m i = at (nat_eq m 0) refl
   where
     at : (b : Bool) → nat_eq m 0 ≡ b → b ≡ false
-    at true e = absurd (let there : is_member a c 0 ≡ true = subst (λ (n : ℕ). is_member a c n ≡ true) (equal m 0 e) i in let out : is_member a c 0 ≡ false = zero_is_none d a fits c in cc)
+    at true e = absurd (let there : is_member a c 0 ≡ true = subst (λ (n : ℕ). is_member a c n ≡ true) (same_number m 0 e) i in let out : is_member a c 0 ≡ false = zero_is_none d a fits c in cc)
     at false e = refl
 
 -- what a slot has it had before, and it is at another member
@@ -179,7 +160,7 @@ pub allowed_changes_fit : (names : List (List ℕ)) (d : Accepted) → IsAccepte
 allowed_changes_fit names d accepted a (sets side s v) fits can allowed =
     fits_after names d accepted a (applied (sets side s v) a) fits
     (applied_well (sets side s v) a fits.well can) (applied_from_one (sets side s v) a fits.from_one can tt)
-    fits.lists (set_value d a side s v allowed)
+    fits.lists (set_value d a side s v (entry_stands a s.member fits.well can) allowed)
 allowed_changes_fit names d accepted a (opens c) fits can allowed =
     after_list names d accepted a c [] a.next a.members fits allowed
     (applied_well (opens c) a fits.well can) (applied_from_one (opens c) a fits.from_one can tt)
@@ -188,11 +169,11 @@ allowed_changes_fit names d accepted a (closes c) fits can allowed = absurd allo
 allowed_changes_fit names d accepted a (adds c) fits can allowed =
     after_list names d accepted a c (list_of a c ++ a.next ∷ []) (applied (adds c) a).next (applied (adds c) a).members fits allowed
     (applied_well (adds c) a fits.well can) (applied_from_one (adds c) a fits.from_one can tt)
-    (λ side s v e. (add_value a c side s v e, λ i. list_any-append (nat_eq s.member) (list_of a c) (a.next ∷ []) ∙ or_left (is_member a c s.member) (list_any (nat_eq s.member) (a.next ∷ [])) i))
+    (λ side s v e. (sym (add_value a fits.well c side s) ∙ e, λ i. list_any-append (nat_eq s.member) (list_of a c) (a.next ∷ []) ∙ or_left (is_member a c s.member) (list_any (nat_eq s.member) (a.next ∷ [])) i))
 allowed_changes_fit names d accepted a (takes_newest c closed) fits can allowed = absurd allowed
 allowed_changes_fit names d accepted a (removes c m) fits can allowed =
     after_list names d accepted a c (without m (list_of a c)) a.next (put_at a.members m None) fits
     (fits.lists c (rw (list_there a c m can) refl))
     (applied_well (removes c m) a fits.well can) (applied_from_one (removes c m) a fits.from_one can tt)
-    (λ side s v e. let had = remove_value a c m (not_zero d.tree a fits c m can) side s v e in (had.0, others_stay s.member m (list_of a c) had.1))
+    (λ side s v e. let had = remove_value a c m (not_zero d.tree a fits c m can) side s v e in (had.0, any_kept s.member m (list_of a c) had.1))
 allowed_changes_fit names d accepted a (puts_back c place m e) fits can allowed = absurd allowed

@@ -20,24 +20,15 @@ use Rattle.dict_types.specs.NoCollection.{lacks_own_list, names_list}
 use Rattle.dict_types.specs.Rules.{breaks}
 use Rattle.dict_types.specs.declared.rules.Rule.TheVariants as rules
 use Rattle.dictionary.specs.Accepted.{Accepted, IsAccepted}
+use Rattle.common_lemmas.proofs.Lists.{all_at, one_at}
 use Rattle.dictionary.specs.Homes.{home}
 use Rattle.dictionary.specs.SlotText.{IsSlot, slot_path, slot_path_of, slot_text, text_of_path}
 
 -- ---- facts by number
 
-all_at : {X : Type 0} (P : X → Type 0) (xs : List X) (i : ℕ) (x : X) → All P xs → slice_get xs i ≡ Some x → P x
-all_at P [] i x all e = absurd cc
-all_at P (y ∷ ys) zero x all e = let same : y ≡ x = cc in subst P same (All-head P y ys all)
-all_at P (y ∷ ys) (suc i) x all e = all_at P ys i x (All-tail P y ys all) e
-
-all_facts : (P : Fact → Type 0) (facts : List Fact) (n : ℕ) (f : Fact) → All P facts → fact_at facts n ≡ Some f → P f
+pub all_facts : (P : Fact → Type 0) (facts : List Fact) (n : ℕ) (f : Fact) → All P facts → fact_at facts n ≡ Some f → P f
 all_facts P facts zero f all e = absurd cc
 all_facts P facts (suc i) f all e = all_at P facts i f all e
-
-one_at : {X : Type 0} (xs : List X) (i : ℕ) → suc i ≤ length xs → (x : X) × (slice_get xs i ≡ Some x)
-one_at [] i h = absurd (omega arith)
-one_at (x ∷ xs) zero h = (x, refl)
-one_at (x ∷ xs) (suc i) h = one_at xs i (omega arith)
 
 fact_there : (facts : List Fact) (n : ℕ) → IsNumber facts n → (f : Fact) × (fact_at facts n ≡ Some f)
 fact_there facts zero is = absurd (omega (arith, is.0))

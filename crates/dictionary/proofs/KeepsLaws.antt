@@ -26,7 +26,7 @@ use Rattle.evaluation.specs.Mentioned.{AllOf, Each, EachInAll, EachInCases}
 use Rattle.evaluation.specs.Operations.{on_one, size_value, sum_of_dollars, sum_of_ints}
 use Rattle.evaluation.specs.Order.{has_no_complete_test, is_value_read, reads_pass, reads_pass_in_all, reads_pass_in_cases}
 use Rattle.evaluation.specs.Reads.{field_at, sum_over, through_item}
-use Rattle.evaluation.proofs.Bools.{both}
+use Rattle.common_lemmas.proofs.Bools.{both}
 use Rattle.evaluation.proofs.Mentions.{all-left, all-right, over_keeps_in}
 use Rattle.dictionary.specs.Plain.{expression}
 use Rattle.dictionary.specs.Reading.{Look, Place, collection, dependency, field_type, outermost, read_by, read_result, result_at, slot, source_env, source_result}

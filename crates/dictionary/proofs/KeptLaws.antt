@@ -55,7 +55,7 @@ tells_by r s e h = (λ t. h.0 (sym e ∙ t), λ p. e ∙ h.1 p)
 
 -- ---- what is kept
 
-names_are : {C : Type 0} (name : C → List ℕ) (code : C → ℕ) (cs : List C) → names_of (map (λ c. (name c, code c)) cs) ≡ map name cs
+pub names_are : {C : Type 0} (name : C → List ℕ) (code : C → ℕ) (cs : List C) → names_of (map (λ c. (name c, code c)) cs) ≡ map name cs
 names_are name code [] = refl
 names_are name code (c ∷ cs) = ap (λ (names : List (List ℕ)). name c ∷ names) (names_are name code cs)
 

@@ -1,6 +1,7 @@
 pub mod BodyGraph
 pub mod BodyLaws
 pub mod ByRankLaws
+pub mod ChangedAnswers
 pub mod CheckLaws
 pub mod ConstantTypes
 pub mod ExtensionLaws
@@ -19,8 +20,8 @@ pub mod ListTypes
 pub mod MemberLaws
 pub mod MemberlessTypes
 pub mod MentionedLaws
-pub mod NamedMembers
 pub mod NumberLaws
+pub mod PickWeights
 pub mod PlacedReads
 pub mod PlainExamples
 pub mod PlainLaws
@@ -34,5 +35,6 @@ pub mod SteadyLaws
 pub mod TargetAgreement
 pub mod TargetHomes
 pub mod TypedResultLaws
+pub mod UndoneLaws
 pub mod UntouchedLaws
 pub mod WeightLaws

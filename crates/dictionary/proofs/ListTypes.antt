@@ -22,7 +22,8 @@ use Rattle.dict_types.specs.StatedTypes.{base_number}
 use Rattle.dict_types.specs.Uses.{fact_has_use}
 use Rattle.dict_types.specs.WrongPlace.{is_member_path}
 use Rattle.evaluation.specs.Typed.{IsOfType}
-use Rattle.evaluation.proofs.Bools.{and_intro, is_not}
+use Rattle.common_lemmas.proofs.Bools.{and_intro, is_not}
+use Rattle.common_lemmas.proofs.Lists.{any_number}
 use Rattle.answers.specs.Answered.{Answered, list_of}
 use Rattle.answers.specs.Lists.{IsIn, Once}
 use Rattle.answers.specs.WellFormed.{WellFormed, FromOne}
@@ -42,14 +43,10 @@ all_in p (x ∷ ms) h =
     and_intro (p x) (list_all p ms) (h x (or_left (nat_eq x x) (list_any (nat_eq x) ms) (own x)))
     (all_in p ms (λ m i. h m (or_right (nat_eq m x) (list_any (nat_eq m) ms) i)))
 
-turned : (x : ℕ) (ms : List ℕ) → list_any (λ other. other == x) ms ≡ list_any (nat_eq x) ms
-turned x [] = refl
-turned x (m ∷ ms) = rw (nat_eq_equiv.symm m x, turned x ms) refl
-
 once_distinct : (ms : List ℕ) → Once ms → IsTrue (values.are_distinct ms)
 once_distinct [] h = refl
 once_distinct (x ∷ ms) h =
-    and_intro (not (list_any (λ other. other == x) ms)) (values.are_distinct ms) (is_not (list_any (λ other. other == x) ms) (turned x ms ∙ h.0)) (once_distinct ms h.1)
+    and_intro (not (list_any (λ other. other == x) ms)) (values.are_distinct ms) (is_not (list_any (λ other. other == x) ms) (any_number x ms ∙ h.0)) (once_distinct ms h.1)
 
 -- ---- members of answers
 

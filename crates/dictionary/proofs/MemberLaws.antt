@@ -1,7 +1,7 @@
 -- The members that results name stand.
-use Rattle.std.proofs.Common.{◌≡◌, ℕ, Bool, true, false, nat_eq, IsTrue, if◌then◌else◌, List, [], ◌∷◌, Option, Some, None, refl, sym, ap, ◌∙◌, unwrap_or}
+use Rattle.std.proofs.Common.{◌≡◌, ◌||◌, subst, ℕ, Bool, true, false, nat_eq, IsTrue, if◌then◌else◌, List, [], ◌∷◌, Option, Some, None, refl, sym, ap, ◌∙◌, unwrap_or}
 use Rattle.std.specs.FinMap as map
-use Rattle.std.specs.List.{list_any}
+use Rattle.std.specs.List.{list_all, list_any}
 use Rattle.std.proofs.lemmas.Bool.{eqb-true}
 use Rattle.fact_values.specs.declared.fact_type.FactType.TheVariants.{Collection}
 use Rattle.fact_values.specs.declared.fact_type.FactType.TheVariants as types
@@ -12,13 +12,23 @@ use Rattle.three_state.specs.declared.res.Res.{Res}
 use Rattle.three_state.specs.declared.res.Res.TheVariants.{Complete, Placeholder, Incomplete, Fault}
 use Rattle.evaluation.specs.Agreement.{IsIn}
 use Rattle.evaluation.specs.Typed.{IsOfType, IsResOfType}
-use Rattle.evaluation.proofs.Bools.{and_intro}
+use Rattle.common_lemmas.proofs.Bools.{and_intro, both}
 use Rattle.answers.specs.Answered.{Answered, list_of}
 use Rattle.answers.proofs.StandLaws.{none_some}
 use Rattle.dictionary.specs.Fits.{AnswersFit, domains, is_list}
 use Rattle.dictionary.specs.Slots.{is_member, stands_at}
-use Rattle.dictionary.proofs.NamedMembers.{one_of_them}
 use Rattle.dictionary.proofs.ReadAgreement.{names, names_in}
+
+-- one of those that all pass a test
+pub one_of_them : (p : ℕ → Bool) (ms : List ℕ) → IsTrue (list_all p ms) → (m : ℕ) → IsIn ms m → IsTrue (p m)
+one_of_them p [] h m i = absurd cc
+one_of_them p (x ∷ ms) h m i =
+    let parts = both (p x) (list_all p ms) h in
+    by (nat_eq m x) refl i parts.0 (one_of_them p ms parts.1 m)
+  where
+    by : (b : Bool) → nat_eq m x ≡ b → IsTrue (b || list_any (nat_eq m) ms) → IsTrue (p x) → (IsIn ms m → IsTrue (p m)) → IsTrue (p m)
+    by true e j k rest = subst (λ (n : ℕ). IsTrue (p n)) (sym (eqb-true m x e)) k
+    by false e j k rest = rest j
 
 -- ---- the members that a result of a Collection names, and the one that a result of an Item does
 

@@ -20,6 +20,7 @@ use Rattle.answers.specs.Answered.{Answered}
 use Rattle.answers.specs.declared.edit.Side.{Side}
 use Rattle.answers.specs.declared.edit.Side.TheVariants.{Answer, Override}
 use Rattle.dictionary.specs.Accepted.{Accepted, IsAccepted}
+use Rattle.dictionary.proofs.HomeLaws.{all_facts}
 use Rattle.dictionary.specs.Fits.{IsOfFact, answers_of, domains, names_members, overrides_of, takes}
 
 -- ---- types whose values name no members
@@ -30,16 +31,9 @@ is_memberless (types.Item c) = false
 is_memberless _ = true
 
 still_typed : (d : Tree) (a b : Answered) (v : Value) (t : FactType) → IsTrue (is_memberless t) → IsOfType (domains d a) v t → IsOfType (domains d b) v t
-still_typed d a b (Boolean x) types.Boolean p k = k
-still_typed d a b (Int n) types.Int p k = k
-still_typed d a b (Dollar n) types.Dollar p k = k
-still_typed d a b (Rational q) types.Rational p k = k
-still_typed d a b (Day n) types.Day p k = k
-still_typed d a b (Text s) types.Text p k = k
-still_typed d a b (Choice list place) (types.Enum n) p k = k
 still_typed d a b (Members ms) (types.Collection c) p k = absurd (cc)
 still_typed d a b (Item m) (types.Item c) p k = absurd (cc)
-still_typed d a b v t p k = absurd k
+still_typed d a b _ _ p k = k
 
 scalar_memberless : (t : FactType) → IsScalar t → IsTrue (is_memberless t)
 scalar_memberless (types.Enum n) k = absurd k
@@ -49,7 +43,7 @@ scalar_memberless _ k = refl
 
 -- ---- what may have an answer or an override states such a type
 
-abbrev IsMemberless : Stated → Type 0
+abbrev pub IsMemberless : Stated → Type 0
 IsMemberless (scalar t) = IsScalar t
 IsMemberless (enum_of n) = Unit {0}
 IsMemberless writable_list = ⊥
@@ -70,11 +64,11 @@ derived writable_list k h = absurd k
 derived (list_of u) k h = absurd (cc)
 derived (item_of u) k h = absurd (cc)
 
-answered : (f : Fact) (main : Option Source) → HasKind f main → IsTrue (is_none main && not (is_collection f.stated)) → IsMemberless f.stated
+pub answered : (f : Fact) (main : Option Source) → HasKind f main → IsTrue (is_none main && not (is_collection f.stated)) → IsMemberless f.stated
 answered f None k h = written f.stated k.0 h
 answered f (Some t) k h = absurd (cc)
 
-overridden : (f : Fact) (main : Option Source) → HasKind f main → IsTrue (not (is_none main) && not (names_members f.stated)) → IsMemberless f.stated
+pub overridden : (f : Fact) (main : Option Source) → HasKind f main → IsTrue (not (is_none main) && not (names_members f.stated)) → IsMemberless f.stated
 overridden f None k h = absurd (cc)
 overridden f (Some t) k h = derived f.stated k.0 h
 
@@ -91,26 +85,17 @@ memberless d path (item_of u) k t e = absurd k
 
 -- ---- the facts of an accepted dictionary
 
-well_formed_in : (facts : List Fact) (i : ℕ) (f : Fact) → All IsWellFormed facts → slice_get facts i ≡ Some f → IsWellFormed f
-well_formed_in [] i f all e = absurd (cc)
-well_formed_in (g ∷ gs) zero f all e = let same : g ≡ f = cc in subst IsWellFormed same (All-head IsWellFormed g gs all)
-well_formed_in (g ∷ gs) (suc i) f all e = well_formed_in gs i f (All-tail IsWellFormed g gs all) e
-
-well_formed_at : (facts : List Fact) (n : ℕ) (f : Fact) → All IsWellFormed facts → fact_at facts n ≡ Some f → IsWellFormed f
-well_formed_at facts zero f all e = absurd (cc)
-well_formed_at facts (suc i) f all e = well_formed_in facts i f all e
-
 taker : (side : Side) (d : Tree) (fact : ℕ) → All IsWellFormed d.facts → IsTrue (takes side d fact) → (t : FactType) → type_at d fact ≡ Some t → IsTrue (is_memberless t)
 taker Answer d fact all h t = at (fact_at d.facts fact) refl h
   where
     at : (o : Option Fact) → fact_at d.facts fact ≡ o → IsTrue (answers_of o) → option_and_then (stated_type d) o ≡ Some t → IsTrue (is_memberless t)
     at None e h k = absurd (cc)
-    at (Some f) e h k = memberless d f.path f.stated (answered f f.main (well_formed_at d.facts fact f all e).kind h) t k
+    at (Some f) e h k = memberless d f.path f.stated (answered f f.main (all_facts IsWellFormed d.facts fact f all e).kind h) t k
 taker Override d fact all h t = at (fact_at d.facts fact) refl h
   where
     at : (o : Option Fact) → fact_at d.facts fact ≡ o → IsTrue (overrides_of o) → option_and_then (stated_type d) o ≡ Some t → IsTrue (is_memberless t)
     at None e h k = absurd (cc)
-    at (Some f) e h k = memberless d f.path f.stated (overridden f f.main (well_formed_at d.facts fact f all e).kind h) t k
+    at (Some f) e h k = memberless d f.path f.stated (overridden f f.main (all_facts IsWellFormed d.facts fact f all e).kind h) t k
 
 -- a value of such a fact stays of its type
 pub still_of_fact : (names : List (List ℕ)) (d : Accepted) → IsAccepted names d → (a b : Answered) (side : Side) (fact : ℕ) (v : Value) → IsTrue (takes side d.tree fact) → IsOfFact d.tree a fact v → IsOfFact d.tree b fact v

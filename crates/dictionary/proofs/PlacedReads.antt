@@ -17,26 +17,21 @@ use Rattle.dict_types.specs.Constants.{literal_type}
 use Rattle.dict_types.specs.FactTyping.{known, path_type, types_in}
 use Rattle.dict_types.specs.Uses.{Condition, cases_have_use, condition_under, goes_through_members, has_use, some_have_use}
 use Rattle.dict_types.specs.WrongPlace.{is_displaced, is_in_place, is_misplaced}
-use Rattle.evaluation.proofs.Bools.{or_neither}
+use Rattle.common_lemmas.proofs.Bools.{or_neither}
 use Rattle.std.specs.Prelude.{is_some}
 
 -- ---- paths that suit what reads them
 
 -- `/N/*/M`
 abbrev pub lists_members : UsePath → Bool
-lists_members (Global n) = false
-lists_members (Sibling n) = false
-lists_members (Inner n) = false
 lists_members (Each n m) = true
-lists_members (Through n m) = false
-lists_members (SiblingThrough n m) = false
+lists_members _ = false
 
 abbrev pub suits : ReadOp → UsePath → Bool
-suits Dependency path = true
-suits IsComplete path = true
 suits CollectionSize path = not (is_other_form path)
 suits CollectionSum path = lists_members path
 suits Count path = lists_members path
+suits _ path = true
 
 -- the type, where the path suits
 abbrev pub suited : ReadOp → Option UsePath → Option FactType → Option FactType
@@ -55,27 +50,15 @@ placed_types d fact = record {
 
 whole_suits : (d : Tree) (n : ℕ) (c : Condition) (path : UsePath) → is_in_place d n (Read CollectionSize) c path ≡ true → not (is_other_form path) ≡ true
 whole_suits d n c (Global l) h = refl
-whole_suits d n c (Sibling l) h = absurd cc
-whole_suits d n c (Inner l) h = absurd cc
-whole_suits d n c (Each l m) h = absurd cc
-whole_suits d n c (Through l m) h = absurd cc
-whole_suits d n c (SiblingThrough l m) h = absurd cc
+whole_suits d n c _ h = absurd cc
 
 sum_suits : (d : Tree) (n : ℕ) (c : Condition) (path : UsePath) → is_in_place d n (Read CollectionSum) c path ≡ true → lists_members path ≡ true
-sum_suits d n c (Global l) h = absurd cc
-sum_suits d n c (Sibling l) h = absurd cc
-sum_suits d n c (Inner l) h = absurd cc
 sum_suits d n c (Each l m) h = refl
-sum_suits d n c (Through l m) h = absurd cc
-sum_suits d n c (SiblingThrough l m) h = absurd cc
+sum_suits d n c _ h = absurd cc
 
 count_suits : (d : Tree) (n : ℕ) (c : Condition) (path : UsePath) → is_in_place d n (Read Count) c path ≡ true → lists_members path ≡ true
-count_suits d n c (Global l) h = absurd cc
-count_suits d n c (Sibling l) h = absurd cc
-count_suits d n c (Inner l) h = absurd cc
 count_suits d n c (Each l m) h = refl
-count_suits d n c (Through l m) h = absurd cc
-count_suits d n c (SiblingThrough l m) h = absurd cc
+count_suits d n c _ h = absurd cc
 
 in_place_suits : (d : Tree) (n : ℕ) (op : ReadOp) (c : Condition) (path : UsePath) → is_in_place d n (Read op) c path ≡ true → suits op path ≡ true
 in_place_suits d n Dependency c path h = refl

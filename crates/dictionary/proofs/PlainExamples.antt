@@ -61,27 +61,13 @@ reads op name = read (op, record { text = use_path_text (uses.Global name); path
 abbrev depends : List ℕ → Source
 depends name = reads Dependency name
 
-abbrev dollars : List ℕ → Source
-dollars text = literal (literal_dollar text)
-
 abbrev ints : List ℕ → Source
 ints text = literal (literal_int text)
 
 -- ---- dictionaries
 
-abbrev found : Result TypedDictionary TypeFault → TypedDictionary
-found (Ok typed) = typed
-found (Err fault) = record { facts = []; limits = [] }
-
-abbrev of_facts : List Fact → Tree
-of_facts fs = record { enums = []; facts = fs }
-
 abbrev dictionary : List Fact → List ℕ → Accepted
-dictionary fs ranks = record { tree = of_facts fs; typed = found (typed_dictionary (of_facts fs) []); ranks = ranks }
-
--- it keeps the rules of paths and types, and these are its ranks
-abbrev keeps_rules : Accepted → Bool
-keeps_rules d = is_ok (typed_dictionary d.tree []) && are_ranks (mention_graph d.tree) d.ranks
+dictionary fs ranks = record { tree = record { enums = []; facts = fs }; typed = record { facts = []; limits = [] }; ranks = ranks }
 
 -- ---- answers
 
@@ -102,65 +88,39 @@ get_at (x ∷ xs) k = get_put (map_at xs) x.0 (Some x.1) k ∙ ap (cond (nat_eq 
 abbrev Values : Type 0
 Values = List (ℕ × Value)
 
-abbrev entry_of : Values → Values → Entry
-entry_of answers overrides = record { values = map_at answers; overrides = map_at overrides }
+abbrev entry_of : Values → Entry
+entry_of answers = record { values = map_at answers; overrides = map_at [] }
 
--- of facts that stand once: answers, and overrides
-abbrev given : Values → Values → Answered
-given answers overrides = record { next = 1; lists = map_at []; globals = entry_of answers overrides; members = map_at [] }
+-- of facts that stand once
+abbrev given : Values → Answered
+given answers = record { next = 1; lists = map_at []; globals = entry_of answers; members = map_at [] }
 
 -- a collection, with its members and the answers of each
 abbrev given_members : ℕ → List ℕ → List (ℕ × Values) → Answered
-given_members c ms answers = record { next = 9; lists = map_at ((c, ms) ∷ []); globals = entry_of [] []; members = map_at (map_list (λ (m : ℕ × Values). (m.0, entry_of m.1 [])) answers) }
+given_members c ms answers = record { next = 9; lists = map_at ((c, ms) ∷ []); globals = entry_of []; members = map_at (map_list (λ (m : ℕ × Values). (m.0, entry_of m.1)) answers) }
 
 -- ---- two amounts and their sum
 
-abbrev sum_of : Fact → Accepted
-sum_of b = dictionary (written (codes "a") types.Dollar ∷ b ∷ derived (codes "s") types.Dollar (many Add (tree (depends (codes "a")) (tree (depends (codes "b")) no_trees))) ∷ []) (0 ∷ 0 ∷ 1 ∷ [])
-
 abbrev sum : Accepted
-sum = sum_of (written (codes "b") types.Dollar)
+sum = dictionary (
+    written (codes "a") types.Dollar
+    ∷ record (written (codes "b") types.Dollar) { placeholder = Some (literal (literal_dollar (codes "1"))) }
+    ∷ derived (codes "s") types.Dollar (many Add (tree (depends (codes "a")) (tree (depends (codes "b")) no_trees)))
+    ∷ []
+    ) (0 ∷ 0 ∷ 1 ∷ [])
 
-sum_keeps_rules : IsTrue (keeps_rules sum)
-sum_keeps_rules = refl
-
--- one isn't answered
-sum_of_one : plain sum (given ((1, Dollar (pos 500)) ∷ []) []) (slot 3 0) ≡ Some Incomplete
+-- the second isn't answered
+sum_for_now : plain sum (given ((1, Dollar (pos 500)) ∷ [])) (slot 3 0) ≡ Some (Placeholder (Dollar (pos 600)))
 unfolding plain table
-sum_of_one = simp get_at
+sum_for_now = simp get_at
 
-sum_of_both : plain sum (given ((1, Dollar (pos 150)) ∷ (2, Dollar (pos 200)) ∷ []) []) (slot 3 0) ≡ Some (Complete (Dollar (pos 350)))
+sum_of_both : plain sum (given ((1, Dollar (pos 150)) ∷ (2, Dollar (pos 200)) ∷ [])) (slot 3 0) ≡ Some (Complete (Dollar (pos 350)))
 unfolding plain table
 sum_of_both = simp get_at
 
--- of the largest amount and a cent
-sum_too_large : plain sum (given ((1, Dollar (pos 999999999999999)) ∷ (2, Dollar (pos 1)) ∷ []) []) (slot 3 0) ≡ Some (Fault Overflow)
-unfolding plain table
-sum_too_large = simp get_at
-
--- an override stands for the sum, whatever is answered
-sum_overridden : plain sum (given ((1, Dollar (pos 400)) ∷ (2, Dollar (pos 200)) ∷ []) ((3, Dollar (pos 900)) ∷ [])) (slot 3 0) ≡ Some (Complete (Dollar (pos 900)))
-unfolding plain table
-sum_overridden = simp get_at
-
-no_such_slot : plain sum (given [] []) (slot 3 1) ≡ None
+no_such_slot : plain sum (given []) (slot 3 1) ≡ None
 unfolding plain table
 no_such_slot = refl
-
--- the second is taken as zero while it isn't answered
-abbrev sum_or_zero : Accepted
-sum_or_zero = sum_of (record (written (codes "b") types.Dollar) { placeholder = Some (dollars (codes "0")) })
-
-sum_or_zero_keeps_rules : IsTrue (keeps_rules sum_or_zero)
-sum_or_zero_keeps_rules = refl
-
-zero_for_now : plain sum_or_zero (given ((1, Dollar (pos 500)) ∷ []) []) (slot 2 0) ≡ Some (Placeholder (Dollar (pos 0)))
-unfolding plain table
-zero_for_now = simp get_at
-
-sum_for_now : plain sum_or_zero (given ((1, Dollar (pos 500)) ∷ []) []) (slot 3 0) ≡ Some (Placeholder (Dollar (pos 500)))
-unfolding plain table
-sum_for_now = simp get_at
 
 -- ---- both p and q; 1 where p, 2 where q; and whether p is answered
 
@@ -174,14 +134,11 @@ choices = dictionary (
     ∷ []
     ) (0 ∷ 0 ∷ 1 ∷ 1 ∷ 1 ∷ [])
 
-choices_keep_rules : IsTrue (keeps_rules choices)
-choices_keep_rules = refl
-
 abbrev not_q : Answered
-not_q = given ((2, Boolean false) ∷ []) []
+not_q = given ((2, Boolean false) ∷ [])
 
 abbrev p_not_q : Answered
-p_not_q = given ((1, Boolean true) ∷ (2, Boolean false) ∷ []) []
+p_not_q = given ((1, Boolean true) ∷ (2, Boolean false) ∷ [])
 
 -- q decides
 both_without_q : plain choices not_q (slot 3 0) ≡ Some (Complete (Boolean false))
@@ -196,104 +153,6 @@ choice_without_p = simp get_at
 p_is_asked : plain choices not_q (slot 5 0) ≡ Some (Complete (Boolean false))
 unfolding plain table
 p_is_asked = simp get_at
-
-choice_with_p : plain choices p_not_q (slot 4 0) ≡ Some (Complete (Int (pos 1)))
-unfolding plain table
-choice_with_p = simp get_at
-
-p_is_answered : plain choices p_not_q (slot 5 0) ≡ Some (Complete (Boolean true))
-unfolding plain table
-p_is_answered = simp get_at
-
--- ---- sums, products and quotients
-
-abbrev amounts : Accepted
-amounts = dictionary (
-    written (codes "p") types.Boolean
-    ∷ derived (codes "d1") types.Dollar (many Add (tree (dollars (codes "9999999999999.99")) (tree (dollars (codes "0.01")) (tree (dollars (codes "-0.01")) no_trees))))
-    ∷ derived (codes "d2") types.Dollar (many Add (tree (dollars (codes "9999999999999.99")) (tree (dollars (codes "0.01")) no_trees)))
-    ∷ derived (codes "d3") types.Dollar (two Multiply (dollars (codes "100.05")) (literal (literal_rational (codes "1/2"))))
-    ∷ derived (codes "d4") types.Dollar (two Divide (dollars (codes "1")) (ints (codes "0")))
-    ∷ derived (codes "d5") types.Boolean (many Any (tree (two Equal (depends (codes "d4")) (dollars (codes "0"))) (tree (depends (codes "p")) no_trees)))
-    ∷ []
-    ) (0 ∷ 0 ∷ 0 ∷ 0 ∷ 0 ∷ 1 ∷ [])
-
-amounts_keep_rules : IsTrue (keeps_rules amounts)
-unfolding gcd
-amounts_keep_rules = refl
-
--- the sum fits, though a part of it doesn't
-whole_sum_fits : plain amounts (given [] []) (slot 2 0) ≡ Some (Complete (Dollar (pos 999999999999999)))
-unfolding plain table
-whole_sum_fits = simp get_at
-
-sum_overflows : plain amounts (given [] []) (slot 3 0) ≡ Some (Fault Overflow)
-unfolding plain table
-sum_overflows = simp get_at
-
--- half of 10,005 cents is 5,002.5
-half_is_rounded : plain amounts (given [] []) (slot 4 0) ≡ Some (Complete (Dollar (pos 5003)))
-unfolding plain table gcd
-half_is_rounded = simp get_at
-
-divided_by_zero : plain amounts (given [] []) (slot 5 0) ≡ Some (Fault ZeroDivide)
-unfolding plain table
-divided_by_zero = simp get_at
-
--- what isn't answered comes before the fault
-fault_or_unanswered : plain amounts (given [] []) (slot 6 0) ≡ Some Incomplete
-unfolding plain table
-fault_or_unanswered = simp get_at
-
--- and what decides comes before both
-fault_or_p : plain amounts (given ((1, Boolean true) ∷ []) []) (slot 6 0) ≡ Some (Complete (Boolean true))
-unfolding plain table
-fault_or_p = simp get_at
-
--- ---- a placeholder decides a case
-
-abbrev for_now : Accepted
-for_now = dictionary (
-    record (written (codes "p") types.Boolean) { placeholder = Some (literal literal_false) }
-    ∷ derived (codes "x") types.Int (switch (a_case (depends (codes "p")) (ints (codes "1")) (a_case (literal literal_true) (ints (codes "2")) no_cases)))
-    ∷ []
-    ) (0 ∷ 1 ∷ [])
-
-for_now_keeps_rules : IsTrue (keeps_rules for_now)
-for_now_keeps_rules = refl
-
-second_case_for_now : plain for_now (given [] []) (slot 2 0) ≡ Some (Placeholder (Int (pos 2)))
-unfolding plain table
-second_case_for_now = simp get_at
-
--- ---- a conditional: 7 where p, else a
-
-abbrev conditional : Accepted
-conditional = dictionary (
-    written (codes "p") types.Boolean
-    ∷ written (codes "a") types.Int
-    ∷ record (derived (codes "x") types.Int (depends (codes "a"))) { conditional = Some (depends (codes "p"), ints (codes "7")) }
-    ∷ []
-    ) (0 ∷ 0 ∷ 1 ∷ [])
-
-conditional_keeps_rules : IsTrue (keeps_rules conditional)
-conditional_keeps_rules = refl
-
-condition_unanswered : plain conditional (given ((2, Int (pos 3)) ∷ []) []) (slot 3 0) ≡ Some Incomplete
-unfolding plain table
-condition_unanswered = simp get_at
-
-condition_true : plain conditional (given ((1, Boolean true) ∷ (2, Int (pos 3)) ∷ []) []) (slot 3 0) ≡ Some (Complete (Int (pos 7)))
-unfolding plain table
-condition_true = simp get_at
-
-condition_false : plain conditional (given ((1, Boolean false) ∷ (2, Int (pos 3)) ∷ []) []) (slot 3 0) ≡ Some (Complete (Int (pos 3)))
-unfolding plain table
-condition_false = simp get_at
-
-overridden_condition : plain conditional (given ((1, Boolean true) ∷ (2, Int (pos 3)) ∷ []) ((3, Int (pos 9)) ∷ [])) (slot 3 0) ≡ Some (Complete (Int (pos 9)))
-unfolding plain table
-overridden_condition = simp get_at
 
 -- ---- the change in which p is answered
 
@@ -311,11 +170,11 @@ unfolding plain table steady_by_rank
 asking_is_open = simp get_at
 
 -- the first answer, and the same once more
-first_answer : touched sum (given [] []) (given ((1, Dollar (pos 500)) ∷ []) []) ≡ slot 1 0 ∷ slot 3 0 ∷ []
+first_answer : touched sum (given []) (given ((1, Dollar (pos 500)) ∷ [])) ≡ slot 1 0 ∷ slot 3 0 ∷ []
 unfolding plain table standing extends steady_by_rank
 first_answer = simp get_at
 
-same_answer : touched sum (given ((1, Dollar (pos 500)) ∷ []) []) (given ((1, Dollar (pos 500)) ∷ []) []) ≡ []
+same_answer : touched sum (given ((1, Dollar (pos 500)) ∷ [])) (given ((1, Dollar (pos 500)) ∷ [])) ≡ []
 unfolding plain table standing extends steady_by_rank
 same_answer = simp get_at
 
@@ -345,17 +204,6 @@ members = dictionary (
     ∷ []
     ) (0 ∷ 0 ∷ 0 ∷ 1 ∷ 1 ∷ 2 ∷ 2 ∷ [])
 
-members_keep_rules : IsTrue (keeps_rules members)
-members_keep_rules = refl
-
-list_not_open : plain members (given [] []) (slot 4 0) ≡ Some Incomplete
-unfolding plain table
-list_not_open = simp get_at
-
-list_of_none : plain members (given_members 1 [] []) (slot 4 0) ≡ Some (Complete (Members []))
-unfolding plain table
-list_of_none = simp get_at
-
 -- the second isn't answered
 first_unknown : plain members (given_members 1 (1 ∷ 2 ∷ 3 ∷ []) ((1, (2, Boolean false) ∷ []) ∷ (2, []) ∷ (3, (2, Boolean true) ∷ []) ∷ [])) (slot 5 0) ≡ Some Incomplete
 unfolding plain table
@@ -370,18 +218,6 @@ one_without_value = given_members 1 (1 ∷ 2 ∷ []) ((1, (2, Boolean true) ∷ 
 
 abbrev both_with_value : Answered
 both_with_value = given_members 1 (1 ∷ 2 ∷ []) ((1, (2, Boolean true) ∷ (3, Int (pos 10)) ∷ []) ∷ (2, (2, Boolean true) ∷ (3, Int (pos 5)) ∷ []) ∷ [])
-
-sum_unknown : plain members one_without_value (slot 6 0) ≡ Some Incomplete
-unfolding plain table
-sum_unknown = simp get_at
-
-sum_of_members : plain members both_with_value (slot 6 0) ≡ Some (Complete (Int (pos 15)))
-unfolding plain table
-sum_of_members = simp get_at
-
-value_of_the_first : plain members both_with_value (slot 7 0) ≡ Some (Complete (Int (pos 10)))
-unfolding plain table
-value_of_the_first = simp get_at
 
 slots_of_two : standing members.tree both_with_value ≡ slot 1 0 ∷ slot 2 1 ∷ slot 2 2 ∷ slot 3 1 ∷ slot 3 2 ∷ slot 4 0 ∷ slot 5 0 ∷ slot 6 0 ∷ slot 7 0 ∷ []
 unfolding standing

@@ -15,7 +15,7 @@ use Rattle.evaluation.proofs.Mentions.{all-left, all-right}
 use Rattle.answers.specs.Answered.{Answered}
 use Rattle.dictionary.specs.Accepted.{Accepted, IsAccepted}
 use Rattle.dictionary.specs.Homes.{home}
-use Rattle.dictionary.specs.Plain.{HasTold, IsPlainBelow, at_fact, plain, plain_step, rank, slot_result, table}
+use Rattle.dictionary.specs.Plain.{HasKnown, IsPlainBelow, at_fact, plain, plain_step, rank, slot_result, table}
 use Rattle.dictionary.specs.Reading.{Look, Place, slot}
 use Rattle.dictionary.specs.Slots.{stands, stands_of}
 use Rattle.dictionary.proofs.RankLaws.{IsLower, IsLowerMention, lower_uses}
@@ -94,18 +94,18 @@ module _ (names : List (List ℕ)) (d : Accepted) (accepted : IsAccepted names d
   pub step_over_lower : (look : Look) (s : Slot) → IsPlainBelow d a (rank d s.fact) look → plain_step d a look s ≡ plain d a s
   step_over_lower look s h = step_agrees look (plain d a) s (λ t low. h t low.0 low.1) ∙ sym (plain_is_recursive s)
 
-  -- ---- told values
+  -- ---- known values
 
   abbrev IsStep : (Slot → Option Value) → Type 0
-  IsStep told = (s : Slot) (v : Value) → told s ≡ Some v → (look : Look) → HasTold d told (rank d s.fact) look → plain_step d a look s ≡ Some (Complete v)
+  IsStep known = (s : Slot) (v : Value) → known s ≡ Some v → (look : Look) → HasKnown d known (rank d s.fact) look → plain_step d a look s ≡ Some (Complete v)
 
-  told_below : (told : Slot → Option Value) → IsStep told → (n : ℕ) → HasTold d told n (plain d a)
-  told_below told step zero s v e low = absurd (omega arith)
-  told_below told step (suc n) s v e low =
-      plain_is_recursive s ∙ step s v e (plain d a) (λ t w k l. told_below told step n t w k (omega arith))
+  known_below : (known : Slot → Option Value) → IsStep known → (n : ℕ) → HasKnown d known n (plain d a)
+  known_below known step zero s v e low = absurd (omega arith)
+  known_below known step (suc n) s v e low =
+      plain_is_recursive s ∙ step s v e (plain d a) (λ t w k l. known_below known step n t w k (omega arith))
 
-  pub joined_by_rank : (told : Slot → Option Value) → IsStep told → (s : Slot) (v : Value) → told s ≡ Some v → plain d a s ≡ Some (Complete v)
-  joined_by_rank told step s v e = told_below told step (suc (rank d s.fact)) s v e (omega arith)
+  pub joined_by_rank : (known : Slot → Option Value) → IsStep known → (s : Slot) (v : Value) → known s ≡ Some v → plain d a s ≡ Some (Complete v)
+  joined_by_rank known step s v e = known_below known step (suc (rank d s.fact)) s v e (omega arith)
 
 -- ---- exactly the slots that stand have a result
 

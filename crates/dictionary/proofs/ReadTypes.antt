@@ -23,7 +23,7 @@ use Rattle.three_state.specs.declared.res.Res.TheVariants.{Complete, Placeholder
 use Rattle.three_state.specs.Results.{count_of, down}
 use Rattle.evaluation.specs.Reads.{collection_size, complete_test, field_at, sum_over, through_item}
 use Rattle.evaluation.specs.Typed.{Domains, IsResOfType, IsTypedAt}
-use Rattle.evaluation.proofs.TypedLaws.{count-typed, size-typed, sum-typed}
+use Rattle.evaluation.proofs.TypedLaws.{count-typed, down-type, size-typed, sum-typed}
 use Rattle.answers.specs.Answered.{Answered}
 use Rattle.dictionary.specs.Fits.{domains}
 use Rattle.dictionary.specs.Reading.{Look, Place, collection, dependency, read_by, read_result, result_at, slot, source_env, source_result}
@@ -50,12 +50,6 @@ result_typed d a look h (Some n) m t e = or_incomplete (domains d a) (look (slot
 
 -- ---- through an item
 
-pub lower_type : (dom : Domains) (r : Res) (t : FactType) → IsResOfType dom r t → IsResOfType dom (down r) t
-lower_type dom (Complete v) t h = h
-lower_type dom (Placeholder v) t h = h
-lower_type dom Incomplete t h = tt
-lower_type dom (Fault fault) t h = tt
-
 field_typed : (dom : Domains) (field : ℕ → Res) (v : Value) (t : FactType) → ((m : ℕ) → IsResOfType dom (field m) t) → IsResOfType dom (field_at field v) t
 field_typed dom field (Item m) t h = h m
 field_typed dom field _ t h = tt
@@ -63,7 +57,7 @@ field_typed dom field _ t h = tt
 -- where the field has the type at every member, so has what is read through an item, whatever that is
 item_typed : (dom : Domains) (item : Res) (field : ℕ → Res) (t : FactType) → ((m : ℕ) → IsResOfType dom (field m) t) → IsResOfType dom (through_item item field) t
 item_typed dom (Complete v) field t h = field_typed dom field v t h
-item_typed dom (Placeholder v) field t h = lower_type dom (field_at field v) t (field_typed dom field v t h)
+item_typed dom (Placeholder v) field t h = down-type dom (field_at field v) t (field_typed dom field v t h)
 item_typed dom Incomplete field t h = tt
 item_typed dom (Fault fault) field t h = tt
 
@@ -79,11 +73,9 @@ list_fact d None b e = absurd cc
 list_fact d (Some f) b e = by f.stated e
   where
     by : (stated : Stated) → list_base f.path stated ≡ Some b → type_stated d f.path stated ≡ Some (types.Collection (base_number d (Some b)))
-    by (scalar t) k = absurd cc
-    by (enum_of n) k = absurd cc
     by writable_list k = ap (λ (o : Option (List ℕ)). Some (types.Collection (base_number d o))) k
     by (list_of u) k = ap (λ (o : Option (List ℕ)). Some (types.Collection (base_number d o))) k
-    by (item_of u) k = absurd cc
+    by _ k = absurd cc
 
 pub list_target : (d : Tree) (o : Option ℕ) (b : List ℕ) → option_and_then (list_base_at d) o ≡ Some b → type_of_target d o ≡ Some (types.Collection (base_number d (Some b)))
 list_target d None b e = absurd cc
@@ -95,11 +87,8 @@ item_fact d None b e = absurd cc
 item_fact d (Some f) b e = by f.stated e
   where
     by : (stated : Stated) → item_base stated ≡ Some b → type_stated d f.path stated ≡ Some (types.Item (base_number d (Some b)))
-    by (scalar t) k = absurd cc
-    by (enum_of n) k = absurd cc
-    by writable_list k = absurd cc
-    by (list_of u) k = absurd cc
     by (item_of u) k = ap (λ (o : Option (List ℕ)). Some (types.Item (base_number d o))) k
+    by _ k = absurd cc
 
 pub item_target : (d : Tree) (o : Option ℕ) (b : List ℕ) → option_and_then (item_base_at d) o ≡ Some b → type_of_target d o ≡ Some (types.Item (base_number d (Some b)))
 item_target d None b e = absurd cc

@@ -9,7 +9,7 @@ use Rattle.dict_tree.specs.Facts.{Fact}
 use Rattle.dict_tree.specs.Dictionary.{Dictionary as Tree}
 use Rattle.dict_tree.specs.Finding.{fact_at}
 use Rattle.evaluation.specs.Agreement.{IsIn}
-use Rattle.evaluation.proofs.Bools.{both_left, both_right, neither_or, or_left, or_right}
+use Rattle.common_lemmas.proofs.Bools.{both_left, both_right, neither_or, or_left, or_right}
 use Rattle.evaluation.proofs.Coincide.{is_behind, is_head}
 use Rattle.answers.specs.Answered.{Answered, list_of}
 use Rattle.dictionary.specs.Homes.{home}
@@ -19,7 +19,7 @@ use Rattle.dictionary.proofs.NumberLaws.{fact_there, fact_within}
 
 -- ---- one slot and another
 
-slot_same-itself : (s : Slot) → slot_same s s ≡ true
+pub slot_same-itself : (s : Slot) → slot_same s s ≡ true
 slot_same-itself s = grind (arith, nat_tests)
 
 pub slot_same-equal : (s t : Slot) → slot_same s t ≡ true → s ≡ t

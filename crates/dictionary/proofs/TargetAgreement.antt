@@ -21,6 +21,7 @@ use Rattle.evaluation.specs.Mentioned.{AllOf}
 use Rattle.evaluation.specs.Typed.{IsResOfType}
 use Rattle.evaluation.proofs.Mentions.{all-left, all-right}
 use Rattle.answers.specs.Answered.{Answered}
+use Rattle.common_lemmas.proofs.Options.{nothing}
 use Rattle.dictionary.specs.Accepted.{Accepted, IsAccepted}
 use Rattle.dictionary.specs.Feeds.{speaks_of}
 use Rattle.dictionary.specs.Fits.{AnswersFit, domains}
@@ -44,10 +45,6 @@ any_speaks n m s = rw (eq-eqb n n refl) refl
 
 same_speaks : (n m : ℕ) (s : Slot) → m ≡ s.member → IsTrue (speaks_of (slot n m) s (record { fact = n; same = true }))
 same_speaks n m s e = rw (eq-eqb n n refl, eq-eqb m s.member e) refl
-
-no_result : {A : Type 0} (o : Option A) → is_some o ≡ false → o ≡ None
-no_result None h = refl
-no_result (Some x) h = absurd (cc)
 
 -- what stands in a home that isn't global, at 0
 at_zero : (a : Answered) (h : ℕ) → nat_eq h 0 ≡ false → is_member a h 0 ≡ false → stands_at a h 0 ≡ false
@@ -88,7 +85,7 @@ module _ (checks : List (List ℕ)) (d : Accepted) (accepted : IsAccepted checks
       ap (λ r. unwrap_or r Incomplete) (stays (stands_where d.tree a (slot n m) f e ∙ i.0) (stands_where d.tree b (slot n m) f e ∙ i.1))
 
   missing : (c : Answered) (n m : ℕ) (f : Fact) → fact_at d.tree.facts n ≡ Some f → stands_at c (home d.tree n) m ≡ false → plain d c (slot n m) ≡ None
-  missing c n m f e out = no_result (plain d c (slot n m)) (standing_have_results d c (slot n m) ∙ stands_where d.tree c (slot n m) f e ∙ out)
+  missing c n m f e out = nothing (plain d c (slot n m)) (standing_have_results d c (slot n m) ∙ stands_where d.tree c (slot n m) f e ∙ out)
 
   -- at 0, where the fact's slots stand once or have members
   once : (n : ℕ) (f : Fact) → fact_at d.tree.facts n ≡ Some f → (nat_eq (home d.tree n) 0 ≡ true → Stays d a b (slot n 0)) → SameAt (Some n) 0

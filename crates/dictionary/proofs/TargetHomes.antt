@@ -22,11 +22,7 @@ collection_found d p n h = ap (option_and_then (λ (f : Fact). option_and_then m
 pub global_found : (d : Tree) (p : FactPath) (n : ℕ) → HasPath d.facts p n → global_at d n ≡ global_name p
 global_found d p n h = ap (option_and_then (λ (f : Fact). option_and_then global_name f.path)) h.is_there ∙ ap (option_and_then global_name) h.path_is
 
--- the slots of `/N` stand once
-pub global_home : (d : Tree) (name : List ℕ) (n : ℕ) → find_global d name ≡ Some n → home d n ≡ 0
-global_home d name n e = ap (base_number d) (collection_found d (facts.Global name) n (found d (facts.Global name) n e))
-
--- those of `/b/*/N` are at the members of `/b`
+-- the slots of `/b/*/N` are at the members of `/b`
 pub member_home : (d : Tree) (name : List ℕ) (base : Option (List ℕ)) (n : ℕ) → find_member d name base ≡ Some n → home d n ≡ base_number d base
 member_home d name None n e = absurd (cc)
 member_home d name (Some b) n e = ap (base_number d) (collection_found d (facts.Member b name) n (found d (facts.Member b name) n e))

@@ -20,7 +20,7 @@ use Rattle.three_state.specs.Results.{members_of}
 use Rattle.evaluation.specs.Agreement.{IsIn}
 use Rattle.evaluation.specs.SlotsRead.{member_read}
 use Rattle.evaluation.specs.Typed.{Domains, IsOfType, IsResOfType}
-use Rattle.evaluation.proofs.TypedLaws.{typed}
+use Rattle.evaluation.proofs.TypedLaws.{down-type, typed}
 use Rattle.answers.specs.Answered.{Answered, value_of}
 use Rattle.answers.specs.declared.edit.Side.{Side}
 use Rattle.answers.specs.declared.edit.Side.TheVariants.{Answer, Override}
@@ -33,8 +33,7 @@ use Rattle.dictionary.specs.TypedResults.{TypedResults}
 use Rattle.dictionary.proofs.FactTypes.{HasOptionType, IsTypedAs, type_of_number, typed_fact}
 use Rattle.dictionary.proofs.ListTypes.{open_members, own_number}
 use Rattle.dictionary.proofs.PlacedReads.{placed_types}
-use Rattle.dictionary.proofs.NamedMembers.{collection_members, item_member, one_of_them}
-use Rattle.dictionary.proofs.ReadTypes.{IsTypedLook, is_typed_at, item_target, list_target, lower_type, result_typed, type_of_target}
+use Rattle.dictionary.proofs.ReadTypes.{IsTypedLook, is_typed_at, result_typed, type_of_target}
 
 -- ---- what is given
 
@@ -59,10 +58,7 @@ list_by d a fit s f t there h e (Some ms) k v g =
 
 value_by : (d : Tree) (a : Answered) → AnswersFit d a → (s : Slot) (f : Fact) (t : FactType) → fact_at d.facts s.fact ≡ Some f → IsTypedAs d s.fact f t → (stated : Stated) → f.stated ≡ stated → (v : Value) → given_value stated a s ≡ Some v → IsOfType (domains d a) v t
 value_by d a fit s f t there h writable_list e v k = list_by d a fit s f t there h e (map.get a.lists s.fact) refl v k
-value_by d a fit s f t there h (scalar u) e v k = given_typed d a fit Answer s v t (type_of_number d s.fact f t there h.stated) k
-value_by d a fit s f t there h (enum_of n) e v k = given_typed d a fit Answer s v t (type_of_number d s.fact f t there h.stated) k
-value_by d a fit s f t there h (list_of u) e v k = given_typed d a fit Answer s v t (type_of_number d s.fact f t there h.stated) k
-value_by d a fit s f t there h (item_of u) e v k = given_typed d a fit Answer s v t (type_of_number d s.fact f t there h.stated) k
+value_by d a fit s f t there h _ e v k = given_typed d a fit Answer s v t (type_of_number d s.fact f t there h.stated) k
 
 answer_typed : (dom : Domains) (o : Option Value) (t : FactType) → ((v : Value) → o ≡ Some v → IsOfType dom v t) → IsResOfType dom (answer_result o) t
 answer_typed dom None t h = tt
@@ -89,7 +85,7 @@ placeholder_typed : (d : Tree) (a : Answered) (look : Look) → IsTypedLook d a 
 placeholder_typed d a look h s None t k r m = m
 placeholder_typed d a look h s (Some x) t k (Complete v) m = m
 placeholder_typed d a look h s (Some x) t k (Placeholder v) m = m
-placeholder_typed d a look h s (Some x) t k Incomplete m = lower_type (domains d a) (expression d look s x) t (expression_typed d a look h s x t k)
+placeholder_typed d a look h s (Some x) t k Incomplete m = down-type (domains d a) (expression d look s x) t (expression_typed d a look h s x t k)
 placeholder_typed d a look h s (Some x) t k (Fault fault) m = tt
 
 -- the result of a slot over typed results is of its fact's type
@@ -141,34 +137,6 @@ typed_results names d good a fit s r e t k = table_typed names d good a fit (suc
 pub plain_typed : (names : List (List ℕ)) (d : Accepted) → IsAccepted names d → (a : Answered) → AnswersFit d.tree a → IsTypedLook d.tree a (plain d a)
 plain_typed names d good a fit = typed_results names d good a fit
 
--- ---- the members that results name
-
--- the result of a Collection names members of it
-pub plain_members : (names : List (List ℕ)) (d : Accepted) → IsAccepted names d → (a : Answered) → AnswersFit d.tree a → (s : Slot) (c : ℕ) → type_at d.tree s.fact ≡ Some (types.Collection c) → (r : Res) → plain d a s ≡ Some r → (m : ℕ) → IsIn (members_of r) m → IsTrue (is_member a c m)
-plain_members names d good a fit s c k r e m i =
-    one_of_them (is_member a c) (members_of r) (collection_members d.tree a c r (typed_results names d good a fit s r e (types.Collection c) k)) m i
-
--- the result of an Item names a member of the collection
-pub plain_member : (names : List (List ℕ)) (d : Accepted) → IsAccepted names d → (a : Answered) → AnswersFit d.tree a → (s : Slot) (c : ℕ) → type_at d.tree s.fact ≡ Some (types.Item c) → (r : Res) → plain d a s ≡ Some r → (m : ℕ) → IsIn (member_read r) m → IsTrue (is_member a c m)
-plain_member names d good a fit s c k r e m i =
-    one_of_them (is_member a c) (member_read r) (item_member d.tree a c r (typed_results names d good a fit s r e (types.Item c) k)) m i
-
--- ---- the same of what a node reads, by its targets
-
 -- the result of a target with this type, at any member
 pub target_typed : (names : List (List ℕ)) (d : Accepted) → IsAccepted names d → (a : Answered) → AnswersFit d.tree a → (o : Option ℕ) (m : ℕ) (t : FactType) → type_of_target d.tree o ≡ Some t → IsResOfType (domains d.tree a) (result_at (plain d a) o m) t
 target_typed names d good a fit o m t e = result_typed d.tree a (plain d a) (plain_typed names d good a fit) o m t e
-
--- a target whose type has the base `/b` of a list names members of `/b`
-pub list_members : (names : List (List ℕ)) (d : Accepted) → IsAccepted names d → (a : Answered) → AnswersFit d.tree a → (o : Option ℕ) (at : ℕ) (b : List ℕ) → option_and_then (list_base_at d.tree) o ≡ Some b → (m : ℕ) → IsIn (members_of (result_at (plain d a) o at)) m → IsTrue (is_member a (base_number d.tree (Some b)) m)
-list_members names d good a fit o at b e m i =
-    let c = base_number d.tree (Some b) in
-    let r = result_at (plain d a) o at in
-    one_of_them (is_member a c) (members_of r) (collection_members d.tree a c r (target_typed names d good a fit o at (types.Collection c) (list_target d.tree o b e))) m i
-
--- a target whose type has the base `/b` of an item names a member of `/b`
-pub item_members : (names : List (List ℕ)) (d : Accepted) → IsAccepted names d → (a : Answered) → AnswersFit d.tree a → (o : Option ℕ) (at : ℕ) (b : List ℕ) → option_and_then (item_base_at d.tree) o ≡ Some b → (m : ℕ) → IsIn (member_read (result_at (plain d a) o at)) m → IsTrue (is_member a (base_number d.tree (Some b)) m)
-item_members names d good a fit o at b e m i =
-    let c = base_number d.tree (Some b) in
-    let r = result_at (plain d a) o at in
-    one_of_them (is_member a c) (member_read r) (item_member d.tree a c r (target_typed names d good a fit o at (types.Item c) (item_target d.tree o b e))) m i

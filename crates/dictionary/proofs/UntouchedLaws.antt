@@ -3,6 +3,7 @@ use Rattle.std.proofs.Common.{◌≡◌, ◌⊎◌, inl, inr, ℕ, Bool, true, f
 use Rattle.std.specs.FinMap as map
 use Rattle.std.specs.List.{list_any}
 use Rattle.std.specs.Str.{bytes_eq}
+use Rattle.std.proofs.lemmas.Bool.{not-false}
 use Rattle.std.proofs.lemmas.Slice.Eq.{bytes_eq-Decides}
 use Rattle.fact_values.specs.declared.slot.Slot.{Slot}
 use Rattle.dict_tree.specs.declared.mentions.Mention.{Mention}
@@ -12,7 +13,7 @@ use Rattle.three_state.specs.declared.res.Res.{Res}
 use Rattle.three_state.specs.Equality.{res_same, value_same}
 use Rattle.three_state.proofs.EqualityLaws.{res_same-Decides, value_same-Decides}
 use Rattle.evaluation.specs.Mentioned.{AllOf}
-use Rattle.evaluation.proofs.Bools.{both_left, both_right, or_left, or_neither, or_right}
+use Rattle.common_lemmas.proofs.Bools.{both_left, both_right, or_left, or_neither, or_right}
 use Rattle.answers.specs.Answered.{Answered, value_of}
 use Rattle.answers.specs.declared.edit.Side.TheVariants.{Answer, Override}
 use Rattle.dictionary.specs.Accepted.{Accepted, IsAccepted}
@@ -53,11 +54,8 @@ pub record IsQuiet (d : Accepted) (a b : Answered) (s : Slot) : Type 0 where
   pub fed : (t : Slot) → IsTrue (feeds d.tree t s) → Stays d a b t
 
 given_same : (d : Accepted) (a b : Answered) (s : Slot) → IsQuiet d a b s → (stated : Stated) → given_value stated a s ≡ given_value stated b s
-given_same d a b s q (scalar t) = q.answer
-given_same d a b s q (enum_of n) = q.answer
 given_same d a b s q writable_list = ap open_list q.list
-given_same d a b s q (list_of u) = q.answer
-given_same d a b s q (item_of u) = q.answer
+given_same d a b s q _ = q.answer
 
 step_is : (d : Accepted) (a : Answered) (s : Slot) (f : Fact) → fact_at d.tree.facts s.fact ≡ Some f → IsTrue (stands d.tree a s) → plain_step d a (plain d a) s ≡ Some (slot_result d.tree a (plain d a) s f)
 step_is d a s f e i = rw i (ap (λ (o : Option Fact). at_fact o None (λ (f : Fact). Some (slot_result d.tree a (plain d a) s f))) e)
@@ -85,13 +83,9 @@ module _ (names : List (List ℕ)) (d : Accepted) (accepted : IsAccepted names d
 
 -- ---- from the test to the facts
 
-not_false : (b : Bool) → not b ≡ false → IsTrue b
-not_false true h = refl
-not_false false h = absurd (cc)
-
 unmoved : (d : Accepted) (a b : Answered) (s t : Slot) → (feeds d.tree t s && has_moved d a b t) ≡ false → IsTrue (feeds d.tree t s) → Stays d a b t
 unmoved d a b s t h f x y =
-    same_option res_same (λ r r'. (res_same-Decides r r').0) (plain d a t) (plain d b t) (not_false (both_same res_same (plain d a t) (plain d b t)) (rw (f, x, y) at h))
+    same_option res_same (λ r r'. (res_same-Decides r r').0) (plain d a t) (plain d b t) (not-false (both_same res_same (plain d a t) (plain d b t)) (rw (f, x, y) at h))
 
 quiet : (d : Accepted) (a b : Answered) (s : Slot) → IsTrue (stands d.tree a s) → IsTrue (stands d.tree b s) → IsTrue (same_entry a b s) → is_fed d a b s ≡ false → IsQuiet d a b s
 quiet d a b s x y entry fed =
@@ -118,7 +112,7 @@ final_keeps names d accepted a b before after s h =
 -- an untouched slot isn't fed, or it is exempt
 unfed_or_exempt : (fed exempt : Bool) → (fed && not exempt) ≡ false → (fed ≡ false) ⊎ IsTrue exempt
 unfed_or_exempt false exempt h = inl refl
-unfed_or_exempt true exempt h = inr (not_false exempt h)
+unfed_or_exempt true exempt h = inr (not-false exempt h)
 
 pub untouched_keeps : UntouchedKeeps
 untouched_keeps names d accepted a b before after s y h =
@@ -128,6 +122,6 @@ untouched_keeps names d accepted a b before after s y h =
     let parts = or_neither (new || entry) (is_fed d a b s && not exempt) h in
     let first = or_neither new entry parts.0 in
     elim (unfed_or_exempt (is_fed d a b s) exempt parts.1) [
-      | inl unfed ↦ quiet_keeps names d accepted a b before after s (quiet d a b s (not_false (stands d.tree a s) first.0) y (not_false (same_entry a b s) first.1) unfed)
+      | inl unfed ↦ quiet_keeps names d accepted a b before after s (quiet d a b s (not-false (stands d.tree a s) first.0) y (not-false (same_entry a b s) first.1) unfed)
       | inr final ↦ final_keeps names d accepted a b before after s final
     ]

@@ -56,13 +56,3 @@ pub weight_over_lower : (names : List (List ℕ)) (d : Accepted) → IsAccepted 
 weight_over_lower names d accepted a look s h =
     at_fact_same (fact_at d.tree.facts s.fact) 0 _ _ (λ f e. lower_weighs names d accepted look (plain d a) s f e (λ t low. h t low.0 low.1))
     ∙ sym (weight_is d a s)
-
--- a slot of which nothing differs, nor of what feeds it, has one weight
-pub quiet_weighs : (names : List (List ℕ)) (d : Accepted) → IsAccepted names d → (a b : Answered) → AnswersFit d.tree a → AnswersFit d.tree b → (s : Slot) → IsQuiet d a b s → slot_weight d a s ≡ slot_weight d b s
-quiet_weighs names d accepted a b before after s q =
-    weight_is d a s
-    ∙ at_fact_same (fact_at d.tree.facts s.fact) 0 _ _ (λ f e.
-    fact_same d.tree (plain d a) (plain d b) s (StaysBy d a b s) (IsReached d a b s)
-    (agree_under names d accepted a b before after s (own names d accepted a b before after s q))
-    (outside names d accepted a b before after s q) f (uses names d accepted a b before after s q f e))
-    ∙ sym (weight_is d b s)

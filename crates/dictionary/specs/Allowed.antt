@@ -1,7 +1,10 @@
--- Which changes of answers a command may make, and that answers fit after them.
+-- Which changes of answers a command may make, and which answers fit.
 use Rattle.std.specs.Prelude.{ℕ, ◌&&◌, IsTrue, List, Some, None}
+use Rattle.std.specs.List.{All}
 use Rattle.dict_tree.specs.Dictionary.{Dictionary as Tree}
 use Rattle.answers.specs.Answered.{Answered, start}
+use Rattle.answers.specs.GivenLists.{IsOfLists}
+use Rattle.answers.specs.WellFormed.{FromOne, WellFormed}
 use Rattle.answers.specs.Change.{Change, sets, opens, closes, adds, takes as takes_newest, removes, puts_back, applied, Fits}
 use Rattle.dictionary.specs.Accepted.{Accepted, IsAccepted}
 use Rattle.dictionary.specs.Fits.{AnswersFit, IsOfFact, is_list, takes}
@@ -24,6 +27,12 @@ IsAllowed d a (puts_back c place m e) = ⊥
 -- the answers at the start fit every dictionary
 abbrev pub StartFits : Type 0
 StartFits = (d : Tree) → AnswersFit d start
+
+-- and so do given lists of Writable collections, of which nothing is answered
+abbrev pub GivenFit : Type 0
+GivenFit =
+    (d : Tree) (lists : List (ℕ × List ℕ)) (next : ℕ) (a : Answered) → WellFormed a → FromOne a → IsOfLists lists next a
+    → All (λ (e : ℕ × List ℕ). IsTrue (is_list d e.0)) lists → AnswersFit d a
 
 -- after an allowed change that can be made, answers that fitted still fit
 abbrev pub AllowedChangesFit : Type 0

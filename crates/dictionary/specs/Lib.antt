@@ -18,4 +18,5 @@ pub mod Steady
 pub mod SteadyReading
 pub mod Touched
 pub mod TypedResults
+pub mod Undone
 pub mod Weights

@@ -115,13 +115,13 @@ StepOverLower =
     (names : List (List ℕ)) (d : Accepted) → IsAccepted names d → (a : Answered) (look : Look) (s : Slot)
     → IsPlainBelow d a (rank d s.fact) look → plain_step d a look s ≡ plain d a s
 
--- a map that has what is told of the facts of rank below n
-abbrev pub HasTold : Accepted → (Slot → Option Value) → ℕ → Look → Type 0
-HasTold d told n look = (s : Slot) (v : Value) → told s ≡ Some v → rank d s.fact < n → look s ≡ Some (Complete v)
+-- a map that has what is known of the facts of rank below n
+abbrev pub HasKnown : Accepted → (Slot → Option Value) → ℕ → Look → Type 0
+HasKnown d known n look = (s : Slot) (v : Value) → known s ≡ Some v → rank d s.fact < n → look s ≡ Some (Complete v)
 
--- where each slot has its told value over told values of lower rank, plain evaluation has them all
+-- where each slot has its known value over known values of lower rank, plain evaluation has them all
 abbrev pub JoinedByRank : Type 0
 JoinedByRank =
-    (names : List (List ℕ)) (d : Accepted) → IsAccepted names d → (a : Answered) (told : Slot → Option Value)
-    → ((s : Slot) (v : Value) → told s ≡ Some v → (look : Look) → HasTold d told (rank d s.fact) look → plain_step d a look s ≡ Some (Complete v))
-    → (s : Slot) (v : Value) → told s ≡ Some v → plain d a s ≡ Some (Complete v)
+    (names : List (List ℕ)) (d : Accepted) → IsAccepted names d → (a : Answered) (known : Slot → Option Value)
+    → ((s : Slot) (v : Value) → known s ≡ Some v → (look : Look) → HasKnown d known (rank d s.fact) look → plain_step d a look s ≡ Some (Complete v))
+    → (s : Slot) (v : Value) → known s ≡ Some v → plain d a s ≡ Some (Complete v)

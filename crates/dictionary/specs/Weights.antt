@@ -1,14 +1,18 @@
 -- How much work the evaluation of a slot is.
-use Rattle.std.specs.Prelude.{ℕ, ◌+◌, Option, Some, None, sum_by}
+use Rattle.std.specs.Prelude.{◌≡◌, ℕ, suc, ◌+◌, ◌*◌, Option, Some, None, length, sum_by}
 use Rattle.fact_values.specs.declared.slot.Slot.{Slot}
-use Rattle.dict_tree.specs.Tree.{Source}
+use Rattle.dict_tree.specs.Tree.{Source, Use, pick}
+use Rattle.dict_tree.specs.Dictionary.{Dictionary as Tree}
+use Rattle.dict_tree.specs.declared.operators.PickOp.{PickOp}
 use Rattle.dict_tree.specs.Finding.{fact_at}
+use Rattle.three_state.specs.Results.{members_of}
 use Rattle.evaluation.specs.Over.{weight}
 use Rattle.answers.specs.Answered.{Answered}
 use Rattle.dictionary.specs.Accepted.{Accepted}
 use Rattle.dictionary.specs.Plain.{at_fact, body, plain}
-use Rattle.dictionary.specs.Reading.{outermost, source_env}
+use Rattle.dictionary.specs.Reading.{Look, Place, entered, outermost, source_env, source_result}
 use Rattle.dictionary.specs.Slots.{standing}
+use Rattle.dictionary.specs.Touched.{touched}
 
 -- of an expression of the slot's fact, with the results of plain evaluation; an absent one weighs nothing
 abbrev pub expression_weight : Accepted → Answered → Slot → Option Source → ℕ
@@ -22,3 +26,16 @@ slot_weight d a s = at_fact (fact_at d.tree.facts s.fact) 0 (λ f. expression_we
 -- of all slots that stand
 abbrev pub whole_weight : Accepted → Answered → ℕ
 whole_weight d a = sum_by (slot_weight d a) (standing d.tree a)
+
+-- of the slots that a change touches, after it
+abbrev pub touched_weight : Accepted → Answered → Answered → ℕ
+touched_weight d a b = sum_by (slot_weight d b) (touched d a b)
+
+-- ---- a law
+
+-- a Filter and a Find weigh 1, and what their condition weighs at any member as often as there are members
+abbrev pub PickWeighs : Type 0
+PickWeighs =
+    (d : Tree) (look : Look) (fact : ℕ) (at : Place) (op : PickOp) (u : Use) (t : Source) (m : ℕ)
+    → weight (source_env d look fact) at (pick op u t)
+    ≡ suc (length (members_of (source_result d look fact at u.path)) * weight (source_env d look fact) (entered d fact at u.path m) t)

@@ -3,7 +3,7 @@ ghost use Rattle.std.specs.Prelude.{◌≡◌, ◌+◌, ◌<◌, ◌≤◌, ◌^
 ghost use Rattle.fact_values.specs.declared.slot.Slot.{Slot};
 ghost use Rattle.answers.specs.Answered.{Answered};
 ghost use Rattle.answers.specs.Change.{Fits, applied};
-ghost use Rattle.answers.specs.Standing.{answered, change};
+ghost use Rattle.answers.specs.Meaning.{answered, change};
 ghost use Rattle.dictionary.specs.Accepted.{Accepted, accepted};
 ghost use Rattle.dictionary.specs.Engines.{AreFresh, AreMarkedBy, AreSameMarks, Marks};
 ghost use Rattle.dictionary.specs.Fits.{AnswersFit};

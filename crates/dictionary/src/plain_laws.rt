@@ -16,7 +16,7 @@ pub fn lower_facts_are_enough()
     ensures { StepOverLower }
 {}
 
-/// Where each slot has its told value over told values of lower rank, plain evaluation has them all.
-pub fn told_values_are_joined_by_rank()
+/// Where each slot has its known value over known values of lower rank, plain evaluation has them all.
+pub fn known_values_are_joined_by_rank()
     ensures { JoinedByRank }
 {}

@@ -12,7 +12,7 @@ use Rattle.three_state.specs.declared.res.Res.TheVariants.{Complete, Placeholder
 use Rattle.three_state.specs.Results.{down, filter_members, find_cases, find_member, kept, members_in, members_of, strict, switch_of, through}
 use Rattle.evaluation.specs.Over.{Env, over, over_all, over_cases, many_of, one_of, two_of, pick_of, weight, weight_of_all, weight_of_cases}
 use Rattle.evaluation.specs.Agreement.{IsIn, Agree, AgreeInAll, AgreeInCases}
-use Rattle.evaluation.proofs.Bools.{or_left, or_right}
+use Rattle.common_lemmas.proofs.Bools.{or_left, or_right}
 
 -- ---- members of a list
 

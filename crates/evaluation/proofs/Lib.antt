@@ -1,4 +1,3 @@
-pub mod Bools
 pub mod Coincide
 pub mod CompletesLaws
 pub mod MemberLaws

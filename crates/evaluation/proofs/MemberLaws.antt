@@ -3,7 +3,7 @@ use Rattle.std.proofs.Common.{◌≡◌, ℕ, suc, ◌≤◌, Bool, true, false,
 use Rattle.std.specs.List.{list_any, list_all}
 use Rattle.std.proofs.lemmas.Bool.{le-leb, leb-true}
 use Rattle.fact_values.specs.Members.{IsMemberList, are_distinct, is_member}
-use Rattle.evaluation.proofs.Bools.{and_intro, both, is_not, neither_or, not_true, or_neither}
+use Rattle.common_lemmas.proofs.Bools.{and_intro, both, is_not, neither_or, not_true, or_neither}
 
 longer : (b : Bool) (m : ℕ) (xs ms : List ℕ) → length xs ≤ length ms → length (if b then m ∷ xs else xs) ≤ suc (length ms)
 longer true m xs ms h = omega arith

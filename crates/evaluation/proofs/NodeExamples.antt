@@ -38,6 +38,13 @@ example_env = record {
 abbrev pub gives : Example → Res
 gives t = over example_env 0 t
 
+abbrev AreSame : List (Res × Res) → Type 0
+AreSame rows = map (λ (row : Res × Res). row.0) rows ≡ map (λ (row : Res × Res). row.1) rows
+
+-- what each expression gives
+abbrev AreGiven : List (Example × Res) → Type 0
+AreGiven rows = AreSame (map (λ (row : Example × Res). (gives row.0, row.1)) rows)
+
 abbrev pub dependency : Res → Example
 dependency r = read (λ at. r)
 
@@ -74,176 +81,102 @@ constants = Boolean true ∷ Boolean false ∷ Int (pos 1) ∷ Dollar (pos 1) �
 constants_are_complete : map (λ v. gives (literal v)) constants ≡ map Complete constants
 constants_are_complete = refl
 
-a_dependency : gives (dependency (Placeholder (Text []))) ≡ Placeholder (Text [])
-a_dependency = refl
-
-complete_is_complete : complete_test (Complete (Boolean false)) ≡ Complete (Boolean true)
-complete_is_complete = refl
-
-placeholder_is_not_complete : complete_test (Placeholder (Boolean true)) ≡ Complete (Boolean false)
-placeholder_is_not_complete = refl
-
-size_of_two : collection_size (Placeholder (Members (4 ∷ 7 ∷ []))) ≡ Placeholder (Int (pos 2))
-size_of_two = refl
-
 -- members 4 and 7 have 1.50 and 2.00
 abbrev amounts : ℕ → Res
 amounts m = if nat_eq m 4 then Complete (Dollar (pos 150)) else Complete (Dollar (pos 200))
-
-sum_of_amounts : sum_over types.Dollar (Complete (Members (4 ∷ 7 ∷ []))) amounts ≡ Complete (Dollar (pos 350))
-sum_of_amounts = refl
 
 -- a Placeholder among whole numbers
 abbrev whole_numbers : ℕ → Res
 whole_numbers m = if nat_eq m 4 then Placeholder (Int (negsuc 4)) else Complete (Int (pos 3))
 
-sum_of_ints : sum_over types.Int (Complete (Members (4 ∷ 7 ∷ []))) whole_numbers ≡ Placeholder (Int (negsuc 1))
-sum_of_ints = refl
-
 -- member 4 is of age
 abbrev of_age : ℕ → Res
 of_age m = Complete (Boolean (nat_eq m 4))
 
-one_is_of_age : count_of (Complete (Members (4 ∷ 7 ∷ []))) of_age ≡ Complete (Int (pos 1))
-one_is_of_age = refl
-
-empty_count : count_of (Complete (Members [])) of_age ≡ Complete (Int (pos 0))
-empty_count = refl
-
-empty_sum : sum_over types.Dollar (Complete (Members [])) amounts ≡ Complete (Dollar (pos 0))
-empty_sum = refl
-
-empty_sum_of_ints : sum_over types.Int (Complete (Members [])) whole_numbers ≡ Complete (Int (pos 0))
-empty_sum_of_ints = refl
-
--- through an Item
-item_leads_to_field : through_item (Complete (Item 7)) amounts ≡ Complete (Dollar (pos 200))
-item_leads_to_field = refl
-
-item_is_placeholder : through_item (Placeholder (Item 7)) amounts ≡ Placeholder (Dollar (pos 200))
-item_is_placeholder = refl
-
-no_item : through_item Incomplete amounts ≡ Incomplete
-no_item = refl
+reads : AreSame (
+    (gives (dependency (Placeholder (Text []))), Placeholder (Text []))
+    ∷ (complete_test (Complete (Boolean false)), Complete (Boolean true))
+    ∷ (complete_test (Placeholder (Boolean true)), Complete (Boolean false))
+    ∷ (collection_size (Placeholder (Members (4 ∷ 7 ∷ []))), Placeholder (Int (pos 2)))
+    ∷ (sum_over types.Dollar (Complete (Members (4 ∷ 7 ∷ []))) amounts, Complete (Dollar (pos 350)))
+    ∷ (sum_over types.Int (Complete (Members (4 ∷ 7 ∷ []))) whole_numbers, Placeholder (Int (negsuc 1)))
+    ∷ (count_of (Complete (Members (4 ∷ 7 ∷ []))) of_age, Complete (Int (pos 1)))
+    ∷ (count_of (Complete (Members [])) of_age, Complete (Int (pos 0)))
+    ∷ (sum_over types.Dollar (Complete (Members [])) amounts, Complete (Dollar (pos 0)))
+    ∷ (sum_over types.Int (Complete (Members [])) whole_numbers, Complete (Int (pos 0)))
+    -- through an Item
+    ∷ (through_item (Complete (Item 7)) amounts, Complete (Dollar (pos 200)))
+    ∷ (through_item (Placeholder (Item 7)) amounts, Placeholder (Dollar (pos 200)))
+    ∷ (through_item Incomplete amounts, Incomplete)
+    ∷ []
+    )
+reads = refl
 
 -- ---- Switch, All, Any
 
-first_case_unanswered : gives (switch (a_case (dependency Incomplete) (int (pos 1)) (a_case yes (int (pos 2)) no_cases))) ≡ Incomplete
-first_case_unanswered = refl
-
-second_case : gives (switch (a_case no (int (pos 1)) (a_case yes (int (pos 2)) no_cases))) ≡ Complete (Int (pos 2))
-second_case = refl
-
-past_placeholder : gives (switch (a_case (dependency (Placeholder (Boolean false))) (int (pos 1)) (a_case yes (int (pos 2)) no_cases))) ≡ Placeholder (Int (pos 2))
-past_placeholder = refl
-
-no_case_left : gives (switch (a_case no (int (pos 1)) no_cases)) ≡ Incomplete
-no_case_left = refl
-
-false_after_unanswered : gives (many All (operands (yes ∷ dependency Incomplete ∷ no ∷ []))) ≡ Complete (Boolean false)
-false_after_unanswered = refl
-
-all_true : gives (many All (operands (yes ∷ dependency (Placeholder (Boolean true)) ∷ []))) ≡ Placeholder (Boolean true)
-all_true = refl
-
-true_after_fault : gives (many Any (operands (dependency (Fault Overflow) ∷ yes ∷ []))) ≡ Complete (Boolean true)
-true_after_fault = refl
-
-none_true : gives (many Any (operands (no ∷ no ∷ []))) ≡ Complete (Boolean false)
-none_true = refl
+switches_and_junctions : AreGiven (
+    (switch (a_case (dependency Incomplete) (int (pos 1)) (a_case yes (int (pos 2)) no_cases)), Incomplete)
+    ∷ (switch (a_case no (int (pos 1)) (a_case yes (int (pos 2)) no_cases)), Complete (Int (pos 2)))
+    ∷ (switch (a_case (dependency (Placeholder (Boolean false))) (int (pos 1)) (a_case yes (int (pos 2)) no_cases)), Placeholder (Int (pos 2)))
+    ∷ (switch (a_case no (int (pos 1)) no_cases), Incomplete)
+    ∷ (many All (operands (yes ∷ dependency Incomplete ∷ no ∷ [])), Complete (Boolean false))
+    ∷ (many All (operands (yes ∷ dependency (Placeholder (Boolean true)) ∷ [])), Placeholder (Boolean true))
+    ∷ (many Any (operands (dependency (Fault Overflow) ∷ yes ∷ [])), Complete (Boolean true))
+    ∷ (many Any (operands (no ∷ no ∷ [])), Complete (Boolean false))
+    ∷ []
+    )
+switches_and_junctions = refl
 
 -- ---- strict nodes
 
-negated : gives (one Not (dependency (Placeholder (Boolean false)))) ≡ Placeholder (Boolean true)
-negated = refl
-
--- 10^15 - 1, and 1 more than the range has
-largest_int : gives (many Add (operands (int (pos 999999999999998) ∷ int (pos 1) ∷ []))) ≡ Complete (Int (pos 999999999999999))
-largest_int = refl
-
-sum_overflows : gives (many Add (operands (int (pos 999999999999999) ∷ int (pos 1) ∷ []))) ≡ Fault Overflow
-sum_overflows = refl
-
-sum_comes_back : gives (many Add (operands (int (pos 999999999999999) ∷ int (pos 1) ∷ int (negsuc 1) ∷ []))) ≡ Complete (Int (pos 999999999999998))
-sum_comes_back = refl
-
-sum_of_dollars : gives (many Add (operands (dollar (pos 150) ∷ dollar (negsuc 49) ∷ []))) ≡ Complete (Dollar (pos 100))
-sum_of_dollars = refl
-
--- 1/3 + 1/6
-sum_of_rationals : gives (many Add (operands (rational (pos 1) 3 ∷ rational (pos 1) 6 ∷ []))) ≡ Complete (Rational (ratio (pos 1) 2))
+strict_nodes : AreGiven (
+    (one Not (dependency (Placeholder (Boolean false))), Placeholder (Boolean true))
+    -- 10^15 - 1, and 1 more than the range has
+    ∷ (many Add (operands (int (pos 999999999999998) ∷ int (pos 1) ∷ [])), Complete (Int (pos 999999999999999)))
+    ∷ (many Add (operands (int (pos 999999999999999) ∷ int (pos 1) ∷ [])), Fault Overflow)
+    ∷ (many Add (operands (int (pos 999999999999999) ∷ int (pos 1) ∷ int (negsuc 1) ∷ [])), Complete (Int (pos 999999999999998)))
+    ∷ (many Add (operands (dollar (pos 150) ∷ dollar (negsuc 49) ∷ [])), Complete (Dollar (pos 100)))
+    -- 1/3 + 1/6
+    ∷ (many Add (operands (rational (pos 1) 3 ∷ rational (pos 1) 6 ∷ [])), Complete (Rational (ratio (pos 1) 2)))
+    -- an operand without an answer comes before a fault
+    ∷ (many Add (operands (dependency (Fault Overflow) ∷ dependency Incomplete ∷ [])), Incomplete)
+    -- 10 - (3 + 4)
+    ∷ (many Subtract (operands (int (pos 10) ∷ int (pos 3) ∷ int (pos 4) ∷ [])), Complete (Int (pos 3)))
+    ∷ (many Subtract (operands (dollar (pos 100) ∷ dollar (pos 150) ∷ [])), Complete (Dollar (negsuc 49)))
+    -- 1/3 - 1/2
+    ∷ (many Subtract (operands (rational (pos 1) 3 ∷ rational (pos 1) 2 ∷ [])), Complete (Rational (ratio (negsuc 0) 6)))
+    -- half of 0.05 is 0.03
+    ∷ (two Multiply (dollar (pos 5)) (rational (pos 1) 2), Complete (Dollar (pos 3)))
+    ∷ (two Multiply (int (pos 4)) (rational (pos 3) 2), Complete (Rational (ratio (pos 6) 1)))
+    ∷ (two Divide (int (pos 4)) (int (negsuc 5)), Complete (Rational (ratio (negsuc 1) 3)))
+    -- 1.00 in three
+    ∷ (two Divide (dollar (pos 100)) (int (pos 3)), Complete (Dollar (pos 33)))
+    ∷ (two Divide (dollar (pos 100)) (int (pos 0)), Fault ZeroDivide)
+    ∷ (many GreaterOf (operands (int (pos 2) ∷ int (pos 7) ∷ int (negsuc 0) ∷ [])), Complete (Int (pos 7)))
+    ∷ (many LesserOf (operands (rational (pos 1) 2 ∷ rational (pos 1) 3 ∷ [])), Complete (Rational (ratio (pos 1) 3)))
+    ∷ (two Equal (literal (Text (97 ∷ []))) (literal (Text (97 ∷ []))), Complete (Boolean true))
+    ∷ (two NotEqual (literal (Choice 0 1)) (literal (Choice 0 2)), Complete (Boolean true))
+    -- 1.50 and -1.50: half away from zero
+    ∷ (one Round (dollar (pos 150)), Complete (Dollar (pos 200)))
+    ∷ (one Round (dollar (negsuc 149)), Complete (Dollar (negsuc 199)))
+    ∷ (two AddDays (day (pos 0)) (int (pos 1)), Complete (Day (pos 1)))
+    ∷ (two AddDays (day last_day) (int (pos 1)), Fault Overflow)
+    ∷ []
+    )
 unfolding gcd
-sum_of_rationals = refl
-
--- an operand without an answer comes before a fault
-unanswered_after_fault : gives (many Add (operands (dependency (Fault Overflow) ∷ dependency Incomplete ∷ []))) ≡ Incomplete
-unanswered_after_fault = refl
-
--- 10 - (3 + 4)
-difference_of_ints : gives (many Subtract (operands (int (pos 10) ∷ int (pos 3) ∷ int (pos 4) ∷ []))) ≡ Complete (Int (pos 3))
-difference_of_ints = refl
-
-difference_of_dollars : gives (many Subtract (operands (dollar (pos 100) ∷ dollar (pos 150) ∷ []))) ≡ Complete (Dollar (negsuc 49))
-difference_of_dollars = refl
-
--- 1/3 - 1/2
-difference_of_rationals : gives (many Subtract (operands (rational (pos 1) 3 ∷ rational (pos 1) 2 ∷ []))) ≡ Complete (Rational (ratio (negsuc 0) 6))
-unfolding gcd
-difference_of_rationals = refl
-
--- half of 0.05 is 0.03
-product_is_rounded : gives (two Multiply (dollar (pos 5)) (rational (pos 1) 2)) ≡ Complete (Dollar (pos 3))
-product_is_rounded = refl
-
-product_of_int_and_rational : gives (two Multiply (int (pos 4)) (rational (pos 3) 2)) ≡ Complete (Rational (ratio (pos 6) 1))
-unfolding gcd
-product_of_int_and_rational = refl
-
-quotient_of_ints : gives (two Divide (int (pos 4)) (int (negsuc 5))) ≡ Complete (Rational (ratio (negsuc 1) 3))
-unfolding gcd
-quotient_of_ints = refl
-
--- 1.00 in three
-quotient_is_rounded : gives (two Divide (dollar (pos 100)) (int (pos 3))) ≡ Complete (Dollar (pos 33))
-quotient_is_rounded = refl
-
-divided_by_zero : gives (two Divide (dollar (pos 100)) (int (pos 0))) ≡ Fault ZeroDivide
-divided_by_zero = refl
-
-greatest : gives (many GreaterOf (operands (int (pos 2) ∷ int (pos 7) ∷ int (negsuc 0) ∷ []))) ≡ Complete (Int (pos 7))
-greatest = refl
-
-least : gives (many LesserOf (operands (rational (pos 1) 2 ∷ rational (pos 1) 3 ∷ []))) ≡ Complete (Rational (ratio (pos 1) 3))
-least = refl
-
-equal : gives (two Equal (literal (Text (97 ∷ []))) (literal (Text (97 ∷ [])))) ≡ Complete (Boolean true)
-equal = refl
-
-not_equal : gives (two NotEqual (literal (Choice 0 1)) (literal (Choice 0 2))) ≡ Complete (Boolean true)
-not_equal = refl
+strict_nodes = refl
 
 -- the first operand is on the left
 abbrev both_ways : TwoOp → List Res
 both_ways op = gives (two op (day (pos 1)) (day (pos 2))) ∷ gives (two op (day (pos 2)) (day (pos 2))) ∷ gives (two op (day (pos 2)) (day (pos 1))) ∷ []
 
-less_than : both_ways LessThan ≡ Complete (Boolean true) ∷ Complete (Boolean false) ∷ Complete (Boolean false) ∷ []
-less_than = refl
-
-less_than_or_equal : both_ways LessThanOrEqual ≡ Complete (Boolean true) ∷ Complete (Boolean true) ∷ Complete (Boolean false) ∷ []
-less_than_or_equal = refl
-
-greater_than : both_ways GreaterThan ≡ Complete (Boolean false) ∷ Complete (Boolean false) ∷ Complete (Boolean true) ∷ []
-greater_than = refl
-
-greater_than_or_equal : both_ways GreaterThanOrEqual ≡ Complete (Boolean false) ∷ Complete (Boolean true) ∷ Complete (Boolean true) ∷ []
-greater_than_or_equal = refl
-
--- 1.50 and -1.50: half away from zero
-rounded_up : gives (one Round (dollar (pos 150))) ≡ Complete (Dollar (pos 200))
-rounded_up = refl
-
-rounded_down : gives (one Round (dollar (negsuc 149))) ≡ Complete (Dollar (negsuc 199))
-rounded_down = refl
+orders : map both_ways (LessThan ∷ LessThanOrEqual ∷ GreaterThan ∷ GreaterThanOrEqual ∷ []) ≡
+    (Complete (Boolean true) ∷ Complete (Boolean false) ∷ Complete (Boolean false) ∷ [])
+    ∷ (Complete (Boolean true) ∷ Complete (Boolean true) ∷ Complete (Boolean false) ∷ [])
+    ∷ (Complete (Boolean false) ∷ Complete (Boolean false) ∷ Complete (Boolean true) ∷ [])
+    ∷ (Complete (Boolean false) ∷ Complete (Boolean true) ∷ Complete (Boolean true) ∷ [])
+    ∷ []
+orders = refl
 
 -- 2199-12-31
 year_of_last_day : gives (one YearOf (day last_day)) ≡ Complete (Int (pos 2199))
@@ -251,12 +184,6 @@ year_of_last_day = ap (λ y. Complete (Int y)) (year_of-date last_day (pos 2199)
   where
     of_2199 : IsDateInRange (pos 2199) (pos 12) (pos 31)
     of_2199 = (((omega (arith, ints), omega (arith, ints)), (omega (arith, ints), omega (arith, ints)), (omega (arith, ints), omega (arith, ints))), (omega (arith, ints), omega (arith, ints)))
-
-day_after_first : gives (two AddDays (day (pos 0)) (int (pos 1))) ≡ Complete (Day (pos 1))
-day_after_first = refl
-
-days_overflow : gives (two AddDays (day last_day) (int (pos 1))) ≡ Fault Overflow
-days_overflow = refl
 
 -- ---- Filter and Find
 
@@ -273,26 +200,17 @@ true_ = Complete (Boolean true)
 abbrev false_ : Res
 false_ = Complete (Boolean false)
 
-filtered : gives (pick Filter three (at_members true_ false_ true_)) ≡ Complete (Members (4 ∷ 7 ∷ []))
-filtered = refl
-
-filtered_on_placeholder : gives (pick Filter three (at_members true_ (Placeholder (Boolean false)) true_)) ≡ Placeholder (Members (4 ∷ 7 ∷ []))
-filtered_on_placeholder = refl
-
-condition_unanswered_after_fault : gives (pick Filter three (at_members (Fault ZeroDivide) Incomplete true_)) ≡ Incomplete
-condition_unanswered_after_fault = refl
-
-filtered_source_is_placeholder : gives (pick Filter (Placeholder (Members (4 ∷ []))) yes) ≡ Placeholder (Members (4 ∷ []))
-filtered_source_is_placeholder = refl
-
-found : gives (pick Find three (at_members false_ true_ Incomplete)) ≡ Complete (Item 5)
-found = refl
-
-found_past_placeholder : gives (pick Find three (at_members (Placeholder (Boolean false)) true_ Incomplete)) ≡ Placeholder (Item 5)
-found_past_placeholder = refl
-
-nobody_found : gives (pick Find three no) ≡ Incomplete
-nobody_found = refl
+filters : AreGiven (
+    (pick Filter three (at_members true_ false_ true_), Complete (Members (4 ∷ 7 ∷ [])))
+    ∷ (pick Filter three (at_members true_ (Placeholder (Boolean false)) true_), Placeholder (Members (4 ∷ 7 ∷ [])))
+    ∷ (pick Filter three (at_members (Fault ZeroDivide) Incomplete true_), Incomplete)
+    ∷ (pick Filter (Placeholder (Members (4 ∷ []))) yes, Placeholder (Members (4 ∷ [])))
+    ∷ (pick Find three (at_members false_ true_ Incomplete), Complete (Item 5))
+    ∷ (pick Find three (at_members (Placeholder (Boolean false)) true_ Incomplete), Placeholder (Item 5))
+    ∷ (pick Find three no, Incomplete)
+    ∷ []
+    )
+filters = refl
 
 -- ---- weight
 

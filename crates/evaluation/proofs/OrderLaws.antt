@@ -16,7 +16,7 @@ use Rattle.three_state.proofs.OrderLaws.{case_keeps, filter_keeps, find_keeps, j
 use Rattle.evaluation.specs.Operations.{many_value, on_one, on_two, one_value, two_value}
 use Rattle.evaluation.specs.Over.{Env, over, over_all, over_cases, many_of, one_of, two_of, pick_of}
 use Rattle.evaluation.specs.Order.{KeepsReads, KeepsReadsInAll, KeepsReadsInCases, KeepsTested, reads_pass, reads_pass_in_all, reads_pass_in_cases}
-use Rattle.evaluation.proofs.Bools.{both}
+use Rattle.common_lemmas.proofs.Bools.{both}
 
 keeps_itself : (r : Res) → Keeps r r
 keeps_itself r = record { keeps = λ v e. e }

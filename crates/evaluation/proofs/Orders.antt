@@ -8,6 +8,7 @@ use Rattle.std.specs.Cmp.{int_cmp_is, int_ranks}
 use Rattle.std.specs.declared.cmp.Ordering.{Ordering}
 use Rattle.std.specs.declared.cmp.Ordering.TheVariants.{Less, Equal, Greater}
 use Rattle.std.specs.Ordering.{MatchOrdering, int_cmp, is_gt, is_lt, ordering_reverse}
+use Rattle.common_lemmas.proofs.Numbers.{neg_times}
 use Rattle.fact_values.specs.declared.fact_type.FactType.{FactType}
 use Rattle.fact_values.specs.declared.fact_type.FactType.TheVariants as types
 use Rattle.fact_values.specs.declared.value.Value.{Value}
@@ -24,10 +25,6 @@ use Rattle.evaluation.proofs.ValueTypes.{day_value, dollar_value, int_value, rat
 
 nat_swap : (n p q : ℕ) → n * p * q ≡ n * q * p
 nat_swap n p q = mul_assoc n p q ∙ ap (λ m. n * m) (mul_comm p q) ∙ sym (mul_assoc n q p)
-
-neg_times : (q d : ℕ) → neg_ℤ (pos q) *ℤ pos d ≡ neg_ℤ (pos (q * d))
-neg_times zero d = grind (arith, ints)
-neg_times (suc q) d = negsuc-*ℤ-pos q d
 
 times_swap : (z : ℤ) (p q : ℕ) → (z *ℤ pos p) *ℤ pos q ≡ (z *ℤ pos q) *ℤ pos p
 times_swap (pos n) p q = ap pos (nat_swap n p q)
@@ -81,7 +78,7 @@ order-reverse d types.Rational v w s h k =
     let a = rational_value d v h in
     let b = rational_value d w k in
     rw (a.1, b.1) (int_cmp_total.antisymm (a.0.num *ℤ pos b.0.den) (b.0.num *ℤ pos a.0.den))
-order-reverse d _ v w s h k = absurd s
+order-reverse d _ v w s h k = absurd cc
 
 not_greater-upto : (d : Domains) (t : FactType) (u v w : Value) → IsOrdered t → IsOfType d u t → IsOfType d v t → IsOfType d w t → IsNotGreater u v → IsNotGreater v w → IsNotGreater u w
 not_greater-upto d types.Int u v w s h k l =
@@ -104,7 +101,7 @@ not_greater-upto d types.Rational u v w s h k l =
     let b = rational_value d v k in
     let c = rational_value d w l in
     rw (a.1, b.1, c.1) (ratio-upto a.0 b.0 c.0 a.2 b.2 c.2)
-not_greater-upto d _ u v w s h k l = absurd s
+not_greater-upto d _ u v w s h k l = absurd cc
 
 reversed_gt : (r : Ordering) → is_gt (ordering_reverse r) ≡ is_lt r
 reversed_gt Less = refl

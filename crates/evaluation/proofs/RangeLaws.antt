@@ -8,7 +8,7 @@ use Rattle.fact_values.specs.Range.{IsInRange, is_in_range}
 use Rattle.fact_values.specs.Rationals.{IsRational, Ratio, checked_lowest, checked_ratio, difference_of_ratios, is_small, lowest, sum_of_ratios}
 use Rattle.fact_values.specs.Totals.{checked}
 use Rattle.fact_values.proofs.Rationals.{IsRational-lowest}
-use Rattle.evaluation.proofs.Bools.{both}
+use Rattle.common_lemmas.proofs.Bools.{both}
 
 -- ---- whole numbers
 

@@ -13,7 +13,7 @@ use Rattle.evaluation.specs.Agreement.{IsIn}
 use Rattle.evaluation.specs.Over.{Env, over, over_all, over_cases, many_of, one_of, pick_of}
 use Rattle.evaluation.specs.SlotsRead.{AnswerAlike, ReadBy, after_condition, members_visited, slots_read, slots_read_of_all, slots_read_of_cases, up_to_decider}
 use Rattle.evaluation.proofs.Coincide.{pick_same, through_same}
-use Rattle.evaluation.proofs.Bools.{and_assoc, both}
+use Rattle.common_lemmas.proofs.Bools.{and_assoc, both}
 
 all-append : {X : Type 0} (test : X → Bool) (xs ys : List X) → list_all test (xs ++ ys) ≡ (list_all test xs && list_all test ys)
 all-append test [] ys = refl

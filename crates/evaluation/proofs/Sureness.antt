@@ -16,7 +16,7 @@ use Rattle.three_state.specs.Results.{filter_members, find_member, find_of, firs
 use Rattle.evaluation.specs.Operations.{all_from, all_true, any_from, any_true, many_value, on_one, on_two, one_value, two_value}
 use Rattle.evaluation.specs.Over.{over, over_all, over_cases, many_of, one_of, pick_of}
 use Rattle.evaluation.specs.Sure.{Known, IsKnown, value_of, first_found, first_member, picked, worth, worth_of_all, worth_of_cases, has_pick, is_sure, is_sure_of_all, is_sure_of_cases}
-use Rattle.evaluation.proofs.Bools.{and_assoc, and_true, both_left, both_right, or_assoc, or_false}
+use Rattle.common_lemmas.proofs.Bools.{and_assoc, and_true, both_left, both_right, or_assoc, or_false}
 
 -- ---- rules on complete operands
 

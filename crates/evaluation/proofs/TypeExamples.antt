@@ -1,9 +1,10 @@
 -- Which type each kind of node has, by example.
-use Rattle.std.proofs.Common.{ℕ, List, [], ◌∷◌, Some, inl, inr, refl}
+use Rattle.std.proofs.Common.{◌≡◌, ℕ, List, [], ◌∷◌, Option, Some, refl}
 use Rattle.fact_values.specs.declared.fact_type.FactType.{FactType}
 use Rattle.fact_values.specs.declared.fact_type.FactType.TheVariants.{Boolean, Int, Dollar, Rational, Day, Text, Enum, Collection, Item}
+use Rattle.dict_tree.specs.OperandTypes.{many_type}
 use Rattle.dict_tree.specs.Tree.{Tree, Trees, literal, read, switch, many, one, two, pick, no_trees, tree, no_cases, a_case}
-use Rattle.dict_tree.specs.Typing.{AreTwo, HasType, HaveTypes, ReadType, Types}
+use Rattle.dict_tree.specs.Typing.{HasType, HaveTypes, ReadType, Types}
 use Rattle.dict_tree.specs.declared.operators.ReadOp.TheVariants as read_op
 use Rattle.dict_tree.specs.declared.operators.ManyOp.TheVariants.{All, Add, Subtract, GreaterOf}
 use Rattle.dict_tree.specs.declared.operators.OneOp.TheVariants.{Not, Round, YearOf}
@@ -32,6 +33,9 @@ a t = literal t
 abbrev operands : List FactType → Trees FactType FactType ℕ
 operands [] = no_trees
 operands (t ∷ ts) = tree (a t) (operands ts)
+
+abbrev int : Option FactType
+int = Some Int
 
 a_constant : Has (a (Enum 2)) (Enum 2)
 a_constant = refl
@@ -67,41 +71,44 @@ no_empty_switch : Has (switch no_cases) Text → ⊥
 no_empty_switch h = h.0
 
 an_all : Has (many All (operands (Boolean ∷ Boolean ∷ []))) Boolean
-an_all = (Boolean ∷ Boolean ∷ [], (refl, (refl, tt)), ((refl, (refl, tt)), refl))
+an_all = (Boolean ∷ Boolean ∷ [], (refl, (refl, tt)), refl)
 
 a_sum : Has (many Add (operands (Dollar ∷ Dollar ∷ Dollar ∷ []))) Dollar
-a_sum = (Dollar ∷ Dollar ∷ Dollar ∷ [], (refl, (refl, (refl, tt))), inl (tt, (refl, (refl, (refl, tt)))))
+a_sum = (Dollar ∷ Dollar ∷ Dollar ∷ [], (refl, (refl, (refl, tt))), refl)
 
 a_sum_of_two_rationals : Has (many Add (operands (Rational ∷ Rational ∷ []))) Rational
-a_sum_of_two_rationals = (Rational ∷ Rational ∷ [], (refl, (refl, tt)), inr (refl, refl))
+a_sum_of_two_rationals = (Rational ∷ Rational ∷ [], (refl, (refl, tt)), refl)
 
 a_sum_of_one : Has (many Add (operands (Int ∷ []))) Int
-a_sum_of_one = (Int ∷ [], (refl, tt), inl (tt, (refl, tt)))
+a_sum_of_one = (Int ∷ [], (refl, tt), refl)
 
 a_difference : Has (many Subtract (operands (Int ∷ Int ∷ []))) Int
-a_difference = (Int ∷ Int ∷ [], (refl, (refl, tt)), inl (tt, (refl, (refl, tt))))
+a_difference = (Int ∷ Int ∷ [], (refl, (refl, tt)), refl)
 
 -- a difference has two operands at least
 no_difference_of_one : Has (many Subtract (operands (Int ∷ []))) Int → ⊥
-no_difference_of_one (us, k, inr m) = cc
-no_difference_of_one (us, k, inl m) = one_operand us k m.1
+no_difference_of_one (us, k, m) = one_operand us k m
   where
-    one_operand : (us : List FactType) → HaveTypes example_types 0 (operands (Int ∷ [])) us → AreTwo Int us → ⊥
-    one_operand [] k m = m
-    one_operand (u ∷ []) k m = m.1
+    of_one : (u : FactType) → int ≡ Some u → many_type Subtract (u ∷ []) ≡ Some Int → ⊥
+    of_one Int e m = cc
+    of_one _ e m = cc
+
+    one_operand : (us : List FactType) → HaveTypes example_types 0 (operands (Int ∷ [])) us → many_type Subtract us ≡ Some Int → ⊥
+    one_operand [] k m = k
+    one_operand (u ∷ []) k m = of_one u k.0 m
     one_operand (u ∷ v ∷ us) k m = k.1
 
 a_greatest_day : Has (many GreaterOf (operands (Day ∷ []))) Day
-a_greatest_day = (Day ∷ [], (refl, tt), (tt, (refl, tt)))
+a_greatest_day = (Day ∷ [], (refl, tt), refl)
 
 a_negation : Has (one Not (a Boolean)) Boolean
-a_negation = (Boolean, refl, (refl, refl))
+a_negation = (Boolean, refl, refl)
 
 a_rounded_dollar : Has (one Round (a Dollar)) Dollar
-a_rounded_dollar = (Dollar, refl, (refl, refl))
+a_rounded_dollar = (Dollar, refl, refl)
 
 a_year : Has (one YearOf (a Day)) Int
-a_year = (Day, refl, (refl, refl))
+a_year = (Day, refl, refl)
 
 a_product : Has (two Multiply (a Rational) (a Dollar)) Dollar
 a_product = (Rational, Dollar, refl, refl, refl)
@@ -110,13 +117,13 @@ a_quotient : Has (two Divide (a Int) (a Int)) Rational
 a_quotient = (Int, Int, refl, refl, refl)
 
 a_later_day : Has (two AddDays (a Day) (a Int)) Day
-a_later_day = (Day, Int, refl, refl, (refl, refl, refl))
+a_later_day = (Day, Int, refl, refl, refl)
 
 an_equality : Has (two Equal (a (Enum 1)) (a (Enum 1))) Boolean
-an_equality = (Enum 1, Enum 1, refl, refl, (tt, refl, refl))
+an_equality = (Enum 1, Enum 1, refl, refl, refl)
 
 an_order : Has (two LessThan (a Rational) (a Rational)) Boolean
-an_order = (Rational, Rational, refl, refl, (tt, refl, refl))
+an_order = (Rational, Rational, refl, refl, refl)
 
 a_filter : Has (pick Filter 3 (a Boolean)) (Collection 3)
 a_filter = (3, refl, refl, refl)

@@ -15,7 +15,8 @@ use Rattle.dict_tree.specs.declared.operators.OneOp.{OneOp}
 use Rattle.dict_tree.specs.declared.operators.TwoOp.{TwoOp}
 use Rattle.dict_tree.specs.declared.operators.PickOp.{PickOp}
 use Rattle.dict_tree.specs.declared.operators.PickOp.TheVariants.{Filter, Find}
-use Rattle.dict_tree.specs.Typing.{HasType, HaveTypes, HaveCaseTypes, IsSummed, ManyType, OneType, TwoType, Types, pick_type}
+use Rattle.dict_tree.specs.OperandTypes.{many_type, one_type, pick_type, two_type}
+use Rattle.dict_tree.specs.Typing.{HasType, HaveTypes, HaveCaseTypes, IsSummed, Types}
 use Rattle.three_state.specs.declared.res.Res.{Res}
 use Rattle.three_state.specs.declared.res.Res.TheVariants.{Complete, Placeholder, Incomplete, Fault}
 use Rattle.three_state.specs.Results.{count_of, down, fault_else, field_operands, fields_in, filter_members, find_member, first_fault, is_complete, is_complete_at, is_incomplete, is_placeholder, is_placeholder_at, is_true, junction, kept, members_in, outcome, strict, switch_case, switch_of, through, truth, value_before, values_of}
@@ -25,8 +26,8 @@ use Rattle.evaluation.specs.Reads.{collection_size, complete_test, field_at, sum
 use Rattle.evaluation.specs.Typed.{Domains, IsOfType, IsResOfType, IsTypedAt}
 use Rattle.evaluation.proofs.MemberLaws.{filter-all, filter-member_list, member_list-length, member_list-members}
 use Rattle.evaluation.proofs.RangeLaws.{small-in-range}
-use Rattle.evaluation.proofs.ValueTypes.{AreOfTypes, GivesType, dollars_give, gives_ok, ints_give, item_value, many-gives, members_value, one-gives, two-gives}
-use Rattle.evaluation.proofs.Bools.{both}
+use Rattle.evaluation.proofs.ValueTypes.{AreOfTypes, GivesType, all_is, any_is, dollars_give, gives_ok, ints_give, item_value, many-gives, members_value, one-gives, two-gives}
+use Rattle.common_lemmas.proofs.Bools.{both}
 
 -- results, one by one, of these types
 abbrev pub AreResOfTypes : Domains → List Res → List FactType → Type 0
@@ -36,7 +37,7 @@ AreResOfTypes d _ _ = ⊥
 
 -- ---- the rules
 
-down-type : (d : Domains) (r : Res) (t : FactType) → IsResOfType d r t → IsResOfType d (down r) t
+pub down-type : (d : Domains) (r : Res) (t : FactType) → IsResOfType d r t → IsResOfType d (down r) t
 down-type d (Complete v) t h = h
 down-type d (Placeholder v) t h = h
 down-type d Incomplete t h = tt
@@ -114,27 +115,27 @@ strict_of-type d op rs us t h k = strict-type d op rs t (λ a b. k (values_of rs
 
 -- ---- the nodes
 
-many-type : (d : Domains) (op : ManyOp) (rs : List Res) (us : List FactType) (t : FactType) → ManyType op us t → AreResOfTypes d rs us → IsResOfType d (many_of op rs) t
-many-type d All rs us t m h = rw m.1 (junction-type d false rs)
-many-type d Any rs us t m h = rw m.1 (junction-type d true rs)
+many-type : (d : Domains) (op : ManyOp) (rs : List Res) (us : List FactType) (t : FactType) → many_type op us ≡ Some t → AreResOfTypes d rs us → IsResOfType d (many_of op rs) t
+many-type d All rs us t m h = rw (all_is us t m) (junction-type d false rs)
+many-type d Any rs us t m h = rw (any_is us t m) (junction-type d true rs)
 many-type d Add rs us t m h = strict_of-type d (many_value Add) rs us t h (λ vs k. many-gives d Add vs us t m k)
 many-type d Subtract rs us t m h = strict_of-type d (many_value Subtract) rs us t h (λ vs k. many-gives d Subtract vs us t m k)
 many-type d GreaterOf rs us t m h = strict_of-type d (many_value GreaterOf) rs us t h (λ vs k. many-gives d GreaterOf vs us t m k)
 many-type d LesserOf rs us t m h = strict_of-type d (many_value LesserOf) rs us t h (λ vs k. many-gives d LesserOf vs us t m k)
 
-one_by : (d : Domains) (op : OneOp) (u t : FactType) → OneType op u t → (vs : List Value) → AreOfTypes d vs (u ∷ []) → GivesType d (on_one (one_value op) vs) t
+one_by : (d : Domains) (op : OneOp) (u t : FactType) → one_type op u ≡ Some t → (vs : List Value) → AreOfTypes d vs (u ∷ []) → GivesType d (on_one (one_value op) vs) t
 one_by d op u t m [] h = absurd h
 one_by d op u t m (v ∷ vs) h = one-gives d op v u t m
 
-one-type : (d : Domains) (op : OneOp) (r : Res) (u t : FactType) → OneType op u t → IsResOfType d r u → IsResOfType d (one_of op r) t
+one-type : (d : Domains) (op : OneOp) (r : Res) (u t : FactType) → one_type op u ≡ Some t → IsResOfType d r u → IsResOfType d (one_of op r) t
 one-type d op r u t m h = strict_of-type d (on_one (one_value op)) (r ∷ []) (u ∷ []) t (h, tt) (one_by d op u t m)
 
-two_by : (d : Domains) (op : TwoOp) (a b t : FactType) → TwoType op a b t → (vs : List Value) → AreOfTypes d vs (a ∷ b ∷ []) → GivesType d (on_two (two_value op) vs) t
+two_by : (d : Domains) (op : TwoOp) (a b t : FactType) → two_type op a b ≡ Some t → (vs : List Value) → AreOfTypes d vs (a ∷ b ∷ []) → GivesType d (on_two (two_value op) vs) t
 two_by d op a b t m [] h = absurd h
 two_by d op a b t m (v ∷ []) h = absurd h.1
 two_by d op a b t m (v ∷ w ∷ vs) h = two-gives d op v w a b t m h.0 h.1.0
 
-two-type : (d : Domains) (op : TwoOp) (r s : Res) (a b t : FactType) → TwoType op a b t → IsResOfType d r a → IsResOfType d s b → IsResOfType d (two_of op r s) t
+two-type : (d : Domains) (op : TwoOp) (r s : Res) (a b t : FactType) → two_type op a b ≡ Some t → IsResOfType d r a → IsResOfType d s b → IsResOfType d (two_of op r s) t
 two-type d op r s a b t m h k = strict_of-type d (on_two (two_value op)) (r ∷ s ∷ []) (a ∷ b ∷ []) t (h, (k, tt)) (two_by d op a b t m)
 
 filter_members-type : (d : Domains) (condition : ℕ → Res) (ms : List ℕ) (c : ℕ) → IsMemberList ms → IsTrue (list_all (d.has_member c) ms) → IsResOfType d (filter_members condition ms) (types.Collection c)

@@ -1,5 +1,9 @@
 -- Operations on values of the right types give values of the right type.
-use Rattle.std.proofs.Common.{◌≡◌, ℕ, zero, suc, ◌*◌, ◌<◌, ℤ, pos, negsuc, neg_ℤ, ◌-ℤ◌, ◌*ℤ◌, ◌+ℤ◌, Bool, true, false, IsTrue, if◌then◌else◌, List, [], ◌∷◌, Result, Ok, Err, inl, inr, refl, subst}
+use Rattle.std.proofs.Common.{◌≡◌, ℕ, zero, suc, ◌*◌, ◌<◌, ℤ, pos, negsuc, neg_ℤ, ◌-ℤ◌, ◌*ℤ◌, ◌+ℤ◌, Bool, true, false, IsTrue, ◌&&◌, if◌then◌else◌, List, [], ◌∷◌, length, Option, Some, None, Result, Ok, Err, refl, sym, ap, subst, ◌∙◌, arith}
+use Rattle.std.specs.Prelude.{◌==◌, nat_lt, option_and_then}
+use Rattle.common_lemmas.proofs.Bools.{both, chosen}
+use Rattle.common_lemmas.proofs.Numbers.{same_number}
+use Rattle.common_lemmas.proofs.Options.{both_some}
 use Rattle.std.specs.List.{list_all}
 use Rattle.std.specs.Ordering.{is_gt, is_lt}
 use Rattle.std.proofs.Math.Nat.{mul-pos}
@@ -10,7 +14,7 @@ use Rattle.fact_values.specs.declared.fault.ValueFault.{ValueFault}
 use Rattle.fact_values.specs.declared.num.Num.{Num}
 use Rattle.fact_values.specs.declared.num.Num.TheVariants as num
 use Rattle.fact_values.specs.declared.value.Value.{Value}
-use Rattle.fact_values.specs.declared.value.Value.TheVariants.{Int, Dollar, Rational, Day, Members, Item}
+use Rattle.fact_values.specs.declared.value.Value.TheVariants.{Boolean, Int, Dollar, Rational, Day, Members, Item}
 use Rattle.fact_values.specs.Members.{IsMemberList}
 use Rattle.fact_values.specs.Numbers.{as_rational, checked_dollar, checked_int, checked_rational, product, quotient, rounded_quotient}
 use Rattle.fact_values.specs.Range.{is_in_range}
@@ -24,7 +28,9 @@ use Rattle.dict_tree.specs.declared.operators.OneOp.{OneOp}
 use Rattle.dict_tree.specs.declared.operators.OneOp.TheVariants as one_op
 use Rattle.dict_tree.specs.declared.operators.TwoOp.{TwoOp}
 use Rattle.dict_tree.specs.declared.operators.TwoOp.TheVariants as two_op
-use Rattle.dict_tree.specs.Typing.{AreAll, AreSome, AreTwo, AreTwoRationals, IsSummed, ManyType, OneType, ProductType, QuotientType, TwoType}
+use Rattle.dict_tree.specs.OperandTypes.{common_type, is_compared, is_ordered, many_type, one_type, product_type, quotient_type, same_type, two_type, type_of_many}
+use Rattle.dict_tree.proofs.TypeLaws.{same_is}
+use Rattle.evaluation.specs.Extremes.{AreOfType}
 use Rattle.evaluation.specs.Operations.{day_in, difference_of, dollar_in, greater, greatest, greatest_of, int_in, least, least_of, lesser, many_value, number_in, number_value, one_value, sum_of, total, two_value, value_as}
 use Rattle.evaluation.specs.Typed.{Domains, IsOfType}
 use Rattle.evaluation.proofs.RangeLaws.{checked-in-range, checked_lowest-is-rational, checked_ratio-is-rational, day_after-is-day, difference-is-rational, sum-is-rational, year-in-range}
@@ -80,45 +86,79 @@ ints_give d z = gives_as d Int (checked z) types.Int (λ x e. checked-in-range z
 pub dollars_give : (d : Domains) (z : ℤ) → GivesType d (value_as Dollar (checked z)) types.Dollar
 dollars_give d z = gives_as d Dollar (checked z) types.Dollar (λ x e. checked-in-range z x e)
 
+-- ---- values of one type
+
+-- one value or more
+abbrev pub AreSomeOf : Domains → FactType → List Value → Type 0
+AreSomeOf d u [] = ⊥
+AreSomeOf d u (v ∷ vs) = IsOfType d v u × AreOfType d u vs
+
+all_of : (d : Domains) (u : FactType) (vs : List Value) (us : List FactType) → list_all (same_type u) us ≡ true → AreOfTypes d vs us → AreOfType d u vs
+all_of d u [] [] e h = tt
+all_of d u [] (w ∷ us) e h = absurd h
+all_of d u (v ∷ vs) [] e h = absurd h
+all_of d u (v ∷ vs) (w ∷ us) e h =
+    let p = both (same_type u w) (list_all (same_type u) us) e in
+    (subst (IsOfType d v) (sym (same_is u w p.0)) h.0, all_of d u vs us p.1 h.1)
+
+some_of : (d : Domains) (vs : List Value) (us : List FactType) (u : FactType) → common_type us ≡ Some u → AreOfTypes d vs us → AreSomeOf d u vs
+some_of d vs [] u e h = absurd cc
+some_of d [] (w ∷ us) u e h = absurd h
+some_of d (v ∷ vs) (w ∷ us) u e h =
+    let p = chosen (list_all (same_type w) us) w u e in
+    subst (λ t. AreSomeOf d t (v ∷ vs)) p.1 (h.0, all_of d w vs us p.0 h.1)
+
+as_many : (d : Domains) (vs : List Value) (us : List FactType) → AreOfTypes d vs us → length us ≡ length vs
+as_many d [] [] h = refl
+as_many d [] (u ∷ us) h = absurd h
+as_many d (v ∷ vs) [] h = absurd h
+as_many d (v ∷ vs) (u ∷ us) h = ap suc (as_many d vs us h.1)
+
+-- what a row of the table says
+abbrev row : FactType → Option FactType
+row u = Some u
+
+row_is : (u t : FactType) → row u ≡ Some t → t ≡ u
+row_is u t e = cc
+
+row_where : (b : Bool) (u t : FactType) → (if b then row u else None) ≡ Some t → t ≡ u
+row_where b u t e = sym (chosen b u t e).1
+
+row_unless : (b : Bool) (u t : FactType) → (if b then None else row u) ≡ Some t → t ≡ u
+row_unless true u t e = absurd cc
+row_unless false u t e = cc
+
 -- ---- Add and Subtract
 
-sum_first : (d : Domains) (v : Value) (vs : List Value) (t : FactType) → IsSummed t → IsOfType d v t → GivesType d (sum_of (v ∷ vs)) t
-sum_first d (Int n) vs types.Int s h = ints_give d (n +ℤ total int_in vs)
-sum_first d _ vs types.Int s h = absurd h
-sum_first d (Dollar n) vs types.Dollar s h = dollars_give d (n +ℤ total dollar_in vs)
-sum_first d _ vs types.Dollar s h = absurd h
-sum_first d _ vs _ s h = absurd s
+int_sum : (d : Domains) (vs : List Value) → AreSomeOf d types.Int vs → GivesType d (sum_of vs) types.Int
+int_sum d [] h = absurd h
+int_sum d (v ∷ vs) h = let x = int_value d v h.0 in rw x.1 (ints_give d (x.0 +ℤ total int_in vs))
 
-difference_first : (d : Domains) (v : Value) (vs : List Value) (t : FactType) → IsSummed t → IsOfType d v t → GivesType d (difference_of (v ∷ vs)) t
-difference_first d (Int n) vs types.Int s h = ints_give d (n -ℤ total int_in vs)
-difference_first d _ vs types.Int s h = absurd h
-difference_first d (Dollar n) vs types.Dollar s h = dollars_give d (n -ℤ total dollar_in vs)
-difference_first d _ vs types.Dollar s h = absurd h
-difference_first d _ vs _ s h = absurd s
+dollar_sum : (d : Domains) (vs : List Value) → AreSomeOf d types.Dollar vs → GivesType d (sum_of vs) types.Dollar
+dollar_sum d [] h = absurd h
+dollar_sum d (v ∷ vs) h = let x = dollar_value d v h.0 in rw x.1 (dollars_give d (x.0 +ℤ total dollar_in vs))
 
-sums : (d : Domains) (vs : List Value) (us : List FactType) (t : FactType) → IsSummed t → AreSome t us → AreOfTypes d vs us → GivesType d (sum_of vs) t
-sums d [] [] t s some h = absurd some
-sums d [] (u ∷ us) t s some h = absurd h
-sums d (v ∷ vs) [] t s some h = absurd some
-sums d (v ∷ vs) (u ∷ us) t s some h = sum_first d v vs t s (subst (IsOfType d v) some.0 h.0)
+int_difference : (d : Domains) (vs : List Value) → AreSomeOf d types.Int vs → GivesType d (difference_of vs) types.Int
+int_difference d [] h = absurd h
+int_difference d (v ∷ vs) h = let x = int_value d v h.0 in rw x.1 (ints_give d (x.0 -ℤ total int_in vs))
 
-differences : (d : Domains) (vs : List Value) (us : List FactType) (t : FactType) → IsSummed t → AreTwo t us → AreOfTypes d vs us → GivesType d (difference_of vs) t
-differences d [] [] t s two h = absurd two
-differences d [] (u ∷ us) t s two h = absurd h
-differences d (v ∷ vs) [] t s two h = absurd two
-differences d (v ∷ vs) (u ∷ us) t s two h = difference_first d v vs t s (subst (IsOfType d v) two.0 h.0)
+dollar_difference : (d : Domains) (vs : List Value) → AreSomeOf d types.Dollar vs → GivesType d (difference_of vs) types.Dollar
+dollar_difference d [] h = absurd h
+dollar_difference d (v ∷ vs) h = let x = dollar_value d v h.0 in rw x.1 (dollars_give d (x.0 -ℤ total dollar_in vs))
 
 -- two fractions
 rational_pair : (d : Domains) (op : List Value → Result Value ValueFault)
     → ((p q : Ratio) → IsRational p → IsRational q → GivesType d (op (Rational p ∷ Rational q ∷ [])) types.Rational)
-    → (vs : List Value) → AreOfTypes d vs (types.Rational ∷ types.Rational ∷ []) → GivesType d (op vs) types.Rational
-rational_pair d op k [] h = absurd h
-rational_pair d op k (v ∷ []) h = absurd h.1
-rational_pair d op k (v ∷ w ∷ []) h =
+    → (vs : List Value) (t : FactType) → (if length vs == 2 then row types.Rational else None) ≡ Some t → AreSomeOf d types.Rational vs → GivesType d (op vs) t
+rational_pair d op k [] t e h = absurd h
+rational_pair d op k (v ∷ []) t e h = absurd cc
+rational_pair d op k (v ∷ w ∷ []) t e h =
     let p = rational_value d v h.0 in
     let q = rational_value d w h.1.0 in
-    rw (p.1, q.1) (k p.0 q.0 p.2 q.2)
-rational_pair d op k (v ∷ w ∷ x ∷ vs) h = absurd h.1.1
+    rw (row_is types.Rational t e, p.1, q.1) (k p.0 q.0 p.2 q.2)
+rational_pair d op k (v ∷ w ∷ x ∷ vs) t e h =
+    let n : length (v ∷ w ∷ x ∷ vs) ≡ 2 = same_number (length (v ∷ w ∷ x ∷ vs)) 2 (chosen (length (v ∷ w ∷ x ∷ vs) == 2) types.Rational t e).0 in
+    absurd (omega (arith, n))
 
 pair_sums : (d : Domains) (p q : Ratio) → IsRational p → IsRational q → GivesType d (sum_of (Rational p ∷ Rational q ∷ [])) types.Rational
 pair_sums d p q h k = gives_as d Rational (sum_of_ratios p q) types.Rational (λ x e. sum-is-rational p q h k x e)
@@ -126,57 +166,69 @@ pair_sums d p q h k = gives_as d Rational (sum_of_ratios p q) types.Rational (λ
 pair_differences : (d : Domains) (p q : Ratio) → IsRational p → IsRational q → GivesType d (difference_of (Rational p ∷ Rational q ∷ [])) types.Rational
 pair_differences d p q h k = gives_as d Rational (difference_of_ratios p q) types.Rational (λ x e. difference-is-rational p q h k x e)
 
-rational_pairs : (d : Domains) (op : List Value → Result Value ValueFault)
-    → ((p q : Ratio) → IsRational p → IsRational q → GivesType d (op (Rational p ∷ Rational q ∷ [])) types.Rational)
-    → (vs : List Value) (us : List FactType) (t : FactType) → AreTwoRationals us t → AreOfTypes d vs us → GivesType d (op vs) t
-rational_pairs d op k vs us t two h = rw two.1 (rational_pair d op k vs (subst (AreOfTypes d vs) two.0 h))
-
 -- ---- GreaterOf and LesserOf
 
 either : (d : Domains) (b : Bool) (v w : Value) (t : FactType) → IsOfType d v t → IsOfType d w t → IsOfType d (if b then v else w) t
 either d true v w t h k = h
 either d false v w t h k = k
 
-greatest-type : (d : Domains) (v : Value) (vs : List Value) (us : List FactType) (t : FactType) → IsOfType d v t → AreAll t us → AreOfTypes d vs us → IsOfType d (greatest v vs) t
-greatest-type d v [] us t h all hs = h
-greatest-type d v (w ∷ ws) [] t h all hs = absurd hs
-greatest-type d v (w ∷ ws) (u ∷ us) t h all hs =
-    greatest-type d (greater v w) ws us t (either d (is_lt (order_of v w)) w v t (subst (IsOfType d w) all.0 hs.0) h) all.1 hs.1
+greatest-type : (d : Domains) (v : Value) (vs : List Value) (t : FactType) → IsOfType d v t → AreOfType d t vs → IsOfType d (greatest v vs) t
+greatest-type d v [] t h hs = h
+greatest-type d v (w ∷ ws) t h hs = greatest-type d (greater v w) ws t (either d (is_lt (order_of v w)) w v t hs.0 h) hs.1
 
-least-type : (d : Domains) (v : Value) (vs : List Value) (us : List FactType) (t : FactType) → IsOfType d v t → AreAll t us → AreOfTypes d vs us → IsOfType d (least v vs) t
-least-type d v [] us t h all hs = h
-least-type d v (w ∷ ws) [] t h all hs = absurd hs
-least-type d v (w ∷ ws) (u ∷ us) t h all hs =
-    least-type d (lesser v w) ws us t (either d (is_gt (order_of v w)) w v t (subst (IsOfType d w) all.0 hs.0) h) all.1 hs.1
+least-type : (d : Domains) (v : Value) (vs : List Value) (t : FactType) → IsOfType d v t → AreOfType d t vs → IsOfType d (least v vs) t
+least-type d v [] t h hs = h
+least-type d v (w ∷ ws) t h hs = least-type d (lesser v w) ws t (either d (is_gt (order_of v w)) w v t hs.0 h) hs.1
 
-greatest_of-type : (d : Domains) (vs : List Value) (us : List FactType) (t : FactType) → AreSome t us → AreOfTypes d vs us → IsOfType d (greatest_of vs) t
-greatest_of-type d [] [] t some h = absurd some
-greatest_of-type d [] (u ∷ us) t some h = absurd h
-greatest_of-type d (v ∷ vs) [] t some h = absurd some
-greatest_of-type d (v ∷ vs) (u ∷ us) t some h = greatest-type d v vs us t (subst (IsOfType d v) some.0 h.0) some.1 h.1
+-- the greatest or the least of some of a type with an order
+extreme : (d : Domains) (best : List Value → Value) → ((v : Value) (vs : List Value) (u : FactType) → IsOfType d v u → AreOfType d u vs → IsOfType d (best (v ∷ vs)) u)
+    → (vs : List Value) (u t : FactType) → (if is_ordered u then row u else None) ≡ Some t → AreSomeOf d u vs → GivesType d (Ok (best vs)) t
+extreme d best k [] u t e h = absurd h
+extreme d best k (v ∷ vs) u t e h = rw (row_where (is_ordered u) u t e) (gives_ok d (best (v ∷ vs)) u (k v vs u h.0 h.1))
 
-least_of-type : (d : Domains) (vs : List Value) (us : List FactType) (t : FactType) → AreSome t us → AreOfTypes d vs us → IsOfType d (least_of vs) t
-least_of-type d [] [] t some h = absurd some
-least_of-type d [] (u ∷ us) t some h = absurd h
-least_of-type d (v ∷ vs) [] t some h = absurd some
-least_of-type d (v ∷ vs) (u ∷ us) t some h = least-type d v vs us t (subst (IsOfType d v) some.0 h.0) some.1 h.1
+many_by : (d : Domains) (op : ManyOp) (vs : List Value) (u t : FactType) → type_of_many op (length vs) u ≡ Some t → AreSomeOf d u vs → GivesType d (many_value op vs) t
+many_by d many_op.All vs types.Boolean t e h = rw (row_is types.Boolean t e) (gives_ok d _ types.Boolean tt)
+many_by d many_op.Any vs types.Boolean t e h = rw (row_is types.Boolean t e) (gives_ok d _ types.Boolean tt)
+many_by d many_op.Add vs types.Int t e h = rw (row_is types.Int t e) (int_sum d vs h)
+many_by d many_op.Add vs types.Dollar t e h = rw (row_is types.Dollar t e) (dollar_sum d vs h)
+many_by d many_op.Add vs types.Rational t e h = rational_pair d sum_of (pair_sums d) vs t e h
+many_by d many_op.Subtract vs types.Int t e h = rw (row_unless (nat_lt (length vs) 2) types.Int t e) (int_difference d vs h)
+many_by d many_op.Subtract vs types.Dollar t e h = rw (row_unless (nat_lt (length vs) 2) types.Dollar t e) (dollar_difference d vs h)
+many_by d many_op.Subtract vs types.Rational t e h = rational_pair d difference_of (pair_differences d) vs t e h
+many_by d many_op.GreaterOf vs u t e h = extreme d greatest_of (greatest-type d) vs u t e h
+many_by d many_op.LesserOf vs u t e h = extreme d least_of (least-type d) vs u t e h
+many_by d _ vs _ t e h = absurd cc
 
-pub many-gives : (d : Domains) (op : ManyOp) (vs : List Value) (us : List FactType) (t : FactType) → ManyType op us t → AreOfTypes d vs us → GivesType d (many_value op vs) t
-many-gives d many_op.All vs us t m h = rw m.1 (gives_ok d _ types.Boolean tt)
-many-gives d many_op.Any vs us t m h = rw m.1 (gives_ok d _ types.Boolean tt)
-many-gives d many_op.Add vs us t (inl m) h = sums d vs us t m.0 m.1 h
-many-gives d many_op.Add vs us t (inr m) h = rational_pairs d sum_of (pair_sums d) vs us t m h
-many-gives d many_op.Subtract vs us t (inl m) h = differences d vs us t m.0 m.1 h
-many-gives d many_op.Subtract vs us t (inr m) h = rational_pairs d difference_of (pair_differences d) vs us t m h
-many-gives d many_op.GreaterOf vs us t m h = gives_ok d (greatest_of vs) t (greatest_of-type d vs us t m.1 h)
-many-gives d many_op.LesserOf vs us t m h = gives_ok d (least_of vs) t (least_of-type d vs us t m.1 h)
+pub many-gives : (d : Domains) (op : ManyOp) (vs : List Value) (us : List FactType) (t : FactType) → many_type op us ≡ Some t → AreOfTypes d vs us → GivesType d (many_value op vs) t
+many-gives d op vs us t m h =
+    let p = both_some (type_of_many op (length us)) (common_type us) t m in
+    many_by d op vs p.0 t (ap (λ n. type_of_many op n p.0) (sym (as_many d vs us h)) ∙ p.2) (some_of d vs us p.0 p.1 h)
+
+junction_row : (op : ManyOp) (n : ℕ) (o : Option FactType) (t : FactType) → ((u v : FactType) → type_of_many op n u ≡ Some v → v ≡ types.Boolean) → option_and_then (type_of_many op n) o ≡ Some t → t ≡ types.Boolean
+junction_row op n None t k e = absurd cc
+junction_row op n (Some u) t k e = k u t e
+
+all_row : (n : ℕ) (u t : FactType) → type_of_many many_op.All n u ≡ Some t → t ≡ types.Boolean
+all_row n types.Boolean t e = row_is types.Boolean t e
+all_row n _ t e = absurd cc
+
+any_row : (n : ℕ) (u t : FactType) → type_of_many many_op.Any n u ≡ Some t → t ≡ types.Boolean
+any_row n types.Boolean t e = row_is types.Boolean t e
+any_row n _ t e = absurd cc
+
+pub all_is : (us : List FactType) (t : FactType) → many_type many_op.All us ≡ Some t → t ≡ types.Boolean
+all_is us t m = junction_row many_op.All (length us) (common_type us) t (all_row (length us)) m
+
+pub any_is : (us : List FactType) (t : FactType) → many_type many_op.Any us ≡ Some t → t ≡ types.Boolean
+any_is us t m = junction_row many_op.Any (length us) (common_type us) t (any_row (length us)) m
 
 -- ---- Not, Round and YearOf
 
-pub one-gives : (d : Domains) (op : OneOp) (v : Value) (u t : FactType) → OneType op u t → GivesType d (one_value op v) t
-one-gives d one_op.Not v u t m = rw m.1 (gives_ok d _ types.Boolean tt)
-one-gives d one_op.Round v u t m = rw m.1 (dollars_give d (rounded (dollar_in v) 100 *ℤ pos 100))
-one-gives d one_op.YearOf v u t m = rw m.1 (gives_ok d _ types.Int (year-in-range _))
+pub one-gives : (d : Domains) (op : OneOp) (v : Value) (u t : FactType) → one_type op u ≡ Some t → GivesType d (one_value op v) t
+one-gives d one_op.Not v types.Boolean t m = rw (row_is types.Boolean t m) (gives_ok d _ types.Boolean tt)
+one-gives d one_op.Round v types.Dollar t m = rw (row_is types.Dollar t m) (dollars_give d (rounded (dollar_in v) 100 *ℤ pos 100))
+one-gives d one_op.YearOf v types.Day t m = rw (row_is types.Int t m) (gives_ok d _ types.Int (year-in-range _))
+one-gives d _ v _ t m = absurd cc
 
 -- ---- Multiply and Divide
 
@@ -212,74 +264,53 @@ rounded_number d n (pos zero) = λ x e. absurd (cc)
 rounded_number d n (pos (suc m)) = dollar_number d (rounded n (suc m))
 rounded_number d n (negsuc m) = dollar_number d (rounded (neg_ℤ n) (suc m))
 
-gives_number : (d : Domains) (r : Result Num ValueFault) (t u : FactType) → u ≡ t → NumGives d r t → GivesType d (value_as number_value r) u
-gives_number d r t u e h = rw e (gives_as d number_value r t h)
+gives_number : (d : Domains) (r : Result Num ValueFault) (t u : FactType) → row t ≡ Some u → NumGives d r t → GivesType d (value_as number_value r) u
+gives_number d r t u e h = rw (row_is t u e) (gives_as d number_value r t h)
 
-product-gives : (d : Domains) (v w : Value) (a b t : FactType) → ProductType a b t → IsOfType d v a → IsOfType d w b → GivesType d (value_as number_value (product (number_in v) (number_in w))) t
-product-gives d v w types.Int types.Int t m h k =
-    let x = int_value d v h in
-    let y = int_value d w k in
+product-gives : (d : Domains) (v w : Value) (a b t : FactType) → product_type a b ≡ Some t → IsOfType d v a → IsOfType d w b → GivesType d (value_as number_value (product (number_in v) (number_in w))) t
+product-gives d v w types.Int types.Int t m h k = let x = int_value d v h in let y = int_value d w k in
     rw (x.1, y.1) (gives_number d (checked_int (x.0 *ℤ y.0)) types.Int t m (int_number d (x.0 *ℤ y.0)))
-product-gives d v w types.Int types.Dollar t m h k =
-    let x = int_value d v h in
-    let y = dollar_value d w k in
+product-gives d v w types.Int types.Dollar t m h k = let x = int_value d v h in let y = dollar_value d w k in
     rw (x.1, y.1) (gives_number d (checked_dollar (x.0 *ℤ y.0)) types.Dollar t m (dollar_number d (x.0 *ℤ y.0)))
-product-gives d v w types.Dollar types.Int t m h k =
-    let x = dollar_value d v h in
-    let y = int_value d w k in
+product-gives d v w types.Dollar types.Int t m h k = let x = dollar_value d v h in let y = int_value d w k in
     rw (x.1, y.1) (gives_number d (checked_dollar (x.0 *ℤ y.0)) types.Dollar t m (dollar_number d (x.0 *ℤ y.0)))
-product-gives d v w types.Dollar types.Rational t m h k =
-    let x = dollar_value d v h in
-    let y = rational_value d w k in
+product-gives d v w types.Dollar types.Rational t m h k = let x = dollar_value d v h in let y = rational_value d w k in
     rw (x.1, y.1) (gives_number d (checked_dollar (rounded (x.0 *ℤ y.0.num) y.0.den)) types.Dollar t m (dollar_number d (rounded (x.0 *ℤ y.0.num) y.0.den)))
-product-gives d v w types.Rational types.Dollar t m h k =
-    let x = rational_value d v h in
-    let y = dollar_value d w k in
+product-gives d v w types.Rational types.Dollar t m h k = let x = rational_value d v h in let y = dollar_value d w k in
     rw (x.1, y.1) (gives_number d (checked_dollar (rounded (x.0.num *ℤ y.0) x.0.den)) types.Dollar t m (dollar_number d (rounded (x.0.num *ℤ y.0) x.0.den)))
-product-gives d v w types.Int types.Rational t m h k =
-    let x = int_value d v h in
-    let y = rational_value d w k in
+product-gives d v w types.Int types.Rational t m h k = let x = int_value d v h in let y = rational_value d w k in
     rw (x.1, y.1) (gives_number d (checked_rational (x.0 *ℤ y.0.num) y.0.den) types.Rational t m (rational_number d (x.0 *ℤ y.0.num) y.0.den y.2.0))
-product-gives d v w types.Rational types.Int t m h k =
-    let x = rational_value d v h in
-    let y = int_value d w k in
+product-gives d v w types.Rational types.Int t m h k = let x = rational_value d v h in let y = int_value d w k in
     rw (x.1, y.1) (gives_number d (checked_rational (x.0.num *ℤ y.0) x.0.den) types.Rational t m (rational_number d (x.0.num *ℤ y.0) x.0.den x.2.0))
-product-gives d v w types.Rational types.Rational t m h k =
-    let x = rational_value d v h in
-    let y = rational_value d w k in
+product-gives d v w types.Rational types.Rational t m h k = let x = rational_value d v h in let y = rational_value d w k in
     rw (x.1, y.1) (gives_number d (checked_rational (x.0.num *ℤ y.0.num) (x.0.den * y.0.den)) types.Rational t m (rational_number d (x.0.num *ℤ y.0.num) (x.0.den * y.0.den) (mul-pos x.2.0 y.2.0)))
-product-gives d v w _ _ t m h k = absurd m
+product-gives d v w _ _ t m h k = absurd cc
 
-quotient-gives : (d : Domains) (v w : Value) (a b t : FactType) → QuotientType a b t → IsOfType d v a → IsOfType d w b → GivesType d (value_as number_value (quotient (number_in v) (number_in w))) t
-quotient-gives d v w types.Int types.Int t m h k =
-    let x = int_value d v h in
-    let y = int_value d w k in
+quotient-gives : (d : Domains) (v w : Value) (a b t : FactType) → quotient_type a b ≡ Some t → IsOfType d v a → IsOfType d w b → GivesType d (value_as number_value (quotient (number_in v) (number_in w))) t
+quotient-gives d v w types.Int types.Int t m h k = let x = int_value d v h in let y = int_value d w k in
     rw (x.1, y.1) (gives_number d (as_rational (checked_ratio x.0 y.0)) types.Rational t m (ratio_number d x.0 y.0))
-quotient-gives d v w types.Rational types.Rational t m h k =
-    let x = rational_value d v h in
-    let y = rational_value d w k in
+quotient-gives d v w types.Rational types.Rational t m h k = let x = rational_value d v h in let y = rational_value d w k in
     rw (x.1, y.1) (gives_number d (as_rational (checked_ratio (x.0.num *ℤ pos y.0.den) (y.0.num *ℤ pos x.0.den))) types.Rational t m (ratio_number d (x.0.num *ℤ pos y.0.den) (y.0.num *ℤ pos x.0.den)))
-quotient-gives d v w types.Dollar types.Int t m h k =
-    let x = dollar_value d v h in
-    let y = int_value d w k in
+quotient-gives d v w types.Dollar types.Int t m h k = let x = dollar_value d v h in let y = int_value d w k in
     rw (x.1, y.1) (gives_number d (rounded_quotient x.0 y.0) types.Dollar t m (rounded_number d x.0 y.0))
-quotient-gives d v w types.Dollar types.Rational t m h k =
-    let x = dollar_value d v h in
-    let y = rational_value d w k in
+quotient-gives d v w types.Dollar types.Rational t m h k = let x = dollar_value d v h in let y = rational_value d w k in
     rw (x.1, y.1) (gives_number d (rounded_quotient (x.0 *ℤ pos y.0.den) y.0.num) types.Dollar t m (rounded_number d (x.0 *ℤ pos y.0.den) y.0.num))
-quotient-gives d v w types.Dollar types.Dollar t m h k =
-    let x = dollar_value d v h in
-    let y = dollar_value d w k in
+quotient-gives d v w types.Dollar types.Dollar t m h k = let x = dollar_value d v h in let y = dollar_value d w k in
     rw (x.1, y.1) (gives_number d (as_rational (checked_ratio x.0 y.0)) types.Rational t m (ratio_number d x.0 y.0))
-quotient-gives d v w _ _ t m h k = absurd m
+quotient-gives d v w _ _ t m h k = absurd cc
 
-pub two-gives : (d : Domains) (op : TwoOp) (v w : Value) (a b t : FactType) → TwoType op a b t → IsOfType d v a → IsOfType d w b → GivesType d (two_value op v w) t
+compared-gives : (d : Domains) (b holds : Bool) (t : FactType) → (if b then row types.Boolean else None) ≡ Some t → GivesType d (Ok (Boolean holds)) t
+compared-gives d b holds t m = rw (row_where b types.Boolean t m) (gives_ok d (Boolean holds) types.Boolean tt)
+
+pub two-gives : (d : Domains) (op : TwoOp) (v w : Value) (a b t : FactType) → two_type op a b ≡ Some t → IsOfType d v a → IsOfType d w b → GivesType d (two_value op v w) t
 two-gives d two_op.Multiply v w a b t m h k = product-gives d v w a b t m h k
 two-gives d two_op.Divide v w a b t m h k = quotient-gives d v w a b t m h k
-two-gives d two_op.AddDays v w a b t m h k = rw m.2 (gives_as d Day (day_after (day_in v) (int_in w)) types.Day (λ x e. day_after-is-day (day_in v) (int_in w) x e))
-two-gives d two_op.Equal v w a b t m h k = rw m.2 (gives_ok d _ types.Boolean tt)
-two-gives d two_op.NotEqual v w a b t m h k = rw m.2 (gives_ok d _ types.Boolean tt)
-two-gives d two_op.GreaterThan v w a b t m h k = rw m.2 (gives_ok d _ types.Boolean tt)
-two-gives d two_op.LessThan v w a b t m h k = rw m.2 (gives_ok d _ types.Boolean tt)
-two-gives d two_op.GreaterThanOrEqual v w a b t m h k = rw m.2 (gives_ok d _ types.Boolean tt)
-two-gives d two_op.LessThanOrEqual v w a b t m h k = rw m.2 (gives_ok d _ types.Boolean tt)
+two-gives d two_op.AddDays v w types.Day types.Int t m h k =
+    rw (row_is types.Day t m) (gives_as d Day (day_after (day_in v) (int_in w)) types.Day (λ x e. day_after-is-day (day_in v) (int_in w) x e))
+two-gives d two_op.AddDays v w _ _ t m h k = absurd cc
+two-gives d two_op.Equal v w a b t m h k = compared-gives d (is_compared a && same_type a b) _ t m
+two-gives d two_op.NotEqual v w a b t m h k = compared-gives d (is_compared a && same_type a b) _ t m
+two-gives d two_op.GreaterThan v w a b t m h k = compared-gives d (is_ordered a && same_type a b) _ t m
+two-gives d two_op.LessThan v w a b t m h k = compared-gives d (is_ordered a && same_type a b) _ t m
+two-gives d two_op.GreaterThanOrEqual v w a b t m h k = compared-gives d (is_ordered a && same_type a b) _ t m
+two-gives d two_op.LessThanOrEqual v w a b t m h k = compared-gives d (is_ordered a && same_type a b) _ t m

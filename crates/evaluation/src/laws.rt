@@ -38,7 +38,7 @@ pub fn complete_results_stay_by_bases<B, C, R, P, S>()
     ensures { CompleteStaysIn B C R P S }
 {}
 
-/// A complete result of a node rests on complete operands, but at All and Any, and never on a placeholder.
+/// A complete result of a node rests on complete ones: those of its operands that decided it.
 pub fn complete_results_rest_on_complete_ones<C, R, P, S>()
     ensures down { DownNeverCompletes C R P S }
     ensures many { CompleteMany C R P S }

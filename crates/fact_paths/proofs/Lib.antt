@@ -2,7 +2,6 @@ pub mod CutLaws
 pub mod FactPathLaws
 pub mod MemberNumbers
 pub mod NameLaws
-pub mod PathExamples
 pub mod ReadingLaws
 pub mod SlotPathLaws
 pub mod UsePathLaws

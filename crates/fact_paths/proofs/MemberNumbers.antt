@@ -4,12 +4,13 @@ use Rattle.std.specs.Prelude.{decimal, MatchOption}
 use Rattle.std.specs.Char.{is_ascii_digit}
 use Rattle.std.specs.Str.{all_ascii_digits}
 use Rattle.std.specs.Str.Parse.{digits_value, ParsesUnsigned}
-use Rattle.std.proofs.lemmas.Bool.{and_parts, and_from, false≢true, ltb-true, leb-true, lt-leb, le-leb, lt-ltb}
+use Rattle.std.proofs.lemmas.Bool.{and_parts, and_from, ltb-true, leb-true, lt-leb, le-leb, lt-ltb}
 use Rattle.std.proofs.lemmas.Fmt.{decimal_digit, decimal-digits_value, digits_decimal, digits_value-decimal, decimal_nonempty, first_decimal}
 use Rattle.std.proofs.lemmas.Option.{cond_some, none-some}
 use Rattle.std.proofs.lemmas.Result.{OkIff-at_err}
 use Rattle.std.proofs.lemmas.Str.Parse.{IsNumeralModel, numerals_by_value, tells_all_ascii_digits, parse_digits}
 use Rattle.fact_paths.specs.Cuts.{Lacks}
+use Rattle.fact_paths.proofs.NameLaws.{passed_lack}
 use Rattle.fact_paths.specs.Paths.{IsMemberNumber, SpellsMemberNumber}
 use Rattle.fact_paths.specs.Reading.{is_numeral, member_number_of}
 
@@ -21,7 +22,7 @@ own = numerals_by_value (λ ds. all_ascii_digits ds ≡ true) tells_all_ascii_di
 
 -- a numeral has digits alone, and begins with none that is 0
 numeral_parts : (ds : List ℕ) → is_numeral ds ≡ true → (0 < length ds) × (48 < get_or ds 0 0) × (all_ascii_digits ds ≡ true)
-numeral_parts [] h = absurd (false≢true h)
+numeral_parts [] h = absurd cc
 numeral_parts (d ∷ ds) h =
     let parts = and_parts (ltb 48 d) (all_ascii_digits (d ∷ ds)) h in
     (omega arith, ltb-true 48 d parts.0, parts.1)
@@ -83,17 +84,6 @@ none_from_parse r text e h p q =
 
 -- ---- other bytes
 
--- a digit is no other byte
-digit_is : (c d : ℕ) → is_ascii_digit c ≡ false → is_ascii_digit d ≡ true → d ≢ c
-digit_is c d outside inside e = false≢true (sym outside ∙ sym (ap is_ascii_digit e) ∙ inside)
-
--- digits hold no other byte
-digits_lack : (c : ℕ) → is_ascii_digit c ≡ false → (ds : List ℕ) → all_ascii_digits ds ≡ true → Lacks c ds
-digits_lack c outside [] h = tt
-digits_lack c outside (d ∷ ds) h =
-    let parts = and_parts (is_ascii_digit d) (all_ascii_digits ds) h in
-    (digit_is c d outside parts.0, digits_lack c outside ds parts.1)
-
 -- what is printed of a number holds no other byte
 pub decimal_lacks : (c : ℕ) → is_ascii_digit c ≡ false → (k : ℕ) → IsMemberNumber k → Lacks c (decimal k)
-decimal_lacks c outside k h = digits_lack c outside (decimal k) (digits_decimal own k (omega (arith, h.1)))
+decimal_lacks c outside k h = passed_lack is_ascii_digit c outside (decimal k) (digits_decimal own k (omega (arith, h.1)))

@@ -1,23 +1,23 @@
 -- Reading and spelling agree, for every kind of path.
-use Rattle.std.proofs.Common.{◌≡◌, ℕ, Bool, true, false, cond, List, Option, Some, None, Result, Ok, Err, refl, sym, ◌∙◌}
-use Rattle.std.specs.Prelude.{option_map, option_and_then}
+use Rattle.std.proofs.Common.{◌≡◌, ℕ, Bool, true, false, cond, List, Option, Some, None, Result, Ok, Err, refl, sym, ap, ◌∙◌}
+use Rattle.std.specs.Prelude.{option_and_then}
 use Rattle.std.proofs.lemmas.Option.{none-some, same_Some}
+use Rattle.common_lemmas.proofs.Bools.{chosen}
+use Rattle.common_lemmas.proofs.Options.{mapped}
 use Rattle.fact_paths.specs.Names.{is_name, IsName}
 use Rattle.fact_paths.specs.Paths.{Reads}
-use Rattle.fact_paths.specs.Reading.{Gives, of_name, of_names}
+use Rattle.fact_paths.specs.Reading.{Gives, name_of, of_name, of_names}
 use Rattle.fact_paths.specs.declared.fault.PathFault.{PathFault}
 use Rattle.fact_paths.specs.declared.fault.PathFault.TheVariants.{BadPath, NoMemory}
 
 -- ---- names
 
--- a path is made of a text that passes its test, by that text
-map_of_some : {P : Type 0} (path : List ℕ → P) (b : Bool) (a : List ℕ) (p : P) → option_map path (cond b (Some a) None) ≡ Some p → (b ≡ true) × (p ≡ path a)
-map_of_some path true a p e = (refl, sym (same_Some (path a) p e))
-map_of_some path false a p e = absurd (none-some p e)
-
 -- a path of one name is made of a name
 pub of_name_some : {P : Type 0} (path : List ℕ → P) (a : List ℕ) (p : P) → of_name path a ≡ Some p → IsName a × (p ≡ path a)
-of_name_some path a p e = map_of_some path (is_name a) a p e
+of_name_some path a p e =
+    let made = mapped path (name_of a) p e in
+    let is = chosen (is_name a) a made.0 made.1 in
+    (is.0, made.2 ∙ ap path (sym is.1))
 
 -- a name makes a path
 pub of_name-name : {P : Type 0} (path : List ℕ → P) (a : List ℕ) → IsName a → of_name path a ≡ Some (path a)

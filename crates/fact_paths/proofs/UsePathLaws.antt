@@ -4,7 +4,7 @@ use Rattle.std.specs.Prelude.{codes}
 use Rattle.fact_paths.specs.Cuts.{cut, after}
 use Rattle.fact_paths.specs.Names.{IsName}
 use Rattle.fact_paths.specs.Paths.{SpellsUsePath}
-use Rattle.fact_paths.specs.Reading.{of_name, sibling_path_from, pair_path_from, rooted_path_from, use_path_from, use_path_of}
+use Rattle.fact_paths.specs.Reading.{sibling_path_from, pair_path_from, rooted_path_from, use_path_from, use_path_of}
 use Rattle.fact_paths.specs.declared.use_path.UsePath.{UsePath}
 use Rattle.fact_paths.specs.declared.use_path.UsePath.TheVariants as uses
 use Rattle.fact_paths.proofs.CutLaws.{cut-lacks, cut-append, cut_some, after_some, after-lacks}

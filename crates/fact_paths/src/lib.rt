@@ -7,8 +7,6 @@ mod fault;
 mod laws;
 mod name;
 mod slot_path;
-#[cfg(test)]
-mod tests;
 mod use_path;
 
 pub use fact_path::{FactPath, read_fact_path};

@@ -1,6 +1,8 @@
 -- Days by their dates.
-use Rattle.std.proofs.Common.{◌≡◌, ◌↔◌, ℕ, zero, suc, ◌+◌, ℤ, pos, negsuc, ◌≤ℤ◌, ◌<ℤ◌, Bool, true, false, not, ◌&&◌, IsTrue, refl, sym, subst, arith, int_lt, unsigned_abs, ap, ◌∙◌}
+use Rattle.std.proofs.Common.{◌≡◌, ◌↔◌, ℕ, zero, suc, ◌+◌, ℤ, pos, negsuc, ◌≤ℤ◌, ◌<ℤ◌, true, false, not, refl, sym, subst, arith, int_lt, unsigned_abs, ap, ◌∙◌}
 use Rattle.std.proofs.lemmas.Int.{ints, by_lt_z}
+use Rattle.common_lemmas.proofs.Bools.{both, not_true}
+use Rattle.common_lemmas.proofs.Numbers.{not_below}
 use Rattle.jiff_core.specs.declared.civil.date.Date.{Date}
 use Rattle.jiff_core.specs.Calendar.{IsBetween, IsDate, IsCivilDate}
 use Rattle.jiff_core.specs.Date.{epoch_day, IsYmd}
@@ -22,24 +24,16 @@ civil year month day h =
     let d = pos-unsigned_abs day h.2.0 in
     (h.0, (omega (arith, signed_arith), omega (arith, signed_arith)), (omega (arith, signed_arith), omega (arith, signed_arith)))
 
-neither : (a b : Bool) → IsTrue (not a && not b) → (a ≡ false) × (b ≡ false)
-neither true b h = absurd (cc)
-neither false true h = absurd (cc)
-neither false false h = (refl, refl)
-
 not_under : (a b : ℤ) → a ≤ℤ b → int_lt b a ≡ false
 not_under a b h = grind (arith, ints)
 
 under : (a b : ℤ) → a <ℤ b → int_lt a b ≡ true
 under a b h = grind (arith, ints)
 
-at_least : (a b : ℤ) → int_lt b a ≡ false → a ≤ℤ b
-at_least a b h = grind (arith, ints)
-
 -- a day in the range lies from the first to the last
 pub IsDay-between : (n : ℤ) → IsDay n ↔ IsBetween first_day last_day n
 IsDay-between n = (
-  λ h. let e = neither (int_lt n first_day) (int_lt last_day n) h in (at_least _ _ e.0, at_least _ _ e.1),
+  λ h. let e = both (not (int_lt n first_day)) (not (int_lt last_day n)) h in (not_below _ _ (not_true _ e.0), not_below _ _ (not_true _ e.1)),
   λ h. rw (not_under first_day n h.0, not_under n last_day h.1) refl,
 )
 

@@ -1,9 +1,6 @@
 pub mod Days
 pub mod Divisors
-pub mod Examples
-pub mod Nearest
-pub mod NumExamples
+mod Nearest
 pub mod Rationals
-pub mod RoundingExamples
-pub mod Unique
+mod Unique
 pub mod ValueExamples

@@ -1,9 +1,10 @@
 -- Rounding gives the nearest whole number, and no other is nearest.
-use Rattle.std.proofs.Common.{◌≡◌, ℕ, zero, suc, ◌+◌, ◌-◌, ◌*◌, ◌/◌, ◌<◌, ◌≤◌, ℤ, pos, negsuc, ◌*ℤ◌, ◌-ℤ◌, neg_ℤ, unsigned_abs, arith, ap, sym, subst, ◌∙◌}
-use Rattle.std.proofs.Math.IntN.{negsuc-*ℤ-pos, neg_ℤ-neg_ℤ}
+use Rattle.std.proofs.Common.{◌≡◌, ℕ, suc, ◌+◌, ◌-◌, ◌*◌, ◌/◌, ◌<◌, ◌≤◌, ℤ, pos, negsuc, ◌*ℤ◌, ◌-ℤ◌, neg_ℤ, unsigned_abs, arith, ap, sym, subst, ◌∙◌}
+use Rattle.std.proofs.Math.IntN.{neg_ℤ-neg_ℤ}
 use Rattle.std.proofs.Math.Nat.{div-mul-le_self, lt-div-mul-add}
 use Rattle.std.proofs.lemmas.Int.{ints}
 use Rattle.std.proofs.lemmas.Nat.{div-mul-add}
+use Rattle.common_lemmas.proofs.Numbers.{neg_times}
 use Rattle.fact_values.specs.Rounding.{rounded_size, rounded, distance, IsNearest}
 use Rattle.fact_values.specs.RoundingLaws.{RoundsToNearest}
 
@@ -48,18 +49,14 @@ too_far m n d h k a = grind (arith, ints)
 
 -- Negative numbers.
 
-neg-times : (q d : ℕ) → neg_ℤ (pos q) *ℤ pos d ≡ neg_ℤ (pos (q * d))
-neg-times zero d = grind (arith, ints)
-neg-times (suc q) d = negsuc-*ℤ-pos q d
-
 size-neg : (q d : ℕ) → unsigned_abs (neg_ℤ (pos q) *ℤ pos d) ≡ q * d
-size-neg q d = rw (neg-times q d) (grind (arith, ints))
+size-neg q d = rw (neg_times q d) (grind (arith, ints))
 
 distance-neg : (n d q : ℕ) → distance (negsuc n) d (neg_ℤ (pos q)) ≡ distance (pos (suc n)) d (pos q)
-distance-neg n d q = rw (neg-times q d) (grind (arith, ints))
+distance-neg n d q = rw (neg_times q d) (grind (arith, ints))
 
 distance-across : (n d q : ℕ) → distance (pos (suc n)) d (neg_ℤ (pos q)) ≡ q * d + suc n
-distance-across n d q = rw (neg-times q d) (grind (arith, ints))
+distance-across n d q = rw (neg_times q d) (grind (arith, ints))
 
 -- what is nearest to a negative fraction is so, negated, to the positive one
 nearest-neg : (n d : ℕ) (z : ℤ) → IsNearest (negsuc n) d z → IsNearest (pos (suc n)) d (neg_ℤ z)
@@ -83,7 +80,7 @@ size_from_nearest n d (pos q) h r =
     let below = less_than_half_below (q * d) n d h r.close r.tie in
     ap pos (only_rounded_size n d q h (record { above = above; below = below }))
 size_from_nearest n d (negsuc k) h r =
-    absurd (too_far (suc k * d) n d h (omega arith) (rw (← neg-times (suc k) d) r.close))
+    absurd (too_far (suc k * d) n d h (omega arith) (rw (← neg_times (suc k) d) r.close))
 
 -- All fractions.
 

@@ -1,27 +1,15 @@
 -- Fractions in lowest terms.
-use Rattle.std.proofs.Common.{◌≡◌, ℕ, zero, suc, ◌<◌, ◌≤◌, ◌*◌, ◌/◌, ℤ, pos, negsuc, neg_ℤ, ◌*ℤ◌, ◌≤ℤ◌, ◌<ℤ◌, unsigned_abs, int_div, refl, arith, sym, ap, ◌∙◌, subst}
+use Rattle.std.proofs.Common.{◌≡◌, ℕ, suc, ◌<◌, ◌≤◌, ◌*◌, ◌/◌, ℤ, pos, negsuc, neg_ℤ, unsigned_abs, int_div, refl, arith, sym, ap, ◌∙◌, subst}
 use Rattle.std.specs.Int.{IsGcd}
-use Rattle.std.proofs.lemmas.Int.{ints}
+use Rattle.common_lemmas.proofs.Numbers.{neg_times, size_of_neg}
 use Rattle.fact_values.specs.Rationals.{gcd, lowest, IsRational, checked_lowest}
 use Rattle.fact_values.specs.RatioLaws.{IsEqualTo}
 use Rattle.fact_values.proofs.Divisors.{IsGcd-div-gcd, div-gcd_pos, div-gcd-mul_left, div-gcd-mul_right}
 
-unsigned_abs-neg : (n : ℕ) → unsigned_abs (neg_ℤ (pos n)) ≡ n
-unsigned_abs-neg zero = refl
-unsigned_abs-neg (suc n) = refl
-
 -- the size of a quotient
 pub unsigned_abs-int_div : (z : ℤ) (d : ℕ) → unsigned_abs (int_div z (pos d)) ≡ unsigned_abs z / d
 unsigned_abs-int_div (pos n) d = refl
-unsigned_abs-int_div (negsuc n) d = unsigned_abs-neg (suc n / d)
-
-pub int_div_negative : (z : ℤ) (d : ℕ) → z <ℤ pos 0 → int_div z (pos d) ≡ neg_ℤ (pos (unsigned_abs z / d))
-int_div_negative (pos n) d h = grind (arith, ints)
-int_div_negative (negsuc n) d h = refl
-
-pub int_div_other : (z : ℤ) (d : ℕ) → pos 0 ≤ℤ z → int_div z (pos d) ≡ pos (unsigned_abs z / d)
-int_div_other (pos n) d h = refl
-int_div_other (negsuc n) d h = grind (arith, ints)
+unsigned_abs-int_div (negsuc n) d = size_of_neg (suc n / d)
 
 -- lowest terms have no divisor in common but 1
 pub IsGcd-lowest : (n : ℤ) (d : ℕ) → 0 < d → IsGcd (unsigned_abs (lowest n d).num) (lowest n d).den 1
@@ -42,13 +30,9 @@ crosswise a b =
     let right : b / gcd a b * gcd a b ≡ b = div-gcd-mul_right a b in
     ap (λ n. a / gcd a b * n) (sym right) ∙ swap_factors (a / gcd a b) (b / gcd a b) (gcd a b) ∙ ap (λ n. n * (b / gcd a b)) left
 
-neg_mul : (m k : ℕ) → neg_ℤ (pos m) *ℤ pos k ≡ neg_ℤ (pos (m * k))
-neg_mul zero k = let none : 0 * k ≡ 0 = omega arith in rw none refl
-neg_mul (suc m) k = refl
-
 pub lowest-equal : (n : ℤ) (d : ℕ) → IsEqualTo (lowest n d) n d
 lowest-equal (pos a) d = ap pos (crosswise a d)
-lowest-equal (negsuc a) d = neg_mul (suc a / gcd (suc a) d) d ∙ ap (λ m. neg_ℤ (pos m)) (crosswise (suc a) d)
+lowest-equal (negsuc a) d = neg_times (suc a / gcd (suc a) d) d ∙ ap (λ m. neg_ℤ (pos m)) (crosswise (suc a) d)
 
 -- what is equal has equal lowest terms
 pub same_checked : {m n : ℤ} {c d : ℕ} → m ≡ n → c ≡ d → checked_lowest m c ≡ checked_lowest n d

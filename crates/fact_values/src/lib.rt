@@ -9,24 +9,14 @@ pub mod laws;
 mod members;
 mod memory;
 mod num;
-#[cfg(test)]
-mod num_tests;
 mod range;
 mod rational;
 mod rounding;
-#[cfg(test)]
-mod rounding_tests;
 mod slot;
-#[cfg(test)]
-mod tests;
 mod text;
 mod total;
 mod value;
-#[cfg(test)]
-mod value_tests;
 mod whole;
-#[cfg(test)]
-mod whole_tests;
 
 pub use day::{Day, add_days};
 pub use dollar::Dollar;

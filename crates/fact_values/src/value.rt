@@ -1,5 +1,5 @@
-ghost use Rattle.std.specs.Prelude.{◌≡◌, ◌↔◌, IsTrue, IfOk};
-ghost use Rattle.fact_values.specs.Values.{AreOrdered, order_of, ratio_cmp};
+ghost use Rattle.std.specs.Prelude.{◌≡◌, ◌↔◌, IsErr, IsTrue, IfOk};
+ghost use Rattle.fact_values.specs.Values.{AreOrdered, HoldsMemory, order_of, ratio_cmp};
 
 use crate::day::Day;
 use crate::dollar::Dollar;
@@ -29,9 +29,10 @@ pub enum Value {
 }
 
 impl Value {
-    /// An equal value.
+    /// An equal value. It wants memory for a text or a list of members alone.
     pub fn copy(&self, alloc: Global) -> Result<Value, NoMemory>
-        ensures { IfOk result (λ v. v ≡ self.now) }
+        ensures value { IfOk result (λ v. v ≡ self.now) }
+        ensures memory { IsErr result → HoldsMemory self.now }
     {
         Ok(match self {
             Value::Boolean(b) => Value::Boolean(*b),

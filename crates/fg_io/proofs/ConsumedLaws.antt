@@ -1,5 +1,5 @@
 -- Streams that are read in several pulls.
-use Rattle.std.proofs.Common.{ℕ, ◌<◌, List, [], ◌++◌, length, ◌∙◌, ap, arith, length-append, Option, None, Some}
+use Rattle.std.proofs.Common.{ℕ, List, [], ◌++◌, ◌∙◌, ap, Option, None, Some}
 use Rattle.std.proofs.KnownBytes.{Consumes-nil, Consumes-trans}
 use Rattle.std.proofs.lemmas.List.{append-nil}
 use Rattle.std.specs.Io.KnownBytes.{Consumes, IsAtEnd}
@@ -24,9 +24,3 @@ pub may_be_whole : (a b : Option (List ℕ)) (xs : List ℕ) → Consumes a b xs
 may_be_whole None b xs read end = tt
 may_be_whole (Some known) None xs read end = absurd read
 may_be_whole (Some known) (Some rest) xs read end = read ∙ ap (λ l. xs ++ l) end ∙ append-nil xs
-
--- where more than n bytes were read there are more than n
-pub may_be_longer : (a b : Option (List ℕ)) (xs : List ℕ) (n : ℕ) → Consumes a b xs → n < length xs → (bytes : List ℕ) × MayBe a bytes × (n < length bytes)
-may_be_longer a b xs n read more =
-    let all = may_go_on a b xs read in
-    (xs ++ all.0, all.1, omega (arith, length-append xs all.0))

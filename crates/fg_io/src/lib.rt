@@ -24,6 +24,3 @@ pub use sink::Sink;
 pub use source::Source;
 pub use standard::{StdinSource, StdoutSink};
 pub use write::put_all;
-
-#[cfg(test)]
-mod tests;

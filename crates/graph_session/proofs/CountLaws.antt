@@ -1,22 +1,18 @@
 -- Stamps as a list of the slots that stand.
-use Rattle.std.proofs.Common.{◌≡◌, ℕ, ◌+◌, Bool, true, false, ◌&&◌, ◌||◌, if◌then◌else◌, option_map, IsTrue, List, [], ◌∷◌, map, Some, None, refl, sym, ap, ◌∙◌, arith}
+use Rattle.std.proofs.Common.{◌≡◌, ℕ, ◌+◌, Bool, true, false, ◌&&◌, ◌||◌, if◌then◌else◌, option_map, IsTrue, List, [], ◌∷◌, map, Some, None, refl, sym, ap, ◌∙◌}
 use Rattle.std.specs.List.{list_any}
-use Rattle.std.proofs.lemmas.Bool.Decides.{nat_tests}
 use Rattle.fact_values.specs.declared.slot.Slot.{Slot}
-use Rattle.evaluation.proofs.Bools.{or_left, or_right}
+use Rattle.common_lemmas.proofs.Bools.{or_left, or_right}
 use Rattle.answers.specs.Answered.{Answered}
 use Rattle.dictionary.specs.Accepted.{Accepted}
 use Rattle.dictionary.specs.Engines.{AreFresh, AreMarkedBy, AreSameMarks, Marks}
 use Rattle.dictionary.specs.Slots.{slot_same, standing, stands}
 use Rattle.dictionary.specs.Touched.{stamped, touches, touched_count}
-use Rattle.dictionary.proofs.SlotLaws.{listed_stand, slot_same-equal}
+use Rattle.dictionary.proofs.SlotLaws.{listed_stand, slot_same-equal, slot_same-itself}
 use Rattle.graph_session.specs.Counts.{Counts, counts_of, next_counts, no_counts, stamp_in, stamp_offered, stamps_of}
 
 counts_by : Accepted → Answered → (Slot → ℕ) → ℕ → Counts
 counts_by d a f n = record { stamps = stamps_of d a f; touched = n }
-
-slot_same-itself : (s : Slot) → slot_same s s ≡ true
-slot_same-itself s = grind (arith, nat_tests)
 
 -- ---- lists of slots with stamps
 

@@ -1,10 +1,10 @@
 pub mod AllowedLaws
 pub mod CountLaws
+pub mod FitLaws
 pub mod LimitLaws
 pub mod NamingLaws
 pub mod RunLaws
-pub mod ShownLaws
+pub mod SessionViewLaws
 pub mod SoundLaws
-pub mod StartLaws
 pub mod StepLaws
 pub mod TypeLaws

@@ -1,5 +1,5 @@
 -- From a refusal, or from none, to the step.
-use Rattle.std.proofs.Common.{◌≡◌, ℕ, Bool, true, false, not, if◌then◌else◌, List, [], ◌∷◌, ◌++◌, Option, Some, None, is_some, option_map, refl, sym, ap, ◌∙◌, subst}
+use Rattle.std.proofs.Common.{◌≡◌, ℕ, Bool, true, false, not, if◌then◌else◌, List, [], ◌∷◌, ◌++◌, Option, Some, None, is_some, refl, sym, ap, ◌∙◌}
 use Rattle.std.specs.Prelude.{IfErr, Result, Ok, Err}
 use Rattle.fact_paths.specs.declared.slot_path.SlotPath.{SlotPath}
 use Rattle.fact_values.specs.declared.slot.Slot.{Slot}
@@ -7,17 +7,17 @@ use Rattle.script_lines.specs.declared.command.Command.{Command}
 use Rattle.script_lines.specs.declared.command.Command.TheVariants as commands
 use Rattle.answers.specs.Answered.{Answered}
 use Rattle.answers.specs.Change.{Change, applied}
-use Rattle.session_undo.specs.Told.{Told}
+use Rattle.session_undo.specs.Timeline.{Timeline}
 use Rattle.dictionary.specs.Fits.{is_answered_by}
 use Rattle.graph_session.specs.Changes.{change_of, change_refusals, change_reply}
-use Rattle.graph_session.specs.Moves.{end_refusal, is_end, step_command, told_stepped}
+use Rattle.graph_session.specs.Moves.{end_refusal, is_end, step_command, timeline_stepped}
 use Rattle.graph_session.specs.Naming.{fact_of, is_unknown, lacks_member, slot_of}
 use Rattle.graph_session.specs.Refusals.{Refused, decided, first_of, is_empty, set_refusals, slot_found, slot_refusals, value_refusals, when}
 use Rattle.graph_session.specs.Rules.{Rules, tree_of}
-use Rattle.graph_session.specs.Shown.{Course, moved}
-use Rattle.graph_session.specs.Step.{most_steps, moved_by, refusal, reply, step, steps_to, told_by, with_change}
+use Rattle.graph_session.specs.SessionView.{Course, moved}
+use Rattle.graph_session.specs.Step.{most_steps, moved_by, refusal, reply, step, steps_to, timeline_by, with_change}
 use Rattle.graph_session.specs.declared.reply.Refusal.{Refusal}
-use Rattle.graph_session.specs.declared.reply.Refusal.TheVariants.{UnknownFact, NoMember, WrongKind, BadValue, Limit, Check, Full, AlreadyOpen, NotAnswered, NoOverride, NothingToUndo, NothingToRedo, NoStamps, NoMemory}
+use Rattle.graph_session.specs.declared.reply.Refusal.TheVariants.{UnknownFact, NoMember, WrongKind, NothingToUndo, NothingToRedo, NoMemory}
 use Rattle.graph_session.specs.declared.reply.Reply.{Reply}
 use Rattle.graph_session.specs.declared.reply.Reply.TheVariants.{Done}
 
@@ -56,21 +56,9 @@ set_then k a path text s e h =
 
 -- ---- refusals
 
-pub refused_as : (r : Refusal) (o : Option Refusal) → o ≡ Some r → Refused r o
-refused_as UnknownFact o e = e
-refused_as NoMember o e = e
-refused_as WrongKind o e = e
-refused_as BadValue o e = e
-refused_as (Limit n) o e = e
-refused_as (Check n) o e = e
-refused_as Full o e = e
-refused_as AlreadyOpen o e = e
-refused_as NotAnswered o e = e
-refused_as NoOverride o e = e
-refused_as NothingToUndo o e = e
-refused_as NothingToRedo o e = e
-refused_as NoStamps o e = e
+refused_as : (r : Refusal) (o : Option Refusal) → o ≡ Some r → Refused r o
 refused_as NoMemory o e = tt
+refused_as r o e = e
 
 -- of a decision, where it is another command's
 pub refused_by : {A : Type 0} (o : Option Refusal) (x : A) (r : Refusal) → ◌≡◌ {A = Result A Refusal} (Err r) (decided o x) → Refused r o
@@ -78,114 +66,78 @@ refused_by o x r e = refused_as r o (decided_err o x r e)
 
 -- ---- commands that make a change
 
-some_same : {A : Type 0} (x y : A) → Some x ≡ Some y → x ≡ y
-some_same x y e = cc
+pub refusal_of_change : (k : Rules) (s : Course) (c : Command) → is_some (change_of (tree_of k) c) ≡ true → refusal k s c ≡ first_of (change_refusals k s.timeline.now c)
+refusal_of_change k s commands.Quit e = absurd cc
+refusal_of_change k s c e = cc
 
-refusal_of_change : (k : Rules) (s : Course) (c : Command) → is_some (change_of (tree_of k) c) ≡ true → refusal k s c ≡ first_of (change_refusals k s.told.now c)
-refusal_of_change k s (commands.Set path text) e = refl
-refusal_of_change k s (commands.Clear path) e = refl
-refusal_of_change k s (commands.OpenList path) e = refl
-refusal_of_change k s (commands.Add path) e = refl
-refusal_of_change k s (commands.Remove path member) e = refl
-refusal_of_change k s (commands.Override path text) e = refl
-refusal_of_change k s (commands.Release path) e = refl
-refusal_of_change k s c e = absurd cc
+reply_of_change : (k : Rules) (s : Course) (c : Command) (x : Change) → change_of (tree_of k) c ≡ Some x → reply k s c ≡ change_reply s.timeline.now.next c
+reply_of_change k s commands.Quit x e = absurd cc
+reply_of_change k s c x e = cc
 
-reply_of_change : (k : Rules) (s : Course) (c : Command) (x : Change) → change_of (tree_of k) c ≡ Some x → reply k s c ≡ change_reply s.told.now.next c
-reply_of_change k s (commands.Set path text) x e = refl
-reply_of_change k s (commands.Clear path) x e = refl
-reply_of_change k s (commands.OpenList path) x e = refl
-reply_of_change k s (commands.Add path) x e = refl
-reply_of_change k s (commands.Remove path member) x e = refl
-reply_of_change k s (commands.Override path text) x e = refl
-reply_of_change k s (commands.Release path) x e = refl
-reply_of_change k s c x e = absurd cc
-
-told_of_change : (k : Rules) (s : Course) (c : Command) (x : Change) → change_of (tree_of k) c ≡ Some x → told_by (tree_of k) s.told c ≡ Some (with_change s.told x)
-told_of_change k s (commands.Set path text) x e = ap (option_map (with_change s.told)) e
-told_of_change k s (commands.Clear path) x e = ap (option_map (with_change s.told)) e
-told_of_change k s (commands.OpenList path) x e = ap (option_map (with_change s.told)) e
-told_of_change k s (commands.Add path) x e = ap (option_map (with_change s.told)) e
-told_of_change k s (commands.Remove path member) x e = ap (option_map (with_change s.told)) e
-told_of_change k s (commands.Override path text) x e = ap (option_map (with_change s.told)) e
-told_of_change k s (commands.Release path) x e = ap (option_map (with_change s.told)) e
-told_of_change k s c x e = absurd cc
+timeline_of_change : (k : Rules) (s : Course) (c : Command) (x : Change) → change_of (tree_of k) c ≡ Some x → timeline_by (tree_of k) s.timeline c ≡ Some (with_change s.timeline x)
+timeline_of_change k s commands.Quit x e = absurd cc
+timeline_of_change k s c x e = cc
 
 -- what a command that isn't refused comes to
-pub step_by : (k : Rules) (s : Course) (c : Command) (r : Reply) (o : Option Told) → refusal k s c ≡ None → reply k s c ≡ r → told_by (tree_of k) s.told c ≡ o → step k s c ≡ Ok (r, moved_by k s o)
+pub step_by : (k : Rules) (s : Course) (c : Command) (r : Reply) (o : Option Timeline) → refusal k s c ≡ None → reply k s c ≡ r → timeline_by (tree_of k) s.timeline c ≡ o → step k s c ≡ Ok (r, moved_by k s o)
 step_by k s c r o h e t =
-    ap (λ (q : Option Refusal). decided q (reply k s c, moved_by k s (told_by (tree_of k) s.told c))) h
-    ∙ ap (λ (q : Reply). done (q, moved_by k s (told_by (tree_of k) s.told c))) e
-    ∙ ap (λ (q : Option Told). done (r, moved_by k s q)) t
+    ap (λ (q : Option Refusal). decided q (reply k s c, moved_by k s (timeline_by (tree_of k) s.timeline c))) h
+    ∙ ap (λ (q : Reply). done (q, moved_by k s (timeline_by (tree_of k) s.timeline c))) e
+    ∙ ap (λ (q : Option Timeline). done (r, moved_by k s q)) t
   where
     done : Reply × Course → Result (Reply × Course) Refusal
     done p = Ok p
 
-pub most_by : (most : Answered → Answered → ℕ) (k : Rules) (s : Course) (c : Command) (o : Option Told) → refusal k s c ≡ None → told_by (tree_of k) s.told c ≡ o → most_steps most k s c ≡ steps_to most s.told.now o
+pub most_by : (most : Answered → Answered → ℕ) (k : Rules) (s : Course) (c : Command) (o : Option Timeline) → refusal k s c ≡ None → timeline_by (tree_of k) s.timeline c ≡ o → most_steps most k s c ≡ steps_to most s.timeline.now o
 most_by most k s c o h t =
-    ap (λ (q : Option Refusal). if is_some q then 0 else steps_to most s.told.now (told_by (tree_of k) s.told c)) h
-    ∙ ap (steps_to most s.told.now) t
-
-pub change_refused : (k : Rules) (s : Course) (c : Command) → is_some (change_of (tree_of k) c) ≡ true → (r : Refusal) → Refused r (first_of (change_refusals k s.told.now c)) → Refused r (refusal k s c)
-change_refused k s c e r h = subst (Refused r) (sym (refusal_of_change k s c e)) h
+    ap (λ (q : Option Refusal). if is_some q then 0 else steps_to most s.timeline.now (timeline_by (tree_of k) s.timeline c)) h
+    ∙ ap (steps_to most s.timeline.now) t
 
 ok_pair : (r r' : Reply) (t t' : Course) → r ≡ r' → t ≡ t' → ◌≡◌ {A = Result (Reply × Course) Refusal} (Ok (r, t)) (Ok (r', t'))
 ok_pair r r' t t' er et = λ i. Ok (er i, et i)
 
-module _ (k : Rules) (s : Course) (c : Command) (x : Change) (e : change_of (tree_of k) c ≡ Some x) (h : first_of (change_refusals k s.told.now c) ≡ None) where
-  pub change_step : step k s c ≡ Ok (change_reply s.told.now.next c, moved k.accepted s (with_change s.told x))
-  change_step = step_by k s c (change_reply s.told.now.next c) (Some (with_change s.told x)) (refusal_of_change k s c (ap is_some e) ∙ h) (reply_of_change k s c x e) (told_of_change k s c x e)
+module _ (k : Rules) (s : Course) (c : Command) (x : Change) (e : change_of (tree_of k) c ≡ Some x) (h : first_of (change_refusals k s.timeline.now c) ≡ None) where
+  pub change_step : step k s c ≡ Ok (change_reply s.timeline.now.next c, moved k.accepted s (with_change s.timeline x))
+  change_step = step_by k s c (change_reply s.timeline.now.next c) (Some (with_change s.timeline x)) (refusal_of_change k s c (ap is_some e) ∙ h) (reply_of_change k s c x e) (timeline_of_change k s c x e)
 
   -- as a call leaves it
-  pub change_step_as : (r : Reply) (t : Course) → r ≡ change_reply s.told.now.next c → t ≡ moved k.accepted s (with_change s.told x) → step k s c ≡ Ok (r, t)
+  pub change_step_as : (r : Reply) (t : Course) → r ≡ change_reply s.timeline.now.next c → t ≡ moved k.accepted s (with_change s.timeline x) → step k s c ≡ Ok (r, t)
   change_step_as r t er et = change_step ∙ ok_pair _ r _ t (sym er) (sym et)
 
-  pub change_steps : (most : Answered → Answered → ℕ) → most_steps most k s c ≡ most s.told.now (applied x s.told.now)
-  change_steps most = most_by most k s c (Some (with_change s.told x)) (refusal_of_change k s c (ap is_some e) ∙ h) (told_of_change k s c x e)
+  pub change_steps : (most : Answered → Answered → ℕ) → most_steps most k s c ≡ most s.timeline.now (applied x s.timeline.now)
+  change_steps most = most_by most k s c (Some (with_change s.timeline x)) (refusal_of_change k s c (ap is_some e) ∙ h) (timeline_of_change k s c x e)
 
 -- ---- steps along the history
 
 when_true : (b : Bool) (r : Refusal) → b ≡ false → when b r ≡ None
 when_true b r e = ap (λ (t : Bool). when t r) e
 
-refusal_of_move : (k : Rules) (s : Course) (forth : Bool) → refusal k s (step_command forth) ≡ when (is_end forth s.told) (end_refusal forth)
-refusal_of_move k s true = alone (when (is_empty s.told.after) NothingToRedo)
-  where
-    alone : (o : Option Refusal) → first_of (o ∷ []) ≡ o
-    alone None = refl
-    alone (Some r) = refl
-refusal_of_move k s false = alone (when (is_empty s.told.before) NothingToUndo)
-  where
-    alone : (o : Option Refusal) → first_of (o ∷ []) ≡ o
-    alone None = refl
-    alone (Some r) = refl
+alone : (o : Option Refusal) → first_of (o ∷ []) ≡ o
+alone None = refl
+alone (Some r) = refl
+
+refusal_of_move : (k : Rules) (s : Course) (forth : Bool) → refusal k s (step_command forth) ≡ when (is_end forth s.timeline) (end_refusal forth)
+refusal_of_move k s true = alone (when (is_empty s.timeline.after) NothingToRedo)
+refusal_of_move k s false = alone (when (is_empty s.timeline.before) NothingToUndo)
 
 reply_of_move : (k : Rules) (s : Course) (forth : Bool) → reply k s (step_command forth) ≡ Done
 reply_of_move k s true = refl
 reply_of_move k s false = refl
 
-told_of_move : (k : Rules) (s : Course) (forth : Bool) → told_by (tree_of k) s.told (step_command forth) ≡ Some (told_stepped forth s.told)
-told_of_move k s true = refl
-told_of_move k s false = refl
+timeline_of_move : (k : Rules) (s : Course) (forth : Bool) → timeline_by (tree_of k) s.timeline (step_command forth) ≡ Some (timeline_stepped forth s.timeline)
+timeline_of_move k s true = refl
+timeline_of_move k s false = refl
 
-pub move_refused : (k : Rules) (s : Course) (forth : Bool) (r : Refusal) → Refused r (when (is_end forth s.told) (end_refusal forth)) → Refused r (refusal k s (step_command forth))
-move_refused k s forth r h = subst (Refused r) (sym (refusal_of_move k s forth)) h
+pub move_step : (k : Rules) (s : Course) (forth : Bool) → is_end forth s.timeline ≡ false → step k s (step_command forth) ≡ Ok (Done, moved k.accepted s (timeline_stepped forth s.timeline))
+move_step k s forth h = step_by k s (step_command forth) Done (Some (timeline_stepped forth s.timeline)) (refusal_of_move k s forth ∙ when_true (is_end forth s.timeline) (end_refusal forth) h) (reply_of_move k s forth) (timeline_of_move k s forth)
 
-pub move_step : (k : Rules) (s : Course) (forth : Bool) → is_end forth s.told ≡ false → step k s (step_command forth) ≡ Ok (Done, moved k.accepted s (told_stepped forth s.told))
-move_step k s forth h = step_by k s (step_command forth) Done (Some (told_stepped forth s.told)) (refusal_of_move k s forth ∙ when_true (is_end forth s.told) (end_refusal forth) h) (reply_of_move k s forth) (told_of_move k s forth)
-
-pub move_step_as : (k : Rules) (s : Course) (forth : Bool) → is_end forth s.told ≡ false → (t : Course) → t ≡ moved k.accepted s (told_stepped forth s.told) → step k s (step_command forth) ≡ Ok (Done, t)
+pub move_step_as : (k : Rules) (s : Course) (forth : Bool) → is_end forth s.timeline ≡ false → (t : Course) → t ≡ moved k.accepted s (timeline_stepped forth s.timeline) → step k s (step_command forth) ≡ Ok (Done, t)
 move_step_as k s forth h t e = move_step k s forth h ∙ ok_pair Done Done _ t refl (sym e)
 
-pub move_steps : (most : Answered → Answered → ℕ) (k : Rules) (s : Course) (forth : Bool) → is_end forth s.told ≡ false → most_steps most k s (step_command forth) ≡ most s.told.now (told_stepped forth s.told).now
-move_steps most k s forth h = most_by most k s (step_command forth) (Some (told_stepped forth s.told)) (refusal_of_move k s forth ∙ when_true (is_end forth s.told) (end_refusal forth) h) (told_of_move k s forth)
+pub move_steps : (most : Answered → Answered → ℕ) (k : Rules) (s : Course) (forth : Bool) → is_end forth s.timeline ≡ false → most_steps most k s (step_command forth) ≡ most s.timeline.now (timeline_stepped forth s.timeline).now
+move_steps most k s forth h = most_by most k s (step_command forth) (Some (timeline_stepped forth s.timeline)) (refusal_of_move k s forth ∙ when_true (is_end forth s.timeline) (end_refusal forth) h) (timeline_of_move k s forth)
 
 -- ---- questions
-
-pub asked_ok : (k : Rules) (s : Course) (c : Command) (r : Reply) → told_by (tree_of k) s.told c ≡ None → ◌≡◌ {A = Result Reply Refusal} (Ok r) (decided (refusal k s c) (reply k s c)) → step k s c ≡ Ok (r, s)
-asked_ok k s c r t e =
-    let d = decided_ok (refusal k s c) (reply k s c) r e in
-    step_by k s c r None d.0 (sym d.1) t
 
 pub asked_refused : {A : Type 0} (o : Option Refusal) (x : A) (answer : Result A Refusal) → answer ≡ decided o x → IfErr answer (λ r. Refused r o)
 asked_refused o x (Ok y) e = tt

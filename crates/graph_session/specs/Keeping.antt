@@ -2,12 +2,12 @@
 use Rattle.std.specs.List.{All}
 use Rattle.dict_tree.specs.Dictionary.{Dictionary as Tree}
 use Rattle.session_undo.specs.Place.{Place, Kept as KeptPlace}
-use Rattle.session_undo.specs.Told.{Told, told}
+use Rattle.session_undo.specs.Timeline.{Timeline, timeline}
 use Rattle.dictionary.specs.Accepted.{IsAccepted, Kept, accepted, names_of}
 use Rattle.dictionary.specs.Fits.{AnswersFit}
 
 -- the answers at the place fit the dictionary, and so do all before and after it
-pub record AllFit (d : Tree) (t : Told) : Type 0 where
+pub record AllFit (d : Tree) (t : Timeline) : Type 0 where
   pub before : All (AnswersFit d) t.before
   pub now : AnswersFit d t.now
   pub after : All (AnswersFit d) t.after
@@ -16,4 +16,4 @@ pub record AllFit (d : Tree) (t : Told) : Type 0 where
 pub record IsSound (k : Kept) (p : Place) : Type 0 where
   pub is_accepted : IsAccepted (names_of k.checks) (accepted k)
   pub kept : KeptPlace p
-  pub fit : AllFit (accepted k).tree (told p)
+  pub fit : AllFit (accepted k).tree (timeline p)

@@ -81,16 +81,17 @@ is_full a c = nat_le 100 (length (list_of a c)) || nat_le 1000001 a.next
 abbrev pub is_given : Tree → ℕ → Bool
 is_given d fact = is_answered_by d fact || is_overridden_by d fact
 
+-- what holds of a limit: of the value of a Min or a Max, and of the place of a check
+abbrev pub IsLimitBy : (Value → Type 0) → (ℕ → Type 0) → Limit → Type 0
+IsLimitBy bound place (Min least) = bound least
+IsLimitBy bound place (Max greatest) = bound greatest
+IsLimitBy bound place (MaxLength most) = Unit {0}
+IsLimitBy bound place (Check n) = place n
+
 -- the value has an order with the limit's, where the limit has one
 abbrev pub IsMeasured : Value → Limit → Type 0
-IsMeasured v (Min least) = AreOrdered v least
-IsMeasured v (Max greatest) = AreOrdered v greatest
-IsMeasured v (MaxLength most) = Unit {0}
-IsMeasured v (Check place) = Unit {0}
+IsMeasured v = IsLimitBy (AreOrdered v) (λ n. Unit {0})
 
 -- the limit's check is one of so many
 abbrev pub HasCheck : ℕ → Limit → Type 0
-HasCheck count (Min least) = Unit {0}
-HasCheck count (Max greatest) = Unit {0}
-HasCheck count (MaxLength most) = Unit {0}
-HasCheck count (Check place) = place < count
+HasCheck count = IsLimitBy (λ v. Unit {0}) (λ n. n < count)

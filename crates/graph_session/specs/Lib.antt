@@ -7,5 +7,5 @@ pub mod Naming
 pub mod Refusals
 pub mod Rules
 pub mod Run
-pub mod Shown
+pub mod SessionView
 pub mod Step

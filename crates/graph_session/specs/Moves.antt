@@ -6,7 +6,7 @@ use Rattle.answers.specs.Change.{Change}
 use Rattle.answers.specs.declared.parts.Parts.{Parts}
 use Rattle.session_undo.specs.History.{CanBack, CanForth}
 use Rattle.session_undo.specs.Place.{Place, moved_back, moved_forth}
-use Rattle.session_undo.specs.Told.{Told, told_back, told_forth}
+use Rattle.session_undo.specs.Timeline.{Timeline, timeline_back, timeline_forth}
 use Rattle.session_undo.specs.declared.history.History.{History}
 use Rattle.graph_session.specs.Refusals.{is_empty}
 use Rattle.graph_session.specs.declared.reply.Refusal.{Refusal}
@@ -16,9 +16,9 @@ abbrev pub stepped : Bool → Place → Place
 stepped true p = moved_forth p
 stepped false p = moved_back p
 
-abbrev pub told_stepped : Bool → Told → Told
-told_stepped true t = told_forth t
-told_stepped false t = told_back t
+abbrev pub timeline_stepped : Bool → Timeline → Timeline
+timeline_stepped true t = timeline_forth t
+timeline_stepped false t = timeline_back t
 
 -- the changes along which a step goes
 abbrev pub changes_along : Bool → Place → List Change
@@ -26,7 +26,7 @@ changes_along true p = p.ahead
 changes_along false p = p.back
 
 -- there are no answers to step to
-abbrev pub is_end : Bool → Told → Bool
+abbrev pub is_end : Bool → Timeline → Bool
 is_end true t = is_empty t.after
 is_end false t = is_empty t.before
 

@@ -1,8 +1,12 @@
 -- A list of commands, one after another.
-use Rattle.std.specs.Prelude.{Bool, true, false, List, [], ◌∷◌, Result, Ok, Err}
+use Rattle.std.specs.Prelude.{◌≡◌, ℕ, Bool, true, false, List, [], ◌∷◌, take, Result, Ok, Err}
 use Rattle.script_lines.specs.declared.command.Command.{Command}
-use Rattle.graph_session.specs.Rules.{Rules}
-use Rattle.graph_session.specs.Shown.{Course}
+use Rattle.answers.specs.Answered.{start}
+use Rattle.dictionary.specs.Accepted.{IsAccepted, names_of}
+use Rattle.dictionary.specs.Extension.{IsExtension}
+use Rattle.dictionary.specs.Fits.{AnswersFit}
+use Rattle.graph_session.specs.Rules.{Rules, tree_of}
+use Rattle.graph_session.specs.SessionView.{Course, begun}
 use Rattle.graph_session.specs.Step.{step}
 use Rattle.graph_session.specs.declared.reply.Refusal.{Refusal}
 use Rattle.graph_session.specs.declared.reply.Refusal.TheVariants.{UnknownFact, NoMember, WrongKind, BadValue, Limit, Check, Full, AlreadyOpen, NotAnswered, NoOverride, NothingToUndo, NothingToRedo, NoStamps, NoMemory}
@@ -28,6 +32,10 @@ abbrev pub ended : Rules → Course → List Command → Course
 ended r s [] = s
 ended r s (c ∷ cs) = ended r (next s (step r s c)) cs
 
+-- the session after some first of them
+abbrev pub IsAfterSome : Rules → Course → List Command → Course → Type 0
+IsAfterSome r s cs t = (n : ℕ) × (t ≡ ended r s (take n cs))
+
 abbrev pub is_memory : Refusal → Bool
 is_memory UnknownFact = false
 is_memory NoMember = false
@@ -47,3 +55,12 @@ is_memory NoMemory = true
 abbrev pub memory_said : Result Reply Refusal → Bool
 memory_said (Ok r) = false
 memory_said (Err r) = is_memory r
+
+-- ---- a law
+
+-- from the start, wherever commands lead, the answers fit the dictionary, and so they are an extension of themselves
+abbrev pub CommandsLeadToFit : Type 0
+CommandsLeadToFit =
+    (r : Rules) → IsAccepted (names_of r.checks) r.accepted → (offered : Bool) (commands : List Command)
+    → AnswersFit (tree_of r) (ended r (begun r.accepted start offered) commands).timeline.now
+    × IsExtension (tree_of r) (ended r (begun r.accepted start offered) commands).timeline.now (ended r (begun r.accepted start offered) commands).timeline.now

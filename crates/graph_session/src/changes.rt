@@ -1,7 +1,7 @@
 // The edit that a command makes.
 ghost use Rattle.std.specs.Prelude.{◌≡◌, ℕ, List, None, Some, map, IfErr, IfOk, IsSome};
 ghost use Rattle.script_lines.specs.declared.command.Command.TheVariants.{Add, Clear, OpenList, Override, Release, Remove, Set};
-ghost use Rattle.answers.specs.Standing.{answered, change};
+ghost use Rattle.answers.specs.Meaning.{answered, change};
 ghost use Rattle.graph_session.specs.Changes.{change_of, change_refusals, change_reply as reply_of};
 ghost use Rattle.graph_session.specs.Refusals.{Refused, SameChecks, first_of};
 ghost use Rattle.graph_session.specs.Rules.{rules, tree_of};

@@ -4,6 +4,7 @@
 mod changes;
 mod judging;
 mod kinds;
+mod laws;
 mod limits;
 mod moves;
 mod naming;
@@ -13,6 +14,7 @@ mod reply;
 mod running;
 mod session;
 
+pub use laws::commands_lead_to_answers_that_fit;
 pub use reply::{Refusal, Reply};
 pub use running::run;
 pub use session::Session;

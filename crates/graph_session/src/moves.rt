@@ -1,9 +1,9 @@
 // Steps along the history.
 ghost use Rattle.std.specs.Prelude.{◌≡◌, [], Bool, true, false, not, IfErr, OnErr, OnOk};
-ghost use Rattle.answers.specs.Standing.{answered};
+ghost use Rattle.answers.specs.Meaning.{answered};
 ghost use Rattle.session_undo.specs.History.{place};
 ghost use Rattle.session_undo.specs.Place.{Kept as KeptPlace};
-ghost use Rattle.session_undo.specs.Told.{told};
+ghost use Rattle.session_undo.specs.Timeline.{timeline};
 ghost use Rattle.graph_session.specs.Moves.{CanStep, changes_along, end_refusal, is_end, stepped};
 ghost use Rattle.graph_session.specs.Refusals.{Refused, when};
 
@@ -14,9 +14,9 @@ use session_undo::{History, UndoRefusal};
 fn step_back(history: &mut History, answers: &mut Answers) -> Result<(), Refusal>
     requires { KeptPlace (place history.old answers.old) }
     ensures moved { OnOk result (place history.new answers.new ≡ stepped false (place history.old answers.old)) }
-    ensures some { OnOk result (is_end false (told (place history.old answers.old)) ≡ false) }
+    ensures some { OnOk result (is_end false (timeline (place history.old answers.old)) ≡ false) }
     ensures can_return { OnOk result (CanStep true history.new answers.new) }
-    ensures refused { IfErr result (λ r. Refused r (when (is_end false (told (place history.old answers.old))) (end_refusal false))) }
+    ensures refused { IfErr result (λ r. Refused r (when (is_end false (timeline (place history.old answers.old))) (end_refusal false))) }
     ensures unchanged { OnErr result (place history.new answers.new ≡ place history.old answers.old) }
 {
     match history.back(answers) {
@@ -30,9 +30,9 @@ fn step_back(history: &mut History, answers: &mut Answers) -> Result<(), Refusal
 fn step_forth(history: &mut History, answers: &mut Answers) -> Result<(), Refusal>
     requires { KeptPlace (place history.old answers.old) }
     ensures moved { OnOk result (place history.new answers.new ≡ stepped true (place history.old answers.old)) }
-    ensures some { OnOk result (is_end true (told (place history.old answers.old)) ≡ false) }
+    ensures some { OnOk result (is_end true (timeline (place history.old answers.old)) ≡ false) }
     ensures can_return { OnOk result (CanStep false history.new answers.new) }
-    ensures refused { IfErr result (λ r. Refused r (when (is_end true (told (place history.old answers.old))) (end_refusal true))) }
+    ensures refused { IfErr result (λ r. Refused r (when (is_end true (timeline (place history.old answers.old))) (end_refusal true))) }
     ensures unchanged { OnErr result (place history.new answers.new ≡ place history.old answers.old) }
 {
     match history.forth(answers) {
@@ -47,9 +47,9 @@ fn step_forth(history: &mut History, answers: &mut Answers) -> Result<(), Refusa
 pub fn step_along(history: &mut History, answers: &mut Answers, forth: bool) -> Result<(), Refusal>
     requires { KeptPlace (place history.old answers.old) }
     ensures moved { OnOk result (place history.new answers.new ≡ stepped forth (place history.old answers.old)) }
-    ensures some { OnOk result (is_end forth (told (place history.old answers.old)) ≡ false) }
+    ensures some { OnOk result (is_end forth (timeline (place history.old answers.old)) ≡ false) }
     ensures can_return { OnOk result (CanStep (not forth) history.new answers.new) }
-    ensures refused { IfErr result (λ r. Refused r (when (is_end forth (told (place history.old answers.old))) (end_refusal forth))) }
+    ensures refused { IfErr result (λ r. Refused r (when (is_end forth (timeline (place history.old answers.old))) (end_refusal forth))) }
     ensures unchanged { OnErr result (place history.new answers.new ≡ place history.old answers.old) }
 {
     if forth {

@@ -1,7 +1,7 @@
 // The slot that a path names.
 ghost use Rattle.std.specs.Prelude.{◌≡◌, IfOk, IfSome, IsTrue, Some};
 ghost use Rattle.answers.specs.Answered.{list_of};
-ghost use Rattle.answers.specs.Standing.{answered};
+ghost use Rattle.answers.specs.Meaning.{answered};
 ghost use Rattle.dict_tree.specs.Finding.{IsNumber};
 ghost use Rattle.dictionary.specs.Fits.{AnswersFit};
 ghost use Rattle.dictionary.specs.Slots.{is_member as among_members, stands};

@@ -1,6 +1,6 @@
 // Whether a command may be carried out: the first refusal, or what it is carried out with.
 ghost use Rattle.std.specs.Prelude.{◌≡◌, ℕ, List, None, Some, map, IfErr, IfOk};
-ghost use Rattle.answers.specs.Standing.{answered};
+ghost use Rattle.answers.specs.Meaning.{answered};
 ghost use Rattle.graph_session.specs.Kinds.{is_full as full, value_spelled};
 ghost use Rattle.graph_session.specs.Naming.{fact_of, slot_of};
 ghost use Rattle.graph_session.specs.Refusals.{Refused, SameChecks, add_refusals, clear_refusals, decided, first_of, open_refusals, override_refusals, release_refusals, remove_refusals, set_refusals};

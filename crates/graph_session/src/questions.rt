@@ -1,6 +1,6 @@
 // Questions about a slot, which change nothing.
 ghost use Rattle.std.specs.Prelude.{◌≡◌};
-ghost use Rattle.answers.specs.Standing.{answered};
+ghost use Rattle.answers.specs.Meaning.{answered};
 ghost use Rattle.graph_session.specs.Naming.{slot_of};
 ghost use Rattle.graph_session.specs.Refusals.{decided, first_of, slot_refusals};
 ghost use Rattle.graph_session.specs.Rules.{rules, tree_of};

@@ -1,9 +1,9 @@
 // A list of commands, one after another.
-ghost use Rattle.std.specs.Prelude.{◌≡◌, ℕ, ◌+◌, ◌≤◌, ◌^◌, List, length, map, IfOk, OnOk};
+ghost use Rattle.std.specs.Prelude.{◌≡◌, ℕ, ◌+◌, ◌≤◌, ◌^◌, List, length, map, IfOk, OnErr, OnOk};
 ghost use Rattle.graph_session.specs.Refusals.{SameChecks};
 ghost use Rattle.graph_session.specs.Rules.{rules};
-ghost use Rattle.graph_session.specs.Run.{ended, is_memory as wants_memory, memory_said, replies};
-ghost use Rattle.graph_session.specs.Shown.{course};
+ghost use Rattle.graph_session.specs.Run.{IsAfterSome, ended, is_memory as wants_memory, memory_said, replies};
+ghost use Rattle.graph_session.specs.SessionView.{course};
 
 use crate::reply::{Refusal, Reply};
 use crate::session::Session;
@@ -46,7 +46,7 @@ fn is_want_of_memory(refusal: Refusal) -> bool
     }
 }
 
-/// The answers to the commands, in their order. For want of memory it stops, after some of them.
+/// The answers to the commands, in their order. For want of memory it stops behind some first commands, which are carried out.
 pub fn run<E: FactEngine, L: Ledger>(
     alloc: Global,
     session: &mut Session<E>,
@@ -58,6 +58,8 @@ pub fn run<E: FactEngine, L: Ledger>(
     requires few { session.old.changes + length commands.now ≤ 2 ^ 63 }
     ensures replies { IfOk result (λ rs. rs.items ≡ replies (rules session.old.dict) (course session.old) commands.now) }
     ensures ended { OnOk result (course session.new ≡ ended (rules session.old.dict) (course session.old) commands.now) }
+    ensures stopped { OnErr result (IsAfterSome (rules session.old.dict) (course session.old) commands.now (course session.new)) }
+    ensures dict { session.new.dict ≡ session.old.dict }
 {
     let mut all = Vec::new(alloc);
     for command in commands {

@@ -3,7 +3,7 @@ ghost use Rattle.std.specs.Prelude.{◌≡◌, ℕ, ◌+◌, ◌<◌, ◌≤◌,
 ghost use Rattle.answers.specs.Answered.{start};
 ghost use Rattle.answers.specs.Change.{Fits, applied};
 ghost use Rattle.answers.specs.Room.{HasRoom};
-ghost use Rattle.answers.specs.Standing.{answered, change};
+ghost use Rattle.answers.specs.Meaning.{answered, change};
 ghost use Rattle.session_undo.specs.History.{CanPush, ahead_of, behind};
 ghost use Rattle.dictionary.specs.Accepted.{accepted};
 ghost use Rattle.dictionary.specs.Fits.{AnswersFit};
@@ -15,8 +15,8 @@ ghost use Rattle.graph_session.specs.Moves.{step_command};
 ghost use Rattle.graph_session.specs.Naming.{slot_of as slot_named};
 ghost use Rattle.graph_session.specs.Refusals.{Refused, SameChecks, decided, first_of, slot_found, stamp_refusals, when};
 ghost use Rattle.graph_session.specs.Rules.{rules, tree_of};
-ghost use Rattle.graph_session.specs.Shown.{course, moved_to, start_at};
-ghost use Rattle.graph_session.specs.Step.{most_steps, refusal, reply, step, told_by, with_change};
+ghost use Rattle.graph_session.specs.SessionView.{course, moved_to, start_at};
+ghost use Rattle.graph_session.specs.Step.{most_steps, refusal, reply, step, timeline_by, with_change};
 ghost use Rattle.graph_session.specs.declared.reply.Refusal.TheVariants.{NoStamps};
 ghost use Rattle.graph_session.specs.declared.reply.Reply.TheVariants as replies;
 
@@ -51,21 +51,21 @@ pub struct Session<E: FactEngine> {
 
 impl<E: FactEngine> Model for Session<E> {
     ghost use Rattle.std.specs.Prelude.{◌≡◌, IsTrue, Some, None, if◌then◌else◌};
-    ghost use Rattle.answers.specs.Standing.{answered};
+    ghost use Rattle.answers.specs.Meaning.{answered};
     ghost use Rattle.session_undo.specs.History.{place};
-    ghost use Rattle.session_undo.specs.Told.{told};
+    ghost use Rattle.session_undo.specs.Timeline.{timeline};
     ghost use Rattle.dictionary.specs.Accepted.{accepted};
     ghost use Rattle.graph_session.specs.Counts.{counts_of};
     ghost use Rattle.graph_session.specs.Keeping.{IsSound};
-    ghost use Rattle.graph_session.specs.Shown.{Shown, coded_shown};
+    ghost use Rattle.graph_session.specs.SessionView.{SessionView, coded_view};
 
-    ghost Value = { Shown };
+    ghost Value = { SessionView };
 
-    ghost coded = { coded_shown };
+    ghost coded = { coded_view };
 
     ghost view = { λ s. record {
       dict = s.dict;
-      told = told (place s.history s.answers);
+      timeline = timeline (place s.history s.answers);
       changes = s.changes;
       counts = if E.STAMPS then Some (counts_of (accepted s.dict) (answered s.answers) (E.marks s.engine)) else None;
     } };
@@ -109,8 +109,8 @@ impl<E: FactEngine> Session<E> {
 
     /// The answers.
     pub fn answers(&self) -> &Answers
-        ensures value { answered result.now ≡ self.now.told.now }
-        ensures fit { AnswersFit (accepted self.now.dict).tree self.now.told.now }
+        ensures value { answered result.now ≡ self.now.timeline.now }
+        ensures fit { AnswersFit (accepted self.now.dict).tree self.now.timeline.now }
     {
         &self.answers
     }
@@ -124,7 +124,7 @@ impl<E: FactEngine> Session<E> {
 
     /// The result of a slot: none where it doesn't stand.
     pub fn result(&self, slot: Slot) -> Option<&Res>
-        ensures { option_copied result ≡ plain (accepted self.now.dict) self.now.told.now slot }
+        ensures { option_copied result ≡ plain (accepted self.now.dict) self.now.timeline.now slot }
     {
         self.engine.result(slot)
     }
@@ -132,7 +132,7 @@ impl<E: FactEngine> Session<E> {
     /// The number of the last change that touched the slot, and 0 if none did: none where the slot doesn't stand, or the
     /// engine keeps no stamps.
     pub fn stamp(&self, slot: Slot) -> Option<u64>
-        ensures { result ≡ stamp_offered (stands (accepted self.now.dict).tree self.now.told.now slot) self.now.counts slot }
+        ensures { result ≡ stamp_offered (stands (accepted self.now.dict).tree self.now.timeline.now slot) self.now.counts slot }
     {
         self.engine.stamp(slot)
     }
@@ -140,10 +140,10 @@ impl<E: FactEngine> Session<E> {
     // Makes a change, with its results. For want of memory all is as before.
     fn change<L: Ledger>(&mut self, edit: Edit, steps: &mut Steps<L>) -> Result<(), NoMemory>
         requires few { self.old.changes < 2 ^ 63 }
-        requires made { CanBeMade (rules self.old.dict) self.old.told.now (change edit) }
-        ensures ok { OnOk result (self.new ≡ moved_to self.old (with_change self.old.told (change edit))) }
+        requires made { CanBeMade (rules self.old.dict) self.old.timeline.now (change edit) }
+        ensures ok { OnOk result (self.new ≡ moved_to self.old (with_change self.old.timeline (change edit))) }
         ensures unchanged { OnErr result (self.new ≡ self.old) }
-        ensures steps { steps.new ≤ steps.old + E.most (accepted self.old.dict) self.old.told.now (applied (change edit) self.old.told.now) }
+        ensures steps { steps.new ≤ steps.old + E.most (accepted self.old.dict) self.old.timeline.now (applied (change edit) self.old.timeline.now) }
     {
         self.history.room()?;
         match self.answers.apply(edit) {
@@ -217,15 +217,15 @@ impl<E: FactEngine> Session<E> {
 
     /// The standing slot that the path names.
     pub fn slot_of(&self, path: &SlotPath) -> Result<Slot, Refusal>
-        ensures found { result ≡ slot_found (rules self.now.dict) self.now.told.now path.now }
-        ensures stands { IfOk result (λ s. IsTrue (stands (accepted self.now.dict).tree self.now.told.now s)) }
+        ensures found { result ≡ slot_found (rules self.now.dict) self.now.timeline.now path.now }
+        ensures stands { IfOk result (λ s. IsTrue (stands (accepted self.now.dict).tree self.now.timeline.now s)) }
     {
         find_slot(&self.dict, &self.answers, path)
     }
 
     // The stamp of a slot.
     fn ask_stamp(&self, path: &SlotPath) -> Result<Reply, Refusal>
-        ensures { result ≡ decided (first_of (stamp_refusals (rules self.now.dict) self.now.told.now self.now.counts path.now)) (replies.Stamp (stamp_of self.now.counts (slot_named (tree_of (rules self.now.dict)) path.now))) }
+        ensures { result ≡ decided (first_of (stamp_refusals (rules self.now.dict) self.now.timeline.now self.now.counts path.now)) (replies.Stamp (stamp_of self.now.counts (slot_named (tree_of (rules self.now.dict)) path.now))) }
     {
         match self.slot_of(path) {
             Err(refusal) => Err(refusal),
@@ -248,7 +248,7 @@ impl<E: FactEngine> Session<E> {
 
     // The answer to a command that makes no change.
     fn ask(&self, command: &Command) -> Result<Reply, Refusal>
-        requires { told_by (tree_of (rules self.now.dict)) self.now.told command.now ≡ None }
+        requires { timeline_by (tree_of (rules self.now.dict)) self.now.timeline command.now ≡ None }
         ensures { result ≡ decided (refusal (rules self.now.dict) (course self.now) command.now) (reply (rules self.now.dict) (course self.now) command.now) }
     {
         match command {

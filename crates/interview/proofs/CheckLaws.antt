@@ -34,34 +34,17 @@ one_run bytes checks script d e (inr (fault, is, to)) (inr (other, is_other, to_
 
 -- what refuses it, but for want of memory, is its fault
 pub refused_for : (bytes : List ℕ) (names : List (List ℕ)) (fault : DictFault) → is_memory fault ≡ false → Refuses (IsFault bytes names) fault → IsFault bytes names fault
-refused_for bytes names faults.TooLong none h = h
-refused_for bytes names faults.NotJson none h = h
-refused_for bytes names (faults.Shape n) none h = h
-refused_for bytes names (faults.TooMany n) none h = h
-refused_for bytes names (faults.TooDeep n) none h = h
-refused_for bytes names (faults.BadPath n) none h = h
-refused_for bytes names (faults.DuplicatePath n) none h = h
-refused_for bytes names (faults.NoCollection n) none h = h
-refused_for bytes names (faults.UnknownPath n) none h = h
-refused_for bytes names (faults.WrongPlace n) none h = h
-refused_for bytes names (faults.UnknownCheck n) none h = h
-refused_for bytes names (faults.IllTyped n node) none h = h
-refused_for bytes names (faults.BadLimit n) none h = h
-refused_for bytes names (faults.Cycle n) none h = h
 refused_for bytes names faults.NoMemory none h = absurd cc
+refused_for bytes names fault none h = h
 
 -- ---- how it ends
 
 module _ (told : Told) (checks : List Named) (name : List ℕ) (did : CheckDid) where
   ends_whole : (text : List ℕ) (whole : Status) → JudgedAs told checks text whole → SentWhole did.taken text → CheckEnds told checks name did whole
   ends_whole text whole (bytes, held, inl (dict, is, to)) wrote =
-      let done : whole ≡ Done = ap (λ (d : Defined). d.status) to in
-      let judged : JudgedAs told checks text whole = (bytes, held, inl (dict, is, to)) in
-      subst (CheckEnds told checks name did) (sym done) (text, subst (JudgedAs told checks text) done judged, wrote)
+      subst (λ w. JudgedAs told checks text w → CheckEnds told checks name did w) (sym (ap (λ (d : Defined). d.status) to)) (λ judged. (text, judged, wrote)) (bytes, held, inl (dict, is, to))
   ends_whole text whole (bytes, held, inr (fault, is, to)) wrote =
-      let refused : whole ≡ DictionaryRefused = ap (λ (d : Defined). d.status) to in
-      let judged : JudgedAs told checks text whole = (bytes, held, inr (fault, is, to)) in
-      subst (CheckEnds told checks name did) (sym refused) (text, subst (JudgedAs told checks text) refused judged, wrote)
+      subst (λ w. JudgedAs told checks text w → CheckEnds told checks name did w) (sym (ap (λ (d : Defined). d.status) to)) (λ judged. (text, judged, wrote)) (bytes, held, inr (fault, is, to))
 
   ends_judged : (text : List ℕ) (whole status : Status) → JudgedAs told checks text whole → EndedBy did.taken.before did.taken.after did.sink.before did.sink.after text whole status → CheckEnds told checks name did status
   ends_judged text whole status judged (inl (is, wrote)) = subst (CheckEnds told checks name did) (sym is) (ends_whole text whole judged wrote)

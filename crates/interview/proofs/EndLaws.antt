@@ -11,20 +11,20 @@ use Rattle.fg_io.specs.Sent.{Sent}
 use Rattle.fg_io.proofs.SentLaws.{sent_whole}
 use Rattle.fg_io.proofs.ConsumedLaws.{consumes_more, may_be_whole, may_go_on}
 use Rattle.script_lines.specs.Lines.{ScriptLine, script_lines, ended_lines}
-use Rattle.script_lines.proofs.EndedLaws.{told_are_ended}
+use Rattle.script_lines.proofs.EndedLaws.{ready_lines_are_ended}
 use Rattle.interview.specs.declared.hearing.Hearing.{Hearing}
 use Rattle.interview.specs.declared.hearing.Hearing.TheVariants.{More, Over, Unwritten, OutOfMemory}
 use Rattle.interview.specs.declared.status.Status.{Status}
 use Rattle.interview.specs.declared.status.Status.TheVariants.{Done, ReadFault, WriteFault, ScriptTooLong, NoMemory}
 use Rattle.graph_session.specs.Rules.{Rules, rules}
-use Rattle.graph_session.specs.Shown.{Course, Shown, course}
+use Rattle.graph_session.specs.SessionView.{Course, SessionView, course}
 use Rattle.interview.specs.Replies.{State, at_start, beginning, open_at, replies, state_after}
 use Rattle.interview.specs.Interview.{script_limit, defined_cut, defined_script}
 use Rattle.interview.specs.Hearing.{Hears, HearsPart, AnsweredAs, ending_of}
 use Rattle.interview.specs.Going.{Going}
 use Rattle.interview.specs.Ends.{ScriptDid, ScriptEnds}
 use Rattle.interview.proofs.HearingLaws.{replies-append, sent_on}
-use Rattle.interview.proofs.ScriptLaws.{hears_then, part_written, over_written, first_written}
+use Rattle.interview.proofs.ScriptLaws.{hears_then, replied_first, part_written, over_written, first_written}
 
 -- a script within the limit, and one past it
 defined_short : (r : Rules) (script : List ℕ) → length script ≤ script_limit → defined_script r script ≡ record { text = replies r (at_start r) (script_lines script); status = Done }
@@ -38,7 +38,7 @@ defined_long r front more full long =
     ap (λ b. if b then record { text = replies r (at_start r) (script_lines (front ++ more)); status = Done } else defined_cut r (take script_limit (front ++ more))) (lt-leb (length (front ++ more)) script_limit long)
     ∙ ap (defined_cut r) (ap (λ n. take n (front ++ more)) (sym full) ∙ take-append_seam front more)
 
-module _ (r : Rules) (did : ScriptDid) (left_now taken_now : Option (List ℕ)) (count : ℕ) (session : Shown) (held : List ℕ)
+module _ (r : Rules) (did : ScriptDid) (left_now taken_now : Option (List ℕ)) (count : ℕ) (session : SessionView) (held : List ℕ)
     (going : Going r did.left.before left_now did.taken.before taken_now count session held) where
   abbrev heard : List ScriptLine
   heard = going.hears.lines
@@ -83,15 +83,8 @@ module _ (r : Rules) (did : ScriptDid) (left_now taken_now : Option (List ℕ)) 
   ends_by faults_now here_now Over short read end later answered = whole_sent short (script_read read end) answered.0
   ends_by faults_now here_now Unwritten short read end later answered =
       (omega (arith, answered.0, later), (going.bytes, script_read read end, (answered.1.0, last_sent answered.1.0 short answered.1.1)))
-  ends_by faults_now here_now OutOfMemory short read end later answered = record {
-    script = going.bytes;
-    read = script_read read end;
-    count = length heard;
-    replied =
-        let first : take (length heard) (script_lines going.bytes) ≡ heard = ap (take (length heard)) all_lines ∙ take-append_seam heard _ in
-        subst (λ now. Appends did.taken.before now (replies r (at_start r) (take (length heard) (script_lines going.bytes)))) (sym answered)
-        (subst (λ l. Appends did.taken.before taken_now (replies r (at_start r) l)) (sym first) (sent_whole did.taken.before taken_now heard_text going.hears.wrote));
-  }
+  ends_by faults_now here_now OutOfMemory short read end later answered =
+      replied_first r did going.bytes heard _ (script_read read end) all_lines (subst (λ now. Appends did.taken.before now heard_text) (sym answered) (sent_whole did.taken.before taken_now heard_text going.hears.wrote))
 
   pub ends_at : (faults_now : ℕ) (here_now : Course) (hearing : Hearing) (status : Status) → status ≡ ending_of hearing → count ≤ script_limit → Consumes left_now did.left.after [] → IsAtEnd did.left.after → did.sink.before ≤ faults_now
       → AnsweredAs (rules session.dict) taken_now did.taken.after faults_now did.sink.after (course session) here_now (script_lines held) hearing → ScriptEnds r did status
@@ -130,7 +123,7 @@ module _ (r : Rules) (did : ScriptDid) (left_now taken_now : Option (List ℕ)) 
   -- ---- between pieces
 
   abbrev ended_are_heard : heard ≡ ended_lines going.bytes
-  ended_are_heard = told_are_ended going.bytes held heard going.unended going.hears.cut
+  ended_are_heard = ready_lines_are_ended going.bytes held heard going.unended going.hears.cut
 
   pub ends_unread : taken_now ≡ did.taken.after → Keeps left_now did.left.after → Rose did.source.before did.source.after → ScriptEnds r did ReadFault
   ends_unread same_taken kept rose = (

@@ -25,42 +25,34 @@ not_both words a b (inr p) q = let both : codes "run-plain" ∷ a ∷ [] ≡ cod
 same_second : (first other a b : List ℕ) → first ∷ a ∷ [] ≡ other ∷ b ∷ [] → a ≡ b
 same_second first other a b both = cc
 
--- one name is in the words
-same_name : (words : List (List ℕ)) (a b : List ℕ) → Fetches words a → Fetches words b → a ≡ b
-same_name words a b (inl (inl p)) (inl (inl q)) = same_second _ _ a b (sym p ∙ q)
-same_name words a b (inl (inl p)) (inl (inr q)) = same_second _ _ a b (sym p ∙ q)
-same_name words a b (inl (inl p)) (inr q) = same_second _ _ a b (sym p ∙ q)
-same_name words a b (inl (inr p)) (inl (inl q)) = same_second _ _ a b (sym p ∙ q)
-same_name words a b (inl (inr p)) (inl (inr q)) = same_second _ _ a b (sym p ∙ q)
-same_name words a b (inl (inr p)) (inr q) = same_second _ _ a b (sym p ∙ q)
-same_name words a b (inr p) (inl (inl q)) = same_second _ _ a b (sym p ∙ q)
-same_name words a b (inr p) (inl (inr q)) = same_second _ _ a b (sym p ∙ q)
-same_name words a b (inr p) (inr q) = same_second _ _ a b (sym p ∙ q)
+-- the name is the second of two words
+two_words : (words : List (List ℕ)) (a : List ℕ) → Fetches words a → (first : List ℕ) × (words ≡ first ∷ a ∷ [])
+two_words words a (inl (inl is)) = (codes "run", is)
+two_words words a (inl (inr is)) = (codes "run-plain", is)
+two_words words a (inr is) = (codes "check", is)
 
 module _ (given : Given) where
   -- ---- what is told
 
-  told_at : (name other : List ℕ) (told : Told) → Fetches given.words name → given.told name ≡ told → Fetches given.words other → given.told other ≡ told
-  told_at name other told asked is asked_other = ap given.told (same_name given.words other name asked_other asked) ∙ is
-
-  -- what the name may hold is what is told of it
-  told_bytes : (name other bytes may : List ℕ) → Fetches given.words name → given.told name ≡ holds bytes → Fetches given.words other → MayHold (given.told other) may → bytes ≡ may
-  told_bytes name other bytes may asked held asked_other held_other = subst (λ (t : Told). MayHold t may) (told_at name other (holds bytes) asked held asked_other) held_other
-
-  not_there : (name other may : List ℕ) → Fetches given.words name → given.told name ≡ missing → Fetches given.words other → MayHold (given.told other) may → ⊥
-  not_there name other may asked gone asked_other held_other = subst (λ (t : Told). MayHold t may) (told_at name other missing asked gone asked_other) held_other
+  -- one name is in the words, and what it may hold is what is told of it
+  may_hold : (name other may : List ℕ) (told : Told) → Fetches given.words name → given.told name ≡ told → Fetches given.words other → MayHold (given.told other) may → MayHold told may
+  may_hold name other may told asked is asked_other held =
+      let one = two_words given.words name asked in
+      let two = two_words given.words other asked_other in
+      let same : other ≡ name = same_second two.0 one.0 other name (sym two.1 ∙ one.1) in
+      subst (λ t. MayHold t may) (ap given.told same ∙ is) held
 
   -- a run that may have been given is the one that is told
   known_run : (k : KnownRun given) (run : Run given) → RunsTo k.bytes given.checks k.script run.outcome
   known_run k run =
-      let bytes = told_bytes k.name run.name k.bytes run.bytes (inl k.asked) k.held (inl run.asked) run.held in
+      let bytes = may_hold k.name run.name run.bytes (holds k.bytes) (inl k.asked) k.held (inl run.asked) run.held in
       let script = subst (λ (o : Option (List ℕ)). MayBe o run.script) k.read run.read in
       subst (λ b. RunsTo b given.checks k.script run.outcome) (sym bytes) (subst (λ l. RunsTo run.bytes given.checks l run.outcome) (sym script) run.ran)
 
   -- a check that may have been given is that of the dictionary that is told
   known_check : (k : KnownCheck given) (check : Check given) → ChecksTo k.bytes given.checks check.outcome
   known_check k check =
-      let bytes = told_bytes k.name check.name k.bytes check.bytes (inr k.asked) k.held (inr check.asked) check.held in
+      let bytes = may_hold k.name check.name check.bytes (holds k.bytes) (inr k.asked) k.held (inr check.asked) check.held in
       subst (λ b. ChecksTo b given.checks check.outcome) (sym bytes) check.judged
 
   module _ (did : Did) where
@@ -71,32 +63,30 @@ module _ (given : Given) where
     none_ended status (inr ends) none = none ends.0.name (inr ends.0.asked)
 
     no_form : (status : Status) → Ends given did status → HasNoForm given.words → IsOneOf status (Usage ∷ WriteFault ∷ NoMemory ∷ [])
-    no_form Done ends none = absurd (none_ended Done ends none)
-    no_form DictionaryRefused ends none = absurd (none_ended DictionaryRefused ends none)
     no_form Usage ends none = inl refl
     no_form FetchFault ends none = absurd (none did.failed_name ends.1)
     no_form ReadFault ends none = absurd (none ends.1.0.name (inl ends.1.0.asked))
     no_form WriteFault ends none = inr (inl refl)
     no_form ScriptTooLong ends none = absurd (none_ended ScriptTooLong (inl ends) none)
     no_form NoMemory ends none = inr (inr (inl refl))
+    no_form status ends none = absurd (none_ended status ends none)
 
     -- ---- a name that isn't there
 
     gone_ended : (status : Status) → EndsAs given did status → (name : List ℕ) → Fetches given.words name → given.told name ≡ missing → ⊥
-    gone_ended status (inl ends) name asked none = not_there name ends.0.name ends.0.bytes asked none (inl ends.0.asked) ends.0.held
-    gone_ended status (inr ends) name asked none = not_there name ends.0.name ends.0.bytes asked none (inr ends.0.asked) ends.0.held
+    gone_ended status (inl ends) name asked none = may_hold name ends.0.name ends.0.bytes missing asked none (inl ends.0.asked) ends.0.held
+    gone_ended status (inr ends) name asked none = may_hold name ends.0.name ends.0.bytes missing asked none (inr ends.0.asked) ends.0.held
 
     gone : (status : Status) → Ends given did status → (name : List ℕ) → Fetches given.words name → given.told name ≡ missing → IsOneOf status (FetchFault ∷ NoMemory ∷ [])
-    gone Done ends name asked none = absurd (gone_ended Done ends name asked none)
-    gone DictionaryRefused ends name asked none = absurd (gone_ended DictionaryRefused ends name asked none)
     gone Usage ends name asked none = absurd (ends.0 name asked)
     gone FetchFault ends name asked none = inl refl
-    gone ReadFault ends name asked none = absurd (not_there name ends.1.0.name ends.1.0.bytes asked none (inl ends.1.0.asked) ends.1.0.held)
+    gone ReadFault ends name asked none = absurd (may_hold name ends.1.0.name ends.1.0.bytes missing asked none (inl ends.1.0.asked) ends.1.0.held)
     gone WriteFault (rose, inl part) name asked none = absurd (part.0 name asked)
-    gone WriteFault (rose, inr (inl part)) name asked none = absurd (not_there name part.0.name part.0.bytes asked none (inl part.0.asked) part.0.held)
-    gone WriteFault (rose, inr (inr part)) name asked none = absurd (not_there name part.0.name part.0.bytes asked none (inr part.0.asked) part.0.held)
+    gone WriteFault (rose, inr (inl part)) name asked none = absurd (may_hold name part.0.name part.0.bytes missing asked none (inl part.0.asked) part.0.held)
+    gone WriteFault (rose, inr (inr part)) name asked none = absurd (may_hold name part.0.name part.0.bytes missing asked none (inr part.0.asked) part.0.held)
     gone ScriptTooLong ends name asked none = absurd (gone_ended ScriptTooLong (inl ends) name asked none)
     gone NoMemory ends name asked none = inr (inl refl)
+    gone status ends name asked none = absurd (gone_ended status ends name asked none)
 
     -- ---- runs
 
@@ -112,34 +102,32 @@ module _ (given : Given) where
         → EndedAs did status (defined_fault fault)
     fault_told status ends name bytes fault asked held is =
         let run = ends.0 in
-        let same = told_bytes name run.name bytes run.bytes (inl asked) held (inl run.asked) run.held in
+        let same = may_hold name run.name run.bytes (holds bytes) (inl asked) held (inl run.asked) run.held in
         let outcome : run.outcome ≡ defined_fault fault =
         one_run run.bytes given.checks run.script run.outcome (defined_fault fault) run.ran (inr (fault, subst (λ b. IsFault b (names_of given.checks) fault) same is, refl)) in
         subst (EndedAs did status) outcome (sym ends.1, ends.2)
 
     refused : (status : Status) → Ends given did status → (name bytes : List ℕ) (fault : DictFault) → IsRun given.words name → given.told name ≡ holds bytes → IsFault bytes (names_of given.checks) fault
         → EndedAs did status (defined_fault fault) ⊎ IsOneOf status (FetchFault ∷ WriteFault ∷ NoMemory ∷ [])
-    refused Done ends name bytes fault asked held is = inl (fault_told Done (ran Done ends name asked) name bytes fault asked held is)
-    refused DictionaryRefused ends name bytes fault asked held is = inl (fault_told DictionaryRefused (ran DictionaryRefused ends name asked) name bytes fault asked held is)
     refused Usage ends name bytes fault asked held is = absurd (ends.0 name (inl asked))
     refused FetchFault ends name bytes fault asked held is = inr (inl refl)
     refused ReadFault ends name bytes fault asked held is =
         let over = ends.1.0 in
-        let same = told_bytes name over.name bytes over.bytes (inl asked) held (inl over.asked) over.held in
+        let same = may_hold name over.name over.bytes (holds bytes) (inl asked) held (inl over.asked) over.held in
         absurd (accepted_has_none over.bytes (names_of given.checks) over.dict fault over.is_accepted (subst (λ b. IsFault b (names_of given.checks) fault) same is))
     refused WriteFault ends name bytes fault asked held is = inr (inr (inl refl))
     refused ScriptTooLong ends name bytes fault asked held is = inl (fault_told ScriptTooLong ends name bytes fault asked held is)
     refused NoMemory ends name bytes fault asked held is = inr (inr (inr (inl refl)))
+    refused status ends name bytes fault asked held is = inl (fault_told status (ran status ends name asked) name bytes fault asked held is)
 
     exact : (status : Status) → Ends given did status → (k : KnownRun given) → EndedByRun given did status k.bytes k.script ⊎ IsOneOf status (FetchFault ∷ ReadFault ∷ WriteFault ∷ NoMemory ∷ [])
-    exact Done ends k = inl (ended Done (ran Done ends k.name k.asked) k)
-    exact DictionaryRefused ends k = inl (ended DictionaryRefused (ran DictionaryRefused ends k.name k.asked) k)
     exact Usage ends k = absurd (ends.0 k.name (inl k.asked))
     exact FetchFault ends k = inr (inl refl)
     exact ReadFault ends k = inr (inr (inl refl))
     exact WriteFault ends k = inr (inr (inr (inl refl)))
     exact ScriptTooLong ends k = inl (ended ScriptTooLong ends k)
     exact NoMemory ends k = inr (inr (inr (inr (inl refl))))
+    exact status ends k = inl (ended status (ran status ends k.name k.asked) k)
 
     complete : (status : Status) → Ends given did status → (k : KnownRun given) → (FetchFailed given did → ⊥) → (Rises did.script.source → ⊥) → (Rises did.script.sink → ⊥)
         → EndedByRun given did status k.bytes k.script ⊎ (status ≡ NoMemory)
@@ -147,10 +135,9 @@ module _ (given : Given) where
     complete ReadFault ends k fetch read write = absurd (read ends.0)
     complete WriteFault ends k fetch read write = absurd (write ends.0)
     complete NoMemory ends k fetch read write = inr refl
-    complete Done ends k fetch read write = inl (ended Done (ran Done ends k.name k.asked) k)
-    complete DictionaryRefused ends k fetch read write = inl (ended DictionaryRefused (ran DictionaryRefused ends k.name k.asked) k)
     complete Usage ends k fetch read write = absurd (ends.0 k.name (inl k.asked))
     complete ScriptTooLong ends k fetch read write = inl (ended ScriptTooLong ends k)
+    complete status ends k fetch read write = inl (ended status (ran status ends k.name k.asked) k)
 
     -- ---- checks
 
@@ -174,24 +161,22 @@ module _ (given : Given) where
     check_ended status (inr ends) k = (ends.0.outcome, known_check k ends.0, (sym ends.1, ends.2))
 
     check_exact : (status : Status) → Ends given did status → (k : KnownCheck given) → EndedByCheck given did status k.bytes ⊎ IsOneOf status (FetchFault ∷ WriteFault ∷ NoMemory ∷ [])
-    check_exact Done ends k = inl (check_ended Done ends k)
-    check_exact DictionaryRefused ends k = inl (check_ended DictionaryRefused ends k)
     check_exact Usage ends k = absurd (ends.0 k.name (inr k.asked))
     check_exact FetchFault ends k = inr (inl refl)
     check_exact ReadFault ends k = absurd (not_both given.words ends.1.0.name k.name ends.1.0.asked k.asked)
     check_exact WriteFault ends k = inr (inr (inl refl))
     check_exact ScriptTooLong ends k = inl (check_ended ScriptTooLong (inl ends) k)
     check_exact NoMemory ends k = inr (inr (inr (inl refl)))
+    check_exact status ends k = inl (check_ended status ends k)
 
     check_complete : (status : Status) → Ends given did status → (k : KnownCheck given) → (FetchFailed given did → ⊥) → (Rises did.script.sink → ⊥) → EndedByCheck given did status k.bytes ⊎ (status ≡ NoMemory)
-    check_complete Done ends k fetch write = inl (check_ended Done ends k)
-    check_complete DictionaryRefused ends k fetch write = inl (check_ended DictionaryRefused ends k)
     check_complete Usage ends k fetch write = absurd (ends.0 k.name (inr k.asked))
     check_complete FetchFault ends k fetch write = absurd (fetch (ends.0, ends.1))
     check_complete ReadFault ends k fetch write = absurd (not_both given.words ends.1.0.name k.name ends.1.0.asked k.asked)
     check_complete WriteFault ends k fetch write = absurd (write ends.0)
     check_complete ScriptTooLong ends k fetch write = inl (check_ended ScriptTooLong (inl ends) k)
     check_complete NoMemory ends k fetch write = inr refl
+    check_complete status ends k fetch write = inl (check_ended status ends k)
 
     -- the fault that a dictionary has is the one that is named
     fault_named : (status : Status) (bytes : List ℕ) (fault : DictFault) → IsFault bytes (names_of given.checks) fault → EndedByCheck given did status bytes → EndedAs did status (defined_fault fault)

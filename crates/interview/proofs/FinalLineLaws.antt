@@ -14,7 +14,7 @@ use Rattle.dict_tree.specs.Dictionary.{Dictionary as Tree}
 use Rattle.dict_tree.specs.Targets.{find_global}
 use Rattle.three_state.specs.declared.res.Res.{Res}
 use Rattle.three_state.specs.declared.res.Res.TheVariants.{Complete, Placeholder, Incomplete, Fault}
-use Rattle.evaluation.proofs.Bools.{both}
+use Rattle.common_lemmas.proofs.Bools.{both}
 use Rattle.answers.specs.Answered.{Answered, value_of}
 use Rattle.answers.specs.declared.edit.Side.TheVariants.{Override}
 use Rattle.dictionary.specs.Accepted.{Accepted, IsAccepted}
@@ -25,7 +25,7 @@ use Rattle.dictionary.specs.Steady.{steady}
 use Rattle.graph_session.specs.Naming.{is_unknown, lacks_member, slot_of}
 use Rattle.graph_session.specs.Refusals.{decided, first_of, when}
 use Rattle.graph_session.specs.Rules.{Rules, tree_of}
-use Rattle.graph_session.specs.Shown.{Course}
+use Rattle.graph_session.specs.SessionView.{Course}
 use Rattle.graph_session.specs.declared.reply.Refusal.TheVariants.{UnknownFact, NoMember}
 use Rattle.graph_session.specs.declared.reply.Reply.TheVariants.{FinalAsked}
 use Rattle.interview.specs.Replies.{Step, asked_text, final_text, line_with, step_answered}
@@ -82,42 +82,38 @@ value_text v w is = sym (append_cancel_left (codes "final ") v w (append_cancel_
 
 module _ (names : List (List ℕ)) (r : Rules) (accepted : IsAccepted names r.accepted) (c : Course) (s : Slot) where
   abbrev told_in : Course → List ℕ
-  told_in e = line_with (asked_text (final_text (tree_of r).enums (is_final r.accepted e.told.now s)) (plain r.accepted e.told.now s) (codes "open"))
+  told_in e = line_with (asked_text (final_text (tree_of r).enums (is_final r.accepted e.timeline.now s)) (plain r.accepted e.timeline.now s) (codes "open"))
 
-  module _ (final : IsTrue (is_final r.accepted c.told.now s)) where
-    stays : Stays r.accepted c.told.now s
-    stays = final_result_stays names r.accepted accepted c.told.now s final
+  module _ (final : IsTrue (is_final r.accepted c.timeline.now s)) where
+    stays : Stays r.accepted c.timeline.now s
+    stays = final_result_stays names r.accepted accepted c.timeline.now s final
 
     told_now : told_in c ≡ final_line (printed (tree_of r).enums stays.0)
-    told_now = ap line_with (shown_as (tree_of r).enums (is_final r.accepted c.told.now s) (plain r.accepted c.told.now s) stays.0 final stays.1)
+    told_now = ap line_with (shown_as (tree_of r).enums (is_final r.accepted c.timeline.now s) (plain r.accepted c.timeline.now s) stays.0 final stays.1)
 
-    told_again : (d : Course) → IsExtension (tree_of r) c.told.now d.told.now → told_in d ≡ final_line (printed (tree_of r).enums stays.0)
+    told_again : (d : Course) → IsExtension (tree_of r) c.timeline.now d.timeline.now → told_in d ≡ final_line (printed (tree_of r).enums stays.0)
     told_again d ext =
-        let there = stays.2 d.told.now ext in
-        let still = final_still r.accepted c.told.now d.told.now ext.extends s stays.0 there final in
-        ap line_with (shown_as (tree_of r).enums (is_final r.accepted d.told.now s) (plain r.accepted d.told.now s) stays.0 still there)
+        let there = stays.2 d.timeline.now ext in
+        let still = final_still r.accepted c.timeline.now d.timeline.now ext.extends s stays.0 there final in
+        ap line_with (shown_as (tree_of r).enums (is_final r.accepted d.timeline.now s) (plain r.accepted d.timeline.now s) stays.0 still there)
 
-  -- what a value that is told says of the path's slot, and what is told under an extension
-  pub record Told (text : List ℕ) (lacks : Bool) : Type 0 where
-    pub final : IsTrue (is_final r.accepted c.told.now s)
-    pub told : told_in c ≡ final_line text
-    pub lacks_none : lacks ≡ false
-
-  told_by : (unknown lacks : Bool) (text : List ℕ) → (answered_by r c s unknown lacks).text ≡ final_line text → Told text lacks × (unknown ≡ false)
+  -- what a value that is told says: the result is final, the path is known, and its member is there
+  told_by : (unknown lacks : Bool) (text : List ℕ) → (answered_by r c s unknown lacks).text ≡ final_line text
+      → IsTrue (is_final r.accepted c.timeline.now s) × (told_in c ≡ final_line text) × (unknown ≡ false) × (lacks ≡ false)
   told_by true lacks text is = absurd (omega (arith, ap first_byte is))
   told_by false true text is = absurd (omega (arith, ap first_byte is))
-  told_by false false text is = (record { final = final_told (tree_of r).enums (is_final r.accepted c.told.now s) (plain r.accepted c.told.now s) text is; told = is; lacks_none = refl }, refl)
+  told_by false false text is = (final_told (tree_of r).enums (is_final r.accepted c.timeline.now s) (plain r.accepted c.timeline.now s) text is, is, refl, refl)
 
 pub final_lines_stay : FinalLinesStay
 final_lines_stay names r accepted c path text is =
     let s = slot_of (tree_of r) path in
-    let told = told_by names r accepted c s (is_unknown (tree_of r) path) (lacks_member (tree_of r) c.told.now path) text is in
-    let final = told.0.final in
-    let same : text ≡ printed (tree_of r).enums (stays names r accepted c s final).0 = value_text _ text (sym (told_now names r accepted c s final) ∙ told.0.told) in
+    let told = told_by names r accepted c s (is_unknown (tree_of r) path) (lacks_member (tree_of r) c.timeline.now path) text is in
+    let final = told.0 in
+    let same : text ≡ printed (tree_of r).enums (stays names r accepted c s final).0 = value_text _ text (sym (told_now names r accepted c s final) ∙ told.1) in
     record {
       stays = stays names r accepted c s final;
       printed_so = same;
       again = λ d ext.
-          (λ i. (answered_by r d s (told.1 i) (there_still (tree_of r) c.told.now d.told.now ext.extends path told.0.lacks_none i)).text)
+          (λ i. (answered_by r d s (told.2 i) (there_still (tree_of r) c.timeline.now d.timeline.now ext.extends path told.3 i)).text)
           ∙ told_again names r accepted c s final d ext ∙ ap final_line (sym same);
     }

@@ -4,13 +4,13 @@ use Rattle.std.specs.Prelude.{Ok, if◌then◌else◌}
 use Rattle.std.proofs.lemmas.List.{append-nil, take_all}
 use Rattle.fg_io.specs.Sent.{Sent}
 use Rattle.fg_io.proofs.SentLaws.{appends_more, sent_none}
-use Rattle.script_lines.specs.Lines.{ScriptLine, script_lines, told}
+use Rattle.script_lines.specs.Lines.{ScriptLine, script_lines, ready_lines}
 use Rattle.script_lines.specs.declared.command.Command.{Command}
 use Rattle.script_lines.specs.declared.lines.Ready.{Ready}
 use Rattle.graph_session.specs.Refusals.{Refused}
 use Rattle.graph_session.specs.Rules.{Rules}
 use Rattle.graph_session.specs.Run.{is_memory}
-use Rattle.graph_session.specs.Shown.{Course}
+use Rattle.graph_session.specs.SessionView.{Course}
 use Rattle.graph_session.specs.Step as session
 use Rattle.graph_session.specs.declared.reply.Refusal.{Refusal}
 use Rattle.graph_session.specs.declared.reply.Reply.{Reply}
@@ -27,15 +27,6 @@ known_step : (r : Rules) (c : Course) (command : Command) → is_quit command �
 known_step r c command no_quit known =
     ap (λ b. if b then record { text = []; state = record { course = c; over = true } } else step_known r c command) no_quit
     ∙ ap (λ b. if b then step_told c bad_line_text else step_answered r c (session.step r c command)) known
-
--- a command that isn't known is a bad line
-pub unknown_step : (r : Rules) (c : Course) (command : Command) → is_quit command ≡ false → is_unknown command ≡ true → step_command r c command ≡ step_told c bad_line_text
-unknown_step r c command no_quit unknown =
-    ap (λ b. if b then record { text = []; state = record { course = c; over = true } } else step_known r c command) no_quit
-    ∙ ap (λ b. if b then step_told c bad_line_text else step_answered r c (session.step r c command)) unknown
-
-pub quit_step : (r : Rules) (c : Course) (command : Command) → is_quit command ≡ true → step_command r c command ≡ record { text = []; state = record { course = c; over = true } }
-quit_step r c command quit = ap (λ b. if b then record { text = []; state = record { course = c; over = true } } else step_known r c command) quit
 
 module _ (taken taken_now : Option (List ℕ)) (faults faults_now : ℕ) where
   -- a line that was told is a step
@@ -129,15 +120,15 @@ hears_line r a b c course course_now held bytes held_now behind held_next next r
 -- the same, of the line that was fed and answered
 pub hears_fed : (r r_now : Rules) (a b c : Option (List ℕ)) (course course_now : Course) (held bytes held_now behind held_next next rest line line_now : List ℕ) (ready : Ready) (n : ℕ) (state_next : State)
     → Hears r a b course held bytes (open_at course_now) held_now behind [] → r_now ≡ r
-    → ((more : List ℕ) → script_lines (held_now ++ (behind ++ more)) ≡ told ready line ++ script_lines (held_next ++ (drop n behind ++ more)))
+    → ((more : List ℕ) → script_lines (held_now ++ (behind ++ more)) ≡ ready_lines ready line ++ script_lines (held_next ++ (drop n behind ++ more)))
     → line_now ≡ line → next ≡ drop n behind
-    → Sent b c (replies r_now (open_at course_now) (told ready line_now)) rest → state_after r_now (open_at course_now) (told ready line_now) ≡ state_next
+    → Sent b c (replies r_now (open_at course_now) (ready_lines ready line_now)) rest → state_after r_now (open_at course_now) (ready_lines ready line_now) ≡ state_next
     → Hears r a c course held bytes state_next held_next next rest
 hears_fed r r_now a b c course course_now held bytes held_now behind held_next next rest line line_now ready n state_next hears same_rules stream same_line is_next wrote left =
-    hears_line r a b c course course_now held bytes held_now behind held_next next rest (told ready line) state_next hears
-    (λ more. stream more ∙ ap (λ l. told ready line ++ script_lines (held_next ++ (l ++ more))) (sym is_next))
-    (subst (λ t. Sent b c t rest) (λ i. replies (same_rules i) (open_at course_now) (told ready (same_line i))) wrote)
-    ((λ i. state_after (sym same_rules i) (open_at course_now) (told ready (sym same_line i))) ∙ left)
+    hears_line r a b c course course_now held bytes held_now behind held_next next rest (ready_lines ready line) state_next hears
+    (λ more. stream more ∙ ap (λ l. ready_lines ready line ++ script_lines (held_next ++ (l ++ more))) (sym is_next))
+    (subst (λ t. Sent b c t rest) (λ i. replies (same_rules i) (open_at course_now) (ready_lines ready (same_line i))) wrote)
+    ((λ i. state_after (sym same_rules i) (open_at course_now) (ready_lines ready (sym same_line i))) ∙ left)
 
 -- what the slice behind n bytes is
 pub behind_is : (bytes : List ℕ) (n m : ℕ) → length bytes - n ≤ m → take m (drop n bytes) ≡ drop n bytes

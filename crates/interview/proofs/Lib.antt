@@ -1,7 +1,6 @@
 pub mod CheckLaws
 pub mod EndLaws
 pub mod ExactLaws
-mod Examples
 pub mod FinalLineLaws
 pub mod HearingLaws
 pub mod PrintLaws

@@ -1,6 +1,7 @@
 -- Each result of a slot has a text.
 use Rattle.std.proofs.Common.{◌≡◌, ℕ, zero, suc, ◌<◌, IsTrue, IsSome, List, [], ◌∷◌, length, slice_get, Option, Some, None, is_some, option_map, unwrap_or, refl, sym, ap, subst, ◌∙◌, arith}
 use Rattle.std.specs.Prelude.{option_and_then}
+use Rattle.std.proofs.lemmas.Option.{slice_get-get_or}
 use Rattle.fact_values.specs.declared.fact_type.FactType.{FactType}
 use Rattle.fact_values.specs.declared.fact_type.FactType.TheVariants as types
 use Rattle.fact_values.specs.declared.slot.Slot.{Slot}
@@ -12,7 +13,7 @@ use Rattle.dict_tree.specs.Facts.{Fact}
 use Rattle.dict_tree.specs.Dictionary.{Dictionary as Tree, Written}
 use Rattle.dict_tree.specs.Finding.{fact_at}
 use Rattle.three_state.specs.declared.res.Res.{Res}
-use Rattle.three_state.specs.declared.res.Res.TheVariants.{Complete, Placeholder, Incomplete, Fault}
+use Rattle.three_state.specs.declared.res.Res.TheVariants.{Complete, Placeholder}
 use Rattle.evaluation.specs.Typed.{IsOfType, IsResOfType}
 use Rattle.answers.specs.Answered.{Answered}
 use Rattle.dictionary.specs.Accepted.{Accepted, IsAccepted, Kept, accepted, names_of}
@@ -27,43 +28,23 @@ use Rattle.interview.specs.Replies.{IsResPrinted}
 
 -- ---- an option of a type is in its list
 
-item_there : {X : Type 0} (xs : List X) (place : ℕ) → place < length xs → IsSome (slice_get xs place)
-item_there [] place h = absurd (omega (arith, h))
-item_there (x ∷ xs) zero h = refl
-item_there (x ∷ xs) (suc n) h = item_there xs n (omega (arith, h))
-
 option_there : (o : Option Listed) (place : ℕ) → place < unwrap_or (option_map (λ (e : Listed). length e.options) o) 0
     → IsSome (option_and_then (λ options. slice_get options place) (option_map (λ (e : Listed). e.options) o))
 option_there None place h = absurd (omega (arith, h))
-option_there (Some e) place h = item_there e.options place h
+option_there (Some e) place h = ap is_some (slice_get-get_or e.options place [] h)
 
 choice_there : (d : Tree) (list n place : ℕ) → list ≡ n → place < unwrap_or (option_map (λ (e : Listed). length e.options) (slice_get d.enums n)) 0 → IsSome (option_at d.enums list place)
 choice_there d list n place same h = rw same (option_there (slice_get d.enums n) place h)
 
 value_printed : (d : Tree) (a : Answered) (v : Value) (t : FactType) → IsOfType (domains d a) v t → IsPrinted d.enums v
-value_printed d a (values.Boolean b) t h = tt
-value_printed d a (values.Int n) t h = tt
-value_printed d a (values.Dollar cents) t h = tt
-value_printed d a (values.Rational q) t h = tt
-value_printed d a (values.Day n) t h = tt
-value_printed d a (values.Text s) t h = tt
-value_printed d a (values.Members ms) t h = tt
-value_printed d a (values.Item m) t h = tt
 value_printed d a (values.Choice list place) (types.Enum n) h = choice_there d list n place h.0 h.1
-value_printed d a (values.Choice list place) types.Boolean h = absurd h
-value_printed d a (values.Choice list place) types.Int h = absurd h
-value_printed d a (values.Choice list place) types.Dollar h = absurd h
-value_printed d a (values.Choice list place) types.Rational h = absurd h
-value_printed d a (values.Choice list place) types.Day h = absurd h
-value_printed d a (values.Choice list place) types.Text h = absurd h
-value_printed d a (values.Choice list place) (types.Collection c) h = absurd h
-value_printed d a (values.Choice list place) (types.Item c) h = absurd h
+value_printed d a (values.Choice list place) t h = absurd h
+value_printed d a v t h = tt
 
 res_printed : (d : Tree) (a : Answered) (r : Res) (t : FactType) → IsResOfType (domains d a) r t → IsResPrinted d.enums r
 res_printed d a (Complete v) t h = value_printed d a v t h
 res_printed d a (Placeholder v) t h = value_printed d a v t h
-res_printed d a Incomplete t h = tt
-res_printed d a (Fault fault) t h = tt
+res_printed d a r t h = tt
 
 -- ---- a slot with a result stands, and has a type
 

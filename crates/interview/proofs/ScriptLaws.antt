@@ -12,7 +12,7 @@ use Rattle.script_lines.specs.Lines.{ScriptLine, script_lines, ended_lines, HasN
 use Rattle.script_lines.proofs.EndedLaws.{ended_follows}
 use Rattle.interview.specs.declared.status.Status.TheVariants.{Done, ScriptTooLong}
 use Rattle.graph_session.specs.Rules.{Rules, rules}
-use Rattle.graph_session.specs.Shown.{Course, Shown, course}
+use Rattle.graph_session.specs.SessionView.{Course, SessionView, course}
 use Rattle.interview.specs.Replies.{State, Step, at_start, beginning, open_at, step, step_line, replies, state_after}
 use Rattle.interview.specs.Hearing.{Hears}
 use Rattle.interview.specs.Going.{Going}
@@ -95,7 +95,7 @@ hears_then r r_now a b c here here_now bytes held chunk chunk_now held_next behi
     piece.cut piece.wrote piece.left
 
 -- before the first byte
-pub going_none : (session : Shown) (left taken : Option (List ℕ)) → course session ≡ beginning (rules session.dict) → Going (rules session.dict) left left taken taken 0 session []
+pub going_none : (session : SessionView) (left taken : Option (List ℕ)) → course session ≡ beginning (rules session.dict) → Going (rules session.dict) left left taken taken 0 session []
 going_none session left taken begun = record {
   bytes = [];
   read = consumes_none left;
@@ -106,7 +106,7 @@ going_none session left taken begun = record {
   unended = λ k d h. absurd (omega (arith, h));
 }
 
-pub goes_on : (r : Rules) (a b c : Option (List ℕ)) (left left_now left_next : Option (List ℕ)) (count n : ℕ) (session session_next : Shown) (held held_next chunk chunk_now : List ℕ)
+pub goes_on : (r : Rules) (a b c : Option (List ℕ)) (left left_now left_next : Option (List ℕ)) (count n : ℕ) (session session_next : SessionView) (held held_next chunk chunk_now : List ℕ)
     → Going r left left_now a b count session held → Consumes left_now left_next chunk → n ≡ length chunk → chunk_now ≡ chunk → session_next.dict ≡ session.dict → session_next.changes ≤ session.changes + length chunk_now
     → Hears (rules session.dict) b c (course session) held chunk_now (open_at (course session_next)) held_next [] [] → HasNoNewline held_next
     → Going r left left_next a c (count + n) session_next held_next
@@ -122,10 +122,22 @@ goes_on r a b c left left_now left_next count n session session_next held held_n
 
 -- ---- ends
 
+-- the replies to the first lines of a script were written
+pub replied_first : (r : Rules) (did : ScriptDid) (script : List ℕ) (lines others : List ScriptLine) → MayBe did.left.before script → script_lines script ≡ lines ++ others → SentWhole did.taken (replies r (at_start r) lines) → RepliedFirst r did
+replied_first r did script lines others read cut whole = record {
+  script = script;
+  read = read;
+  count = length lines;
+  replied = rw (ap (take (length lines)) cut ∙ take-append_seam lines others) whole;
+}
+
 -- what was written of a script whose front was heard
 module _ (r : Rules) (did : ScriptDid) (front rest : List ℕ) (state_now : State) (held_now behind : List ℕ) (hears : Hears r did.taken.before did.taken.after (beginning r) [] front state_now held_now behind rest) (short : length front ≤ script_limit) where
   abbrev text : List ℕ
   text = replies r (at_start r) hears.lines
+
+  whole : rest ≡ [] → SentWhole did.taken text
+  whole none = sent_whole did.taken.before did.taken.after text (subst (λ l. Sent did.taken.before did.taken.after text l) none hears.wrote)
 
   front_begins : (more : List ℕ) → Begins r front (held_now ++ behind) hears.lines (λ l. hears.cut l ∙ ap (λ k. hears.lines ++ script_lines k) (sym (append_assoc held_now behind l))) (defined_script r (front ++ more))
   front_begins more = begins r front (held_now ++ behind) hears.lines _ more short
@@ -148,18 +160,8 @@ module _ (r : Rules) (did : ScriptDid) (front rest : List ℕ) (state_now : Stat
   over_written more none over =
       let begun = front_begins more in
       let over_now : (state_after r (at_start r) hears.lines).over ≡ true = ap (λ (s : State). s.over) hears.left ∙ over in
-      let whole = sent_whole did.taken.before did.taken.after text (subst (λ l. Sent did.taken.before did.taken.after text l) none hears.wrote) in
       let same : (defined_script r (front ++ more)).text ≡ text = begun.text ∙ ap (λ l. text ++ l) (silent r (state_after r (at_start r) hears.lines) begun.others over_now) ∙ append-nil text in
-      (begun.over over_now, subst (λ t. Appends did.taken.before did.taken.after t) (sym same) whole)
+      (begun.over over_now, subst (λ t. Appends did.taken.before did.taken.after t) (sym same) (whole none))
 
-  -- the replies to its first lines
   pub first_written : (more : List ℕ) → MayBe did.left.before (front ++ more) → rest ≡ [] → RepliedFirst r did
-  first_written more read none = record {
-    script = front ++ more;
-    read = read;
-    count = length hears.lines;
-    replied =
-        let first : take (length hears.lines) (script_lines (front ++ more)) ≡ hears.lines = ap (take (length hears.lines)) (hears.cut more) ∙ take-append_seam hears.lines _ in
-        subst (λ l. Appends did.taken.before did.taken.after (replies r (at_start r) l)) (sym first)
-        (sent_whole did.taken.before did.taken.after text (subst (λ l. Sent did.taken.before did.taken.after text l) none hears.wrote));
-  }
+  first_written more read none = replied_first r did (front ++ more) hears.lines _ read (hears.cut more) (whole none)

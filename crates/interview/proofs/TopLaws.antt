@@ -27,11 +27,6 @@ two_words (x ∷ y ∷ z ∷ words) a b first low high is_a is_b same = absurd (
 
 -- ---- the checks
 
--- the names of a table's checks are those of its pairs of names and codes
-pub names_are : {C : Type 0} (name : C → List ℕ) (code : C → ℕ) (items : List C) → names_of (map (λ c. (name c, code c)) items) ≡ map name items
-names_are name code [] = refl
-names_are name code (c ∷ items) = ap (λ l. name c ∷ l) (names_are name code items)
-
 -- ---- a script that isn't begun
 
 -- some script that may have been given
@@ -51,10 +46,6 @@ not_begun r did still = record {
 -- a text that ends an interview, whole or in part
 abbrev Ended : Did → List ℕ → Status → Status → Type 0
 Ended did text whole status = EndedBy did.script.taken.before did.script.taken.after did.script.sink.before did.script.sink.after text whole status
-
-pub ends_by_usage : (given : Given) (did : Did) (status : Status) → HasNoForm given.words → Unread did → Ended did usage.text Usage status → Ends given did status
-ends_by_usage given did status none unread (inl (is, wrote)) = subst (Ends given did) (sym is) (none, wrote, unread)
-ends_by_usage given did status none unread (inr (is, rose, part)) = subst (Ends given did) (sym is) (rose, inl (none, part, unread))
 
 module _ (given : Given) (did : Did) (name : List ℕ) (asked : IsRun given.words name) where
   pub ends_unfetched : (status : Status) → did.script.taken.before ≡ did.script.taken.after → Unread did → NotFetched name did.shelf.before did.shelf.after did.failed_name status → Ends given did status
@@ -99,13 +90,11 @@ module _ (given : Given) (did : Did) (name : List ℕ) (asked : IsRun given.word
 
       ends_over : (status : Status) → ScriptEnds r did.script status → Ends given did status
       ends_over Done ends = inl (run_of ends.0 ends.1, ends.2, ends.3)
-      ends_over DictionaryRefused ends = absurd ends
-      ends_over Usage ends = absurd ends
-      ends_over FetchFault ends = absurd ends
       ends_over ReadFault ends = (ends.0, (over, ends.1))
       ends_over WriteFault ends = (ends.0, inr (inl (run_of ends.1.0 ends.1.1, ends.1.2)))
       ends_over ScriptTooLong ends = (run_of ends.0 ends.1, ends.2, ends.3)
       ends_over NoMemory ends = inr (over, ends)
+      ends_over status ends = absurd ends
 
     pub ends_run : (dict : Kept) → AreAccepted bytes (names_of given.checks) (accepted dict) × (dict.checks ≡ given.checks) → did.script.left.before ≡ given.left
         → (status : Status) → ScriptEnds (rules dict) did.script status → Ends given did status

@@ -3,11 +3,11 @@ use Rattle.std.specs.Prelude.{◌≡◌, ℕ, ◌≤◌, List, [], length, Optio
 use Rattle.std.specs.Io.KnownBytes.{Consumes}
 use Rattle.script_lines.specs.Lines.{HasNoNewline}
 use Rattle.graph_session.specs.Rules.{Rules, rules}
-use Rattle.graph_session.specs.Shown.{Shown, course}
+use Rattle.graph_session.specs.SessionView.{SessionView, course}
 use Rattle.interview.specs.Replies.{beginning, open_at}
 use Rattle.interview.specs.Hearing.{Hears}
 
-pub record Going (r : Rules) (left left_now taken taken_now : Option (List ℕ)) (count : ℕ) (session : Shown) (held : List ℕ) : Type 0 where
+pub record Going (r : Rules) (left left_now taken taken_now : Option (List ℕ)) (count : ℕ) (session : SessionView) (held : List ℕ) : Type 0 where
   pub bytes : List ℕ
   pub read : Consumes left left_now bytes
   pub counted : count ≡ length bytes

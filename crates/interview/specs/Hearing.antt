@@ -9,7 +9,7 @@ use Rattle.interview.specs.declared.status.Status.{Status}
 use Rattle.interview.specs.declared.status.Status.TheVariants.{Done, WriteFault, NoMemory}
 use Rattle.graph_session.specs.Rules.{Rules}
 use Rattle.graph_session.specs.Run.{is_memory}
-use Rattle.graph_session.specs.Shown.{Course}
+use Rattle.graph_session.specs.SessionView.{Course}
 use Rattle.graph_session.specs.declared.reply.Refusal.{Refusal}
 use Rattle.interview.specs.Replies.{State, Step, line_with, open_at, refusal_text, replies, state_after}
 

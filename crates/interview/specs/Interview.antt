@@ -13,7 +13,7 @@ use Rattle.script_lines.specs.declared.command.Command.TheVariants.{Final, Undo}
 use Rattle.graph_session.specs.Changes.{change_of}
 use Rattle.graph_session.specs.Naming.{slot_of}
 use Rattle.graph_session.specs.Rules.{Rules, tree_of}
-use Rattle.graph_session.specs.Shown.{Course}
+use Rattle.graph_session.specs.SessionView.{Course}
 use Rattle.graph_session.specs.Step.{refusal}
 use Rattle.placeholder_laws.specs.Stays.{Stays}
 use Rattle.interview.specs.declared.status.Status.{Status}
@@ -93,9 +93,9 @@ OneEndOfRun = (bytes : List ℕ) (checks : List Named) (script : List ℕ) (d e 
 -- What `final PATH` printed as a value holds: the result of the path's slot is complete, with a value of this text, and so it is
 -- under every extension of the answers; and there the command prints the same.
 pub record HoldsAsFinal (r : Rules) (c : Course) (path : SlotPath) (text : List ℕ) : Type 0 where
-  pub stays : Stays r.accepted c.told.now (slot_of (tree_of r) path)
+  pub stays : Stays r.accepted c.timeline.now (slot_of (tree_of r) path)
   pub printed_so : text ≡ printed (tree_of r).enums stays.0
-  pub again : (d : Course) → IsExtension (tree_of r) c.told.now d.told.now → (step_command r d (Final path)).text ≡ final_line text
+  pub again : (d : Course) → IsExtension (tree_of r) c.timeline.now d.timeline.now → (step_command r d (Final path)).text ≡ final_line text
 
 -- what is printed as final by a session that stands so
 abbrev pub FinalsHold : Rules → Course → Type 0
@@ -111,4 +111,4 @@ FinalLinesStay = (names : List (List ℕ)) (r : Rules) → IsAccepted names r.ac
 abbrev pub UndoRestores : Type 0
 UndoRestores =
     (r : Rules) (c : Course) (asked : Command) → IsSome (change_of (tree_of r) asked) → refusal r c asked ≡ None
-    → let undone = step_command r (step_command r c asked).state.course Undo in (undone.text ≡ line_with (codes "ok")) × (undone.state.course.told.now ≡ c.told.now)
+    → let undone = step_command r (step_command r c asked).state.course Undo in (undone.text ≡ line_with (codes "ok")) × (undone.state.course.timeline.now ≡ c.timeline.now)

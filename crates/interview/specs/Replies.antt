@@ -14,7 +14,7 @@ use Rattle.script_lines.specs.declared.command.Command.TheVariants as commands
 use Rattle.dictionary.specs.Final.{is_final}
 use Rattle.dictionary.specs.Plain.{plain}
 use Rattle.graph_session.specs.Rules.{Rules, tree_of}
-use Rattle.graph_session.specs.Shown.{Course, begun}
+use Rattle.graph_session.specs.SessionView.{Course, begun}
 use Rattle.graph_session.specs.Step as session
 use Rattle.graph_session.specs.declared.reply.Refusal.{Refusal}
 use Rattle.graph_session.specs.declared.reply.Refusal.TheVariants.{UnknownFact, NoMember, WrongKind, BadValue, Limit, Check, Full, AlreadyOpen, NotAnswered, NoOverride, NothingToUndo, NothingToRedo, NoStamps, NoMemory}
@@ -113,8 +113,8 @@ long_line_text = codes "refused 2 LongLine"
 abbrev pub reply_text : Rules → Course → Reply → List ℕ
 reply_text r c Done = codes "ok"
 reply_text r c (Added member) = numbered (codes "ok #") member
-reply_text r c (Answer slot) = asked_text (result_text (tree_of r).enums) (plain r.accepted c.told.now slot) (codes "incomplete")
-reply_text r c (FinalAsked slot) = asked_text (final_text (tree_of r).enums (is_final r.accepted c.told.now slot)) (plain r.accepted c.told.now slot) (codes "open")
+reply_text r c (Answer slot) = asked_text (result_text (tree_of r).enums) (plain r.accepted c.timeline.now slot) (codes "incomplete")
+reply_text r c (FinalAsked slot) = asked_text (final_text (tree_of r).enums (is_final r.accepted c.timeline.now slot)) (plain r.accepted c.timeline.now slot) (codes "open")
 reply_text r c (Stamp number) = numbered (codes "stamp ") number
 reply_text r c (Touched number) = numbered (codes "touched ") number
 reply_text r c (MissingAsked slot) = []

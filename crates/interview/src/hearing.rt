@@ -1,10 +1,10 @@
 // Answers the lines of a script while its bytes come.
 ghost use Rattle.std.specs.Prelude.{◌≡◌, ℕ, List, ◌+◌, ◌<◌, ◌≤◌, ◌^◌, ◌∷◌, [], length, map, IfErr, IfOk, Ok, OnErr};
-ghost use Rattle.script_lines.specs.Lines.{told, script_lines, whole, HasNoNewline};
+ghost use Rattle.script_lines.specs.Lines.{ready_lines, script_lines, whole, HasNoNewline};
 ghost use Rattle.graph_session.specs.Refusals.{Refused, SameChecks};
 ghost use Rattle.graph_session.specs.Rules.{rules};
 ghost use Rattle.graph_session.specs.Run.{is_memory as wants_memory};
-ghost use Rattle.graph_session.specs.Shown.{course};
+ghost use Rattle.graph_session.specs.SessionView.{course};
 ghost use Rattle.graph_session.specs.Step.{refusal, step};
 ghost use Rattle.interview.specs.Replies.{is_quit as quits, is_unknown as unknown, line_with, reply_text, step_command};
 ghost use Rattle.interview.specs.Hearing.{SteppedAs, AnsweredAs, RefusedAs, ToldAs, HeardAs};
@@ -240,7 +240,7 @@ pub fn answer<K: Sink>(
     requires same_checks { SameChecks (rules session.old.dict) (map {B = List ℕ × ℕ} (λ c. (c.name, c.code)) checks.now.checks.items) }
     requires few { session.old.changes < 2 ^ 63 }
     ensures answered { AnsweredAs (rules session.old.dict) (K.taken out.old) (K.taken out.new) (K.faults out.old) (K.faults out.new)
-        (course session.old) (course session.new) (told ready line.now) result }
+        (course session.old) (course session.new) (ready_lines ready line.now) result }
     ensures dict { session.new.dict ≡ session.old.dict }
     ensures few { session.new.changes ≤ session.old.changes + 1 }
     ensures later { K.faults out.old ≤ K.faults out.new }

@@ -29,10 +29,6 @@ use text_checks::{CheckTable, Test, digits, nine_digits, printable_ascii, trimme
 pub use top::interview;
 
 #[cfg(test)]
-mod check_tests;
-#[cfg(test)]
-mod session_tests;
-#[cfg(test)]
 mod tests;
 
 /// The exit status where the words of the command line can't be had.

@@ -4,7 +4,7 @@ ghost use Rattle.dictionary.specs.Accepted.{accepted};
 ghost use Rattle.dictionary.specs.Final.{is_final as is_final_in};
 ghost use Rattle.dictionary.specs.Plain.{plain};
 ghost use Rattle.graph_session.specs.Rules.{rules, tree_of};
-ghost use Rattle.graph_session.specs.Shown.{course};
+ghost use Rattle.graph_session.specs.SessionView.{course};
 ghost use Rattle.three_state.specs.declared.res.Res.TheVariants.{Complete};
 ghost use Rattle.interview.specs.Replies.{IsResPrinted, asked_text, fault_text as text_of_fault, final_text, refusal_name as name_of_refusal, refusal_place, refusal_text, reply_text, result_text};
 
@@ -80,7 +80,7 @@ fn print_finality(res: &Res, final_value: bool, lists: &EnumLists, line: &mut Li
 // Prints the result of a slot into an empty line.
 fn print_result(session: &Session<PlainTable>, slot: Slot, line: &mut Line)
     requires { line.old ≡ [] }
-    ensures text { line.new ≡ asked_text (result_text (tree_of (rules session.now.dict)).enums) (plain (accepted session.now.dict) session.now.told.now slot) (codes "incomplete") }
+    ensures text { line.new ≡ asked_text (result_text (tree_of (rules session.now.dict)).enums) (plain (accepted session.now.dict) session.now.timeline.now slot) (codes "incomplete") }
     ensures short { length line.new ≤ 1050 }
 {
     let _answers = session.answers();
@@ -94,7 +94,7 @@ fn print_result(session: &Session<PlainTable>, slot: Slot, line: &mut Line)
 // Prints into an empty line whether the result of a slot is final.
 fn print_final(session: &Session<PlainTable>, slot: Slot, line: &mut Line)
     requires { line.old ≡ [] }
-    ensures text { line.new ≡ asked_text (final_text (tree_of (rules session.now.dict)).enums (is_final_in (accepted session.now.dict) session.now.told.now slot)) (plain (accepted session.now.dict) session.now.told.now slot) (codes "open") }
+    ensures text { line.new ≡ asked_text (final_text (tree_of (rules session.now.dict)).enums (is_final_in (accepted session.now.dict) session.now.timeline.now slot)) (plain (accepted session.now.dict) session.now.timeline.now slot) (codes "open") }
     ensures short { length line.new ≤ 1050 }
 {
     let _answers = session.answers();

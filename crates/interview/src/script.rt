@@ -3,7 +3,7 @@ ghost use Rattle.std.specs.Prelude.{◌≡◌, ◌≤◌, ◌<◌, ◌^◌, ℕ,
 ghost use Rattle.script_lines.specs.Lines.{script_lines};
 ghost use Rattle.graph_session.specs.Refusals.{SameChecks};
 ghost use Rattle.graph_session.specs.Rules.{rules};
-ghost use Rattle.graph_session.specs.Shown.{course};
+ghost use Rattle.graph_session.specs.SessionView.{course};
 ghost use Rattle.interview.specs.Replies.{beginning};
 ghost use Rattle.interview.specs.Hearing.{AnsweredAs, ending_of};
 ghost use Rattle.interview.specs.Ends.{ScriptEnds};

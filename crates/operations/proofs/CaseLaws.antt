@@ -30,8 +30,7 @@ after_case-next : (complete : Bool) (condition case : Res) (cs : List (Res × Re
 unfolding case_step
 after_case-next complete (Complete v) case cs = after_case-truth complete (truth v) case (λ still. switch_on still cs)
 after_case-next complete (Placeholder v) case cs = after_case-truth false (truth v) case (λ still. switch_on still cs)
-after_case-next complete Incomplete case cs = refl
-after_case-next complete (Fault fault) case cs = refl
+after_case-next complete _ case cs = refl
 
 -- ---- Switch
 
@@ -62,16 +61,12 @@ find_from-on condition complete ms = find_from-cases condition complete ms ∙ s
 pub find_after-start : (source : Res) (condition : ℕ → Res) → find_after (verdict_on_source source) condition (members_of source) ≡ find_of source condition
 find_after-start (Complete v) condition = find_from-on condition true (members_in v)
 find_after-start (Placeholder v) condition = find_from-on condition false (members_in v)
-find_after-start Incomplete condition = refl
-find_after-start (Fault fault) condition = refl
+find_after-start _ condition = refl
 
 -- ---- a Dependency through an item
 
 pub after_item-step : (item : Res) (field : ℕ → Res) → after_item (item_step item) field ≡ through_item item field
 unfolding item_step
 after_item-step (Complete (Item m)) field = refl
-after_item-step (Complete v) field = refl
 after_item-step (Placeholder (Item m)) field = refl
-after_item-step (Placeholder v) field = refl
-after_item-step Incomplete field = refl
-after_item-step (Fault fault) field = refl
+after_item-step _ field = refl

@@ -25,9 +25,7 @@ use Rattle.operations.proofs.SumLaws.{sum_with-dollars, sum_with-ints}
 
 fields_in-operands : (source : Res) (field : ℕ → Res) → fields_in (values_of (field_operands source field)) ≡ values_of (map field (members_of source))
 fields_in-operands (Complete v) field = refl
-fields_in-operands (Placeholder v) field = refl
-fields_in-operands Incomplete field = refl
-fields_in-operands (Fault fault) field = refl
+fields_in-operands _ field = refl
 
 over_fields : (op : List Value → Result Value ValueFault) (source : Res) (field : ℕ → Res) (done : Result Value ValueFault)
     → done ≡ op (values_of (map field (members_of source)))
@@ -40,9 +38,7 @@ over_fields op source field done e =
 sum_from-values : (seen : FieldsSummed) (rs : List Res) → sum_from seen rs ≡ after_verdict (verdict_on seen.verdict rs) (sum_with seen.sum (values_of rs))
 sum_from-values seen [] = refl
 sum_from-values seen (Complete v ∷ rs) = sum_from-values (sum_saw seen (Complete v)) rs
-sum_from-values seen (Placeholder v ∷ rs) = sum_from-values (sum_saw seen (Placeholder v)) rs
-sum_from-values seen (Incomplete ∷ rs) = sum_from-values (sum_saw seen Incomplete) rs
-sum_from-values seen (Fault fault ∷ rs) = sum_from-values (sum_saw seen (Fault fault)) rs
+sum_from-values seen (r ∷ rs) = sum_from-values (sum_saw seen r) rs
 
 zero-plus : (z : ℤ) → pos 0 +ℤ z ≡ z
 zero-plus z = omega (arith, ints)
@@ -88,8 +84,7 @@ count_from-values seen (Complete v ∷ rs) =
     count_from-values (count_saw seen (Complete v)) rs ∙ value-counted (verdict_on seen.verdict (Complete v ∷ rs)) seen.found v (values_of rs)
 count_from-values seen (Placeholder v ∷ rs) =
     count_from-values (count_saw seen (Placeholder v)) rs ∙ value-counted (verdict_on seen.verdict (Placeholder v ∷ rs)) seen.found v (values_of rs)
-count_from-values seen (Incomplete ∷ rs) = count_from-values (count_saw seen Incomplete) rs
-count_from-values seen (Fault fault ∷ rs) = count_from-values (count_saw seen (Fault fault)) rs
+count_from-values seen (r ∷ rs) = count_from-values (count_saw seen r) rs
 
 none-plus : (n : ℕ) → 0 + n ≡ n
 none-plus n = omega arith

@@ -68,10 +68,9 @@ many_from-values : (count : ℕ) (so_far : Verdict) (gathered : Gathered) (rs : 
     → many_from (record { count = count; kept = Values so_far gathered }) rs ≡ after_verdict (verdict_on so_far rs) (gathered_from gathered (values_of rs))
 unfolding kept_next kept_end
 many_from-values count so_far gathered [] = refl
-many_from-values count so_far gathered (Complete v ∷ rs) = many_from-values (count + 1) (verdict_next so_far (Complete v)) (gathered_next gathered v) rs
-many_from-values count so_far gathered (Placeholder v ∷ rs) = many_from-values (count + 1) (verdict_next so_far (Placeholder v)) (gathered_next gathered v) rs
-many_from-values count so_far gathered (Incomplete ∷ rs) = many_from-values (count + 1) (verdict_next so_far Incomplete) gathered rs
-many_from-values count so_far gathered (Fault fault ∷ rs) = many_from-values (count + 1) (verdict_next so_far (Fault fault)) gathered rs
+many_from-values count so_far gathered (Complete v ∷ rs) = many_from-values (count + 1) _ (gathered_next gathered v) rs
+many_from-values count so_far gathered (Placeholder v ∷ rs) = many_from-values (count + 1) _ (gathered_next gathered v) rs
+many_from-values count so_far gathered (_ ∷ rs) = many_from-values (count + 1) _ gathered rs
 
 -- from the values alone
 strict-start : (gathered : Gathered) (rs : List Res) (done : Result Value ValueFault) → gathered_from gathered (values_of rs) ≡ done

@@ -1,5 +1,5 @@
 -- CollectionSum and Count, one field after another, as loops take them.
-use Rattle.std.specs.Prelude.{ℕ, ◌+◌, pos, if◌then◌else◌, List, [], ◌∷◌, Ok}
+use Rattle.std.specs.Prelude.{◌≡◌, ℕ, ◌+◌, pos, if◌then◌else◌, List, fold, Ok}
 use Rattle.fact_values.specs.declared.fact_type.FactType.{FactType}
 use Rattle.fact_values.specs.declared.fact_type.FactType.TheVariants as types
 use Rattle.fact_values.specs.declared.value.Value.TheVariants.{Int}
@@ -42,8 +42,11 @@ sum_end seen = after_verdict seen.verdict (sum_of_seen seen.sum)
 
 -- the result, with the fields that are left
 abbrev pub sum_from : FieldsSummed → List Res → Res
-sum_from seen [] = sum_end seen
-sum_from seen (r ∷ rs) = sum_from (sum_saw seen r) rs
+sum_from seen rs = sum_end (fold sum_saw seen rs)
+
+-- the collection was seen, and then these fields, in their order
+abbrev pub AreSummed : FactType → Res → List Res → FieldsSummed → Type 0
+AreSummed t source rs seen = seen ≡ fold sum_saw (sum_start t source) rs
 
 -- ---- Count
 
@@ -67,5 +70,8 @@ count_end seen = after_verdict seen.verdict (Ok (Int (pos seen.found)))
 
 -- the result, with the fields that are left
 abbrev pub count_from : FieldsCounted → List Res → Res
-count_from seen [] = count_end seen
-count_from seen (r ∷ rs) = count_from (count_saw seen r) rs
+count_from seen rs = count_end (fold count_saw seen rs)
+
+-- the collection was seen, and then these fields, in their order
+abbrev pub AreCounted : Res → List Res → FieldsCounted → Type 0
+AreCounted source rs seen = seen ≡ fold count_saw (count_start source) rs

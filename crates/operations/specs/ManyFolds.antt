@@ -1,5 +1,5 @@
 -- A node with many operands, one operand after another, as loops take them.
-use Rattle.std.specs.Prelude.{ℕ, ◌+◌, pos, true, false, List, [], ◌∷◌, Option, Some, None, Result, Ok}
+use Rattle.std.specs.Prelude.{◌≡◌, ℕ, ◌+◌, pos, true, false, List, [], fold, Option, Some, None, Result, Ok}
 use Rattle.fact_values.specs.declared.fault.ValueFault.{ValueFault}
 use Rattle.fact_values.specs.declared.value.Value.{Value}
 use Rattle.fact_values.specs.declared.value.Value.TheVariants.{Int}
@@ -95,5 +95,8 @@ many_end seen = kept_end seen.kept
 
 -- the result, with the operands that are left
 abbrev pub many_from : ManySeen → List Res → Res
-many_from seen [] = many_end seen
-many_from seen (r ∷ rs) = many_from (saw seen r) rs
+many_from seen rs = many_end (fold saw seen rs)
+
+-- these operands of a node were seen, in their order
+abbrev pub AreSeen : ManyOp → List Res → ManySeen → Type 0
+AreSeen op rs seen = seen ≡ fold saw (many_start op) rs

@@ -1,6 +1,10 @@
-ghost use Rattle.std.specs.Prelude.{◌≡◌, ◌+◌, ◌<◌, ◌^◌};
-ghost use Rattle.operations.specs.FieldFolds.{added_after, count_end, count_saw, count_start, no_fields, sum_end, sum_saw, sum_start};
+ghost use Rattle.std.specs.Prelude.{◌≡◌, ℕ, pos, ◌+◌, ◌<◌, ◌≤◌, ◌^◌, [], ◌∷◌, ◌++◌, List, map};
+ghost use Rattle.evaluation.specs.Reads.{sum_over};
+ghost use Rattle.fact_values.specs.declared.fact_type.FactType.{FactType};
+ghost use Rattle.operations.specs.FieldFolds.{AreCounted, AreSummed, added_after, count_end, count_saw, count_start, no_fields, sum_end, sum_saw, sum_start};
 ghost use Rattle.operations.specs.Sums.{calls_in};
+ghost use Rattle.three_state.specs.Results.{count_of, members_of};
+ghost use Rattle.three_state.specs.declared.res.Res.{Res};
 
 use crate::sum::Summed;
 use crate::verdict::{after_verdict, is_true};
@@ -46,7 +50,8 @@ impl SumFold {
     /// Sees the field of the next member.
     pub fn see(&mut self, field: &Res)
         requires few { self.old.count + 1 < 2 ^ 64 }
-        ensures { self.new ≡ sum_saw self.old field.now }
+        ensures next { self.new ≡ sum_saw self.old field.now }
+        ensures seen { (t : FactType) (source : Res) (rs : List Res) → AreSummed t source rs self.old → AreSummed t source (rs ++ field.now ∷ []) self.new }
     {
         self.verdict.see(field);
         add_field(&mut self.sum, field);
@@ -55,7 +60,8 @@ impl SumFold {
 
     /// The result of the node.
     pub fn end(&self) -> Res
-        ensures { result ≡ sum_end self.now }
+        ensures value { result ≡ sum_end self.now }
+        ensures node { (t : FactType) (source : Res) (field : ℕ → Res) → AreSummed t source (map field (members_of source)) self.now → result ≡ sum_over t source field }
     {
         after_verdict(self.verdict.verdict(), self.sum.sum())
     }
@@ -121,7 +127,8 @@ impl CountFold {
     /// Sees the field of the next member.
     pub fn see(&mut self, field: &Res)
         requires few { self.old.count < 2 ^ 32 }
-        ensures { self.new ≡ count_saw self.old field.now }
+        ensures next { self.new ≡ count_saw self.old field.now }
+        ensures seen { (source : Res) (rs : List Res) → AreCounted source rs self.old → AreCounted source (rs ++ field.now ∷ []) self.new }
     {
         self.verdict.see(field);
         if is_true(field) {
@@ -132,9 +139,17 @@ impl CountFold {
 
     /// The result of the node.
     pub fn end(&self) -> Res
-        ensures { result ≡ count_end self.now }
+        ensures value { result ≡ count_end self.now }
+        ensures node { (source : Res) (field : ℕ → Res) → AreCounted source (map field (members_of source)) self.now → result ≡ count_of source field }
     {
-        let found = Value::Int(Whole::new(self.found as i64).unwrap());
-        after_verdict(self.verdict.verdict(), Ok(found))
+        after_verdict(self.verdict.verdict(), Ok(counted(self.found)))
     }
+}
+
+/// The number of fields that are true.
+fn counted(found: u64) -> Value
+    requires { found ≤ 2 ^ 32 }
+    ensures { result ≡ Value.Int (pos found) }
+{
+    Value::Int(Whole::new(found as i64).unwrap())
 }

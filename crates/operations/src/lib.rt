@@ -12,8 +12,6 @@ mod numbers;
 mod one_operand;
 mod reads;
 mod sum;
-#[cfg(test)]
-mod tests;
 mod two_operands;
 mod values;
 mod verdict;

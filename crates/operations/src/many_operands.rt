@@ -1,5 +1,8 @@
-ghost use Rattle.std.specs.Prelude.{◌≡◌, ◌+◌, ◌<◌, ◌^◌};
-ghost use Rattle.operations.specs.ManyFolds.{many_end, many_start, saw};
+ghost use Rattle.std.specs.Prelude.{◌≡◌, ◌+◌, ◌<◌, ◌^◌, [], ◌∷◌, ◌++◌, List};
+ghost use Rattle.dict_tree.specs.declared.operators.ManyOp.{ManyOp};
+ghost use Rattle.evaluation.specs.Over.{many_of};
+ghost use Rattle.operations.specs.ManyFolds.{AreSeen, many_end, many_start, saw};
+ghost use Rattle.three_state.specs.declared.res.Res.{Res};
 
 use crate::kept::Kept;
 use dict_tree::ManyOp;
@@ -41,7 +44,8 @@ impl ManyFold {
     #[tactic(auto, unfolding(crate::specs::ManyFolds::kept_next))]
     pub fn see(&mut self, operand: Res)
         requires few { self.old.count + 1 < 2 ^ 64 }
-        ensures { self.new ≡ saw self.old operand }
+        ensures next { self.new ≡ saw self.old operand }
+        ensures seen { (op : ManyOp) (rs : List Res) → AreSeen op rs self.old → AreSeen op (rs ++ operand ∷ []) self.new }
     {
         self.kept.see(operand);
         self.count += 1;
@@ -49,7 +53,8 @@ impl ManyFold {
 
     /// The result of the node.
     pub fn end(self) -> Res
-        ensures { result ≡ many_end self }
+        ensures value { result ≡ many_end self }
+        ensures node { (op : ManyOp) (rs : List Res) → AreSeen op rs self → result ≡ many_of op rs }
     {
         self.kept.end()
     }

@@ -7,7 +7,7 @@ use Rattle.dict_tree.specs.Facts.{Fact}
 use Rattle.dict_tree.specs.Finding.{IsNumber, fact_at}
 use Rattle.three_state.specs.declared.res.Res.{Res}
 use Rattle.three_state.specs.declared.res.Res.TheVariants.{Complete}
-use Rattle.evaluation.proofs.Bools.{both}
+use Rattle.common_lemmas.proofs.Bools.{both_left}
 use Rattle.answers.specs.Answered.{Answered, value_of}
 use Rattle.answers.specs.declared.edit.Side.TheVariants.{Override}
 use Rattle.dictionary.specs.Accepted.{Accepted, IsAccepted}
@@ -16,29 +16,22 @@ use Rattle.dictionary.specs.Homes.{home}
 use Rattle.dictionary.specs.Plain.{plain}
 use Rattle.dictionary.specs.Slots.{stands, stands_of}
 use Rattle.dictionary.specs.Steady.{steady}
-use Rattle.dictionary.proofs.FinalLaws.{final_stays}
+use Rattle.dictionary.proofs.FinalLaws.{complete_value, final_stays}
 use Rattle.dictionary.proofs.NumberLaws.{fact_within}
+use Rattle.dictionary.proofs.SlotLaws.{fact_of_standing}
 use Rattle.placeholder_laws.specs.Stays.{Stays}
 
 -- ---- a slot that stands is one of a fact
 
-number_of : (d : Tree) (a : Answered) (s : Slot) (o : Option Fact) → fact_at d.facts s.fact ≡ o → IsTrue (stands_of a (home d s.fact) s.member o) → IsNumber d.facts s.fact
-number_of d a s None e there = absurd (cc)
-number_of d a s (Some f) e there = fact_within d.facts s.fact f e
-
 pub standing_number : (d : Tree) (a : Answered) (s : Slot) → IsTrue (stands d a s) → IsNumber d.facts s.fact
-standing_number d a s there = number_of d a s (fact_at d.facts s.fact) refl there
+standing_number d a s there = let f = fact_of_standing d a s there in fact_within d.facts s.fact f.0 f.1
 
 -- ---- a final result stays
-
-complete_value : (o : Option Res) → IsTrue (is_complete_in o) → (v : Value) × (o ≡ Some (Complete v))
-complete_value (Some (Complete v)) h = (v, refl)
-complete_value _ h = absurd (cc)
 
 same_value : (before after : Option Res) (v : Value) → before ≡ Some (Complete v) → (w : Value) × (before ≡ Some (Complete w)) × (after ≡ Some (Complete w)) → after ≡ Some (Complete v)
 same_value before after v e k = k.2 ∙ sym k.1 ∙ e
 
 pub final_result_stays : (names : List (List ℕ)) (d : Accepted) → IsAccepted names d → (a : Answered) (s : Slot) → IsTrue (is_final d a s) → Stays d a s
 final_result_stays names d accepted a s final =
-    let value = complete_value (plain d a s) (both (is_complete_in (plain d a s)) (is_some (value_of Override a s) || steady d s.fact) final).0 in
+    let value = complete_value (plain d a s) (both_left (is_complete_in (plain d a s)) (is_some (value_of Override a s) || steady d s.fact) final) in
     (value.0, value.1, λ b extension. same_value (plain d a s) (plain d b s) value.0 value.1 (final_stays names d accepted a b extension s final))

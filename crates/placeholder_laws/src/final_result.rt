@@ -30,8 +30,8 @@ fn is_complete_slot(found: Option<&Res>) -> bool
 
 // Whether the result is complete, and is an override or the result of a steady fact.
 fn keeps_to_the_rule<E: FactEngine>(session: &Session<E>, slot: Slot) -> bool
-    requires { IsTrue (stands (accepted session.now.dict).tree session.now.told.now slot) }
-    ensures { result ≡ is_final_in (accepted session.now.dict) session.now.told.now slot }
+    requires { IsTrue (stands (accepted session.now.dict).tree session.now.timeline.now slot) }
+    ensures { result ≡ is_final_in (accepted session.now.dict) session.now.timeline.now slot }
 {
     if !is_complete_slot(session.result(slot)) {
         return false;
@@ -44,9 +44,9 @@ fn keeps_to_the_rule<E: FactEngine>(session: &Session<E>, slot: Slot) -> bool
 /// the answers: further answers of the right types and further open collections, with the overrides and the members of open
 /// collections as they are. Where this says no, the result may still stay.
 pub fn is_final<E: FactEngine>(session: &Session<E>, slot: Slot) -> bool
-    requires { IsTrue (stands (accepted session.now.dict).tree session.now.told.now slot) }
-    ensures value { result ≡ is_final_in (accepted session.now.dict) session.now.told.now slot }
-    ensures stays { IsTrue result → Stays (accepted session.now.dict) session.now.told.now slot }
+    requires { IsTrue (stands (accepted session.now.dict).tree session.now.timeline.now slot) }
+    ensures value { result ≡ is_final_in (accepted session.now.dict) session.now.timeline.now slot }
+    ensures stays { IsTrue result → Stays (accepted session.now.dict) session.now.timeline.now slot }
 {
     let dict = session.dict();
     let _source = dict.source();

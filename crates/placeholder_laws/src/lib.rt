@@ -2,7 +2,5 @@
 #![tactic(auto)]
 
 mod final_result;
-#[cfg(test)]
-mod session_tests;
 
 pub use final_result::is_final;

@@ -1,11 +1,15 @@
 -- What is left of a list of operands, of cases or of members, before and behind the next one.
-use Rattle.std.proofs.Common.{◌≡◌, subst, ℕ, suc, ◌+◌, ◌≤◌, ◌++◌, Bool, true, false, if◌then◌else◌, List, [], ◌∷◌, refl, sym, ap, ◌∙◌, arith, append_assoc, sum_by, ◌<◌, length, drop, drop-cons, get_or, add-one}
+use Rattle.std.proofs.Common.{◌≡◌, subst, ℕ, suc, ◌+◌, ◌≤◌, ◌++◌, Bool, true, if◌then◌else◌, List, [], ◌∷◌, sym, ap, ◌∙◌, arith, map, sum_by, ◌<◌, length, drop, drop-cons, get_or, add-one}
 use Rattle.std.specs.Prelude.{IfOk, Result}
 use Rattle.std.proofs.lemmas.List.Sums.{sum_by-cons}
 use Rattle.fact_values.specs.declared.memory.NoMemory.{NoMemory}
 use Rattle.fact_values.specs.declared.value.Value.TheVariants.{Boolean, Item}
-use Rattle.dict_tree.specs.Tree.{Literal, Reading, Source, SourceCase, Use}
-use Rattle.dict_tree.specs.View.{cases_of, trees_of}
+use Rattle.common_lemmas.proofs.Lists.{kept_one}
+use Rattle.dict_tree.specs.Tree.{Literal, Reading, Use}
+use Rattle.dict_tree.specs.View.{case_view, cases_of, trees_of, view}
+use Rattle.dict_tree.specs.declared.expr.Expr.{Expr}
+use Rattle.dict_tree.specs.declared.expr.Case.{Case}
+use Rattle.dict_tree.proofs.FindingLaws.{drop-view}
 use Rattle.evaluation.specs.Over.{Env, over, over_all, over_cases, weight, weight_of_all, weight_of_cases}
 use Rattle.operations.specs.CaseSteps.{after_case, case_step, find_from, switch_from}
 use Rattle.operations.specs.ManyFolds.{ManySeen, many_from, saw}
@@ -25,66 +29,73 @@ ok_same r x y e h = subst (λ (w : Res). IfOk r (λ z. z ≡ w)) e h
 pub one_more : (old ticked new work : ℕ) → ticked ≡ old + 1 → new ≤ ticked + work → new ≤ old + suc work
 one_more old ticked new work e h = omega arith
 
--- the next member of a list, and those behind it
-pub next_member : (ms : List ℕ) (i : ℕ) → i < length ms → drop i ms ≡ get_or ms i 0 ∷ drop (i + 1) ms
-next_member ms i h = drop-cons ms i 0 h ∙ ap (λ (k : ℕ). get_or ms i 0 ∷ drop k ms) (sym (add-one i))
-
 -- ---- operands
 
 module _ (env : Env Literal Reading Use Place) (at : Place) where
-  pub all_next : (left rest : List Source) (t : Source) (fold fold' : ManySeen) (r : Res) → left ≡ t ∷ rest → r ≡ over env at t → fold' ≡ saw fold r
-      → many_from fold' (over_all env at (trees_of rest)) ≡ many_from fold (over_all env at (trees_of left))
-  all_next left rest t fold fold' r e f h =
-      ap (λ (s : ManySeen). many_from s (over_all env at (trees_of rest))) (h ∙ ap (saw fold) f) ∙ sym (ap (λ l. many_from fold (over_all env at (trees_of l))) e)
+  module _ (es : List Expr) (i : ℕ) (t : Expr) (low : i < length es) (is : t ≡ get_or es i t) where
+    operands_left : drop i (map view es) ≡ view t ∷ drop (i + 1) (map view es)
+    operands_left = drop-view view es i (i + 1) t low is (add-one i)
 
-  pub all_weigh : (left rest : List Source) (t : Source) → left ≡ t ∷ rest → weight_of_all env at (trees_of left) ≡ weight env at t + weight_of_all env at (trees_of rest)
-  all_weigh left rest t e = ap (λ l. weight_of_all env at (trees_of l)) e
+    pub all_next : (fold fold' : ManySeen) (r : Res) → r ≡ over env at (view t) → fold' ≡ saw fold r
+        → many_from fold' (over_all env at (trees_of (drop (i + 1) (map view es)))) ≡ many_from fold (over_all env at (trees_of (drop i (map view es))))
+    all_next fold fold' r f h =
+        ap (λ (s : ManySeen). many_from s (over_all env at (trees_of (drop (i + 1) (map view es))))) (h ∙ ap (saw fold) f)
+        ∙ sym (ap (λ l. many_from fold (over_all env at (trees_of l))) operands_left)
+
+    pub all_weigh : weight_of_all env at (trees_of (drop i (map view es))) ≡ weight env at (view t) + weight_of_all env at (trees_of (drop (i + 1) (map view es)))
+    all_weigh = ap (λ l. weight_of_all env at (trees_of l)) operands_left
 
   -- ---- cases
 
-  pub case_at : (left rest : List SourceCase) (c : SourceCase) (complete : Bool) (condition : Res) (step : CaseStep) → left ≡ c ∷ rest → condition ≡ over env at c.0 → case_step complete condition ≡ step
-      → after_case step (over env at c.1) (λ still. switch_from still (over_cases env at (cases_of rest))) ≡ switch_from complete (over_cases env at (cases_of left))
-  case_at left rest c complete condition step e f h =
-      ap (λ (s : CaseStep). after_case s (over env at c.1) (λ still. switch_from still (over_cases env at (cases_of rest)))) (sym h ∙ ap (case_step complete) f)
-      ∙ sym (ap (λ l. switch_from complete (over_cases env at (cases_of l))) e)
+  module _ (cs : List Case) (i : ℕ) (c : Case) (low : i < length cs) (is : c ≡ get_or cs i c) where
+    cases_left : drop i (map case_view cs) ≡ case_view c ∷ drop (i + 1) (map case_view cs)
+    cases_left = drop-view case_view cs i (i + 1) c low is (add-one i)
 
-  pub cases_weigh : (left rest : List SourceCase) (c : SourceCase) → left ≡ c ∷ rest → weight_of_cases env at (cases_of left) ≡ weight env at c.0 + (weight env at c.1 + weight_of_cases env at (cases_of rest))
-  cases_weigh left rest c e = ap (λ l. weight_of_cases env at (cases_of l)) e
+    pub case_at : (complete : Bool) (condition : Res) (step : CaseStep) → condition ≡ over env at (view c.test) → step ≡ case_step complete condition
+        → after_case step (over env at (view c.outcome)) (λ still. switch_from still (over_cases env at (cases_of (drop (i + 1) (map case_view cs))))) ≡ switch_from complete (over_cases env at (cases_of (drop i (map case_view cs))))
+    case_at complete condition step f h =
+        ap (λ (s : CaseStep). after_case s (over env at (view c.outcome)) (λ still. switch_from still (over_cases env at (cases_of (drop (i + 1) (map case_view cs)))))) (h ∙ ap (case_step complete) f)
+        ∙ sym (ap (λ l. switch_from complete (over_cases env at (cases_of l))) cases_left)
+
+    pub cases_weigh : weight_of_cases env at (cases_of (drop i (map case_view cs))) ≡ weight env at (view c.test) + (weight env at (view c.outcome) + weight_of_cases env at (cases_of (drop (i + 1) (map case_view cs))))
+    cases_weigh = ap (λ l. weight_of_cases env at (cases_of l)) cases_left
 
 -- a body with a conditional: its value where the condition is true, else the main expression
-pub conditional_at : (condition value main : Res) (step : CaseStep) → case_step true condition ≡ step
-    → after_case step value (λ still. down_unless still main) ≡ switch_of ((condition, value) ∷ (Complete (Boolean true), main) ∷ [])
+pub conditional_at : (test value main condition : Res) (step : CaseStep) → condition ≡ test → step ≡ case_step true condition
+    → after_case step value (λ still. down_unless still main) ≡ switch_of ((test, value) ∷ (Complete (Boolean true), main) ∷ [])
 unfolding case_step
-conditional_at condition value main step e =
-    sym (ap (λ (s : CaseStep). after_case s value (λ still. down_unless still main)) e) ∙ switch_from-start ((condition, value) ∷ (Complete (Boolean true), main) ∷ [])
+conditional_at test value main condition step e h =
+    ap (λ (s : CaseStep). after_case s value (λ still. down_unless still main)) (h ∙ ap (case_step true) e) ∙ switch_from-start ((test, value) ∷ (Complete (Boolean true), main) ∷ [])
 
 -- ---- members
 
-pub find_at : (condition : ℕ → Res) (left rest : List ℕ) (m : ℕ) (complete : Bool) (r : Res) (step : CaseStep) → left ≡ m ∷ rest → r ≡ condition m → case_step complete r ≡ step
-    → after_case step (Complete (Item m)) (λ still. find_from condition still rest) ≡ find_from condition complete left
-find_at condition left rest m complete r step e f h =
-    ap (λ (s : CaseStep). after_case s (Complete (Item m)) (λ still. find_from condition still rest)) (sym h ∙ ap (case_step complete) f)
-    ∙ sym (ap (find_from condition complete) e)
+-- the next member of a list, and those behind it
+next_member : (ms : List ℕ) (i : ℕ) → i < length ms → drop i ms ≡ get_or ms i 0 ∷ drop (i + 1) ms
+next_member ms i h = drop-cons ms i 0 h ∙ ap (λ (k : ℕ). get_or ms i 0 ∷ drop k ms) (sym (add-one i))
 
-pub members_weigh : (work : ℕ → ℕ) (left rest : List ℕ) (m : ℕ) → left ≡ m ∷ rest → sum_by work left ≡ work m + sum_by work rest
-members_weigh work left rest m e = ap (sum_by work) e ∙ sum_by-cons work m rest
+module _ (ms : List ℕ) (i : ℕ) (low : i < length ms) where
+  pub members_weigh : (work : ℕ → ℕ) → sum_by work (drop i ms) ≡ work (get_or ms i 0) + sum_by work (drop (i + 1) ms)
+  members_weigh work = ap (sum_by work) (next_member ms i low) ∙ sum_by-cons work (get_or ms i 0) (drop (i + 1) ms)
 
-pub filter_next : (condition : ℕ → Res) (left rest : List ℕ) (m : ℕ) (found found' : List ℕ) (verdict verdict' : Verdict) (r : Res) (b : Bool)
-    → left ≡ m ∷ rest → r ≡ condition m → b ≡ is_true r → verdict' ≡ verdict_next verdict r → found' ≡ (if b then found ++ m ∷ [] else found)
-    → filter_on condition found' verdict' rest ≡ filter_on condition found verdict left
-filter_next condition left rest m found found' verdict verdict' r b e f h next more =
-    ap (λ (l : List ℕ). filter_on condition l verdict' rest) (more ∙ ap (λ (x : Bool). if x then found ++ m ∷ [] else found) (h ∙ ap is_true f))
-    ∙ ap (λ (v : Verdict). filter_on condition (kept_next found m (condition m)) v rest) (next ∙ ap (verdict_next verdict) f)
-    ∙ sym (ap (filter_on condition found verdict) e)
+  module _ (condition : ℕ → Res) (r : Res) (is : r ≡ condition (get_or ms i 0)) where
+    pub find_at : (complete : Bool) (step : CaseStep) → step ≡ case_step complete r
+        → after_case step (Complete (Item (get_or ms i 0))) (λ still. find_from condition still (drop (i + 1) ms)) ≡ find_from condition complete (drop i ms)
+    find_at complete step h =
+        ap (λ (s : CaseStep). after_case s (Complete (Item (get_or ms i 0))) (λ still. find_from condition still (drop (i + 1) ms))) (h ∙ ap (case_step complete) is)
+        ∙ sym (ap (find_from condition complete) (next_member ms i low))
 
-kept_one : (b : Bool) (found : List ℕ) (m : ℕ) (xs : List ℕ) → (if b then found ++ m ∷ [] else found) ++ xs ≡ found ++ (if b then m ∷ xs else xs)
-kept_one true found m xs = append_assoc found (m ∷ []) xs
-kept_one false found m xs = refl
+    module _ (found found' : List ℕ) (b : Bool) (test : b ≡ is_true r) (more : found' ≡ (if b then found ++ get_or ms i 0 ∷ [] else found)) where
+      more_found : found' ≡ kept_next found (get_or ms i 0) (condition (get_or ms i 0))
+      more_found = more ∙ ap (λ (x : Bool). if x then found ++ get_or ms i 0 ∷ [] else found) (test ∙ ap is_true is)
 
-pub kept_more : (condition : ℕ → Res) (left rest : List ℕ) (m : ℕ) (found found' : List ℕ) (r : Res) (b : Bool)
-    → left ≡ m ∷ rest → r ≡ condition m → b ≡ is_true r → found' ≡ (if b then found ++ m ∷ [] else found)
-    → found' ++ kept condition rest ≡ found ++ kept condition left
-kept_more condition left rest m found found' r b e f h more =
-    ap (λ (l : List ℕ). l ++ kept condition rest) (more ∙ ap (λ (x : Bool). if x then found ++ m ∷ [] else found) (h ∙ ap is_true f))
-    ∙ kept_one (is_true (condition m)) found m (kept condition rest)
-    ∙ sym (ap (λ l. found ++ kept condition l) e)
+      pub filter_next : (verdict verdict' : Verdict) → verdict' ≡ verdict_next verdict r → filter_on condition found' verdict' (drop (i + 1) ms) ≡ filter_on condition found verdict (drop i ms)
+      filter_next verdict verdict' next =
+          ap (λ (l : List ℕ). filter_on condition l verdict' (drop (i + 1) ms)) more_found
+          ∙ ap (λ (v : Verdict). filter_on condition (kept_next found (get_or ms i 0) (condition (get_or ms i 0))) v (drop (i + 1) ms)) (next ∙ ap (verdict_next verdict) is)
+          ∙ sym (ap (filter_on condition found verdict) (next_member ms i low))
+
+      pub kept_more : found' ++ kept condition (drop (i + 1) ms) ≡ found ++ kept condition (drop i ms)
+      kept_more =
+          ap (λ (l : List ℕ). l ++ kept condition (drop (i + 1) ms)) more_found
+          ∙ kept_one (is_true (condition (get_or ms i 0))) found (get_or ms i 0) (kept condition (drop (i + 1) ms))
+          ∙ sym (ap (λ l. found ++ kept condition l) (next_member ms i low))

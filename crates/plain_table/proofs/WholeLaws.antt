@@ -1,6 +1,6 @@
 -- Facts in the order of their ranks fill the whole table.
-use Rattle.std.proofs.Common.{eq-eqb, ◌≡◌, ℕ, zero, suc, ◌+◌, ◌<◌, ◌≤◌, ◌++◌, ◌&&◌, ◌||◌, Bool, true, false, nat_eq, if◌then◌else◌, List, [], ◌∷◌, length, take, get_or, Option, Some, None, is_some, inl, inr, refl, sym, ap, ◌∙◌, arith}
-use Rattle.std.specs.Prelude.{IsSome, unwrap_or}
+use Rattle.std.proofs.Common.{eq-eqb, ◌≡◌, ℕ, zero, suc, ◌+◌, ◌<◌, ◌≤◌, ◌++◌, ◌&&◌, ◌||◌, Bool, true, false, nat_eq, if◌then◌else◌, List, [], ◌∷◌, length, take, get_or, Option, Some, None, inl, inr, refl, sym, ap, ◌∙◌, arith}
+use Rattle.std.specs.Prelude.{unwrap_or}
 use Rattle.std.specs.FinMap as map
 use Rattle.std.specs.List.{list_any}
 use Rattle.std.proofs.lemmas.Bool.{eqb-true, ne_eqb}
@@ -12,7 +12,8 @@ use Rattle.dict_tree.specs.Finding.{fact_at}
 use Rattle.dict_order.specs.Ranks.{rank_of}
 use Rattle.dict_order.proofs.ListLaws.{at_most_or_above}
 use Rattle.three_state.specs.declared.res.Res.{Res}
-use Rattle.evaluation.proofs.Bools.{or_false, or_left, or_right}
+use Rattle.common_lemmas.proofs.Bools.{or_false, or_left, or_right}
+use Rattle.common_lemmas.proofs.Options.{nothing, something}
 use Rattle.answers.specs.Answered.{Answered, list_of}
 use Rattle.dictionary.specs.Accepted.{Accepted}
 use Rattle.dictionary.specs.ByRank.{AreByRank}
@@ -43,12 +44,8 @@ pub home_list : (a : Answered) (h : ℕ) (ms : List ℕ) → (h ≡ 0 → ⊥) �
 home_list a h ms apart e =
     ap (λ (o : Option (List ℕ)). unwrap_or o []) e ∙ sym (ap (λ (b : Bool). if b then 0 ∷ [] else list_of a h) (ne_eqb h 0 apart))
 
-none_of : (o : Option Res) → is_some o ≡ false → o ≡ None
-none_of None e = refl
-none_of (Some r) e = absurd (cc)
-
 fallen : (d : Accepted) (a : Answered) (s : Slot) → stands d.tree a s ≡ false → plain d a s ≡ None
-fallen d a s h = none_of (plain d a s) (standing_have_results d a s ∙ h)
+fallen d a s h = nothing (plain d a s) (standing_have_results d a s ∙ h)
 
 stands_not : (a : Answered) (h m : ℕ) (o : Option Fact) → stands_at a h m ≡ false → stands_of a h m o ≡ false
 stands_not a h m None e = refl
@@ -68,18 +65,12 @@ in_taken x (y ∷ ys) zero place h low e = absurd (omega arith)
 in_taken x (y ∷ ys) (suc n) zero h low e = or_left (nat_eq x y) (list_any (nat_eq x) (take n ys)) (eq-eqb x y (sym e))
 in_taken x (y ∷ ys) (suc n) (suc place) h low e = or_right (nat_eq x y) (list_any (nat_eq x) (take n ys)) (in_taken x ys n place (omega arith) (omega arith) e)
 
-within : (facts : List Fact) (n : ℕ) → IsSome (fact_at facts n) → (0 < n) × (n ≤ length facts)
-within facts n h = at (fact_at facts n) refl h
-  where
-    at : (o : Option Fact) → fact_at facts n ≡ o → IsSome o → (0 < n) × (n ≤ length facts)
-    at None e h = absurd (cc)
-    at (Some f) e h = fact_within facts n f e
-
 module _ (d : Accepted) (a : Answered) (order : List ℕ) (by_rank : AreByRank d.ranks order) (count : length d.ranks ≡ length d.tree.facts) where
   -- what is of lower rank than the next fact was done before
   pub below_next : (i : ℕ) (look : Look) → i < length order → HasFacts d a (take i order) look → IsPlainBelow d a (rank d (get_or order i 0)) look
   below_next i look low done s there lower =
-      let number = within d.tree.facts s.fact there in
+      let f = something (fact_at d.tree.facts s.fact) there in
+      let number = fact_within d.tree.facts s.fact f.0 f.1 in
       let found = place_of_fact d.ranks order s.fact by_rank number.0 (omega (arith, number.1, count)) in
       elim (at_most_or_above i found.0) [
         | inl le ↦ let up = by_rank.ranks_rise i found.0 le found.1 in absurd (omega (arith, up, lower, ap (rank_of d.ranks) found.2))

@@ -42,10 +42,6 @@ sum_mapped w f [] = refl
 sum_mapped w f (x ∷ xs) =
     sum_by-cons w (f x) (map f xs) ∙ ap (λ n. w (f x) + n) (sum_mapped w f xs) ∙ sym (sum_by-cons (λ y. w (f y)) x xs)
 
--- the slots of a fact, member by member
-pub members_work : (d : Accepted) (a : Answered) (fact : ℕ) (ms : List ℕ) → sum_by (slot_weight d a) (map (slot fact) ms) ≡ sum_by (λ m. slot_weight d a (slot fact m)) ms
-members_work d a fact ms = sum_mapped (slot_weight d a) (slot fact) ms
-
 up_to_work : (d : Tree) (a : Answered) (w : Slot → ℕ) (n : ℕ) → sum_by w (slots_up_to d a n) ≡ sum_by (sum_by w) (map (slots_of d a) (range_with_len 1 n))
 up_to_work d a w zero = refl
 up_to_work d a w (suc n) =

@@ -8,8 +8,6 @@ mod plain_table;
 mod reads;
 mod slots;
 mod table;
-#[cfg(test)]
-mod tests;
 mod whole;
 
 pub use plain_table::PlainTable;

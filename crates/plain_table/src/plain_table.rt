@@ -1,7 +1,7 @@
 // The engine.
 ghost use Rattle.std.specs.Prelude.{◌≡◌, ◌+◌, ◌<◌, ◌≤◌, false, IfOk, IsTrue, None, OnErr, OnOk, option_copied};
 ghost use Rattle.answers.specs.Answered.{Answered};
-ghost use Rattle.answers.specs.Standing.{answered};
+ghost use Rattle.answers.specs.Meaning.{answered};
 ghost use Rattle.answers.specs.WellFormed.{FromOne, WellFormed};
 ghost use Rattle.dictionary.specs.Accepted.{Accepted, accepted};
 ghost use Rattle.dictionary.specs.Plain.{plain};

@@ -2,7 +2,7 @@
 ghost use Rattle.std.specs.Prelude.{◌≡◌, ◌+◌, ◌≤◌, List, ℕ, option_copied, option_map, IfOk, Some};
 ghost use Rattle.std.specs.FinMap as map;
 ghost use Rattle.answers.specs.Answered.{value_of};
-ghost use Rattle.answers.specs.Standing.{answered};
+ghost use Rattle.answers.specs.Meaning.{answered};
 ghost use Rattle.answers.specs.WellFormed.{FromOne, WellFormed};
 ghost use Rattle.answers.specs.declared.edit.Side.TheVariants.{Override};
 ghost use Rattle.dict_tree.specs.Facts.{conditional_view, fact_view, stated_view};

@@ -1,6 +1,6 @@
 // All slots, fact by fact in the order of the ranks.
 ghost use Rattle.std.specs.Prelude.{◌≡◌, ◌+◌, ◌≤◌, ℕ, IfOk, IsTrue, OnOk, sum_by};
-ghost use Rattle.answers.specs.Standing.{answered};
+ghost use Rattle.answers.specs.Meaning.{answered};
 ghost use Rattle.answers.specs.WellFormed.{FromOne, WellFormed};
 ghost use Rattle.dict_tree.specs.Finding.{IsNumber};
 ghost use Rattle.evaluation.specs.Agreement.{IsIn};

@@ -69,53 +69,32 @@ alone_some word c =
 -- ---- commands of more words
 
 -- what is read is made of its parts
-made_some : {A P : Type 0} (make : A → Command) (read : Option A) (c : Command) → option_map make read ≡ Some c → ((x : A) → read ≡ Some x → make x ≡ c → P) → P
-made_some make None c e use_it = absurd (none-some c e)
-made_some make (Some x) c e use_it = use_it x refl (same_Some (make x) c e)
+with_parts : {A : Type 0} (make : A → Command) (read : Option A) (text : List ℕ) (c : Command) → ((x : A) → read ≡ Some x → IsText text (make x)) → option_map make read ≡ Some c → IsText text c
+with_parts make None text c is e = absurd (none-some c e)
+with_parts make (Some x) text c is e = subst (IsText text) (same_Some (make x) c e) (is x refl)
 
 -- a word and a slot
 with_slot : (make : SlotPath → Command) (word : List ℕ) → ((slot : SlotPath) → IsSlotPath slot → IsText (word ++ slot_path_text slot) (make slot))
     → (rest : List ℕ) (c : Command) → option_map make (slot_of rest) ≡ Some c → IsText (word ++ rest) c
-with_slot make word is rest c e =
-    made_some make (slot_of rest) c e
-    (λ (slot : SlotPath) (read : slot_of rest ≡ Some slot) (made : make slot ≡ c).
+with_slot make word is rest c =
+    with_parts make (slot_of rest) (word ++ rest) c (λ slot read.
     let spelled = slot_path_reading.sound rest slot read in
-    subst (IsText (word ++ rest)) made (subst (λ (text : List ℕ). IsText (word ++ text) (make slot)) (sym spelled.1) (is slot spelled.0)))
+    subst (λ (text : List ℕ). IsText (word ++ text) (make slot)) (sym spelled.1) (is slot spelled.0))
 
 with_some : (verb : Verb) (rest : List ℕ) (c : Command) → command_with verb rest ≡ Some c → IsText (verb_text verb ++ 32 ∷ rest) c
-with_some verbs.Set rest c e =
-    made_some (λ p. commands.Set p.0 p.1) (slot_and_value_of rest) c e
-    (λ (p : SlotPath × List ℕ) (read : slot_and_value_of rest ≡ Some p) (made : commands.Set p.0 p.1 ≡ c).
-    let parts = slot_and_value_some rest p read in
-    subst (IsText (codes "set " ++ rest)) made (parts.0, ap (λ (text : List ℕ). codes "set " ++ text) parts.1))
-with_some verbs.Clear rest c e = with_slot commands.Clear (codes "clear ") (λ slot is. (is, refl)) rest c e
-with_some verbs.OpenList rest c e = with_slot commands.OpenList (codes "open ") (λ slot is. (is, refl)) rest c e
-with_some verbs.Add rest c e = with_slot commands.Add (codes "add ") (λ slot is. (is, refl)) rest c e
-with_some verbs.Remove rest c e =
-    made_some (λ p. commands.Remove p.0 p.1) (slot_and_member_of rest) c e
-    (λ (p : SlotPath × ℕ) (read : slot_and_member_of rest ≡ Some p) (made : commands.Remove p.0 p.1 ≡ c).
-    let parts = slot_and_member_some rest p read in
-    subst (IsText (codes "remove " ++ rest)) made ((parts.0, parts.1), ap (λ (text : List ℕ). codes "remove " ++ text) parts.2))
-with_some verbs.Override rest c e =
-    made_some (λ p. commands.Override p.0 p.1) (slot_and_value_of rest) c e
-    (λ (p : SlotPath × List ℕ) (read : slot_and_value_of rest ≡ Some p) (made : commands.Override p.0 p.1 ≡ c).
-    let parts = slot_and_value_some rest p read in
-    subst (IsText (codes "override " ++ rest)) made (parts.0, ap (λ (text : List ℕ). codes "override " ++ text) parts.1))
-with_some verbs.Release rest c e = with_slot commands.Release (codes "release ") (λ slot is. (is, refl)) rest c e
-with_some verbs.Get rest c e = with_slot commands.Get (codes "get ") (λ slot is. (is, refl)) rest c e
-with_some verbs.Final rest c e = with_slot commands.Final (codes "final ") (λ slot is. (is, refl)) rest c e
-with_some verbs.Stamp rest c e = with_slot commands.Stamp (codes "stamp ") (λ slot is. (is, refl)) rest c e
-with_some verbs.Missing rest c e = with_slot commands.Missing (codes "missing ") (λ slot is. (is, refl)) rest c e
-with_some verbs.Watch rest c e =
-    made_some (λ p. commands.Watch p.0 p.1) (name_and_slot_of rest) c e
-    (λ (p : List ℕ × SlotPath) (read : name_and_slot_of rest ≡ Some p) (made : commands.Watch p.0 p.1 ≡ c).
-    let parts = name_and_slot_some rest p read in
-    subst (IsText (codes "watch " ++ rest)) made ((parts.0, parts.1), ap (λ (text : List ℕ). codes "watch " ++ text) parts.2))
-with_some verbs.Unwatch rest c e =
-    made_some (λ p. commands.Unwatch p.0 p.1) (name_and_slot_of rest) c e
-    (λ (p : List ℕ × SlotPath) (read : name_and_slot_of rest ≡ Some p) (made : commands.Unwatch p.0 p.1 ≡ c).
-    let parts = name_and_slot_some rest p read in
-    subst (IsText (codes "unwatch " ++ rest)) made ((parts.0, parts.1), ap (λ (text : List ℕ). codes "unwatch " ++ text) parts.2))
+with_some verbs.Set rest c = with_parts (λ p. commands.Set p.0 p.1) (slot_and_value_of rest) _ c (λ p read. let parts = slot_and_value_some rest p read in (parts.0, ap (λ (text : List ℕ). codes "set " ++ text) parts.1))
+with_some verbs.Clear rest c = with_slot commands.Clear (codes "clear ") (λ slot is. (is, refl)) rest c
+with_some verbs.OpenList rest c = with_slot commands.OpenList (codes "open ") (λ slot is. (is, refl)) rest c
+with_some verbs.Add rest c = with_slot commands.Add (codes "add ") (λ slot is. (is, refl)) rest c
+with_some verbs.Remove rest c = with_parts (λ p. commands.Remove p.0 p.1) (slot_and_member_of rest) _ c (λ p read. let parts = slot_and_member_some rest p read in ((parts.0, parts.1), ap (λ (text : List ℕ). codes "remove " ++ text) parts.2))
+with_some verbs.Override rest c = with_parts (λ p. commands.Override p.0 p.1) (slot_and_value_of rest) _ c (λ p read. let parts = slot_and_value_some rest p read in (parts.0, ap (λ (text : List ℕ). codes "override " ++ text) parts.1))
+with_some verbs.Release rest c = with_slot commands.Release (codes "release ") (λ slot is. (is, refl)) rest c
+with_some verbs.Get rest c = with_slot commands.Get (codes "get ") (λ slot is. (is, refl)) rest c
+with_some verbs.Final rest c = with_slot commands.Final (codes "final ") (λ slot is. (is, refl)) rest c
+with_some verbs.Stamp rest c = with_slot commands.Stamp (codes "stamp ") (λ slot is. (is, refl)) rest c
+with_some verbs.Missing rest c = with_slot commands.Missing (codes "missing ") (λ slot is. (is, refl)) rest c
+with_some verbs.Watch rest c = with_parts (λ p. commands.Watch p.0 p.1) (name_and_slot_of rest) _ c (λ p read. let parts = name_and_slot_some rest p read in ((parts.0, parts.1), ap (λ (text : List ℕ). codes "watch " ++ text) parts.2))
+with_some verbs.Unwatch rest c = with_parts (λ p. commands.Unwatch p.0 p.1) (name_and_slot_of rest) _ c (λ p read. let parts = name_and_slot_some rest p read in ((parts.0, parts.1), ap (λ (text : List ℕ). codes "unwatch " ++ text) parts.2))
 
 -- ---- texts
 
@@ -216,15 +195,6 @@ spelled_says line c is =
     ∙ ap (λ t. heard_of (command_of_text t)) is.text
     ∙ ap heard_of (complete c is.parts)
 
-pub nothing≢bad : nothing ≢ bad_line
-nothing≢bad e = cc
-
-nothing≢command : (c : Command) → nothing ≢ command c
-nothing≢command c e = cc
-
-bad≢command : (c : Command) → bad_line ≢ command c
-bad≢command c e = cc
-
 same_command : (c d : Command) → command c ≡ command d → c ≡ d
 same_command c d e = cc
 
@@ -238,27 +208,27 @@ command_from : (text : List ℕ) (c : Command) → heard text ≡ command c → 
 command_from text c e = by_reply (silent_or text)
   where
     by_read : (read : Option Command) → command_of_text text ≡ read → heard_of read ≡ command c → IsText text c
-    by_read None is e = absurd (bad≢command c e)
+    by_read None is e = absurd cc
     by_read (Some d) is e = subst (IsText text) (same_command d c e) (sound text d is)
 
     by_test : (b : Bool) → is_utf8 text ≡ b → (if b then heard_of (command_of_text text) else bad_line) ≡ command c → IsUtf8 text × IsText text c
     by_test true is e = (IsUtf8-from_is_utf8 text is, by_read (command_of_text text) refl e)
-    by_test false is e = absurd (bad≢command c e)
+    by_test false is e = absurd cc
 
     by_reply : IsSilentText text ⊎ (¬ (IsSilentText text)) → IsUtf8 text × IsText text c
-    by_reply (inl silent) = absurd (nothing≢command c (sym (silent_says text silent) ∙ e))
+    by_reply (inl silent) = let none = silent_says text silent in absurd cc
     by_reply (inr speaking) = by_test (is_utf8 text) refl (sym (says text speaking) ∙ e)
 
 nothing_from : (text : List ℕ) → heard text ≡ nothing → IsSilentText text
 nothing_from text e = by_reply (silent_or text)
   where
     by_read : (read : Option Command) → heard_of read ≡ nothing → ⊥
-    by_read None e = nothing≢bad (sym e)
-    by_read (Some d) e = nothing≢command d (sym e)
+    by_read None e = cc
+    by_read (Some d) e = cc
 
     by_test : (b : Bool) → (if b then heard_of (command_of_text text) else bad_line) ≡ nothing → ⊥
     by_test true e = by_read (command_of_text text) e
-    by_test false e = nothing≢bad (sym e)
+    by_test false e = cc
 
     by_reply : IsSilentText text ⊎ (¬ (IsSilentText text)) → IsSilentText text
     by_reply (inl silent) = silent
@@ -270,8 +240,8 @@ heard_exactly line = by_heard (heard_in line) refl
     by_heard : (s : Heard) → heard_in line ≡ s → SaysExactly line s
     by_heard nothing e = nothing_from (without_return line) e
     by_heard bad_line e = record {
-      reply = λ silent. nothing≢bad (sym (silent_says (without_return line) silent) ∙ e);
-      form = λ c spelled. bad≢command c (sym e ∙ spelled_says line c spelled);
+      reply = λ silent. let none = silent_says (without_return line) silent in cc;
+      form = λ c spelled. let said = spelled_says line c spelled in cc;
     }
     by_heard (command c) e =
         let found = command_from (without_return line) c e in

@@ -5,7 +5,7 @@ use Rattle.std.proofs.lemmas.Bool.{leb-true}
 use Rattle.std.proofs.lemmas.Bool.Decides.{nat_tests}
 use Rattle.std.proofs.lemmas.List.{take_all, length-take, take-append-drop, drop_more}
 use Rattle.std.proofs.lemmas.List.Elements.{All-push, All-take}
-use Rattle.script_lines.specs.Lines.{ScriptLine, whole, long, line_of, script_lines, told, HasNoNewline, IsNewlineAt, TakesLine, EndsLine}
+use Rattle.script_lines.specs.Lines.{ScriptLine, whole, long, line_of, script_lines, ready_lines, HasNoNewline, IsNewlineAt, TakesLine, EndsLine}
 use Rattle.script_lines.specs.declared.lines.Ready.{Ready}
 use Rattle.script_lines.specs.declared.lines.Ready.TheVariants.{NotYet, Whole, Long}
 use Rattle.script_lines.specs.Kept.{read_as, GoesOnAs}
@@ -73,10 +73,10 @@ ends_script (b ∷ line) none some = ap (map line_of) (lines_of-last (b ∷ line
 -- ---- whether a line is long
 
 -- what is told of a line says how long it is
-says_length : (line kept : List ℕ) (ready : Ready) → told ready kept ≡ line_of line ∷ [] → (ready ≢ NotYet) × (ready ≡ Whole → length line ≤ 4096) × (ready ≡ Long → 4096 < length line)
+says_length : (line kept : List ℕ) (ready : Ready) → ready_lines ready kept ≡ line_of line ∷ [] → (ready ≢ NotYet) × (ready ≡ Whole → length line ≤ 4096) × (ready ≡ Long → 4096 < length line)
 says_length line kept ready is = by_test (nat_le (length line) 4096) refl ready is
   where
-    by_test : (short : Bool) → nat_le (length line) 4096 ≡ short → (ready : Ready) → told ready kept ≡ (if short then whole line else long) ∷ []
+    by_test : (short : Bool) → nat_le (length line) 4096 ≡ short → (ready : Ready) → ready_lines ready kept ≡ (if short then whole line else long) ∷ []
         → (ready ≢ NotYet) × (ready ≡ Whole → length line ≤ 4096) × (ready ≡ Long → 4096 < length line)
     by_test true says NotYet is = absurd cc
     by_test true says Whole is = (λ e. cc, λ e. leb-true (length line) 4096 says, λ e. absurd cc)
@@ -97,10 +97,10 @@ goes_on_alike line text other none text_none other_none goes =
 
 -- what was taken of a piece
 pub takes : (before piece line kept : List ℕ) (at : ℕ) (ready : Ready) → IsNewlineAt piece at → HasNoNewline before → HasNoNewline line → GoesOnAs before (take at piece) line
-    → told ready kept ≡ line_of line ∷ [] → TakesLine before ready piece (at + 1)
+    → ready_lines ready kept ≡ line_of line ∷ [] → TakesLine before ready piece (at + 1)
 takes before piece line kept at ready newline none line_none goes is = by_ready ready (says_length (before ++ take at piece) kept ready told_is)
   where
-    told_is : told ready kept ≡ line_of (before ++ take at piece) ∷ []
+    told_is : ready_lines ready kept ≡ line_of (before ++ take at piece) ∷ []
     told_is = is ∙ ap (λ (l : ScriptLine). l ∷ []) (sym (goes_on_alike before (take at piece) line none newline.first line_none goes))
 
     ended : length (before ++ take at piece) ≡ length before + at
@@ -112,7 +112,7 @@ takes before piece line kept at ready newline none line_none goes is = by_ready 
     by_ready Long says = (at, refl, newline, omega (arith, ended, says.2 refl))
 
 -- what the last line is
-pub ends_last : (line kept : List ℕ) (ready : Ready) → 0 < length line → told ready kept ≡ line_of line ∷ [] → EndsLine line ready
+pub ends_last : (line kept : List ℕ) (ready : Ready) → 0 < length line → ready_lines ready kept ≡ line_of line ∷ [] → EndsLine line ready
 ends_last line kept ready some is = by_ready ready (says_length line kept ready is)
   where
     by_ready : (ready : Ready) → (ready ≢ NotYet) × (ready ≡ Whole → length line ≤ 4096) × (ready ≡ Long → 4096 < length line) → EndsLine line ready

@@ -1,8 +1,9 @@
 -- The parts of a command behind its first word: what is read of a text is what it spells.
 use Rattle.std.proofs.Common.{◌≡◌, ℕ, List, [], ◌∷◌, ◌++◌, Option, Some, None, refl, sym, ap, subst, ◌∙◌, arith, Bor}
 use Rattle.std.specs.Prelude.{codes, decimal, option_map, MatchOption}
-use Rattle.std.proofs.lemmas.Option.{cond_some, same_Some, option_and_then_some}
+use Rattle.std.proofs.lemmas.Option.{cond_some, same_Some}
 use Rattle.std.proofs.lemmas.Str.Pattern.{IsSplitOnceResult}
+use Rattle.common_lemmas.proofs.Options.{both_some}
 use Rattle.fact_paths.specs.Cuts.{Lacks, cut, after}
 use Rattle.fact_paths.specs.Names.{is_name, IsName}
 use Rattle.fact_paths.specs.Paths.{IsMemberNumber, IsSlotPath, SpellsSlotPath, slot_path_text}
@@ -70,23 +71,20 @@ name_of-name name is = rw is refl
 
 member_of_some : (text : List ℕ) (k : ℕ) → member_of text ≡ Some k → IsMemberNumber k × (text ≡ codes "#" ++ decimal k)
 member_of_some text k e =
-    option_and_then_some member_number_of (after (codes "#") text) k e
-    (λ (digits : List ℕ) (sign : after (codes "#") text ≡ Some digits) (number : member_number_of digits ≡ Some k).
-    let spelled = member_number_some digits k number in
-    (spelled.0, after_some (codes "#") text digits sign ∙ ap (λ (ds : List ℕ). 35 ∷ ds) spelled.1))
+    let sign = both_some member_number_of (after (codes "#") text) k e in
+    let spelled = member_number_some sign.0 k sign.2 in
+    (spelled.0, after_some (codes "#") text sign.0 sign.1 ∙ ap (λ (ds : List ℕ). 35 ∷ ds) spelled.1)
 
 -- ---- two parts
 
 -- `SLOT VALUE`
 pub slot_and_value_some : (text : List ℕ) (p : SlotPath × List ℕ) → slot_and_value_of text ≡ Some p → IsSlotPath p.0 × (text ≡ slot_path_text p.0 ++ (codes " " ++ p.1))
 slot_and_value_some text p e =
-    option_and_then_some (λ parts. slot_of parts.0 >>= λ slot. Some (slot, parts.1)) (at_blank text) p e
-    (λ (parts : List ℕ × List ℕ) (blank : at_blank text ≡ Some parts) (rest : (slot_of parts.0 >>= λ slot. Some (slot, parts.1)) ≡ Some p).
-    option_and_then_some (λ slot. Some (slot, parts.1)) (slot_of parts.0) p rest
-    (λ (slot : SlotPath) (read : slot_of parts.0 ≡ Some slot) (made : Some (slot, parts.1) ≡ Some p).
-    let spelled = slot_path_reading.sound parts.0 slot read in
-    let whole : text ≡ slot_path_text slot ++ 32 ∷ parts.1 = cut_some 32 text parts.0 parts.1 blank ∙ ap (λ (x : List ℕ). x ++ 32 ∷ parts.1) spelled.1 in
-    subst (λ (p : SlotPath × List ℕ). IsSlotPath p.0 × (text ≡ slot_path_text p.0 ++ 32 ∷ p.1)) (same_Some (slot, parts.1) p made) (spelled.0, whole)))
+    let parts = both_some (λ parts. slot_of parts.0 >>= λ slot. Some (slot, parts.1)) (at_blank text) p e in
+    let slot = both_some (λ slot. Some (slot, parts.0.1)) (slot_of parts.0.0) p parts.2 in
+    let spelled = slot_path_reading.sound parts.0.0 slot.0 slot.1 in
+    subst (λ (p : SlotPath × List ℕ). IsSlotPath p.0 × (text ≡ slot_path_text p.0 ++ 32 ∷ p.1)) (same_Some (slot.0, parts.0.1) p slot.2)
+    (spelled.0, cut_some 32 text parts.0.0 parts.0.1 parts.1 ∙ ap (λ (x : List ℕ). x ++ 32 ∷ parts.0.1) spelled.1)
 
 pub slot_and_value_of-text : (slot : SlotPath) (value : List ℕ) → IsSlotPath slot → slot_and_value_of (slot_path_text slot ++ (codes " " ++ value)) ≡ Some (slot, value)
 slot_and_value_of-text slot value is =
@@ -96,19 +94,13 @@ slot_and_value_of-text slot value is =
 -- `SLOT #K`
 pub slot_and_member_some : (text : List ℕ) (p : SlotPath × ℕ) → slot_and_member_of text ≡ Some p → IsSlotPath p.0 × IsMemberNumber p.1 × (text ≡ slot_path_text p.0 ++ (codes " #" ++ decimal p.1))
 slot_and_member_some text p e =
-    option_and_then_some (λ parts. member_of parts.1 >>= λ member. slot_of parts.0 >>= λ slot. Some (slot, member)) (at_blank text) p e
-    (λ (parts : List ℕ × List ℕ) (blank : at_blank text ≡ Some parts) (rest : (member_of parts.1 >>= λ member. slot_of parts.0 >>= λ slot. Some (slot, member)) ≡ Some p).
-    option_and_then_some (λ member. slot_of parts.0 >>= λ slot. Some (slot, member)) (member_of parts.1) p rest
-    (λ (member : ℕ) (number : member_of parts.1 ≡ Some member) (last : (slot_of parts.0 >>= λ slot. Some (slot, member)) ≡ Some p).
-    option_and_then_some (λ slot. Some (slot, member)) (slot_of parts.0) p last
-    (λ (slot : SlotPath) (read : slot_of parts.0 ≡ Some slot) (made : Some (slot, member) ≡ Some p).
-    let spelled = slot_path_reading.sound parts.0 slot read in
-    let numbered = member_of_some parts.1 member number in
-    let whole : text ≡ slot_path_text slot ++ 32 ∷ 35 ∷ decimal member =
-    cut_some 32 text parts.0 parts.1 blank
-    ∙ ap (λ (x : List ℕ). x ++ 32 ∷ parts.1) spelled.1
-    ∙ ap (λ (x : List ℕ). slot_path_text slot ++ 32 ∷ x) numbered.1 in
-    subst (λ (p : SlotPath × ℕ). IsSlotPath p.0 × IsMemberNumber p.1 × (text ≡ slot_path_text p.0 ++ 32 ∷ 35 ∷ decimal p.1)) (same_Some (slot, member) p made) (spelled.0, numbered.0, whole))))
+    let parts = both_some (λ parts. member_of parts.1 >>= λ member. slot_of parts.0 >>= λ slot. Some (slot, member)) (at_blank text) p e in
+    let member = both_some (λ member. slot_of parts.0.0 >>= λ slot. Some (slot, member)) (member_of parts.0.1) p parts.2 in
+    let slot = both_some (λ slot. Some (slot, member.0)) (slot_of parts.0.0) p member.2 in
+    let spelled = slot_path_reading.sound parts.0.0 slot.0 slot.1 in
+    let numbered = member_of_some parts.0.1 member.0 member.1 in
+    subst (λ (p : SlotPath × ℕ). IsSlotPath p.0 × IsMemberNumber p.1 × (text ≡ slot_path_text p.0 ++ 32 ∷ 35 ∷ decimal p.1)) (same_Some (slot.0, member.0) p slot.2)
+    (spelled.0, numbered.0, cut_some 32 text parts.0.0 parts.0.1 parts.1 ∙ ap (λ (x : List ℕ). x ++ 32 ∷ parts.0.1) spelled.1 ∙ ap (λ (x : List ℕ). slot_path_text slot.0 ++ 32 ∷ x) numbered.1)
 
 pub slot_and_member_of-text : (slot : SlotPath) (k : ℕ) → IsSlotPath slot → IsMemberNumber k → slot_and_member_of (slot_path_text slot ++ (codes " #" ++ decimal k)) ≡ Some (slot, k)
 slot_and_member_of-text slot k is number =
@@ -119,19 +111,13 @@ slot_and_member_of-text slot k is number =
 -- `NAME SLOT`
 pub name_and_slot_some : (text : List ℕ) (p : List ℕ × SlotPath) → name_and_slot_of text ≡ Some p → IsName p.0 × IsSlotPath p.1 × (text ≡ p.0 ++ (codes " " ++ slot_path_text p.1))
 name_and_slot_some text p e =
-    option_and_then_some (λ parts. name_of parts.0 >>= λ name. slot_of parts.1 >>= λ slot. Some (name, slot)) (at_blank text) p e
-    (λ (parts : List ℕ × List ℕ) (blank : at_blank text ≡ Some parts) (rest : (name_of parts.0 >>= λ name. slot_of parts.1 >>= λ slot. Some (name, slot)) ≡ Some p).
-    option_and_then_some (λ name. slot_of parts.1 >>= λ slot. Some (name, slot)) (name_of parts.0) p rest
-    (λ (name : List ℕ) (named : name_of parts.0 ≡ Some name) (last : (slot_of parts.1 >>= λ slot. Some (name, slot)) ≡ Some p).
-    option_and_then_some (λ slot. Some (name, slot)) (slot_of parts.1) p last
-    (λ (slot : SlotPath) (read : slot_of parts.1 ≡ Some slot) (made : Some (name, slot) ≡ Some p).
-    let spelled = slot_path_reading.sound parts.1 slot read in
-    let is_named = name_of_some parts.0 name named in
-    let whole : text ≡ name ++ 32 ∷ slot_path_text slot =
-    cut_some 32 text parts.0 parts.1 blank
-    ∙ ap (λ (x : List ℕ). x ++ 32 ∷ parts.1) is_named.1
-    ∙ ap (λ (x : List ℕ). name ++ 32 ∷ x) spelled.1 in
-    subst (λ (p : List ℕ × SlotPath). IsName p.0 × IsSlotPath p.1 × (text ≡ p.0 ++ 32 ∷ slot_path_text p.1)) (same_Some (name, slot) p made) (is_named.0, spelled.0, whole))))
+    let parts = both_some (λ parts. name_of parts.0 >>= λ name. slot_of parts.1 >>= λ slot. Some (name, slot)) (at_blank text) p e in
+    let name = both_some (λ name. slot_of parts.0.1 >>= λ slot. Some (name, slot)) (name_of parts.0.0) p parts.2 in
+    let slot = both_some (λ slot. Some (name.0, slot)) (slot_of parts.0.1) p name.2 in
+    let named = name_of_some parts.0.0 name.0 name.1 in
+    let spelled = slot_path_reading.sound parts.0.1 slot.0 slot.1 in
+    subst (λ (p : List ℕ × SlotPath). IsName p.0 × IsSlotPath p.1 × (text ≡ p.0 ++ 32 ∷ slot_path_text p.1)) (same_Some (name.0, slot.0) p slot.2)
+    (named.0, spelled.0, cut_some 32 text parts.0.0 parts.0.1 parts.1 ∙ ap (λ (x : List ℕ). x ++ 32 ∷ parts.0.1) named.1 ∙ ap (λ (x : List ℕ). name.0 ++ 32 ∷ x) spelled.1)
 
 pub name_and_slot_of-text : (name : List ℕ) (slot : SlotPath) → IsName name → IsSlotPath slot → name_and_slot_of (name ++ (codes " " ++ slot_path_text slot)) ≡ Some (name, slot)
 name_and_slot_of-text name slot is_name is =

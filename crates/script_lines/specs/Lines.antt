@@ -56,10 +56,10 @@ pub record Held : Type 0 where
   pub line : List ℕ
 
 -- the lines that an answer tells
-abbrev pub told : Ready → List ℕ → List ScriptLine
-told NotYet line = []
-told Whole line = whole line ∷ []
-told Long line = long ∷ []
+abbrev pub ready_lines : Ready → List ℕ → List ScriptLine
+ready_lines NotYet line = []
+ready_lines Whole line = whole line ∷ []
+ready_lines Long line = long ∷ []
 
 -- `NotYet` took all, and no newline; another answer took the first newline and what is before it, and says whether the
 -- line that ends there has over 4,096 bytes

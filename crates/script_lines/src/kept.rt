@@ -1,6 +1,6 @@
 // What is kept of one line: as many bytes as a line may have, and whether it has more.
 ghost use Rattle.std.specs.Prelude.{◌≡◌, ◌≤◌, ◌∷◌, [], Bool, true, false, length};
-ghost use Rattle.script_lines.specs.Lines.{line_of, told, HasNoNewline};
+ghost use Rattle.script_lines.specs.Lines.{line_of, ready_lines, HasNoNewline};
 ghost use Rattle.script_lines.specs.Kept.{read_as, GoesOnAs};
 
 use crate::lines::Ready;
@@ -51,7 +51,7 @@ impl Kept {
 
     /// What is told of the line if it ends here.
     pub fn ready(&self) -> Ready
-        ensures { told result self.now.bytes.items
+        ensures { ready_lines result self.now.bytes.items
             ≡ line_of (read_as self.now.bytes.items self.now.is_long) ∷ [] }
     {
         if self.is_long {

@@ -19,6 +19,3 @@ pub use lines::{Fed, Lines, Ready};
 pub use pieces::lines_of_pieces;
 pub use reading::command_of;
 pub use value::ValueText;
-
-#[cfg(test)]
-mod tests;

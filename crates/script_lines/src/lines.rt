@@ -1,5 +1,5 @@
 ghost use Rattle.std.specs.Prelude.{◌≡◌, ◌<◌, ◌≤◌, [], ◌++◌, List, ℕ, length, drop, IfSome, IfNone, false, if◌then◌else◌};
-ghost use Rattle.script_lines.specs.Lines.{script_lines, told, HasNoNewline, IsNewlineAt, TakesLine, EndsLine};
+ghost use Rattle.script_lines.specs.Lines.{script_lines, ready_lines, HasNoNewline, IsNewlineAt, TakesLine, EndsLine};
 ghost use Rattle.script_lines.specs.Kept.{read_as};
 
 use crate::kept::Kept;
@@ -68,7 +68,7 @@ impl Lines {
 
         // What is told and what is held make up the script, however it goes on.
         ensures stream { (more : List ℕ) → script_lines (self.old.so_far ++ (piece.now ++ more))
-            ≡ told result.ready self.new.line ++ script_lines (self.new.so_far ++ (drop result.taken piece.now ++ more)) }
+            ≡ ready_lines result.ready self.new.line ++ script_lines (self.new.so_far ++ (drop result.taken piece.now ++ more)) }
     {
         begin(&mut self.kept, &mut self.is_told);
         match newline_at(piece) {
@@ -94,7 +94,7 @@ impl Lines {
     /// The next piece begins another script.
     pub fn finish(&mut self) -> Ready
         ensures line { EndsLine self.old.so_far result }
-        ensures last { script_lines self.old.so_far ≡ told result self.new.line }
+        ensures last { script_lines self.old.so_far ≡ ready_lines result self.new.line }
         ensures none { self.new.so_far ≡ [] }
     {
         begin(&mut self.kept, &mut self.is_told);

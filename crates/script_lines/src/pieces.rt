@@ -1,6 +1,6 @@
 ghost use Rattle.std.specs.Prelude.{◌≡◌, ◌++◌, List, ℕ, IfOk, OnOk};
 ghost use Rattle.std.specs.List.{flat_map};
-ghost use Rattle.script_lines.specs.Lines.{script_lines, told};
+ghost use Rattle.script_lines.specs.Lines.{script_lines, ready_lines};
 ghost use Rattle.script_lines.specs.Pieces.{lines_read};
 
 use crate::lines::{Lines, Ready};
@@ -46,7 +46,7 @@ fn add_line(
     ready: Ready,
     line: &[u8],
 ) -> Result<(), AllocError>
-    ensures { OnOk result (lines_read found.new.items ≡ lines_read found.old.items ++ told ready line.now) }
+    ensures { OnOk result (lines_read found.new.items ≡ lines_read found.old.items ++ ready_lines ready line.now) }
 {
     match ready {
         Ready::NotYet => {}

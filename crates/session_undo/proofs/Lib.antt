@@ -1,4 +1,3 @@
-pub mod PlaceExamples
 pub mod StackLaws
-pub mod ToldLaws
+pub mod TimelineLaws
 pub mod UndoneLaws

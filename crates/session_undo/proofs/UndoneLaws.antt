@@ -1,13 +1,13 @@
 -- As many steps back as changes were made, and as many steps forth.
-use Rattle.std.proofs.Common.{◌≡◌, ◌<◌, ◌≤◌, ◌+◌, ℕ, zero, suc, List, [], ◌∷◌, length, refl, sym, ap, ◌∙◌, arith}
+use Rattle.std.proofs.Common.{◌≡◌, ◌≤◌, ◌+◌, ℕ, zero, suc, List, [], ◌∷◌, length, refl, ap, ◌∙◌, arith}
 use Rattle.answers.specs.Answered.{Answered}
-use Rattle.answers.specs.Change.{Change, Fits, applied, inverse}
+use Rattle.answers.specs.Change.{Change, applied, inverse}
 use Rattle.answers.specs.WellFormed.{WellFormed}
 use Rattle.answers.proofs.ChangeLaws.{fits_inverse_undoes}
 use Rattle.answers.proofs.WellLaws.{applied_well}
 use Rattle.session_undo.specs.Place.{Place, moved_back, moved_forth, changed, made, undone, redone, FitInTurn, Kept}
-use Rattle.session_undo.specs.Told.{Told, told, told_back, told_forth, trace}
-use Rattle.session_undo.proofs.ToldLaws.{told_moved_back, kept_moved_back, told_moved_forth, kept_moved_forth, kept_changed}
+use Rattle.session_undo.specs.Timeline.{Timeline, timeline, timeline_back, timeline_forth, trace}
+use Rattle.session_undo.proofs.TimelineLaws.{timeline_moved_back, kept_moved_back, timeline_moved_forth, kept_moved_forth, kept_changed}
 
 -- the last of some steps back
 undone_last : (n : ℕ) (p : Place) → undone (suc n) p ≡ moved_back (undone n p)
@@ -26,32 +26,32 @@ undone_made (c ∷ cs) p well (fits, rest) =
     rw (undone_last (length cs) (made cs q)) (step_back (undone (length cs) (made cs q)) p c before.0 before.1 (fits_inverse_undoes c p.now well fits))
 
 -- ---- and forth again
-steps_back : ℕ → Told → Told
+steps_back : ℕ → Timeline → Timeline
 steps_back zero t = t
-steps_back (suc n) t = steps_back n (told_back t)
+steps_back (suc n) t = steps_back n (timeline_back t)
 
-steps_forth : ℕ → Told → Told
+steps_forth : ℕ → Timeline → Timeline
 steps_forth zero t = t
-steps_forth (suc n) t = steps_forth n (told_forth t)
+steps_forth (suc n) t = steps_forth n (timeline_forth t)
 
 kept_undone : (n : ℕ) (p : Place) → Kept p → Kept (undone n p)
 kept_undone zero p k = k
 kept_undone (suc n) p k = kept_undone n (moved_back p) (kept_moved_back p k)
 
-told_undone : (n : ℕ) (p : Place) → Kept p → told (undone n p) ≡ steps_back n (told p)
+timeline_undone : (n : ℕ) (p : Place) → Kept p → timeline (undone n p) ≡ steps_back n (timeline p)
 unfolding steps_back
-told_undone zero p k = refl
-told_undone (suc n) p k = told_undone n (moved_back p) (kept_moved_back p k) ∙ ap (steps_back n) (told_moved_back p k)
+timeline_undone zero p k = refl
+timeline_undone (suc n) p k = timeline_undone n (moved_back p) (kept_moved_back p k) ∙ ap (steps_back n) (timeline_moved_back p k)
 
-told_redone : (n : ℕ) (p : Place) → Kept p → told (redone n p) ≡ steps_forth n (told p)
+timeline_redone : (n : ℕ) (p : Place) → Kept p → timeline (redone n p) ≡ steps_forth n (timeline p)
 unfolding steps_forth
-told_redone zero p k = refl
-told_redone (suc n) p k = told_redone n (moved_forth p) (kept_moved_forth p k) ∙ ap (steps_forth n) (told_moved_forth p k)
+timeline_redone zero p k = refl
+timeline_redone (suc n) p k = timeline_redone n (moved_forth p) (kept_moved_forth p k) ∙ ap (steps_forth n) (timeline_moved_forth p k)
 
-forth_last : (n : ℕ) (t : Told) → steps_forth (suc n) t ≡ told_forth (steps_forth n t)
+forth_last : (n : ℕ) (t : Timeline) → steps_forth (suc n) t ≡ timeline_forth (steps_forth n t)
 unfolding steps_forth
 forth_last zero t = refl
-forth_last (suc n) t = forth_last n (told_forth t)
+forth_last (suc n) t = forth_last n (timeline_forth t)
 
 -- n steps forth after n steps back, where so many answers lie before
 there_and_back : (n : ℕ) (before : List Answered) (a : Answered) (after : List Answered) → n ≤ length before
@@ -60,7 +60,7 @@ unfolding steps_back steps_forth
 there_and_back zero before a after le = refl
 there_and_back (suc n) [] a after le = absurd (omega arith)
 there_and_back (suc n) (b ∷ bs) a after le =
-    forth_last n (steps_back n (record { before = bs; now = b; after = a ∷ after })) ∙ ap told_forth (there_and_back n bs b (a ∷ after) (omega arith))
+    forth_last n (steps_back n (record { before = bs; now = b; after = a ∷ after })) ∙ ap timeline_forth (there_and_back n bs b (a ∷ after) (omega arith))
 
 trace_length : (cs : List Change) (a : Answered) → length (trace cs a) ≡ length cs
 trace_length [] a = refl
@@ -82,4 +82,4 @@ redone_made cs p k fit =
     let long : length q.back ≡ length cs + length p.back = made_length cs p in
     let before : length (trace q.back q.now) ≡ length q.back = trace_length q.back q.now in
     let enough : length cs ≤ length (trace q.back q.now) = omega arith in
-    ap (λ (t : Told). t.now) (told_redone n (undone n q) (kept_undone n q kq) ∙ ap (steps_forth n) (told_undone n q kq) ∙ there_and_back n (trace q.back q.now) q.now (trace q.ahead q.now) enough)
+    ap (λ (t : Timeline). t.now) (timeline_redone n (undone n q) (kept_undone n q kq) ∙ ap (steps_forth n) (timeline_undone n q kq) ∙ there_and_back n (trace q.back q.now) q.now (trace q.ahead q.now) enough)

@@ -2,7 +2,7 @@
 use Rattle.std.specs.Prelude.{Option, Some, None, List, [], ◌∷◌, ◌<◌, vec_capacity, vec_len, map, reverse}
 use Rattle.answers.specs.Change.{Change, Fits}
 use Rattle.answers.specs.Answered.{Answered}
-use Rattle.answers.specs.Standing.{answered, change}
+use Rattle.answers.specs.Meaning.{answered, change}
 use Rattle.answers.specs.Room.{HasRoom}
 use Rattle.answers.specs.declared.parts.Parts.{Parts}
 use Rattle.answers.specs.declared.edit.Edit.{Edit}

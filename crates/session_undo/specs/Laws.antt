@@ -3,7 +3,7 @@ use Rattle.std.specs.Prelude.{◌≡◌, List, length}
 use Rattle.answers.specs.Change.{Change, Fits, applied}
 use Rattle.answers.specs.WellFormed.{WellFormed}
 use Rattle.session_undo.specs.Place.{Place, moved_back, moved_forth, changed, made, undone, redone, FitInTurn, Kept}
-use Rattle.session_undo.specs.Told.{told, told_back, told_forth, told_change}
+use Rattle.session_undo.specs.Timeline.{timeline, timeline_back, timeline_forth, timeline_change}
 
 -- n changes that fit in turn, and n steps back: the answers before them, and the changes that led back from those
 abbrev pub UndoneIsBefore : Type 0
@@ -18,13 +18,13 @@ RedoneIsAfter = (cs : List Change) (p : Place) → Kept p → FitInTurn cs p.now
 
 -- steps over changes are steps over whole answers
 abbrev pub BackIsOverAnswers : Type 0
-BackIsOverAnswers = (p : Place) → Kept p → told (moved_back p) ≡ told_back (told p)
+BackIsOverAnswers = (p : Place) → Kept p → timeline (moved_back p) ≡ timeline_back (timeline p)
 
 abbrev pub ForthIsOverAnswers : Type 0
-ForthIsOverAnswers = (p : Place) → Kept p → told (moved_forth p) ≡ told_forth (told p)
+ForthIsOverAnswers = (p : Place) → Kept p → timeline (moved_forth p) ≡ timeline_forth (timeline p)
 
 abbrev pub ChangeIsOverAnswers : Type 0
-ChangeIsOverAnswers = (p : Place) (c : Change) → Kept p → Fits c p.now → told (changed p c) ≡ told_change (told p) (applied c p.now)
+ChangeIsOverAnswers = (p : Place) (c : Change) → Kept p → Fits c p.now → timeline (changed p c) ≡ timeline_change (timeline p) (applied c p.now)
 
 abbrev pub BackKeeps : Type 0
 BackKeeps = (p : Place) → Kept p → Kept (moved_back p)

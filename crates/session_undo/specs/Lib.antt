@@ -1,4 +1,4 @@
 pub mod History
 pub mod Laws
 pub mod Place
-pub mod Told
+pub mod Timeline

@@ -1,7 +1,7 @@
 // The edits that lead back, and those that lead forth again.
 ghost use Rattle.std.specs.Prelude.{◌≡◌, ◌<◌, ◌↔◌, [], ◌∷◌, OnOk, OnErr, IfErr, IsOk, vec_len, vec_capacity, option_map, if◌then◌else◌};
 ghost use Rattle.std.specs.declared.result.Result.TheVariants.{Err};
-ghost use Rattle.answers.specs.Standing.{answered, change};
+ghost use Rattle.answers.specs.Meaning.{answered, change};
 ghost use Rattle.session_undo.specs.Place.{moved, moved_back, moved_forth};
 ghost use Rattle.session_undo.specs.History.{stack, behind, ahead_of, place, first, NewestFits, NewestRoom, RoomAhead, CanPush, CanBack, CanForth};
 ghost use Rattle.session_undo.specs.declared.refusal.UndoRefusal.TheVariants.{NothingToUndo, NothingToRedo};

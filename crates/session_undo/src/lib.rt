@@ -4,8 +4,6 @@
 mod history;
 pub mod laws;
 mod refusal;
-#[cfg(test)]
-mod tests;
 
 pub use history::History;
 pub use refusal::UndoRefusal;

@@ -2,7 +2,5 @@
 #![tactic(auto)]
 
 mod counter;
-#[cfg(test)]
-mod tests;
 
 pub use counter::Steps;

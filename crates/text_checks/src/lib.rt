@@ -5,8 +5,6 @@ mod check;
 mod checks;
 pub mod laws;
 mod table;
-#[cfg(test)]
-mod tests;
 
 pub use check::{Check, Test};
 pub use checks::{digits, nine_digits, printable_ascii, trimmed};

@@ -2,9 +2,11 @@
 use Rattle.std.proofs.Common.{◌≡◌, ℕ, ℤ, Bool, true, false, IsTrue, ◌↔◌, ◌&&◌, ◌==◌, refl, sym, ap, ap₂}
 use Rattle.std.specs.Bool.{beq}
 use Rattle.std.specs.Ordering.{int_eq}
-use Rattle.std.specs.Cmp.{booleans_Decides, signed_Decides, unsigned_Decides}
+use Rattle.std.specs.Cmp.{booleans_Decides, signed_Decides}
 use Rattle.std.proofs.lemmas.Bool.Decides.{same_from_decides}
-use Rattle.std.proofs.lemmas.Slice.Eq.{bytes_eq-Decides}
+use Rattle.common_lemmas.proofs.Bools.{both}
+use Rattle.common_lemmas.proofs.Bytes.{equal_bytes, same_bytes}
+use Rattle.common_lemmas.proofs.Numbers.{equal_number, same_number}
 use Rattle.fact_values.specs.declared.fault.ValueFault.{ValueFault}
 use Rattle.fact_values.specs.declared.fault.ValueFault.TheVariants.{Overflow, ZeroDivide}
 use Rattle.fact_values.specs.declared.value.Value.{Value}
@@ -14,18 +16,8 @@ use Rattle.three_state.specs.declared.res.Res.{Res}
 use Rattle.three_state.specs.declared.res.Res.TheVariants.{Complete, Placeholder, Incomplete, Fault}
 use Rattle.three_state.specs.Equality.{fault_same, res_same, value_same}
 
-beq-itself : (a : Bool) → beq a a ≡ true
-beq-itself a = (booleans_Decides a a).1 refl
-
 int_eq-itself : (a : ℤ) → int_eq a a ≡ true
 int_eq-itself a = (signed_Decides a a).1 refl
-
-nat_eq-itself : (a : ℕ) → (a == a) ≡ true
-nat_eq-itself a = (unsigned_Decides a a).1 refl
-
-both : (a b : Bool) → (a && b) ≡ true → (a ≡ true) × (b ≡ true)
-both true b h = (refl, h)
-both false b h = cc
 
 abbrev ratio : ℤ → ℕ → Ratio
 ratio n d = record { num = n; den = d }
@@ -33,7 +25,7 @@ ratio n d = record { num = n; den = d }
 ratio-same : (a b : Ratio) → (int_eq a.num b.num && (a.den == b.den)) ≡ true → a ≡ b
 ratio-same a b h =
     let parts = both (int_eq a.num b.num) (a.den == b.den) h in
-    ap₂ ratio ((signed_Decides a.num b.num).0 parts.0) ((unsigned_Decides a.den b.den).0 parts.1)
+    ap₂ ratio ((signed_Decides a.num b.num).0 parts.0) (same_number a.den b.den parts.1)
 
 value_same-equal : (v w : Value) → value_same v w ≡ true → v ≡ w
 value_same-equal (Boolean a) (Boolean b) h = ap Boolean ((booleans_Decides a b).0 h)
@@ -41,24 +33,24 @@ value_same-equal (Int a) (Int b) h = ap Int ((signed_Decides a b).0 h)
 value_same-equal (Dollar a) (Dollar b) h = ap Dollar ((signed_Decides a b).0 h)
 value_same-equal (Rational a) (Rational b) h = ap Rational (ratio-same a b h)
 value_same-equal (Day a) (Day b) h = ap Day ((signed_Decides a b).0 h)
-value_same-equal (Text a) (Text b) h = ap Text ((bytes_eq-Decides a b).0 h)
+value_same-equal (Text a) (Text b) h = ap Text (same_bytes a b h)
 value_same-equal (Choice list place) (Choice list' place') h =
     let parts = both (list == list') (place == place') h in
-    ap₂ Choice ((unsigned_Decides list list').0 parts.0) ((unsigned_Decides place place').0 parts.1)
-value_same-equal (Members a) (Members b) h = ap Members ((bytes_eq-Decides a b).0 h)
-value_same-equal (Item a) (Item b) h = ap Item ((unsigned_Decides a b).0 h)
+    ap₂ Choice (same_number list list' parts.0) (same_number place place' parts.1)
+value_same-equal (Members a) (Members b) h = ap Members (same_bytes a b h)
+value_same-equal (Item a) (Item b) h = ap Item (same_number a b h)
 value_same-equal _ _ h = cc
 
 value_same-itself : (v : Value) → value_same v v ≡ true
-value_same-itself (Boolean a) = beq-itself a
+value_same-itself (Boolean a) = (booleans_Decides a a).1 refl
 value_same-itself (Int a) = int_eq-itself a
 value_same-itself (Dollar a) = int_eq-itself a
-value_same-itself (Rational a) = rw (int_eq-itself a.num) (nat_eq-itself a.den)
+value_same-itself (Rational a) = rw (int_eq-itself a.num) (equal_number a.den)
 value_same-itself (Day a) = int_eq-itself a
-value_same-itself (Text a) = (bytes_eq-Decides a a).1 refl
-value_same-itself (Choice list place) = rw (nat_eq-itself list) (nat_eq-itself place)
-value_same-itself (Members a) = (bytes_eq-Decides a a).1 refl
-value_same-itself (Item a) = nat_eq-itself a
+value_same-itself (Text a) = equal_bytes a
+value_same-itself (Choice list place) = rw (equal_number list) (equal_number place)
+value_same-itself (Members a) = equal_bytes a
+value_same-itself (Item a) = equal_number a
 
 pub value_same-Decides : (v w : Value) → IsTrue (value_same v w) ↔ (v ≡ w)
 value_same-Decides v w = (value_same-equal v w, λ e. rw (sym e) (value_same-itself v))

@@ -1,6 +1,8 @@
 -- One more result, and the rest of a list, after what was seen.
-use Rattle.std.proofs.Common.{◌≡◌, Bool, true, false, not, ◌||◌, ◌&&◌, if◌then◌else◌, List, [], ◌∷◌, ◌++◌, Option, Some, None, refl, sym, ap, ◌∙◌, append_assoc}
+use Rattle.std.proofs.Common.{◌≡◌, Bool, true, false, not, ◌||◌, ◌&&◌, if◌then◌else◌, List, [], ◌∷◌, ◌++◌, Option, Some, None, refl, sym, ap, ◌∙◌, append_assoc, arith}
 use Rattle.std.proofs.lemmas.List.{append-nil}
+use Rattle.std.proofs.lemmas.List.Folds.{list_all-append, list_any-append}
+use Rattle.common_lemmas.proofs.Bools.{and_true, or_false}
 use Rattle.std.specs.List.{list_any, list_all}
 use Rattle.fact_values.specs.declared.fault.ValueFault.{ValueFault}
 use Rattle.fact_values.specs.declared.value.Value.TheVariants.{Boolean}
@@ -12,38 +14,12 @@ use Rattle.three_state.specs.Results.{first_fault, fault_or, fault_else, fault_o
 use Rattle.three_state.specs.Folds.{junction_next, junction_on, verdict_next, verdict_on}
 use Rattle.three_state.specs.Junctions.{fault_then, with_operand, end_of}
 
--- ---- tests of a list and what stands behind it
-
-or_assoc : (a b c : Bool) → (a || (b || c)) ≡ ((a || b) || c)
-or_assoc true b c = refl
-or_assoc false b c = refl
-
-and_assoc : (a b c : Bool) → (a && (b && c)) ≡ ((a && b) && c)
-and_assoc true b c = refl
-and_assoc false b c = refl
-
-or_false : (b : Bool) → (b || false) ≡ b
-or_false true = refl
-or_false false = refl
-
-and_true : (b : Bool) → (b && true) ≡ b
-and_true true = refl
-and_true false = refl
-
-list_any-append : (p : Res → Bool) (rs ss : List Res) → list_any p (rs ++ ss) ≡ (list_any p rs || list_any p ss)
-list_any-append p [] ss = refl
-list_any-append p (r ∷ rs) ss = rw (list_any-append p rs ss) (or_assoc (p r) (list_any p rs) (list_any p ss))
-
-list_all-append : (p : Res → Bool) (rs ss : List Res) → list_all p (rs ++ ss) ≡ (list_all p rs && list_all p ss)
-list_all-append p [] ss = refl
-list_all-append p (r ∷ rs) ss = rw (list_all-append p rs ss) (and_assoc (p r) (list_all p rs) (list_all p ss))
+-- ---- the first fault of a list and what stands behind it
 
 first_fault-append : (rs ss : List Res) → first_fault (rs ++ ss) ≡ fault_then (first_fault rs) (first_fault ss)
 first_fault-append [] ss = refl
-first_fault-append (Complete v ∷ rs) ss = first_fault-append rs ss
-first_fault-append (Placeholder v ∷ rs) ss = first_fault-append rs ss
-first_fault-append (Incomplete ∷ rs) ss = first_fault-append rs ss
 first_fault-append (Fault fault ∷ rs) ss = refl
+first_fault-append (_ ∷ rs) ss = first_fault-append rs ss
 
 -- ---- All and Any
 
@@ -61,22 +37,14 @@ rules d decided incomplete fault soft placeholder =
 rules_then : (d : Bool) (a b : Bool) (f : Option ValueFault) (s p : Bool) (a' b' : Bool) (f' : Option ValueFault) (s' p' : Bool)
     → (let r = rules d a b f s p in rules d (is_complete_at d r || a') (is_incomplete r || b') (fault_then (fault_or r None) f') (is_placeholder_at d r || s') (is_placeholder r || p'))
     ≡ rules d (a || a') (b || b') (fault_then f f') (s || s') (p || p')
-rules_then true true b f s p a' b' f' s' p' = refl
-rules_then false true b f s p a' b' f' s' p' = refl
 rules_then d false true f s p a' b' f' s' p' = refl
 rules_then d false false (Some fault) s p a' b' f' s' p' = refl
-rules_then true false false None true p a' b' f' s' p' = refl
-rules_then false false false None true p a' b' f' s' p' = refl
-rules_then true false false None false true a' b' f' s' p' = refl
-rules_then false false false None false true a' b' f' s' p' = refl
-rules_then true false false None false false a' b' f' s' p' = refl
-rules_then false false false None false false a' b' f' s' p' = refl
+rules_then true a b f s p a' b' f' s' p' = grind arith
+rules_then false a b f s p a' b' f' s' p' = grind arith
 
 fault_then-fault_or : (r : Res) (rest : Option ValueFault) → fault_or r rest ≡ fault_then (fault_or r None) rest
-fault_then-fault_or (Complete v) rest = refl
-fault_then-fault_or (Placeholder v) rest = refl
-fault_then-fault_or Incomplete rest = refl
 fault_then-fault_or (Fault fault) rest = refl
+fault_then-fault_or _ rest = refl
 
 pub junction-append : (d : Bool) (rs ss : List Res) → junction d (junction d rs ∷ ss) ≡ junction d (rs ++ ss)
 junction-append d rs ss =
@@ -116,15 +84,11 @@ verdict_push : (b : Bool) (f : Option ValueFault) (c : Bool) (r : Res)
     → (if b || is_incomplete r then verdict.Incomplete else fault_or_go (fault_then f (fault_or r None)) (c && is_complete r))
     ≡ verdict_next (if b then verdict.Incomplete else fault_or_go f c) r
 verdict_push true f c r = refl
-verdict_push false (Some fault) c (Complete v) = refl
-verdict_push false (Some fault) c (Placeholder v) = refl
-verdict_push false (Some fault) c Incomplete = refl
-verdict_push false (Some fault) c (Fault g) = refl
+verdict_push false (Some fault) c r = grind arith
 verdict_push false None c (Complete v) = ap verdict.Go (and_true c)
 verdict_push false None true (Placeholder v) = refl
 verdict_push false None false (Placeholder v) = refl
-verdict_push false None c Incomplete = refl
-verdict_push false None c (Fault g) = refl
+verdict_push false None c _ = refl
 
 pub verdict_of-push : (rs : List Res) (r : Res) → verdict_of (rs ++ r ∷ []) ≡ verdict_next (verdict_of rs) r
 verdict_of-push rs r =

@@ -1,5 +1,4 @@
 pub mod EqualityLaws
 pub mod FoldLaws
 pub mod OrderLaws
-pub mod ResultExamples
 pub mod RuleLaws

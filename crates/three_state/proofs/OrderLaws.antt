@@ -2,6 +2,7 @@
 -- A rule that needs all its operands: either all are complete, and then the operands stay as they are, or the result isn't complete.
 use Rattle.std.proofs.Common.{◌≡◌, ℕ, Bool, true, false, ◌||◌, not, if◌then◌else◌, List, [], ◌∷◌, map, Option, Some, None, Result, Ok, Err, refl}
 use Rattle.std.specs.List.{list_any, list_all}
+use Rattle.common_lemmas.proofs.Bools.{or_right}
 use Rattle.fact_values.specs.declared.fault.ValueFault.{ValueFault}
 use Rattle.fact_values.specs.declared.value.Value.{Value}
 use Rattle.fact_values.specs.declared.value.Value.TheVariants.{Boolean, Item}
@@ -20,17 +21,13 @@ all_same [] [] k h = refl
 all_same [] (b ∷ ys) k h = absurd k
 all_same (a ∷ xs) [] k h = absurd k
 all_same (Complete v ∷ xs) (b ∷ ys) k h = rw (k.0.keeps v refl, all_same xs ys k.1 h) refl
-all_same (Placeholder v ∷ xs) (b ∷ ys) k h = cc
-all_same (Incomplete ∷ xs) (b ∷ ys) k h = cc
-all_same (Fault fault ∷ xs) (b ∷ ys) k h = cc
+all_same (_ ∷ xs) (b ∷ ys) k h = cc
 
 -- ---- strict operations
 
 pub not_complete : (x : Bool) (y : Option ValueFault) (done : Result Value ValueFault) (v : Value) → after_verdict (if x then verdict.Incomplete else fault_or_go y false) done ≡ Complete v → ⊥
-not_complete true y done v e = cc
-not_complete false (Some fault) done v e = cc
 not_complete false None (Ok w) v e = cc
-not_complete false None (Err fault) v e = cc
+not_complete _ _ _ v e = cc
 
 strict_by : (op : List Value → Result Value ValueFault) (xs ys : List Res) → KeepsAll xs ys → (b : Bool) → list_all is_complete xs ≡ b → (v : Value) → strict op xs ≡ Complete v → strict op ys ≡ Complete v
 strict_by op xs ys k true h v e = rw (all_same xs ys k h) e
@@ -41,10 +38,6 @@ strict_keeps op xs ys k = record { keeps = strict_by op xs ys k (list_all is_com
 
 -- ---- All and Any
 
-right_true : (a b : Bool) → b ≡ true → (a || b) ≡ true
-right_true true b h = refl
-right_true false b h = h
-
 decided_or : (a b c : Bool) → (a || b) ≡ true → (b ≡ true → c ≡ true) → (a || c) ≡ true
 decided_or true b c h k = refl
 decided_or false b c h k = k h
@@ -53,25 +46,19 @@ decided_keeps : (d : Bool) (xs ys : List Res) → KeepsAll xs ys → list_any (i
 decided_keeps d [] ys k h = cc
 decided_keeps d (a ∷ xs) [] k h = absurd k
 decided_keeps d (Complete v ∷ xs) (b ∷ ys) k h = rw (k.0.keeps v refl) (decided_or (is_truth d v) (list_any (is_complete_at d) xs) (list_any (is_complete_at d) ys) h (decided_keeps d xs ys k.1))
-decided_keeps d (Placeholder v ∷ xs) (b ∷ ys) k h = right_true (is_complete_at d b) _ (decided_keeps d xs ys k.1 h)
-decided_keeps d (Incomplete ∷ xs) (b ∷ ys) k h = right_true (is_complete_at d b) _ (decided_keeps d xs ys k.1 h)
-decided_keeps d (Fault fault ∷ xs) (b ∷ ys) k h = right_true (is_complete_at d b) _ (decided_keeps d xs ys k.1 h)
+decided_keeps d (_ ∷ xs) (b ∷ ys) k h = or_right (is_complete_at d b) _ (decided_keeps d xs ys k.1 h)
 
 -- one that isn't complete is incomplete, a fault or a placeholder
 some_placeholder : (xs : List Res) → list_all is_complete xs ≡ false → list_any is_incomplete xs ≡ false → first_fault xs ≡ None → list_any is_placeholder xs ≡ true
 some_placeholder [] a b c = cc
 some_placeholder (Complete v ∷ xs) a b c = some_placeholder xs a b c
 some_placeholder (Placeholder v ∷ xs) a b c = refl
-some_placeholder (Incomplete ∷ xs) a b c = cc
-some_placeholder (Fault fault ∷ xs) a b c = cc
+some_placeholder (_ ∷ xs) a b c = cc
 
 undecided : (d n : Bool) (x : Bool) (y : Option ValueFault) (p q : Bool) → (x ≡ false → y ≡ None → q ≡ true) → (v : Value)
     → (if x then Incomplete else fault_else y (if p then Placeholder (Boolean d) else if q then Placeholder (Boolean n) else Complete (Boolean n))) ≡ Complete v → ⊥
-undecided d n true y p q h v e = cc
-undecided d n false (Some fault) p q h v e = cc
-undecided d n false None true q h v e = cc
-undecided d n false None false true h v e = cc
 undecided d n false None false false h v e = let k : false ≡ true = h refl refl in cc
+undecided d n _ _ _ _ h v e = cc
 
 junction_by : (d : Bool) (xs ys : List Res) → KeepsAll xs ys → (x y : Bool) → list_all is_complete xs ≡ x → list_any (is_complete_at d) xs ≡ y → (v : Value) → junction d xs ≡ Complete v → junction d ys ≡ Complete v
 junction_by d xs ys k true y h g v e = rw (all_same xs ys k h) e
@@ -85,21 +72,16 @@ junction_keeps d xs ys k = record { keeps = junction_by d xs ys k (list_all is_c
 
 pub down-never-complete : (r : Res) (v : Value) → down r ≡ Complete v → ⊥
 down-never-complete (Complete w) v e = cc
-down-never-complete (Placeholder w) v e = cc
-down-never-complete Incomplete v e = cc
-down-never-complete (Fault fault) v e = cc
+down-never-complete _ v e = cc
 
 pub down-down : (r : Res) → down (down r) ≡ down r
 down-down (Complete v) = refl
-down-down (Placeholder v) = refl
-down-down Incomplete = refl
-down-down (Fault fault) = refl
+down-down _ = refl
 
 pub through_keeps : (s s' : Res) (read read' : Value → Res) → Keeps s s' → ((v : Value) → Keeps (read v) (read' v)) → Keeps (through s read) (through s' read')
 through_keeps (Complete w) s' read read' k h = rw (k.keeps w refl) (h w)
 through_keeps (Placeholder w) s' read read' k h = record { keeps = λ v e. absurd (down-never-complete _ v e) }
-through_keeps Incomplete s' read read' k h = record { keeps = λ v e. cc }
-through_keeps (Fault fault) s' read read' k h = record { keeps = λ v e. cc }
+through_keeps _ s' read read' k h = record { keeps = λ v e. cc }
 
 -- ---- Switch
 
@@ -154,8 +136,7 @@ fields_keep_by op (Complete w) s' f g k h v e =
     let both : KeepsAll (Complete w ∷ map f (members_in w)) (Complete w ∷ map g (members_in w)) = (kept_itself (Complete w), map_keeps f g h (members_in w)) in
     rw (k.keeps w refl) ((strict_keeps ops (Complete w ∷ map f (members_in w)) (Complete w ∷ map g (members_in w)) both).keeps v e)
 fields_keep_by op (Placeholder w) s' f g k h v e = absurd (not_complete (list_any is_incomplete (map f (members_in w))) (first_fault (map f (members_in w))) _ v e)
-fields_keep_by op Incomplete s' f g k h v e = cc
-fields_keep_by op (Fault fault) s' f g k h v e = cc
+fields_keep_by op _ s' f g k h v e = cc
 
 pub fields_keep : (op : List Value → Result Value ValueFault) (s s' : Res) (f g : ℕ → Res) → Keeps s s' → ((m : ℕ) → Keeps (f m) (g m)) → Keeps (strict_over_fields op s f) (strict_over_fields op s' g)
 fields_keep op s s' f g k h = record { keeps = fields_keep_by op s s' f g k h }

@@ -1,6 +1,7 @@
 -- Complete operands, and the forms in which loops take Switch and Filter.
 use Rattle.std.proofs.Common.{◌≡◌, ℕ, Bool, true, false, not, if◌then◌else◌, List, [], ◌∷◌, ◌++◌, map, None, Result, Ok, IsTrue, refl, sym, ap, ◌∙◌, append_assoc}
 use Rattle.std.proofs.lemmas.List.{append-nil}
+use Rattle.common_lemmas.proofs.Lists.{kept_one}
 use Rattle.std.specs.List.{list_any, list_all}
 use Rattle.fact_values.specs.declared.fault.ValueFault.{ValueFault}
 use Rattle.fact_values.specs.declared.value.Value.{Value}
@@ -17,33 +18,16 @@ use Rattle.three_state.proofs.OrderLaws.{down-down, not_complete}
 
 -- ---- complete operands
 
-none_incomplete : (rs : List Res) → list_all is_complete rs ≡ true → list_any is_incomplete rs ≡ false
-none_incomplete [] h = refl
-none_incomplete (Complete v ∷ rs) h = none_incomplete rs h
-none_incomplete (Placeholder v ∷ rs) h = cc
-none_incomplete (Incomplete ∷ rs) h = cc
-none_incomplete (Fault fault ∷ rs) h = cc
+-- no test that a complete result fails holds of one
+none_of : (p : Res → Bool) → ((v : Value) → p (Complete v) ≡ false) → (rs : List Res) → list_all is_complete rs ≡ true → list_any p rs ≡ false
+none_of p fails [] h = refl
+none_of p fails (Complete v ∷ rs) h = rw (fails v) (none_of p fails rs h)
+none_of p fails (_ ∷ rs) h = cc
 
 no_fault : (rs : List Res) → list_all is_complete rs ≡ true → first_fault rs ≡ None
 no_fault [] h = refl
 no_fault (Complete v ∷ rs) h = no_fault rs h
-no_fault (Placeholder v ∷ rs) h = cc
-no_fault (Incomplete ∷ rs) h = cc
-no_fault (Fault fault ∷ rs) h = cc
-
-no_placeholder : (rs : List Res) → list_all is_complete rs ≡ true → list_any is_placeholder rs ≡ false
-no_placeholder [] h = refl
-no_placeholder (Complete v ∷ rs) h = no_placeholder rs h
-no_placeholder (Placeholder v ∷ rs) h = cc
-no_placeholder (Incomplete ∷ rs) h = cc
-no_placeholder (Fault fault ∷ rs) h = cc
-
-no_placeholder_at : (d : Bool) (rs : List Res) → list_all is_complete rs ≡ true → list_any (is_placeholder_at d) rs ≡ false
-no_placeholder_at d [] h = refl
-no_placeholder_at d (Complete v ∷ rs) h = no_placeholder_at d rs h
-no_placeholder_at d (Placeholder v ∷ rs) h = cc
-no_placeholder_at d (Incomplete ∷ rs) h = cc
-no_placeholder_at d (Fault fault ∷ rs) h = cc
+no_fault (_ ∷ rs) h = cc
 
 either_complete : (b : Bool) (v w : Value) → is_complete (if b then Complete v else Complete w) ≡ true
 either_complete true v w = refl
@@ -51,10 +35,10 @@ either_complete false v w = refl
 
 pub junction-complete : (d : Bool) (rs : List Res) → AreComplete rs → IsTrue (is_complete (junction d rs))
 junction-complete d rs all =
-    rw (none_incomplete rs all, no_fault rs all, no_placeholder_at d rs all, no_placeholder rs all) (either_complete (list_any (is_complete_at d) rs) (Boolean d) (Boolean (not d)))
+    rw (none_of is_incomplete (λ v. refl) rs all, no_fault rs all, none_of (is_placeholder_at d) (λ v. refl) rs all, none_of is_placeholder (λ v. refl) rs all) (either_complete (list_any (is_complete_at d) rs) (Boolean d) (Boolean (not d)))
 
 pub strict-complete : (op : List Value → Result Value ValueFault) (rs : List Res) (v : Value) → AreComplete rs → op (values_of rs) ≡ Ok v → strict op rs ≡ Complete v
-strict-complete op rs v all e = rw (none_incomplete rs all, no_fault rs all, all, e) refl
+strict-complete op rs v all e = rw (none_of is_incomplete (λ v. refl) rs all, no_fault rs all, all, e) refl
 
 complete_by : (op : List Value → Result Value ValueFault) (rs : List Res) (v : Value) (b : Bool) → list_all is_complete rs ≡ b → strict op rs ≡ Complete v → AreComplete rs
 complete_by op rs v true h e = h
@@ -86,16 +70,12 @@ switch_on-next false Incomplete g cs = refl
 switch_on-next true (Fault fault) g cs = refl
 switch_on-next false (Fault fault) g cs = refl
 
-kept-found : (b : Bool) (found : List ℕ) (m : ℕ) (rest : List ℕ) → (if b then found ++ m ∷ [] else found) ++ rest ≡ found ++ (if b then m ∷ rest else rest)
-kept-found true found m rest = append_assoc found (m ∷ []) rest
-kept-found false found m rest = refl
-
-filter_on-found : (condition : ℕ → Res) (found : List ℕ) (so_far : Verdict) (ms : List ℕ)
+pub filter_on-found : (condition : ℕ → Res) (found : List ℕ) (so_far : Verdict) (ms : List ℕ)
     → filter_on condition found so_far ms ≡ after_verdict (verdict_on so_far (map condition ms)) (Ok (Members (found ++ kept condition ms)))
 filter_on-found condition found so_far [] = ap (λ ms. after_verdict so_far (Ok (Members ms))) (sym (append-nil found))
 filter_on-found condition found so_far (m ∷ ms) =
     filter_on-found condition (kept_next found m (condition m)) (verdict_next so_far (condition m)) ms
-    ∙ ap (λ all. after_verdict (verdict_on (verdict_next so_far (condition m)) (map condition ms)) (Ok (Members all))) (kept-found (is_true (condition m)) found m (kept condition ms))
+    ∙ ap (λ all. after_verdict (verdict_on (verdict_next so_far (condition m)) (map condition ms)) (Ok (Members all))) (kept_one (is_true (condition m)) found m (kept condition ms))
 
 pub filter_on-start : (condition : ℕ → Res) (ms : List ℕ) → filter_on condition [] (verdict.Go true) ms ≡ filter_members condition ms
 filter_on-start condition ms =

@@ -5,6 +5,7 @@ use Rattle.std.specs.List.{list_any, list_all}
 use Rattle.fact_values.specs.declared.fault.ValueFault.{ValueFault}
 use Rattle.fact_values.specs.declared.value.Value.{Value}
 use Rattle.fact_values.specs.declared.value.Value.TheVariants.{Boolean, Int, Members, Item}
+use Rattle.fact_values.specs.Values.{HoldsMemory}
 use Rattle.three_state.specs.declared.res.Res.{Res}
 use Rattle.three_state.specs.declared.res.Res.TheVariants.{Complete, Placeholder, Incomplete, Fault}
 use Rattle.three_state.specs.declared.strict.Verdict.{Verdict}
@@ -30,6 +31,12 @@ is_placeholder _ = false
 abbrev pub is_incomplete : Res → Bool
 is_incomplete Incomplete = true
 is_incomplete _ = false
+
+-- it has a value, and that holds memory
+abbrev pub ValueHoldsMemory : Res → Type 0
+ValueHoldsMemory (Complete v) = HoldsMemory v
+ValueHoldsMemory (Placeholder v) = HoldsMemory v
+ValueHoldsMemory _ = ⊥
 
 abbrev pub truth : Value → Bool
 truth (Boolean b) = b

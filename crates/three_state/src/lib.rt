@@ -6,8 +6,6 @@ mod junction;
 pub mod laws;
 mod res;
 mod strict;
-#[cfg(test)]
-mod tests;
 
 pub use all_any::{AllFold, AnyFold};
 pub use res::{Res, down, truth};

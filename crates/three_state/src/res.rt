@@ -1,6 +1,6 @@
-ghost use Rattle.std.specs.Prelude.{◌≡◌, ◌↔◌, IsTrue, IfOk};
+ghost use Rattle.std.specs.Prelude.{◌≡◌, ◌↔◌, IsTrue, IfOk, IsErr};
 ghost use Rattle.three_state.specs.Equality.{res_same};
-ghost use Rattle.three_state.specs.Results.{down as weakened, truth as truth_of};
+ghost use Rattle.three_state.specs.Results.{ValueHoldsMemory, down as weakened, truth as truth_of};
 
 use fact_values::{NoMemory, Value, ValueFault, same};
 use std::alloc::Global;
@@ -18,9 +18,10 @@ pub enum Res {
 }
 
 impl Res {
-    /// An equal result.
+    /// An equal result. It wants memory for a text or a list of members alone.
     pub fn copy(&self, alloc: Global) -> Result<Res, NoMemory>
-        ensures { IfOk result (λ r. r ≡ self.now) }
+        ensures value { IfOk result (λ r. r ≡ self.now) }
+        ensures memory { IsErr result → ValueHoldsMemory self.now }
     {
         Ok(match self {
             Res::Complete(v) => Res::Complete(v.copy(alloc)?),

@@ -2,9 +2,9 @@
 use Rattle.std.proofs.Common.{◌≡◌, ◌≢◌, ℕ, zero, suc, ◌+◌, Bool, true, false, not, cond, ltb, List, [], ◌∷◌, length, slice_get, bytes_eq, Option, Some, None, option_map, if◌then◌else◌, refl, sym, ap, ◌∙◌, arith}
 use Rattle.std.specs.List.{prefix_len}
 use Rattle.std.proofs.lemmas.Bool.{and_parts, not-true, or_parts, false≢true}
-use Rattle.std.proofs.lemmas.Slice.Eq.{bytes_eq-Decides}
+use Rattle.common_lemmas.proofs.Bytes.{same_bytes, equal_bytes}
+use Rattle.common_lemmas.proofs.Options.{mapped}
 use Rattle.value_text.specs.Enums.{is_among, are_distinct, place_in}
-use Rattle.value_text.proofs.SpellingLaws.{mapped}
 
 placed : (b : Bool) (p : ℕ) → cond b (Some (1 + p)) None ≡ option_map (λ (n : ℕ). suc n) (cond b (Some p) None)
 placed true p = ap Some (omega arith)
@@ -23,12 +23,6 @@ first_or_rest false p n = rw (past_first p n) (placed (ltb p n) p)
 
 place_step : (text first : List ℕ) (rest : List (List ℕ)) → place_in text (first ∷ rest) ≡ (if bytes_eq text first then Some 0 else option_map (λ (k : ℕ). suc k) (place_in text rest))
 place_step text first rest = first_or_rest (bytes_eq text first) (prefix_len (λ t. not (bytes_eq text t)) rest) (length rest)
-
-same_bytes : (a b : List ℕ) → bytes_eq a b ≡ true → a ≡ b
-same_bytes a b h = grind (arith, bytes_eq-Decides)
-
-equal_bytes : (a : List ℕ) → bytes_eq a a ≡ true
-equal_bytes a = grind (arith, bytes_eq-Decides)
 
 -- the text stands at its place
 found_by : (b : Bool) (text first : List ℕ) (rest : List (List ℕ)) (place : ℕ) → bytes_eq text first ≡ b

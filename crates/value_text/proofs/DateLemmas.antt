@@ -1,8 +1,9 @@
 -- Dates, their numbers, and the date of each day.
-use Rattle.std.proofs.Common.{◌≡◌, ◌↔◌, ◌⊎◌, inl, inr, ℕ, zero, suc, ◌+◌, ◌-◌, ◌<◌, ◌≤◌, ℤ, pos, ◌-ℤ◌, ◌+ℤ◌, ◌≤ℤ◌, ◌<ℤ◌, int_lt, unsigned_abs, Bool, true, false, ◌&&◌, if◌then◌else◌, leb, List, take, slice_range, Option, Some, None, option_and_then, IsSome, IfSome, refl, sym, subst, ap, ◌∙◌, arith}
+use Rattle.std.proofs.Common.{◌≡◌, ◌↔◌, ◌⊎◌, inl, inr, ℕ, zero, suc, ◌+◌, ◌<◌, ◌≤◌, ℤ, pos, ◌-ℤ◌, ◌+ℤ◌, ◌≤ℤ◌, ◌<ℤ◌, int_lt, unsigned_abs, Bool, true, false, ◌&&◌, if◌then◌else◌, leb, List, take, slice_range, Option, Some, None, option_and_then, IsSome, IfSome, refl, sym, subst, ap, ◌∙◌, arith}
 use Rattle.std.proofs.lemmas.Bool.{and_parts, and_from, leb-true, leb-false, le-leb}
 use Rattle.std.proofs.lemmas.Int.{ints}
-use Rattle.jiff_core.specs.Calendar.{IsDate, day_count, days_from_civil, days_in_month}
+use Rattle.common_lemmas.proofs.Numbers.{not_below}
+use Rattle.jiff_core.specs.Calendar.{day_count, days_from_civil, days_in_month}
 use Rattle.jiff_core.specs.March.{march_days, march_months}
 use Rattle.jiff_core.proofs.CalendarLemmas.{day_count-epoch, days_from_civil-day_count, day_count-next_month, day_count-day_of_year, days_of_months_all, day_count-next_year, day_count-day}
 use Rattle.jiff_core.proofs.MarchLemmas.{day_count-early, day_count-late}
@@ -103,9 +104,6 @@ record IsLastBegun (start : ℕ → ℤ) (k : ℕ) (n : ℤ) (j : ℕ) : Type 0 
   begun : start j ≤ℤ n
   next : (j ≡ k) ⊎ ((j < k) × (n <ℤ start (suc j)))
 
-begun_unless : (a n : ℤ) → int_lt n a ≡ false → a ≤ℤ n
-begun_unless a n h = grind (arith, ints)
-
 later_if : (a n : ℤ) → int_lt n a ≡ true → n <ℤ a
 later_if a n h = grind (arith, ints)
 
@@ -118,7 +116,7 @@ one_more start k n true j e h = record {
     | inr less ↦ inr (omega (arith, less.0), less.1)
   ];
 }
-one_more start k n false j e h = record { within = omega arith; begun = begun_unless (start (suc k)) n e; next = inl refl }
+one_more start k n false j e h = record { within = omega arith; begun = not_below (start (suc k)) n e; next = inl refl }
 
 last_begun-is : (start : ℕ → ℤ) (k : ℕ) (n : ℤ) → start 0 ≤ℤ n → IsLastBegun start k n (last_begun start k n)
 last_begun-is start zero n low = record { within = omega arith; begun = low; next = inl refl }

@@ -1,15 +1,16 @@
 -- What a text of a day spells is what reading it gives.
-use Rattle.std.proofs.Common.{◌≡◌, inl, inr, ℕ, ◌+◌, Bool, true, false, ◌&&◌, List, [], ◌∷◌, ◌++◌, length, get_or, eqb, Option, Some, None, option_and_then, if◌then◌else◌, refl, sym, ap, ◌∙◌, subst, arith}
+use Rattle.std.proofs.Common.{◌≡◌, inl, inr, ℕ, Bool, true, false, ◌&&◌, List, [], ◌∷◌, ◌++◌, length, get_or, eqb, Option, Some, None, option_and_then, if◌then◌else◌, refl, sym, ap, ◌∙◌, subst, arith}
 use Rattle.std.specs.Prelude.{ℤ, pos}
 use Rattle.std.specs.Str.Parse.{digits_value}
 use Rattle.std.proofs.lemmas.Bool.{and_parts, eqb-true}
 use Rattle.jiff_core.proofs.SignedLemmas.{signed_arith}
+use Rattle.common_lemmas.proofs.Options.{both_some}
 use Rattle.fact_values.specs.Days.{IsDateInRange, IsDateOf, number_of}
 use Rattle.value_text.specs.Digits.{AreDigits, number_at}
 use Rattle.value_text.specs.Dates.{SpellsDay, is_date, date_number, day_of_date, is_date_text, date_in, day_at}
 use Rattle.value_text.proofs.DateLemmas.{date_number-number_of, is_date-IsDateInRange}
 use Rattle.value_text.proofs.DigitLemmas.{number_is, number_of as number_of_digits}
-use Rattle.value_text.proofs.SpellingLaws.{chosen, joined}
+use Rattle.value_text.proofs.SpellingLaws.{chosen}
 
 -- ---- dates
 
@@ -42,28 +43,20 @@ made year month day = option_and_then (λ y. option_and_then (λ m. option_and_t
 
 -- ten bytes in two, four and ten
 two_of_list : (xs : List ℕ) → length xs ≡ 2 → (a : ℕ) × (b : ℕ) × (xs ≡ a ∷ b ∷ [])
-two_of_list [] e = absurd (omega arith)
-two_of_list (a ∷ []) e = absurd (omega arith)
 two_of_list (a ∷ b ∷ []) e = (a, b, refl)
-two_of_list (a ∷ b ∷ c ∷ rest) e = absurd (omega arith)
+two_of_list xs e = absurd (omega arith)
 
 four_of_list : (xs : List ℕ) → length xs ≡ 4 → (a : ℕ) × (b : ℕ) × (c : ℕ) × (d : ℕ) × (xs ≡ a ∷ b ∷ c ∷ d ∷ [])
-four_of_list [] e = absurd (omega arith)
-four_of_list (a ∷ []) e = absurd (omega arith)
 four_of_list (a ∷ b ∷ xs) e =
     let rest = two_of_list xs (omega arith) in
     (a, b, rest.0, rest.1, ap (λ (l : List ℕ). a ∷ b ∷ l) rest.2)
+four_of_list xs e = absurd (omega arith)
 
 ten_of_list : (xs : List ℕ) → length xs ≡ 10 → (a : ℕ) × (b : ℕ) × (c : ℕ) × (d : ℕ) × (s : ℕ) × (e : ℕ) × (f : ℕ) × (t : ℕ) × (g : ℕ) × (h : ℕ) × (xs ≡ ten a b c d s e f t g h)
-ten_of_list [] e = absurd (omega arith)
-ten_of_list (a ∷ []) e = absurd (omega arith)
-ten_of_list (a ∷ b ∷ []) e = absurd (omega arith)
-ten_of_list (a ∷ b ∷ c ∷ []) e = absurd (omega arith)
-ten_of_list (a ∷ b ∷ c ∷ d ∷ []) e = absurd (omega arith)
-ten_of_list (a ∷ b ∷ c ∷ d ∷ s ∷ []) e = absurd (omega arith)
 ten_of_list (a ∷ b ∷ c ∷ d ∷ s ∷ x ∷ xs) e =
     let more = four_of_list xs (omega arith) in
     (a, b, c, d, s, x, more.0, more.1, more.2, more.3, ap (λ (l : List ℕ). a ∷ b ∷ c ∷ d ∷ s ∷ x ∷ l) more.4)
+ten_of_list xs e = absurd (omega arith)
 
 -- ---- reading
 
@@ -95,9 +88,9 @@ day_found text n h =
 -- what ten bytes give is spelled
 again_ten : (n : ℤ) (year month day : List ℕ) → made (number_at 4 4 year) (number_at 2 2 month) (number_at 2 2 day) ≡ Some n → SpellsDay (year ++ 45 ∷ (month ++ 45 ∷ day)) n
 again_ten n year month day e =
-    let jy = joined (λ (y : ℕ). option_and_then (λ m. option_and_then (λ d. day_of_date y m d) (number_at 2 2 day)) (number_at 2 2 month)) (number_at 4 4 year) n e in
-    let jm = joined (λ (m : ℕ). option_and_then (λ d. day_of_date jy.0 m d) (number_at 2 2 day)) (number_at 2 2 month) n jy.2 in
-    let jd = joined (λ (d : ℕ). day_of_date jy.0 jm.0 d) (number_at 2 2 day) n jm.2 in
+    let jy = both_some (λ (y : ℕ). option_and_then (λ m. option_and_then (λ d. day_of_date y m d) (number_at 2 2 day)) (number_at 2 2 month)) (number_at 4 4 year) n e in
+    let jm = both_some (λ (m : ℕ). option_and_then (λ d. day_of_date jy.0 m d) (number_at 2 2 day)) (number_at 2 2 month) n jy.2 in
+    let jd = both_some (λ (d : ℕ). day_of_date jy.0 jm.0 d) (number_at 2 2 day) n jm.2 in
     let y = number_is 4 4 year jy.0 jy.1 in
     let m = number_is 2 2 month jm.0 jm.1 in
     let d = number_is 2 2 day jd.0 jd.1 in

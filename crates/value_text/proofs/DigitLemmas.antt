@@ -1,7 +1,8 @@
 -- Numbers and their digits.
-use Rattle.std.proofs.Common.{◌≡◌, ℕ, ◌^◌, ◌<◌, ◌≤◌, Bool, true, false, ◌&&◌, List, length, Option, Some, None, if◌then◌else◌, arith, refl, leb}
+use Rattle.std.proofs.Common.{◌≡◌, ℕ, ◌^◌, ◌<◌, ◌≤◌, true, ◌&&◌, List, length, Option, Some, None, if◌then◌else◌, arith, refl, sym, leb}
 use Rattle.std.proofs.Math.Nat.{pow-le-pow_right}
-use Rattle.std.proofs.lemmas.Bool.{leb-true, le-leb}
+use Rattle.std.proofs.lemmas.Bool.{and_parts, leb-true, le-leb}
+use Rattle.std.proofs.lemmas.Option.{cond_some}
 use Rattle.std.proofs.lemmas.Str.Parse.{IsNumeralModel, numerals_by_value, tells_all_ascii_digits}
 use Rattle.std.specs.Str.{all_ascii_digits}
 use Rattle.std.specs.Str.Parse.{digits_value, digits_value_after}
@@ -29,16 +30,6 @@ small_within (Some n) text most small few = let bound : 10 ^ length text ≤ 10 
 
 -- ---- whole numbers
 
--- both of two tests
-both : (a b : Bool) → (a && b) ≡ true → (a ≡ true) × (b ≡ true)
-both true b h = (refl, h)
-both false b h = absurd cc
-
--- a number that is there only where a test holds
-some_if : (b : Bool) (m n : ℕ) → (if b then Some m else None) ≡ Some n → (b ≡ true) × (n ≡ m)
-some_if true m n e = (refl, cc)
-some_if false m n e = absurd cc
-
 -- digits write their number
 pub number_of : (least most : ℕ) (text : List ℕ) → AreDigits least most text → number_at least most text ≡ Some (digits_value 10 text)
 number_of least most text digits =
@@ -49,7 +40,7 @@ number_of least most text digits =
 -- and a number is written by digits alone
 pub number_is : (least most : ℕ) (text : List ℕ) (n : ℕ) → number_at least most text ≡ Some n → AreDigits least most text × (n ≡ digits_value 10 text)
 number_is least most text n e =
-    let tested = some_if (are_digits least most text) (digits_value 10 text) n e in
-    let parts = both (leb least (length text) && leb (length text) most) (all_ascii_digits text) tested.0 in
-    let bounds = both (leb least (length text)) (leb (length text) most) parts.0 in
-    ((leb-true least (length text) bounds.0, leb-true (length text) most bounds.1, parts.1), tested.1)
+    let tested = cond_some (are_digits least most text) (digits_value 10 text) n e in
+    let parts = and_parts (leb least (length text) && leb (length text) most) (all_ascii_digits text) tested.0 in
+    let bounds = and_parts (leb least (length text)) (leb (length text) most) parts.0 in
+    ((leb-true least (length text) bounds.0, leb-true (length text) most bounds.1, parts.1), sym tested.1)

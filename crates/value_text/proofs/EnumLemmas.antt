@@ -5,8 +5,9 @@ use Rattle.std.specs.Map.{keys_of, lookup}
 use Rattle.std.proofs.lemmas.Bool.{and_parts, and_from, or_parts, leb-true, ltb-true, lt-ltb, not-true}
 use Rattle.std.proofs.lemmas.List.{map-append}
 use Rattle.std.proofs.lemmas.List.Folds.{list_any-append, list_all-append}
-use Rattle.std.proofs.lemmas.Slice.Eq.{bytes_eq-Decides}
 use Rattle.std.specs.Char.{is_ascii_alphabetic}
+use Rattle.std.specs.Str.{is_utf8}
+use Rattle.common_lemmas.proofs.Bytes.{other_bytes}
 use Rattle.fact_paths.specs.Names.{is_name, is_name_byte, IsName}
 use Rattle.fact_values.specs.Texts.{IsPlainText, has_control}
 use Rattle.indexmap.specs.IndexMap.{insert_entry}
@@ -54,15 +55,12 @@ lists_of-last key name options es later e h inserted =
 
 -- ---- one list more
 
-bytes_eq-sym : (a b : List ℕ) → bytes_eq a b ≡ false → bytes_eq b a ≡ false
-bytes_eq-sym a b h = grind (arith, bytes_eq-Decides)
-
 distinct-last : (texts : List (List ℕ)) (text : List ℕ) → are_distinct texts ≡ true → is_among text texts ≡ false → are_distinct (texts ++ text ∷ []) ≡ true
 distinct-last [] text d h = refl
 distinct-last (t ∷ rest) text d h =
     let parts = and_parts (not (is_among t rest)) (are_distinct rest) d in
     let apart = or_parts (bytes_eq text t) (is_among text rest) h in
-    let none : is_among t (rest ++ text ∷ []) ≡ false = list_any-append (bytes_eq t) rest (text ∷ []) ∙ rw (not-true (is_among t rest) parts.0, bytes_eq-sym text t apart.0) refl in
+    let none : is_among t (rest ++ text ∷ []) ≡ false = list_any-append (bytes_eq t) rest (text ∷ []) ∙ rw (not-true (is_among t rest) parts.0, other_bytes text t apart.0) refl in
     and_from (not (is_among t (rest ++ text ∷ []))) (are_distinct (rest ++ text ∷ [])) (rw none refl) (distinct-last rest text parts.1 apart.1)
 
 -- a name for the list and one or more distinct names for its options, which are new
@@ -118,5 +116,5 @@ name_short (b ∷ bs) h =
 -- a text at most 1,000
 pub text_short : (text : List ℕ) → IsPlainText text → length text ≤ 1000
 text_short text h =
-    let parts = and_parts (leb (length text) 1000) (not (has_control text)) h in
+    let parts = and_parts (leb (length text) 1000) (is_utf8 text && not (has_control text)) h in
     leb-true (length text) 1000 parts.0

@@ -3,7 +3,6 @@ pub mod DateLemmas
 pub mod DateTextLaws
 pub mod Decimals
 pub mod DigitLemmas
-pub mod DollarExamples
 pub mod EnumLemmas
 pub mod PrintedLaws
 pub mod PrintedTexts

@@ -1,7 +1,8 @@
 -- Of every type: what a text spells is what reading it gives.
-use Rattle.std.proofs.Common.{◌≡◌, ◌≢◌, inl, inr, ℕ, Bool, true, false, List, codes, bytes_eq, slice_get, Option, Some, None, option_map, option_and_then, Result, Ok, Err, if◌then◌else◌, refl, sym, ap, ◌∙◌, subst, arith}
+use Rattle.std.proofs.Common.{◌≡◌, ◌≢◌, inl, inr, ℕ, Bool, true, false, List, codes, bytes_eq, slice_get, Option, Some, None, option_map, option_and_then, Result, Ok, Err, if◌then◌else◌, refl, sym, ap, ◌∙◌, subst}
 use Rattle.std.specs.Prelude.{ℤ}
-use Rattle.std.proofs.lemmas.Slice.Eq.{bytes_eq-Decides}
+use Rattle.common_lemmas.proofs.Bytes.{same_bytes}
+use Rattle.common_lemmas.proofs.Options.{both_some, mapped}
 use Rattle.fact_values.specs.Texts.{IsPlainText, is_plain_text}
 use Rattle.fact_values.specs.declared.fact_type.FactType.{FactType}
 use Rattle.fact_values.specs.declared.fact_type.FactType.TheVariants as types
@@ -17,7 +18,7 @@ use Rattle.value_text.specs.declared.value.TextFault.{TextFault}
 use Rattle.value_text.specs.declared.value.TextFault.TheVariants.{BadValue, NoMemory}
 use Rattle.value_text.proofs.ChoiceLaws.{place_some, place_none, place_found}
 use Rattle.value_text.proofs.DateTextLaws.{day_found, day_again}
-use Rattle.value_text.proofs.SpellingLaws.{chosen, mapped, joined, dollar_found, dollar_again}
+use Rattle.value_text.proofs.SpellingLaws.{chosen, dollar_found, dollar_again}
 use Rattle.value_text.proofs.WholeLaws.{whole_found, whole_again, rational_found, rational_again}
 
 -- ---- truth values
@@ -25,9 +26,6 @@ use Rattle.value_text.proofs.WholeLaws.{whole_found, whole_again, rational_found
 pub boolean_found : (text : List ℕ) (b : Bool) → text ≡ printed_boolean b → boolean_at text ≡ Some b
 boolean_found text true h = ap boolean_at h
 boolean_found text false h = ap boolean_at h
-
-same_bytes : (a b : List ℕ) → bytes_eq a b ≡ true → a ≡ b
-same_bytes a b h = grind (arith, bytes_eq-Decides)
 
 boolean_by : (t f : Bool) (text : List ℕ) (b : Bool) → bytes_eq text (codes "true") ≡ t → bytes_eq text (codes "false") ≡ f
     → (if t then Some true else if f then Some false else None) ≡ Some b → text ≡ printed_boolean b
@@ -56,7 +54,7 @@ text_again text kept e =
 
 choice_again : (lists : List Listed) (list place : ℕ) (text : List ℕ) → option_place_in lists list text ≡ Some place → option_at lists list place ≡ Some text
 choice_again lists list place text e =
-    let j = joined (λ (options : List (List ℕ)). place_in text options) (options_at lists list) place e in
+    let j = both_some (λ (options : List (List ℕ)). place_in text options) (options_at lists list) place e in
     ap (option_and_then (λ (options : List (List ℕ)). slice_get options place)) j.1 ∙ place_some text j.0 place j.2
 
 choice_none : (o : Option (List (List ℕ))) (place : ℕ) (text : List ℕ) → option_and_then (λ (options : List (List ℕ)). place_in text options) o ≡ None → option_and_then (λ (options : List (List ℕ)). slice_get options place) o ≢ Some text
@@ -66,36 +64,24 @@ choice_none (Some options) place text none at = place_none text options place no
 -- where no option of the list stands twice
 pub choice_found : (lists : List Listed) (list place : ℕ) (text : List ℕ) → ((options : List (List ℕ)) → options_at lists list ≡ Some options → are_distinct options ≡ true) → option_at lists list place ≡ Some text → option_place_in lists list text ≡ Some place
 choice_found lists list place text apart e =
-    let j = joined (λ (options : List (List ℕ)). slice_get options place) (options_at lists list) text e in
+    let j = both_some (λ (options : List (List ℕ)). slice_get options place) (options_at lists list) text e in
     ap (option_and_then (λ (options : List (List ℕ)). place_in text options)) j.1 ∙ place_found text j.0 place (apart j.0 j.1) j.2
 
 -- ---- values
 
 -- what reading gives is spelled
+again : {A : Type 0} (make : A → Value) (o : Option A) (lists : List Listed) (want : FactType) (text : List ℕ) (value : Value) → ((x : A) → o ≡ Some x → SpellsValue lists want text (make x)) → option_map make o ≡ Some value → SpellsValue lists want text value
+again make o lists want text value spelled e = let m = mapped make o value e in subst (SpellsValue lists want text) (sym m.2) (spelled m.0 m.1)
+
 pub value_again : (lists : List Listed) (want : FactType) (text : List ℕ) (value : Value) → value_at lists want text ≡ Some value → SpellsValue lists want text value
-value_again lists types.Boolean text value e =
-    let m = mapped (λ (b : Bool). values.Boolean b) (boolean_at text) value e in
-    subst (SpellsValue lists types.Boolean text) (sym m.2) (boolean_again text m.0 m.1)
-value_again lists types.Int text value e =
-    let m = mapped (λ (n : ℤ). values.Int n) (whole_at text) value e in
-    subst (SpellsValue lists types.Int text) (sym m.2) (whole_again text m.0 m.1)
-value_again lists types.Dollar text value e =
-    let m = mapped (λ (n : ℤ). values.Dollar n) (dollar_at text) value e in
-    subst (SpellsValue lists types.Dollar text) (sym m.2) (dollar_again text m.0 m.1)
-value_again lists types.Rational text value e =
-    let m = mapped (λ q. values.Rational q) (rational_at text) value e in
-    subst (SpellsValue lists types.Rational text) (sym m.2) (rational_again text m.0 m.1)
-value_again lists types.Day text value e =
-    let m = mapped (λ (n : ℤ). values.Day n) (day_at text) value e in
-    subst (SpellsValue lists types.Day text) (sym m.2) (day_again text m.0 m.1)
-value_again lists types.Text text value e =
-    let m = mapped (λ (kept : List ℕ). values.Text kept) (text_at text) value e in
-    subst (SpellsValue lists types.Text text) (sym m.2) (text_again text m.0 m.1)
-value_again lists (types.Enum list) text value e =
-    let m = mapped (λ (place : ℕ). values.Choice list place) (option_place_in lists list text) value e in
-    subst (SpellsValue lists (types.Enum list) text) (sym m.2) (refl, choice_again lists list m.0 text m.1)
-value_again lists (types.Collection base) text value e = absurd cc
-value_again lists (types.Item base) text value e = absurd cc
+value_again lists types.Boolean text value = again (λ (b : Bool). values.Boolean b) (boolean_at text) lists types.Boolean text value (boolean_again text)
+value_again lists types.Int text value = again (λ (n : ℤ). values.Int n) (whole_at text) lists types.Int text value (whole_again text)
+value_again lists types.Dollar text value = again (λ (n : ℤ). values.Dollar n) (dollar_at text) lists types.Dollar text value (dollar_again text)
+value_again lists types.Rational text value = again (λ q. values.Rational q) (rational_at text) lists types.Rational text value (rational_again text)
+value_again lists types.Day text value = again (λ (n : ℤ). values.Day n) (day_at text) lists types.Day text value (day_again text)
+value_again lists types.Text text value = again (λ (kept : List ℕ). values.Text kept) (text_at text) lists types.Text text value (text_again text)
+value_again lists (types.Enum list) text value = again (λ (place : ℕ). values.Choice list place) (option_place_in lists list text) lists (types.Enum list) text value (λ place e. (refl, choice_again lists list place text e))
+value_again lists want text value = λ e. absurd cc
 
 -- where reading gives nothing no value is spelled
 missing : {A B : Type 0} (f : A → B) (o : Option A) (x : A) → option_map f o ≡ None → o ≡ Some x → ⊥

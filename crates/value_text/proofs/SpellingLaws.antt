@@ -4,9 +4,10 @@ use Rattle.std.proofs.Math.Seq.{take-append_seam, get_or-append_seam, drop-appen
 use Rattle.std.proofs.Math.ListN.{get_or-append}
 use Rattle.std.proofs.lemmas.List.{take-append-drop}
 use Rattle.std.specs.Prelude.{ℤ, pos, neg_ℤ, MatchOption}
-use Rattle.std.specs.Option.{option_map, option_and_then}
+use Rattle.std.specs.Option.{option_map}
 use Rattle.std.specs.Str.Parse.{digits_value}
 use Rattle.std.proofs.lemmas.Str.Parse.{not_in_digits}
+use Rattle.common_lemmas.proofs.Options.{both_some, mapped}
 use Rattle.value_text.specs.Digits.{AreDigits, number_at}
 use Rattle.value_text.specs.Dollars.{minus, point, SpellsSize, SpellsDollar, size_around, size_at, dollar_at}
 use Rattle.value_text.proofs.DigitLemmas.{own, number_is, number_of}
@@ -17,16 +18,6 @@ use Rattle.value_text.proofs.DigitLemmas.{own, number_is, number_of}
 pub chosen : {A : Type 0} (b : Bool) (x y : Option A) (z : A) → (if b then x else y) ≡ Some z → ((b ≡ true) × (x ≡ Some z)) ⊎ ((b ≡ false) × (y ≡ Some z))
 chosen true x y z e = inl (refl, e)
 chosen false x y z e = inr (refl, e)
-
--- what a map was applied to
-pub mapped : {A B : Type 0} (f : A → B) (o : Option A) (z : B) → option_map f o ≡ Some z → (x : A) × (o ≡ Some x) × (z ≡ f x)
-mapped f None z e = absurd cc
-mapped f (Some x) z e = (x, refl, cc)
-
--- the first of two steps that both gave something
-pub joined : {A B : Type 0} (f : A → Option B) (o : Option A) (z : B) → option_and_then f o ≡ Some z → (x : A) × (o ≡ Some x) × (f x ≡ Some z)
-joined f None z e = absurd cc
-joined f (Some x) z e = (x, refl, e)
 
 -- ---- texts without a sign
 
@@ -63,7 +54,7 @@ whole_again text size e =
 cut_again : (text : List ℕ) (size : ℕ) → get_or text (length text - 3) 0 ≡ point → size_around (length text - 3) text ≡ Some size → SpellsSize text size
 cut_again text size at_cut e =
     let cut : ℕ = length text - 3 in
-    let j = joined (λ (dollars : ℕ). option_map (λ cents. 100 * dollars + cents) (number_at 2 2 (drop (cut + 1) text))) (number_at 1 13 (take cut text)) size e in
+    let j = both_some (λ (dollars : ℕ). option_map (λ cents. 100 * dollars + cents) (number_at 2 2 (drop (cut + 1) text))) (number_at 1 13 (take cut text)) size e in
     let m = mapped (λ (cents : ℕ). 100 * j.0 + cents) (number_at 2 2 (drop (cut + 1) text)) size j.2 in
     let d = number_is 1 13 (take cut text) j.0 j.1 in
     let c = number_is 2 2 (drop (cut + 1) text) m.0 m.1 in

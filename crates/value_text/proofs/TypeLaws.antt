@@ -1,10 +1,12 @@
 -- What a text spells is a value of the type, and it is one.
 use Rattle.std.proofs.Common.{◌≡◌, inl, inr, ℕ, zero, suc, ◌^◌, ◌<◌, Bool, true, ◌&&◌, leb, ltb, List, [], ◌∷◌, length, Option, Some, option_map, IsSome, refl, sym, ap, ◌∙◌, subst, arith}
-use Rattle.std.specs.Prelude.{ℤ, pos, neg_ℤ, unsigned_abs, ◌↔◌}
+use Rattle.std.specs.Prelude.{ℤ, unsigned_abs, ◌↔◌}
 use Rattle.std.specs.List.{list_all}
 use Rattle.std.specs.Str.Parse.{digits_value}
 use Rattle.std.proofs.lemmas.Bool.{and_parts, leb-true, lt-ltb}
 use Rattle.std.proofs.lemmas.Str.Parse.{digits_value_short}
+use Rattle.common_lemmas.proofs.Numbers.{size_of_neg}
+use Rattle.common_lemmas.proofs.Options.{mapped}
 use Rattle.fact_paths.specs.Names.{is_name}
 use Rattle.fact_values.specs.Days.{IsDay}
 use Rattle.fact_values.specs.Range.{IsInRange}
@@ -28,14 +30,10 @@ use Rattle.value_text.proofs.DateTextLaws.{day_found}
 use Rattle.value_text.proofs.DigitLemmas.{own}
 use Rattle.value_text.proofs.PrintedTexts.{value_spelled}
 use Rattle.value_text.proofs.ReadingLaws.{boolean_found, text_found, choice_found, value_again}
-use Rattle.value_text.proofs.SpellingLaws.{dollar_found, mapped}
+use Rattle.value_text.proofs.SpellingLaws.{dollar_found}
 use Rattle.value_text.proofs.WholeLaws.{whole_found, rational_found}
 
 -- ---- values of the type
-
-size_of_neg : (n : ℕ) → unsigned_abs (neg_ℤ (pos n)) ≡ n
-size_of_neg zero = refl
-size_of_neg (suc n) = refl
 
 short : (least most : ℕ) (text : List ℕ) → AreDigits least most text → digits_value 10 text < 10 ^ most
 short least most text digits = digits_value_short own text most digits.2 digits.1

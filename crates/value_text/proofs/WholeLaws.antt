@@ -3,6 +3,7 @@ use Rattle.std.proofs.Common.{◌≡◌, inl, inr, ℕ, zero, suc, ◌<◌, Bool
 use Rattle.std.specs.Prelude.{ℤ, pos, neg_ℤ}
 use Rattle.std.specs.Option.{option_and_then}
 use Rattle.std.proofs.lemmas.Str.Parse.{not_in_digits}
+use Rattle.common_lemmas.proofs.Options.{both_some, mapped}
 use Rattle.fact_paths.specs.Cuts.{Lacks, at_slash}
 use Rattle.fact_paths.proofs.CutLaws.{Lacks-at, cut-lacks, cut-append, cut_some}
 use Rattle.fact_values.specs.Rationals.{Ratio, lowest, is_small, checked_ratio}
@@ -11,7 +12,7 @@ use Rattle.value_text.specs.Digits.{AreDigits, number_at}
 use Rattle.value_text.specs.Fractions.{SpellsFraction, SpellsRational, fraction_from, kept, rational_at}
 use Rattle.value_text.specs.Wholes.{SpellsWhole, whole_at}
 use Rattle.value_text.proofs.DigitLemmas.{own, number_is, number_of}
-use Rattle.value_text.proofs.SpellingLaws.{chosen, mapped, joined, no_other, first_is}
+use Rattle.value_text.proofs.SpellingLaws.{chosen, no_other, first_is}
 
 -- ---- whole numbers
 
@@ -65,7 +66,7 @@ fraction_again text None num den at_cut e =
     let m = mapped {B = ℤ × ℕ} (λ (n : ℤ). (n, 1)) (whole_at text) (num, den) e in
     inl (subst (SpellsWhole text) (sym (ap (λ p. p.0) m.2)) (whole_again text m.0 m.1), ap (λ p. p.1) m.2)
 fraction_again text (Some parts) num den at_cut e =
-    let j = joined {B = ℤ × ℕ} (λ (n : ℤ). option_map (λ (d : ℕ). (n, d)) (number_at 1 15 parts.1)) (whole_at parts.0) (num, den) e in
+    let j = both_some {B = ℤ × ℕ} (λ (n : ℤ). option_map (λ (d : ℕ). (n, d)) (number_at 1 15 parts.1)) (whole_at parts.0) (num, den) e in
     let m = mapped {B = ℤ × ℕ} (λ (d : ℕ). (j.0, d)) (number_at 1 15 parts.1) (num, den) j.2 in
     let n = number_is 1 15 parts.1 m.0 m.1 in
     inr (parts.0, parts.1, cut_some 47 text parts.0 parts.1 at_cut, subst (SpellsWhole parts.0) (sym (ap (λ p. p.0) m.2)) (whole_again parts.0 j.0 j.1), n.0, ap (λ p. p.1) m.2 ∙ n.1)
@@ -95,6 +96,6 @@ rational_found text q h =
 -- nothing else is read
 pub rational_again : (text : List ℕ) (q : Ratio) → rational_at text ≡ Some q → SpellsRational text q
 rational_again text q e =
-    let j = joined {A = ℤ × ℕ} (λ terms. kept (checked_ratio terms.0 (pos terms.1))) (fraction_from text (at_slash text)) q e in
+    let j = both_some {A = ℤ × ℕ} (λ terms. kept (checked_ratio terms.0 (pos terms.1))) (fraction_from text (at_slash text)) q e in
     let k = kept_again j.0.0 j.0.1 q j.2 in
     (j.0.0, j.0.1, fraction_again text (at_slash text) j.0.0 j.0.1 refl j.1, k.0, k.1, k.2)

@@ -10,11 +10,7 @@ pub mod laws;
 mod line;
 mod members;
 mod rational;
-#[cfg(test)]
-mod tests;
 mod value;
-#[cfg(test)]
-mod value_tests;
 mod whole;
 
 pub use dollar::{print_dollar, read_dollar};

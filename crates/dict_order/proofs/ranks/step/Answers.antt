@@ -30,7 +30,7 @@ returns-then-passed-listed-clause-pass c =
 
 pub returns-then-passed-listed-clause-less : goal.returns-then-passed-listed-clause-less
 returns-then-passed-listed-clause-less c =
-    let same = unmet_set c.args.marks.now c.args.fact (Ranked c.rank_above.result) (last_is_met (graph_of c.args.graph.now) c.args.marks.now c.args.path.now.items c.args.fact c.requires.pass) refl in
+    let same = unmet_set c.args.marks.now c.args.fact (Ranked c.rank_above.result) (last_has_mark (graph_of c.args.graph.now) c.args.marks.now c.args.path.now.items c.args.fact c.requires.pass) (last_is_met (graph_of c.args.graph.now) c.args.marks.now c.args.path.now.items c.args.fact c.requires.pass) refl in
     omega (arith, same)
 
 pub slice_copy_out-is_new : goal.slice_copy_out-is_new

@@ -1,9 +1,9 @@
 use Rattle.std.proofs.Common.{arith, ◌≡◌, ◌+◌, ap, length, length-append, List, ℕ, Bool, false, replicate, subst, [], ◌∷◌}
-use Rattle.std.proofs.lemmas.List.{nil_from_length}
+use Rattle.std.proofs.lemmas.List.{length-replicate, nil_from_length}
 use Rattle.dict_order.specs.Graph.{graph_of, mentioned}
 use Rattle.dict_order.specs.Walking.{State, IsSeen}
 use Rattle.dict_order.proofs.MentionLaws.{length_graph}
-use Rattle.dict_order.proofs.WalkLaws.{Seen, Walk, blank, length_blank, seen_by, starts, goes_on, ends, next_is_fact}
+use Rattle.dict_order.proofs.WalkLaws.{Seen, Walk, blank, seen_by, starts, goes_on, ends, next_is_fact}
 use Rattle.dict_order.proofs.walk.reached.Goals as goal
 use Rattle.dict_order.proofs.walk.reached.Goals.{In_ok-see_all-2}
 
@@ -11,7 +11,7 @@ pub loop-next-init : goal.loop-next-init
 loop-next-init c =
     let graph = graph_of c.args.graph.now in
     let b : c.in_ok-seen.seen.items ≡ replicate (length c.args.graph.now + 1) false = c.in_ok-seen.ensures.items_if_clones_equal (λ y h. h) in
-    let ln : length c.in_ok-seen.seen.items ≡ length graph + 1 = omega (arith, ap length b, length_blank (length c.args.graph.now + 1), length_graph c.args.graph.now) in
+    let ln : length c.in_ok-seen.seen.items ≡ length graph + 1 = omega (arith, ap length b, length-replicate (length c.args.graph.now + 1) false, length_graph c.args.graph.now) in
     let before : State = (c.in_ok-seen.seen.items, c.new-todo.result.items) in
     let after : State = (c.see_all.new.seen.items, c.see_all.new.todo.items) in
     let m = seen_by graph c.args.from c.mentions.result.now before after c.requires.within c.mentions.ensures ln c.in_ok-see_all.ensures in

@@ -1,5 +1,6 @@
+use Rattle.dict_tree.proofs.FactJsonLaws.{fact_found}
 use Rattle.dict_tree.proofs.FactLaws.{fact_is_well_formed}
 use Rattle.dict_tree.proofs.laws.facts_are_well_formed.Goals as goal
 
 pub returns : goal.returns
-returns c = fact_is_well_formed
+returns c = λ later d f e. fact_is_well_formed later d f (fact_found later d f e)

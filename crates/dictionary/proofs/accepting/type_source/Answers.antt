@@ -1,11 +1,10 @@
 use Rattle.std.proofs.Common.{ℕ, List, map}
 use Rattle.dict_tree.specs.Dictionary.{dictionary_view}
-use Rattle.dict_types.proofs.DictLaws.{typed_is_well_typed}
 use Rattle.dictionary.proofs.FaultLaws.{refused_of_types}
 use Rattle.dictionary.proofs.accepting.type_source.Goals as goal
 
 pub returns-in-Ok-clause-typed : goal.returns-in-Ok-clause-typed
-returns-in-Ok-clause-typed g c = typed_is_well_typed (dictionary_view c.args.source.now) (map {B = List ℕ} (λ k. k.name) c.args.checks.now.checks.items) _ c.in-Ok.ensures.found
+returns-in-Ok-clause-typed g c = c.in-Ok.ensures.typed
 
 pub returns-in-Err-clause-refused : goal.returns-in-Err-clause-refused
-returns-in-Err-clause-refused g c = refused_of_types (dictionary_view c.args.source.now) (map {B = List ℕ} (λ k. k.name) c.args.checks.now.checks.items) _ _ c.fault_of_types.ensures c.in-Err.ensures.found
+returns-in-Err-clause-refused g c = refused_of_types (dictionary_view c.args.source.now) (map {B = List ℕ} (λ k. k.name) c.args.checks.now.checks.items) _ _ c.fault_of_types.ensures c.in-Err.ensures.refused

@@ -1,4 +1,4 @@
-use Rattle.answers.specs.Standing.{answered}
+use Rattle.answers.specs.Meaning.{answered}
 use Rattle.graph_session.specs.Naming.{fact_of}
 use Rattle.graph_session.specs.Refusals.{add_refusals, first_of}
 use Rattle.graph_session.specs.Rules.{rules, tree_of}

@@ -4,12 +4,12 @@ use Rattle.dict_types.specs.declared.limit.Limit.{Limit}
 use Rattle.dictionary.specs.Accepted.{accepted, names_of}
 use Rattle.graph_session.specs.Kinds.{limits_of}
 use Rattle.graph_session.proofs.LimitLaws.{limits_few}
-use Rattle.graph_session.proofs.TypeLaws.{limits_there}
+use Rattle.graph_session.proofs.TypeLaws.{kept_there}
 use Rattle.graph_session.proofs.judging.limits_of.Goals as goal
 
 pub limits-requires : goal.limits-requires
 limits-requires c =
-    rw c.typed.ensures (limits_there (names_of c.args.dict.now.checks) (accepted c.args.dict.now) c.source-accepted.ensures.is_accepted c.args.fact c.requires)
+    rw c.typed.ensures (kept_there (names_of c.args.dict.now.checks) (accepted c.args.dict.now) c.source-accepted.ensures.is_accepted c.args.fact c.requires).1
 
 pub returns : goal.returns
 returns c =

@@ -1,5 +1,5 @@
 use Rattle.std.proofs.Common.{ap, sym, ◌∙◌, not}
-use Rattle.answers.specs.Standing.{answered}
+use Rattle.answers.specs.Meaning.{answered}
 use Rattle.dictionary.specs.Slots.{is_member}
 use Rattle.graph_session.specs.Naming.{lacks_member, named_fact}
 use Rattle.graph_session.specs.Rules.{rules, tree_of}

@@ -1,5 +1,5 @@
 use Rattle.std.proofs.Common.{sym, ◌∙◌}
-use Rattle.answers.specs.Standing.{answered}
+use Rattle.answers.specs.Meaning.{answered}
 use Rattle.graph_session.specs.Rules.{rules}
 use Rattle.graph_session.proofs.StepLaws.{set_then}
 use Rattle.graph_session.proofs.permits.judge_set.Goals as goal

@@ -1,7 +1,7 @@
 use Rattle.std.proofs.Common.{sym, subst}
 use Rattle.std.specs.Prelude.{IfErr}
 use Rattle.dictionary.specs.Faults.{IsFault, Refuses}
-use Rattle.interview.proofs.TopLaws.{names_are}
+use Rattle.dictionary.proofs.KeptLaws.{names_are}
 use Rattle.interview.proofs.fetching.accept_named.Goals as goal
 
 pub returns-clause-refused : goal.returns-clause-refused

@@ -1,7 +1,7 @@
 use Rattle.std.proofs.Common.{ap}
 use Rattle.script_lines.specs.Lines.{whole}
 use Rattle.graph_session.specs.Rules.{rules}
-use Rattle.graph_session.specs.Shown.{course}
+use Rattle.graph_session.specs.SessionView.{course}
 use Rattle.interview.specs.Replies.{bad_line_text, step_heard}
 use Rattle.interview.proofs.HearingLaws.{answers_line, told_steps}
 use Rattle.interview.proofs.hearing.answer_line.Goals as goal

@@ -1,7 +1,7 @@
 use Rattle.std.proofs.Common.{ℕ, ◌<◌, length, drop, rules as the_rules, refl, ap, arith, ◌∙◌, length-drop}
 use Rattle.std.proofs.lemmas.List.{length-take}
 use Rattle.graph_session.specs.Rules.{rules}
-use Rattle.graph_session.specs.Shown.{course}
+use Rattle.graph_session.specs.SessionView.{course}
 use Rattle.interview.specs.Replies.{open_at}
 use Rattle.interview.proofs.HearingLaws.{hears_fed, behind_is}
 use Rattle.interview.proofs.hearing.hear.Goals as goal

@@ -1,7 +1,7 @@
 use Rattle.std.proofs.Common.{◌≡◌, ◌+◌, ◌≤◌, [], length}
 use Rattle.script_lines.specs.Lines.{HasNoNewline}
 use Rattle.graph_session.specs.Rules.{rules}
-use Rattle.graph_session.specs.Shown.{course}
+use Rattle.graph_session.specs.SessionView.{course}
 use Rattle.interview.specs.Replies.{open_at}
 use Rattle.interview.specs.Hearing.{Hears}
 use Rattle.interview.proofs.hearing.hear.Given as goal

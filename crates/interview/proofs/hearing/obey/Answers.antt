@@ -1,6 +1,6 @@
 use Rattle.std.proofs.Common.{sym, ap, ◌∙◌}
 use Rattle.graph_session.specs.Rules.{rules}
-use Rattle.graph_session.specs.Shown.{course}
+use Rattle.graph_session.specs.SessionView.{course}
 use Rattle.graph_session.proofs.RunLaws.{step_count}
 use Rattle.interview.proofs.HearingLaws.{refusal_steps, reply_steps}
 use Rattle.interview.proofs.hearing.obey.Goals as goal

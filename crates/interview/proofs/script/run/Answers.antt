@@ -24,9 +24,7 @@ returns-in-Ok-eq0 g c =
     let zero : c.in-Ok-eq0.field-0 ≡ 0 = omega arith in
     let room : 0 < length c.pull.new.buf = omega (arith, length-take {A = ℕ}) in
     let read = rw zero at c.in-Ok-eq0.ensures.bytes.0 in
-    record {
-      ends = ends_at (rules c.args.session.now.dict) (did_by _ _ _ _ (g.S.Source.faults c.args.script.now) (g.S.Source.faults c.pull.new.self) (g.K.Sink.faults c.args.out.now) (g.K.Sink.faults c.finish.new.out)) _ _ _ _ _ c.loop-taken.invariant.0 _ _ c.finish.result _ c.status_at_end.ensures (omega arith) read (c.in-Ok-eq0.ensures.bytes.1 zero room) c.loop-taken.invariant.2 c.finish.ensures.answered;
-    }
+    record { ends = ends_at (rules c.args.session.now.dict) (did_by _ _ _ _ (g.S.Source.faults c.args.script.now) (g.S.Source.faults c.pull.new.self) (g.K.Sink.faults c.args.out.now) (g.K.Sink.faults c.finish.new.out)) _ _ _ _ _ c.loop-taken.invariant.0 _ _ c.finish.result _ c.status_at_end.ensures (omega arith) read (c.in-Ok-eq0.ensures.bytes.1 zero room) c.loop-taken.invariant.2 c.finish.ensures.answered }
 
 pub loop-taken-preserved : goal.loop-taken-preserved
 loop-taken-preserved g c = (
@@ -37,40 +35,26 @@ loop-taken-preserved g c = (
 )
 
 pub returns-in-Over : goal.returns-in-Over
-returns-in-Over g c = record {
-  ends = ends_over (rules c.args.session.now.dict) (did_by _ _ _ _ (g.S.Source.faults c.args.script.now) (g.S.Source.faults c.pull.new.self) (g.K.Sink.faults c.args.out.now) (g.K.Sink.faults c.hear.new.out)) _ _ _ _ _ c.loop-taken.invariant.0 _ _ c.in-Ok.count c.in-Ok.ensures.bytes.0 c.in-Ok.ensures.bound.1 (take-append-le c.in-Ok.count c.pull.new.buf _ c.in-Ok.ensures.bound.0) (omega (arith, c.in-Ok.ensures.bound.0, length-take {A = ℕ})) c.in-Over.ensures.heard.0 c.in-Over.ensures.heard.1;
-}
+returns-in-Over g c = record { ends = ends_over (rules c.args.session.now.dict) (did_by _ _ _ _ (g.S.Source.faults c.args.script.now) (g.S.Source.faults c.pull.new.self) (g.K.Sink.faults c.args.out.now) (g.K.Sink.faults c.hear.new.out)) _ _ _ _ _ c.loop-taken.invariant.0 _ _ c.in-Ok.count c.in-Ok.ensures.bytes.0 c.in-Ok.ensures.bound.1 (take-append-le c.in-Ok.count c.pull.new.buf _ c.in-Ok.ensures.bound.0) (omega (arith, c.in-Ok.ensures.bound.0, length-take {A = ℕ})) c.in-Over.ensures.heard.0 c.in-Over.ensures.heard.1 }
 
 pub returns-in-Unwritten : goal.returns-in-Unwritten
-returns-in-Unwritten g c = record {
-  ends = ends_unwritten (rules c.args.session.now.dict) (did_by _ _ _ _ (g.S.Source.faults c.args.script.now) (g.S.Source.faults c.pull.new.self) (g.K.Sink.faults c.args.out.now) (g.K.Sink.faults c.hear.new.out)) _ _ _ _ _ c.loop-taken.invariant.0 _ _ c.in-Ok.count c.in-Ok.ensures.bytes.0 c.in-Ok.ensures.bound.1 (take-append-le c.in-Ok.count c.pull.new.buf _ c.in-Ok.ensures.bound.0) (omega (arith, c.in-Ok.ensures.bound.0, length-take {A = ℕ})) _ _ c.loop-taken.invariant.2 c.in-Unwritten.ensures.heard.0 c.in-Unwritten.ensures.heard.1.1;
-}
+returns-in-Unwritten g c = record { ends = ends_unwritten (rules c.args.session.now.dict) (did_by _ _ _ _ (g.S.Source.faults c.args.script.now) (g.S.Source.faults c.pull.new.self) (g.K.Sink.faults c.args.out.now) (g.K.Sink.faults c.hear.new.out)) _ _ _ _ _ c.loop-taken.invariant.0 _ _ c.in-Ok.count c.in-Ok.ensures.bytes.0 c.in-Ok.ensures.bound.1 (take-append-le c.in-Ok.count c.pull.new.buf _ c.in-Ok.ensures.bound.0) (omega (arith, c.in-Ok.ensures.bound.0, length-take {A = ℕ})) _ _ c.loop-taken.invariant.2 c.in-Unwritten.ensures.heard.0 c.in-Unwritten.ensures.heard.1.1 }
 
 pub returns-in-OutOfMemory : goal.returns-in-OutOfMemory
-returns-in-OutOfMemory g c = record {
-  ends = ends_out_of_memory (rules c.args.session.now.dict) (did_by _ _ _ _ (g.S.Source.faults c.args.script.now) (g.S.Source.faults c.pull.new.self) (g.K.Sink.faults c.args.out.now) (g.K.Sink.faults c.hear.new.out)) _ _ _ _ _ c.loop-taken.invariant.0 _ _ c.in-Ok.count c.in-Ok.ensures.bytes.0 c.in-Ok.ensures.bound.1 (take-append-le c.in-Ok.count c.pull.new.buf _ c.in-Ok.ensures.bound.0) (omega (arith, c.in-Ok.ensures.bound.0, length-take {A = ℕ})) c.in-OutOfMemory.ensures.heard;
-}
+returns-in-OutOfMemory g c = record { ends = ends_out_of_memory (rules c.args.session.now.dict) (did_by _ _ _ _ (g.S.Source.faults c.args.script.now) (g.S.Source.faults c.pull.new.self) (g.K.Sink.faults c.args.out.now) (g.K.Sink.faults c.hear.new.out)) _ _ _ _ _ c.loop-taken.invariant.0 _ _ c.in-Ok.count c.in-Ok.ensures.bytes.0 c.in-Ok.ensures.bound.1 (take-append-le c.in-Ok.count c.pull.new.buf _ c.in-Ok.ensures.bound.0) (omega (arith, c.in-Ok.ensures.bound.0, length-take {A = ℕ})) c.in-OutOfMemory.ensures.heard }
 
 pub returns-in-Err : goal.returns-in-Err
-returns-in-Err g c = record {
-  ends = ends_unread (rules c.args.session.now.dict) (did_by _ _ _ _ (g.S.Source.faults c.args.script.now) (g.S.Source.faults c.pull.new.self) (g.K.Sink.faults c.args.out.now) (g.K.Sink.faults c.loop-taken.out)) _ _ _ _ _ c.loop-taken.invariant.0 refl c.in-Err.ensures.bytes (omega (arith, c.loop-taken.invariant.3, c.in-Err.ensures.cause.failed));
-}
+returns-in-Err g c = record { ends = ends_unread (rules c.args.session.now.dict) (did_by _ _ _ _ (g.S.Source.faults c.args.script.now) (g.S.Source.faults c.pull.new.self) (g.K.Sink.faults c.args.out.now) (g.K.Sink.faults c.loop-taken.out)) _ _ _ _ _ c.loop-taken.invariant.0 refl c.in-Err.ensures.bytes (omega (arith, c.loop-taken.invariant.3, c.in-Err.ensures.cause.failed)) }
 
 pub returns-in-Ok-eq0-pull : goal.returns-in-Ok-eq0-pull
 returns-in-Ok-eq0-pull g c =
     let zero : c.in-Ok-eq0-pull.field-0 ≡ 0 = omega arith in
     let room : 0 < length c.pull-2.new.buf = omega (arith, length-take {A = ℕ}) in
     let read = rw zero at c.in-Ok-eq0-pull.ensures.bytes.0 in
-    record {
-      ends = ends_at (rules c.args.session.now.dict) (did_by _ _ _ _ (g.S.Source.faults c.args.script.now) (g.S.Source.faults c.pull-2.new.self) (g.K.Sink.faults c.args.out.now) (g.K.Sink.faults c.finish-in-Ok-eq0-pull.new.out)) _ _ _ _ _ c.loop-taken.invariant.0 _ _ c.finish-in-Ok-eq0-pull.result _ c.status_at_end-in-Ok-eq0-pull.ensures c.loop-taken.invariant.1 read (c.in-Ok-eq0-pull.ensures.bytes.1 zero room) c.loop-taken.invariant.2 c.finish-in-Ok-eq0-pull.ensures.answered;
-    }
+    record { ends = ends_at (rules c.args.session.now.dict) (did_by _ _ _ _ (g.S.Source.faults c.args.script.now) (g.S.Source.faults c.pull-2.new.self) (g.K.Sink.faults c.args.out.now) (g.K.Sink.faults c.finish-in-Ok-eq0-pull.new.out)) _ _ _ _ _ c.loop-taken.invariant.0 _ _ c.finish-in-Ok-eq0-pull.result _ c.status_at_end-in-Ok-eq0-pull.ensures c.loop-taken.invariant.1 read (c.in-Ok-eq0-pull.ensures.bytes.1 zero room) c.loop-taken.invariant.2 c.finish-in-Ok-eq0-pull.ensures.answered }
 
 pub returns-in-Ok-pull : goal.returns-in-Ok-pull
-returns-in-Ok-pull g c = record {
-  ends = ends_too_long (rules c.args.session.now.dict) (did_by _ _ _ _ (g.S.Source.faults c.args.script.now) (g.S.Source.faults c.pull-2.new.self) (g.K.Sink.faults c.args.out.now) (g.K.Sink.faults c.loop-taken.out)) _ _ _ _ _ c.loop-taken.invariant.0 _ refl c.in-Ok-pull.ensures.bytes.0 (omega arith) (omega (arith, c.in-Ok-pull.ensures.bound.1));
-}
+returns-in-Ok-pull g c = record { ends = ends_too_long (rules c.args.session.now.dict) (did_by _ _ _ _ (g.S.Source.faults c.args.script.now) (g.S.Source.faults c.pull-2.new.self) (g.K.Sink.faults c.args.out.now) (g.K.Sink.faults c.loop-taken.out)) _ _ _ _ _ c.loop-taken.invariant.0 _ refl c.in-Ok-pull.ensures.bytes.0 (omega arith) (omega (arith, c.in-Ok-pull.ensures.bound.1)) }
 
 pub returns-in-Err-pull : goal.returns-in-Err-pull
-returns-in-Err-pull g c = record {
-  ends = ends_unread (rules c.args.session.now.dict) (did_by _ _ _ _ (g.S.Source.faults c.args.script.now) (g.S.Source.faults c.pull-2.new.self) (g.K.Sink.faults c.args.out.now) (g.K.Sink.faults c.loop-taken.out)) _ _ _ _ _ c.loop-taken.invariant.0 refl c.in-Err-pull.ensures.bytes (omega (arith, c.loop-taken.invariant.3, c.in-Err-pull.ensures.cause.failed));
-}
+returns-in-Err-pull g c = record { ends = ends_unread (rules c.args.session.now.dict) (did_by _ _ _ _ (g.S.Source.faults c.args.script.now) (g.S.Source.faults c.pull-2.new.self) (g.K.Sink.faults c.args.out.now) (g.K.Sink.faults c.loop-taken.out)) _ _ _ _ _ c.loop-taken.invariant.0 refl c.in-Err-pull.ensures.bytes (omega (arith, c.loop-taken.invariant.3, c.in-Err-pull.ensures.cause.failed)) }

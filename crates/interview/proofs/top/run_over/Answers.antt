@@ -1,5 +1,5 @@
 use Rattle.std.proofs.Common.{refl, ap}
-use Rattle.graph_session.specs.Shown.{Shown}
+use Rattle.graph_session.specs.SessionView.{SessionView}
 use Rattle.interview.proofs.TopLaws.{not_begun}
 use Rattle.interview.proofs.top.run_over.Goals as goal
 
@@ -7,4 +7,4 @@ pub returns-in-Err : goal.returns-in-Err
 returns-in-Err g c = record { ends = not_begun _ _ refl }
 
 pub returns-in-Ok : goal.returns-in-Ok
-returns-in-Ok g c = record { ends = rw (ap (λ (s : Shown). s.dict) c.in-Ok.ensures) at c.run.ensures.ends }
+returns-in-Ok g c = record { ends = rw (ap (λ (s : SessionView). s.dict) c.in-Ok.ensures) at c.run.ensures.ends }

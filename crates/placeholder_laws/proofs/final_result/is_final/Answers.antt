@@ -8,4 +8,4 @@ returns-clause-stays g c = λ yes.
     let s = c.args.session.now in
     final_result_stays (names_of s.dict.checks) (accepted s.dict)
     (subst (λ (k : Kept). IsAccepted (names_of k.checks) (accepted k)) c.dict-dict.ensures c.source-source.ensures.is_accepted)
-    s.told.now c.args.slot (subst IsTrue c.keeps_to_the_rule.ensures yes)
+    s.timeline.now c.args.slot (subst IsTrue c.keeps_to_the_rule.ensures yes)

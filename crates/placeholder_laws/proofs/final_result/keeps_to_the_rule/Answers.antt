@@ -7,4 +7,4 @@ use Rattle.placeholder_laws.proofs.final_result.keeps_to_the_rule.Goals as goal
 pub steady-requires : goal.steady-requires
 steady-requires g c =
     let s = c.args.session.now in
-    subst (λ (k : Kept). IsNumber (accepted k).tree.facts c.args.slot.fact) (sym c.dict.ensures) (standing_number (accepted s.dict).tree s.told.now c.args.slot c.requires)
+    subst (λ (k : Kept). IsNumber (accepted k).tree.facts c.args.slot.fact) (sym c.dict.ensures) (standing_number (accepted s.dict).tree s.timeline.now c.args.slot c.requires)

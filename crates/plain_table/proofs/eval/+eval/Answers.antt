@@ -1,26 +1,20 @@
-use Rattle.std.proofs.Common.{◌≡◌, ℕ, ◌+◌, ◌++◌, [], List, subst, sum_by, map, drop, sym, ap, ◌∙◌, arith, add-one, get_or}
+use Rattle.std.proofs.Common.{◌≡◌, ◌+◌, ◌++◌, [], List, ℕ, sum_by, map, drop, sym, ap, ◌∙◌, arith}
 use Rattle.std.proofs.lemmas.List.{append-nil, drop_all, length-map}
 use Rattle.dict_tree.specs.Tree.{pick}
 use Rattle.dict_tree.specs.View.{case_view, cases_of, trees_of, use_view, view}
-use Rattle.dict_tree.proofs.FindingLaws.{drop-view}
 use Rattle.dict_tree.proofs.Views.{view-Pick}
-use Rattle.evaluation.specs.Over.{over, over_all, over_cases, pick_of, weight}
+use Rattle.evaluation.specs.Over.{over, over_all, over_cases, weight}
 use Rattle.operations.specs.CaseSteps.{after_case, find_after, find_from, switch_from}
 use Rattle.operations.specs.ManyFolds.{many_from}
-use Rattle.operations.specs.Sources.{verdict_on_source}
 use Rattle.operations.specs.declared.cases.CaseStep.TheVariants.{Next, Take, End}
 use Rattle.operations.proofs.CaseLaws.{find_after-start, switch_from-start}
 use Rattle.operations.proofs.FilterLaws.{filter_on-source, kept-member_list}
 use Rattle.operations.proofs.ManyLaws.{many_from-start}
-use Rattle.three_state.specs.Folds.{filter_on}
-use Rattle.three_state.specs.Results.{filter_of, find_of, kept, members_of}
-use Rattle.three_state.specs.declared.res.Res.{Res}
+use Rattle.three_state.specs.Results.{kept, members_of}
 use Rattle.three_state.specs.declared.strict.Verdict.{Verdict}
-use Rattle.fact_values.specs.Members.{IsMemberList}
-use Rattle.dict_tree.specs.declared.operators.PickOp.{PickOp}
-use Rattle.dictionary.specs.Reading.{Place, source_result}
-use Rattle.plain_table.specs.Ground.{at_base, condition_on, env_of, look_on, picked_at, tree_of, work_on}
-use Rattle.plain_table.proofs.EvalLaws.{all_next, all_weigh, case_at, cases_weigh, filter_next, find_at, kept_more, members_weigh, next_member, ok_same, one_more}
+use Rattle.dictionary.specs.Reading.{Place}
+use Rattle.plain_table.specs.Ground.{condition_on, env_of, work_on}
+use Rattle.plain_table.proofs.EvalLaws.{all_next, all_weigh, case_at, cases_weigh, filter_next, find_at, kept_more, members_weigh, ok_same, one_more}
 use Rattle.plain_table.proofs.eval.+eval.Goals as goal
 
 -- ---- eval
@@ -39,23 +33,19 @@ eval-returns-in-Pick-clause-most g t c =
 
 pub eval_all-returns-in_err-res-clause-most : goal.eval_all-returns-in_err-res-clause-most
 eval_all-returns-in_err-res-clause-most g t c =
-    let i = c.loop-operand.operand-index in
-    let views = map view c.args.operands.now in
-    let left = drop-view view c.args.operands.now i (i + 1) c.operand-item.result c.loop-operand-test.true c.operand-item.is (add-one i) in
-    let weigh = all_weigh (env_of c.args.ground.now) c.args.at (drop i views) (drop (i + 1) views) (view c.operand-item.result) left in
+    let weigh = all_weigh (env_of c.args.ground.now) c.args.at c.args.operands.now c.loop-operand.operand-index c.operand-item.result c.loop-operand-test.true c.operand-item.is in
     omega (arith, weigh, c.in_err-res.ensures.most, c.loop-operand.invariant.most)
 
 pub eval_all-loop-operand-preserved : goal.eval_all-loop-operand-preserved
 eval_all-loop-operand-preserved g t c =
+    let env = env_of c.args.ground.now in
     let i = c.loop-operand.operand-index in
-    let views = map view c.args.operands.now in
-    let left = drop-view view c.args.operands.now i (i + 1) c.operand-item.result c.loop-operand-test.true c.operand-item.is (add-one i) in
-    let weigh = all_weigh (env_of c.args.ground.now) c.args.at (drop i views) (drop (i + 1) views) (view c.operand-item.result) left in
+    let weigh = all_weigh env c.args.at c.args.operands.now i c.operand-item.result c.loop-operand-test.true c.operand-item.is in
     record {
       value =
-          all_next (env_of c.args.ground.now) c.args.at (drop i views) (drop (i + 1) views) (view c.operand-item.result) c.loop-operand.fold c.see.new.self c.in_ok-res.res left c.in_ok-res.ensures.value c.see.ensures
+          all_next env c.args.at c.args.operands.now i c.operand-item.result c.loop-operand-test.true c.operand-item.is c.loop-operand.fold c.see.new.self c.in_ok-res.res c.in_ok-res.ensures.value c.see.ensures.next
           ∙ c.loop-operand.invariant.value;
-      count = ap (λ s. s.count) c.see.ensures ∙ ap (λ n. n + 1) c.loop-operand.invariant.count;
+      count = ap (λ s. s.count) c.see.ensures.next ∙ ap (λ n. n + 1) c.loop-operand.invariant.count;
       most = omega (arith, weigh, c.in_ok-res.ensures.most, c.loop-operand.invariant.most);
     }
 
@@ -63,7 +53,7 @@ pub eval_all-returns-clause-value : goal.eval_all-returns-clause-value
 eval_all-returns-clause-value g t c =
     let views = map view c.args.operands.now in
     let none : drop c.loop-operand.operand-index views ≡ [] = drop_all c.loop-operand.operand-index views (omega (arith, length-map c.args.operands.now view, c.loop-operand-test.false)) in
-    c.end.ensures
+    c.end.ensures.value
     ∙ sym (ap (λ l. many_from c.loop-operand.fold (over_all (env_of c.args.ground.now) c.args.at (trees_of l))) none)
     ∙ c.loop-operand.invariant.value
     ∙ many_from-start c.args.op (over_all (env_of c.args.ground.now) c.args.at (trees_of views))
@@ -78,63 +68,46 @@ eval_cases-loop-case-init g t c = record {
 
 pub eval_cases-returns-in_err-condition-clause-most : goal.eval_cases-returns-in_err-condition-clause-most
 eval_cases-returns-in_err-condition-clause-most g t c =
-    let i = c.loop-case.case-index in
-    let views = map case_view c.args.cases.now in
-    let left = drop-view case_view c.args.cases.now i (i + 1) c.case-item.result c.loop-case-test.true c.case-item.is (add-one i) in
-    let weigh = cases_weigh (env_of c.args.ground.now) c.args.at (drop i views) (drop (i + 1) views) (case_view c.case-item.result) left in
+    let weigh = cases_weigh (env_of c.args.ground.now) c.args.at c.args.cases.now c.loop-case.case-index c.case-item.result c.loop-case-test.true c.case-item.is in
     omega (arith, weigh, c.in_err-condition.ensures.most, c.loop-case.invariant.most)
 
 pub eval_cases-returns-in_err-res-in-Take-clause-most : goal.eval_cases-returns-in_err-res-in-Take-clause-most
 eval_cases-returns-in_err-res-in-Take-clause-most g t c =
-    let i = c.loop-case.case-index in
-    let views = map case_view c.args.cases.now in
-    let left = drop-view case_view c.args.cases.now i (i + 1) c.case-item.result c.loop-case-test.true c.case-item.is (add-one i) in
-    let weigh = cases_weigh (env_of c.args.ground.now) c.args.at (drop i views) (drop (i + 1) views) (case_view c.case-item.result) left in
+    let weigh = cases_weigh (env_of c.args.ground.now) c.args.at c.args.cases.now c.loop-case.case-index c.case-item.result c.loop-case-test.true c.case-item.is in
     omega (arith, weigh, c.in_ok-condition.ensures.most, c.in_err-res-in-Take.ensures.most, c.loop-case.invariant.most)
 
 pub eval_cases-returns-in-Take-clause-value : goal.eval_cases-returns-in-Take-clause-value
 eval_cases-returns-in-Take-clause-value g t c =
+    let env = env_of c.args.ground.now in
     let i = c.loop-case.case-index in
-    let views = map case_view c.args.cases.now in
-    let left = drop-view case_view c.args.cases.now i (i + 1) c.case-item.result c.loop-case-test.true c.case-item.is (add-one i) in
     c.taken.ensures
-    ∙ ap (λ r. after_case (Take c.in-Take.still) r (λ still. switch_from still (over_cases (env_of c.args.ground.now) c.args.at (cases_of (drop (i + 1) views))))) c.in_ok-res-in-Take.ensures.value
-    ∙ case_at (env_of c.args.ground.now) c.args.at (drop i views) (drop (i + 1) views) (case_view c.case-item.result) c.loop-case.complete c.in_ok-condition.condition (Take c.in-Take.still) left c.in_ok-condition.ensures.value (sym c.case_step.ensures ∙ c.in-Take.is)
+    ∙ ap (λ r. after_case (Take c.in-Take.still) r (λ still. switch_from still (over_cases env c.args.at (cases_of (drop (i + 1) (map case_view c.args.cases.now)))))) c.in_ok-res-in-Take.ensures.value
+    ∙ case_at env c.args.at c.args.cases.now i c.case-item.result c.loop-case-test.true c.case-item.is c.loop-case.complete c.in_ok-condition.condition (Take c.in-Take.still) c.in_ok-condition.ensures.value (sym c.in-Take.is ∙ c.case_step.ensures)
     ∙ c.loop-case.invariant.value
 
 pub eval_cases-returns-in-Take-clause-most : goal.eval_cases-returns-in-Take-clause-most
 eval_cases-returns-in-Take-clause-most g t c =
-    let i = c.loop-case.case-index in
-    let views = map case_view c.args.cases.now in
-    let left = drop-view case_view c.args.cases.now i (i + 1) c.case-item.result c.loop-case-test.true c.case-item.is (add-one i) in
-    let weigh = cases_weigh (env_of c.args.ground.now) c.args.at (drop i views) (drop (i + 1) views) (case_view c.case-item.result) left in
+    let weigh = cases_weigh (env_of c.args.ground.now) c.args.at c.args.cases.now c.loop-case.case-index c.case-item.result c.loop-case-test.true c.case-item.is in
     omega (arith, weigh, c.in_ok-condition.ensures.most, c.in_ok-res-in-Take.ensures.most, c.loop-case.invariant.most)
 
 pub eval_cases-returns-in-End-clause-value : goal.eval_cases-returns-in-End-clause-value
 eval_cases-returns-in-End-clause-value g t c =
-    let i = c.loop-case.case-index in
-    let views = map case_view c.args.cases.now in
-    let left = drop-view case_view c.args.cases.now i (i + 1) c.case-item.result c.loop-case-test.true c.case-item.is (add-one i) in
-    case_at (env_of c.args.ground.now) c.args.at (drop i views) (drop (i + 1) views) (case_view c.case-item.result) c.loop-case.complete c.in_ok-condition.condition (End c.in-End.res) left c.in_ok-condition.ensures.value (sym c.case_step.ensures ∙ c.in-End.is)
+    case_at (env_of c.args.ground.now) c.args.at c.args.cases.now c.loop-case.case-index c.case-item.result c.loop-case-test.true c.case-item.is c.loop-case.complete c.in_ok-condition.condition (End c.in-End.res) c.in_ok-condition.ensures.value (sym c.in-End.is ∙ c.case_step.ensures)
     ∙ c.loop-case.invariant.value
 
 pub eval_cases-returns-in-End-clause-most : goal.eval_cases-returns-in-End-clause-most
 eval_cases-returns-in-End-clause-most g t c =
-    let i = c.loop-case.case-index in
-    let views = map case_view c.args.cases.now in
-    let left = drop-view case_view c.args.cases.now i (i + 1) c.case-item.result c.loop-case-test.true c.case-item.is (add-one i) in
-    let weigh = cases_weigh (env_of c.args.ground.now) c.args.at (drop i views) (drop (i + 1) views) (case_view c.case-item.result) left in
+    let weigh = cases_weigh (env_of c.args.ground.now) c.args.at c.args.cases.now c.loop-case.case-index c.case-item.result c.loop-case-test.true c.case-item.is in
     omega (arith, weigh, c.in_ok-condition.ensures.most, c.loop-case.invariant.most)
 
 pub eval_cases-loop-case-preserved : goal.eval_cases-loop-case-preserved
 eval_cases-loop-case-preserved g t c =
+    let env = env_of c.args.ground.now in
     let i = c.loop-case.case-index in
-    let views = map case_view c.args.cases.now in
-    let left = drop-view case_view c.args.cases.now i (i + 1) c.case-item.result c.loop-case-test.true c.case-item.is (add-one i) in
-    let weigh = cases_weigh (env_of c.args.ground.now) c.args.at (drop i views) (drop (i + 1) views) (case_view c.case-item.result) left in
+    let weigh = cases_weigh env c.args.at c.args.cases.now i c.case-item.result c.loop-case-test.true c.case-item.is in
     record {
       value =
-          case_at (env_of c.args.ground.now) c.args.at (drop i views) (drop (i + 1) views) (case_view c.case-item.result) c.loop-case.complete c.in_ok-condition.condition (Next c.in-Next.still) left c.in_ok-condition.ensures.value (sym c.case_step.ensures ∙ c.in-Next.is)
+          case_at env c.args.at c.args.cases.now i c.case-item.result c.loop-case-test.true c.case-item.is c.loop-case.complete c.in_ok-condition.condition (Next c.in-Next.still) c.in_ok-condition.ensures.value (sym c.in-Next.is ∙ c.case_step.ensures)
           ∙ c.loop-case.invariant.value;
       most = omega (arith, weigh, c.in_ok-condition.ensures.most, c.loop-case.invariant.most);
     }
@@ -143,39 +116,20 @@ eval_cases-loop-case-preserved g t c =
 
 pub eval_pick-returns-in-Filter-clause-value : goal.eval_pick-returns-in-Filter-clause-value
 eval_pick-returns-in-Filter-clause-value g t c =
-    let ground = c.args.ground.now in
-    let test = view c.args.test.now in
-    let source = source_result (tree_of ground) (look_on ground) ground.fact c.args.at c.args.used.now.path in
-    ok_same c.eval_filter.result _ _
-    (ap (λ (s : Res). filter_of s (condition_on ground c.under-under.result test)) c.read_source-source.ensures
-    ∙ ap (λ (p : Place). filter_of source (condition_on ground p test)) (c.under-under.ensures ∙ ap (λ (b : ℕ). at_base c.args.at b) c.base_under.ensures)
-    ∙ sym (ap (λ (o : PickOp). pick_of o source (picked_at ground c.args.at (use_view c.args.used.now) test)) c.in-Filter.is))
-    c.eval_filter.ensures.value
+    rw c.in-Filter.is (rw (c.read_source-source.ensures, c.under-under.ensures, c.base_under.ensures) at c.eval_filter.ensures.value)
 
 pub eval_pick-returns-in-Find-clause-value : goal.eval_pick-returns-in-Find-clause-value
 eval_pick-returns-in-Find-clause-value g t c =
-    let ground = c.args.ground.now in
-    let test = view c.args.test.now in
-    let source = source_result (tree_of ground) (look_on ground) ground.fact c.args.at c.args.used.now.path in
-    ok_same c.eval_find.result _ _
-    (ap (λ (s : Res). find_of s (condition_on ground c.under-under.result test)) c.read_source-source.ensures
-    ∙ ap (λ (p : Place). find_of source (condition_on ground p test)) (c.under-under.ensures ∙ ap (λ (b : ℕ). at_base c.args.at b) c.base_under.ensures)
-    ∙ sym (ap (λ (o : PickOp). pick_of o source (picked_at ground c.args.at (use_view c.args.used.now) test)) c.in-Find.is))
-    c.eval_find.ensures.value
+    rw c.in-Find.is (rw (c.read_source-source.ensures, c.under-under.ensures, c.base_under.ensures) at c.eval_find.ensures.value)
 
 pub eval_filter-loop-member-init : goal.eval_filter-loop-member-init
 eval_filter-loop-member-init g t c =
     let condition = condition_on c.args.ground.now c.args.under (view c.args.test.now) in
     let law = filter_on-source c.args.source.now condition in
-    let empty = c.new-kept.ensures.items in
     let same = c.members-member-items.ensures.value in
     record {
-      value =
-          ap (λ (l : List ℕ). filter_on condition l c.new-fold.result c.members-member-items.result.now) empty
-          ∙ ap (λ (v : Verdict). filter_on condition [] v c.members-member-items.result.now) c.new-fold.ensures
-          ∙ ap (filter_on condition [] (verdict_on_source c.args.source.now)) same
-          ∙ law;
-      kept = ap (λ (l : List ℕ). l ++ kept condition c.members-member-items.result.now) empty ∙ ap (kept condition) same;
+      value = rw (c.new-kept.ensures.items, c.new-fold.ensures, same) law;
+      kept = ap (λ (l : List ℕ). l ++ kept condition c.members-member-items.result.now) c.new-kept.ensures.items ∙ ap (kept condition) same;
       most = omega (arith, ap (sum_by (work_on c.args.ground.now c.args.under (view c.args.test.now))) same);
     }
 
@@ -183,19 +137,17 @@ pub eval_filter-loop-member-preserved : goal.eval_filter-loop-member-preserved
 eval_filter-loop-member-preserved g t c =
     let i = c.loop-member.member-index in
     let ms = c.members-member-items.result.now in
-    let m = get_or ms i 0 in
     let env = env_of c.args.ground.now in
     let test = view c.args.test.now in
     let condition = condition_on c.args.ground.now c.args.under test in
-    let left = next_member ms i c.loop-member-test.true in
     let is = c.in_ok-condition.ensures.value ∙ ap (λ (p : Place). over env p test) c.at.ensures in
-    let weigh = members_weigh (work_on c.args.ground.now c.args.under test) (drop i ms) (drop (i + 1) ms) m left in
+    let weigh = members_weigh ms i c.loop-member-test.true (work_on c.args.ground.now c.args.under test) in
     record {
       value =
-          filter_next condition (drop i ms) (drop (i + 1) ms) m c.loop-member.kept.items c.keep.new.kept.items c.loop-member.fold c.see-is_kept.new.self c.in_ok-condition.condition c.see-is_kept.result left is c.see-is_kept.ensures.kept c.see-is_kept.ensures.next c.in_ok-keep.ensures
+          filter_next ms i c.loop-member-test.true condition c.in_ok-condition.condition is c.loop-member.kept.items c.keep.new.kept.items c.see-is_kept.result c.see-is_kept.ensures.kept c.in_ok-keep.ensures c.loop-member.fold c.see-is_kept.new.self c.see-is_kept.ensures.next
           ∙ c.loop-member.invariant.value;
       kept =
-          kept_more condition (drop i ms) (drop (i + 1) ms) m c.loop-member.kept.items c.keep.new.kept.items c.in_ok-condition.condition c.see-is_kept.result left is c.see-is_kept.ensures.kept c.in_ok-keep.ensures
+          kept_more ms i c.loop-member-test.true condition c.in_ok-condition.condition is c.loop-member.kept.items c.keep.new.kept.items c.see-is_kept.result c.see-is_kept.ensures.kept c.in_ok-keep.ensures
           ∙ c.loop-member.invariant.kept;
       most = omega (arith, weigh, ap (λ (p : Place). weight env p test) c.at.ensures, c.in_ok-condition.ensures.most, c.loop-member.invariant.most);
     }
@@ -207,7 +159,7 @@ eval_filter-end-requires g t c =
     let condition = condition_on c.args.ground.now c.args.under (view c.args.test.now) in
     let none : drop c.loop-member.member-index ms ≡ [] = drop_all c.loop-member.member-index ms c.loop-member-test.false in
     let all : found ≡ kept condition (members_of c.args.source.now) = sym (append-nil found) ∙ sym (ap (λ l. found ++ kept condition l) none) ∙ c.loop-member.invariant.kept in
-    subst IsMemberList (sym all) (kept-member_list condition (members_of c.args.source.now) (subst IsMemberList c.members-member-items.ensures.value c.members-member-items.ensures.members))
+    rw all (kept-member_list condition (members_of c.args.source.now) (rw c.members-member-items.ensures.value at c.members-member-items.ensures.members))
 
 pub eval_find-returns-in-Go-clause-value : goal.eval_find-returns-in-Go-clause-value
 eval_find-returns-in-Go-clause-value g t c =
@@ -221,17 +173,13 @@ eval_find-returns-in-Go-clause-value g t c =
 pub find_among-loop-member-preserved : goal.find_among-loop-member-preserved
 find_among-loop-member-preserved g t c =
     let i = c.loop-member.member-index in
-    let ms = c.args.members.now in
-    let m = get_or ms i 0 in
     let env = env_of c.args.ground.now in
     let test = view c.args.test.now in
-    let condition = condition_on c.args.ground.now c.args.under test in
-    let left = next_member ms i c.loop-member-test.true in
     let is = c.in_ok-condition.ensures.value ∙ ap (λ (p : Place). over env p test) c.at.ensures in
-    let weigh = members_weigh (work_on c.args.ground.now c.args.under test) (drop i ms) (drop (i + 1) ms) m left in
+    let weigh = members_weigh c.args.members.now i c.loop-member-test.true (work_on c.args.ground.now c.args.under test) in
     record {
       value =
-          find_at condition (drop i ms) (drop (i + 1) ms) m c.loop-member.complete c.in_ok-condition.condition (Next c.in-Next.still) left is (sym c.case_step.ensures ∙ c.in-Next.is)
+          find_at c.args.members.now i c.loop-member-test.true (condition_on c.args.ground.now c.args.under test) c.in_ok-condition.condition is c.loop-member.complete (Next c.in-Next.still) (sym c.in-Next.is ∙ c.case_step.ensures)
           ∙ c.loop-member.invariant.value;
       most = omega (arith, weigh, ap (λ (p : Place). weight env p test) c.at.ensures, c.in_ok-condition.ensures.most, c.loop-member.invariant.most);
     }

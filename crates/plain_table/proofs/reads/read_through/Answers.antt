@@ -13,7 +13,7 @@ returns-in_ok-res-in-Member c =
     let field = result_at (look_of c.args.table.now) c.args.field in
     let step : item_step c.args.item.now ≡ Member c.in-Member.member c.in-Member.complete = sym c.item_step.ensures ∙ c.in-Member.is in
     c.taken.ensures
-    ∙ ap (down_unless c.in-Member.complete) (c.in_ok-res-in-Member.ensures ∙ c.result_at.ensures)
+    ∙ ap (down_unless c.in-Member.complete) (c.in_ok-res-in-Member.ensures.value ∙ c.result_at.ensures)
     ∙ sym (ap (λ (s : ItemStep). after_item s field) step)
     ∙ after_item-step c.args.item.now field
 

@@ -1,6 +1,6 @@
 use Rattle.std.proofs.Common.{[], sym, ◌∙◌}
 use Rattle.dict_tree.specs.Dictionary.{Dictionary}
-use Rattle.answers.specs.Standing.{answered}
+use Rattle.answers.specs.Meaning.{answered}
 use Rattle.dictionary.proofs.ListTypes.{open_members}
 use Rattle.plain_table.proofs.slots.given_result.Goals as goal
 

@@ -1,6 +1,6 @@
 use Rattle.std.proofs.Common.{◌≡◌, ◌+◌, ◌≤◌, drop, sum_by}
 use Rattle.fact_values.specs.declared.slot.Slot.{Slot}
-use Rattle.answers.specs.Standing.{answered}
+use Rattle.answers.specs.Meaning.{answered}
 use Rattle.dictionary.specs.Accepted.{accepted}
 use Rattle.dictionary.specs.Plain.{IsPlainBelow, rank}
 use Rattle.dictionary.specs.Reading.{slot}

@@ -4,7 +4,7 @@ use Rattle.dict_tree.specs.Dictionary.{Written, dictionary_view}
 use Rattle.dict_tree.specs.Facts.{fact_view}
 use Rattle.dict_tree.specs.Finding.{fact_at}
 use Rattle.three_state.specs.declared.res.Res.{Res}
-use Rattle.answers.specs.Standing.{answered}
+use Rattle.answers.specs.Meaning.{answered}
 use Rattle.dictionary.specs.Accepted.{accepted, names_of}
 use Rattle.dictionary.specs.Plain.{slot_result}
 use Rattle.plain_table.specs.Table.{look_of}

@@ -1,12 +1,12 @@
-use Rattle.std.proofs.Common.{ℕ, ◌+◌, drop, get_or, arith, sum_by}
-use Rattle.answers.specs.Standing.{answered}
+use Rattle.std.proofs.Common.{ℕ, arith, sum_by}
+use Rattle.answers.specs.Meaning.{answered}
 use Rattle.dictionary.specs.Accepted.{accepted, names_of}
 use Rattle.dictionary.specs.Slots.{slots_of}
 use Rattle.dictionary.specs.Weights.{slot_weight}
 use Rattle.dictionary.proofs.ByRankLaws.{fact_at_place}
 use Rattle.dictionary.proofs.KeptLaws.{count_ranks}
 use Rattle.plain_table.specs.Table.{look_of}
-use Rattle.plain_table.proofs.EvalLaws.{members_weigh, next_member}
+use Rattle.plain_table.proofs.EvalLaws.{members_weigh}
 use Rattle.plain_table.proofs.WholeLaws.{all_done, below_next, facts_next}
 use Rattle.plain_table.proofs.WorkLaws.{whole_work}
 use Rattle.plain_table.proofs.whole.whole_table.Goals as goal
@@ -41,7 +41,7 @@ loop-fact-preserved g c =
     let i = c.loop-fact.fact-index in
     let count = count_ranks (names_of c.args.dict.now.checks) d c.source.ensures.is_accepted in
     let work = λ (n : ℕ). sum_by (slot_weight d a) (slots_of d.tree a n) in
-    let weigh = members_weigh work (drop i order) (drop (i + 1) order) (get_or order i 0) (next_member order i c.loop-fact-test.true) in
+    let weigh = members_weigh order i c.loop-fact-test.true work in
     record {
       done = facts_next d a order c.by_rank-fact-items.ensures count i (look_of c.loop-fact.table) (look_of c.put_fact.new.table) c.loop-fact-test.true c.loop-fact.invariant.done c.in_ok-put_fact.ensures.filled;
       most = omega (arith, weigh, c.in_ok-put_fact.ensures.most, c.loop-fact.invariant.most);

@@ -1,5 +1,5 @@
 use Rattle.std.proofs.Common.{◌+◌, ◌≤◌, drop, take, sum_by}
-use Rattle.answers.specs.Standing.{answered}
+use Rattle.answers.specs.Meaning.{answered}
 use Rattle.dictionary.specs.Accepted.{accepted}
 use Rattle.dictionary.specs.Slots.{slots_of}
 use Rattle.dictionary.specs.Weights.{slot_weight, whole_weight}

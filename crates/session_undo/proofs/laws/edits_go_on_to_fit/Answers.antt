@@ -1,4 +1,4 @@
-use Rattle.session_undo.proofs.ToldLaws.{kept_moved_back, kept_moved_forth, kept_changed}
+use Rattle.session_undo.proofs.TimelineLaws.{kept_moved_back, kept_moved_forth, kept_changed}
 use Rattle.session_undo.proofs.laws.edits_go_on_to_fit.Goals as goal
 
 pub returns : goal.returns

@@ -1,10 +1,9 @@
-use Rattle.std.proofs.Common.{◌≡◌, IfOk, OnOk, OnErr}
+use Rattle.std.proofs.Common.{◌≡◌, OnOk, OnErr}
 use Rattle.std.specs.declared.result.Result.{Result}
-use Rattle.std.specs.declared.result.Result.TheVariants.{Ok, Err}
 use Rattle.answers.specs.Change.{Change, applied, inverse, Fits}
 use Rattle.answers.specs.WellFormed.{WellFormed, FromOne, PutsFromOne}
 use Rattle.answers.specs.Answered.{Answered}
-use Rattle.answers.specs.Standing.{answered, change}
+use Rattle.answers.specs.Meaning.{answered, change}
 use Rattle.answers.proofs.ChangeLaws.{fits_inverse_undoes}
 use Rattle.answers.proofs.FitsLaws.{inverse_fits}
 use Rattle.answers.proofs.RoomLaws.{room_for_inverse}

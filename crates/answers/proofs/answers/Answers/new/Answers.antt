@@ -1,4 +1,4 @@
-use Rattle.std.proofs.Common.{◌≡◌, arith}
+use Rattle.std.proofs.Common.{arith}
 use Rattle.answers.proofs.Start.{start_well, start_from_one}
 use Rattle.answers.proofs.answers.Answers.new.Goals as goal
 

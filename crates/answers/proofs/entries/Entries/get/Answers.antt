@@ -1,6 +1,6 @@
-use Rattle.std.proofs.Common.{◌≡◌, ap, sym, ◌∙◌}
+use Rattle.std.proofs.Common.{ap, sym, ◌∙◌}
 use Rattle.answers.specs.Finite.{and_then}
-use Rattle.answers.specs.Standing.{side_of}
+use Rattle.answers.specs.Meaning.{side_of}
 use Rattle.answers.proofs.SideLaws.{side_at}
 use Rattle.answers.proofs.entries.Entries.get.Goals as goal
 

@@ -1,7 +1,7 @@
-use Rattle.std.proofs.Common.{◌≡◌, refl, sym, ap, ◌∙◌, Some, None}
+use Rattle.std.proofs.Common.{refl, sym, ap, ◌∙◌}
 use Rattle.std.proofs.lemmas.Result.{IfOk-weaker}
 use Rattle.answers.specs.Finite.{and_then}
-use Rattle.answers.specs.Standing.{side_of, entry_of}
+use Rattle.answers.specs.Meaning.{side_of, entry_of}
 use Rattle.answers.proofs.SideLaws.{side_at, side_written, side_cleared}
 use Rattle.answers.proofs.entries.Entries.put.Goals as goal
 

@@ -1,10 +1,10 @@
-use Rattle.std.proofs.Common.{◌≡◌, Option, Some, None, refl, sym, ap, ◌∙◌}
+use Rattle.std.proofs.Common.{◌≡◌, Option, Some, None, refl, sym, ◌∙◌}
 use Rattle.std.specs.Prelude.{IsSome, nat_eq}
 use Rattle.std.specs.Map.{lookup}
 use Rattle.answers.specs.declared.edit.Side.{Side}
 use Rattle.answers.specs.declared.entries.Pair.{Pair}
 use Rattle.answers.specs.Finite.{and_then}
-use Rattle.answers.specs.Standing.{side_of}
+use Rattle.answers.specs.Meaning.{side_of}
 use Rattle.answers.proofs.SideLaws.{side_at, side_written}
 use Rattle.answers.proofs.entries.Entries.put_first.Goals as goal
 

@@ -1,6 +1,6 @@
-use Rattle.std.proofs.Common.{◌≡◌, ℕ, List, Option, Some, refl, sym, ap, ◌∙◌}
+use Rattle.std.proofs.Common.{ℕ, List, Option, Some, refl, sym, ap, ◌∙◌}
 use Rattle.answers.specs.Finite.{put_at}
-use Rattle.answers.specs.Standing.{lists_of}
+use Rattle.answers.specs.Meaning.{lists_of}
 use Rattle.answers.proofs.FiniteLaws.{one_changed}
 use Rattle.answers.proofs.LookUps.{at_key}
 use Rattle.answers.proofs.lists.Lists.open_with.Goals as goal

@@ -1,10 +1,7 @@
-use Rattle.std.proofs.Common.{rules, ◌≡◌, ℕ, List, [], Option, Some, None, refl, sym, ap, ◌∙◌, Bool, false, nat_eq}
-use Rattle.std.specs.Prelude.{IsSome, is_some, unwrap_or}
+use Rattle.std.proofs.Common.{rules, ◌≡◌, ℕ, List, Option, false, nat_eq}
+use Rattle.std.specs.Prelude.{is_some}
 use Rattle.std.specs.Map.{lookup}
-use Rattle.answers.specs.Finite.{put_at}
-use Rattle.answers.specs.Standing.{lists_of}
-use Rattle.answers.proofs.FiniteLaws.{one_changed}
-use Rattle.answers.proofs.LookUps.{at_key, not_there, placed}
+use Rattle.answers.proofs.LookUps.{placed}
 use Rattle.answers.proofs.lists.Lists.place.Goals as goal
 
 pub returns-clause-same : goal.returns-clause-same

@@ -1,10 +1,10 @@
-use Rattle.std.proofs.Common.{◌≡◌, Option, Some, refl, sym, ap, ◌∙◌, subst}
+use Rattle.std.proofs.Common.{Some, refl, sym, ap, ◌∙◌, subst}
 use Rattle.std.specs.Prelude.{IsSome, option_map}
 use Rattle.std.proofs.lemmas.Result.{on_ok_weaker, on_err_weaker, IfOk-weaker}
 use Rattle.answers.specs.Finite.{and_then, put_at}
 use Rattle.answers.specs.Answered.{Entry, of_side}
 use Rattle.answers.specs.Change.{with_value}
-use Rattle.answers.specs.Standing.{maybe_entry, members_of}
+use Rattle.answers.specs.Meaning.{maybe_entry, members_of}
 use Rattle.answers.specs.Room.{AtMember}
 use Rattle.std.specs.FinMap as map
 use Rattle.answers.proofs.FiniteLaws.{one_changed, put_same}

@@ -1,5 +1,5 @@
-use Rattle.std.proofs.Common.{Option, Some}
-use Rattle.answers.specs.Standing.{maybe_entry}
+use Rattle.std.proofs.Common.{Some}
+use Rattle.answers.specs.Meaning.{maybe_entry}
 use Rattle.answers.proofs.FiniteLaws.{one_changed}
 use Rattle.answers.proofs.members.Members.store.Goals as goal
 

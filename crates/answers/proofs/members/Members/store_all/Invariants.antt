@@ -1,6 +1,6 @@
 use Rattle.std.proofs.Common.{◌≡◌, drop}
-use Rattle.answers.specs.Opening.{all_blank}
-use Rattle.answers.specs.Standing.{members_of}
+use Rattle.answers.specs.OpenedLists.{all_blank}
+use Rattle.answers.specs.Meaning.{members_of}
 use Rattle.answers.proofs.members.Members.store_all.Given as goal
 
 abbrev pub invariant-loop-member : goal.invariant-loop-member

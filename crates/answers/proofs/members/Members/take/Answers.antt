@@ -1,7 +1,7 @@
-use Rattle.std.proofs.Common.{rules, Option, Some, None, ◌≡◌, Bool, false, nat_eq}
+use Rattle.std.proofs.Common.{rules, Some, None, ◌≡◌, false, nat_eq}
 use Rattle.std.specs.Prelude.{is_some}
 use Rattle.std.specs.Map.{lookup}
-use Rattle.answers.specs.Standing.{maybe_entry}
+use Rattle.answers.specs.Meaning.{maybe_entry}
 use Rattle.answers.proofs.FiniteLaws.{one_changed, absent}
 use Rattle.answers.proofs.members.Members.take.Goals as goal
 

@@ -1,18 +1,18 @@
 use Rattle.std.proofs.Common.{◌≡◌, ◌+◌, ◌∷◌, List, ap, sym, ◌∙◌, subst, IsTrue}
 use Rattle.answers.specs.Answered.{Answered}
 use Rattle.answers.specs.Change.{Change, Fits, inverse}
-use Rattle.answers.specs.Standing.{answered, change}
+use Rattle.answers.specs.Meaning.{answered, change}
 use Rattle.session_undo.specs.History.{behind, place}
 use Rattle.session_undo.specs.Place.{changed}
-use Rattle.session_undo.specs.Told.{told}
-use Rattle.session_undo.proofs.ToldLaws.{told_changed}
+use Rattle.session_undo.specs.Timeline.{timeline}
+use Rattle.session_undo.proofs.TimelineLaws.{timeline_changed}
 use Rattle.dictionary.specs.Accepted.{accepted, names_of}
 use Rattle.dictionary.specs.Allowed.{IsAllowed}
 use Rattle.dictionary.specs.Engines.{AreMarkedBy}
 use Rattle.dictionary.proofs.FitChangeLaws.{allowed_changes_fit}
 use Rattle.graph_session.specs.Keeping.{IsSound}
-use Rattle.graph_session.specs.Shown.{moved_to}
-use Rattle.graph_session.proofs.ShownLaws.{place_changed, shown, shown_moved}
+use Rattle.graph_session.specs.SessionView.{moved_to}
+use Rattle.graph_session.proofs.SessionViewLaws.{place_changed, shown, shown_moved}
 use Rattle.graph_session.proofs.SoundLaws.{sound_changed}
 use Rattle.graph_session.proofs.session.Session.change.Goals as goal
 
@@ -53,5 +53,5 @@ returns-in-Ok-refresh-clause-ok g c =
     let back : q.back ≡ inverse ch p.now ∷ p.back = c.keep.ensures.back ∙ ap (λ (x : Change). x ∷ behind c.room.new.self) c.in-Ok.ensures.back ∙ ap (λ (xs : List Change). inverse ch p.now ∷ xs) c.in_ok-room.ensures.back in
     let same : q ≡ changed p ch = place_changed p q ch back c.in-Ok.ensures.new c.keep.ensures.ahead in
     let marked : IsTrue offered → AreMarkedBy d p.now q.now m n = λ o. subst (λ (a : Answered). AreMarkedBy d a q.now m n) c.in-Ok.ensures.undoes.1 (c.in-Ok-refresh.ensures.marked o) in
-    rw (← c.self.view_is) (shown_moved k (told p) (told q) c.self.inside.changes offered m n c.self.invariant.2 marked
-    ∙ ap (moved_to (shown k (told p) c.self.inside.changes offered m)) (ap told same ∙ told_changed p ch c.self.invariant.0.kept fits))
+    rw (← c.self.view_is) (shown_moved k (timeline p) (timeline q) c.self.inside.changes offered m n c.self.invariant.2 marked
+    ∙ ap (moved_to (shown k (timeline p) c.self.inside.changes offered m)) (ap timeline same ∙ timeline_changed p ch c.self.invariant.0.kept fits))

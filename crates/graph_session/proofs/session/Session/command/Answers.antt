@@ -1,5 +1,5 @@
 use Rattle.graph_session.specs.Rules.{rules}
-use Rattle.graph_session.specs.Shown.{course}
+use Rattle.graph_session.specs.SessionView.{course}
 use Rattle.graph_session.specs.Step.{refusal, reply}
 use Rattle.graph_session.proofs.StepLaws.{asked_refused}
 use Rattle.graph_session.proofs.session.Session.command.Goals as goal

@@ -1,60 +1,51 @@
-use Rattle.std.proofs.Common.{◌≡◌, ◌+◌, ◌≤◌, ℕ, not, Some, ap, sym, ◌∙◌, subst, IsTrue}
+use Rattle.std.proofs.Common.{◌≡◌, ◌+◌, ◌≤◌, not, Some, ap, sym, ◌∙◌, subst, IsTrue}
 use Rattle.std.specs.Prelude.{Ok}
 use Rattle.answers.specs.Answered.{Answered}
-use Rattle.answers.specs.Change.{applied}
-use Rattle.answers.specs.Standing.{change}
+use Rattle.answers.specs.Meaning.{change}
 use Rattle.session_undo.specs.History.{place}
-use Rattle.session_undo.specs.Told.{Told, told}
+use Rattle.session_undo.specs.Timeline.{Timeline, timeline}
 use Rattle.dictionary.specs.Accepted.{accepted}
 use Rattle.dictionary.specs.Engines.{AreMarkedBy}
 use Rattle.dictionary.specs.Fits.{AnswersFit}
-use Rattle.graph_session.specs.Moves.{step_command, told_stepped}
+use Rattle.graph_session.specs.Moves.{step_command, timeline_stepped}
 use Rattle.graph_session.specs.Rules.{rules}
-use Rattle.graph_session.specs.Shown.{Shown, course, moved_to}
+use Rattle.graph_session.specs.SessionView.{SessionView, course, moved_to}
 use Rattle.graph_session.specs.Step.{most_steps, step}
 use Rattle.graph_session.specs.declared.reply.Reply.TheVariants.{Done}
-use Rattle.graph_session.proofs.ShownLaws.{shown, shown_moved, shown_same}
-use Rattle.graph_session.proofs.SoundLaws.{again, newest_shown, there_sound, there_told, there_undoes}
-use Rattle.graph_session.proofs.StepLaws.{move_step_as, move_steps}
+use Rattle.graph_session.proofs.SessionViewLaws.{shown, shown_moved, shown_same}
+use Rattle.graph_session.proofs.SoundLaws.{again, newest_shown, there_sound, there_steps, there_timeline, there_undoes}
+use Rattle.graph_session.proofs.StepLaws.{move_step_as}
 use Rattle.graph_session.proofs.session.Session.go.Goals as goal
 
 pub refresh-requires-clause-undone : goal.refresh-requires-clause-undone
 refresh-requires-clause-undone g c =
-    let p = place c.self.inside.history c.self.inside.answers in
     let q = place c.step_along.new.history c.step_along.new.answers in
     let newest = newest_shown (not c.args.forth) c.step_along.new.history c.step_along.new.answers (Some (change c.in-Some.undo.now)) c.in-Some.ensures in
-    (there_undoes c.self.inside.dict c.args.forth p q c.self.invariant.0 c.in-Ok.ensures.moved c.in-Ok.ensures.some (change c.in-Some.undo.now) newest).0
+    (there_undoes c.self.inside.dict c.args.forth _ q c.self.invariant.0 c.in-Ok.ensures.moved c.in-Ok.ensures.some (change c.in-Some.undo.now) newest).0
 
 pub refresh-requires-clause-before : goal.refresh-requires-clause-before
 refresh-requires-clause-before g c =
-    let p = place c.self.inside.history c.self.inside.answers in
     let q = place c.step_along.new.history c.step_along.new.answers in
     let newest = newest_shown (not c.args.forth) c.step_along.new.history c.step_along.new.answers (Some (change c.in-Some.undo.now)) c.in-Some.ensures in
-    let undone = (there_undoes c.self.inside.dict c.args.forth p q c.self.invariant.0 c.in-Ok.ensures.moved c.in-Ok.ensures.some (change c.in-Some.undo.now) newest).1 in
+    let undone = (there_undoes c.self.inside.dict c.args.forth _ q c.self.invariant.0 c.in-Ok.ensures.moved c.in-Ok.ensures.some (change c.in-Some.undo.now) newest).1 in
     subst (g.E.FactEngine.stands_for c.self.inside.engine (accepted c.self.inside.dict)) (sym undone) c.self.invariant.1
 
 pub refresh-requires-clause-fit_before : goal.refresh-requires-clause-fit_before
 refresh-requires-clause-fit_before g c =
-    let p = place c.self.inside.history c.self.inside.answers in
     let q = place c.step_along.new.history c.step_along.new.answers in
     let newest = newest_shown (not c.args.forth) c.step_along.new.history c.step_along.new.answers (Some (change c.in-Some.undo.now)) c.in-Some.ensures in
-    let undone = (there_undoes c.self.inside.dict c.args.forth p q c.self.invariant.0 c.in-Ok.ensures.moved c.in-Ok.ensures.some (change c.in-Some.undo.now) newest).1 in
+    let undone = (there_undoes c.self.inside.dict c.args.forth _ q c.self.invariant.0 c.in-Ok.ensures.moved c.in-Ok.ensures.some (change c.in-Some.undo.now) newest).1 in
     subst (AnswersFit (accepted c.self.inside.dict).tree) (sym undone) c.self.invariant.0.fit.now
 
 pub refresh-requires-clause-fit_now : goal.refresh-requires-clause-fit_now
-refresh-requires-clause-fit_now g c =
-    let p = place c.self.inside.history c.self.inside.answers in
-    let q = place c.step_along.new.history c.step_along.new.answers in
-    (there_sound c.self.inside.dict c.args.forth p q c.self.invariant.0 c.in-Ok.ensures.moved c.in-Ok.ensures.some).fit.now
+refresh-requires-clause-fit_now g c = (there_sound c.self.inside.dict c.args.forth _ _ c.self.invariant.0 c.in-Ok.ensures.moved c.in-Ok.ensures.some).fit.now
 
 pub invariant_of-self-in-Ok-refresh : goal.invariant_of-self-in-Ok-refresh
-invariant_of-self-in-Ok-refresh g c =
-    let p = place c.self.inside.history c.self.inside.answers in
-    let q = place c.step_along.new.history c.step_along.new.answers in (
-      there_sound c.self.inside.dict c.args.forth p q c.self.invariant.0 c.in-Ok.ensures.moved c.in-Ok.ensures.some,
-      c.in-Ok-refresh.ensures.stands,
-      λ offered. (c.in-Ok-refresh.ensures.marked offered).changes ∙ ap (λ n. n + 1) (c.self.invariant.2 offered),
-    )
+invariant_of-self-in-Ok-refresh g c = (
+  there_sound c.self.inside.dict c.args.forth _ _ c.self.invariant.0 c.in-Ok.ensures.moved c.in-Ok.ensures.some,
+  c.in-Ok-refresh.ensures.stands,
+  λ offered. (c.in-Ok-refresh.ensures.marked offered).changes ∙ ap (λ n. n + 1) (c.self.invariant.2 offered),
+)
 
 pub returns-in-Ok-refresh-clause-ok : goal.returns-in-Ok-refresh-clause-ok
 returns-in-Ok-refresh-clause-ok g c =
@@ -68,43 +59,30 @@ returns-in-Ok-refresh-clause-ok g c =
     let newest = newest_shown (not c.args.forth) c.step_along.new.history c.step_along.new.answers (Some (change c.in-Some.undo.now)) c.in-Some.ensures in
     let undone = (there_undoes k c.args.forth p q c.self.invariant.0 c.in-Ok.ensures.moved c.in-Ok.ensures.some (change c.in-Some.undo.now) newest).1 in
     let marked : IsTrue offered → AreMarkedBy d p.now q.now m n = λ o. subst (λ (a : Answered). AreMarkedBy d a q.now m n) undone (c.in-Ok-refresh.ensures.marked o) in
-    let s = shown k (told p) c.self.inside.changes offered m in
-    let left : Shown = shown k (told q) (c.self.inside.changes + 1) offered n in
-    let there : left ≡ moved_to s (told_stepped c.args.forth (told p)) =
-    shown_moved k (told p) (told q) c.self.inside.changes offered m n c.self.invariant.2 marked
-    ∙ ap (moved_to s) (there_told k c.args.forth p q c.self.invariant.0 c.in-Ok.ensures.moved c.in-Ok.ensures.some) in
-    subst (λ (z : Shown). step (rules z.dict) (course z) (step_command c.args.forth) ≡ Ok (Done, course left)) c.self.view_is (move_step_as (rules k) (course s) c.args.forth c.in-Ok.ensures.some (course left) (ap course there))
+    let s = shown k (timeline p) c.self.inside.changes offered m in
+    let left : SessionView = shown k (timeline q) (c.self.inside.changes + 1) offered n in
+    let there : left ≡ moved_to s (timeline_stepped c.args.forth (timeline p)) =
+    shown_moved k (timeline p) (timeline q) c.self.inside.changes offered m n c.self.invariant.2 marked
+    ∙ ap (moved_to s) (there_timeline k c.args.forth p q c.self.invariant.0 c.in-Ok.ensures.moved c.in-Ok.ensures.some) in
+    subst (λ (z : SessionView). step (rules z.dict) (course z) (step_command c.args.forth) ≡ Ok (Done, course left)) c.self.view_is (move_step_as (rules k) (course s) c.args.forth c.in-Ok.ensures.some (course left) (ap course there))
 
 pub returns-in-Ok-refresh-clause-steps : goal.returns-in-Ok-refresh-clause-steps
 returns-in-Ok-refresh-clause-steps g c =
-    let k = c.self.inside.dict in
-    let p = place c.self.inside.history c.self.inside.answers in
     let q = place c.step_along.new.history c.step_along.new.answers in
-    let most = g.E.FactEngine.most (accepted k) in
     let newest = newest_shown (not c.args.forth) c.step_along.new.history c.step_along.new.answers (Some (change c.in-Some.undo.now)) c.in-Some.ensures in
-    let undone = (there_undoes k c.args.forth p q c.self.invariant.0 c.in-Ok.ensures.moved c.in-Ok.ensures.some (change c.in-Some.undo.now) newest).1 in
-    let s = shown k (told p) c.self.inside.changes g.E.FactEngine.STAMPS (g.E.FactEngine.marks c.self.inside.engine) in
-    let same : most (applied (change c.in-Some.undo.now) q.now) q.now ≡ most_steps most (rules k) (course s) (step_command c.args.forth) =
-    ap (λ (a : Answered). most a q.now) undone
-    ∙ ap (λ (t : Told). most p.now t.now) (there_told k c.args.forth p q c.self.invariant.0 c.in-Ok.ensures.moved c.in-Ok.ensures.some)
-    ∙ sym (move_steps most (rules k) (course s) c.args.forth c.in-Ok.ensures.some) in
-    subst (λ (z : Shown). c.refresh.new.steps ≤ c.args.steps.now + most_steps (g.E.FactEngine.most (accepted z.dict)) (rules z.dict) (course z) (step_command c.args.forth)) c.self.view_is
-    (subst (λ (n : ℕ). c.refresh.new.steps ≤ c.args.steps.now + n) same c.in-Ok-refresh.ensures.steps)
+    subst (λ (z : SessionView). c.refresh.new.steps ≤ c.args.steps.now + most_steps (g.E.FactEngine.most (accepted z.dict)) (rules z.dict) (course z) (step_command c.args.forth)) c.self.view_is
+    (there_steps c.self.inside.dict c.args.forth _ q c.self.invariant.0 c.in-Ok.ensures.moved c.in-Ok.ensures.some (change c.in-Some.undo.now) newest (g.E.FactEngine.most (accepted c.self.inside.dict)) c.self.inside.changes _ _ _ c.in-Ok-refresh.ensures.steps)
 
 pub step_again-requires-clause-kept : goal.step_again-requires-clause-kept
-step_again-requires-clause-kept g c =
-    let p = place c.self.inside.history c.self.inside.answers in
-    let q = place c.step_along.new.history c.step_along.new.answers in
-    (there_sound c.self.inside.dict c.args.forth p q c.self.invariant.0 c.in-Ok.ensures.moved c.in-Ok.ensures.some).kept
+step_again-requires-clause-kept g c = (there_sound c.self.inside.dict c.args.forth _ _ c.self.invariant.0 c.in-Ok.ensures.moved c.in-Ok.ensures.some).kept
 
 pub invariant_of-self-in-Err-refresh : goal.invariant_of-self-in-Err-refresh
 invariant_of-self-in-Err-refresh g c =
     let k = c.self.inside.dict in
     let p = place c.self.inside.history c.self.inside.answers in
-    let q = place c.step_along.new.history c.step_along.new.answers in
     let r = place c.step_again.new.history c.step_again.new.answers in
-    let back = again k c.args.forth p q c.self.invariant.0 c.in-Ok.ensures.moved c.in-Ok.ensures.some r c.step_again.ensures in
-    let now : r.now ≡ p.now = ap (λ (t : Told). t.now) back.1 in (
+    let back = again k c.args.forth p _ c.self.invariant.0 c.in-Ok.ensures.moved c.in-Ok.ensures.some r c.step_again.ensures in
+    let now : r.now ≡ p.now = ap (λ (t : Timeline). t.now) back.1 in (
       back.0,
       subst (g.E.FactEngine.stands_for c.refresh.new.self (accepted k)) (sym now) (c.in-Err-refresh.ensures.unchanged (accepted k) p.now c.self.invariant.1),
       λ offered. (c.in-Err-refresh.ensures.same_marks offered).changes ∙ c.self.invariant.2 offered,
@@ -114,28 +92,18 @@ pub returns-in-Err-refresh-clause-unchanged : goal.returns-in-Err-refresh-clause
 returns-in-Err-refresh-clause-unchanged g c =
     let k = c.self.inside.dict in
     let p = place c.self.inside.history c.self.inside.answers in
-    let q = place c.step_along.new.history c.step_along.new.answers in
     let r = place c.step_again.new.history c.step_again.new.answers in
     let offered = g.E.FactEngine.STAMPS in
     let m = g.E.FactEngine.marks c.self.inside.engine in
     let n = g.E.FactEngine.marks c.refresh.new.self in
-    let back = again k c.args.forth p q c.self.invariant.0 c.in-Ok.ensures.moved c.in-Ok.ensures.some r c.step_again.ensures in
-    ap (λ (t : Told). shown k t c.self.inside.changes offered n) back.1
-    ∙ shown_same k (told p) c.self.inside.changes offered m n c.in-Err-refresh.ensures.same_marks
+    let back = again k c.args.forth p _ c.self.invariant.0 c.in-Ok.ensures.moved c.in-Ok.ensures.some r c.step_again.ensures in
+    ap (λ (t : Timeline). shown k t c.self.inside.changes offered n) back.1
+    ∙ shown_same k (timeline p) c.self.inside.changes offered m n c.in-Err-refresh.ensures.same_marks
     ∙ c.self.view_is
 
 pub returns-in-Err-refresh-clause-steps : goal.returns-in-Err-refresh-clause-steps
 returns-in-Err-refresh-clause-steps g c =
-    let k = c.self.inside.dict in
-    let p = place c.self.inside.history c.self.inside.answers in
     let q = place c.step_along.new.history c.step_along.new.answers in
-    let most = g.E.FactEngine.most (accepted k) in
     let newest = newest_shown (not c.args.forth) c.step_along.new.history c.step_along.new.answers (Some (change c.in-Some.undo.now)) c.in-Some.ensures in
-    let undone = (there_undoes k c.args.forth p q c.self.invariant.0 c.in-Ok.ensures.moved c.in-Ok.ensures.some (change c.in-Some.undo.now) newest).1 in
-    let s = shown k (told p) c.self.inside.changes g.E.FactEngine.STAMPS (g.E.FactEngine.marks c.self.inside.engine) in
-    let same : most (applied (change c.in-Some.undo.now) q.now) q.now ≡ most_steps most (rules k) (course s) (step_command c.args.forth) =
-    ap (λ (a : Answered). most a q.now) undone
-    ∙ ap (λ (t : Told). most p.now t.now) (there_told k c.args.forth p q c.self.invariant.0 c.in-Ok.ensures.moved c.in-Ok.ensures.some)
-    ∙ sym (move_steps most (rules k) (course s) c.args.forth c.in-Ok.ensures.some) in
-    subst (λ (z : Shown). c.refresh.new.steps ≤ c.args.steps.now + most_steps (g.E.FactEngine.most (accepted z.dict)) (rules z.dict) (course z) (step_command c.args.forth)) c.self.view_is
-    (subst (λ (n : ℕ). c.refresh.new.steps ≤ c.args.steps.now + n) same c.in-Err-refresh.ensures.steps)
+    subst (λ (z : SessionView). c.refresh.new.steps ≤ c.args.steps.now + most_steps (g.E.FactEngine.most (accepted z.dict)) (rules z.dict) (course z) (step_command c.args.forth)) c.self.view_is
+    (there_steps c.self.inside.dict c.args.forth _ q c.self.invariant.0 c.in-Ok.ensures.moved c.in-Ok.ensures.some (change c.in-Some.undo.now) newest (g.E.FactEngine.most (accepted c.self.inside.dict)) c.self.inside.changes _ _ _ c.in-Err-refresh.ensures.steps)

@@ -1,5 +1,5 @@
 use Rattle.std.proofs.Common.{refl}
-use Rattle.answers.specs.Standing.{answered}
+use Rattle.answers.specs.Meaning.{answered}
 use Rattle.dictionary.specs.Accepted.{accepted}
 use Rattle.graph_session.proofs.CountLaws.{fresh_offered}
 use Rattle.graph_session.proofs.session.Session.resume.Goals as goal

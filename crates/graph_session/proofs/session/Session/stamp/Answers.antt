@@ -1,5 +1,5 @@
 use Rattle.std.proofs.Common.{◌∙◌}
-use Rattle.answers.specs.Standing.{answered}
+use Rattle.answers.specs.Meaning.{answered}
 use Rattle.dictionary.specs.Accepted.{accepted}
 use Rattle.graph_session.proofs.CountLaws.{offered_stamp}
 use Rattle.graph_session.proofs.session.Session.stamp.Goals as goal

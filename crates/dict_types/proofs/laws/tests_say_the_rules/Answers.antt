@@ -1,0 +1,18 @@
+use Rattle.dict_types.proofs.RuleLaws.{bad_path_decides, no_collection_decides, unknown_path_decides, wrong_place_decides}
+use Rattle.dict_types.proofs.UnfitLaws.{bad_limit_decides}
+use Rattle.dict_types.proofs.laws.tests_say_the_rules.Goals as goal
+
+pub returns-clause-bad_path : goal.returns-clause-bad_path
+returns-clause-bad_path c = bad_path_decides
+
+pub returns-clause-no_collection : goal.returns-clause-no_collection
+returns-clause-no_collection c = no_collection_decides
+
+pub returns-clause-unknown_path : goal.returns-clause-unknown_path
+returns-clause-unknown_path c = unknown_path_decides
+
+pub returns-clause-wrong_place : goal.returns-clause-wrong_place
+returns-clause-wrong_place c = wrong_place_decides
+
+pub returns-clause-bad_limit : goal.returns-clause-bad_limit
+returns-clause-bad_limit c = bad_limit_decides

@@ -1,0 +1,23 @@
+//! The tests of the crates of the ground and of the first floors, which are proved once, without them.
+#![tactic(auto)]
+
+#[cfg(test)]
+mod answers_tests;
+#[cfg(test)]
+mod fact_paths_tests;
+#[cfg(test)]
+mod fact_values_tests;
+#[cfg(test)]
+mod fg_io_tests;
+#[cfg(test)]
+mod script_lines_tests;
+#[cfg(test)]
+mod session_undo_tests;
+#[cfg(test)]
+mod steps_tests;
+#[cfg(test)]
+mod text_checks_tests;
+#[cfg(test)]
+mod three_state_tests;
+#[cfg(test)]
+mod value_text_tests;
