@@ -12,7 +12,6 @@ pub mod ListingLaws
 pub mod MemberLaws
 pub mod MentionLaws
 pub mod NameLaws
-pub mod NameLengths
 pub mod OperandLaws
 pub mod PathIndexLaws
 pub mod SourceExamples

@@ -1,5 +1,5 @@
 /// A constant as it is written: its text, which may be no value of the type.
-#[derive(Debug, Drop)]
+#[derive(Drop)]
 pub enum Constant {
     True,
     False,

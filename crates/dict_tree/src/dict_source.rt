@@ -40,7 +40,7 @@ impl Model for DictSource {
 }
 
 /// No memory was left for a fact, which comes back.
-#[derive(Debug, Drop)]
+#[derive(Drop)]
 pub struct Unpushed {
     pub fact: FactSource,
 }

@@ -3,7 +3,7 @@ use crate::operators::{ManyOp, OneOp, PickOp, ReadOp, TwoOp};
 use crate::path_use::PathUse;
 
 /// An expression as it is written.
-#[derive(Debug, Drop)]
+#[derive(Drop)]
 #[cycle(expr)]
 pub enum Expr {
     Const(Constant),
@@ -19,7 +19,7 @@ pub enum Expr {
 }
 
 /// One case of a switch.
-#[derive(Debug, Drop)]
+#[derive(Drop)]
 #[cycle(expr)]
 pub struct Case {
     pub test: Expr,

@@ -4,7 +4,7 @@ use fact_paths::{FactPath, Name};
 use fact_values::FactType;
 
 /// The type that a fact states, as it is written.
-#[derive(Debug, Drop)]
+#[derive(Drop)]
 pub enum TypeText {
     /// One of the six types that need no name.
     Scalar(FactType),
@@ -19,7 +19,7 @@ pub enum TypeText {
 }
 
 /// A limit on the answers of a writable fact, with its text as it is written.
-#[derive(Debug, Drop)]
+#[derive(Drop)]
 pub enum LimitText {
     /// The least value.
     Min(String),
@@ -32,14 +32,14 @@ pub enum LimitText {
 }
 
 /// The condition under which a fact has another value.
-#[derive(Debug, Drop)]
+#[derive(Drop)]
 pub struct Conditional {
     pub test: Expr,
     pub value: Expr,
 }
 
 /// A fact as it is written.
-#[derive(Debug, Drop)]
+#[derive(Drop)]
 pub struct FactSource {
     pub path_text: String,
     /// What the path's text spells: `None` where it spells no path of a fact.

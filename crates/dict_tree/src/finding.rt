@@ -7,7 +7,7 @@ use fact_paths::Name;
 use value_text::Line;
 
 // The text of `/N`.
-#[tactic(auto, using(crate::proofs::NameLengths::short))]
+#[tactic(auto, using(value_text::proofs::EnumLemmas::name_short))]
 pub fn global_line(name: &Name) -> Line
     ensures text { result ≡ fact_path_text (Global name.now) }
     ensures good { IsName name.now }
@@ -19,7 +19,7 @@ pub fn global_line(name: &Name) -> Line
 }
 
 // The text of `/N/*/M`.
-#[tactic(auto, using(crate::proofs::NameLengths::short))]
+#[tactic(auto, using(value_text::proofs::EnumLemmas::name_short))]
 pub fn member_line(collection: &Name, member: &Name) -> Line
     ensures text { result ≡ fact_path_text (Member collection.now member.now) }
     ensures good_collection { IsName collection.now }

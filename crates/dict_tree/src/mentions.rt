@@ -14,7 +14,7 @@ use fact_paths::UsePath;
 use std::alloc::{AllocError, Global};
 
 /// A fact that another one reads, by its number.
-#[derive(Clone, Copy, Debug, PartialEq, Eq)]
+#[derive(Clone, Copy, PartialEq, Eq)]
 pub struct Mention {
     pub fact: u32,
     /// Whether it is read of the same member alone, and not of any.

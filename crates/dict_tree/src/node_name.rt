@@ -4,7 +4,7 @@ ghost use Rattle.dict_tree.specs.Names.{node_named};
 use crate::operators::{ManyOp, OneOp, PickOp, ReadOp, TwoOp};
 
 /// The kinds of constant.
-#[derive(Clone, Copy, Debug, PartialEq, Eq)]
+#[derive(Clone, Copy, PartialEq, Eq)]
 pub enum ConstantName {
     True,
     False,
@@ -17,7 +17,7 @@ pub enum ConstantName {
 }
 
 /// The node that a name stands for.
-#[derive(Clone, Copy, Debug, PartialEq, Eq)]
+#[derive(Clone, Copy, PartialEq, Eq)]
 pub enum NodeName {
     Constant(ConstantName),
     Read(ReadOp),

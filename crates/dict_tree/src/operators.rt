@@ -1,5 +1,5 @@
 /// What a node that reads a path asks of the facts that the path names.
-#[derive(Clone, Copy, Debug, PartialEq, Eq)]
+#[derive(Clone, Copy, PartialEq, Eq)]
 pub enum ReadOp {
     /// The fact's result.
     Dependency,
@@ -14,7 +14,7 @@ pub enum ReadOp {
 }
 
 /// A node with a list of operands.
-#[derive(Clone, Copy, Debug, PartialEq, Eq)]
+#[derive(Clone, Copy, PartialEq, Eq)]
 pub enum ManyOp {
     All,
     Any,
@@ -26,7 +26,7 @@ pub enum ManyOp {
 }
 
 /// A node with one operand.
-#[derive(Clone, Copy, Debug, PartialEq, Eq)]
+#[derive(Clone, Copy, PartialEq, Eq)]
 pub enum OneOp {
     Not,
     /// To whole dollars.
@@ -35,7 +35,7 @@ pub enum OneOp {
 }
 
 /// A node with two operands, the left one first.
-#[derive(Clone, Copy, Debug, PartialEq, Eq)]
+#[derive(Clone, Copy, PartialEq, Eq)]
 pub enum TwoOp {
     Multiply,
     Divide,
@@ -49,7 +49,7 @@ pub enum TwoOp {
 }
 
 /// A node that judges the members of a collection one by one.
-#[derive(Clone, Copy, Debug, PartialEq, Eq)]
+#[derive(Clone, Copy, PartialEq, Eq)]
 pub enum PickOp {
     /// All members for which the condition is true.
     Filter,

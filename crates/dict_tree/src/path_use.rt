@@ -7,7 +7,7 @@ use fact_values::NoMemory;
 use std::alloc::Global;
 
 /// A path of a use as it is written, and what it spells: `None` where it spells none.
-#[derive(Debug, Drop)]
+#[derive(Drop)]
 pub struct PathUse {
     pub text: String,
     pub path: Option<UsePath>,

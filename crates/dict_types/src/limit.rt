@@ -1,7 +1,7 @@
 use fact_values::Value;
 
 /// A limit on the answers of a writable fact.
-#[derive(Debug, Drop)]
+#[derive(Drop)]
 pub enum Limit {
     Min(Value),
     Max(Value),

@@ -9,7 +9,7 @@ use dict_tree::{ManyOp, OneOp, PickOp, TwoOp};
 use fact_values::FactType;
 
 /// The types of a case: of its test, and of its outcome.
-#[derive(Clone, Copy, Debug, PartialEq, Eq)]
+#[derive(Clone, Copy, PartialEq, Eq)]
 pub struct CaseType {
     pub test: FactType,
     pub outcome: FactType,

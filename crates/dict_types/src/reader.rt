@@ -1,7 +1,7 @@
 use dict_tree::{PickOp, ReadOp};
 
 /// What uses a path.
-#[derive(Clone, Copy, Debug, PartialEq, Eq)]
+#[derive(Clone, Copy, PartialEq, Eq)]
 pub enum Reader {
     Read(ReadOp),
     /// The path of the collection whose members are picked.

@@ -14,7 +14,7 @@ use dict_tree::{DictSource, FactSource};
 use text_checks::CheckTable;
 
 /// A rule of paths and checks.
-#[derive(Clone, Copy, Debug, PartialEq, Eq)]
+#[derive(Clone, Copy, PartialEq, Eq)]
 pub enum Rule {
     BadPath,
     DuplicatePath,

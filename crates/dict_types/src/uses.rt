@@ -14,7 +14,7 @@ use crate::wrong_place::is_misplaced;
 use dict_tree::{Case, Conditional, DictSource, Expr, FactSource, PathUse, ReadOp};
 
 /// A rule that the use of a path may break.
-#[derive(Clone, Copy, Debug, PartialEq, Eq)]
+#[derive(Clone, Copy, PartialEq, Eq)]
 pub enum UseRule {
     BadPath,
     NoCollection,

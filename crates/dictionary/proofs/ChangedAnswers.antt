@@ -1,6 +1,6 @@
 -- What a change makes of lists, of the members in them and of what slots have.
-use Rattle.std.proofs.Common.{◌≡◌, ℕ, zero, suc, ◌+◌, ◌-◌, ◌≤◌, Bool, true, false, cond, not, ◌&&◌, ◌||◌, if◌then◌else◌, nat_eq, List, [], ◌∷◌, ◌++◌, length, Option, Some, None, option_map, unwrap_or, refl, sym, ap, subst, ◌∙◌, arith, length-append}
-use Rattle.std.specs.Prelude.{IsSome, insert, is_some}
+use Rattle.std.proofs.Common.{◌≡◌, ℕ, zero, suc, ◌-◌, ◌≤◌, Bool, true, false, cond, ◌||◌, if◌then◌else◌, nat_eq, List, [], ◌∷◌, ◌++◌, length, Option, Some, None, unwrap_or, refl, sym, ap, subst, ◌∙◌, arith, length-append}
+use Rattle.std.specs.Prelude.{insert}
 use Rattle.std.specs.List.{list_any}
 use Rattle.std.specs.FinMap as map
 use Rattle.std.proofs.lemmas.Bool.Decides.{nat_tests}
@@ -10,13 +10,12 @@ use Rattle.fact_values.specs.declared.slot.Slot.{Slot}
 use Rattle.fact_values.specs.declared.value.Value.{Value}
 use Rattle.common_lemmas.proofs.Bools.{or_false, or_left}
 use Rattle.common_lemmas.proofs.Numbers.{nat_eq-comm, same_number}
-use Rattle.answers.specs.Answered.{Answered, Entry, blank, entry, list_of, of_side, value_of}
-use Rattle.answers.specs.Change.{Change, sets, opens, closes, adds, takes, removes, puts_back, applied, Fits, with_value}
+use Rattle.answers.specs.Answered.{Answered, Entry, blank, list_of, of_side, value_of}
+use Rattle.answers.specs.Change.{Change, sets, opens, closes, adds, takes, removes, puts_back, applied, Fits}
 use Rattle.answers.specs.Finite.{Numbered, and_then, put_at}
 use Rattle.answers.specs.Lists.{IsIn, IsNotIn, without, without_last}
 use Rattle.answers.specs.WellFormed.{WellFormed}
 use Rattle.answers.specs.declared.edit.Side.{Side}
-use Rattle.answers.specs.declared.edit.Side.TheVariants.{Answer, Override}
 use Rattle.answers.proofs.FiniteLaws.{get_put, get_put_other, get_put_own}
 use Rattle.answers.proofs.FitsLaws.{shorter}
 use Rattle.answers.proofs.ListLaws.{last_off}

@@ -1,14 +1,12 @@
 -- The faults that the parts of acceptance find are those of the dictionary.
-use Rattle.std.proofs.Common.{◌≡◌, ℕ, List, Ok, Err, sym, subst}
+use Rattle.std.proofs.Common.{◌≡◌, ℕ, List, Ok, sym, subst}
 use Rattle.dict_tree.specs.Dictionary.{Dictionary as Tree}
 use Rattle.dict_tree.specs.DictReading.{BytesGive}
-use Rattle.dict_tree.specs.declared.fault.TreeFault.{TreeFault}
-use Rattle.dict_tree.specs.declared.fault.TreeFault.TheVariants as trees
 use Rattle.dict_types.specs.declared.fault.TypeFault.{TypeFault}
 use Rattle.dict_types.specs.declared.fault.TypeFault.TheVariants as types
 use Rattle.dict_types.specs.DictFaults.{IsFirstFault}
 use Rattle.dict_types.specs.Typed.{Refuses as RefusesTypes}
-use Rattle.dictionary.specs.Faults.{IsCycleOf, IsFault, IsFaultOf, Refuses, of_trees, of_types}
+use Rattle.dictionary.specs.Faults.{IsFault, IsFaultOf, Refuses, of_types}
 use Rattle.dictionary.specs.declared.fault.DictFault.{DictFault}
 use Rattle.dictionary.specs.declared.fault.DictFault.TheVariants as faults
 

@@ -1,5 +1,5 @@
 -- After an allowed change that can be made, answers that fitted still fit.
-use Rattle.std.proofs.Common.{◌≡◌, ◌⊎◌, ℕ, Bool, true, false, cond, ◌&&◌, ◌||◌, if◌then◌else◌, nat_eq, IsTrue, List, [], ◌∷◌, ◌++◌, Option, Some, None, unwrap_or, inl, inr, refl, sym, ap, subst, ◌∙◌, arith}
+use Rattle.std.proofs.Common.{◌≡◌, ◌⊎◌, ℕ, Bool, true, false, cond, ◌&&◌, if◌then◌else◌, nat_eq, IsTrue, List, [], ◌∷◌, ◌++◌, Option, Some, None, unwrap_or, inl, inr, refl, sym, ap, subst, ◌∙◌, arith}
 use Rattle.std.specs.Prelude.{IsSome}
 use Rattle.std.specs.FinMap as map
 use Rattle.std.specs.List.{list_any}
@@ -19,7 +19,7 @@ use Rattle.answers.specs.Lists.{IsIn, without}
 use Rattle.answers.specs.WellFormed.{FromOne, WellFormed}
 use Rattle.answers.specs.declared.edit.Side.{Side}
 use Rattle.answers.proofs.FiniteLaws.{get_put}
-use Rattle.answers.proofs.StandLaws.{entry_stands, list_after, list_there, none_some}
+use Rattle.answers.proofs.StandLaws.{entry_stands, list_after, list_there}
 use Rattle.answers.proofs.WellLaws.{any_kept, applied_from_one, applied_well}
 use Rattle.dictionary.specs.Accepted.{Accepted, IsAccepted}
 use Rattle.dictionary.specs.Allowed.{IsAllowed}

@@ -5,13 +5,12 @@ use Rattle.std.specs.List.{All}
 use Rattle.std.specs.Map.{lookup}
 use Rattle.std.specs.Ordering.{nat_cmp}
 use Rattle.std.specs.FinMap as map
-use Rattle.std.proofs.lemmas.Bool.Decides.{nat_tests}
 use Rattle.std.proofs.lemmas.List.Elements.{All-head, All-tail}
 use Rattle.fact_values.specs.declared.slot.Slot.{Slot}
 use Rattle.dict_tree.specs.Dictionary.{Dictionary as Tree}
 use Rattle.common_lemmas.proofs.Numbers.{same_number}
 use Rattle.answers.specs.Answered.{Answered, Entry, blank, of_side, start, value_of}
-use Rattle.answers.specs.Finite.{Numbered, and_then, map_of}
+use Rattle.answers.specs.Finite.{Numbered, and_then}
 use Rattle.answers.specs.GivenLists.{IsOfLists, is_in_some}
 use Rattle.answers.specs.declared.edit.Side.{Side}
 use Rattle.answers.specs.declared.edit.Side.TheVariants.{Answer, Override}

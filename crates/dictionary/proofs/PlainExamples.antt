@@ -1,32 +1,23 @@
 -- Plain evaluation of small dictionaries over answers, by example.
-use Rattle.std.proofs.Common.{◌≡◌, ℕ, Bool, true, false, cond, ◌&&◌, List, [], ◌∷◌, Option, Some, None, Result, Ok, Err, pos, refl, ap, ◌∙◌}
-use Rattle.std.specs.Prelude.{codes, IsTrue, nat_eq, is_ok, map as map_list}
+use Rattle.std.proofs.Common.{◌≡◌, ℕ, true, false, cond, List, [], ◌∷◌, Option, Some, None, pos, refl, ap, ◌∙◌}
+use Rattle.std.specs.Prelude.{codes, nat_eq, map as map_list}
 use Rattle.std.specs.FinMap as map
 use Rattle.std.specs.Ordering.{nat_cmp}
 use Rattle.fact_paths.specs.Paths.{fact_path_text, use_path_text}
 use Rattle.fact_paths.specs.declared.fact_path.FactPath.TheVariants as facts
 use Rattle.fact_paths.specs.declared.use_path.UsePath.{UsePath}
 use Rattle.fact_paths.specs.declared.use_path.UsePath.TheVariants as uses
-use Rattle.fact_values.specs.Rationals.{gcd}
 use Rattle.fact_values.specs.declared.fact_type.FactType.{FactType}
 use Rattle.fact_values.specs.declared.fact_type.FactType.TheVariants as types
-use Rattle.fact_values.specs.declared.fault.ValueFault.TheVariants.{Overflow, ZeroDivide}
 use Rattle.fact_values.specs.declared.value.Value.{Value}
-use Rattle.fact_values.specs.declared.value.Value.TheVariants.{Boolean, Dollar, Int, Item, Members}
-use Rattle.dict_tree.specs.declared.operators.ManyOp.TheVariants.{Add, All, Any}
+use Rattle.fact_values.specs.declared.value.Value.TheVariants.{Boolean, Dollar, Int, Item}
+use Rattle.dict_tree.specs.declared.operators.ManyOp.TheVariants.{Add, All}
 use Rattle.dict_tree.specs.declared.operators.ReadOp.{ReadOp}
 use Rattle.dict_tree.specs.declared.operators.ReadOp.TheVariants.{CollectionSum, Dependency, IsComplete}
 use Rattle.dict_tree.specs.declared.operators.PickOp.TheVariants.{Filter, Find}
-use Rattle.dict_tree.specs.declared.operators.TwoOp.TheVariants.{Divide, Equal, Multiply}
-use Rattle.dict_tree.specs.Tree.{Source, Use, literal, literal_dollar, literal_false, literal_int, literal_rational, literal_true, many, no_trees, pick, read, switch, tree, two, a_case, no_cases}
+use Rattle.dict_tree.specs.Tree.{Source, Use, literal, literal_dollar, literal_int, many, no_trees, pick, read, switch, tree, a_case, no_cases}
 use Rattle.dict_tree.specs.Facts.{Fact, item_of, list_of, scalar, writable_list}
-use Rattle.dict_tree.specs.Dictionary.{Dictionary as Tree}
-use Rattle.dict_types.specs.Typed.{typed_dictionary}
-use Rattle.dict_types.specs.TypedParts.{TypedDictionary}
-use Rattle.dict_types.specs.declared.fault.TypeFault.{TypeFault}
-use Rattle.dict_order.specs.MentionGraph.{mention_graph}
-use Rattle.dict_order.specs.Ranks.{are_ranks}
-use Rattle.three_state.specs.declared.res.Res.TheVariants.{Complete, Placeholder, Incomplete, Fault}
+use Rattle.three_state.specs.declared.res.Res.TheVariants.{Complete, Placeholder, Incomplete}
 use Rattle.answers.specs.Answered.{Answered, Entry}
 use Rattle.answers.specs.Finite.{Numbered, put_at}
 use Rattle.answers.proofs.FiniteLaws.{get_put}

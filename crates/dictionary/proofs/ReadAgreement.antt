@@ -1,4 +1,4 @@
--- Where two maps of results agree on what an expression of a fact reads, it has one result, and one weight, over both.
+-- Where two maps of results agree on what an expression of a fact reads, it has one result, one weight and one number of visits over both.
 use Rattle.std.proofs.Common.{◌≡◌, ℕ, List, [], ◌∷◌, map, Option, Some, None, refl, ap, subst, sym, ◌∙◌}
 use Rattle.fact_paths.specs.declared.use_path.UsePath.{UsePath}
 use Rattle.fact_paths.specs.declared.use_path.UsePath.TheVariants.{Global, Sibling, Inner, Each, Through, SiblingThrough}
@@ -23,9 +23,11 @@ use Rattle.evaluation.specs.Agreement.{IsIn}
 use Rattle.evaluation.specs.ByBases.{AgreeIn}
 use Rattle.evaluation.specs.Mentioned.{AllOf}
 use Rattle.evaluation.specs.Over.{weight}
+use Rattle.evaluation.specs.Visits.{visits}
 use Rattle.evaluation.specs.Reads.{collection_size, complete_test, sum_over, through_item}
 use Rattle.evaluation.proofs.Coincide.{is_head, map_same}
 use Rattle.evaluation.proofs.Mentions.{coincide_in, weigh_same_in}
+use Rattle.evaluation.proofs.VisitLaws.{visit-same-in}
 use Rattle.answers.specs.Answered.{Answered, value_of}
 use Rattle.answers.specs.declared.edit.Side.TheVariants.{Override}
 use Rattle.dictionary.specs.Plain.{answer_result, body, expression, given_value, main_result, or_override, or_placeholder, slot_result}
@@ -150,6 +152,10 @@ module _ (d : Tree) (fact : ℕ) (M : Mention → Type 0) (J : Place → Type 0)
   pub weight_same : (t : Source) → EachUse d fact M (Some t) → (own : ℕ) → J (outermost own) → weight (source_env d look fact) (outermost own) t ≡ weight (source_env d look' fact) (outermost own) t
   weight_same t k own j =
       weigh_same_in (ReadIs d fact M) (SourceIs d fact M) (base_under d fact) (λ base at. (at.base ≡ base) × J at) (source_env d look fact) (source_env d look' fact) agree t 0 k (outermost own) (refl, j)
+
+  pub visits_same : (t : Source) → EachUse d fact M (Some t) → (own : ℕ) → J (outermost own) → visits (source_env d look fact) (outermost own) t ≡ visits (source_env d look' fact) (outermost own) t
+  visits_same t k own j =
+      visit-same-in (ReadIs d fact M) (SourceIs d fact M) (base_under d fact) (λ base at. (at.base ≡ base) × J at) (source_env d look fact) (source_env d look' fact) agree t 0 k (outermost own) (refl, j)
 
 -- ---- a slot
 

@@ -11,7 +11,7 @@ use Rattle.fact_values.specs.declared.value.Value.TheVariants.{Item}
 use Rattle.dict_tree.specs.declared.operators.ReadOp.{ReadOp}
 use Rattle.dict_tree.specs.declared.operators.ReadOp.TheVariants.{Dependency, IsComplete, CollectionSize, CollectionSum, Count}
 use Rattle.dict_tree.specs.declared.targets.Targets.{Targets}
-use Rattle.dict_tree.specs.Facts.{Fact, Stated, scalar, enum_of, writable_list, list_of, item_of}
+use Rattle.dict_tree.specs.Facts.{Fact, Stated, writable_list, list_of, item_of}
 use Rattle.dict_tree.specs.Dictionary.{Dictionary as Tree}
 use Rattle.dict_tree.specs.Finding.{fact_at}
 use Rattle.dict_tree.specs.Mentions.{condition_base}
@@ -20,7 +20,7 @@ use Rattle.dict_types.specs.FactTyping.{count_type, field_sum_type, known, last_
 use Rattle.dict_types.specs.StatedTypes.{base_number, stated_type, type_at, type_stated}
 use Rattle.three_state.specs.declared.res.Res.{Res}
 use Rattle.three_state.specs.declared.res.Res.TheVariants.{Complete, Placeholder, Incomplete, Fault}
-use Rattle.three_state.specs.Results.{count_of, down}
+use Rattle.three_state.specs.Results.{count_of}
 use Rattle.evaluation.specs.Reads.{collection_size, complete_test, field_at, sum_over, through_item}
 use Rattle.evaluation.specs.Typed.{Domains, IsResOfType, IsTypedAt}
 use Rattle.evaluation.proofs.TypedLaws.{count-typed, down-type, size-typed, sum-typed}

@@ -1,5 +1,5 @@
 -- Two answers under which the slots that feed a slot keep their results: plain evaluation agrees on all that the slot's fact reads.
-use Rattle.std.proofs.Common.{◌≡◌, ℕ, Bool, true, false, nat_eq, IsTrue, List, Option, Some, None, is_some, refl, sym, ap, subst, ◌∙◌, unwrap_or}
+use Rattle.std.proofs.Common.{◌≡◌, ℕ, Bool, true, false, nat_eq, IsTrue, List, Option, Some, None, refl, sym, ap, subst, ◌∙◌, unwrap_or}
 use Rattle.std.specs.Prelude.{option_and_then}
 use Rattle.std.proofs.lemmas.Bool.{eq-eqb, eqb-true}
 use Rattle.fact_paths.specs.declared.use_path.UsePath.{UsePath}

@@ -1,6 +1,5 @@
 -- Plain evaluation gives values of the facts' types: by induction on the rank below which the facts are evaluated.
 use Rattle.std.proofs.Common.{◌≡◌, ℕ, zero, suc, Bool, true, false, ◌&&◌, nat_lt, List, Option, Some, None, if◌then◌else◌, refl, sym, ap, subst, ◌∙◌}
-use Rattle.std.specs.Prelude.{IsTrue, option_and_then}
 use Rattle.std.specs.FinMap as map
 use Rattle.fact_values.specs.declared.fact_type.FactType.{FactType}
 use Rattle.fact_values.specs.declared.fact_type.FactType.TheVariants as types
@@ -8,17 +7,13 @@ use Rattle.fact_values.specs.declared.slot.Slot.{Slot}
 use Rattle.fact_values.specs.declared.value.Value.{Value}
 use Rattle.fact_values.specs.declared.value.Value.TheVariants.{Members}
 use Rattle.dict_tree.specs.Tree.{Source}
-use Rattle.dict_tree.specs.Facts.{Fact, Stated, scalar, enum_of, writable_list, list_of, item_of}
+use Rattle.dict_tree.specs.Facts.{Fact, Stated, writable_list}
 use Rattle.dict_tree.specs.Dictionary.{Dictionary as Tree}
 use Rattle.dict_tree.specs.Finding.{fact_at}
 use Rattle.dict_tree.specs.Typing.{HasType}
-use Rattle.dict_tree.specs.Targets.{item_base_at, list_base_at}
-use Rattle.dict_types.specs.StatedTypes.{base_number, stated_type, type_at}
+use Rattle.dict_types.specs.StatedTypes.{stated_type, type_at}
 use Rattle.three_state.specs.declared.res.Res.{Res}
 use Rattle.three_state.specs.declared.res.Res.TheVariants.{Complete, Placeholder, Incomplete, Fault}
-use Rattle.three_state.specs.Results.{members_of}
-use Rattle.evaluation.specs.Agreement.{IsIn}
-use Rattle.evaluation.specs.SlotsRead.{member_read}
 use Rattle.evaluation.specs.Typed.{Domains, IsOfType, IsResOfType}
 use Rattle.evaluation.proofs.TypedLaws.{down-type, typed}
 use Rattle.answers.specs.Answered.{Answered, value_of}
@@ -28,7 +23,7 @@ use Rattle.dictionary.specs.Accepted.{Accepted, IsAccepted}
 use Rattle.dictionary.specs.Fits.{AnswersFit, domains}
 use Rattle.dictionary.specs.Plain.{answer_result, at_fact, body, expression, given_value, main_result, open_list, or_override, or_placeholder, plain, rank, slot_result, table}
 use Rattle.dictionary.specs.Reading.{Look, outermost, result_at, source_env}
-use Rattle.dictionary.specs.Slots.{is_member, stands}
+use Rattle.dictionary.specs.Slots.{stands}
 use Rattle.dictionary.specs.TypedResults.{TypedResults}
 use Rattle.dictionary.proofs.FactTypes.{HasOptionType, IsTypedAs, type_of_number, typed_fact}
 use Rattle.dictionary.proofs.ListTypes.{open_members, own_number}

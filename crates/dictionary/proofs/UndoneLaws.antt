@@ -1,5 +1,5 @@
 -- What a change did, read off the change that undoes it.
-use Rattle.std.proofs.Common.{◌≡◌, ℕ, ◌-◌, Bool, true, false, cond, not, ◌&&◌, ◌||◌, if◌then◌else◌, nat_eq, IsTrue, List, [], ◌∷◌, ◌++◌, Option, Some, None, unwrap_or, refl, sym, ap, subst, ◌∙◌, arith}
+use Rattle.std.proofs.Common.{◌≡◌, ℕ, ◌-◌, Bool, true, false, cond, not, ◌&&◌, ◌||◌, if◌then◌else◌, nat_eq, IsTrue, List, [], ◌∷◌, ◌++◌, Option, Some, None, refl, sym, ap, subst, ◌∙◌, arith}
 use Rattle.std.specs.Prelude.{insert}
 use Rattle.std.specs.List.{list_any}
 use Rattle.std.specs.FinMap as map
@@ -33,7 +33,7 @@ use Rattle.dictionary.specs.Homes.{home}
 use Rattle.dictionary.specs.Reading.{slot}
 use Rattle.dictionary.specs.Slots.{slot_same, stands, stands_of}
 use Rattle.dictionary.specs.Touched.{same_entry}
-use Rattle.dictionary.specs.Undone.{CameTells, DiffersTells, ExtendedTells, FirstTells, IsUndone, WentTells, came, differs, is_extended, is_touched_first, went}
+use Rattle.dictionary.specs.Undone.{CameTells, DiffersTells, ExtendedTells, FirstTells, IsUndone, WentTells, came, differs, is_extended, went}
 use Rattle.dictionary.proofs.ChangedAnswers.{IsSet, add_differs, back_differs, close_differs, nothing_put, open_differs, remove_differs, stays_in, take_differs, value_stays, went_out}
 use Rattle.dictionary.proofs.ExtensionLaws.{equal_kept, equal_same, kept_equal, list_home, same_option, test_tells_extends}
 use Rattle.dictionary.proofs.FitChangeLaws.{still_stands}

@@ -7,7 +7,7 @@ use Rattle.std.proofs.lemmas.Bool.{not-false}
 use Rattle.std.proofs.lemmas.Slice.Eq.{bytes_eq-Decides}
 use Rattle.fact_values.specs.declared.slot.Slot.{Slot}
 use Rattle.dict_tree.specs.declared.mentions.Mention.{Mention}
-use Rattle.dict_tree.specs.Facts.{Fact, Stated, scalar, enum_of, writable_list, list_of, item_of}
+use Rattle.dict_tree.specs.Facts.{Fact, Stated, writable_list}
 use Rattle.dict_tree.specs.Finding.{fact_at}
 use Rattle.three_state.specs.declared.res.Res.{Res}
 use Rattle.three_state.specs.Equality.{res_same, value_same}

@@ -9,7 +9,6 @@ use Rattle.dict_tree.specs.Tree.{Source}
 use Rattle.evaluation.specs.Over.{weight}
 use Rattle.answers.specs.Answered.{Answered}
 use Rattle.dictionary.specs.Accepted.{Accepted, IsAccepted}
-use Rattle.dictionary.specs.Fits.{AnswersFit}
 use Rattle.dictionary.specs.Plain.{IsPlainBelow, at_fact, body, plain, rank}
 use Rattle.dictionary.specs.Reading.{Look, Place, outermost, source_env}
 use Rattle.dictionary.specs.Weights.{expression_weight, slot_weight}
@@ -17,8 +16,6 @@ use Rattle.dictionary.proofs.FactMentions.{EachUse}
 use Rattle.dictionary.proofs.PlainLaws.{AgreeBelow, agree_under as agree_below, at_fact_same}
 use Rattle.dictionary.proofs.RankLaws.{IsLowerMention, lower_uses}
 use Rattle.dictionary.proofs.ReadAgreement.{AgreeUnder, weight_same}
-use Rattle.dictionary.proofs.TargetAgreement.{IsReached, StaysBy, agree_under}
-use Rattle.dictionary.proofs.UntouchedLaws.{IsQuiet, outside, own, uses}
 
 -- the weight of an expression of the slot's fact, and of the slot, over a map
 abbrev pub weight_over : Tree → Look → Slot → Option Source → ℕ

@@ -10,7 +10,7 @@ use itoa::Buffer;
 use value_text::Line;
 
 // Appends a slash and a name.
-#[tactic(auto, using(dict_tree::proofs::NameLengths::short))]
+#[tactic(auto, using(value_text::proofs::EnumLemmas::name_short))]
 fn print_name(name: &Name, out: &mut Line)
     requires { length out.old + 65 ≤ 1100 }
     ensures appended { out.new ≡ out.old ++ codes "/" ++ name.now }

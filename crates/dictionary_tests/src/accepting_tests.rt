@@ -1,15 +1,13 @@
-//! Tests of `dictionary`.
-ghost use Rattle.std.specs.Prelude.{◌≡◌};
-ghost use Rattle.text_checks.specs.Checks.{check_says};
+//! Tests of `dictionary`. Which faults are named is stored cases of the program.
 
+use crate::checks::table;
 use dict_tree::read;
 use dictionary::{DictFault, Dictionary, accept, of_source};
-use fact_paths::Name;
 use fact_values::Slot;
 use std::alloc::Global;
 use std::process::Abort;
 use std::test::Fail;
-use text_checks::{CheckTable, digits, nine_digits};
+use text_checks::CheckTable;
 use value_text::Line;
 
 const SUM: &[u8] =
@@ -28,81 +26,68 @@ const CHECKED: &[u8] =
 const MEMBERS: &[u8] =
     br#"{"version":"1","facts":[{"path":"/t","derived":"Int","is":["CollectionSum","/l/*/v"]},{"path":"/l","derived":"Collection(/c)","is":["Filter","/c",["Dependency","k"]]},{"path":"/c","writable":"Collection"},{"path":"/c/*/k","writable":"Boolean"},{"path":"/c/*/v","writable":"Int"},{"path":"/i","derived":"Boolean","is":["IsComplete","/t"]}]}"#;
 
-// The check `digits`.
-fn one_check(alloc: Global) -> Result<CheckTable, Fail> {
-    let mut table = CheckTable::new(alloc);
-    let check = Box::new(
-        alloc,
-        |text: &str| -> bool
-            ensures { result ≡ check_says 1 text.now }
-        { digits(text) },
-    )?;
-    table.add(Name::read(alloc, "digits")?, 1, check)?;
-    Ok(table)
-}
-
-// The checks `digits` and `nine-digits`.
-fn two_checks(alloc: Global) -> Result<CheckTable, Fail> {
-    let mut table = CheckTable::new(alloc);
-    let check = Box::new(
-        alloc,
-        |text: &str| -> bool
-            ensures { result ≡ check_says 1 text.now }
-        { digits(text) },
-    )?;
-    table.add(Name::read(alloc, "digits")?, 1, check)?;
-    let check = Box::new(
-        alloc,
-        |text: &str| -> bool
-            ensures { result ≡ check_says 2 text.now }
-        { nine_digits(text) },
-    )?;
-    table.add(Name::read(alloc, "nine-digits")?, 2, check)?;
-    Ok(table)
-}
-
-fn fault_of(outcome: Result<Dictionary, DictFault>) -> Option<DictFault> {
-    match outcome {
-        Ok(_) => None,
-        Err(fault) => Some(fault),
+// Whether a dictionary that is read has the fault, or none.
+fn is_judged(alloc: Global, bytes: &[u8], fault: Option<DictFault>) -> bool {
+    let Some(checks) = table(alloc, true, false) else {
+        return false;
+    };
+    match read(alloc, bytes) {
+        Ok(source) => of_source(alloc, source, &checks).err() == fault,
+        Err(_) => false,
     }
 }
 
 #[test]
-fn bytes_past_the_limit_are_too_long(rt: HostRuntime) -> Result<(), Fail> {
-    let alloc = rt.alloc();
-    let checks = one_check(alloc)?;
-    let spaces = vec![in alloc; b' '; 8_388_609]?;
-    let fault = fault_of(accept(alloc, spaces.as_slice(), &checks));
-    assert_eq!(rt; fault, Some(DictFault::TooLong));
-    Ok(())
-}
-
-#[test]
-fn sources_are_judged(rt: HostRuntime) -> Result<(), Fail> {
-    let alloc = rt.alloc();
-    let checks = two_checks(alloc)?;
-    for (bytes, want) in [
+fn sources_are_judged(rt: HostRuntime) {
+    for (bytes, fault) in [
         (SUM, None),
         (CHECKED, None),
         (SUM_OF_TWO_TYPES, Some(DictFault::IllTyped(1, 1))),
         (CYCLE, Some(DictFault::Cycle(1))),
     ] {
-        let fault = fault_of(of_source(alloc, read(alloc, bytes)?, &checks));
-        assert_eq!(rt; fault, want);
+        assert!(rt; is_judged(rt.alloc(), bytes, fault), "{fault:?}");
     }
+}
+
+fn accepted(alloc: Global, bytes: &[u8]) -> Option<Dictionary> {
+    let checks = table(alloc, true, false)?;
+    accept(alloc, bytes, &checks).ok()
+}
+
+// Whether the fact has this rank and home, and is steady or not.
+fn has_figures(d: &Dictionary, fact: u32, rank: u32, home: u32, is_steady: bool) -> bool {
+    if fact == 0 || fact > d.fact_count() {
+        return false;
+    }
+    d.rank(fact) == rank && d.home(fact) == home && d.steady(fact) == is_steady
+}
+
+fn is_worked_out(d: &Dictionary) -> bool {
+    d.node_count() == 4 && d.by_rank() == [3, 4, 5, 2, 1, 6].as_slice()
+}
+
+fn expect_figures(rt: &impl Abort, d: &Dictionary) {
+    for (fact, rank, home, is_steady) in [
+        (1, 2, 0, true),
+        (2, 1, 0, true),
+        (3, 0, 0, true),
+        (4, 0, 3, true),
+        (5, 0, 3, true),
+        (6, 3, 0, false),
+    ] {
+        assert!(rt; has_figures(d, fact, rank, home, is_steady), "of {fact}");
+    }
+}
+
+#[test]
+fn facts_are_worked_out(rt: HostRuntime) -> Result<(), Fail> {
+    let d = accepted(rt.alloc(), MEMBERS).ok_or("refused")?;
+    assert!(rt; is_worked_out(&d));
+    expect_figures(&rt, &d);
     Ok(())
 }
 
-// The rank and the home of the fact, and whether it is steady.
-fn figures(d: &Dictionary, fact: u32) -> (u32, u32, bool) {
-    if fact == 0 || fact > d.fact_count() {
-        return (0, 0, false);
-    }
-    (d.rank(fact), d.home(fact), d.steady(fact))
-}
-
-fn printed(d: &Dictionary, fact: u32, member: u32, want: &str) -> bool {
+fn is_printed(d: &Dictionary, fact: u32, member: u32, wanted: &str) -> bool {
     if fact == 0 || fact > d.fact_count() || member > 1_000_000 {
         return false;
     }
@@ -111,40 +96,32 @@ fn printed(d: &Dictionary, fact: u32, member: u32, want: &str) -> bool {
     }
     let mut line = Line::new();
     d.print_slot(Slot { fact, member }, &mut line);
-    line.bytes() == want.as_bytes()
+    line.bytes() == wanted.as_bytes()
 }
 
 #[test]
-fn facts_are_worked_out(rt: HostRuntime) -> Result<(), Fail> {
-    let alloc = rt.alloc();
-    let checks = one_check(alloc)?;
-    let d = accept(alloc, MEMBERS, &checks)?;
-    assert_eq!(rt; d.node_count(), 4);
-    assert_eq!(rt; d.by_rank(), [3, 4, 5, 2, 1, 6].as_slice());
-    for (fact, want) in [
-        (1, (2, 0, true)),
-        (2, (1, 0, true)),
-        (3, (0, 0, true)),
-        (4, (0, 3, true)),
-        (5, (0, 3, true)),
-        (6, (3, 0, false)),
-    ] {
-        assert_eq!(rt; figures(&d, fact), want, "of {fact}");
-    }
-    assert!(rt; printed(&d, 3, 0, "/c"));
-    assert!(rt; printed(&d, 5, 1_000_000, "/c/#1000000/v"));
+fn slots_are_printed(rt: HostRuntime) -> Result<(), Fail> {
+    let d = accepted(rt.alloc(), MEMBERS).ok_or("refused")?;
+    assert!(rt; is_printed(&d, 3, 0, "/c"));
+    assert!(rt; is_printed(&d, 5, 1_000_000, "/c/#1000000/v"));
     Ok(())
+}
+
+// Whether the dictionary, accepted with both checks, takes the first alone for the same.
+fn takes_fewer(alloc: Global, bytes: &[u8], fewer: &CheckTable) -> Option<bool> {
+    Some(accepted(alloc, bytes)?.same_checks(fewer))
+}
+
+fn takes_both(alloc: Global, bytes: &[u8]) -> Option<bool> {
+    let both = table(alloc, true, false)?;
+    Some(accepted(alloc, bytes)?.same_checks(&both))
 }
 
 #[test]
 fn checks_stay_those_of_acceptance(rt: HostRuntime) -> Result<(), Fail> {
-    let alloc = rt.alloc();
-    let checks = two_checks(alloc)?;
-    let fewer = one_check(alloc)?;
-    let with_check = accept(alloc, CHECKED, &checks)?;
-    let without = accept(alloc, SUM, &checks)?;
-    assert!(rt; with_check.same_checks(&checks));
-    assert!(rt; !with_check.same_checks(&fewer));
-    assert!(rt; without.same_checks(&fewer));
+    let fewer = table(rt.alloc(), false, false).ok_or("no table")?;
+    assert!(rt; takes_both(rt.alloc(), CHECKED) == Some(true));
+    assert!(rt; takes_fewer(rt.alloc(), CHECKED, &fewer) == Some(false));
+    assert!(rt; takes_fewer(rt.alloc(), SUM, &fewer) == Some(true));
     Ok(())
 }

@@ -8,7 +8,6 @@ use dict_tree::{DictSource, FactSource, Targets, TypeText, read};
 use fact_paths::{PathFault, read_fact_path, read_use_path};
 use fact_values::FactType;
 use std::alloc::{AllocError, Global};
-use std::process::Abort;
 use std::test::Fail;
 use value_text::EnumLists;
 
@@ -44,45 +43,77 @@ fn written(alloc: Global, text: &str) -> Result<FactSource, AllocError>
     })
 }
 
-fn find(alloc: Global, source: &DictSource, text: &str) -> Result<Option<u32>, Fail> {
-    let path = read_fact_path(alloc, text)?;
-    Ok(source.find(&path))
+// Whether the path names this fact, or none.
+fn finds(alloc: Global, source: &DictSource, text: &str, fact: Option<u32>) -> bool {
+    match read_fact_path(alloc, text) {
+        Ok(path) => source.find(&path) == fact,
+        Err(_) => false,
+    }
 }
 
+// The targets of a use in a fact, inside the members of a base or of none.
 fn targets(
     alloc: Global,
     source: &DictSource,
     fact: u32,
     base: u32,
     text: &str,
-) -> Result<Targets, Fail> {
-    let path = read_use_path(alloc, text)?;
-    Ok(source.targets(fact, base, &path))
+) -> Option<Targets> {
+    match read_use_path(alloc, text) {
+        Ok(path) => Some(source.targets(fact, base, &path)),
+        Err(_) => None,
+    }
+}
+
+// A dictionary with one fact.
+fn pushed(alloc: Global, text: &str) -> Option<DictSource> {
+    let mut source = DictSource::new(alloc, EnumLists::new(alloc));
+    let fact = written(alloc, text).ok()?;
+    if source.push(fact).is_ok() {
+        Some(source)
+    } else {
+        None
+    }
+}
+
+// Whether there is one fact, which mentions nothing, and no list of options.
+fn has_one_fact(alloc: Global, source: &DictSource) -> bool {
+    source.facts().len() == 1 && source.enums().len() == 0 && mentions_nothing(alloc, source)
+}
+
+fn mentions_nothing(alloc: Global, source: &DictSource) -> bool {
+    match source.mentions(alloc, 1) {
+        Ok(mentions) => mentions.is_empty(),
+        Err(_) => false,
+    }
+}
+
+fn has_target(alloc: Global, source: &DictSource, text: &str, first: Option<u32>) -> bool {
+    let second = None;
+    targets(alloc, source, 1, 0, text) == Some(Targets { first, second })
 }
 
 #[test]
 fn a_pushed_fact_is_found(rt: HostRuntime) -> Result<(), Fail> {
-    let alloc = rt.alloc();
-    let mut source = DictSource::new(alloc, EnumLists::new(alloc));
-    assert_eq!(rt; find(alloc, &source, "/people/*/age")?, None);
-    let fact = written(alloc, "/people/*/age")?;
-    let pushed = source.push(fact);
-    assert!(rt; pushed.is_ok());
-    assert_eq!(rt; find(alloc, &source, "/people/*/age")?, Some(1));
-    assert_eq!(rt; find(alloc, &source, "/people")?, None);
-    assert_eq!(rt; targets(alloc, &source, 1, 0, "../age")?.first, Some(1));
-    assert_eq!(rt; targets(alloc, &source, 1, 0, "/age")?.first, None);
-    assert_eq!(rt; source.facts().len(), 1);
-    assert_eq!(rt; source.enums().len(), 0);
-    assert_eq!(rt; source.mentions(alloc, 1)?.len(), 0);
+    let source = pushed(rt.alloc(), "/people/*/age").ok_or("no memory")?;
+    assert!(rt; finds(rt.alloc(), &source, "/people/*/age", Some(1)));
+    assert!(rt; finds(rt.alloc(), &source, "/people", None));
+    assert!(rt; has_target(rt.alloc(), &source, "../age", Some(1)));
+    assert!(rt; has_target(rt.alloc(), &source, "/age", None));
+    assert!(rt; has_one_fact(rt.alloc(), &source));
     Ok(())
 }
 
 #[test]
+fn nothing_is_found_at_first(rt: HostRuntime) {
+    let source = DictSource::new(rt.alloc(), EnumLists::new(rt.alloc()));
+    assert!(rt; finds(rt.alloc(), &source, "/people/*/age", None));
+}
+
+#[test]
 fn facts_that_are_read_are_found(rt: HostRuntime) -> Result<(), Fail> {
-    let alloc = rt.alloc();
-    let source = read(alloc, MEMBERS.as_bytes())?;
-    for (text, want) in [
+    let source = read(rt.alloc(), MEMBERS.as_bytes())?;
+    for (text, fact) in [
         ("/c", Some(1)),
         ("/c/*/k", Some(2)),
         ("/c/*/v", Some(3)),
@@ -91,8 +122,14 @@ fn facts_that_are_read_are_found(rt: HostRuntime) -> Result<(), Fail> {
         ("/k", None),
         ("/l/*/v", None),
     ] {
-        assert_eq!(rt; find(alloc, &source, text)?, want, "of {text}");
+        assert!(rt; finds(rt.alloc(), &source, text, fact), "of {text}");
     }
+    Ok(())
+}
+
+#[test]
+fn uses_have_their_targets(rt: HostRuntime) -> Result<(), Fail> {
+    let source = read(rt.alloc(), MEMBERS.as_bytes())?;
     for (fact, base, text, first, second) in [
         (7, 0, "/c", Some(1), None),
         (2, 0, "../v", Some(3), None),
@@ -105,11 +142,8 @@ fn facts_that_are_read_are_found(rt: HostRuntime) -> Result<(), Fail> {
         (7, 0, "/l/v", Some(4), None),
         (2, 0, "../v/k", Some(3), None),
     ] {
-        assert_eq!(rt;
-            targets(alloc, &source, fact, base, text)?,
-            Targets { first, second },
-            "of {text}"
-        );
+        let found = targets(rt.alloc(), &source, fact, base, text);
+        assert!(rt; found == Some(Targets { first, second }), "of {text}");
     }
     Ok(())
 }

@@ -1,34 +1,12 @@
 //! Tests of `dict_types`: what is kept of a dictionary. What refuses one is shown by stored cases of the program.
-ghost use Rattle.std.specs.Prelude.{◌≡◌};
-ghost use Rattle.text_checks.specs.Checks.{check_says};
+ghost use Rattle.std.specs.Prelude.{◌≡◌, IfSome, length};
 
+use crate::checks::table;
 use dict_tree::{DictSource, read};
 use dict_types::{Limit, Typed, check};
-use fact_paths::Name;
 use fact_values::{FactType, Value, same};
 use std::alloc::Global;
-use std::process::Abort;
 use std::test::Fail;
-use text_checks::{CheckTable, digits, trimmed};
-
-fn table(alloc: Global) -> Result<CheckTable, Fail> {
-    let mut table = CheckTable::new(alloc);
-    let check = Box::new(
-        alloc,
-        |text: &str| -> bool
-            ensures { result ≡ check_says 1 text.now }
-        { digits(text) },
-    )?;
-    table.add(Name::read(alloc, "digits")?, 1, check)?;
-    let check = Box::new(
-        alloc,
-        |text: &str| -> bool
-            ensures { result ≡ check_says 4 text.now }
-        { trimmed(text) },
-    )?;
-    table.add(Name::read(alloc, "trimmed")?, 4, check)?;
-    Ok(table)
-}
 
 const TEXT: &str =
     r#"{"version":"2","enums":[{"name":"status","options":["single","married"]}],"facts":[{"path":"/t","writable":"Text","limits":[["Check","trimmed"]]},{"path":"/s","derived":"Enum(status)","is":["Enum","status","single"],"conditional":[["Not",["True"]],["Enum","status","married"]]}]}"#;
@@ -47,27 +25,51 @@ fn is_check(limit: &Limit, place: u32) -> bool {
     }
 }
 
-fn expect_constants(rt: &impl Abort, typed: &Typed) {
-    assert!(rt; typed.constant(1, 1).is_none());
-    assert!(rt; typed.constant(2, 2).is_none());
-    assert!(rt; is_value(typed.constant(2, 3), &Value::Boolean(true)));
-    assert!(rt; is_value(typed.constant(2, 4), &Value::Choice(0, 1)));
-    assert!(rt; typed.constant(2, 5).is_none());
-    assert!(rt; typed.constant(3, 1).is_none());
+fn lacks_constants(typed: &Typed) -> bool {
+    typed.constant(1, 1).is_none()
+        && typed.constant(2, 2).is_none()
+        && typed.constant(2, 5).is_none()
+        && typed.constant(3, 1).is_none()
+}
+
+fn has_constants(typed: &Typed) -> bool {
+    is_value(typed.constant(2, 3), &Value::Boolean(true))
+        && is_value(typed.constant(2, 4), &Value::Choice(0, 1))
+}
+
+fn typed(alloc: Global, source: &DictSource) -> Option<Typed>
+    ensures facts { IfSome result (λ typed. length typed.facts ≡ length source.now.facts) }
+    ensures limits { IfSome result (λ typed. length typed.limits ≡ length source.now.facts) }
+{
+    let checks = table(alloc, false, true)?;
+    check(alloc, source, &checks).ok()
 }
 
 #[test]
-fn types_constants_and_limits_are_kept(rt: HostRuntime) -> Result<(), Fail> {
-    let alloc = rt.alloc();
-    let checks = table(alloc)?;
-    let source: DictSource = read(alloc, TEXT.as_bytes())?;
-    let typed = check(alloc, &source, &checks)?;
-    expect_constants(&rt, &typed);
+fn constants_are_kept(rt: HostRuntime) -> Result<(), Fail> {
+    let source = read(rt.alloc(), TEXT.as_bytes())?;
+    let typed = typed(rt.alloc(), &source).ok_or("refused")?;
+    assert!(rt; has_constants(&typed) && lacks_constants(&typed));
+    Ok(())
+}
+
+fn has_types(typed: &Typed) -> bool
+    requires { length typed.now.facts ≡ 2 }
+{
+    typed.fact_type(1) == FactType::Text && typed.fact_type(2) == FactType::Enum(0)
+}
+
+fn has_limits(typed: &Typed) -> bool
+    requires { length typed.now.limits ≡ 2 }
+{
+    typed.limits(1).len() == 1 && is_check(&typed.limits(1)[0], 1) && typed.limits(2).is_empty()
+}
+
+#[test]
+fn types_and_limits_are_kept(rt: HostRuntime) -> Result<(), Fail> {
+    let source = read(rt.alloc(), TEXT.as_bytes())?;
+    let typed = typed(rt.alloc(), &source).ok_or("refused")?;
     assert!(rt; source.facts().len() == 2);
-    assert_eq!(rt; typed.fact_type(1), FactType::Text);
-    assert_eq!(rt; typed.fact_type(2), FactType::Enum(0));
-    assert_eq!(rt; typed.limits(1).len(), 1);
-    assert!(rt; is_check(&typed.limits(1)[0], 1));
-    assert_eq!(rt; typed.limits(2).len(), 0);
+    assert!(rt; has_types(&typed) && has_limits(&typed));
     Ok(())
 }

@@ -4,6 +4,8 @@
 #[cfg(test)]
 mod accepting_tests;
 #[cfg(test)]
+mod checks;
+#[cfg(test)]
 mod dict_order_tests;
 #[cfg(test)]
 mod dict_tree_tests;

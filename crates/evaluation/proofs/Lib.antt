@@ -10,7 +10,9 @@ pub mod ResolvingLaws
 pub mod Sureness
 pub mod TypedLaws
 pub mod ValueTypes
+pub mod VisitLaws
 mod NodeExamples
 mod ReadExamples
 mod SureExamples
 mod TypeExamples
+mod VisitExamples

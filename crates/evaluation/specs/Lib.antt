@@ -11,3 +11,4 @@ pub mod Resolving
 pub mod SlotsRead
 pub mod Sure
 pub mod Typed
+pub mod Visits

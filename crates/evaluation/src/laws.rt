@@ -9,6 +9,7 @@ ghost use Rattle.evaluation.specs.Resolving.{ResolvedGives, ResolvedReads, Resol
 ghost use Rattle.evaluation.specs.SlotsRead.{ReadsDecide};
 ghost use Rattle.evaluation.specs.Sure.{SureFind, Sureness};
 ghost use Rattle.evaluation.specs.Typed.{CountTyped, ItemTyped, SizeTyped, SumTyped, TestTyped, Typed};
+ghost use Rattle.evaluation.specs.Visits.{ResolvedVisits, SomeVisit, VisitCoincidence, VisitCoincidenceIn, VisitsWithinWeight};
 
 /// An expression has one result, and one weight, in two environments that agree on all that it can read from its place.
 pub fn agreement_is_enough<C, R, P, S>()
@@ -79,4 +80,18 @@ pub fn typed_expressions_give_their_types<C, R, P, S>()
 pub fn extremes_are_of_the_operands()
     ensures greatest { GreatestIsGreatest }
     ensures least { LeastIsLeast }
+{}
+
+/// An evaluation visits a node at least, and at most as many as the weight of the expression.
+pub fn visits_are_within_the_weight<C, R, P, S>()
+    ensures some { SomeVisit C R P S }
+    ensures most { VisitsWithinWeight C R P S }
+{}
+
+/// As many nodes are visited in two environments that agree, by places or by bases, and of a tree
+/// whose names were resolved as of the tree.
+pub fn visits_follow_the_result<B, C, R, P, ToC, ToR, ToP, S>()
+    ensures agreement { VisitCoincidence C R P S }
+    ensures bases { VisitCoincidenceIn B C R P S }
+    ensures resolved { ResolvedVisits B C R P ToC ToR ToP S }
 {}

@@ -2,8 +2,6 @@
 #![tactic(auto)]
 
 #[cfg(test)]
-mod answers_tests;
-#[cfg(test)]
 mod fact_paths_tests;
 #[cfg(test)]
 mod fact_values_tests;

@@ -25,6 +25,11 @@ fn add(history: &mut History, answers: &mut Answers) -> bool
     }
 }
 
+// Whether the collection is open, and the next member has this number.
+fn stands(answers: &Answers, is_open: bool, next: u32) -> bool {
+    answers.members(LIST).is_some() == is_open && answers.next_number() == next
+}
+
 #[test]
 fn an_added_member_goes_and_comes_again(rt: HostRuntime) {
     let mut answers = Answers::new(rt.alloc());
@@ -34,9 +39,12 @@ fn an_added_member_goes_and_comes_again(rt: HostRuntime) {
     assert!(rt; add(&mut history, &mut answers));
     assert!(rt; history.newest(false).is_some());
     assert!(rt; history.back(&mut answers).is_ok());
-    assert!(rt; answers.members(LIST).is_none());
-    assert!(rt; answers.next_number() == 1);
+    assert!(rt; stands(&answers, false, 1));
     assert!(rt; history.forth(&mut answers).is_ok());
-    assert!(rt; answers.members(LIST).is_some());
-    assert!(rt; answers.next_number() == 2);
+    assert!(rt; stands(&answers, true, 2));
+}
+
+#[test]
+fn an_edit_has_128_bytes(rt: HostRuntime) {
+    assert!(rt; std::mem::size_of::<Edit>() == 128);
 }

@@ -42,11 +42,11 @@ fn count_alone(items: &[u32]) -> usize
 #[test]
 fn a_loop_over_a_list_ticks(rt: HostRuntime) {
     for (items, zeros) in [([0, 7, 0], 2), ([1, 2, 3], 0), ([0, 0, 0], 3)] {
-        assert_eq!(rt; count_alone(&items), zeros, "at {zeros}");
+        assert!(rt; count_alone(&items) == zeros, "at {zeros}");
     }
 }
 
 #[test]
 fn a_counter_has_no_bytes(rt: HostRuntime) {
-    assert_eq!(rt; std::mem::size_of::<Steps<Brand>>(), 0);
+    assert!(rt; std::mem::size_of::<Steps<Brand>>() == 0);
 }

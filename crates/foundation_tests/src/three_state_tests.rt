@@ -1,4 +1,4 @@
-use fact_values::{Dollar, Members, NoMemory, Text, Value, ValueFault, Whole};
+use fact_values::{Dollar, Members, Text, Value, ValueFault, Whole};
 use std::alloc::Global;
 use std::process::Abort;
 use std::test::Fail;
@@ -64,16 +64,9 @@ fn first_of(rules: &[u8], otherwise: u8, letters: &[u8]) -> u8 {
 }
 
 fn expect_list(rt: &impl Abort, letters: &[u8]) {
-    assert_eq!(rt;
-        all_by_fold(letters),
-        first_of(b"Fioft", b'T', letters),
-        "All of {letters:?}"
-    );
-    assert_eq!(rt;
-        any_by_fold(letters),
-        first_of(b"Tiotf", b'F', letters),
-        "Any of {letters:?}"
-    );
+    let all = all_by_fold(letters) == first_of(b"Fioft", b'T', letters);
+    let any = any_by_fold(letters) == first_of(b"Tiotf", b'F', letters);
+    assert!(rt; all && any, "of {letters:?}");
 }
 
 fn expect_lists_of(rt: &impl Abort, first: u8, second: u8) {
@@ -99,8 +92,8 @@ fn all_and_any_are_the_first_rule_that_fits(rt: HostRuntime) {
 #[test]
 fn all_and_any_give_the_first_fault(rt: HostRuntime) {
     for (letters, fault) in [("oz", b'o'), ("zo", b'z'), ("tzo", b'z'), ("fozt", b'o')] {
-        assert_eq!(rt; all_by_fold(letters.as_bytes()), fault, "All of {letters}");
-        assert_eq!(rt; any_by_fold(letters.as_bytes()), fault, "Any of {letters}");
+        let letters = letters.as_bytes();
+        assert!(rt; all_by_fold(letters) == fault && any_by_fold(letters) == fault);
     }
 }
 
@@ -128,16 +121,26 @@ fn strict_operations(rt: HostRuntime) {
         ("ozT", Verdict::Fault(ValueFault::Overflow)),
         ("zot", Verdict::Fault(ValueFault::ZeroDivide)),
     ] {
-        assert_eq!(rt; verdict_by_fold(letters), verdict, "of {letters}");
+        assert!(rt; verdict_by_fold(letters) == verdict, "of {letters}");
     }
+}
+
+fn ends_as(is_complete: bool, outcome: Result<Value, ValueFault>) -> u8 {
+    letter_of(&finish(is_complete, outcome))
 }
 
 #[test]
 fn an_operation_ends_by_its_operands(rt: HostRuntime) {
-    let value = || Ok(Value::Boolean(true));
-    assert_eq!(rt; letter_of(&finish(true, value())), b'T');
-    assert_eq!(rt; letter_of(&finish(false, value())), b't');
-    assert_eq!(rt; letter_of(&finish(true, Err(ValueFault::ZeroDivide))), b'z');
+    assert!(rt; ends_as(true, Ok(Value::Boolean(true))) == b'T');
+    assert!(rt; ends_as(false, Ok(Value::Boolean(true))) == b't');
+    assert!(rt; ends_as(true, Err(ValueFault::ZeroDivide)) == b'z');
+}
+
+fn down_from(letter: u8) -> u8 {
+    match res_of(letter) {
+        Some(res) => letter_of(&down(res)),
+        None => b'-',
+    }
 }
 
 #[test]
@@ -150,11 +153,7 @@ fn down_makes_placeholders(rt: HostRuntime) {
         (b'o', b'o'),
         (b'z', b'z'),
     ] {
-        assert_eq!(rt;
-            res_of(from).map(|r| letter_of(&down(r))),
-            Some(to),
-            "from {from}"
-        );
+        assert!(rt; down_from(from) == to, "from {from}");
     }
 }
 
@@ -168,61 +167,92 @@ fn a_value_of_another_kind_counts_as_false(rt: HostRuntime) {
 // Values of all kinds; no two are equal.
 const SAMPLES: u8 = 12;
 
-fn sample(alloc: Global, k: u8) -> Result<Value, Fail> {
-    Ok(match k {
-        0 => Value::Boolean(false),
-        1 => Value::Boolean(true),
-        2 => Value::Int(Whole::new(0).ok_or("no number")?),
-        3 => Value::Int(Whole::new(-1).ok_or("no number")?),
-        4 => Value::Dollar(Dollar::new(0).ok_or("no amount")?),
-        5 => Value::Text(Text::new(String::from_str(alloc, "a")?).ok_or("no text")?),
-        6 => Value::Choice(0, 1),
-        7 => Value::Choice(1, 0),
-        8 => Value::Members(Members::new(Vec::from_array(alloc, [1, 2])?).ok_or("no members")?),
-        9 => Value::Members(Members::new(Vec::from_array(alloc, [2, 1])?).ok_or("no members")?),
-        10 => Value::Item(1),
-        _ => Value::Item(2),
-    })
-}
-
-fn expect_copies(rt: &impl Abort, alloc: Global, k: u8) -> Result<(), Fail> {
-    let res = Res::Complete(sample(alloc, k)?);
-    let copy = res.copy(alloc)?;
-    assert!(rt; res.same(&copy), "{k}");
-    let other = down(copy);
-    assert!(rt; !res.same(&other), "{k}");
-    assert!(rt; other.copy(alloc)?.same(&other), "{k}");
-    Ok(())
-}
-
-fn expect_one_same(rt: &impl Abort, alloc: Global, k: u8) -> Result<(), Fail> {
-    let res = Res::Complete(sample(alloc, k)?);
-    for other in 0..SAMPLES {
-        let same = res.same(&Res::Complete(sample(alloc, other)?));
-        assert_eq!(rt; same, k == other, "{k} and {other}");
+fn number(k: u8) -> Option<Value> {
+    match k {
+        0 => Some(Value::Int(Whole::new(0)?)),
+        1 => Some(Value::Int(Whole::new(-1)?)),
+        _ => Some(Value::Dollar(Dollar::new(0)?)),
     }
-    Ok(())
+}
+
+fn text(alloc: Global) -> Option<Value> {
+    Some(Value::Text(Text::new(String::from_str(alloc, "a").ok()?)?))
+}
+
+fn members(alloc: Global, numbers: [u32; 2]) -> Option<Value> {
+    Some(Value::Members(Members::new(Vec::from_array(alloc, numbers).ok()?)?))
+}
+
+fn sample(alloc: Global, k: u8) -> Option<Value> {
+    match k {
+        0 => Some(Value::Boolean(false)),
+        1 => Some(Value::Boolean(true)),
+        2 => Some(Value::Choice(0, 1)),
+        3 => Some(Value::Choice(1, 0)),
+        4 => Some(Value::Item(1)),
+        5 => Some(Value::Item(2)),
+        6 => text(alloc),
+        7 => members(alloc, [1, 2]),
+        8 => members(alloc, [2, 1]),
+        _ => number(k - 9),
+    }
+}
+
+fn complete(alloc: Global, k: u8) -> Option<Res> {
+    Some(Res::Complete(sample(alloc, k)?))
+}
+
+// Whether the result and a copy of it are the same.
+fn equals_its_copy(alloc: Global, res: &Res) -> bool {
+    match res.copy(alloc) {
+        Ok(copy) => res.same(&copy),
+        Err(_) => false,
+    }
+}
+
+// Whether a complete result of the value and its placeholder are copied, and aren't the same.
+fn is_copied(alloc: Global, k: u8) -> Option<bool> {
+    let res = complete(alloc, k)?;
+    let other = down(complete(alloc, k)?);
+    Some(equals_its_copy(alloc, &res) && equals_its_copy(alloc, &other) && !res.same(&other))
+}
+
+fn equals(alloc: Global, res: &Res, k: u8) -> bool {
+    match complete(alloc, k) {
+        Some(other) => res.same(&other),
+        None => false,
+    }
+}
+
+fn expect_one(rt: &impl Abort, alloc: Global, k: u8, res: &Res) {
+    for other in 0..SAMPLES {
+        assert!(rt;
+            equals(alloc, res, other) == (k == other),
+            "at {k} and {other}"
+        );
+    }
 }
 
 #[test]
 fn copies_are_the_same_and_others_are_not(rt: HostRuntime) -> Result<(), Fail> {
     for k in 0..SAMPLES {
-        expect_copies(&rt, rt.alloc(), k)?;
-        expect_one_same(&rt, rt.alloc(), k)?;
+        assert!(rt; is_copied(rt.alloc(), k) == Some(true), "at {k}");
+        expect_one(
+            &rt,
+            rt.alloc(),
+            k,
+            &complete(rt.alloc(), k).ok_or("no value")?,
+        );
     }
     Ok(())
 }
 
-fn without_value(rt: &impl Abort, alloc: Global) -> Result<(), NoMemory> {
-    let overflow = Res::Fault(ValueFault::Overflow);
-    assert!(rt; overflow.copy(alloc)?.same(&overflow));
-    assert!(rt; !overflow.same(&Res::Fault(ValueFault::ZeroDivide)));
-    assert!(rt; Res::Incomplete.copy(alloc)?.same(&Res::Incomplete));
-    assert!(rt; !overflow.same(&Res::Incomplete));
-    Ok(())
-}
+const OVERFLOW: Res = Res::Fault(ValueFault::Overflow);
 
 #[test]
 fn results_without_a_value_are_told_apart(rt: HostRuntime) {
-    assert_eq!(rt; without_value(&rt, rt.alloc()), Ok(()));
+    assert!(rt; equals_its_copy(rt.alloc(), &OVERFLOW));
+    assert!(rt; equals_its_copy(rt.alloc(), &Res::Incomplete));
+    assert!(rt; !OVERFLOW.same(&Res::Fault(ValueFault::ZeroDivide)));
+    assert!(rt; !OVERFLOW.same(&Res::Incomplete));
 }

@@ -15,7 +15,9 @@ use Rattle.interview.specs.declared.fetching.Fetched.TheVariants as fetches
 use Rattle.interview.specs.Words.{IsCheck}
 use Rattle.interview.specs.FaultLines.{is_memory}
 use Rattle.interview.specs.Interview.{Defined, defined_accepted, defined_fault, defined_script, rules_by, OneEndOfCheck, OneEndOfRun}
-use Rattle.interview.specs.Ends.{Given, Did, Check, CheckDid, CheckEnds, Ends, EndedBy, FetchedAs, JudgedAs, NotFetched, SentWhole, Unread, defined_fetched}
+use Rattle.interview.specs.Devices.{SentWhole}
+use Rattle.interview.specs.StepEnds.{CheckDid, CheckEnds, EndedBy, FetchedAs, JudgedAs, NotFetched, defined_fetched}
+use Rattle.interview.specs.Ends.{Given, Did, Check, Ends, Unread}
 
 -- ---- what they come to
 
@@ -82,6 +84,6 @@ module _ (given : Given) (did : Did) (name : List ℕ) (asked : IsCheck given.wo
   ends_check Done ends = inr (of_judged ends.0 Done ends.1, refl, ends.2, unread)
   ends_check DictionaryRefused ends = inr (of_judged ends.0 DictionaryRefused ends.1, refl, ends.2, unread)
   ends_check FetchFault ends = (ends.0, inr (subst (IsCheck given.words) (sym ends.1) asked), ends.2, unread)
-  ends_check WriteFault ends = (ends.0, inr (inr (of_judged ends.1.0 ends.1.1.0 ends.1.1.1.0, ends.1.1.1.1, unread)))
+  ends_check WriteFault ends = inr (ends.0, inr (inr (of_judged ends.1.0 ends.1.1.0 ends.1.1.1.0, ends.1.1.1.1, unread)))
   ends_check NoMemory ends = inl (ends, unread)
   ends_check status ends = absurd ends

@@ -43,20 +43,20 @@ first_byte (b ∷ bs) = b
 abbrev answered_by : Rules → Course → Slot → Bool → Bool → Step
 answered_by r c s unknown lacks = step_answered r c (decided (first_of (when unknown UnknownFact ∷ when lacks NoMember ∷ [])) (FinalAsked s, c))
 
--- ---- what a value that is told says
+-- ---- what a value that is printed says
 
 -- the result is final and complete
-final_told : (lists : List Listed) (final : Bool) (o : Option Res) (value : List ℕ) → line_with (asked_text (final_text lists final) o (codes "open")) ≡ final_line value
+final_where_printed : (lists : List Listed) (final : Bool) (o : Option Res) (value : List ℕ) → line_with (asked_text (final_text lists final) o (codes "open")) ≡ final_line value
     → IsTrue final
-final_told lists true o value is = refl
-final_told lists false None value is = absurd (omega (arith, ap first_byte is))
-final_told lists false (Some (Complete v)) value is = absurd (omega (arith, ap first_byte is))
-final_told lists false (Some (Placeholder v)) value is = absurd (omega (arith, ap first_byte is))
-final_told lists false (Some Incomplete) value is = absurd (omega (arith, ap first_byte is))
-final_told lists false (Some (Fault fault)) value is = absurd (omega (arith, ap first_byte is))
+final_where_printed lists true o value is = refl
+final_where_printed lists false None value is = absurd (omega (arith, ap first_byte is))
+final_where_printed lists false (Some (Complete v)) value is = absurd (omega (arith, ap first_byte is))
+final_where_printed lists false (Some (Placeholder v)) value is = absurd (omega (arith, ap first_byte is))
+final_where_printed lists false (Some Incomplete) value is = absurd (omega (arith, ap first_byte is))
+final_where_printed lists false (Some (Fault fault)) value is = absurd (omega (arith, ap first_byte is))
 
-shown_as : (lists : List Listed) (final : Bool) (o : Option Res) (v : Value) → IsTrue final → o ≡ Some (Complete v) → asked_text (final_text lists final) o (codes "open") ≡ codes "final " ++ printed lists v
-shown_as lists final o v holds is = λ i. asked_text (final_text lists (holds i)) (is i) (codes "open")
+final_text_is : (lists : List Listed) (final : Bool) (o : Option Res) (v : Value) → IsTrue final → o ≡ Some (Complete v) → asked_text (final_text lists final) o (codes "open") ≡ codes "final " ++ printed lists v
+final_text_is lists final o v holds is = λ i. asked_text (final_text lists (holds i)) (is i) (codes "open")
 
 -- ---- what stays
 
@@ -81,39 +81,39 @@ value_text : (v w : List ℕ) → final_line v ≡ final_line w → w ≡ v
 value_text v w is = sym (append_cancel_left (codes "final ") v w (append_cancel_right (codes "final " ++ v) (codes "final " ++ w) (10 ∷ []) is))
 
 module _ (names : List (List ℕ)) (r : Rules) (accepted : IsAccepted names r.accepted) (c : Course) (s : Slot) where
-  abbrev told_in : Course → List ℕ
-  told_in e = line_with (asked_text (final_text (tree_of r).enums (is_final r.accepted e.timeline.now s)) (plain r.accepted e.timeline.now s) (codes "open"))
+  abbrev line_in : Course → List ℕ
+  line_in e = line_with (asked_text (final_text (tree_of r).enums (is_final r.accepted e.timeline.now s)) (plain r.accepted e.timeline.now s) (codes "open"))
 
   module _ (final : IsTrue (is_final r.accepted c.timeline.now s)) where
     stays : Stays r.accepted c.timeline.now s
     stays = final_result_stays names r.accepted accepted c.timeline.now s final
 
-    told_now : told_in c ≡ final_line (printed (tree_of r).enums stays.0)
-    told_now = ap line_with (shown_as (tree_of r).enums (is_final r.accepted c.timeline.now s) (plain r.accepted c.timeline.now s) stays.0 final stays.1)
+    line_now : line_in c ≡ final_line (printed (tree_of r).enums stays.0)
+    line_now = ap line_with (final_text_is (tree_of r).enums (is_final r.accepted c.timeline.now s) (plain r.accepted c.timeline.now s) stays.0 final stays.1)
 
-    told_again : (d : Course) → IsExtension (tree_of r) c.timeline.now d.timeline.now → told_in d ≡ final_line (printed (tree_of r).enums stays.0)
-    told_again d ext =
+    line_again : (d : Course) → IsExtension (tree_of r) c.timeline.now d.timeline.now → line_in d ≡ final_line (printed (tree_of r).enums stays.0)
+    line_again d ext =
         let there = stays.2 d.timeline.now ext in
         let still = final_still r.accepted c.timeline.now d.timeline.now ext.extends s stays.0 there final in
-        ap line_with (shown_as (tree_of r).enums (is_final r.accepted d.timeline.now s) (plain r.accepted d.timeline.now s) stays.0 still there)
+        ap line_with (final_text_is (tree_of r).enums (is_final r.accepted d.timeline.now s) (plain r.accepted d.timeline.now s) stays.0 still there)
 
-  -- what a value that is told says: the result is final, the path is known, and its member is there
-  told_by : (unknown lacks : Bool) (text : List ℕ) → (answered_by r c s unknown lacks).text ≡ final_line text
-      → IsTrue (is_final r.accepted c.timeline.now s) × (told_in c ≡ final_line text) × (unknown ≡ false) × (lacks ≡ false)
-  told_by true lacks text is = absurd (omega (arith, ap first_byte is))
-  told_by false true text is = absurd (omega (arith, ap first_byte is))
-  told_by false false text is = (final_told (tree_of r).enums (is_final r.accepted c.timeline.now s) (plain r.accepted c.timeline.now s) text is, is, refl, refl)
+  -- what a value that is printed says: the result is final, the path is known, and its member is there
+  known_where_printed : (unknown lacks : Bool) (text : List ℕ) → (answered_by r c s unknown lacks).text ≡ final_line text
+      → IsTrue (is_final r.accepted c.timeline.now s) × (line_in c ≡ final_line text) × (unknown ≡ false) × (lacks ≡ false)
+  known_where_printed true lacks text is = absurd (omega (arith, ap first_byte is))
+  known_where_printed false true text is = absurd (omega (arith, ap first_byte is))
+  known_where_printed false false text is = (final_where_printed (tree_of r).enums (is_final r.accepted c.timeline.now s) (plain r.accepted c.timeline.now s) text is, is, refl, refl)
 
 pub final_lines_stay : FinalLinesStay
 final_lines_stay names r accepted c path text is =
     let s = slot_of (tree_of r) path in
-    let told = told_by names r accepted c s (is_unknown (tree_of r) path) (lacks_member (tree_of r) c.timeline.now path) text is in
-    let final = told.0 in
-    let same : text ≡ printed (tree_of r).enums (stays names r accepted c s final).0 = value_text _ text (sym (told_now names r accepted c s final) ∙ told.1) in
+    let known = known_where_printed names r accepted c s (is_unknown (tree_of r) path) (lacks_member (tree_of r) c.timeline.now path) text is in
+    let final = known.0 in
+    let same : text ≡ printed (tree_of r).enums (stays names r accepted c s final).0 = value_text _ text (sym (line_now names r accepted c s final) ∙ known.1) in
     record {
       stays = stays names r accepted c s final;
       printed_so = same;
       again = λ d ext.
-          (λ i. (answered_by r d s (told.2 i) (there_still (tree_of r) c.timeline.now d.timeline.now ext.extends path told.3 i)).text)
-          ∙ told_again names r accepted c s final d ext ∙ ap final_line (sym same);
+          (λ i. (answered_by r d s (known.2 i) (there_still (tree_of r) c.timeline.now d.timeline.now ext.extends path known.3 i)).text)
+          ∙ line_again names r accepted c s final d ext ∙ ap final_line (sym same);
     }

@@ -2,7 +2,7 @@ pub mod CheckLaws
 pub mod EndLaws
 pub mod ExactLaws
 pub mod FinalLineLaws
-pub mod HearingLaws
+pub mod AnsweringLaws
 pub mod PrintLaws
 pub mod ScriptLaws
 pub mod TopLaws

@@ -1,6 +1,7 @@
 -- A script at its end: what was written is what is defined.
-use Rattle.std.proofs.Common.{◌≡◌, ℕ, ◌+◌, ◌-◌, ◌≤◌, true, false, List, [], ◌∷◌, ◌++◌, length, take, Option, refl, sym, ap, subst, ◌∙◌, arith, append_assoc, length-append}
+use Rattle.std.proofs.Common.{◌≡◌, ℕ, ◌+◌, ◌-◌, ◌<◌, ◌≤◌, true, false, List, [], ◌∷◌, ◌++◌, length, take, Option, refl, sym, ap, subst, ◌∙◌, arith, append_assoc, length-append}
 use Rattle.std.specs.Prelude.{nat_le, if◌then◌else◌}
+use Rattle.std.proofs.lemmas.Bool.{le-leb, lt-leb}
 use Rattle.std.proofs.lemmas.List.{append-nil}
 use Rattle.std.proofs.Math.Seq.{take-append-add, take-append_seam}
 use Rattle.std.specs.Io.KnownBytes.{Appends, Consumes}
@@ -9,16 +10,17 @@ use Rattle.fg_io.specs.Sent.{Sent}
 use Rattle.fg_io.proofs.SentLaws.{sent_whole}
 use Rattle.fg_io.proofs.ConsumedLaws.{consumes_more, consumes_none}
 use Rattle.script_lines.specs.Lines.{ScriptLine, script_lines, ended_lines, HasNoNewline}
-use Rattle.script_lines.proofs.EndedLaws.{ended_follows}
+use Rattle.script_lines.proofs.EndedLaws.{ended_follows, ended_goes_on, lines_go_on}
 use Rattle.interview.specs.declared.status.Status.TheVariants.{Done, ScriptTooLong}
 use Rattle.graph_session.specs.Rules.{Rules, rules}
 use Rattle.graph_session.specs.SessionView.{Course, SessionView, course}
 use Rattle.interview.specs.Replies.{State, Step, at_start, beginning, open_at, step, step_line, replies, state_after}
-use Rattle.interview.specs.Hearing.{Hears}
-use Rattle.interview.specs.Going.{Going}
-use Rattle.interview.specs.Ends.{ScriptDid, SentWhole, SentPart, RepliedFirst}
-use Rattle.interview.specs.Interview.{Defined, script_limit, defined_cut, defined_script}
-use Rattle.interview.proofs.HearingLaws.{replies-append, state_after-append, hears_line, hears_none}
+use Rattle.interview.specs.Answering.{RepliedLines}
+use Rattle.interview.specs.SoFar.{AnsweredSoFar}
+use Rattle.interview.specs.Devices.{Stream, SentWhole, SentPart}
+use Rattle.interview.specs.ScriptEnds.{ScriptDid, RepliedFirst}
+use Rattle.interview.specs.Interview.{script_limit, answered_lines, defined_script}
+use Rattle.interview.proofs.AnsweringLaws.{replies-append, state_after-append, replied_line, replied_none}
 
 -- ---- behind `quit`
 
@@ -41,127 +43,170 @@ take_front xs ys n short =
     let split : n ≡ length xs + (n - length xs) = omega arith in
     ap (λ m. take m (xs ++ ys)) split ∙ take-append-add xs ys (n - length xs)
 
--- the front is cut into lines, and what it holds then goes on as `behind` does
-module _ (r : Rules) (front behind : List ℕ) (lines : List ScriptLine) (cut : (more : List ℕ) → script_lines (front ++ more) ≡ lines ++ script_lines (behind ++ more)) where
-  -- the replies to the lines, and then those to others
-  pub record Begins (d : Defined) : Type 0 where
-    pub others : List ScriptLine
-    pub text : d.text ≡ replies r (at_start r) lines ++ replies r (state_after r (at_start r) lines) others
-    pub over : (state_after r (at_start r) lines).over ≡ true → d.status ≡ Done
+-- the lines that ended in a front within the limit are answered, and then others
+pub ended_are_answered : (front more : List ℕ) → length front ≤ script_limit → (others : List ScriptLine) × (answered_lines (front ++ more) ≡ ended_lines front ++ others)
+unfolding answered_lines
+ended_are_answered front more short =
+    elim (nat_le (length (front ++ more)) script_limit) as (λ b. (others : List ScriptLine) × ((if b then script_lines (front ++ more) else ended_lines (take script_limit (front ++ more))) ≡ ended_lines front ++ others)) [
+      | true ↦ lines_go_on front more
+      | false ↦ subst (λ l. (others : List ScriptLine) × (ended_lines l ≡ ended_lines front ++ others)) (sym (take_front front more script_limit short)) (ended_goes_on front (take (script_limit - length front) more))
+    ]
 
-  within_limit : (more : List ℕ) → Begins (record { text = replies r (at_start r) (script_lines (front ++ more)); status = Done })
-  within_limit more = record {
-    others = script_lines (behind ++ more);
-    text = ap (replies r (at_start r)) (cut more) ∙ replies-append r (at_start r) lines (script_lines (behind ++ more));
-    over = λ _. refl;
-  }
+-- within the limit all lines are answered, and past it those that end within it
+pub short_lines : (script : List ℕ) → length script ≤ script_limit → answered_lines script ≡ script_lines script
+unfolding answered_lines
+short_lines script short = ap (λ b. if b then script_lines script else ended_lines (take script_limit script)) (le-leb (length script) script_limit short)
 
-  past_limit : (more : List ℕ) → Begins (defined_cut r (front ++ more))
-  past_limit more =
-      let ended : ended_lines (front ++ more) ≡ lines ++ ended_lines (behind ++ more) =
-      ended_follows (front ++ more) (behind ++ more) lines (λ rest.
-      ap script_lines (append_assoc front more rest) ∙ cut (more ++ rest) ∙ ap (λ l. lines ++ script_lines l) (sym (append_assoc behind more rest))) in
-      record {
-        others = ended_lines (behind ++ more);
-        text = ap (replies r (at_start r)) ended ∙ replies-append r (at_start r) lines (ended_lines (behind ++ more));
-        over = λ over.
-            ap (λ (s : State). if s.over then Done else ScriptTooLong)
-            (ap (state_after r (at_start r)) ended ∙ state_after-append r (at_start r) lines (ended_lines (behind ++ more)) ∙ stays_over r (state_after r (at_start r) lines) (ended_lines (behind ++ more)) over)
-            ∙ ap (λ b. if b then Done else ScriptTooLong) over;
-      }
+pub long_lines : (front more : List ℕ) → length front ≡ script_limit → script_limit < length (front ++ more) → answered_lines (front ++ more) ≡ ended_lines front
+unfolding answered_lines
+long_lines front more full long =
+    ap (λ b. if b then script_lines (front ++ more) else ended_lines (take script_limit (front ++ more))) (lt-leb (length (front ++ more)) script_limit long)
+    ∙ ap ended_lines (ap (λ n. take n (front ++ more)) (sym full) ∙ take-append_seam front more)
 
-  pub begins : (more : List ℕ) → length front ≤ script_limit → Begins (defined_script r (front ++ more))
+module _ (r : Rules) (script : List ℕ) where
+  pub defined_text : (defined_script r script).text ≡ replies r (at_start r) (answered_lines script)
   unfolding defined_script
-  begins more short =
-      elim (nat_le (length (front ++ more)) script_limit) as (λ b. Begins (if b then record { text = replies r (at_start r) (script_lines (front ++ more)); status = Done } else defined_cut r (take script_limit (front ++ more)))) [
-        | true ↦ within_limit more
-        | false ↦ subst (λ l. Begins (defined_cut r l)) (sym (take_front front more script_limit short)) (past_limit (take (script_limit - length front) more))
+  defined_text = refl
+
+  -- it is done within the limit, and where `quit` is among the lines
+  pub short_is_done : length script ≤ script_limit → (defined_script r script).status ≡ Done
+  unfolding defined_script
+  short_is_done short = ap (λ b. if b then Done else if (state_after r (at_start r) (answered_lines script)).over then Done else ScriptTooLong) (le-leb (length script) script_limit short)
+
+  pub over_is_done : (state_after r (at_start r) (answered_lines script)).over ≡ true → (defined_script r script).status ≡ Done
+  unfolding defined_script
+  over_is_done over =
+      elim (nat_le (length script) script_limit) as (λ b. (if b then Done else if (state_after r (at_start r) (answered_lines script)).over then Done else ScriptTooLong) ≡ Done) [
+        | true ↦ refl
+        | false ↦ ap (λ b. if b then Done else ScriptTooLong) over
       ]
 
--- ---- a piece behind the bytes that were heard
+  -- and else too long
+  pub long_is_too_long : script_limit < length script → (state_after r (at_start r) (answered_lines script)).over ≡ false → (defined_script r script).status ≡ ScriptTooLong
+  unfolding defined_script
+  long_is_too_long long open_still =
+      ap (λ b. if b then Done else if (state_after r (at_start r) (answered_lines script)).over then Done else ScriptTooLong) (lt-leb (length script) script_limit long)
+      ∙ ap (λ b. if b then Done else ScriptTooLong) open_still
 
-pub hears_then : (r r_now : Rules) (a b c : Option (List ℕ)) (here here_now : Course) (bytes held chunk chunk_now held_next behind rest : List ℕ) (state_next : State)
-    → Hears r a b here [] bytes (open_at here_now) held [] [] → r_now ≡ r → chunk_now ≡ chunk → Hears r_now b c here_now held chunk_now state_next held_next behind rest
-    → Hears r a c here [] (bytes ++ chunk) state_next held_next behind rest
-hears_then r r_now a b c here here_now bytes held chunk chunk_now held_next behind rest state_next hears same_rules same_chunk next =
-    let piece = subst (λ l. Hears r b c here_now held l state_next held_next behind rest) same_chunk (subst (λ d. Hears d b c here_now held chunk_now state_next held_next behind rest) same_rules next) in
-    hears_line r a b c here here_now [] (bytes ++ chunk) held chunk held_next behind rest piece.lines state_next
+-- ---- a piece behind the bytes that were answered
+
+pub replied_then : (r r_now : Rules) (a b c : Option (List ℕ)) (here here_now : Course) (bytes held chunk chunk_now held_next behind rest : List ℕ) (state_next : State)
+    → RepliedLines r a b here [] bytes (open_at here_now) held [] [] → r_now ≡ r → chunk_now ≡ chunk → RepliedLines r_now b c here_now held chunk_now state_next held_next behind rest
+    → RepliedLines r a c here [] (bytes ++ chunk) state_next held_next behind rest
+replied_then r r_now a b c here here_now bytes held chunk chunk_now held_next behind rest state_next replied same_rules same_chunk next =
+    let piece = subst (λ l. RepliedLines r b c here_now held l state_next held_next behind rest) same_chunk (subst (λ d. RepliedLines d b c here_now held chunk_now state_next held_next behind rest) same_rules next) in
+    replied_line r a b c here here_now [] (bytes ++ chunk) held chunk held_next behind rest piece.lines state_next
     (record {
-      lines = hears.lines;
-      cut = λ more. ap script_lines (append_assoc bytes chunk more) ∙ hears.cut (chunk ++ more);
-      wrote = hears.wrote;
-      left = hears.left;
+      lines = replied.lines;
+      cut = λ more. ap script_lines (append_assoc bytes chunk more) ∙ replied.cut (chunk ++ more);
+      wrote = replied.wrote;
+      left = replied.left;
     })
     piece.cut piece.wrote piece.left
 
 -- before the first byte
-pub going_none : (session : SessionView) (left taken : Option (List ℕ)) → course session ≡ beginning (rules session.dict) → Going (rules session.dict) left left taken taken 0 session []
-going_none session left taken begun = record {
+pub none_so_far : (session : SessionView) (left taken : Option (List ℕ)) → course session ≡ beginning (rules session.dict) → AnsweredSoFar (rules session.dict) left left taken taken 0 session []
+none_so_far session left taken begun = record {
   bytes = [];
   read = consumes_none left;
   counted = refl;
   same_rules = refl;
   few = let none : session.changes ≡ 0 = ap (λ (c : Course). c.changes) begun in omega (arith, none);
-  hears = subst (λ (c : Course). Hears (rules session.dict) taken taken (beginning (rules session.dict)) [] [] (open_at c) [] [] []) (sym begun) (hears_none (rules session.dict) taken (beginning (rules session.dict)) [] []);
+  replied = subst (λ (c : Course). RepliedLines (rules session.dict) taken taken (beginning (rules session.dict)) [] [] (open_at c) [] [] []) (sym begun) (replied_none (rules session.dict) taken (beginning (rules session.dict)) [] []);
   unended = λ k d h. absurd (omega (arith, h));
 }
 
-pub goes_on : (r : Rules) (a b c : Option (List ℕ)) (left left_now left_next : Option (List ℕ)) (count n : ℕ) (session session_next : SessionView) (held held_next chunk chunk_now : List ℕ)
-    → Going r left left_now a b count session held → Consumes left_now left_next chunk → n ≡ length chunk → chunk_now ≡ chunk → session_next.dict ≡ session.dict → session_next.changes ≤ session.changes + length chunk_now
-    → Hears (rules session.dict) b c (course session) held chunk_now (open_at (course session_next)) held_next [] [] → HasNoNewline held_next
-    → Going r left left_next a c (count + n) session_next held_next
-goes_on r a b c left left_now left_next count n session session_next held held_next chunk chunk_now going read long same_chunk same_dict few hears unended = record {
-  bytes = going.bytes ++ chunk;
-  read = consumes_more left left_now left_next going.bytes chunk going.read read;
-  counted = omega (arith, going.counted, long, length-append going.bytes chunk);
-  same_rules = ap rules same_dict ∙ going.same_rules;
-  few = omega (arith, few, going.few, long, ap length same_chunk);
-  hears = hears_then r (rules session.dict) a b c (beginning r) (course session) going.bytes held chunk chunk_now held_next [] [] (open_at (course session_next)) going.hears going.same_rules same_chunk hears;
+pub more_so_far : (r : Rules) (a b c : Option (List ℕ)) (left left_now left_next : Option (List ℕ)) (count n : ℕ) (session session_next : SessionView) (held held_next chunk chunk_now : List ℕ)
+    → AnsweredSoFar r left left_now a b count session held → Consumes left_now left_next chunk → n ≡ length chunk → chunk_now ≡ chunk → session_next.dict ≡ session.dict → session_next.changes ≤ session.changes + length chunk_now
+    → RepliedLines (rules session.dict) b c (course session) held chunk_now (open_at (course session_next)) held_next [] [] → HasNoNewline held_next
+    → AnsweredSoFar r left left_next a c (count + n) session_next held_next
+more_so_far r a b c left left_now left_next count n session session_next held held_next chunk chunk_now so_far read long same_chunk same_dict few replied unended = record {
+  bytes = so_far.bytes ++ chunk;
+  read = consumes_more left left_now left_next so_far.bytes chunk so_far.read read;
+  counted = omega (arith, so_far.counted, long, length-append so_far.bytes chunk);
+  same_rules = ap rules same_dict ∙ so_far.same_rules;
+  few = omega (arith, few, so_far.few, long, ap length same_chunk);
+  replied = replied_then r (rules session.dict) a b c (beginning r) (course session) so_far.bytes held chunk chunk_now held_next [] [] (open_at (course session_next)) so_far.replied so_far.same_rules same_chunk replied;
   unended = unended;
 }
 
 -- ---- ends
 
+-- a text was written whole, and what is defined goes on behind it
+pub part_of : (taken : Stream) (text more defined : List ℕ) → defined ≡ text ++ more → SentWhole taken text → SentPart taken defined
+part_of taken text more defined split wrote = (more, record { front = text; took = wrote; split = split })
+
+-- the replies to the first lines that are answered are a part of what is defined
+module _ (r : Rules) (script : List ℕ) (lines others : List ScriptLine) (answers : answered_lines script ≡ lines ++ others) where
+  pub first_lines : (defined_script r script).text ≡ replies r (at_start r) lines ++ replies r (state_after r (at_start r) lines) others
+  first_lines = defined_text r script ∙ ap (replies r (at_start r)) answers ∙ replies-append r (at_start r) lines others
+
+  pub part_by_lines : (taken : Stream) → SentWhole taken (replies r (at_start r) lines) → SentPart taken (defined_script r script).text
+  part_by_lines taken wrote = part_of taken (replies r (at_start r) lines) (replies r (state_after r (at_start r) lines) others) (defined_script r script).text first_lines wrote
+
 -- the replies to the first lines of a script were written
-pub replied_first : (r : Rules) (did : ScriptDid) (script : List ℕ) (lines others : List ScriptLine) → MayBe did.left.before script → script_lines script ≡ lines ++ others → SentWhole did.taken (replies r (at_start r) lines) → RepliedFirst r did
-replied_first r did script lines others read cut whole = record {
+pub replied_first : (r : Rules) (did : ScriptDid) (script : List ℕ) (lines others : List ScriptLine) → MayBe did.left.before script → answered_lines script ≡ lines ++ others → SentWhole did.taken (replies r (at_start r) lines) → RepliedFirst r did
+replied_first r did script lines others read answers wrote = record {
   script = script;
   read = read;
   count = length lines;
-  replied = rw (ap (take (length lines)) cut ∙ take-append_seam lines others) whole;
+  replied = rw (ap (take (length lines)) answers ∙ take-append_seam lines others) wrote;
 }
 
--- what was written of a script whose front was heard
-module _ (r : Rules) (did : ScriptDid) (front rest : List ℕ) (state_now : State) (held_now behind : List ℕ) (hears : Hears r did.taken.before did.taken.after (beginning r) [] front state_now held_now behind rest) (short : length front ≤ script_limit) where
+-- what was written of a script whose front was answered
+module _ (r : Rules) (did : ScriptDid) (front rest : List ℕ) (state_now : State) (held_now behind : List ℕ) (replied : RepliedLines r did.taken.before did.taken.after (beginning r) [] front state_now held_now behind rest) (short : length front ≤ script_limit) where
   abbrev text : List ℕ
-  text = replies r (at_start r) hears.lines
+  text = replies r (at_start r) replied.lines
 
   whole : rest ≡ [] → SentWhole did.taken text
-  whole none = sent_whole did.taken.before did.taken.after text (subst (λ l. Sent did.taken.before did.taken.after text l) none hears.wrote)
+  whole none = sent_whole did.taken.before did.taken.after text (subst (λ l. Sent did.taken.before did.taken.after text l) none replied.wrote)
 
-  front_begins : (more : List ℕ) → Begins r front (held_now ++ behind) hears.lines (λ l. hears.cut l ∙ ap (λ k. hears.lines ++ script_lines k) (sym (append_assoc held_now behind l))) (defined_script r (front ++ more))
-  front_begins more = begins r front (held_now ++ behind) hears.lines _ more short
+  -- the lines that ended in the front are those that were answered, and those that stand behind
+  front_ended : ended_lines front ≡ replied.lines ++ ended_lines (held_now ++ behind)
+  front_ended = ended_follows front (held_now ++ behind) replied.lines (λ l. replied.cut l ∙ ap (λ k. replied.lines ++ script_lines k) (sym (append_assoc held_now behind l)))
+
+  -- they are answered, and then others
+  front_answered : (more : List ℕ) → (others : List ScriptLine) × (answered_lines (front ++ more) ≡ replied.lines ++ others)
+  front_answered more =
+      let ended = ended_are_answered front more short in
+      (ended_lines (held_now ++ behind) ++ ended.0, ended.1 ∙ ap (λ l. l ++ ended.0) front_ended ∙ append_assoc replied.lines (ended_lines (held_now ++ behind)) ended.0)
 
   -- a part of it
   pub part_written : (more : List ℕ) → SentPart did.taken (defined_script r (front ++ more)).text
   part_written more =
-      let begun = front_begins more in
-      let others = replies r (state_after r (at_start r) hears.lines) begun.others in (
+      let answered = front_answered more in
+      let others = replies r (state_after r (at_start r) replied.lines) answered.0 in (
         rest ++ others,
         record {
-          front = hears.wrote.front;
-          took = hears.wrote.took;
-          split = begun.text ∙ ap (λ l. l ++ others) hears.wrote.split ∙ append_assoc hears.wrote.front rest others;
+          front = replied.wrote.front;
+          took = replied.wrote.took;
+          split = first_lines r (front ++ more) replied.lines answered.0 answered.1 ∙ ap (λ l. l ++ others) replied.wrote.split ∙ append_assoc replied.wrote.front rest others;
         },
       )
 
-  -- all of it, where `quit` was heard
-  pub over_written : (more : List ℕ) → rest ≡ [] → state_now.over ≡ true → ((defined_script r (front ++ more)).status ≡ Done) × SentWhole did.taken (defined_script r (front ++ more)).text
-  over_written more none over =
-      let begun = front_begins more in
-      let over_now : (state_after r (at_start r) hears.lines).over ≡ true = ap (λ (s : State). s.over) hears.left ∙ over in
-      let same : (defined_script r (front ++ more)).text ≡ text = begun.text ∙ ap (λ l. text ++ l) (silent r (state_after r (at_start r) hears.lines) begun.others over_now) ∙ append-nil text in
-      (begun.over over_now, subst (λ t. Appends did.taken.before did.taken.after t) (sym same) (whole none))
+  -- all of it, where one of them was `quit`
+  module _ (over : state_now.over ≡ true) where
+    over_now : (state_after r (at_start r) replied.lines).over ≡ true
+    over_now = ap (λ (s : State). s.over) replied.left ∙ over
+
+    over_behind : (lines others : List ScriptLine) → lines ≡ replied.lines ++ others → (state_after r (at_start r) lines).over ≡ true
+    over_behind lines others are =
+        ap (λ l. (state_after r (at_start r) l).over) are
+        ∙ ap (λ (s : State). s.over) (state_after-append r (at_start r) replied.lines others ∙ stays_over r (state_after r (at_start r) replied.lines) others over_now)
+        ∙ over_now
+
+    -- it ended in the front
+    pub over_in_front : (state_after r (at_start r) (ended_lines front)).over ≡ true
+    over_in_front = over_behind (ended_lines front) (ended_lines (held_now ++ behind)) front_ended
+
+    pub over_written : (more : List ℕ) → rest ≡ [] → ((defined_script r (front ++ more)).status ≡ Done) × SentWhole did.taken (defined_script r (front ++ more)).text
+    over_written more none =
+        let answered = front_answered more in
+        let same : (defined_script r (front ++ more)).text ≡ text =
+        first_lines r (front ++ more) replied.lines answered.0 answered.1 ∙ ap (λ l. text ++ l) (silent r (state_after r (at_start r) replied.lines) answered.0 over_now) ∙ append-nil text in
+        (over_is_done r (front ++ more) (over_behind (answered_lines (front ++ more)) answered.0 answered.1), subst (λ t. Appends did.taken.before did.taken.after t) (sym same) (whole none))
 
   pub first_written : (more : List ℕ) → MayBe did.left.before (front ++ more) → rest ≡ [] → RepliedFirst r did
-  first_written more read none = replied_first r did (front ++ more) hears.lines _ read (hears.cut more) (whole none)
+  first_written more read none =
+      let answered = front_answered more in
+      replied_first r did (front ++ more) replied.lines answered.0 read answered.1 (whole none)

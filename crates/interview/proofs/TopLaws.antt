@@ -13,8 +13,10 @@ use Rattle.graph_session.specs.Rules.{Rules, rules}
 use Rattle.interview.specs.declared.status.Status.{Status}
 use Rattle.interview.specs.declared.status.Status.TheVariants.{Done, DictionaryRefused, Usage, FetchFault, ReadFault, WriteFault, ScriptTooLong, NoMemory}
 use Rattle.interview.specs.Words.{IsRun, HasNoForm, texts}
-use Rattle.interview.specs.Interview.{usage, defined_fault, defined_script, rules_by}
-use Rattle.interview.specs.Ends.{ScriptDid, ScriptEnds, Given, Did, Run, AcceptedRun, Ends, NotFetched, EndedBy, Unread}
+use Rattle.interview.specs.Interview.{usage, defined_fault, rules_by}
+use Rattle.interview.specs.ScriptEnds.{ScriptDid, ScriptEnds}
+use Rattle.interview.specs.StepEnds.{NotFetched, EndedBy}
+use Rattle.interview.specs.Ends.{Given, Did, AcceptedRun, RefusedRun, Ends, Unread, rules_over}
 
 -- ---- words
 
@@ -24,8 +26,6 @@ two_words [] a b first low high is_a is_b same = absurd (omega arith)
 two_words (x ∷ []) a b first low high is_a is_b same = absurd (omega arith)
 two_words (x ∷ y ∷ []) a b first low high is_a is_b same = λ i. (ap string_bytes (sym is_a) ∙ same) i ∷ string_bytes (sym is_b i) ∷ []
 two_words (x ∷ y ∷ z ∷ words) a b first low high is_a is_b same = absurd (omega arith)
-
--- ---- the checks
 
 -- ---- a script that isn't begun
 
@@ -57,46 +57,26 @@ module _ (given : Given) (did : Did) (name : List ℕ) (asked : IsRun given.word
     -- ---- a dictionary with a fault
 
     module _ (fault : DictFault) (is : IsFault bytes (names_of given.checks) fault) where
-      -- the script may have been any
-      abbrev refused_run : Run given
-      refused_run =
-          let some = some_script given.left in
-          record { name = name; bytes = bytes; script = some.0; outcome = defined_fault fault; asked = asked; held = held; read = some.1; ran = inr (fault, is, refl) }
+      abbrev refused_run : RefusedRun given
+      refused_run = record { name = name; bytes = bytes; fault = fault; asked = asked; held = held; is_fault = is }
 
-      pub ends_refused : (status : Status) → Ended did (defined_fault fault).text DictionaryRefused status → Ends given did status
-      ends_refused status (inl (same, wrote)) = subst (Ends given did) (sym same) (inl (refused_run, refl, wrote))
-      ends_refused status (inr (same, rose, part)) = subst (Ends given did) (sym same) (rose, inr (inl (refused_run, part)))
+      pub ends_refused : Unread did → (status : Status) → Ended did (defined_fault fault).text DictionaryRefused status → Ends given did status
+      ends_refused unread status (inl (same, wrote)) = subst (Ends given did) (sym same) (inl (refused_run, wrote, unread))
+      ends_refused unread status (inr (same, rose, part)) = subst (Ends given did) (sym same) (inr (rose, inr (inl (refused_run, part, unread))))
 
     -- ---- an accepted one
 
-    module _ (dict : Accepted) (is : AreAccepted bytes (names_of given.checks) dict) (same_left : did.script.left.before ≡ given.left) where
-      abbrev r : Rules
-      r = rules_by given.checks dict
-
+    module _ (dict : Accepted) (is : AreAccepted bytes (names_of given.checks) dict) where
       abbrev over : AcceptedRun given
       over = record { name = name; bytes = bytes; dict = dict; asked = asked; held = held; is_accepted = is }
 
-      abbrev run_of : (script : List ℕ) → MayBe did.script.left.before script → Run given
-      run_of script read = record {
-        name = name;
-        bytes = bytes;
-        script = script;
-        outcome = defined_script r script;
-        asked = asked;
-        held = held;
-        read = subst (λ l. MayBe l script) same_left read;
-        ran = inl (dict, is, refl);
-      }
-
-      ends_over : (status : Status) → ScriptEnds r did.script status → Ends given did status
-      ends_over Done ends = inl (run_of ends.0 ends.1, ends.2, ends.3)
-      ends_over ReadFault ends = (ends.0, (over, ends.1))
-      ends_over WriteFault ends = (ends.0, inr (inl (run_of ends.1.0 ends.1.1, ends.1.2)))
-      ends_over ScriptTooLong ends = (run_of ends.0 ends.1, ends.2, ends.3)
+      ends_over : (status : Status) → ScriptEnds (rules_over given over) did.script status → Ends given did status
+      ends_over Done ends = inl (over, ends)
+      ends_over ReadFault ends = (over, ends)
+      ends_over WriteFault ends = inl (over, ends)
+      ends_over ScriptTooLong ends = (over, ends)
       ends_over NoMemory ends = inr (over, ends)
       ends_over status ends = absurd ends
 
-    pub ends_run : (dict : Kept) → AreAccepted bytes (names_of given.checks) (accepted dict) × (dict.checks ≡ given.checks) → did.script.left.before ≡ given.left
-        → (status : Status) → ScriptEnds (rules dict) did.script status → Ends given did status
-    ends_run dict is same_left status ends =
-        ends_over (accepted dict) is.0 same_left status (subst (λ checks. ScriptEnds (rules_by checks (accepted dict)) did.script status) is.1 ends)
+    pub ends_run : (dict : Kept) → AreAccepted bytes (names_of given.checks) (accepted dict) × (dict.checks ≡ given.checks) → (status : Status) → ScriptEnds (rules dict) did.script status → Ends given did status
+    ends_run dict is status ends = ends_over (accepted dict) is.0 status (subst (λ checks. ScriptEnds (rules_by checks (accepted dict)) did.script status) is.1 ends)

@@ -7,7 +7,7 @@ use Rattle.dictionary.specs.Accepted.{Accepted, IsAccepted, Named, names_of}
 use Rattle.dictionary.specs.Extension.{IsExtension}
 use Rattle.dictionary.specs.Faults.{AreAccepted, IsFault}
 use Rattle.dictionary.specs.Keeping.{node_count}
-use Rattle.script_lines.specs.Lines.{script_lines, ended_lines}
+use Rattle.script_lines.specs.Lines.{ScriptLine, script_lines, ended_lines}
 use Rattle.script_lines.specs.declared.command.Command.{Command}
 use Rattle.script_lines.specs.declared.command.Command.TheVariants.{Final, Undo}
 use Rattle.graph_session.specs.Changes.{change_of}
@@ -38,19 +38,16 @@ defined_fault fault = record { text = fault_line fault; status = DictionaryRefus
 abbrev pub script_limit : ℕ
 script_limit = 67108864
 
--- the replies to the lines that end within the limit: whole where one of them is `quit`, else the script is too long
-abbrev pub defined_cut : Rules → List ℕ → Defined
-defined_cut r front = record {
-  text = replies r (at_start r) (ended_lines front);
-  status = if (state_after r (at_start r) (ended_lines front)).over then Done else ScriptTooLong;
-}
+-- the lines that are answered: all of a script within the limit, and else those that end within it
+unfoldable pub answered_lines : List ℕ → List ScriptLine
+answered_lines script = if nat_le (length script) script_limit then script_lines script else ended_lines (take script_limit script)
 
--- what a script is to give
+-- what a script is to give: the replies to these lines; past the limit it is too long, but where one of them is `quit`
 unfoldable pub defined_script : Rules → List ℕ → Defined
-defined_script r script =
-    if nat_le (length script) script_limit
-    then record { text = replies r (at_start r) (script_lines script); status = Done }
-    else defined_cut r (take script_limit script)
+defined_script r script = record {
+  text = replies r (at_start r) (answered_lines script);
+  status = if nat_le (length script) script_limit then Done else if (state_after r (at_start r) (answered_lines script)).over then Done else ScriptTooLong;
+}
 
 -- the line of a value that is final
 abbrev pub final_line : List ℕ → List ℕ

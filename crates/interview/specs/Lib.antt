@@ -4,6 +4,9 @@ pub mod Replies
 pub mod Words
 pub mod FaultLines
 pub mod Interview
-pub mod Hearing
-pub mod Going
+pub mod Answering
+pub mod SoFar
+pub mod Devices
+pub mod ScriptEnds
+pub mod StepEnds
 pub mod Ends

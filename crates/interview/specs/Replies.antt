@@ -63,7 +63,7 @@ asked_text text (Some res) otherwise = text res
 
 -- ---- the text of a refusal
 
--- its number and its name; want of memory isn't told so
+-- its number and its name; want of memory has none
 abbrev pub refusal_name : Refusal → List ℕ
 refusal_name UnknownFact = codes "3 UnknownFact"
 refusal_name NoMember = codes "4 NoMember"
@@ -110,6 +110,7 @@ long_line_text = codes "refused 2 LongLine"
 -- ---- the text of a reply
 
 -- of a reply that leaves this course; the last four have no text of their own
+-- `is_final` tests by `steady`: dictionary's law `the_test_tells_steady` ties that to what a steady fact is
 abbrev pub reply_text : Rules → Course → Reply → List ℕ
 reply_text r c Done = codes "ok"
 reply_text r c (Added member) = numbered (codes "ok #") member
@@ -136,9 +137,9 @@ pub record Step : Type 0 where
   pub text : List ℕ
   pub state : State
 
--- a line is told, and nothing changes
-abbrev pub step_told : Course → List ℕ → Step
-step_told c text = record { text = line_with text; state = open_at c }
+-- a line is written, and nothing changes
+abbrev pub step_writing : Course → List ℕ → Step
+step_writing c text = record { text = line_with text; state = open_at c }
 
 abbrev pub is_quit : Command → Bool
 is_quit commands.Quit = true
@@ -152,12 +153,13 @@ is_unknown (commands.Unwatch name path) = true
 is_unknown _ = false
 
 -- a session's reply and the course that it leaves, or its refusal
+-- its step reads a value by `value_at`: value_text's law `reads_spelled_values` ties that to what the text spells
 abbrev pub step_answered : Rules → Course → Result (Reply × Course) Refusal → Step
-step_answered r c (Ok answer) = step_told answer.1 (reply_text r answer.1 answer.0)
-step_answered r c (Err refusal) = step_told c (refusal_text refusal)
+step_answered r c (Ok answer) = step_writing answer.1 (reply_text r answer.1 answer.0)
+step_answered r c (Err refusal) = step_writing c (refusal_text refusal)
 
 abbrev pub step_known : Rules → Course → Command → Step
-step_known r c asked = if is_unknown asked then step_told c bad_line_text else step_answered r c (session.step r c asked)
+step_known r c asked = if is_unknown asked then step_writing c bad_line_text else step_answered r c (session.step r c asked)
 
 abbrev pub step_command : Rules → Course → Command → Step
 step_command r c asked = if is_quit asked then record { text = []; state = record { course = c; over = true } } else step_known r c asked
@@ -166,12 +168,13 @@ step_command r c asked = if is_quit asked then record { text = []; state = recor
 
 abbrev pub step_heard : Rules → Course → Heard → Step
 step_heard r c nothing = record { text = []; state = open_at c }
-step_heard r c bad_line = step_told c bad_line_text
+step_heard r c bad_line = step_writing c bad_line_text
 step_heard r c (command asked) = step_command r c asked
 
+-- `heard_in` reads the line: script_lines' law `a_line_says_one_thing` ties it to what the line spells
 abbrev pub step_line : Rules → Course → ScriptLine → Step
 step_line r c (whole line) = step_heard r c (heard_in line)
-step_line r c long = step_told c long_line_text
+step_line r c long = step_writing c long_line_text
 
 -- what follows `quit` has no effect
 abbrev pub step : Rules → State → ScriptLine → Step

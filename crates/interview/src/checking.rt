@@ -2,7 +2,7 @@
 ghost use Rattle.std.specs.Prelude.{◌≡◌, ℕ, List, map};
 ghost use Rattle.dictionary.specs.Accepted.{accepted};
 ghost use Rattle.interview.specs.Interview.{defined_accepted};
-ghost use Rattle.interview.specs.Ends.{CheckEnds, EndedBy};
+ghost use Rattle.interview.specs.StepEnds.{CheckEnds, EndedBy};
 ghost use Rattle.interview.specs.declared.status.Status.TheVariants.{Done};
 
 use crate::Status;
@@ -17,7 +17,9 @@ use value_text::Line;
 
 // Writes that a dictionary is accepted, which ends the interview.
 fn end_accepted<K: Sink>(out: &mut K, dictionary: &Dictionary) -> Status
-    ensures { EndedBy (K.taken out.old) (K.taken out.new) (K.faults out.old) (K.faults out.new) (defined_accepted (accepted dictionary.now)).text Done result }
+    ensures { EndedBy
+        (K.taken out.old) (K.taken out.new) (K.faults out.old) (K.faults out.new)
+        (defined_accepted (accepted dictionary.now)).text Done result }
 {
     let mut line = Line::new();
     print_accepted(dictionary.fact_count(), dictionary.node_count(), &mut line);
@@ -32,7 +34,8 @@ pub fn check<H: Shelf, K: Sink>(
     shelf: &mut H,
     out: &mut K,
 ) -> Status
-    ensures ends { CheckEnds (H.told shelf.old name.now) (map {B = List ℕ × ℕ} (λ c. (c.name, c.code)) checks.now.checks.items) name.now
+    ensures ends { CheckEnds (H.told shelf.old name.now)
+        (map {B = List ℕ × ℕ} (λ c. (c.name, c.code)) checks.now.checks.items) name.now
         (record {
           shelf = record { before = H.faults shelf.old; after = H.faults shelf.new };
           failed_name = H.failed_name shelf.new;

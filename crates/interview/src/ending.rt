@@ -1,5 +1,5 @@
 // Texts that end an interview.
-ghost use Rattle.interview.specs.Ends.{EndedBy};
+ghost use Rattle.interview.specs.StepEnds.{EndedBy};
 ghost use Rattle.interview.specs.FaultLines.{fault_line};
 ghost use Rattle.interview.specs.declared.status.Status.TheVariants.{DictionaryRefused};
 
@@ -11,7 +11,9 @@ use value_text::Line;
 
 /// Writes a text that ends the interview with this status.
 pub fn end_by<K: Sink>(out: &mut K, text: &[u8], status: Status) -> Status
-    ensures { EndedBy (K.taken out.old) (K.taken out.new) (K.faults out.old) (K.faults out.new) text.now status result }
+    ensures { EndedBy
+        (K.taken out.old) (K.taken out.new) (K.faults out.old) (K.faults out.new)
+        text.now status result }
 {
     match put_all(out, text) {
         Ok(()) => status,
@@ -21,7 +23,9 @@ pub fn end_by<K: Sink>(out: &mut K, text: &[u8], status: Status) -> Status
 
 /// Writes the line of a dictionary's first fault, which ends the interview.
 pub fn end_by_fault<K: Sink>(out: &mut K, fault: DictFault) -> Status
-    ensures { EndedBy (K.taken out.old) (K.taken out.new) (K.faults out.old) (K.faults out.new) (fault_line fault) DictionaryRefused result }
+    ensures { EndedBy
+        (K.taken out.old) (K.taken out.new) (K.faults out.old) (K.faults out.new)
+        (fault_line fault) DictionaryRefused result }
 {
     let mut line = Line::new();
     print_fault(fault, &mut line);

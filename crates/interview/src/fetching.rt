@@ -2,7 +2,7 @@
 ghost use Rattle.std.specs.Prelude.{◌≡◌, ℕ, List, map, IfErr, IfOk};
 ghost use Rattle.dictionary.specs.Accepted.{accepted, names_of};
 ghost use Rattle.dictionary.specs.Faults.{AreAccepted, IsFault, Refuses};
-ghost use Rattle.interview.specs.Ends.{FetchedAs, NotFetched};
+ghost use Rattle.interview.specs.StepEnds.{FetchedAs, NotFetched};
 ghost use Rattle.interview.specs.FaultLines.{is_memory as wants_memory};
 
 use crate::Status;
@@ -25,9 +25,12 @@ pub enum Fetched {
 
 // The dictionary that the bytes spell, with the checks of the table by name and code.
 fn accept_named(alloc: Global, bytes: &[u8], checks: &CheckTable) -> Result<Dictionary, DictFault>
-    ensures is_accepted { IfOk result (λ d. AreAccepted bytes.now (names_of (map {B = List ℕ × ℕ} (λ c. (c.name, c.code)) checks.now.checks.items)) (accepted d)) }
-    ensures checks { IfOk result (λ d. d.checks ≡ map {B = List ℕ × ℕ} (λ c. (c.name, c.code)) checks.now.checks.items) }
-    ensures refused { IfErr result (Refuses (IsFault bytes.now (names_of (map {B = List ℕ × ℕ} (λ c. (c.name, c.code)) checks.now.checks.items)))) }
+    ensures is_accepted { IfOk result (λ d. AreAccepted bytes.now (names_of
+        (map {B = List ℕ × ℕ} (λ c. (c.name, c.code)) checks.now.checks.items)) (accepted d)) }
+    ensures checks { IfOk result (λ d. d.checks
+        ≡ map {B = List ℕ × ℕ} (λ c. (c.name, c.code)) checks.now.checks.items) }
+    ensures refused { IfErr result (Refuses (IsFault bytes.now (names_of
+        (map {B = List ℕ × ℕ} (λ c. (c.name, c.code)) checks.now.checks.items)))) }
 {
     accept(alloc, bytes, checks)
 }
@@ -61,8 +64,10 @@ pub fn fetch<H: Shelf>(
     checks: &CheckTable,
     shelf: &mut H,
 ) -> Result<Fetched, Status>
-    ensures fetched { IfOk result (FetchedAs (H.told shelf.old name.now) (map {B = List ℕ × ℕ} (λ c. (c.name, c.code)) checks.now.checks.items)) }
-    ensures not_fetched { IfErr result (NotFetched name.now (H.faults shelf.old) (H.faults shelf.new) (H.failed_name shelf.new)) }
+    ensures fetched { IfOk result (FetchedAs (H.told shelf.old name.now)
+        (map {B = List ℕ × ℕ} (λ c. (c.name, c.code)) checks.now.checks.items)) }
+    ensures not_fetched { IfErr result
+        (NotFetched name.now (H.faults shelf.old) (H.faults shelf.new) (H.failed_name shelf.new)) }
 {
     let bytes = match shelf.fetch(name, LIMIT) {
         Ok(bytes) => bytes,

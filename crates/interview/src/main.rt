@@ -1,15 +1,17 @@
 //! The program `interview`: runs a script of commands over a dictionary of facts, and prints a reply a command.
 #![tactic(auto)]
 
-ghost use Rattle.std.specs.Prelude.{◌≡◌, ℕ, ◌+◌, ◌-◌, ◌≤◌, ◌<◌, ◌^◌, Bool, List, [], ◌∷◌, ◌++◌, OnOk, length, map};
+ghost use Rattle.std.specs.Prelude.{◌≡◌, ℕ, ◌+◌, ◌-◌, ◌≤◌, ◌<◌, ◌^◌, Bool, List, [], ◌∷◌, ◌++◌, ◌⊎◌, IfOk, OnErr, OnOk, length, map};
 ghost use Rattle.text_checks.specs.Checks.{IsCode, check_says};
+ghost use Rattle.std.specs.Process.{exit_status};
 ghost use Rattle.interview.specs.Checks.{standard_checks};
+ghost use Rattle.interview.specs.Codes.{code_of};
 
+mod answering;
 mod checking;
 mod ending;
 mod fault_line;
 mod fetching;
-mod hearing;
 mod laws;
 mod numbered;
 mod reply;
@@ -56,9 +58,12 @@ fn add_check(
     requires callable { (text : _) → length text.now ≤ 1000 → Test.pre check text }
     requires says { (text : _) (answer : Bool) → length text.now ≤ 1000
         → Test.post check text answer → answer ≡ check_says code text.now }
-    ensures added { OnOk result (map {B = List ℕ × ℕ} (λ c. (c.name, c.code)) checks.new.checks.items
-        ≡ map {B = List ℕ × ℕ} (λ c. (c.name, c.code)) checks.old.checks.items ++ (name.now, code) ∷ []) }
-    ensures count { OnOk result (length checks.new.checks.items ≡ length checks.old.checks.items + 1) }
+    ensures added { OnOk result
+        (map {B = List ℕ × ℕ} (λ c. (c.name, c.code)) checks.new.checks.items
+        ≡ map {B = List ℕ × ℕ} (λ c. (c.name, c.code)) checks.old.checks.items
+        ++ (name.now, code) ∷ []) }
+    ensures count { OnOk result
+        (length checks.new.checks.items ≡ length checks.old.checks.items + 1) }
 {
     let Ok(name) = Name::read(alloc, name) else {
         return Err(AllocError);
@@ -71,7 +76,8 @@ fn add_check(
 
 // Runs the program over the words, the current folder and the standard streams. A dictionary may name the four checks.
 fn run_with(rt: HostRuntime, alloc: Global, words: &[String], checks: &CheckTable) -> Status
-    requires { map {B = List ℕ × ℕ} (λ c. (c.name, c.code)) checks.now.checks.items ≡ standard_checks }
+    requires { map {B = List ℕ × ℕ} (λ c. (c.name, c.code)) checks.now.checks.items
+        ≡ standard_checks }
 {
     let mut shelf = FolderShelf::new(rt, alloc);
     let mut script = StdinSource::new(rt.stdin());
@@ -95,19 +101,33 @@ fn run(rt: HostRuntime) -> io::Result<Status> {
     Ok(run_with(rt, alloc, &words, &checks))
 }
 
-fn main(rt: HostRuntime) -> ExitCode {
-    let status = match run(rt) {
-        Ok(status) => status,
-        Err(error) if error.kind() == ErrorKind::OutOfMemory => Status::NoMemory,
-        Err(_) => {
-            let _ = eprintln!(rt; "interview: {WORDS_FAULT} WordsFault");
-            return ExitCode::from(WORDS_FAULT);
-        }
-    };
+// Ends with the exit status of this ending. Standard error names it from 3 on.
+fn end_with(rt: HostRuntime, status: Status) -> ExitCode
+    ensures { exit_status result ≡ code_of status }
+{
     let code = status.code();
     if code > 2 {
         let name = status.name();
         let _ = eprintln!(rt; "interview: {code} {name}");
     }
     ExitCode::from(code)
+}
+
+// Ends as the interview did. Where it wasn't begun, memory was wanting, or the words couldn't be had.
+fn end_as(rt: HostRuntime, ended: io::Result<Status>) -> ExitCode
+    ensures ended { IfOk ended (λ status. exit_status result ≡ code_of status) }
+    ensures not_begun { OnErr ended ((exit_status result ≡ 7) ⊎ (exit_status result ≡ 9)) }
+{
+    match ended {
+        Ok(status) => end_with(rt, status),
+        Err(error) if error.kind() == ErrorKind::OutOfMemory => end_with(rt, Status::NoMemory),
+        Err(_) => {
+            let _ = eprintln!(rt; "interview: {WORDS_FAULT} WordsFault");
+            ExitCode::from(WORDS_FAULT)
+        }
+    }
+}
+
+fn main(rt: HostRuntime) -> ExitCode {
+    end_as(rt, run(rt))
 }

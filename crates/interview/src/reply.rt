@@ -80,7 +80,8 @@ fn print_finality(res: &Res, final_value: bool, lists: &EnumLists, line: &mut Li
 // Prints the result of a slot into an empty line.
 fn print_result(session: &Session<PlainTable>, slot: Slot, line: &mut Line)
     requires { line.old ≡ [] }
-    ensures text { line.new ≡ asked_text (result_text (tree_of (rules session.now.dict)).enums) (plain (accepted session.now.dict) session.now.timeline.now slot) (codes "incomplete") }
+    ensures text { line.new ≡ asked_text (result_text (tree_of (rules session.now.dict)).enums)
+        (plain (accepted session.now.dict) session.now.timeline.now slot) (codes "incomplete") }
     ensures short { length line.new ≤ 1050 }
 {
     let _answers = session.answers();
@@ -94,7 +95,10 @@ fn print_result(session: &Session<PlainTable>, slot: Slot, line: &mut Line)
 // Prints into an empty line whether the result of a slot is final.
 fn print_final(session: &Session<PlainTable>, slot: Slot, line: &mut Line)
     requires { line.old ≡ [] }
-    ensures text { line.new ≡ asked_text (final_text (tree_of (rules session.now.dict)).enums (is_final_in (accepted session.now.dict) session.now.timeline.now slot)) (plain (accepted session.now.dict) session.now.timeline.now slot) (codes "open") }
+    ensures text { line.new ≡ asked_text
+        (final_text (tree_of (rules session.now.dict)).enums
+        (is_final_in (accepted session.now.dict) session.now.timeline.now slot))
+        (plain (accepted session.now.dict) session.now.timeline.now slot) (codes "open") }
     ensures short { length line.new ≤ 1050 }
 {
     let _answers = session.answers();

@@ -5,11 +5,11 @@ ghost use Rattle.graph_session.specs.Refusals.{SameChecks};
 ghost use Rattle.graph_session.specs.Rules.{rules};
 ghost use Rattle.graph_session.specs.SessionView.{course};
 ghost use Rattle.interview.specs.Replies.{beginning};
-ghost use Rattle.interview.specs.Hearing.{AnsweredAs, ending_of};
-ghost use Rattle.interview.specs.Ends.{ScriptEnds};
+ghost use Rattle.interview.specs.Answering.{AnsweredAs, ending_of};
+ghost use Rattle.interview.specs.ScriptEnds.{ScriptEnds, script_did};
 
 use crate::Status;
-use crate::hearing::{Hearing, answer, hear};
+use crate::answering::{Progress, answer_piece, answer_ready};
 use fg_io::{Failed, Sink, Source};
 use graph_session::Session;
 use plain_table::PlainTable;
@@ -29,25 +29,27 @@ fn finish<K: Sink>(
     checks: &CheckTable,
     lines: &mut Lines,
     out: &mut K,
-) -> Hearing
-    requires same_checks { SameChecks (rules session.old.dict) (map {B = List ℕ × ℕ} (λ c. (c.name, c.code)) checks.now.checks.items) }
+) -> Progress
+    requires same_checks { SameChecks (rules session.old.dict)
+        (map {B = List ℕ × ℕ} (λ c. (c.name, c.code)) checks.now.checks.items) }
     requires few { session.old.changes < 2 ^ 63 }
-    ensures answered { AnsweredAs (rules session.old.dict) (K.taken out.old) (K.taken out.new) (K.faults out.old) (K.faults out.new)
+    ensures answered { AnsweredAs (rules session.old.dict)
+        (K.taken out.old) (K.taken out.new) (K.faults out.old) (K.faults out.new)
         (course session.old) (course session.new) (script_lines lines.old.so_far) result }
     ensures later { K.faults out.old ≤ K.faults out.new }
 {
     let ready = lines.finish();
-    answer(alloc, session, checks, ready, lines.line(), out)
+    answer_ready(alloc, session, checks, ready, lines.line(), out)
 }
 
-fn status_at_end(hearing: Hearing) -> Status
-    ensures { result ≡ ending_of hearing }
+fn status_at_end(progress: Progress) -> Status
+    ensures { result ≡ ending_of progress }
 {
-    match hearing {
-        Hearing::More => Status::Done,
-        Hearing::Over => Status::Done,
-        Hearing::Unwritten => Status::WriteFault,
-        Hearing::OutOfMemory => Status::NoMemory,
+    match progress {
+        Progress::More => Status::Done,
+        Progress::Over => Status::Done,
+        Progress::Unwritten => Status::WriteFault,
+        Progress::OutOfMemory => Status::NoMemory,
     }
 }
 
@@ -59,15 +61,12 @@ pub fn run<S: Source, K: Sink>(
     script: &mut S,
     out: &mut K,
 ) -> Status
-    requires same_checks { SameChecks (rules session.old.dict) (map {B = List ℕ × ℕ} (λ c. (c.name, c.code)) checks.now.checks.items) }
+    requires same_checks { SameChecks (rules session.old.dict)
+        (map {B = List ℕ × ℕ} (λ c. (c.name, c.code)) checks.now.checks.items) }
     requires begun { course session.old ≡ beginning (rules session.old.dict) }
     ensures ends { ScriptEnds (rules session.old.dict)
-        (record {
-          left = record { before = S.left script.old; after = S.left script.new };
-          taken = record { before = K.taken out.old; after = K.taken out.new };
-          source = record { before = S.faults script.old; after = S.faults script.new };
-          sink = record { before = K.faults out.old; after = K.faults out.new };
-        })
+        (script_did (S.left script.old) (S.left script.new) (K.taken out.old) (K.taken out.new)
+        (S.faults script.old) (S.faults script.new) (K.faults out.old) (K.faults out.new))
         result }
 {
     let mut lines = Lines::new();
@@ -78,11 +77,11 @@ pub fn run<S: Source, K: Sink>(
         match script.pull(&mut buf[..room]) {
             Ok(0) => return status_at_end(finish(alloc, session, checks, &mut lines, out)),
             Ok(count) => {
-                match hear(alloc, session, checks, &mut lines, out, &buf[..count]) {
-                    Hearing::More => taken += count,
-                    Hearing::Over => return Status::Done,
-                    Hearing::Unwritten => return Status::WriteFault,
-                    Hearing::OutOfMemory => return Status::NoMemory,
+                match answer_piece(alloc, session, checks, &mut lines, out, &buf[..count]) {
+                    Progress::More => taken += count,
+                    Progress::Over => return Status::Done,
+                    Progress::Unwritten => return Status::WriteFault,
+                    Progress::OutOfMemory => return Status::NoMemory,
                 }
             }
             Err(Failed) => return Status::ReadFault,

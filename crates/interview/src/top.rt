@@ -2,8 +2,8 @@
 ghost use Rattle.std.specs.Prelude.{◌≡◌, ℕ, List, map};
 ghost use Rattle.graph_session.specs.Refusals.{SameChecks};
 ghost use Rattle.graph_session.specs.Rules.{rules};
-ghost use Rattle.interview.specs.Words.{texts};
-ghost use Rattle.interview.specs.Ends.{ScriptEnds, Ends, Interviewed};
+ghost use Rattle.interview.specs.ScriptEnds.{ScriptEnds, script_did};
+ghost use Rattle.interview.specs.Ends.{Ends, Interviewed, did_by, given_by};
 
 use crate::Status;
 use crate::checking::check;
@@ -27,14 +27,11 @@ fn run_over<S: Source, K: Sink>(
     script: &mut S,
     out: &mut K,
 ) -> Status
-    requires { SameChecks (rules dictionary) (map {B = List ℕ × ℕ} (λ c. (c.name, c.code)) checks.now.checks.items) }
+    requires { SameChecks (rules dictionary)
+        (map {B = List ℕ × ℕ} (λ c. (c.name, c.code)) checks.now.checks.items) }
     ensures ends { ScriptEnds (rules dictionary)
-        (record {
-          left = record { before = S.left script.old; after = S.left script.new };
-          taken = record { before = K.taken out.old; after = K.taken out.new };
-          source = record { before = S.faults script.old; after = S.faults script.new };
-          sink = record { before = K.faults out.old; after = K.faults out.new };
-        })
+        (script_did (S.left script.old) (S.left script.new) (K.taken out.old) (K.taken out.new)
+        (S.faults script.old) (S.faults script.new) (K.faults out.old) (K.faults out.new))
         result }
 {
     match Session::<PlainTable>::new(alloc, dictionary) {
@@ -52,17 +49,11 @@ fn attempt<H: Shelf, S: Source, K: Sink>(
     out: &mut K,
 ) -> Status
     ensures ends { Ends
-        (record { words = texts words.now; checks = map {B = List ℕ × ℕ} (λ c. (c.name, c.code)) checks.now.checks.items; told = H.told shelf.old; left = S.left script.old })
-        (record {
-          shelf = record { before = H.faults shelf.old; after = H.faults shelf.new };
-          failed_name = H.failed_name shelf.new;
-          script = record {
-            left = record { before = S.left script.old; after = S.left script.new };
-            taken = record { before = K.taken out.old; after = K.taken out.new };
-            source = record { before = S.faults script.old; after = S.faults script.new };
-            sink = record { before = K.faults out.old; after = K.faults out.new };
-          };
-        })
+        (given_by words.now (map {B = List ℕ × ℕ} (λ c. (c.name, c.code)) checks.now.checks.items)
+        (H.told shelf.old) (S.left script.old))
+        (did_by (H.faults shelf.old) (H.faults shelf.new) (H.failed_name shelf.new)
+        (script_did (S.left script.old) (S.left script.new) (K.taken out.old) (K.taken out.new)
+        (S.faults script.old) (S.faults script.new) (K.faults out.old) (K.faults out.new)))
         result }
 {
     match form_of(words) {
@@ -89,17 +80,11 @@ pub fn interview<H: Shelf, S: Source, K: Sink>(
     out: &mut K,
 ) -> Status
     ensures { Interviewed
-        (record { words = texts words.now; checks = map {B = List ℕ × ℕ} (λ c. (c.name, c.code)) checks.now.checks.items; told = H.told shelf.old; left = S.left script.old })
-        (record {
-          shelf = record { before = H.faults shelf.old; after = H.faults shelf.new };
-          failed_name = H.failed_name shelf.new;
-          script = record {
-            left = record { before = S.left script.old; after = S.left script.new };
-            taken = record { before = K.taken out.old; after = K.taken out.new };
-            source = record { before = S.faults script.old; after = S.faults script.new };
-            sink = record { before = K.faults out.old; after = K.faults out.new };
-          };
-        })
+        (given_by words.now (map {B = List ℕ × ℕ} (λ c. (c.name, c.code)) checks.now.checks.items)
+        (H.told shelf.old) (S.left script.old))
+        (did_by (H.faults shelf.old) (H.faults shelf.new) (H.failed_name shelf.new)
+        (script_did (S.left script.old) (S.left script.new) (K.taken out.old) (K.taken out.new)
+        (S.faults script.old) (S.faults script.new) (K.faults out.old) (K.faults out.new)))
         result }
 {
     attempt(alloc, words, checks, shelf, script, out)

@@ -1,5 +1,4 @@
 pub mod CaseLaws
-pub mod Equality
 pub mod FieldLaws
 pub mod FilterLaws
 pub mod ManyLaws

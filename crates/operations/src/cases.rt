@@ -7,7 +7,7 @@ use three_state::{Res, down, finish, truth};
 
 /// What a condition says of its case: the result behind it in a Switch, or the member that a Find
 /// judges. The flags say that no condition so far rested on a placeholder.
-#[derive(Debug, Drop)]
+#[derive(Drop)]
 pub enum CaseStep {
     /// The case isn't taken: the next one is judged.
     Next(bool),

@@ -14,7 +14,7 @@ use three_state::{Res, Strict};
 
 /// The fields of a CollectionSum, seen member by member. Contracts see how many were seen, the
 /// verdict on the collection and on them, and the sum of their values.
-#[derive(Debug, Drop)]
+#[derive(Drop)]
 pub struct SumFold {
     count: u64,
     verdict: Strict,
@@ -92,7 +92,7 @@ fn add_field(sum: &mut Summed, field: &Res)
 
 /// The fields of a Count, seen member by member. Contracts see how many were seen, the verdict on
 /// the collection and on them, and how many are true.
-#[derive(Debug, Drop)]
+#[derive(Drop)]
 pub struct CountFold {
     count: u64,
     verdict: Strict,

@@ -12,7 +12,7 @@ use three_state::{Res, Strict};
 
 /// The conditions of a Filter, seen member by member. Contracts see the verdict on the collection
 /// and on them. The members that are kept stand elsewhere.
-#[derive(Debug, Drop)]
+#[derive(Drop)]
 pub struct FilterFold {
     verdict: Strict,
 }

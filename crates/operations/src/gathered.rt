@@ -6,7 +6,7 @@ use crate::sum::Summed;
 use fact_values::{Value, ValueFault, Whole};
 
 /// What an operation with many operands keeps of the values seen.
-#[derive(Debug, Drop)]
+#[derive(Drop)]
 pub enum Gathered {
     Added(Summed),
     Subtracted(Summed),

@@ -8,7 +8,7 @@ use dict_tree::ManyOp;
 use three_state::{AllFold, AnyFold, Res, Strict};
 
 /// What a node with many operands keeps of those seen.
-#[derive(Debug, Drop)]
+#[derive(Drop)]
 pub enum Kept {
     All(AllFold),
     Any(AnyFold),

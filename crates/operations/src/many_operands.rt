@@ -11,7 +11,7 @@ use three_state::Res;
 
 /// The operands of a node that has many, seen one by one in their order. Contracts see how many
 /// were seen, and what is kept of them.
-#[derive(Debug, Drop)]
+#[derive(Drop)]
 pub struct ManyFold {
     count: u64,
     kept: Kept,

@@ -68,7 +68,7 @@ fn members_in(value: &Value) -> &[u32]
 }
 
 /// Where a Dependency through an item goes.
-#[derive(Debug, Drop)]
+#[derive(Drop)]
 pub enum ItemStep {
     /// To the field of this member. The flag says that the item is complete.
     Member(u32, bool),

@@ -11,7 +11,7 @@ use fact_values::{
 
 /// What an Add or a Subtract keeps of the values seen. The first of them says of which type they
 /// are.
-#[derive(Debug, Drop)]
+#[derive(Drop)]
 pub enum Summed {
     Nothing,
     Ints(Total),

@@ -93,7 +93,7 @@ fn later(day: &Value, days: &Value) -> Result<Value, ValueFault>
     }
 }
 
-#[tactic(auto, using(crate::proofs::Equality::answers_value_same))]
+#[tactic(auto, using(three_state::proofs::EqualityLaws::answers_value_same))]
 fn is_same(a: &Value, b: &Value) -> bool
     ensures { result ≡ value_same a.now b.now }
 {

@@ -1,26 +1,34 @@
 -- What is left of a list of operands, of cases or of members, before and behind the next one.
-use Rattle.std.proofs.Common.{◌≡◌, subst, ℕ, suc, ◌+◌, ◌≤◌, ◌++◌, Bool, true, if◌then◌else◌, List, [], ◌∷◌, sym, ap, ◌∙◌, arith, map, sum_by, ◌<◌, length, drop, drop-cons, get_or, add-one}
-use Rattle.std.specs.Prelude.{IfOk, Result}
+use Rattle.std.proofs.Common.{◌≡◌, subst, ℕ, suc, ◌+◌, ◌≤◌, ◌++◌, Bool, true, false, refl, if◌then◌else◌, List, [], ◌∷◌, sym, ap, ◌∙◌, arith, map, sum_by, ◌<◌, length, drop, drop-cons, get_or, add-one, Some}
+use Rattle.std.specs.Prelude.{IfOk, OnOk, Result}
 use Rattle.std.proofs.lemmas.List.Sums.{sum_by-cons}
+use Rattle.std.proofs.lemmas.Result.{on_ok_weaker}
 use Rattle.fact_values.specs.declared.memory.NoMemory.{NoMemory}
 use Rattle.fact_values.specs.declared.value.Value.TheVariants.{Boolean, Item}
 use Rattle.common_lemmas.proofs.Lists.{kept_one}
-use Rattle.dict_tree.specs.Tree.{Literal, Reading, Use}
+use Rattle.dict_tree.specs.Tree.{Literal, Reading, Source, Use}
 use Rattle.dict_tree.specs.View.{case_view, cases_of, trees_of, view}
 use Rattle.dict_tree.specs.declared.expr.Expr.{Expr}
 use Rattle.dict_tree.specs.declared.expr.Case.{Case}
 use Rattle.dict_tree.proofs.FindingLaws.{drop-view}
 use Rattle.evaluation.specs.Over.{Env, over, over_all, over_cases, weight, weight_of_all, weight_of_cases}
-use Rattle.operations.specs.CaseSteps.{after_case, case_step, find_from, switch_from}
+use Rattle.evaluation.specs.SlotsRead.{up_to_decider}
+use Rattle.evaluation.specs.Visits.{visits, visits_after, visits_of_all, visits_of_cases}
+use Rattle.evaluation.proofs.VisitLaws.{find-visits}
+use Rattle.operations.specs.CaseSteps.{after_case, case_step, find_from, switch_from, truth_step}
 use Rattle.operations.specs.ManyFolds.{ManySeen, many_from, saw}
 use Rattle.operations.specs.declared.cases.CaseStep.{CaseStep}
+use Rattle.operations.specs.declared.cases.CaseStep.TheVariants.{Next, Take, End}
 use Rattle.operations.proofs.CaseLaws.{switch_from-start}
 use Rattle.three_state.specs.Folds.{down_unless, filter_on, kept_next, verdict_next}
-use Rattle.three_state.specs.Results.{is_true, kept, switch_of}
+use Rattle.three_state.specs.Results.{is_true, kept, switch_of, truth}
 use Rattle.three_state.specs.declared.res.Res.{Res}
-use Rattle.three_state.specs.declared.res.Res.TheVariants.{Complete}
+use Rattle.three_state.specs.declared.res.Res.TheVariants.{Complete, Placeholder, Incomplete, Fault}
 use Rattle.three_state.specs.declared.strict.Verdict.{Verdict}
+use Rattle.dictionary.specs.Plain.{conditional_body}
 use Rattle.dictionary.specs.Reading.{Place}
+use Rattle.plain_table.specs.Ground.{env_of}
+use Rattle.plain_table.specs.declared.ground.Ground.{Ground}
 
 -- a result that is one thing is also what that is equal to
 pub ok_same : (r : Result Res NoMemory) (x y : Res) → x ≡ y → IfOk r (λ z. z ≡ x) → IfOk r (λ z. z ≡ y)
@@ -28,6 +36,32 @@ ok_same r x y e h = subst (λ (w : Res). IfOk r (λ z. z ≡ w)) e h
 
 pub one_more : (old ticked new work : ℕ) → ticked ≡ old + 1 → new ≤ ticked + work → new ≤ old + suc work
 one_more old ticked new work e h = omega arith
+
+pub ok_more : (r : Result Res NoMemory) (old ticked new work : ℕ) → ticked ≡ old + 1 → OnOk r (new ≡ ticked + work) → OnOk r (new ≡ old + suc work)
+ok_more r old ticked new work e h = on_ok_weaker r (λ (k : new ≡ ticked + work). omega (arith, k, e)) h
+
+-- ---- what is visited behind a condition
+
+abbrev pub after_step : CaseStep → ℕ → ℕ → ℕ
+after_step (Next still) given rest = rest
+after_step (Take still) given rest = given
+after_step (End r) given rest = 0
+
+by_truth : (complete b : Bool) (given rest : ℕ) → after_step (truth_step complete b) given rest ≡ (if b then given else rest)
+by_truth complete true given rest = refl
+by_truth complete false given rest = refl
+
+by_step : (complete : Bool) (condition : Res) (given rest : ℕ) → after_step (case_step complete condition) given rest ≡ visits_after condition given rest
+unfolding case_step
+by_step complete (Complete v) given rest = by_truth complete (truth v) given rest
+by_step complete (Placeholder v) given rest = by_truth false (truth v) given rest
+by_step complete Incomplete given rest = refl
+by_step complete (Fault fault) given rest = refl
+
+pub step_visits : (complete : Bool) (condition expected : Res) (step : CaseStep) (given rest : ℕ) → condition ≡ expected → step ≡ case_step complete condition
+    → visits_after expected given rest ≡ after_step step given rest
+step_visits complete condition expected step given rest is taken =
+    ap (λ r. visits_after r given rest) (sym is) ∙ sym (by_step complete condition given rest) ∙ ap (λ s. after_step s given rest) (sym taken)
 
 -- ---- operands
 
@@ -45,6 +79,9 @@ module _ (env : Env Literal Reading Use Place) (at : Place) where
     pub all_weigh : weight_of_all env at (trees_of (drop i (map view es))) ≡ weight env at (view t) + weight_of_all env at (trees_of (drop (i + 1) (map view es)))
     all_weigh = ap (λ l. weight_of_all env at (trees_of l)) operands_left
 
+    pub all_visits : visits_of_all env at (trees_of (drop i (map view es))) ≡ visits env at (view t) + visits_of_all env at (trees_of (drop (i + 1) (map view es)))
+    all_visits = ap (λ l. visits_of_all env at (trees_of l)) operands_left
+
   -- ---- cases
 
   module _ (cs : List Case) (i : ℕ) (c : Case) (low : i < length cs) (is : c ≡ get_or cs i c) where
@@ -60,12 +97,25 @@ module _ (env : Env Literal Reading Use Place) (at : Place) where
     pub cases_weigh : weight_of_cases env at (cases_of (drop i (map case_view cs))) ≡ weight env at (view c.test) + (weight env at (view c.outcome) + weight_of_cases env at (cases_of (drop (i + 1) (map case_view cs))))
     cases_weigh = ap (λ l. weight_of_cases env at (cases_of l)) cases_left
 
+    pub cases_visits : (complete : Bool) (condition : Res) (step : CaseStep) → condition ≡ over env at (view c.test) → step ≡ case_step complete condition
+        → visits_of_cases env at (cases_of (drop i (map case_view cs)))
+        ≡ visits env at (view c.test) + after_step step (visits env at (view c.outcome)) (visits_of_cases env at (cases_of (drop (i + 1) (map case_view cs))))
+    cases_visits complete condition step is taken =
+        ap (λ l. visits_of_cases env at (cases_of l)) cases_left
+        ∙ ap (λ n. visits env at (view c.test) + n)
+        (step_visits complete condition (over env at (view c.test)) step (visits env at (view c.outcome)) (visits_of_cases env at (cases_of (drop (i + 1) (map case_view cs)))) is taken)
+
 -- a body with a conditional: its value where the condition is true, else the main expression
 pub conditional_at : (test value main condition : Res) (step : CaseStep) → condition ≡ test → step ≡ case_step true condition
     → after_case step value (λ still. down_unless still main) ≡ switch_of ((test, value) ∷ (Complete (Boolean true), main) ∷ [])
 unfolding case_step
 conditional_at test value main condition step e h =
     ap (λ (s : CaseStep). after_case s value (λ still. down_unless still main)) (h ∙ ap (case_step true) e) ∙ switch_from-start ((test, value) ∷ (Complete (Boolean true), main) ∷ [])
+
+pub conditional_visits : (g : Ground) (at : Place) (test value main : Source) (condition : Res) (step : CaseStep) → condition ≡ over (env_of g) at test → step ≡ case_step true condition
+    → suc (visits (env_of g) at test + after_step step (visits (env_of g) at value) (1 + visits (env_of g) at main)) ≡ visits (env_of g) at (conditional_body (Some (test, value)) main)
+conditional_visits g at test value main condition step is taken =
+    ap (λ n. suc (visits (env_of g) at test + n)) (sym (step_visits true condition (over (env_of g) at test) step (visits (env_of g) at value) (1 + visits (env_of g) at main) is taken))
 
 -- ---- members
 
@@ -78,6 +128,13 @@ module _ (ms : List ℕ) (i : ℕ) (low : i < length ms) where
   members_weigh work = ap (sum_by work) (next_member ms i low) ∙ sum_by-cons work (get_or ms i 0) (drop (i + 1) ms)
 
   module _ (condition : ℕ → Res) (r : Res) (is : r ≡ condition (get_or ms i 0)) where
+    pub found_visits : (work : ℕ → ℕ) (complete : Bool) (step : CaseStep) → step ≡ case_step complete r
+        → sum_by work (up_to_decider condition (drop i ms)) ≡ work (get_or ms i 0) + after_step step 0 (sum_by work (up_to_decider condition (drop (i + 1) ms)))
+    found_visits work complete step taken =
+        ap (λ l. sum_by work (up_to_decider condition l)) (next_member ms i low)
+        ∙ find-visits condition work (get_or ms i 0) (drop (i + 1) ms)
+        ∙ ap (λ n. work (get_or ms i 0) + n) (step_visits complete r (condition (get_or ms i 0)) step 0 (sum_by work (up_to_decider condition (drop (i + 1) ms))) is taken)
+
     pub find_at : (complete : Bool) (step : CaseStep) → step ≡ case_step complete r
         → after_case step (Complete (Item (get_or ms i 0))) (λ still. find_from condition still (drop (i + 1) ms)) ≡ find_from condition complete (drop i ms)
     find_at complete step h =

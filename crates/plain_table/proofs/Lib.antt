@@ -1,4 +1,5 @@
 pub mod EvalLaws
 pub mod FillingLaws
+pub mod SlotVisitLaws
 pub mod WholeLaws
 pub mod WorkLaws

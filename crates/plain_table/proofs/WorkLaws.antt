@@ -15,7 +15,7 @@ use Rattle.dictionary.specs.ByRank.{AreByRank}
 use Rattle.dictionary.specs.Plain.{IsPlainBelow, at_fact, body, rank}
 use Rattle.dictionary.specs.Reading.{slot}
 use Rattle.dictionary.specs.Slots.{slots_of, slots_up_to, standing}
-use Rattle.dictionary.specs.Weights.{slot_weight, whole_weight}
+use Rattle.dictionary.specs.Weights.{slot_weight}
 use Rattle.dictionary.proofs.WeightLaws.{fact_weight, weight_over, weight_over_lower}
 use Rattle.plain_table.specs.Ground.{look_on, option_weight, tree_of}
 use Rattle.plain_table.specs.declared.ground.Ground.{Ground}
@@ -37,7 +37,7 @@ slot_weighs names d accepted a g m f same e below =
 
 -- ---- sums
 
-sum_mapped : {X Y : Type 0} (w : Y → ℕ) (f : X → Y) (xs : List X) → sum_by w (map f xs) ≡ sum_by (λ x. w (f x)) xs
+pub sum_mapped : {X Y : Type 0} (w : Y → ℕ) (f : X → Y) (xs : List X) → sum_by w (map f xs) ≡ sum_by (λ x. w (f x)) xs
 sum_mapped w f [] = refl
 sum_mapped w f (x ∷ xs) =
     sum_by-cons w (f x) (map f xs) ∙ ap (λ n. w (f x) + n) (sum_mapped w f xs) ∙ sym (sum_by-cons (λ y. w (f y)) x xs)
@@ -51,11 +51,11 @@ up_to_work d a w (suc n) =
     ∙ ap (λ (k : ℕ). sum_by (sum_by w) (map (slots_of d a) (range_with_len 1 k))) (add-one n)
 
 -- in the order of the ranks
-pub whole_work : (d : Accepted) (a : Answered) (order : List ℕ) → AreByRank d.ranks order → length d.ranks ≡ length d.tree.facts
-    → sum_by (λ n. sum_by (slot_weight d a) (slots_of d.tree a n)) order ≡ whole_weight d a
+pub whole_work : (d : Accepted) (a : Answered) (work : Slot → ℕ) (order : List ℕ) → AreByRank d.ranks order → length d.ranks ≡ length d.tree.facts
+    → sum_by (λ n. sum_by work (slots_of d.tree a n)) order ≡ sum_by work (standing d.tree a)
 unfolding standing
-whole_work d a order by_rank count =
-    sum_by-IsPermutation (λ n. sum_by (slot_weight d a) (slots_of d.tree a n)) (range_with_len 1 (length d.ranks)) order by_rank.each_once
-    ∙ ap (λ (k : ℕ). sum_by (λ n. sum_by (slot_weight d a) (slots_of d.tree a n)) (range_with_len 1 k)) count
-    ∙ sym (sum_mapped (sum_by (slot_weight d a)) (slots_of d.tree a) (range_with_len 1 (length d.tree.facts)))
-    ∙ sym (up_to_work d.tree a (slot_weight d a) (length d.tree.facts))
+whole_work d a work order by_rank count =
+    sum_by-IsPermutation (λ n. sum_by work (slots_of d.tree a n)) (range_with_len 1 (length d.ranks)) order by_rank.each_once
+    ∙ ap (λ (k : ℕ). sum_by (λ n. sum_by work (slots_of d.tree a n)) (range_with_len 1 k)) count
+    ∙ sym (sum_mapped (sum_by work) (slots_of d.tree a) (range_with_len 1 (length d.tree.facts)))
+    ∙ sym (up_to_work d.tree a work (length d.tree.facts))

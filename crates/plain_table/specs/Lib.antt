@@ -1,3 +1,4 @@
 pub mod Filling
 pub mod Ground
+pub mod SlotVisits
 pub mod Table

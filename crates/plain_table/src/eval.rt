@@ -2,9 +2,11 @@
 ghost use Rattle.std.specs.Prelude.{◌≡◌, ◌+◌, ◌≤◌, [], ◌∷◌, ◌++◌, ℕ, List, sum_by, if◌then◌else◌, IfOk, OnOk};
 ghost use Rattle.dict_tree.specs.View.{cases_view, trees_view, use_view, view};
 ghost use Rattle.evaluation.specs.Over.{many_of, over, over_all, over_cases, pick_of, weight, weight_of_all, weight_of_cases};
+ghost use Rattle.evaluation.specs.SlotsRead.{up_to_decider};
+ghost use Rattle.evaluation.specs.Visits.{visits, visits_of_all, visits_of_cases};
 ghost use Rattle.operations.specs.CaseSteps.{find_from};
 ghost use Rattle.three_state.specs.Results.{filter_of, find_of, members_of, switch_of};
-ghost use Rattle.plain_table.specs.Ground.{condition_on, env_of, work_on};
+ghost use Rattle.plain_table.specs.Ground.{condition_on, env_of, visits_on, visits_under, work_on};
 
 use crate::ground::Ground;
 use crate::place::Place;
@@ -19,7 +21,7 @@ use std::sync::ledger::Ledger;
 use steps::Steps;
 use three_state::{Res, Verdict};
 
-/// The result of the expression. A visit of a node is a step.
+/// The result of the expression. A visit of a node is a step. For want of memory fewer may be visited.
 #[cycle(eval)]
 #[tactic(auto, using(dict_tree::proofs::Views::views))]
 pub fn eval<L: Ledger>(
@@ -30,6 +32,7 @@ pub fn eval<L: Ledger>(
     steps: &mut Steps<L>,
 ) -> Result<Res, NoMemory>
     ensures value { IfOk result (λ r. r ≡ over (env_of ground.now) at (view expr.now)) }
+    ensures visits { OnOk result (steps.new ≡ steps.old + visits (env_of ground.now) at (view expr.now)) }
     ensures most { steps.new ≤ steps.old + weight (env_of ground.now) at (view expr.now) }
 {
     steps.tick();
@@ -62,6 +65,7 @@ fn eval_all<L: Ledger>(
     steps: &mut Steps<L>,
 ) -> Result<Res, NoMemory>
     ensures value { IfOk result (λ r. r ≡ many_of op (over_all (env_of ground.now) at (trees_view operands.now))) }
+    ensures visits { OnOk result (steps.new ≡ steps.old + visits_of_all (env_of ground.now) at (trees_view operands.now)) }
     ensures most { steps.new ≤ steps.old + weight_of_all (env_of ground.now) at (trees_view operands.now) }
 {
     let mut fold = ManyFold::new(op);
@@ -82,6 +86,7 @@ fn eval_cases<L: Ledger>(
     steps: &mut Steps<L>,
 ) -> Result<Res, NoMemory>
     ensures value { IfOk result (λ r. r ≡ switch_of (over_cases (env_of ground.now) at (cases_view cases.now))) }
+    ensures visits { OnOk result (steps.new ≡ steps.old + visits_of_cases (env_of ground.now) at (cases_view cases.now)) }
     ensures most { steps.new ≤ steps.old + weight_of_cases (env_of ground.now) at (cases_view cases.now) }
 {
     let mut complete = true;
@@ -111,6 +116,7 @@ fn eval_pick<L: Ledger>(
     steps: &mut Steps<L>,
 ) -> Result<Res, NoMemory>
     ensures value { IfOk result (λ r. r ≡ pick_of op ((env_of ground.now).source at (use_view used.now)) (λ m. over (env_of ground.now) ((env_of ground.now).enter at (use_view used.now) m) (view test.now))) }
+    ensures visits { OnOk result (steps.new ≡ steps.old + visits_under ground.now at op (use_view used.now) (view test.now)) }
     ensures most { steps.new ≤ steps.old + sum_by (λ m. weight (env_of ground.now) ((env_of ground.now).enter at (use_view used.now) m) (view test.now)) (members_of ((env_of ground.now).source at (use_view used.now))) }
 {
     let source = read_source(ground, at, used);
@@ -142,6 +148,7 @@ fn eval_filter<L: Ledger>(
     steps: &mut Steps<L>,
 ) -> Result<Res, NoMemory>
     ensures value { IfOk result (λ r. r ≡ filter_of source.now (condition_on ground.now under (view test.now))) }
+    ensures visits { OnOk result (steps.new ≡ steps.old + sum_by (visits_on ground.now under (view test.now)) (members_of source.now)) }
     ensures most { steps.new ≤ steps.old + sum_by (work_on ground.now under (view test.now)) (members_of source.now) }
 {
     let mut fold = FilterFold::new(source);
@@ -165,6 +172,7 @@ fn eval_find<L: Ledger>(
     steps: &mut Steps<L>,
 ) -> Result<Res, NoMemory>
     ensures value { IfOk result (λ r. r ≡ find_of source.now (condition_on ground.now under (view test.now))) }
+    ensures visits { OnOk result (steps.new ≡ steps.old + sum_by (visits_on ground.now under (view test.now)) (up_to_decider (condition_on ground.now under (view test.now)) (members_of source.now))) }
     ensures most { steps.new ≤ steps.old + sum_by (work_on ground.now under (view test.now)) (members_of source.now) }
 {
     match source_verdict(source) {
@@ -188,6 +196,7 @@ fn find_among<L: Ledger>(
     steps: &mut Steps<L>,
 ) -> Result<Res, NoMemory>
     ensures value { IfOk result (λ r. r ≡ find_from (condition_on ground.now under (view test.now)) complete members.now) }
+    ensures visits { OnOk result (steps.new ≡ steps.old + sum_by (visits_on ground.now under (view test.now)) (up_to_decider (condition_on ground.now under (view test.now)) members.now)) }
     ensures most { steps.new ≤ steps.old + sum_by (work_on ground.now under (view test.now)) members.now }
 {
     let mut complete = complete;

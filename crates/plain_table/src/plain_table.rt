@@ -7,6 +7,7 @@ ghost use Rattle.dictionary.specs.Accepted.{Accepted, accepted};
 ghost use Rattle.dictionary.specs.Plain.{plain};
 ghost use Rattle.dictionary.specs.Weights.{whole_weight};
 ghost use Rattle.plain_table.specs.Filling.{HasAll, no_marks};
+ghost use Rattle.plain_table.specs.SlotVisits.{whole_visits};
 ghost use Rattle.plain_table.specs.Table.{look_of};
 
 use crate::table::Table;
@@ -77,6 +78,7 @@ impl FactEngine for PlainTable {
         requires from_one { FromOne (answered now.now) }
         ensures stands { OnOk result (HasAll (accepted dict.now) (answered now.now) (look_of self.new.table)) }
         ensures unchanged { OnErr result ((d : Accepted) (a : Answered) → HasAll d a (look_of self.old.table) → HasAll d a (look_of self.new.table)) }
+        ensures visits { OnOk result (steps.new ≡ steps.old + whole_visits (accepted dict.now) (answered now.now)) }
         ensures steps { steps.new ≤ steps.old + whole_weight (accepted dict.now) (answered now.now) }
     {
         let table = whole_table(self.alloc, dict, now, steps)?;

@@ -1,5 +1,5 @@
 // The result of one slot.
-ghost use Rattle.std.specs.Prelude.{◌≡◌, ◌+◌, ◌≤◌, List, ℕ, option_copied, option_map, IfOk, Some};
+ghost use Rattle.std.specs.Prelude.{◌≡◌, ◌+◌, ◌≤◌, List, ℕ, option_copied, option_map, IfOk, OnOk, Some};
 ghost use Rattle.std.specs.FinMap as map;
 ghost use Rattle.answers.specs.Answered.{value_of};
 ghost use Rattle.answers.specs.Meaning.{answered};
@@ -8,10 +8,12 @@ ghost use Rattle.answers.specs.declared.edit.Side.TheVariants.{Override};
 ghost use Rattle.dict_tree.specs.Facts.{conditional_view, fact_view, stated_view};
 ghost use Rattle.dict_tree.specs.View.{view};
 ghost use Rattle.evaluation.specs.Over.{over, weight};
+ghost use Rattle.evaluation.specs.Visits.{visits};
 ghost use Rattle.fact_values.specs.Members.{IsMemberList};
 ghost use Rattle.dictionary.specs.Plain.{answer_result, body, conditional_body, given_value, main_result, open_list, or_override, or_placeholder, slot_result};
 ghost use Rattle.dictionary.specs.Reading.{outermost, slot};
 ghost use Rattle.plain_table.specs.Ground.{env_of, look_on, option_weight, tree_of};
+ghost use Rattle.plain_table.specs.SlotVisits.{body_visits, placeholder_visits, visits_over};
 
 use crate::eval::eval;
 use crate::ground::Ground;
@@ -69,7 +71,8 @@ fn given_result(
     }
 }
 
-// The value of the conditional where its condition is true, else the main expression.
+// The value of the conditional where its condition is true, else the main expression. It is a Switch
+// of two cases, and the second condition is a constant, true: both count as nodes.
 fn eval_conditional<L: Ledger>(
     alloc: Global,
     ground: &Ground,
@@ -79,11 +82,14 @@ fn eval_conditional<L: Ledger>(
     steps: &mut Steps<L>,
 ) -> Result<Res, NoMemory>
     ensures value { IfOk result (λ r. r ≡ over (env_of ground.now) at (conditional_body (Some (conditional_view pair.now)) (view main.now))) }
+    ensures visits { OnOk result (steps.new ≡ steps.old + visits (env_of ground.now) at (conditional_body (Some (conditional_view pair.now)) (view main.now))) }
     ensures most { steps.new ≤ steps.old + weight (env_of ground.now) at (conditional_body (Some (conditional_view pair.now)) (view main.now)) }
 {
+    steps.tick();
     let condition = eval(alloc, ground, at, &pair.test, steps)?;
     match case_step(true, &condition) {
         CaseStep::Next(still) => {
+            steps.tick();
             let res = eval(alloc, ground, at, main, steps)?;
             Ok(taken(still, res))
         }
@@ -105,6 +111,7 @@ fn eval_body<L: Ledger>(
     steps: &mut Steps<L>,
 ) -> Result<Res, NoMemory>
     ensures value { IfOk result (λ r. r ≡ over (env_of ground.now) at (conditional_body (option_map conditional_view conditional.now) (view main.now))) }
+    ensures visits { OnOk result (steps.new ≡ steps.old + visits (env_of ground.now) at (conditional_body (option_map conditional_view conditional.now) (view main.now))) }
     ensures most { steps.new ≤ steps.old + weight (env_of ground.now) at (conditional_body (option_map conditional_view conditional.now) (view main.now)) }
 {
     match conditional {
@@ -124,6 +131,7 @@ fn derived_result<L: Ledger>(
     steps: &mut Steps<L>,
 ) -> Result<Res, NoMemory>
     ensures value { IfOk result (λ r. r ≡ or_override (value_of Override (answered answers.now) (slot ground.now.fact member)) (over (env_of ground.now) (outermost member) (conditional_body (fact_view fact.now).conditional (view main.now)))) }
+    ensures visits { OnOk result (steps.new ≡ steps.old + body_visits (tree_of ground.now) (answered answers.now) (look_on ground.now) (slot ground.now.fact member) (Some (conditional_body (fact_view fact.now).conditional (view main.now)))) }
     ensures most { steps.new ≤ steps.old + weight (env_of ground.now) (outermost member) (conditional_body (fact_view fact.now).conditional (view main.now)) }
 {
     let slot = Slot {
@@ -151,6 +159,7 @@ fn main_result<L: Ledger>(
     requires well { WellFormed (answered answers.now) }
     requires from_one { FromOne (answered answers.now) }
     ensures value { IfOk result (λ r. r ≡ main_result (tree_of ground.now) (answered answers.now) (look_on ground.now) (slot ground.now.fact member) (stated_view fact.now.stated) (body (fact_view fact.now))) }
+    ensures visits { OnOk result (steps.new ≡ steps.old + body_visits (tree_of ground.now) (answered answers.now) (look_on ground.now) (slot ground.now.fact member) (body (fact_view fact.now))) }
     ensures most { steps.new ≤ steps.old + option_weight ground.now member (body (fact_view fact.now)) }
 {
     match &fact.main {
@@ -175,6 +184,7 @@ fn with_placeholder<L: Ledger>(
     steps: &mut Steps<L>,
 ) -> Result<Res, NoMemory>
     ensures value { IfOk result (λ r. r ≡ or_placeholder (tree_of ground.now) (look_on ground.now) (slot ground.now.fact member) (Some (view placeholder.now)) res) }
+    ensures visits { OnOk result (steps.new ≡ steps.old + placeholder_visits (tree_of ground.now) (look_on ground.now) (slot ground.now.fact member) (Some (view placeholder.now)) res) }
     ensures most { steps.new ≤ steps.old + weight (env_of ground.now) (outermost member) (view placeholder.now) }
 {
     match res {
@@ -201,6 +211,7 @@ pub fn slot_result<L: Ledger>(
     requires well { WellFormed (answered answers.now) }
     requires from_one { FromOne (answered answers.now) }
     ensures value { IfOk result (λ r. r ≡ slot_result (tree_of ground.now) (answered answers.now) (look_on ground.now) (slot ground.now.fact member) (fact_view fact.now)) }
+    ensures visits { OnOk result (steps.new ≡ steps.old + visits_over (tree_of ground.now) (answered answers.now) (look_on ground.now) (slot ground.now.fact member) (fact_view fact.now)) }
     ensures most { steps.new ≤ steps.old + (option_weight ground.now member (body (fact_view fact.now)) + option_weight ground.now member (fact_view fact.now).placeholder) }
 {
     let res = main_result(alloc, ground, answers, member, fact, steps)?;

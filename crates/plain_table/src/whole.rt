@@ -11,6 +11,7 @@ ghost use Rattle.dictionary.specs.Reading.{slot};
 ghost use Rattle.dictionary.specs.Slots.{members_of_home, slot_same, slots_of, stands};
 ghost use Rattle.dictionary.specs.Weights.{slot_weight, whole_weight};
 ghost use Rattle.plain_table.specs.Filling.{HasAll, IsFilled, is_at};
+ghost use Rattle.plain_table.specs.SlotVisits.{slot_visits, whole_visits};
 ghost use Rattle.plain_table.specs.Table.{look_of};
 
 use crate::ground::Ground;
@@ -37,6 +38,7 @@ fn put_slot<L: Ledger>(
     requires stands { IsTrue (stands (accepted dict.now).tree (answered answers.now) slot) }
     requires below { IsPlainBelow (accepted dict.now) (answered answers.now) (rank (accepted dict.now) slot.fact) (look_of table.old) }
     ensures filled { OnOk result (IsFilled (accepted dict.now) (answered answers.now) (look_of table.old) (λ t. slot_same t slot) (look_of table.new)) }
+    ensures visits { OnOk result (steps.new ≡ steps.old + slot_visits (accepted dict.now) (answered answers.now) slot) }
     ensures most { steps.new ≤ steps.old + slot_weight (accepted dict.now) (answered answers.now) slot }
 {
     let source = dict.source();
@@ -67,6 +69,7 @@ fn put_members<L: Ledger>(
     requires stand { (m : ℕ) → IsIn members.now m → IsTrue (stands (accepted dict.now).tree (answered answers.now) (slot fact m)) }
     requires below { IsPlainBelow (accepted dict.now) (answered answers.now) (rank (accepted dict.now) fact) (look_of table.old) }
     ensures filled { OnOk result (IsFilled (accepted dict.now) (answered answers.now) (look_of table.old) (is_at fact members.now) (look_of table.new)) }
+    ensures visits { OnOk result (steps.new ≡ steps.old + sum_by (λ m. slot_visits (accepted dict.now) (answered answers.now) (slot fact m)) members.now) }
     ensures most { steps.new ≤ steps.old + sum_by (λ m. slot_weight (accepted dict.now) (answered answers.now) (slot fact m)) members.now }
 {
     for member in members {
@@ -93,6 +96,7 @@ fn put_fact<L: Ledger>(
     requires number { IsNumber (accepted dict.now).tree.facts fact }
     requires below { IsPlainBelow (accepted dict.now) (answered answers.now) (rank (accepted dict.now) fact) (look_of table.old) }
     ensures filled { OnOk result (IsFilled (accepted dict.now) (answered answers.now) (look_of table.old) (is_at fact (members_of_home (answered answers.now) (home (accepted dict.now).tree fact))) (look_of table.new)) }
+    ensures visits { OnOk result (steps.new ≡ steps.old + sum_by (slot_visits (accepted dict.now) (answered answers.now)) (slots_of (accepted dict.now).tree (answered answers.now) fact)) }
     ensures most { steps.new ≤ steps.old + sum_by (slot_weight (accepted dict.now) (answered answers.now)) (slots_of (accepted dict.now).tree (answered answers.now) fact) }
 {
     let home = dict.home(fact);
@@ -115,6 +119,7 @@ pub fn whole_table<L: Ledger>(
     requires well { WellFormed (answered answers.now) }
     requires from_one { FromOne (answered answers.now) }
     ensures all { IfOk result (λ t. HasAll (accepted dict.now) (answered answers.now) (look_of t)) }
+    ensures visits { OnOk result (steps.new ≡ steps.old + whole_visits (accepted dict.now) (answered answers.now)) }
     ensures most { steps.new ≤ steps.old + whole_weight (accepted dict.now) (answered answers.now) }
 {
     let mut table = Table::with_room(alloc, dict.source().facts().len())?;

@@ -2,7 +2,7 @@ use crate::value::ValueText;
 use fact_paths::{Name, SlotPath};
 
 /// What a line of a script asks for.
-#[derive(Debug, Drop)]
+#[derive(Drop)]
 pub enum Command {
     /// `set SLOT VALUE`: answers the slot by the value that the text spells.
     Set(SlotPath, ValueText),

@@ -3,7 +3,7 @@ ghost use Rattle.std.specs.Prelude.{◌≡◌, string_bytes};
 use std::marker::Model;
 
 /// The text of a value, as it stands in a line: any UTF-8, also none. A contract sees its bytes.
-#[derive(Debug, Drop)]
+#[derive(Drop)]
 pub struct ValueText {
     text: String,
 }

@@ -2,7 +2,7 @@ ghost use Rattle.std.specs.Prelude.{◌≡◌};
 ghost use Rattle.script_lines.specs.Reading.{verb_of as verb_in};
 
 /// The first word of a command that has more words.
-#[derive(Clone, Copy, Debug, PartialEq, Eq)]
+#[derive(Clone, Copy, PartialEq, Eq)]
 pub enum Verb {
     Set,
     Clear,

@@ -1,4 +1,4 @@
-//! The tests of sessions over the plain engine.
+//! The tests of sessions over the plain engine, and of answers that are given.
 #![tactic(auto)]
 
 #[cfg(test)]
@@ -6,4 +6,10 @@ mod begun;
 #[cfg(test)]
 mod final_result_tests;
 #[cfg(test)]
+mod given;
+#[cfg(test)]
+mod given_tests;
+#[cfg(test)]
 mod graph_session_tests;
+#[cfg(test)]
+mod run_tests;

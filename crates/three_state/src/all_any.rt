@@ -8,7 +8,7 @@ use crate::res::Res;
 use std::marker::Model;
 
 /// The operands of an All, seen one by one. Contracts see the All of those seen.
-#[derive(Debug, Drop)]
+#[derive(Drop)]
 pub struct AllFold {
     seen: Junction,
 }
@@ -50,7 +50,7 @@ impl AllFold {
 }
 
 /// The operands of an Any, seen one by one. Contracts see the Any of those seen.
-#[derive(Debug, Drop)]
+#[derive(Drop)]
 pub struct AnyFold {
     seen: Junction,
 }

@@ -7,7 +7,7 @@ use fact_values::{Value, ValueFault};
 
 /// What the operands of an All or an Any are. The decider is the truth value that decides: false
 /// for All, and true for Any.
-#[derive(Clone, Copy, Debug)]
+#[derive(Clone, Copy)]
 pub struct Junction {
     /// Some operand is complete, with the decider.
     decided: bool,

@@ -19,7 +19,7 @@ pub enum Verdict {
 }
 
 /// The operands of a strict operation, seen one by one. Contracts see the verdict on them.
-#[derive(Debug, Drop)]
+#[derive(Drop)]
 pub struct Strict {
     so_far: Verdict,
 }

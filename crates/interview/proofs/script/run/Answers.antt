@@ -1,60 +1,50 @@
 use Rattle.std.proofs.Common.{◌≡◌, ℕ, ◌<◌, length, refl, arith}
 use Rattle.std.proofs.lemmas.List.{take-append-le, length-take}
-use Rattle.std.specs.Prelude.{List, Option}
 use Rattle.graph_session.specs.Rules.{rules}
-use Rattle.interview.specs.Ends.{ScriptDid}
-use Rattle.interview.proofs.ScriptLaws.{going_none, goes_on}
+use Rattle.interview.specs.ScriptEnds.{script_did}
+use Rattle.interview.proofs.ScriptLaws.{none_so_far, more_so_far}
 use Rattle.interview.proofs.EndLaws.{ends_at, ends_over, ends_unwritten, ends_out_of_memory, ends_unread, ends_too_long}
 use Rattle.interview.proofs.script.run.Goals as goal
 
--- what a script did, by the counts of its source and its sink
-abbrev did_by : (left left_now taken taken_now : Option (List ℕ)) → ℕ → ℕ → ℕ → ℕ → ScriptDid
-did_by left left_now taken taken_now read read_now put put_now = record {
-  left = record { before = left; after = left_now };
-  taken = record { before = taken; after = taken_now };
-  source = record { before = read; after = read_now };
-  sink = record { before = put; after = put_now };
-}
-
 pub loop-taken-init : goal.loop-taken-init
-loop-taken-init g c = (rw c.new-lines.ensures (going_none c.args.session.now _ _ c.requires.begun), omega arith, omega arith, omega arith)
+loop-taken-init g c = (rw c.new-lines.ensures (none_so_far c.args.session.now _ _ c.requires.begun), omega arith, omega arith, omega arith)
 
 pub returns-in-Ok-eq0 : goal.returns-in-Ok-eq0
 returns-in-Ok-eq0 g c =
     let zero : c.in-Ok-eq0.field-0 ≡ 0 = omega arith in
     let room : 0 < length c.pull.new.buf = omega (arith, length-take {A = ℕ}) in
     let read = rw zero at c.in-Ok-eq0.ensures.bytes.0 in
-    record { ends = ends_at (rules c.args.session.now.dict) (did_by _ _ _ _ (g.S.Source.faults c.args.script.now) (g.S.Source.faults c.pull.new.self) (g.K.Sink.faults c.args.out.now) (g.K.Sink.faults c.finish.new.out)) _ _ _ _ _ c.loop-taken.invariant.0 _ _ c.finish.result _ c.status_at_end.ensures (omega arith) read (c.in-Ok-eq0.ensures.bytes.1 zero room) c.loop-taken.invariant.2 c.finish.ensures.answered }
+    record { ends = ends_at (rules c.args.session.now.dict) (script_did _ _ _ _ (g.S.Source.faults c.args.script.now) (g.S.Source.faults c.pull.new.self) (g.K.Sink.faults c.args.out.now) (g.K.Sink.faults c.finish.new.out)) _ _ _ _ _ c.loop-taken.invariant.0 _ _ c.finish.result _ c.status_at_end.ensures (omega arith) read (c.in-Ok-eq0.ensures.bytes.1 zero room) c.loop-taken.invariant.2 c.finish.ensures.answered }
 
 pub loop-taken-preserved : goal.loop-taken-preserved
 loop-taken-preserved g c = (
-  goes_on _ _ _ _ _ _ _ _ _ _ _ _ _ _ _ c.loop-taken.invariant.0 c.in-Ok.ensures.bytes.0 c.in-Ok.ensures.bound.1 (take-append-le c.in-Ok.count c.pull.new.buf _ c.in-Ok.ensures.bound.0) c.hear.ensures.dict c.hear.ensures.few c.in-More.ensures.heard.0 c.in-More.ensures.heard.1,
+  more_so_far _ _ _ _ _ _ _ _ _ _ _ _ _ _ _ c.loop-taken.invariant.0 c.in-Ok.ensures.bytes.0 c.in-Ok.ensures.bound.1 (take-append-le c.in-Ok.count c.pull.new.buf _ c.in-Ok.ensures.bound.0) c.answer_piece.ensures.dict c.answer_piece.ensures.few c.in-More.ensures.answered.0 c.in-More.ensures.answered.1,
   omega (arith, c.in-Ok.ensures.bound.0, length-take {A = ℕ}),
-  omega (arith, c.loop-taken.invariant.2, c.hear.ensures.later),
+  omega (arith, c.loop-taken.invariant.2, c.answer_piece.ensures.later),
   omega (arith, c.loop-taken.invariant.3, c.in-Ok.ensures.cause.later),
 )
 
 pub returns-in-Over : goal.returns-in-Over
-returns-in-Over g c = record { ends = ends_over (rules c.args.session.now.dict) (did_by _ _ _ _ (g.S.Source.faults c.args.script.now) (g.S.Source.faults c.pull.new.self) (g.K.Sink.faults c.args.out.now) (g.K.Sink.faults c.hear.new.out)) _ _ _ _ _ c.loop-taken.invariant.0 _ _ c.in-Ok.count c.in-Ok.ensures.bytes.0 c.in-Ok.ensures.bound.1 (take-append-le c.in-Ok.count c.pull.new.buf _ c.in-Ok.ensures.bound.0) (omega (arith, c.in-Ok.ensures.bound.0, length-take {A = ℕ})) c.in-Over.ensures.heard.0 c.in-Over.ensures.heard.1 }
+returns-in-Over g c = record { ends = ends_over (rules c.args.session.now.dict) (script_did _ _ _ _ (g.S.Source.faults c.args.script.now) (g.S.Source.faults c.pull.new.self) (g.K.Sink.faults c.args.out.now) (g.K.Sink.faults c.answer_piece.new.out)) _ _ _ _ _ c.loop-taken.invariant.0 _ _ c.in-Ok.count c.in-Ok.ensures.bytes.0 c.in-Ok.ensures.bound.1 (take-append-le c.in-Ok.count c.pull.new.buf _ c.in-Ok.ensures.bound.0) (omega (arith, c.in-Ok.ensures.bound.0, length-take {A = ℕ})) (omega (arith, c.in-Ok.ensures.bound.0, length-take {A = ℕ})) c.in-Over.ensures.answered.0 c.in-Over.ensures.answered.1 }
 
 pub returns-in-Unwritten : goal.returns-in-Unwritten
-returns-in-Unwritten g c = record { ends = ends_unwritten (rules c.args.session.now.dict) (did_by _ _ _ _ (g.S.Source.faults c.args.script.now) (g.S.Source.faults c.pull.new.self) (g.K.Sink.faults c.args.out.now) (g.K.Sink.faults c.hear.new.out)) _ _ _ _ _ c.loop-taken.invariant.0 _ _ c.in-Ok.count c.in-Ok.ensures.bytes.0 c.in-Ok.ensures.bound.1 (take-append-le c.in-Ok.count c.pull.new.buf _ c.in-Ok.ensures.bound.0) (omega (arith, c.in-Ok.ensures.bound.0, length-take {A = ℕ})) _ _ c.loop-taken.invariant.2 c.in-Unwritten.ensures.heard.0 c.in-Unwritten.ensures.heard.1.1 }
+returns-in-Unwritten g c = record { ends = ends_unwritten (rules c.args.session.now.dict) (script_did _ _ _ _ (g.S.Source.faults c.args.script.now) (g.S.Source.faults c.pull.new.self) (g.K.Sink.faults c.args.out.now) (g.K.Sink.faults c.answer_piece.new.out)) _ _ _ _ _ c.loop-taken.invariant.0 _ _ c.in-Ok.count c.in-Ok.ensures.bytes.0 c.in-Ok.ensures.bound.1 (take-append-le c.in-Ok.count c.pull.new.buf _ c.in-Ok.ensures.bound.0) (omega (arith, c.in-Ok.ensures.bound.0, length-take {A = ℕ})) _ _ c.loop-taken.invariant.2 c.in-Unwritten.ensures.answered.0 c.in-Unwritten.ensures.answered.1.1 }
 
 pub returns-in-OutOfMemory : goal.returns-in-OutOfMemory
-returns-in-OutOfMemory g c = record { ends = ends_out_of_memory (rules c.args.session.now.dict) (did_by _ _ _ _ (g.S.Source.faults c.args.script.now) (g.S.Source.faults c.pull.new.self) (g.K.Sink.faults c.args.out.now) (g.K.Sink.faults c.hear.new.out)) _ _ _ _ _ c.loop-taken.invariant.0 _ _ c.in-Ok.count c.in-Ok.ensures.bytes.0 c.in-Ok.ensures.bound.1 (take-append-le c.in-Ok.count c.pull.new.buf _ c.in-Ok.ensures.bound.0) (omega (arith, c.in-Ok.ensures.bound.0, length-take {A = ℕ})) c.in-OutOfMemory.ensures.heard }
+returns-in-OutOfMemory g c = record { ends = ends_out_of_memory (rules c.args.session.now.dict) (script_did _ _ _ _ (g.S.Source.faults c.args.script.now) (g.S.Source.faults c.pull.new.self) (g.K.Sink.faults c.args.out.now) (g.K.Sink.faults c.answer_piece.new.out)) _ _ _ _ _ c.loop-taken.invariant.0 _ _ c.in-Ok.count c.in-Ok.ensures.bytes.0 c.in-Ok.ensures.bound.1 (take-append-le c.in-Ok.count c.pull.new.buf _ c.in-Ok.ensures.bound.0) (omega (arith, c.in-Ok.ensures.bound.0, length-take {A = ℕ})) c.in-OutOfMemory.ensures.answered }
 
 pub returns-in-Err : goal.returns-in-Err
-returns-in-Err g c = record { ends = ends_unread (rules c.args.session.now.dict) (did_by _ _ _ _ (g.S.Source.faults c.args.script.now) (g.S.Source.faults c.pull.new.self) (g.K.Sink.faults c.args.out.now) (g.K.Sink.faults c.loop-taken.out)) _ _ _ _ _ c.loop-taken.invariant.0 refl c.in-Err.ensures.bytes (omega (arith, c.loop-taken.invariant.3, c.in-Err.ensures.cause.failed)) }
+returns-in-Err g c = record { ends = ends_unread (rules c.args.session.now.dict) (script_did _ _ _ _ (g.S.Source.faults c.args.script.now) (g.S.Source.faults c.pull.new.self) (g.K.Sink.faults c.args.out.now) (g.K.Sink.faults c.loop-taken.out)) _ _ _ _ _ c.loop-taken.invariant.0 c.loop-taken.invariant.1 refl c.in-Err.ensures.bytes (omega (arith, c.loop-taken.invariant.3, c.in-Err.ensures.cause.failed)) }
 
 pub returns-in-Ok-eq0-pull : goal.returns-in-Ok-eq0-pull
 returns-in-Ok-eq0-pull g c =
     let zero : c.in-Ok-eq0-pull.field-0 ≡ 0 = omega arith in
     let room : 0 < length c.pull-2.new.buf = omega (arith, length-take {A = ℕ}) in
     let read = rw zero at c.in-Ok-eq0-pull.ensures.bytes.0 in
-    record { ends = ends_at (rules c.args.session.now.dict) (did_by _ _ _ _ (g.S.Source.faults c.args.script.now) (g.S.Source.faults c.pull-2.new.self) (g.K.Sink.faults c.args.out.now) (g.K.Sink.faults c.finish-in-Ok-eq0-pull.new.out)) _ _ _ _ _ c.loop-taken.invariant.0 _ _ c.finish-in-Ok-eq0-pull.result _ c.status_at_end-in-Ok-eq0-pull.ensures c.loop-taken.invariant.1 read (c.in-Ok-eq0-pull.ensures.bytes.1 zero room) c.loop-taken.invariant.2 c.finish-in-Ok-eq0-pull.ensures.answered }
+    record { ends = ends_at (rules c.args.session.now.dict) (script_did _ _ _ _ (g.S.Source.faults c.args.script.now) (g.S.Source.faults c.pull-2.new.self) (g.K.Sink.faults c.args.out.now) (g.K.Sink.faults c.finish-in-Ok-eq0-pull.new.out)) _ _ _ _ _ c.loop-taken.invariant.0 _ _ c.finish-in-Ok-eq0-pull.result _ c.status_at_end-in-Ok-eq0-pull.ensures c.loop-taken.invariant.1 read (c.in-Ok-eq0-pull.ensures.bytes.1 zero room) c.loop-taken.invariant.2 c.finish-in-Ok-eq0-pull.ensures.answered }
 
 pub returns-in-Ok-pull : goal.returns-in-Ok-pull
-returns-in-Ok-pull g c = record { ends = ends_too_long (rules c.args.session.now.dict) (did_by _ _ _ _ (g.S.Source.faults c.args.script.now) (g.S.Source.faults c.pull-2.new.self) (g.K.Sink.faults c.args.out.now) (g.K.Sink.faults c.loop-taken.out)) _ _ _ _ _ c.loop-taken.invariant.0 _ refl c.in-Ok-pull.ensures.bytes.0 (omega arith) (omega (arith, c.in-Ok-pull.ensures.bound.1)) }
+returns-in-Ok-pull g c = record { ends = ends_too_long (rules c.args.session.now.dict) (script_did _ _ _ _ (g.S.Source.faults c.args.script.now) (g.S.Source.faults c.pull-2.new.self) (g.K.Sink.faults c.args.out.now) (g.K.Sink.faults c.loop-taken.out)) _ _ _ _ _ c.loop-taken.invariant.0 _ refl c.in-Ok-pull.ensures.bytes.0 (omega arith) (omega (arith, c.in-Ok-pull.ensures.bound.1)) }
 
 pub returns-in-Err-pull : goal.returns-in-Err-pull
-returns-in-Err-pull g c = record { ends = ends_unread (rules c.args.session.now.dict) (did_by _ _ _ _ (g.S.Source.faults c.args.script.now) (g.S.Source.faults c.pull-2.new.self) (g.K.Sink.faults c.args.out.now) (g.K.Sink.faults c.loop-taken.out)) _ _ _ _ _ c.loop-taken.invariant.0 refl c.in-Err-pull.ensures.bytes (omega (arith, c.loop-taken.invariant.3, c.in-Err-pull.ensures.cause.failed)) }
+returns-in-Err-pull g c = record { ends = ends_unread (rules c.args.session.now.dict) (script_did _ _ _ _ (g.S.Source.faults c.args.script.now) (g.S.Source.faults c.pull-2.new.self) (g.K.Sink.faults c.args.out.now) (g.K.Sink.faults c.loop-taken.out)) _ _ _ _ _ c.loop-taken.invariant.0 c.loop-taken.invariant.1 refl c.in-Err-pull.ensures.bytes (omega (arith, c.loop-taken.invariant.3, c.in-Err-pull.ensures.cause.failed)) }

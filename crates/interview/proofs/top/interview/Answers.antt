@@ -1,5 +1,6 @@
+use Rattle.std.proofs.Common.{refl}
 use Rattle.interview.proofs.ExactLaws.{interviewed}
 use Rattle.interview.proofs.top.interview.Goals as goal
 
 pub returns : goal.returns
-returns g c = interviewed _ _ _ c.attempt.ensures.ends
+returns g c = interviewed _ _ refl _ c.attempt.ensures.ends

@@ -1,9 +1,12 @@
-use Rattle.std.proofs.Common.{◌≡◌, ◌+◌, ◌++◌, [], List, ℕ, sum_by, map, drop, sym, ap, ◌∙◌, arith}
+use Rattle.std.specs.Prelude.{OnOk}
+use Rattle.std.proofs.Common.{subst, refl, ◌≡◌, ◌+◌, ◌++◌, [], List, ℕ, sum_by, map, drop, sym, ap, ◌∙◌, arith}
 use Rattle.std.proofs.lemmas.List.{append-nil, drop_all, length-map}
 use Rattle.dict_tree.specs.Tree.{pick}
 use Rattle.dict_tree.specs.View.{case_view, cases_of, trees_of, use_view, view}
 use Rattle.dict_tree.proofs.Views.{view-Pick}
 use Rattle.evaluation.specs.Over.{over, over_all, over_cases, weight}
+use Rattle.evaluation.specs.SlotsRead.{up_to_decider}
+use Rattle.evaluation.specs.Visits.{visits, visits_of_all, visits_of_cases}
 use Rattle.operations.specs.CaseSteps.{after_case, find_after, find_from, switch_from}
 use Rattle.operations.specs.ManyFolds.{many_from}
 use Rattle.operations.specs.declared.cases.CaseStep.TheVariants.{Next, Take, End}
@@ -12,9 +15,10 @@ use Rattle.operations.proofs.FilterLaws.{filter_on-source, kept-member_list}
 use Rattle.operations.proofs.ManyLaws.{many_from-start}
 use Rattle.three_state.specs.Results.{kept, members_of}
 use Rattle.three_state.specs.declared.strict.Verdict.{Verdict}
+use Rattle.three_state.specs.declared.strict.Verdict.TheVariants as verdict
 use Rattle.dictionary.specs.Reading.{Place}
-use Rattle.plain_table.specs.Ground.{condition_on, env_of, work_on}
-use Rattle.plain_table.proofs.EvalLaws.{all_next, all_weigh, case_at, cases_weigh, filter_next, find_at, kept_more, members_weigh, ok_same, one_more}
+use Rattle.plain_table.specs.Ground.{condition_on, env_of, visits_on, work_on}
+use Rattle.plain_table.proofs.EvalLaws.{all_next, all_visits, all_weigh, case_at, cases_visits, cases_weigh, filter_next, find_at, found_visits, kept_more, members_weigh, ok_more, ok_same, one_more}
 use Rattle.plain_table.proofs.eval.+eval.Goals as goal
 
 -- ---- eval
@@ -29,6 +33,11 @@ eval-returns-in-Pick-clause-most g t c =
     let shape : view c.args.expr.now ≡ pick c.in-Pick.op (use_view c.in-Pick.used) (view c.in-Pick.test.value) = ap view c.in-Pick.is ∙ view-Pick _ _ _ in
     rw (shape, ← c.deref-in-Pick.ensures) (one_more _ _ _ _ c.tick.ensures c.eval_pick.ensures.most)
 
+pub eval-returns-in-Pick-clause-visits : goal.eval-returns-in-Pick-clause-visits
+eval-returns-in-Pick-clause-visits g t c =
+    let shape : view c.args.expr.now ≡ pick c.in-Pick.op (use_view c.in-Pick.used) (view c.in-Pick.test.value) = ap view c.in-Pick.is ∙ view-Pick _ _ _ in
+    rw (shape, ← c.deref-in-Pick.ensures) (ok_more c.eval_pick.result _ _ _ _ c.tick.ensures c.eval_pick.ensures.visits)
+
 -- ---- a list of operands
 
 pub eval_all-returns-in_err-res-clause-most : goal.eval_all-returns-in_err-res-clause-most
@@ -41,11 +50,13 @@ eval_all-loop-operand-preserved g t c =
     let env = env_of c.args.ground.now in
     let i = c.loop-operand.operand-index in
     let weigh = all_weigh env c.args.at c.args.operands.now i c.operand-item.result c.loop-operand-test.true c.operand-item.is in
+    let visited = all_visits env c.args.at c.args.operands.now i c.operand-item.result c.loop-operand-test.true c.operand-item.is in
     record {
       value =
           all_next env c.args.at c.args.operands.now i c.operand-item.result c.loop-operand-test.true c.operand-item.is c.loop-operand.fold c.see.new.self c.in_ok-res.res c.in_ok-res.ensures.value c.see.ensures.next
           ∙ c.loop-operand.invariant.value;
       count = ap (λ s. s.count) c.see.ensures.next ∙ ap (λ n. n + 1) c.loop-operand.invariant.count;
+      visits = omega (arith, visited, c.in_ok-res.ensures.visits, c.loop-operand.invariant.visits);
       most = omega (arith, weigh, c.in_ok-res.ensures.most, c.loop-operand.invariant.most);
     }
 
@@ -63,6 +74,7 @@ eval_all-returns-clause-value g t c =
 pub eval_cases-loop-case-init : goal.eval_cases-loop-case-init
 eval_cases-loop-case-init g t c = record {
   value = switch_from-start (over_cases (env_of c.args.ground.now) c.args.at (cases_of (map case_view c.args.cases.now)));
+  visits = refl;
   most = omega arith;
 }
 
@@ -85,6 +97,12 @@ eval_cases-returns-in-Take-clause-value g t c =
     ∙ case_at env c.args.at c.args.cases.now i c.case-item.result c.loop-case-test.true c.case-item.is c.loop-case.complete c.in_ok-condition.condition (Take c.in-Take.still) c.in_ok-condition.ensures.value (sym c.in-Take.is ∙ c.case_step.ensures)
     ∙ c.loop-case.invariant.value
 
+pub eval_cases-returns-in-Take-clause-visits : goal.eval_cases-returns-in-Take-clause-visits
+eval_cases-returns-in-Take-clause-visits g t c =
+    let visited =
+    cases_visits (env_of c.args.ground.now) c.args.at c.args.cases.now c.loop-case.case-index c.case-item.result c.loop-case-test.true c.case-item.is c.loop-case.complete c.in_ok-condition.condition (Take c.in-Take.still) c.in_ok-condition.ensures.value (sym c.in-Take.is ∙ c.case_step.ensures) in
+    omega (arith, visited, c.in_ok-condition.ensures.visits, c.in_ok-res-in-Take.ensures.visits, c.loop-case.invariant.visits)
+
 pub eval_cases-returns-in-Take-clause-most : goal.eval_cases-returns-in-Take-clause-most
 eval_cases-returns-in-Take-clause-most g t c =
     let weigh = cases_weigh (env_of c.args.ground.now) c.args.at c.args.cases.now c.loop-case.case-index c.case-item.result c.loop-case-test.true c.case-item.is in
@@ -94,6 +112,12 @@ pub eval_cases-returns-in-End-clause-value : goal.eval_cases-returns-in-End-clau
 eval_cases-returns-in-End-clause-value g t c =
     case_at (env_of c.args.ground.now) c.args.at c.args.cases.now c.loop-case.case-index c.case-item.result c.loop-case-test.true c.case-item.is c.loop-case.complete c.in_ok-condition.condition (End c.in-End.res) c.in_ok-condition.ensures.value (sym c.in-End.is ∙ c.case_step.ensures)
     ∙ c.loop-case.invariant.value
+
+pub eval_cases-returns-in-End-clause-visits : goal.eval_cases-returns-in-End-clause-visits
+eval_cases-returns-in-End-clause-visits g t c =
+    let visited =
+    cases_visits (env_of c.args.ground.now) c.args.at c.args.cases.now c.loop-case.case-index c.case-item.result c.loop-case-test.true c.case-item.is c.loop-case.complete c.in_ok-condition.condition (End c.in-End.res) c.in_ok-condition.ensures.value (sym c.in-End.is ∙ c.case_step.ensures) in
+    omega (arith, visited, c.in_ok-condition.ensures.visits, c.loop-case.invariant.visits)
 
 pub eval_cases-returns-in-End-clause-most : goal.eval_cases-returns-in-End-clause-most
 eval_cases-returns-in-End-clause-most g t c =
@@ -105,10 +129,13 @@ eval_cases-loop-case-preserved g t c =
     let env = env_of c.args.ground.now in
     let i = c.loop-case.case-index in
     let weigh = cases_weigh env c.args.at c.args.cases.now i c.case-item.result c.loop-case-test.true c.case-item.is in
+    let visited =
+    cases_visits env c.args.at c.args.cases.now i c.case-item.result c.loop-case-test.true c.case-item.is c.loop-case.complete c.in_ok-condition.condition (Next c.in-Next.still) c.in_ok-condition.ensures.value (sym c.in-Next.is ∙ c.case_step.ensures) in
     record {
       value =
           case_at env c.args.at c.args.cases.now i c.case-item.result c.loop-case-test.true c.case-item.is c.loop-case.complete c.in_ok-condition.condition (Next c.in-Next.still) c.in_ok-condition.ensures.value (sym c.in-Next.is ∙ c.case_step.ensures)
           ∙ c.loop-case.invariant.value;
+      visits = omega (arith, visited, c.in_ok-condition.ensures.visits, c.loop-case.invariant.visits);
       most = omega (arith, weigh, c.in_ok-condition.ensures.most, c.loop-case.invariant.most);
     }
 
@@ -130,6 +157,7 @@ eval_filter-loop-member-init g t c =
     record {
       value = rw (c.new-kept.ensures.items, c.new-fold.ensures, same) law;
       kept = ap (λ (l : List ℕ). l ++ kept condition c.members-member-items.result.now) c.new-kept.ensures.items ∙ ap (kept condition) same;
+      visits = ap (λ (l : List ℕ). c.args.steps.now + sum_by (visits_on c.args.ground.now c.args.under (view c.args.test.now)) l) same;
       most = omega (arith, ap (sum_by (work_on c.args.ground.now c.args.under (view c.args.test.now))) same);
     }
 
@@ -142,6 +170,7 @@ eval_filter-loop-member-preserved g t c =
     let condition = condition_on c.args.ground.now c.args.under test in
     let is = c.in_ok-condition.ensures.value ∙ ap (λ (p : Place). over env p test) c.at.ensures in
     let weigh = members_weigh ms i c.loop-member-test.true (work_on c.args.ground.now c.args.under test) in
+    let visited = members_weigh ms i c.loop-member-test.true (visits_on c.args.ground.now c.args.under test) in
     record {
       value =
           filter_next ms i c.loop-member-test.true condition c.in_ok-condition.condition is c.loop-member.kept.items c.keep.new.kept.items c.see-is_kept.result c.see-is_kept.ensures.kept c.in_ok-keep.ensures c.loop-member.fold c.see-is_kept.new.self c.see-is_kept.ensures.next
@@ -149,6 +178,7 @@ eval_filter-loop-member-preserved g t c =
       kept =
           kept_more ms i c.loop-member-test.true condition c.in_ok-condition.condition is c.loop-member.kept.items c.keep.new.kept.items c.see-is_kept.result c.see-is_kept.ensures.kept c.in_ok-keep.ensures
           ∙ c.loop-member.invariant.kept;
+      visits = omega (arith, visited, ap (λ (p : Place). visits env p test) c.at.ensures, c.in_ok-condition.ensures.visits, c.loop-member.invariant.visits);
       most = omega (arith, weigh, ap (λ (p : Place). weight env p test) c.at.ensures, c.in_ok-condition.ensures.most, c.loop-member.invariant.most);
     }
 
@@ -177,9 +207,30 @@ find_among-loop-member-preserved g t c =
     let test = view c.args.test.now in
     let is = c.in_ok-condition.ensures.value ∙ ap (λ (p : Place). over env p test) c.at.ensures in
     let weigh = members_weigh c.args.members.now i c.loop-member-test.true (work_on c.args.ground.now c.args.under test) in
+    let visited =
+    found_visits c.args.members.now i c.loop-member-test.true (condition_on c.args.ground.now c.args.under test) c.in_ok-condition.condition is (visits_on c.args.ground.now c.args.under test) c.loop-member.complete (Next c.in-Next.still) (sym c.in-Next.is ∙ c.case_step.ensures) in
     record {
       value =
           find_at c.args.members.now i c.loop-member-test.true (condition_on c.args.ground.now c.args.under test) c.in_ok-condition.condition is c.loop-member.complete (Next c.in-Next.still) (sym c.in-Next.is ∙ c.case_step.ensures)
           ∙ c.loop-member.invariant.value;
+      visits = omega (arith, visited, ap (λ (p : Place). visits env p test) c.at.ensures, c.in_ok-condition.ensures.visits, c.loop-member.invariant.visits);
       most = omega (arith, weigh, ap (λ (p : Place). weight env p test) c.at.ensures, c.in_ok-condition.ensures.most, c.loop-member.invariant.most);
     }
+
+pub find_among-returns-in-Take-clause-visits : goal.find_among-returns-in-Take-clause-visits
+find_among-returns-in-Take-clause-visits g t c =
+    let env = env_of c.args.ground.now in
+    let test = view c.args.test.now in
+    let is = c.in_ok-condition.ensures.value ∙ ap (λ (p : Place). over env p test) c.at.ensures in
+    let visited =
+    found_visits c.args.members.now c.loop-member.member-index c.loop-member-test.true (condition_on c.args.ground.now c.args.under test) c.in_ok-condition.condition is (visits_on c.args.ground.now c.args.under test) c.loop-member.complete (Take c.in-Take.still) (sym c.in-Take.is ∙ c.case_step.ensures) in
+    omega (arith, visited, ap (λ (p : Place). visits env p test) c.at.ensures, c.in_ok-condition.ensures.visits, c.loop-member.invariant.visits)
+
+pub find_among-returns-in-End-clause-visits : goal.find_among-returns-in-End-clause-visits
+find_among-returns-in-End-clause-visits g t c =
+    let env = env_of c.args.ground.now in
+    let test = view c.args.test.now in
+    let is = c.in_ok-condition.ensures.value ∙ ap (λ (p : Place). over env p test) c.at.ensures in
+    let visited =
+    found_visits c.args.members.now c.loop-member.member-index c.loop-member-test.true (condition_on c.args.ground.now c.args.under test) c.in_ok-condition.condition is (visits_on c.args.ground.now c.args.under test) c.loop-member.complete (End c.in-End.none) (sym c.in-End.is ∙ c.case_step.ensures) in
+    omega (arith, visited, ap (λ (p : Place). visits env p test) c.at.ensures, c.in_ok-condition.ensures.visits, c.loop-member.invariant.visits)

@@ -1,10 +1,11 @@
-use Rattle.std.proofs.Common.{sym, ap, ◌∙◌}
+use Rattle.std.proofs.Common.{◌≡◌, ◌+◌, suc, sym, ap, ◌∙◌, arith}
 use Rattle.dict_tree.specs.View.{view}
 use Rattle.evaluation.specs.Over.{over}
+use Rattle.evaluation.specs.Visits.{visits}
 use Rattle.operations.specs.declared.cases.CaseStep.TheVariants.{Next, Take, End}
 use Rattle.three_state.specs.Folds.{down_unless}
 use Rattle.plain_table.specs.Ground.{env_of}
-use Rattle.plain_table.proofs.EvalLaws.{conditional_at}
+use Rattle.plain_table.proofs.EvalLaws.{conditional_at, conditional_visits}
 use Rattle.plain_table.proofs.slots.eval_conditional.Goals as goal
 
 pub returns-in-Next-clause-value : goal.returns-in-Next-clause-value
@@ -25,3 +26,30 @@ pub returns-clause-value : goal.returns-clause-value
 returns-clause-value g c =
     let at = over (env_of c.args.ground.now) c.args.at in
     conditional_at (at (view c.args.pair.now.test)) (at (view c.args.pair.now.value)) (at (view c.args.main.now)) c.in_ok-condition.condition (End c.in-End.res) c.in_ok-condition.ensures.value (sym c.in-End.is ∙ c.case_step.ensures)
+
+pub returns-in-Next-clause-visits : goal.returns-in-Next-clause-visits
+returns-in-Next-clause-visits g c =
+    let env = env_of c.args.ground.now in
+    let walked : c.eval-in-Next.new.steps ≡ c.args.steps.now + suc (visits env c.args.at (view c.args.pair.now.test) + (1 + visits env c.args.at (view c.args.main.now))) =
+    omega (arith, c.tick.ensures, c.in_ok-condition.ensures.visits, c.tick-in-Next.ensures, c.in_ok-res-in-Next.ensures.visits) in
+    walked
+    ∙ ap (λ n. c.args.steps.now + n)
+    (conditional_visits c.args.ground.now c.args.at (view c.args.pair.now.test) (view c.args.pair.now.value) (view c.args.main.now) c.in_ok-condition.condition (Next c.in-Next.still) c.in_ok-condition.ensures.value (sym c.in-Next.is ∙ c.case_step.ensures))
+
+pub returns-in-Take-clause-visits : goal.returns-in-Take-clause-visits
+returns-in-Take-clause-visits g c =
+    let env = env_of c.args.ground.now in
+    let walked : c.eval-in-Take.new.steps ≡ c.args.steps.now + suc (visits env c.args.at (view c.args.pair.now.test) + visits env c.args.at (view c.args.pair.now.value)) =
+    omega (arith, c.tick.ensures, c.in_ok-condition.ensures.visits, c.in_ok-res-in-Take.ensures.visits) in
+    walked
+    ∙ ap (λ n. c.args.steps.now + n)
+    (conditional_visits c.args.ground.now c.args.at (view c.args.pair.now.test) (view c.args.pair.now.value) (view c.args.main.now) c.in_ok-condition.condition (Take c.in-Take.still) c.in_ok-condition.ensures.value (sym c.in-Take.is ∙ c.case_step.ensures))
+
+pub returns-clause-visits : goal.returns-clause-visits
+returns-clause-visits g c =
+    let env = env_of c.args.ground.now in
+    let walked : c.eval.new.steps ≡ c.args.steps.now + suc (visits env c.args.at (view c.args.pair.now.test) + 0) =
+    omega (arith, c.tick.ensures, c.in_ok-condition.ensures.visits) in
+    walked
+    ∙ ap (λ n. c.args.steps.now + n)
+    (conditional_visits c.args.ground.now c.args.at (view c.args.pair.now.test) (view c.args.pair.now.value) (view c.args.main.now) c.in_ok-condition.condition (End c.in-End.res) c.in_ok-condition.ensures.value (sym c.in-End.is ∙ c.case_step.ensures))

@@ -1,4 +1,4 @@
-use Rattle.std.proofs.Common.{ℕ, ◌+◌, ◌≤◌, Some, sym, ap, subst, ◌∙◌}
+use Rattle.std.proofs.Common.{◌≡◌, ℕ, ◌+◌, ◌≤◌, Some, sym, ap, subst, ◌∙◌}
 use Rattle.std.proofs.lemmas.Result.{on_ok_weaker}
 use Rattle.dict_tree.specs.Dictionary.{Written, dictionary_view}
 use Rattle.dict_tree.specs.Facts.{fact_view}
@@ -7,9 +7,11 @@ use Rattle.three_state.specs.declared.res.Res.{Res}
 use Rattle.answers.specs.Meaning.{answered}
 use Rattle.dictionary.specs.Accepted.{accepted, names_of}
 use Rattle.dictionary.specs.Plain.{slot_result}
+use Rattle.plain_table.specs.SlotVisits.{slot_visits, visits_over}
 use Rattle.plain_table.specs.Table.{look_of}
 use Rattle.plain_table.specs.declared.ground.Ground.{Ground}
 use Rattle.plain_table.proofs.FillingLaws.{put_is_filled, result_is_plain}
+use Rattle.plain_table.proofs.SlotVisitLaws.{slot_visited}
 use Rattle.plain_table.proofs.WorkLaws.{slot_weighs}
 use Rattle.plain_table.proofs.whole.put_slot.Goals as goal
 
@@ -42,3 +44,17 @@ returns-clause-most g c =
     subst (λ (n : ℕ). c.slot_result.new.steps ≤ c.args.steps.now + n)
     (slot_weighs (names_of c.args.dict.now.checks) d c.source-source.ensures.is_accepted (answered c.args.answers.now) ground c.args.slot.member (fact_view c.in-Some.fact.now) (ap dictionary_view c.source-source.ensures.value) here c.requires.below)
     c.slot_result.ensures.most
+
+pub returns-clause-visits : goal.returns-clause-visits
+returns-clause-visits g c =
+    let d = accepted c.args.dict.now in
+    let a = answered c.args.answers.now in
+    let look = look_of c.args.table.now in
+    let fact = fact_view c.in-Some.fact.now in
+    let here = sym (c.in-Some.ensures ∙ ap (λ (w : Written). fact_at (dictionary_view w).facts c.args.slot.fact) c.source-source.ensures.value) in
+    let visited : c.slot_result.new.steps ≡ c.args.steps.now + slot_visits d a c.args.slot =
+    c.in_ok-res.ensures.visits
+    ∙ ap (λ n. c.args.steps.now + n)
+    (ap (λ (w : Written). visits_over (dictionary_view w) a look c.args.slot fact) c.source-source.ensures.value
+    ∙ slot_visited (names_of c.args.dict.now.checks) d c.source-source.ensures.is_accepted a look c.args.slot fact here c.requires.below) in
+    on_ok_weaker c.put.result (λ _. visited) c.put.ensures

@@ -1,10 +1,11 @@
-use Rattle.std.proofs.Common.{ℕ, arith, sum_by}
+use Rattle.std.proofs.Common.{ℕ, ◌+◌, ap, arith, sum_by}
 use Rattle.answers.specs.Meaning.{answered}
 use Rattle.dictionary.specs.Accepted.{accepted, names_of}
 use Rattle.dictionary.specs.Slots.{slots_of}
 use Rattle.dictionary.specs.Weights.{slot_weight}
 use Rattle.dictionary.proofs.ByRankLaws.{fact_at_place}
 use Rattle.dictionary.proofs.KeptLaws.{count_ranks}
+use Rattle.plain_table.specs.SlotVisits.{slot_visits}
 use Rattle.plain_table.specs.Table.{look_of}
 use Rattle.plain_table.proofs.EvalLaws.{members_weigh}
 use Rattle.plain_table.proofs.WholeLaws.{all_done, below_next, facts_next}
@@ -15,9 +16,11 @@ pub loop-fact-init : goal.loop-fact-init
 loop-fact-init g c =
     let d = accepted c.args.dict.now in
     let count = count_ranks (names_of c.args.dict.now.checks) d c.source.ensures.is_accepted in
+    let a = answered c.args.answers.now in
     record {
       done = c.in_ok-table.ensures;
-      most = omega (arith, whole_work d (answered c.args.answers.now) c.by_rank-fact-items.result.now c.by_rank-fact-items.ensures count);
+      visits = ap (λ n. c.args.steps.now + n) (whole_work d a (slot_visits d a) c.by_rank-fact-items.result.now c.by_rank-fact-items.ensures count);
+      most = omega (arith, whole_work d a (slot_weight d a) c.by_rank-fact-items.result.now c.by_rank-fact-items.ensures count);
     }
 
 pub put_fact-requires-clause-number : goal.put_fact-requires-clause-number
@@ -40,10 +43,11 @@ loop-fact-preserved g c =
     let order = c.by_rank-fact-items.result.now in
     let i = c.loop-fact.fact-index in
     let count = count_ranks (names_of c.args.dict.now.checks) d c.source.ensures.is_accepted in
-    let work = λ (n : ℕ). sum_by (slot_weight d a) (slots_of d.tree a n) in
-    let weigh = members_weigh order i c.loop-fact-test.true work in
+    let weigh = members_weigh order i c.loop-fact-test.true (λ n. sum_by (slot_weight d a) (slots_of d.tree a n)) in
+    let visited = members_weigh order i c.loop-fact-test.true (λ n. sum_by (slot_visits d a) (slots_of d.tree a n)) in
     record {
       done = facts_next d a order c.by_rank-fact-items.ensures count i (look_of c.loop-fact.table) (look_of c.put_fact.new.table) c.loop-fact-test.true c.loop-fact.invariant.done c.in_ok-put_fact.ensures.filled;
+      visits = omega (arith, visited, c.in_ok-put_fact.ensures.visits, c.loop-fact.invariant.visits);
       most = omega (arith, weigh, c.in_ok-put_fact.ensures.most, c.loop-fact.invariant.most);
     }
 

@@ -1,0 +1,12 @@
+//! Where the results of slots are kept, each with the number of the change that touched it last.
+#![tactic(auto)]
+
+mod cell;
+pub mod laws;
+mod store;
+
+pub use cell::Cell;
+pub use store::Store;
+
+#[cfg(test)]
+mod tests;

@@ -1,0 +1,5 @@
+pub mod FeedLaws
+pub mod NotingLaws
+mod ReaderExamples
+pub mod ReaderLaws
+pub mod RowLaws

@@ -1,0 +1,16 @@
+-- Which slots a fact's readers are fed by.
+use Rattle.std.specs.Prelude.{◌≡◌, Bool, not, ◌&&◌, ◌||◌, nat_eq, List}
+use Rattle.std.specs.List.{list_any}
+use Rattle.fact_values.specs.declared.slot.Slot.{Slot}
+use Rattle.dictionary.specs.Accepted.{Accepted}
+use Rattle.dictionary.specs.Feeds.{feeds}
+use Rattle.dep_index.specs.Readers.{AreReaders, is_reader}
+use Rattle.dep_index.specs.declared.row.ReaderOf.{ReaderOf}
+
+-- the slot s is the reader's, and where each of its mentions is Same, the members are equal
+abbrev pub reads : Slot → Slot → ReaderOf → Bool
+reads t s r = is_reader s.fact r && (not r.same || nat_eq t.member s.member)
+
+-- t feeds s exactly where s is so read by one of the readers of its fact
+abbrev pub FeedsByReaders : Type 0
+FeedsByReaders = (d : Accepted) (t s : Slot) (rs : List ReaderOf) → AreReaders d t.fact rs → list_any (reads t s) rs ≡ feeds d.tree t s

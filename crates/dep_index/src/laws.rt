@@ -1,0 +1,8 @@
+// What readers say of slots. Each function's contract is the theorem.
+ghost use Rattle.dep_index.specs.Laws.{FeedsByReaders};
+
+/// A slot feeds another exactly where the fact of the other is among its fact's readers and, where
+/// this one's mentions are all of the same member, the members are equal.
+pub fn slots_feed_readers()
+    ensures { FeedsByReaders }
+{}

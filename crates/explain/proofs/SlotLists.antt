@@ -1,0 +1,128 @@
+-- Slots in lists.
+use Rattle.std.proofs.Common.{◌≡◌, ℕ, ◌+◌, ◌<◌, ◌≤◌, suc, Bool, true, false, not, ◌&&◌, ◌||◌, nat_eq, IsTrue, if◌then◌else◌, List, [], ◌∷◌, ◌++◌, filter, flat_map, length, take, refl, sym, ap, subst, ◌∙◌, arith}
+use Rattle.std.specs.List.{list_any, list_all}
+use Rattle.std.proofs.lemmas.Bool.{eqb-true}
+use Rattle.std.proofs.lemmas.List.Folds.{list_any-append}
+use Rattle.fact_values.specs.declared.slot.Slot.{Slot}
+use Rattle.common_lemmas.proofs.Bools.{and_intro, both, or_left, or_right}
+use Rattle.dictionary.specs.Slots.{slot_same}
+use Rattle.dictionary.proofs.SlotLaws.{slot_same-equal, slot_same-itself}
+use Rattle.evaluation.specs.Agreement.{IsIn}
+use Rattle.evaluation.specs.Mentioned.{AllOf}
+use Rattle.explain.specs.Reads.{is_in}
+
+-- ---- where a slot is in a list
+
+pub in_append : (t : Slot) (xs ys : List Slot) → is_in t (xs ++ ys) ≡ (is_in t xs || is_in t ys)
+in_append t xs ys = list_any-append (slot_same t) xs ys
+
+pub is_head : (t : Slot) (ts : List Slot) → IsTrue (is_in t (t ∷ ts))
+is_head t ts = or_left (slot_same t t) (is_in t ts) (slot_same-itself t)
+
+-- what is in a list that passes a test is what is in it and passes
+in_filter_by : (p : Slot → Bool) (t x : Slot) (xs : List Slot) (same passes : Bool) → slot_same t x ≡ same → p x ≡ passes → is_in t (filter p xs) ≡ (is_in t xs && p t)
+    → is_in t (if passes then x ∷ filter p xs else filter p xs) ≡ ((same || is_in t xs) && p t)
+in_filter_by p t x xs true true e f h = rw (e, ap p (slot_same-equal t x e), f) refl
+in_filter_by p t x xs false true e f h = rw e h
+in_filter_by p t x xs true false e f h = h ∙ rw (ap p (slot_same-equal t x e), f) (no (is_in t xs))
+  where
+    no : (b : Bool) → (b && false) ≡ false
+    no true = refl
+    no false = refl
+in_filter_by p t x xs false false e f h = h
+
+pub in_filter : (p : Slot → Bool) (t : Slot) (xs : List Slot) → is_in t (filter p xs) ≡ (is_in t xs && p t)
+in_filter p t [] = refl
+in_filter p t (x ∷ xs) = in_filter_by p t x xs (slot_same t x) (p x) refl refl (in_filter p t xs)
+
+pub in_flat_map : (f : Slot → List Slot) (x t : Slot) (xs : List Slot) → IsTrue (is_in x xs) → IsTrue (is_in t (f x)) → IsTrue (is_in t (flat_map f xs))
+in_flat_map f x t [] i h = absurd (cc)
+in_flat_map f x t (y ∷ ys) i h = rw (in_append t (f y) (flat_map f ys)) (by (slot_same x y) refl i (λ j. in_flat_map f x t ys j h))
+  where
+    by : (same : Bool) → slot_same x y ≡ same → IsTrue (same || is_in x ys) → (IsTrue (is_in x ys) → IsTrue (is_in t (flat_map f ys))) → IsTrue (is_in t (f y) || is_in t (flat_map f ys))
+    by true e i rest = or_left (is_in t (f y)) (is_in t (flat_map f ys)) (subst (λ (z : Slot). IsTrue (is_in t (f z))) (slot_same-equal x y e) h)
+    by false e i rest = or_right (is_in t (f y)) (is_in t (flat_map f ys)) (rest i)
+
+-- the one of a list by which it is there
+pub of_flat_map : (f : Slot → List Slot) (t : Slot) (xs : List Slot) → IsTrue (is_in t (flat_map f xs)) → (x : Slot) × IsTrue (is_in x xs) × IsTrue (is_in t (f x))
+of_flat_map f t [] i = absurd (cc)
+of_flat_map f t (y ∷ ys) i = by (is_in t (f y)) refl (sym (in_append t (f y) (flat_map f ys)) ∙ i) (of_flat_map f t ys)
+  where
+    by : (here : Bool) → is_in t (f y) ≡ here → IsTrue (here || is_in t (flat_map f ys)) → (IsTrue (is_in t (flat_map f ys)) → (x : Slot) × IsTrue (is_in x ys) × IsTrue (is_in t (f x)))
+        → (x : Slot) × IsTrue (is_in x (y ∷ ys)) × IsTrue (is_in t (f x))
+    by true e i rest = (y, is_head y ys, e)
+    by false e i rest = let found = rest i in (found.0, or_right (slot_same found.0 y) (is_in found.0 ys) found.1, found.2)
+
+-- ---- what holds of all of a list
+
+pub all_at : (P : Slot → Type 0) (ts : List Slot) → AllOf P ts → (t : Slot) → IsTrue (is_in t ts) → P t
+all_at P [] h t i = absurd (cc)
+all_at P (x ∷ xs) h t i = by (slot_same t x) refl i (all_at P xs h.1 t)
+  where
+    by : (same : Bool) → slot_same t x ≡ same → IsTrue (same || is_in t xs) → (IsTrue (is_in t xs) → P t) → P t
+    by true e i rest = subst P (sym (slot_same-equal t x e)) h.0
+    by false e i rest = rest i
+
+pub all_where : (P : Slot → Type 0) (ts : List Slot) → ((t : Slot) → IsTrue (is_in t ts) → P t) → AllOf P ts
+all_where P [] h = tt
+all_where P (x ∷ xs) h = (h x (is_head x xs), all_where P xs (λ t i. h t (or_right (slot_same t x) (is_in t xs) i)))
+
+pub test_all : (test : Slot → Bool) (ts : List Slot) → AllOf (λ t. IsTrue (test t)) ts → IsTrue (list_all test ts)
+test_all test [] h = refl
+test_all test (x ∷ xs) h = and_intro (test x) (list_all test xs) h.0 (test_all test xs h.1)
+
+pub test_at : (test : Slot → Bool) (ts : List Slot) → IsTrue (list_all test ts) → (t : Slot) → IsTrue (is_in t ts) → IsTrue (test t)
+test_at test ts h t i = all_at (λ u. IsTrue (test u)) ts (passes ts h) t i
+  where
+    passes : (ts : List Slot) → IsTrue (list_all test ts) → AllOf (λ u. IsTrue (test u)) ts
+    passes [] h = tt
+    passes (x ∷ xs) h = let parts = both (test x) (list_all test xs) h in (parts.0, passes xs parts.1)
+
+pub all_parts : {X : Type 0} (test : X → Bool) (xs ys : List X) → IsTrue (list_all test (xs ++ ys)) → IsTrue (list_all test xs) × IsTrue (list_all test ys)
+all_parts test [] ys h = (refl, h)
+all_parts test (x ∷ xs) ys h =
+    let parts = both (test x) (list_all test (xs ++ ys)) h in
+    let rest = all_parts test xs ys parts.1 in
+    (and_intro (test x) (list_all test xs) parts.0 rest.0, rest.1)
+
+-- of what there is at each member
+pub all_member : {X : Type 0} (test : X → Bool) (g : ℕ → List X) (ms : List ℕ) → IsTrue (list_all test (flat_map g ms)) → (m : ℕ) → IsIn ms m → IsTrue (list_all test (g m))
+all_member test g [] h m i = absurd (cc)
+all_member test g (k ∷ ms) h m i =
+    let parts = all_parts test (g k) (flat_map g ms) h in
+    by (nat_eq m k) refl i parts.0 (all_member test g ms parts.1 m)
+  where
+    by : (same : Bool) → nat_eq m k ≡ same → IsTrue (same || list_any (nat_eq m) ms) → IsTrue (list_all test (g k)) → (IsIn ms m → IsTrue (list_all test (g m))) → IsTrue (list_all test (g m))
+    by true e i here rest = subst (λ (n : ℕ). IsTrue (list_all test (g n))) (sym (eqb-true m k e)) here
+    by false e i here rest = rest i
+
+-- ---- how many pass a test
+
+-- where no more pass than before, there are no more
+no_more_by : {X : Type 0} (b c : Bool) (x : X) (xs ys : List X) → (IsTrue b → IsTrue c) → length xs ≤ length ys → length (if b then x ∷ xs else xs) ≤ length (if c then x ∷ ys else ys)
+no_more_by true true x xs ys h l = omega arith
+no_more_by true false x xs ys h l = absurd (let no : false ≡ true = h refl in cc)
+no_more_by false true x xs ys h l = omega arith
+no_more_by false false x xs ys h l = l
+
+pub no_more : (p q : Slot → Bool) → ((s : Slot) → IsTrue (p s) → IsTrue (q s)) → (xs : List Slot) → length (filter p xs) ≤ length (filter q xs)
+no_more p q h [] = omega arith
+no_more p q h (x ∷ xs) = no_more_by (p x) (q x) x (filter p xs) (filter q xs) (h x) (no_more p q h xs)
+
+-- one fewer, where one that passed doesn't any more
+pub one_fewer : (p q : Slot → Bool) → ((s : Slot) → IsTrue (p s) → IsTrue (q s)) → (t : Slot) → p t ≡ false → q t ≡ true → (xs : List Slot) → IsTrue (is_in t xs) → length (filter p xs) + 1 ≤ length (filter q xs)
+one_fewer p q h t out was [] i = absurd (cc)
+one_fewer p q h t out was (x ∷ xs) i = by (slot_same t x) refl i (one_fewer p q h t out was xs)
+  where
+    here : t ≡ x → length (filter p (x ∷ xs)) + 1 ≤ length (filter q (x ∷ xs))
+    here e = rw (← e, out, was) (let l = no_more p q h xs in omega arith)
+
+    more : (b c : Bool) (xs' ys' : List Slot) → (IsTrue b → IsTrue c) → length xs' + 1 ≤ length ys' → length (if b then x ∷ xs' else xs') + 1 ≤ length (if c then x ∷ ys' else ys')
+    more true true xs' ys' k l = omega arith
+    more true false xs' ys' k l = absurd (let no : false ≡ true = k refl in cc)
+    more false true xs' ys' k l = omega arith
+    more false false xs' ys' k l = l
+
+    by : (same : Bool) → slot_same t x ≡ same → IsTrue (same || is_in t xs) → (IsTrue (is_in t xs) → length (filter p xs) + 1 ≤ length (filter q xs)) → length (filter p (x ∷ xs)) + 1 ≤ length (filter q (x ∷ xs))
+    by true e i rest = here (slot_same-equal t x e)
+    by false e i rest = more (p x) (q x) (filter p xs) (filter q xs) (h x) (rest i)

@@ -1,0 +1,14 @@
+use Rattle.std.proofs.Common.{◌≡◌, map, drop}
+use Rattle.evaluation.specs.Reads.{sum_over}
+use Rattle.operations.specs.FieldFolds.{sum_from}
+use Rattle.dictionary.specs.Reading.{collection, field_type, result_at}
+use Rattle.explain.specs.Ground.{look_of, tree_of}
+use Rattle.explain.proofs.reads.read_sum.Given as goal
+
+abbrev pub invariant-loop-member : goal.invariant-loop-member
+invariant-loop-member g l =
+    let look = look_of l.session in
+    record {
+      value : sum_from l.fold (map (result_at look l.targets.second) (drop l.member-index l.member-items)) ≡ sum_over (field_type (tree_of l.session) l.targets) (collection look l.targets) (result_at look l.targets.second);
+      count : l.fold.count ≡ l.member-index;
+    }

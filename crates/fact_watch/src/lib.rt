@@ -1,0 +1,14 @@
+//! Watches: a party is told when a slot's result moves in a stated way. The relations are stored closures.
+#![tactic(auto)]
+
+mod commands;
+mod relation;
+mod relations;
+mod table;
+mod watches;
+
+pub use commands::{WatchRefusal, unwatch, watch};
+pub use relation::{Relation, Says};
+pub use relations::{changed, completed, lost, raised};
+pub use table::{TableFault, WatchTable};
+pub use watches::{PutFault, Watches};

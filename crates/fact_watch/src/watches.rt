@@ -1,0 +1,215 @@
+// The watches of a session.
+ghost use Rattle.std.specs.Prelude.{◌≡◌, ◌↔◌, ◌<◌, ◌≤◌, ◌^◌, ◌∷◌, [], ◌++◌, Bool, false, ℕ, List, OnOk, OnErr, IfOk, IfSome, IsErrOf, IsTrue, None, length, slice_get, unwrap_or};
+ghost use Rattle.std.specs.Bool.{OnFalse, OnTrue};
+ghost use Rattle.std.specs.Option.{option_copied};
+ghost use Rattle.dictionary.specs.Accepted.{accepted};
+ghost use Rattle.dictionary.specs.Plain.{plain};
+ghost use Rattle.dictionary.specs.Reading.{Look};
+ghost use Rattle.fact_watch.specs.Says.{slot_says};
+ghost use Rattle.fact_watch.specs.Watching.{code_at, fires_between, fires_now, is_full, is_put, nothing_watched, noted, pair_same, unnoted, without};
+
+use crate::table::WatchTable;
+use dictionary::FactEngine;
+use fact_values::{NoMemory, Slot};
+use graph_session::Session;
+use std::alloc::Global;
+use std::marker::Model;
+use three_state::Res;
+
+/// The most watches.
+const MOST_WATCHES: usize = 1000;
+
+/// Why a watch wasn't put.
+#[derive(Clone, Copy, Debug, PartialEq, Eq)]
+pub enum PutFault {
+    /// The pair is there.
+    Same,
+    /// There are 1,000.
+    Full,
+    NoMemory,
+}
+
+/// Pairs of a place in a table of relations and a slot, in the order in which they were put, and the results that their
+/// slots had when they were noted.
+#[derive(Drop)]
+pub struct Watches {
+    alloc: Global,
+    pairs: Vec<(u32, Slot)>,
+    notes: Vec<Option<Res>>,
+}
+
+impl Model for Watches {
+    ghost use Rattle.std.specs.Prelude.{◌≤◌, length};
+    ghost use Rattle.fact_watch.specs.Watching.{Watching, coded_watching};
+
+    ghost Value = { Watching };
+
+    ghost coded = { coded_watching };
+
+    ghost view = { λ w. record { pairs = w.pairs.items; notes = w.notes.items } };
+
+    ghost invariant = { λ w. length w.pairs.items ≤ 1000 };
+}
+
+fn is_pair(pair: &(u32, Slot), place: u32, slot: Slot) -> bool
+    ensures { result ≡ pair_same (place, slot) pair.now }
+{
+    place == pair.0 && slot.fact == pair.1.fact && slot.member == pair.1.member
+}
+
+// Leaves the pairs that aren't this one.
+fn take_out(pairs: &mut Vec<(u32, Slot)>, place: u32, slot: Slot)
+    ensures left { pairs.new.items ≡ without (place, slot) pairs.old.items }
+    ensures fewer { length pairs.new.items ≤ length pairs.old.items }
+{
+    pairs.retain(|pair| !is_pair(pair, place, slot));
+}
+
+// The slot's result, or none where it doesn't stand.
+fn note_of<E: FactEngine>(
+    alloc: Global,
+    session: &Session<E>,
+    slot: Slot,
+) -> Result<Option<Res>, NoMemory>
+    ensures { IfOk result (λ note. note ≡ plain (accepted session.now.dict) session.now.timeline.now slot) }
+{
+    match session.result(slot) {
+        None => Ok(None),
+        Some(res) => Ok(Some(res.copy(alloc)?)),
+    }
+}
+
+// What the relation at the place says of a slot: no where it didn't stand or doesn't.
+#[tactic(auto, using(crate::proofs::FiringLaws::said_at))]
+fn says(table: &WatchTable, place: u32, old: Option<&Res>, new: Option<&Res>) -> bool
+    requires { place < length table.now.relations.items }
+    ensures { result ≡ slot_says (code_at (λ r. r.code) table.now.relations.items place) (option_copied old.entry) (option_copied new.entry) }
+{
+    match old {
+        None => false,
+        Some(old) => match new {
+            None => false,
+            Some(new) => table.run(place, old, new),
+        },
+    }
+}
+
+impl Watches {
+    /// Nothing is watched.
+    pub fn new(alloc: Global) -> Watches
+        ensures { result ≡ nothing_watched }
+    {
+        Watches {
+            alloc,
+            pairs: Vec::new(alloc),
+            notes: Vec::new(alloc),
+        }
+    }
+
+    /// How many watches there are: 1,000 at most.
+    pub fn len(&self) -> u32
+        ensures count { result ≡ length self.now.pairs }
+        ensures few { result ≤ 1000 }
+    {
+        self.pairs.len() as u32
+    }
+
+    /// The place and the slot of the watch at n, from 0, or `None` where there is none.
+    pub fn at(&self, n: u32) -> Option<(u32, Slot)>
+        ensures { result ≡ slice_get self.now.pairs n }
+    {
+        self.pairs.get(n as usize).copied()
+    }
+
+    fn has(&self, place: u32, slot: Slot) -> bool
+        ensures { result ≡ is_put self.now.pairs (place, slot) }
+    {
+        self.pairs.iter().any(|pair| is_pair(pair, place, slot))
+    }
+
+    /// Puts a watch behind the others. Nothing is noted then.
+    pub fn put(&mut self, place: u32, slot: Slot) -> Result<(), PutFault>
+        ensures put { OnOk result (self.new ≡ unnoted (self.old.pairs ++ (place, slot) ∷ [])) }
+        ensures same { IsErrOf result PutFault.Same ↔ IsTrue (is_put self.old.pairs (place, slot)) }
+        ensures full { IsErrOf result PutFault.Full ↔ ((is_put self.old.pairs (place, slot) ≡ false) × IsTrue (is_full self.old.pairs)) }
+        ensures unchanged { OnErr result (self.new ≡ self.old) }
+    {
+        if self.has(place, slot) {
+            return Err(PutFault::Same);
+        }
+        if self.pairs.len() >= MOST_WATCHES {
+            return Err(PutFault::Full);
+        }
+        match self.pairs.push((place, slot)) {
+            Ok(()) => {
+                self.notes.clear();
+                Ok(())
+            }
+            Err(_) => Err(PutFault::NoMemory),
+        }
+    }
+
+    /// Takes a watch out, and tells whether it was there. Nothing is noted then.
+    pub fn cut(&mut self, place: u32, slot: Slot) -> bool
+        ensures there { result ≡ is_put self.old.pairs (place, slot) }
+        ensures cut { OnTrue result (self.new ≡ unnoted (without (place, slot) self.old.pairs)) }
+        ensures unchanged { OnFalse result (self.new ≡ self.old) }
+    {
+        if !self.has(place, slot) {
+            return false;
+        }
+        take_out(&mut self.pairs, place, slot);
+        self.notes.clear();
+        true
+    }
+
+    /// Notes the result of each watched slot, or that it doesn't stand. For want of memory all notes are as before.
+    pub fn note<E: FactEngine>(&mut self, session: &Session<E>) -> Result<(), NoMemory>
+        ensures noted { OnOk result (self.new ≡ noted self.old.pairs (plain (accepted session.now.dict) session.now.timeline.now)) }
+        ensures unchanged { OnErr result (self.new ≡ self.old) }
+    {
+        let mut notes = Vec::new(self.alloc);
+        for (_, slot) in &self.pairs {
+            notes.push(note_of(self.alloc, session, *slot)?)?;
+        }
+        self.notes = notes;
+        Ok(())
+    }
+
+    // What was noted of the watch at n: none where its slot didn't stand, or nothing is noted.
+    fn note_at(&self, n: u32) -> Option<&Res>
+        ensures { option_copied result ≡ unwrap_or (slice_get self.now.notes n) None }
+    {
+        match self.notes.get(n as usize) {
+            None => None,
+            Some(note) => note.as_ref(),
+        }
+    }
+
+    // Whether the watch at n fires, of what was noted and the result now.
+    fn fires_as_noted<E: FactEngine>(
+        &self,
+        table: &WatchTable,
+        session: &Session<E>,
+        n: u32,
+    ) -> bool
+        requires { IfSome (slice_get self.now.pairs n) (λ p. p.0 < length table.now.relations.items) }
+        ensures { result ≡ fires_now (code_at (λ r. r.code) table.now.relations.items) self.now (plain (accepted session.now.dict) session.now.timeline.now) n }
+    {
+        match self.at(n) {
+            None => false,
+            Some(pair) => says(table, pair.0, self.note_at(n), session.result(pair.1)),
+        }
+    }
+
+    /// Whether the watch at n fires: its slot stood when it was noted, and stands now, and its relation says yes of the
+    /// result that was noted and the one now. It takes no memory.
+    pub fn fires<E: FactEngine>(&self, table: &WatchTable, session: &Session<E>, n: u32) -> bool
+        requires { IfSome (slice_get self.now.pairs n) (λ p. p.0 < length table.now.relations.items) }
+        ensures now { result ≡ fires_now (code_at (λ r. r.code) table.now.relations.items) self.now (plain (accepted session.now.dict) session.now.timeline.now) n }
+        ensures since { (before : Look) → self.now ≡ noted self.now.pairs before
+            → result ≡ fires_between (code_at (λ r. r.code) table.now.relations.items) self.now.pairs before (plain (accepted session.now.dict) session.now.timeline.now) n }
+    {
+        self.fires_as_noted(table, session, n)
+    }
+}

@@ -1,0 +1,19 @@
+use Rattle.std.proofs.Common.{◌≡◌, ◌+◌, ◌≤◌, [], length}
+use Rattle.script_lines.specs.Lines.{HasNoNewline}
+use Rattle.graph_session.specs.Rules.{rules}
+use Rattle.graph_session.specs.SessionView.{course}
+use Rattle.interview.specs.Replies.{open_at}
+use Rattle.interview.specs.Answering.{RepliedLines}
+use Rattle.interview.proofs.answering.answer_piece.Given as goal
+
+abbrev pub invariant-loop-rest : goal.invariant-loop-rest
+invariant-loop-rest g l = record {
+  replied : RepliedLines (rules l.fn.session.dict) (g.K.Sink.taken l.fn.out) (g.K.Sink.taken l.out) (course l.fn.session) l.fn.lines.so_far l.fn.bytes (open_at (course l.session)) l.lines.so_far l.rest [];
+  unended : HasNoNewline l.lines.so_far;
+  dict : l.session.dict ≡ l.fn.session.dict;
+  few : l.session.changes + length l.rest ≤ l.fn.session.changes + length l.fn.bytes;
+  later : g.K.Sink.faults l.fn.out ≤ g.K.Sink.faults l.out;
+}
+
+abbrev pub decreases-loop-rest : goal.decreases-loop-rest
+decreases-loop-rest g l = length l.rest

@@ -1,0 +1,78 @@
+-- How a script over an accepted dictionary ends: for each status, what was written, what was read, and why it came.
+use Rattle.std.specs.Prelude.{◌≡◌, ◌⊎◌, ℕ, ◌≤◌, true, false, List, ◌++◌, length, take, Option}
+use Rattle.std.specs.Io.KnownBytes.{Consumes, IsAtEnd}
+use Rattle.fg_io.specs.Outside.{MayBe}
+use Rattle.script_lines.specs.Lines.{ended_lines}
+use Rattle.graph_session.specs.Rules.{Rules}
+use Rattle.interview.specs.declared.status.Status.{Status}
+use Rattle.interview.specs.declared.status.Status.TheVariants.{Done, ReadFault, WriteFault, ScriptTooLong, NoMemory}
+use Rattle.interview.specs.Devices.{Counted, Rises, Stream, SentPart, SentWhole}
+use Rattle.interview.specs.Interview.{answered_lines, defined_script, script_limit}
+use Rattle.interview.specs.Replies.{at_start, replies, state_after}
+
+-- what a script did to its source and its sink
+pub record ScriptDid : Type 0 where
+  pub left : Stream
+  pub taken : Stream
+  pub source : Counted
+  pub sink : Counted
+
+-- by the bytes left, the bytes taken, and the faults of source and sink: each before and after
+abbrev pub script_did : (left left_now taken taken_now : Option (List ℕ)) (unread unread_now unwritten unwritten_now : ℕ) → ScriptDid
+script_did left left_now taken taken_now unread unread_now unwritten unwritten_now = record {
+  left = record { before = left; after = left_now };
+  taken = record { before = taken; after = taken_now };
+  source = record { before = unread; after = unread_now };
+  sink = record { before = unwritten; after = unwritten_now };
+}
+
+-- the replies to these first lines, whole
+abbrev pub RepliedTo : Rules → ScriptDid → List ℕ → Type 0
+RepliedTo r did bytes = SentWhole did.taken (replies r (at_start r) (ended_lines bytes))
+
+-- it ended as defined for some script that it may have been given, with the text whole
+abbrev pub ScriptEndsAs : Rules → ScriptDid → Status → Type 0
+ScriptEndsAs r did status = (script : List ℕ) × MayBe did.left.before script × ((defined_script r script).status ≡ status) × SentWhole did.taken (defined_script r script).text
+
+-- a read failed behind these bytes, in which no `quit` ended: the lines that ended in them were answered, and no other
+pub record ReadSoFar (r : Rules) (did : ScriptDid) : Type 0 where
+  pub bytes : List ℕ
+  pub read : Consumes did.left.before did.left.after bytes
+  pub within : length bytes ≤ script_limit
+  pub unquit : (state_after r (at_start r) (ended_lines bytes)).over ≡ false
+  pub replied : RepliedTo r did bytes
+
+-- whole replies to the first of the lines that are answered, of a script that it may have been given
+pub record RepliedFirst (r : Rules) (did : ScriptDid) : Type 0 where
+  pub script : List ℕ
+  pub read : MayBe did.left.before script
+  pub count : ℕ
+  pub replied : SentWhole did.taken (replies r (at_start r) (take count (answered_lines script)))
+
+-- it was read, and nothing is left of it
+abbrev pub ReadToEnd : ScriptDid → Type 0
+ReadToEnd did = (bytes : List ℕ) × Consumes did.left.before did.left.after bytes × IsAtEnd did.left.after
+
+-- the most bytes that are asked for at once
+abbrev pub piece_limit : ℕ
+piece_limit = 4096
+
+-- it was read as far as the piece in which `quit` ended: in what was read before, none did
+pub record ReadToQuit (r : Rules) (did : ScriptDid) : Type 0 where
+  pub earlier : List ℕ
+  pub piece : List ℕ
+  pub read : Consumes did.left.before did.left.after (earlier ++ piece)
+  pub short : length piece ≤ piece_limit
+  pub unquit : (state_after r (at_start r) (ended_lines earlier)).over ≡ false
+  pub quit : (state_after r (at_start r) (ended_lines (earlier ++ piece))).over ≡ true
+
+abbrev pub ReadThrough : Rules → ScriptDid → Type 0
+ReadThrough r did = ReadToEnd did ⊎ ReadToQuit r did
+
+abbrev pub ScriptEnds : Rules → ScriptDid → Status → Type 0
+ScriptEnds r did Done = ScriptEndsAs r did Done × ReadThrough r did
+ScriptEnds r did ScriptTooLong = ScriptEndsAs r did ScriptTooLong
+ScriptEnds r did ReadFault = Rises did.source × ReadSoFar r did
+ScriptEnds r did WriteFault = Rises did.sink × ((script : List ℕ) × MayBe did.left.before script × SentPart did.taken (defined_script r script).text)
+ScriptEnds r did NoMemory = RepliedFirst r did
+ScriptEnds r did other = ⊥

@@ -1,0 +1,5 @@
+pub mod DecideLaws
+pub mod MemoryLaws
+pub mod RestLaws
+pub mod Views
+mod CellExamples

@@ -1,0 +1,37 @@
+ghost use Rattle.std.specs.Prelude.{◌≡◌, Option, option_copied};
+ghost use Rattle.fact_values.specs.declared.slot.Slot.{Slot};
+ghost use Rattle.three_state.specs.declared.res.Res.{Res};
+ghost use Rattle.three_state.specs.declared.res.Res.TheVariants.{Incomplete};
+ghost use Rattle.node_eval.specs.Looks.{result_at};
+
+use fact_values::Slot;
+use three_state::Res;
+
+/// Where the results of slots are looked up.
+pub trait Cells {
+    /// The result of each slot that has a cell.
+    ghost look: { Self → Slot → Option Res };
+
+    /// The cell of a slot.
+    fn cell(&self, slot: Slot) -> Option<&Res>
+        ensures { option_copied result ≡ look self.now slot };
+}
+
+/// What is read of a fact at a member: a slot without a cell counts as incomplete.
+pub fn result_at<'a, C: Cells>(
+    cells: &'a C,
+    missing: &'a Res,
+    fact: Option<u32>,
+    member: u32,
+) -> &'a Res
+    requires { missing.now ≡ Incomplete }
+    ensures { result.now ≡ result_at (C.look cells.now) fact member }
+{
+    let Some(fact) = fact else {
+        return missing;
+    };
+    match cells.cell(Slot { fact, member }) {
+        Some(res) => res,
+        None => missing,
+    }
+}

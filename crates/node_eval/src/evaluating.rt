@@ -1,0 +1,250 @@
+// The result of a compiled node, visit by visit.
+ghost use Rattle.std.specs.Prelude.{◌≡◌, ℕ, ◌+◌, ◌≤◌, [], ◌∷◌, ◌++◌, sum_by, if◌then◌else◌, IfOk, IsErr, OnOk, Option};
+ghost use Rattle.evaluation.specs.Over.{many_of, over, over_all, over_cases, pick_of, weight, weight_of_all, weight_of_cases};
+ghost use Rattle.fact_values.specs.Values.{HoldsMemory};
+ghost use Rattle.fact_values.specs.declared.fact_type.FactType.{FactType};
+ghost use Rattle.evaluation.specs.SlotsRead.{members_visited, up_to_decider};
+ghost use Rattle.operations.specs.CaseSteps.{find_from};
+ghost use Rattle.three_state.specs.Results.{filter_of, find_of, members_of, switch_of};
+ghost use Rattle.node_eval.specs.Evaluating.{TakesAt, condition_at, visits_at, work_at};
+ghost use Rattle.node_eval.specs.Memory.{PickTakes, SomeOf, TakesInAll, TakesInCases, TakesMemory};
+ghost use Rattle.node_eval.specs.NodeTypes.{IsTyped, SomeGivesTextOrList};
+ghost use Rattle.node_eval.specs.Reading.{collection, node_env};
+ghost use Rattle.node_eval.specs.View.{cases_view, trees_view, view};
+ghost use Rattle.evaluation.specs.Typed.{Domains};
+ghost use Rattle.evaluation.specs.Visits.{visits, visits_of_all, visits_of_cases};
+
+use crate::cells::Cells;
+use crate::node::{Node, NodeCase, Reader};
+use crate::place::Place;
+use crate::reads::{read, read_source};
+use dict_tree::{ManyOp, PickOp};
+use fact_values::{NoMemory, Value};
+use operations::{
+    CaseStep, FilterFold, ManyFold, case_step, found, members, one, source_verdict, taken, two,
+};
+use std::alloc::Global;
+use std::sync::ledger::Ledger;
+use steps::Steps;
+use three_state::{Res, Verdict};
+
+/// The result of a node over these cells. It stands in the slot of the member `own`, or of 0, and
+/// under a condition at the member `inner`. A visit of a node is a step.
+pub fn eval<C: Cells, L: Ledger>(
+    alloc: Global,
+    node: &Node,
+    cells: &C,
+    own: u32,
+    inner: u32,
+    steps: &mut Steps<L>,
+) -> Result<Res, NoMemory>
+    ensures value { IfOk result (λ r. r ≡ over (node_env (C.look cells.now)) (record { own = own; inner = inner }) (view node.now)) }
+    ensures visited { OnOk result (steps.new ≡ steps.old + visits (node_env (C.look cells.now)) (record { own = own; inner = inner }) (view node.now)) }
+    ensures most { steps.new ≤ steps.old + weight (node_env (C.look cells.now)) (record { own = own; inner = inner }) (view node.now) }
+    ensures memory { IsErr result → (d : Domains) (facts : ℕ → Option FactType) → IsTyped d facts (C.look cells.now) (record { own = own; inner = inner }) (view node.now) → SomeGivesTextOrList facts (view node.now) }
+{
+    visit(alloc, cells, Place { own, inner }, node, steps)
+}
+
+// The same at a place.
+#[cycle(eval)]
+#[tactic(auto, using(crate::proofs::Views::views))]
+fn visit<C: Cells, L: Ledger>(
+    alloc: Global,
+    cells: &C,
+    at: Place,
+    node: &Node,
+    steps: &mut Steps<L>,
+) -> Result<Res, NoMemory>
+    ensures value { IfOk result (λ r. r ≡ over (node_env (C.look cells.now)) at (view node.now)) }
+    ensures visited { OnOk result (steps.new ≡ steps.old + visits (node_env (C.look cells.now)) at (view node.now)) }
+    ensures most { steps.new ≤ steps.old + weight (node_env (C.look cells.now)) at (view node.now) }
+    ensures memory { IsErr result → TakesMemory (node_env (C.look cells.now)) at (view node.now) }
+{
+    steps.tick();
+    match node {
+        Node::Const(value) => constant(alloc, value),
+        Node::Read(op, reader) => read(alloc, cells, at, *op, *reader),
+        Node::Switch(cases) => eval_cases(alloc, cells, at, cases.as_slice(), steps),
+        Node::Many(op, operands) => eval_all(alloc, cells, at, *op, operands.as_slice(), steps),
+        Node::One(op, operand) => {
+            let res = visit(alloc, cells, at, operand, steps)?;
+            Ok(one(*op, res))
+        }
+        Node::Two(op, left, right) => {
+            let first = visit(alloc, cells, at, left, steps)?;
+            let second = visit(alloc, cells, at, right, steps)?;
+            Ok(two(*op, &first, &second))
+        }
+        Node::Pick(op, reader, test) => eval_pick(alloc, cells, at, *op, *reader, test, steps),
+    }
+}
+
+fn constant(alloc: Global, value: &Value) -> Result<Res, NoMemory>
+    ensures value { IfOk result (λ r. r ≡ Res.Complete value.now) }
+    ensures memory { IsErr result → HoldsMemory value.now }
+{
+    Ok(Res::Complete(value.copy(alloc)?))
+}
+
+// A node with a list of operands.
+#[cycle(eval)]
+fn eval_all<C: Cells, L: Ledger>(
+    alloc: Global,
+    cells: &C,
+    at: Place,
+    op: ManyOp,
+    operands: &[Node],
+    steps: &mut Steps<L>,
+) -> Result<Res, NoMemory>
+    ensures value { IfOk result (λ r. r ≡ many_of op (over_all (node_env (C.look cells.now)) at (trees_view operands.now))) }
+    ensures visited { OnOk result (steps.new ≡ steps.old + visits_of_all (node_env (C.look cells.now)) at (trees_view operands.now)) }
+    ensures most { steps.new ≤ steps.old + weight_of_all (node_env (C.look cells.now)) at (trees_view operands.now) }
+    ensures memory { IsErr result → TakesInAll (node_env (C.look cells.now)) at (trees_view operands.now) }
+{
+    let mut fold = ManyFold::new(op);
+    for operand in operands {
+        let res = visit(alloc, cells, at, operand, steps)?;
+        fold.see(res);
+    }
+    Ok(fold.end())
+}
+
+// A Switch: the cases in their order, up to the one that is taken.
+#[cycle(eval)]
+fn eval_cases<C: Cells, L: Ledger>(
+    alloc: Global,
+    cells: &C,
+    at: Place,
+    cases: &[NodeCase],
+    steps: &mut Steps<L>,
+) -> Result<Res, NoMemory>
+    ensures value { IfOk result (λ r. r ≡ switch_of (over_cases (node_env (C.look cells.now)) at (cases_view cases.now))) }
+    ensures visited { OnOk result (steps.new ≡ steps.old + visits_of_cases (node_env (C.look cells.now)) at (cases_view cases.now)) }
+    ensures most { steps.new ≤ steps.old + weight_of_cases (node_env (C.look cells.now)) at (cases_view cases.now) }
+    ensures memory { IsErr result → TakesInCases (node_env (C.look cells.now)) at (cases_view cases.now) }
+{
+    let mut complete = true;
+    for case in cases {
+        let condition = visit(alloc, cells, at, &case.test, steps)?;
+        match case_step(complete, &condition) {
+            CaseStep::Next(still) => complete = still,
+            CaseStep::Take(still) => {
+                let res = visit(alloc, cells, at, &case.outcome, steps)?;
+                return Ok(taken(still, res));
+            }
+            CaseStep::End(res) => return Ok(res),
+        }
+    }
+    Ok(Res::Incomplete)
+}
+
+// A Filter or a Find, from its collection and its condition.
+#[cycle(eval)]
+fn eval_pick<C: Cells, L: Ledger>(
+    alloc: Global,
+    cells: &C,
+    at: Place,
+    op: PickOp,
+    reader: Reader,
+    test: &Node,
+    steps: &mut Steps<L>,
+) -> Result<Res, NoMemory>
+    ensures value { IfOk result (λ r. r ≡ pick_of op (collection (C.look cells.now) reader) (condition_at (C.look cells.now) at (view test.now))) }
+    ensures visited { OnOk result (steps.new ≡ steps.old + sum_by (visits_at (C.look cells.now) at (view test.now)) (members_visited op (condition_at (C.look cells.now) at (view test.now)) (collection (C.look cells.now) reader))) }
+    ensures most { steps.new ≤ steps.old + sum_by (work_at (C.look cells.now) at (view test.now)) (members_of (collection (C.look cells.now) reader)) }
+    ensures memory { IsErr result → PickTakes op (condition_at (C.look cells.now) at (view test.now)) (TakesAt (C.look cells.now) at (view test.now)) (members_of (collection (C.look cells.now) reader)) }
+{
+    let missing = Res::Incomplete;
+    let source = read_source(cells, &missing, reader);
+    match op {
+        PickOp::Filter => eval_filter(alloc, cells, at, source, test, steps),
+        PickOp::Find => eval_find(alloc, cells, at, source, test, steps),
+    }
+}
+
+fn keep(kept: &mut Vec<u32>, is_kept: bool, member: u32) -> Result<(), NoMemory>
+    ensures { OnOk result (kept.new.items ≡ (if is_kept then kept.old.items ++ member ∷ [] else kept.old.items)) }
+{
+    if !is_kept {
+        return Ok(());
+    }
+    kept.push(member)?;
+    Ok(())
+}
+
+// The members of the collection at which the condition is true.
+#[cycle(eval)]
+fn eval_filter<C: Cells, L: Ledger>(
+    alloc: Global,
+    cells: &C,
+    at: Place,
+    source: &Res,
+    test: &Node,
+    steps: &mut Steps<L>,
+) -> Result<Res, NoMemory>
+    ensures value { IfOk result (λ r. r ≡ filter_of source.now (condition_at (C.look cells.now) at (view test.now))) }
+    ensures visited { OnOk result (steps.new ≡ steps.old + sum_by (visits_at (C.look cells.now) at (view test.now)) (members_of source.now)) }
+    ensures most { steps.new ≤ steps.old + sum_by (work_at (C.look cells.now) at (view test.now)) (members_of source.now) }
+{
+    let mut fold = FilterFold::new(source);
+    let mut kept = Vec::new(alloc);
+    for member in members(source) {
+        let condition = visit(alloc, cells, at.at(*member), test, steps)?;
+        let is_kept = fold.see(&condition);
+        keep(&mut kept, is_kept, *member)?;
+    }
+    Ok(fold.end(kept))
+}
+
+// The first member of the collection at which the condition is true.
+#[cycle(eval)]
+fn eval_find<C: Cells, L: Ledger>(
+    alloc: Global,
+    cells: &C,
+    at: Place,
+    source: &Res,
+    test: &Node,
+    steps: &mut Steps<L>,
+) -> Result<Res, NoMemory>
+    ensures value { IfOk result (λ r. r ≡ find_of source.now (condition_at (C.look cells.now) at (view test.now))) }
+    ensures visited { OnOk result (steps.new ≡ steps.old + sum_by (visits_at (C.look cells.now) at (view test.now)) (up_to_decider (condition_at (C.look cells.now) at (view test.now)) (members_of source.now))) }
+    ensures most { steps.new ≤ steps.old + sum_by (work_at (C.look cells.now) at (view test.now)) (members_of source.now) }
+    ensures memory { IsErr result → SomeOf (TakesAt (C.look cells.now) at (view test.now)) (up_to_decider (condition_at (C.look cells.now) at (view test.now)) (members_of source.now)) }
+{
+    match source_verdict(source) {
+        Verdict::Go(complete) => {
+            find_among(alloc, cells, at, complete, members(source), test, steps)
+        }
+        Verdict::Incomplete => Ok(Res::Incomplete),
+        Verdict::Fault(fault) => Ok(Res::Fault(fault)),
+    }
+}
+
+// The same of these members. The flag says that the collection is complete.
+#[cycle(eval)]
+fn find_among<C: Cells, L: Ledger>(
+    alloc: Global,
+    cells: &C,
+    at: Place,
+    complete: bool,
+    members: &[u32],
+    test: &Node,
+    steps: &mut Steps<L>,
+) -> Result<Res, NoMemory>
+    ensures value { IfOk result (λ r. r ≡ find_from (condition_at (C.look cells.now) at (view test.now)) complete members.now) }
+    ensures visited { OnOk result (steps.new ≡ steps.old + sum_by (visits_at (C.look cells.now) at (view test.now)) (up_to_decider (condition_at (C.look cells.now) at (view test.now)) members.now)) }
+    ensures most { steps.new ≤ steps.old + sum_by (work_at (C.look cells.now) at (view test.now)) members.now }
+    ensures memory { IsErr result → SomeOf (TakesAt (C.look cells.now) at (view test.now)) (up_to_decider (condition_at (C.look cells.now) at (view test.now)) members.now) }
+{
+    let mut complete = complete;
+    for member in members {
+        let condition = visit(alloc, cells, at.at(*member), test, steps)?;
+        match case_step(complete, &condition) {
+            CaseStep::Next(still) => complete = still,
+            CaseStep::Take(still) => return Ok(found(still, *member)),
+            CaseStep::End(none) => return Ok(none),
+        }
+    }
+    Ok(Res::Incomplete)
+}

@@ -1,0 +1,15 @@
+//! Compiled nodes, evaluated over cells.
+#![tactic(auto)]
+
+mod cells;
+mod evaluating;
+pub mod laws;
+mod node;
+mod place;
+mod reads;
+#[cfg(test)]
+mod tests;
+
+pub use cells::Cells;
+pub use evaluating::eval;
+pub use node::{Node, NodeCase, NodeRead, Reader};

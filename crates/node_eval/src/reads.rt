@@ -1,0 +1,184 @@
+// What a node that reads gives, from the facts that its reader names.
+ghost use Rattle.std.specs.Prelude.{◌≡◌, IfOk, IsErr, Some};
+ghost use Rattle.evaluation.specs.Reads.{collection_size, complete_test, sum_over, through_item};
+ghost use Rattle.fact_values.specs.declared.fact_type.FactType.{FactType};
+ghost use Rattle.three_state.specs.Results.{ValueHoldsMemory, count_of};
+ghost use Rattle.three_state.specs.declared.res.Res.TheVariants.{Incomplete};
+ghost use Rattle.node_eval.specs.Looks.{result_at};
+ghost use Rattle.node_eval.specs.Reached.{reached};
+ghost use Rattle.node_eval.specs.Reading.{collection, dependency, field, first_of, read_result, second_of};
+
+use crate::cells::{Cells, result_at};
+use crate::node::{NodeRead, Reader};
+use crate::place::Place;
+use fact_values::{FactType, NoMemory, Value};
+use operations::{CountFold, ItemStep, SumFold, complete_test, item_step, members, size, taken};
+use std::alloc::Global;
+use three_state::Res;
+
+// The first fact of a reader.
+fn first_of(reader: Reader) -> u32
+    ensures { result ≡ first_of reader }
+{
+    match reader {
+        Reader::Global(fact) => fact,
+        Reader::Same(fact) => fact,
+        Reader::Inner(fact) => fact,
+        Reader::Each(first, _) => first,
+        Reader::Through(first, _) => first,
+        Reader::SameThrough(first, _) => first,
+    }
+}
+
+// Its second one.
+fn second_of(reader: Reader) -> Option<u32>
+    ensures { result ≡ second_of reader }
+{
+    match reader {
+        Reader::Global(_) => None,
+        Reader::Same(_) => None,
+        Reader::Inner(_) => None,
+        Reader::Each(_, second) => Some(second),
+        Reader::Through(_, second) => Some(second),
+        Reader::SameThrough(_, second) => Some(second),
+    }
+}
+
+// ---- a Dependency, and whether it is complete
+
+/// Where a Dependency ends.
+pub enum Reached<'a> {
+    /// At this result. The flag says that no placeholder was passed on the way.
+    At(&'a Res, bool),
+    /// On the way, with this result.
+    End(Res),
+}
+
+// From an item to the field of the member that it names.
+fn through<'a, C: Cells>(cells: &'a C, missing: &'a Res, item: &Res, second: u32) -> Reached<'a>
+    requires { missing.now ≡ Incomplete }
+    ensures { reached result ≡ through_item item.now (result_at (C.look cells.now) (Some second)) }
+{
+    match item_step(item) {
+        ItemStep::Member(member, complete) => {
+            Reached::At(result_at(cells, missing, Some(second), member), complete)
+        }
+        ItemStep::End(res) => Reached::End(res),
+    }
+}
+
+// Where a Dependency by this reader ends.
+fn reach<'a, C: Cells>(cells: &'a C, missing: &'a Res, at: Place, reader: Reader) -> Reached<'a>
+    requires { missing.now ≡ Incomplete }
+    ensures { reached result ≡ dependency (C.look cells.now) at reader }
+{
+    match reader {
+        Reader::Global(fact) => Reached::At(result_at(cells, missing, Some(fact), 0), true),
+        Reader::Same(fact) => Reached::At(result_at(cells, missing, Some(fact), at.own), true),
+        Reader::Inner(fact) => Reached::At(result_at(cells, missing, Some(fact), at.inner), true),
+        Reader::Each(_, _) => Reached::End(Res::Incomplete),
+        Reader::Through(first, second) => {
+            let item = result_at(cells, missing, Some(first), 0);
+            through(cells, missing, item, second)
+        }
+        Reader::SameThrough(first, second) => {
+            let item = result_at(cells, missing, Some(first), at.own);
+            through(cells, missing, item, second)
+        }
+    }
+}
+
+// The result there.
+fn reached_result(alloc: Global, end: Reached) -> Result<Res, NoMemory>
+    ensures value { IfOk result (λ r. r ≡ reached end.entry) }
+    ensures memory { IsErr result → ValueHoldsMemory (reached end.entry) }
+{
+    match end {
+        Reached::At(res, complete) => Ok(taken(complete, res.copy(alloc)?)),
+        Reached::End(res) => Ok(res),
+    }
+}
+
+// Whether it is complete.
+fn reached_test(end: Reached) -> Res
+    ensures { result ≡ complete_test (reached end.entry) }
+{
+    match end {
+        Reached::At(res, complete) => {
+            if complete {
+                complete_test(res)
+            } else {
+                Res::Complete(Value::Boolean(false))
+            }
+        }
+        Reached::End(res) => complete_test(&res),
+    }
+}
+
+// ---- the members of a collection
+
+// The sum of the field over the members.
+fn read_sum<C: Cells>(cells: &C, of: FactType, reader: Reader) -> Res
+    ensures { result ≡ sum_over of (collection (C.look cells.now) reader) (field (C.look cells.now) reader) }
+{
+    let missing = Res::Incomplete;
+    let source = result_at(cells, &missing, Some(first_of(reader)), 0);
+    let field = second_of(reader);
+    let mut fold = SumFold::new(of, source);
+    for member in members(source) {
+        fold.see(result_at(cells, &missing, field, *member));
+    }
+    fold.end()
+}
+
+// The number of members of which the field is true.
+fn read_count<C: Cells>(cells: &C, reader: Reader) -> Res
+    ensures { result ≡ count_of (collection (C.look cells.now) reader) (field (C.look cells.now) reader) }
+{
+    let missing = Res::Incomplete;
+    let source = result_at(cells, &missing, Some(first_of(reader)), 0);
+    let field = second_of(reader);
+    let mut fold = CountFold::new(source);
+    for member in members(source) {
+        fold.see(result_at(cells, &missing, field, *member));
+    }
+    fold.end()
+}
+
+// The number of members.
+fn read_size<C: Cells>(cells: &C, reader: Reader) -> Res
+    ensures { result ≡ collection_size (collection (C.look cells.now) reader) }
+{
+    let missing = Res::Incomplete;
+    size(result_at(cells, &missing, Some(first_of(reader)), 0))
+}
+
+/// The collection of a Filter or a Find.
+pub fn read_source<'a, C: Cells>(cells: &'a C, missing: &'a Res, reader: Reader) -> &'a Res
+    requires { missing.now ≡ Incomplete }
+    ensures { result.now ≡ collection (C.look cells.now) reader }
+{
+    result_at(cells, missing, Some(first_of(reader)), 0)
+}
+
+/// The result of a node that reads.
+pub fn read<C: Cells>(
+    alloc: Global,
+    cells: &C,
+    at: Place,
+    op: NodeRead,
+    reader: Reader,
+) -> Result<Res, NoMemory>
+    ensures value { IfOk result (λ r. r ≡ read_result (C.look cells.now) at op reader) }
+    ensures memory { IsErr result → ValueHoldsMemory (read_result (C.look cells.now) at op reader) }
+{
+    let missing = Res::Incomplete;
+    match op {
+        NodeRead::Dependency => reached_result(alloc, reach(cells, &missing, at, reader)),
+        NodeRead::IsComplete => Ok(reached_test(reach(cells, &missing, at, reader))),
+        NodeRead::CollectionSize => Ok(read_size(cells, reader)),
+        NodeRead::SumInt => Ok(read_sum(cells, FactType::Int, reader)),
+        NodeRead::SumDollar => Ok(read_sum(cells, FactType::Dollar, reader)),
+        NodeRead::Count => Ok(read_count(cells, reader)),
+    }
+}

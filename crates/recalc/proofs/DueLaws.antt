@@ -1,0 +1,56 @@
+-- The order of what waits.
+use Rattle.std.proofs.Common.{◌≡◌, ℕ, ◌≤◌, Bool, true, false, cond, ◌&&◌, ◌||◌, nat_eq, [], ◌∷◌, refl, sym, ap, ◌∙◌, arith}
+use Rattle.std.specs.List.{list_any}
+use Rattle.std.specs.Ordering.{nat_cmp, is_eq, is_gt, ordering_then}
+use Rattle.std.specs.declared.cmp.Ordering.{Ordering}
+use Rattle.std.specs.declared.cmp.Ordering.TheVariants.{Less, Equal, Greater}
+use Rattle.std.proofs.lemmas.Bool.Decides.{nat_tests}
+use Rattle.recalc.specs.Waiting.{due_same, waits, Dues}
+use Rattle.recalc.specs.declared.work.Due.{Due}
+
+abbrev pub due_cmp : Due → Due → Ordering
+due_cmp p q = ordering_then (nat_cmp p.rank q.rank) (ordering_then (nat_cmp p.fact q.fact) (nat_cmp p.member q.member))
+
+then_eq : (x y : Ordering) → is_eq (ordering_then x y) ≡ (is_eq x && is_eq y)
+then_eq Less y = refl
+then_eq Equal y = refl
+then_eq Greater y = refl
+
+cmp_eq : (a b : ℕ) → is_eq (nat_cmp a b) ≡ nat_eq a b
+cmp_eq a b = grind (arith, nat_tests)
+
+pub same_cmp : (p q : Due) → due_same p q ≡ is_eq (due_cmp p q)
+same_cmp p q = sym (then_eq (nat_cmp p.rank q.rank) (ordering_then (nat_cmp p.fact q.fact) (nat_cmp p.member q.member))
+    ∙ rw (then_eq, cmp_eq, cmp_eq, cmp_eq) refl)
+
+then_gt : (x y : Ordering) → is_gt (ordering_then x y) ≡ false → is_gt x ≡ false
+then_gt Less y h = refl
+then_gt Equal y h = refl
+then_gt Greater y h = h
+
+cmp_gt : (a b : ℕ) → is_gt (nat_cmp a b) ≡ false → a ≤ b
+cmp_gt a b h = grind (arith, nat_tests)
+
+pub rank_le : (p q : Due) → is_gt (due_cmp p q) ≡ false → p.rank ≤ q.rank
+rank_le p q h = cmp_gt p.rank q.rank (then_gt (nat_cmp p.rank q.rank) (ordering_then (nat_cmp p.fact q.fact) (nat_cmp p.member q.member)) h)
+
+pub waits_cmp : (ds : Dues) (q : Due) → waits ds q ≡ list_any (λ k. is_eq (due_cmp q k)) ds
+waits_cmp [] q = refl
+waits_cmp (d ∷ ds) q = rw (same_cmp q d, waits_cmp ds q) refl
+
+eq_turn : (a b : ℕ) → nat_eq a b ≡ nat_eq b a
+eq_turn a b = grind (arith, nat_tests)
+
+due_turn : (p q : Due) → due_same p q ≡ due_same q p
+due_turn p q = rw (eq_turn p.rank q.rank, eq_turn p.fact q.fact, eq_turn p.member q.member) refl
+
+cond_or : (b c : Bool) → cond b true c ≡ (b || c)
+cond_or true c = refl
+cond_or false c = refl
+
+-- an insert, by the set's own tests
+pub added : (old new : Dues) (due q : Due) → list_any (λ k. is_eq (due_cmp q k)) new ≡ cond (is_eq (due_cmp due q)) true (list_any (λ k. is_eq (due_cmp q k)) old) → waits new q ≡ (due_same q due || waits old q)
+added old new due q h = waits_cmp new q ∙ h ∙ cond_or (is_eq (due_cmp due q)) (list_any (λ k. is_eq (due_cmp q k)) old) ∙ ap (λ b. is_eq (due_cmp due q) || b) (sym (waits_cmp old q)) ∙ ap (λ b. b || waits old q) (sym (same_cmp due q) ∙ due_turn due q)
+
+pub lowest : (ds : Dues) (due : Due) → ((q : Due) → list_any (λ k. is_eq (due_cmp q k)) ds ≡ true → is_gt (due_cmp due q) ≡ false) → (q : Due) → waits ds q ≡ true → due.rank ≤ q.rank
+lowest ds due h q i = rank_le due q (h q (sym (waits_cmp ds q) ∙ i))

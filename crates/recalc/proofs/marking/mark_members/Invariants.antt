@@ -1,0 +1,12 @@
+use Rattle.std.proofs.Common.{◌≡◌, ◌||◌, drop}
+use Rattle.std.specs.List.{list_any}
+use Rattle.recalc.specs.Readers.{marks_at}
+use Rattle.recalc.specs.Waiting.{waits}
+use Rattle.recalc.specs.declared.work.Due.{Due}
+use Rattle.recalc.proofs.marking.mark_members.Given as goal
+
+abbrev pub invariant-loop-member : goal.invariant-loop-member
+invariant-loop-member l =
+    (q : Due)
+    → (waits l.work q || list_any (marks_at l.slot l.reader l.rank q) (drop l.member-index l.members))
+    ≡ (waits l.initial.work q || list_any (marks_at l.slot l.reader l.rank q) l.members)

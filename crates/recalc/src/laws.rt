@@ -1,0 +1,54 @@
+// The loop over the slots that wait, and what it leaves of a change of the answers. Each function's contract is its laws.
+ghost use Rattle.recalc.specs.BetweenAnswers.{AllIsDone, ChangesSpread, EditMarks, SpreadTouches};
+ghost use Rattle.recalc.specs.BetweenAnswers.{StandingOnce, TurnIsPlain, TurnKeepsResults};
+ghost use Rattle.recalc.specs.BetweenAnswers.{WeighsAtMostTouched};
+ghost use Rattle.recalc.specs.Laws.{DoneAreTouched, DoneWeighAll, DoneWeighLess, LowerSettle};
+ghost use Rattle.recalc.specs.Laws.{StartMarks, TurnMarks};
+ghost use Rattle.recalc.specs.Readers.{MarksFeed};
+ghost use Rattle.recalc.specs.Replacing.{EntryKeepsBefore, EntryWantsRoom};
+
+/// From the slots that a change touches by itself, turn by turn, exactly the touched ones are done.
+pub fn touched_slots_are_done()
+    ensures start { StartMarks }
+    ensures turn { TurnMarks }
+    ensures settled { LowerSettle }
+    ensures end { DoneAreTouched }
+{}
+
+/// What is done never weighs more than what is touched, and in the end it weighs the same.
+pub fn done_slots_weigh_no_more()
+    ensures less { DoneWeighLess }
+    ensures all { DoneWeighAll }
+{}
+
+/// A change of answers spreads so, to the slots that it touches.
+pub fn changes_of_answers_spread()
+    ensures spread { ChangesSpread }
+    ensures touches { SpreadTouches }
+    ensures once { StandingOnce }
+    ensures start { EditMarks }
+{}
+
+/// Each turn puts the new result of a slot.
+pub fn turns_give_new_results()
+    ensures plain { TurnIsPlain }
+    ensures kept { TurnKeepsResults }
+{}
+
+/// In the end what is done is what the change touches, so many slots, of this weight, and all results are new.
+pub fn a_change_of_answers_is_done()
+    ensures done { AllIsDone }
+    ensures most { WeighsAtMostTouched }
+{}
+
+/// With an entry for what each change of one cell replaced, the cells before are what they were, and
+/// room is wanted for those that were taken away alone.
+pub fn entries_put_back()
+    ensures before { EntryKeepsBefore }
+    ensures room { EntryWantsRoom }
+{}
+
+/// The readers of a slot's fact let those slots wait that stand and that it feeds.
+pub fn readers_let_fed_slots_wait()
+    ensures { MarksFeed }
+{}

@@ -1,0 +1,42 @@
+use Rattle.std.proofs.Common.{◌≡◌, ℕ, suc, ◌+◌, ◌-◌, ◌<◌, ◌∷◌, length, get_or, sym, ap, subst, ◌∙◌, arith}
+use Rattle.answers.specs.Meaning.{answered}
+use Rattle.dictionary.specs.Accepted.{accepted}
+use Rattle.dictionary.specs.Homes.{home}
+use Rattle.dictionary.specs.Reading.{slot}
+use Rattle.dictionary.specs.Slots.{members_of_home}
+use Rattle.save_file.specs.Cursors.{slots_from}
+use Rattle.save_file.specs.SavedText.{counted}
+use Rattle.save_file.proofs.CursorLaws.{next_fact, next_slot}
+use Rattle.save_file.proofs.cursor.Cursor.next.Goals as goal
+
+pub returns-then-self-members : goal.returns-then-self-members
+returns-then-self-members c =
+    let d = (accepted c.args.dict.now).tree in
+    let a = answered c.args.answers.now in
+    let done = c.loop-self.self.done in
+    let gone = c.loop-self.self.gone in
+    let count = length d.facts in
+    let members = c.members_at-members.result.now in
+    let m = get_or members gone 0 in
+    let one : suc done ≡ done + 1 = omega arith in
+    let more : suc gone ≡ gone + 1 = omega arith in
+    let low : done < count = subst (λ (n : ℕ). done < n) c.fact_count.ensures c.loop-self-test.true in
+    let at : members ≡ members_of_home a (home d (suc done)) = c.members_at-members.ensures ∙ ap (λ (n : ℕ). members_of_home a (home d n)) (sym one) in
+    c.loop-self.invariant
+    ∙ next_slot d a members gone done count low at c.if-self-members.true
+    ∙ ap (λ (n : ℕ). slot n m ∷ slots_from d a (suc gone) (counted (suc done) (count - done))) one
+    ∙ ap (λ (n : ℕ). slot (done + 1) m ∷ slots_from d a n (counted (suc done) (count - done))) more
+
+pub loop-self-preserved : goal.loop-self-preserved
+loop-self-preserved c =
+    let d = (accepted c.args.dict.now).tree in
+    let a = answered c.args.answers.now in
+    let done = c.loop-self.self.done in
+    let count = length d.facts in
+    let members = c.members_at-members.result.now in
+    let one : suc done ≡ done + 1 = omega arith in
+    let low : done < count = subst (λ (n : ℕ). done < n) c.fact_count.ensures c.loop-self-test.true in
+    let at : members ≡ members_of_home a (home d (suc done)) = c.members_at-members.ensures ∙ ap (λ (n : ℕ). members_of_home a (home d n)) (sym one) in
+    c.loop-self.invariant
+    ∙ next_fact d a members c.loop-self.self.gone done count low at c.if-self-members.false
+    ∙ ap (λ (n : ℕ). slots_from d a 0 (counted (suc n) (count - n))) one

@@ -1,0 +1,19 @@
+use Rattle.std.proofs.Common.{◌≤◌, length}
+use Rattle.std.specs.List.{flat_map}
+use Rattle.fg_io.specs.Sent.{Sent}
+use Rattle.script_lines.specs.Joined.{joined}
+use Rattle.answers.specs.Meaning.{answered}
+use Rattle.dictionary.specs.Accepted.{accepted}
+use Rattle.save_file.specs.Cursors.{slots_left}
+use Rattle.save_file.specs.SavedText.{entries, entry_lines}
+use Rattle.save_file.proofs.entries.put_entries.Given as goal
+
+abbrev pub invariant-loop-slot : goal.invariant-loop-slot
+invariant-loop-slot g l = record {
+  sent : Sent (g.K.Sink.taken l.fn.out) (g.K.Sink.taken l.out) (joined (entries l.side (accepted l.dict).tree (answered l.answers)))
+      (joined (flat_map (entry_lines l.side (accepted l.dict).tree (answered l.answers)) (slots_left (accepted l.dict).tree (answered l.answers) l.cursor)));
+  later : g.K.Sink.faults l.fn.out ≤ g.K.Sink.faults l.out;
+}
+
+abbrev pub decreases-loop-slot : goal.decreases-loop-slot
+decreases-loop-slot g l = length (slots_left (accepted l.dict).tree (answered l.answers) l.cursor)

@@ -1,0 +1,13 @@
+-- The members from here on are left to append, at most nine bytes each.
+use Rattle.std.proofs.Common.{◌≡◌, ◌+◌, ◌*◌, ◌≤◌, ◌++◌, length, drop, true}
+use Rattle.std.specs.List.{list_all}
+use Rattle.fact_values.specs.Members.{is_member}
+use Rattle.value_text.specs.MemberTexts.{printed_rest}
+use Rattle.save_file.proofs.lists.print_members.Given as goal
+
+abbrev pub invariant-loop-member : goal.invariant-loop-member
+invariant-loop-member l = record {
+  appended : l.out ++ printed_rest (drop l.member-index l.members) ≡ l.initial.out ++ printed_rest l.members;
+  short : length l.out ≤ length l.initial.out + 9 * l.member-index;
+  members : list_all is_member (drop l.member-index l.members) ≡ true;
+}

@@ -1,0 +1,23 @@
+use Rattle.std.proofs.Common.{List, ℕ, Option, sym, subst}
+use Rattle.script_lines.specs.Joined.{joined}
+use Rattle.answers.specs.Meaning.{answered}
+use Rattle.dictionary.specs.Accepted.{accepted, names_of}
+use Rattle.save_file.specs.SavedText.{list_lines_of}
+use Rattle.save_file.specs.Writing.{Wrote}
+use Rattle.save_file.proofs.EntryLaws.{list_slot, open_list, open_list_members}
+use Rattle.save_file.proofs.lists.put_if_open.Goals as goal
+
+pub put_list-requires-clause-collection : goal.put_list-requires-clause-collection
+put_list-requires-clause-collection g c =
+    let d = accepted c.args.dict.now in
+    list_slot (names_of c.args.dict.now.checks) d c.source-accepted.ensures.is_accepted c.args.fact
+    (open_list d.tree (answered c.args.answers.now) c.requires c.args.fact c.in-Some.members.now (sym c.in-Some.ensures))
+
+pub put_list-requires-clause-members : goal.put_list-requires-clause-members
+put_list-requires-clause-members g c =
+    open_list_members (accepted c.args.dict.now).tree (answered c.args.answers.now) c.requires c.args.fact c.in-Some.members.now (sym c.in-Some.ensures)
+
+pub returns-in-Some : goal.returns-in-Some
+returns-in-Some g c =
+    subst (λ (o : Option (List ℕ)). Wrote (g.K.Sink.taken c.args.out.now) (g.K.Sink.taken c.put_list.new.out) (g.K.Sink.faults c.args.out.now) (g.K.Sink.faults c.put_list.new.out) (joined (list_lines_of (accepted c.args.dict.now).tree c.args.fact o)) c.put_list.result)
+    c.in-Some.ensures c.put_list.ensures

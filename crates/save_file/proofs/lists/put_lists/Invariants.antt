@@ -1,0 +1,18 @@
+use Rattle.std.proofs.Common.{◌≤◌, ◌-◌, suc}
+use Rattle.std.specs.List.{flat_map}
+use Rattle.fg_io.specs.Sent.{Sent}
+use Rattle.script_lines.specs.Joined.{joined}
+use Rattle.answers.specs.Meaning.{answered}
+use Rattle.dictionary.specs.Accepted.{accepted}
+use Rattle.save_file.specs.SavedText.{counted, list_lines, lists}
+use Rattle.save_file.proofs.lists.put_lists.Given as goal
+
+abbrev pub invariant-loop-done : goal.invariant-loop-done
+invariant-loop-done g l = record {
+  sent : Sent (g.K.Sink.taken l.fn.out) (g.K.Sink.taken l.out) (joined (lists (accepted l.dict).tree (answered l.answers)))
+      (joined (flat_map (list_lines (accepted l.dict).tree (answered l.answers)) (counted (suc l.done) (l.count - l.done))));
+  later : g.K.Sink.faults l.fn.out ≤ g.K.Sink.faults l.out;
+}
+
+abbrev pub decreases-loop-done : goal.decreases-loop-done
+decreases-loop-done g l = l.count - l.done

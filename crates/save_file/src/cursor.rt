@@ -1,0 +1,66 @@
+// A cursor over the slots that stand.
+ghost use Rattle.std.specs.Prelude.{◌≡◌};
+ghost use Rattle.answers.specs.Meaning.{answered};
+ghost use Rattle.dict_tree.specs.Finding.{IsNumber};
+ghost use Rattle.dictionary.specs.Accepted.{accepted};
+ghost use Rattle.dictionary.specs.Homes.{home};
+ghost use Rattle.dictionary.specs.Slots.{members_of_home};
+ghost use Rattle.save_file.specs.Cursors.{first_left, slots_left};
+ghost use Rattle.save_file.specs.SavedText.{slots};
+
+use answers::Answers;
+use dictionary::Dictionary;
+use fact_values::Slot;
+
+/// Goes through the slots that stand, fact by fact, and of a fact in the order of the members.
+#[derive(Drop)]
+pub struct Cursor {
+    /// How many facts are done.
+    done: u32,
+    /// How many slots of the next fact are gone.
+    gone: usize,
+}
+
+// The members at which the fact has a slot: 0 for a fact that stands once.
+fn members_at<'a>(dict: &Dictionary, answers: &'a Answers, fact: u32) -> &'a [u32]
+    requires { IsNumber (accepted dict.now).tree.facts fact }
+    ensures { result.now ≡ members_of_home (answered answers.now) (home (accepted dict.now).tree fact) }
+{
+    let home = dict.home(fact);
+    if home == 0 {
+        return &[0];
+    }
+    match answers.members(home) {
+        None => &[],
+        Some(members) => members,
+    }
+}
+
+impl Cursor {
+    /// Before the first slot.
+    pub fn new(dict: &Dictionary, answers: &Answers) -> Cursor
+        ensures { slots_left (accepted dict.now).tree (answered answers.now) result ≡ slots (accepted dict.now).tree (answered answers.now) }
+    {
+        let _facts = dict.fact_count();
+        let _members = answers.next_number();
+        Cursor { done: 0, gone: 0 }
+    }
+
+    /// The next slot, behind which the cursor goes.
+    pub fn next(&mut self, dict: &Dictionary, answers: &Answers) -> Option<Slot>
+        ensures { slots_left (accepted dict.now).tree (answered answers.now) self.old ≡ first_left result (slots_left (accepted dict.now).tree (answered answers.now) self.new) }
+    {
+        while self.done < dict.fact_count() {
+            let fact = self.done + 1;
+            let members = members_at(dict, answers, fact);
+            if self.gone < members.len() {
+                let member = members[self.gone];
+                self.gone += 1;
+                return Some(Slot { fact, member });
+            }
+            self.done = fact;
+            self.gone = 0;
+        }
+        None
+    }
+}

@@ -1,0 +1,99 @@
+// Saves the answers of a session.
+ghost use Rattle.std.specs.Prelude.{◌≡◌, ◌++◌, ◌∷◌, [], List, ℕ, OnOk};
+ghost use Rattle.answers.specs.Meaning.{answered};
+ghost use Rattle.fg_io.specs.Outside.{HasCause};
+ghost use Rattle.fg_io.specs.Sent.{Sent};
+ghost use Rattle.dictionary.specs.Accepted.{accepted};
+ghost use Rattle.dictionary.specs.Fits.{AnswersFit};
+ghost use Rattle.answers.specs.declared.edit.Side.TheVariants.{Answer, Override};
+ghost use Rattle.script_lines.specs.Joined.{joined};
+ghost use Rattle.save_file.specs.SavedText.{end_line, entries, lists, next_line, saved, saved_lines};
+ghost use Rattle.save_file.specs.Writing.{Wrote};
+
+use crate::entries::put_entries;
+use crate::lists::put_lists;
+use crate::put::put;
+use answers::{Answers, Side};
+use dictionary::Dictionary;
+use fg_io::{Failed, Sink};
+use itoa::Buffer;
+use value_text::Line;
+
+// Puts the line of the next member's number.
+#[tactic(auto, using(value_text::proofs::Decimals::decimal_of_member))]
+fn put_next<K: Sink>(next: u32, out: &mut K) -> Result<(), Failed>
+    ensures { Wrote (K.taken out.old) (K.taken out.new) (K.faults out.old) (K.faults out.new) (next_line next ++ 10 ∷ []) result }
+{
+    let mut line = Line::new();
+    line.push(b"next ");
+    let mut buffer = Buffer::new();
+    line.push(buffer.format(next).as_bytes());
+    line.push(b"\n");
+    put(line.bytes(), out)
+}
+
+// Puts the overrides and the last line.
+fn put_overrides<K: Sink>(dict: &Dictionary, answers: &Answers, out: &mut K) -> Result<(), Failed>
+    requires { AnswersFit (accepted dict.now).tree (answered answers.now) }
+    ensures { Wrote (K.taken out.old) (K.taken out.new) (K.faults out.old) (K.faults out.new) (joined (entries Override (accepted dict.now).tree (answered answers.now) ++ end_line ∷ [])) result }
+{
+    match put_entries(dict, answers, Side::Override, out) {
+        Err(failed) => Err(failed),
+        Ok(()) => put(b"end\n", out),
+    }
+}
+
+// Puts the answers, and what stands behind them.
+fn put_answers<K: Sink>(dict: &Dictionary, answers: &Answers, out: &mut K) -> Result<(), Failed>
+    requires { AnswersFit (accepted dict.now).tree (answered answers.now) }
+    ensures { Wrote (K.taken out.old) (K.taken out.new) (K.faults out.old) (K.faults out.new) (joined (entries Answer (accepted dict.now).tree (answered answers.now) ++ (entries Override (accepted dict.now).tree (answered answers.now) ++ end_line ∷ []))) result }
+{
+    match put_entries(dict, answers, Side::Answer, out) {
+        Err(failed) => Err(failed),
+        Ok(()) => put_overrides(dict, answers, out),
+    }
+}
+
+// Puts the lists, and what stands behind them.
+fn put_content<K: Sink>(dict: &Dictionary, answers: &Answers, out: &mut K) -> Result<(), Failed>
+    requires { AnswersFit (accepted dict.now).tree (answered answers.now) }
+    ensures { Wrote (K.taken out.old) (K.taken out.new) (K.faults out.old) (K.faults out.new) (joined (lists (accepted dict.now).tree (answered answers.now) ++ (entries Answer (accepted dict.now).tree (answered answers.now) ++ (entries Override (accepted dict.now).tree (answered answers.now) ++ end_line ∷ [])))) result }
+{
+    match put_lists(dict, answers, out) {
+        Err(failed) => Err(failed),
+        Ok(()) => put_answers(dict, answers, out),
+    }
+}
+
+// Puts the next number, and what stands behind it.
+fn put_numbered<K: Sink>(dict: &Dictionary, answers: &Answers, out: &mut K) -> Result<(), Failed>
+    requires { AnswersFit (accepted dict.now).tree (answered answers.now) }
+    ensures { Wrote (K.taken out.old) (K.taken out.new) (K.faults out.old) (K.faults out.new) (joined (next_line (answered answers.now).next ∷ (lists (accepted dict.now).tree (answered answers.now) ++ (entries Answer (accepted dict.now).tree (answered answers.now) ++ (entries Override (accepted dict.now).tree (answered answers.now) ++ end_line ∷ []))))) result }
+{
+    match put_next(answers.next_number(), out) {
+        Err(failed) => Err(failed),
+        Ok(()) => put_content(dict, answers, out),
+    }
+}
+
+// Puts the saved text.
+fn put_saved<K: Sink>(dict: &Dictionary, answers: &Answers, out: &mut K) -> Result<(), Failed>
+    requires { AnswersFit (accepted dict.now).tree (answered answers.now) }
+    ensures { Wrote (K.taken out.old) (K.taken out.new) (K.faults out.old) (K.faults out.new) (joined (saved_lines (accepted dict.now).tree (answered answers.now))) result }
+{
+    match put(b"saved 1\n", out) {
+        Err(failed) => Err(failed),
+        Ok(()) => put_numbered(dict, answers, out),
+    }
+}
+
+/// Puts the saved text of answers that fit the dictionary, line after line; a line may be put in several pieces. After a
+/// failure a part of the text was taken. It takes no memory.
+pub fn save<K: Sink>(dict: &Dictionary, answers: &Answers, out: &mut K) -> Result<(), Failed>
+    requires { AnswersFit (accepted dict.now).tree (answered answers.now) }
+    ensures whole { OnOk result (Sent (K.taken out.old) (K.taken out.new) (saved (accepted dict.now).tree (answered answers.now)) []) }
+    ensures part { (rest : List ℕ) × Sent (K.taken out.old) (K.taken out.new) (saved (accepted dict.now).tree (answered answers.now)) rest }
+    ensures cause { HasCause (K.faults out.old) (K.faults out.new) result }
+{
+    put_saved(dict, answers, out)
+}

@@ -1,0 +1,2 @@
+mod GivenFits
+pub mod GivenLists

@@ -1,0 +1,151 @@
+-- Where each fact has what is told of it, over values of lower rank, plain evaluation has all of it.
+use Rattle.std.proofs.Common.{◌≡◌, ℕ, zero, suc, ◌+◌, ◌<◌, Bool, true, false, ◌&&◌, IsTrue, nat_lt, pos, List, [], ◌∷◌, map, Option, Some, None, Ok, slice_get, refl, sym, ap, ◌∙◌, subst, arith}
+use Rattle.std.specs.Prelude.{count_by, is_some, unwrap_or, if◌then◌else◌}
+use Rattle.std.specs.List.{list_all}
+use Rattle.std.proofs.lemmas.Bool.Decides.{nat_tests}
+use Rattle.common_lemmas.proofs.Bools.{both}
+use Rattle.fact_paths.specs.declared.use_path.UsePath.{UsePath}
+use Rattle.fact_paths.specs.declared.use_path.UsePath.TheVariants.{Global, Sibling, Inner, Each, Through, SiblingThrough}
+use Rattle.fact_values.specs.declared.slot.Slot.{Slot}
+use Rattle.fact_values.specs.declared.value.Value.{Value}
+use Rattle.fact_values.specs.declared.value.Value.TheVariants.{Int, Members}
+use Rattle.dict_tree.specs.declared.operators.ReadOp.{ReadOp}
+use Rattle.dict_tree.specs.declared.operators.ReadOp.TheVariants as read_op
+use Rattle.dict_tree.specs.declared.targets.Targets.{Targets}
+use Rattle.dict_tree.specs.Tree.{Source}
+use Rattle.dict_tree.specs.Targets.{targets}
+use Rattle.dict_tree.specs.Facts.{Fact}
+use Rattle.dict_tree.specs.Finding.{fact_at}
+use Rattle.three_state.specs.declared.res.Res.{Res}
+use Rattle.three_state.specs.declared.res.Res.TheVariants.{Complete, Incomplete}
+use Rattle.three_state.specs.Results.{count_of, fields_in, members_in, truth}
+use Rattle.evaluation.specs.Sure.{IsKnown}
+use Rattle.evaluation.proofs.Sureness.{map_sure, strict_sure, sure}
+use Rattle.answers.specs.Answered.{Answered}
+use Rattle.dictionary.specs.Accepted.{Accepted, IsAccepted}
+use Rattle.dictionary.specs.Plain.{HasKnown, answer_result, at_fact, body, expression, main_result, or_override, or_placeholder, plain, plain_step, rank, slot_result}
+use Rattle.dictionary.specs.Reading.{Look, Place, dependency, outermost, read_by, read_result, result_at, slot, source_result}
+use Rattle.dictionary.specs.Slots.{stands, stands_of}
+use Rattle.dictionary.specs.Homes.{home}
+use Rattle.dictionary.proofs.PlainLaws.{joined_by_rank}
+use Rattle.tax_2023.proofs.Told.{AllHaveTold, HasBody, HasTold, Told, is_members, known, knows_by, knows_member, knows_path, knows_slot, knows_source, list_of_path, list_told, member_read, member_told, told_at, value_by, value_in, value_of_path}
+
+-- ---- the slots of which something is told
+
+abbrev value_if : Bool → Option (ℕ → Value) → ℕ → Option Value
+value_if false o m = None
+value_if true None m = None
+value_if true (Some f) m = Some (f m)
+
+abbrev pub told_slot : Accepted → Answered → Told → Slot → Option Value
+told_slot d a told s = value_if (stands d.tree a s) (told s.fact) s.member
+
+told_if : (b : Bool) (o : Option (ℕ → Value)) (m : ℕ) → IsTrue (is_some o) → IsTrue b → value_if b o m ≡ Some (value_in o m)
+told_if true (Some f) m h k = refl
+told_if true None m h k = absurd cc
+told_if false o m h k = absurd cc
+
+under : (r n : ℕ) → IsTrue (nat_lt r n) → r < n
+under r n h = grind (arith, nat_tests)
+
+module _ (d : Accepted) (a : Answered) (told : Told) (n : ℕ) (look : Look) (has : HasKnown d (told_slot d a told) n look) where
+  read_told : (o : Option ℕ) (m : ℕ) → IsTrue (knows_slot d a told n o m) → result_at look o m ≡ Complete (told_at told o m)
+  read_told None m h = absurd cc
+  read_told (Some f) m h =
+      let p = both (is_some (told f)) (nat_lt (rank d f) n && stands d.tree a (slot f m)) h in
+      let q = both (nat_lt (rank d f) n) (stands d.tree a (slot f m)) p.1 in
+      ap (λ r. unwrap_or r Incomplete) (has (slot f m) (value_in (told f) m) (told_if (stands d.tree a (slot f m)) (told f) m p.0 q.1) (under (rank d f) n q.0))
+
+  read_list : (o : Option ℕ) → IsTrue (knows_slot d a told n o 0 && is_members (told_at told o 0)) → result_at look o 0 ≡ Complete (Members (members_in (told_at told o 0)))
+  read_list o h =
+      let p = both (knows_slot d a told n o 0) (is_members (told_at told o 0)) h in
+      read_told o 0 p.0 ∙ ap Complete (members (told_at told o 0) p.1)
+    where
+      members : (v : Value) → IsTrue (is_members v) → v ≡ Members (members_in v)
+      members (Members ms) k = refl
+      members _ k = absurd cc
+
+  counted : (source : Res) (v : Value) (f : ℕ → Res) (g : ℕ → Value) (sure : ℕ → Bool) → source ≡ Complete v → ((m : ℕ) → IsTrue (sure m) → f m ≡ Complete (g m)) → IsTrue (list_all sure (members_in v))
+      → count_of source f ≡ Complete (Int (pos (count_by truth (map g (members_in v)))))
+  counted source v f g sure e h k =
+      rw (e, map_sure f g sure h (members_in v) k) (strict_sure (λ vs. Ok (Int (pos (count_by truth (fields_in vs))))) (v ∷ map g (members_in v)) refl)
+
+  read_member : (t : Targets) (at : Place) (path : UsePath) → IsTrue (knows_member d a told n t (member_read at path)) → dependency look t at path ≡ Complete (member_told told t (member_read at path))
+  read_member t at (Global k) h = read_told t.first 0 h
+  read_member t at (Sibling k) h = read_told t.first at.own h
+  read_member t at (Inner k) h = read_told t.first at.inner h
+  read_member t at (Each k l) h = absurd cc
+  read_member t at (Through k l) h = absurd cc
+  read_member t at (SiblingThrough k l) h = absurd cc
+
+  read_is : (op : ReadOp) (t : Targets) (at : Place) (path : UsePath) → IsTrue (knows_by op d a told n t at path) → read_by op d.tree look t at path ≡ Complete (value_by op told t at path)
+  read_is read_op.Dependency t at path h = read_member t at path h
+  read_is read_op.Count t at path h =
+      let p = both (knows_slot d a told n t.first 0) (list_all (knows_slot d a told n t.second) (list_told told t)) h in
+      counted (result_at look t.first 0) (told_at told t.first 0) (result_at look t.second) (told_at told t.second) (knows_slot d a told n t.second) (read_told t.first 0 p.0) (read_told t.second) p.1
+  read_is read_op.IsComplete t at path h = absurd cc
+  read_is read_op.CollectionSize t at path h = absurd cc
+  read_is read_op.CollectionSum t at path h = absurd cc
+
+  path_is : (fact : ℕ) (at : Place) (op : ReadOp) (path : Option UsePath) → IsTrue (knows_path d a told n fact at op path) → read_result d.tree look fact at op path ≡ Complete (value_of_path d told fact at op path)
+  path_is fact at op None h = absurd cc
+  path_is fact at op (Some path) h = read_is op (targets d.tree fact at.base path) at path h
+
+  source_is : (fact : ℕ) (at : Place) (path : Option UsePath) → IsTrue (knows_source d a told n fact at path) → source_result d.tree look fact at path ≡ Complete (Members (list_of_path d told fact at path))
+  source_is fact at None h = absurd cc
+  source_is fact at (Some path) h = read_list (targets d.tree fact at.base path).first h
+
+-- what is known in an expression of a fact is so
+pub all_known : (d : Accepted) (a : Answered) (told : Told) (fact : ℕ) (look : Look) → HasKnown d (told_slot d a told) (rank d fact) look → IsKnown (known d a told look fact)
+all_known d a told fact look has = record {
+  reads = λ at r h. path_is d a told (rank d fact) look has fact at r.0 r.1.path h;
+  source = λ at u h. source_is d a told (rank d fact) look has fact at u.path h;
+}
+
+-- ---- one slot
+
+with_none : (d : Accepted) (look : Look) (s : Slot) (o : Option Source) (r : Res) → o ≡ None → or_placeholder d.tree look s o r ≡ r
+with_none d look s o r e = rw e refl
+
+step : (d : Accepted) (a : Answered) (told : Told) (s : Slot) (f : Fact) (v : Value) (look : Look) → HasKnown d (told_slot d a told) (rank d s.fact) look → (main : Option Source) → HasBody d a told f s v main → main_result d.tree a look s f.stated main ≡ Complete v
+step d a told s f v look has None h = ap answer_result h
+step d a told s f v look has (Some t) h =
+    let w = h.1 look in
+    ap (λ o. or_override o (expression d.tree look s t)) h.0 ∙ (sure (known d a told look s.fact) (all_known d a told s.fact look has) t (outermost s.member) w.0 ∙ ap Complete w.1)
+
+-- the lemma of a fact, by its number
+found : (d : Accepted) (a : Answered) (told : Told) (n : ℕ) (fs : List Fact) → AllHaveTold d a told n fs → (i j : ℕ) → j ≡ n + i → (f : Fact) → slice_get fs i ≡ Some f → HasTold d a told j f (told j)
+found d a told n [] h i j e f is = absurd cc
+found d a told n (g ∷ fs) h zero j e f is =
+    let same : j ≡ n = omega arith in
+    let one : g ≡ f = cc in
+    subst (λ k. HasTold d a told k f (told k)) (sym same) (subst (λ x. HasTold d a told n x (told n)) one h.0)
+found d a told n (g ∷ fs) h (suc i) j e f is = found d a told (suc n) fs h.1 i j (omega arith) f is
+
+found_at : (d : Accepted) (a : Answered) (told : Told) (fs : List Fact) → AllHaveTold d a told 1 fs → (j : ℕ) (f : Fact) → fact_at fs j ≡ Some f → HasTold d a told j f (told j)
+found_at d a told fs h zero f is = absurd cc
+found_at d a told fs h (suc i) f is = found d a told 1 fs h i (suc i) (omega arith) f is
+
+value_told : (o : Option (ℕ → Value)) (b : Bool) (m : ℕ) (v : Value) → value_if b o m ≡ Some v → IsTrue b × ((f : ℕ → Value) × (o ≡ Some f) × (f m ≡ v))
+value_told None true m v e = absurd cc
+value_told (Some f) true m v e = (refl, (f, refl, cc))
+value_told o false m v e = absurd cc
+
+fact_there : (a : Answered) (h m : ℕ) (o : Option Fact) → IsTrue (stands_of a h m o) → (f : Fact) × (o ≡ Some f)
+fact_there a h m None k = absurd cc
+fact_there a h m (Some f) k = (f, refl)
+
+in_step : (o : Option Fact) (f : Fact) (b : Bool) (result : Fact → Res) (r : Res) → o ≡ Some f → IsTrue b → result f ≡ r → at_fact o None (λ g. if b then Some (result g) else None) ≡ Some r
+in_step o f b result r e h k = rw (e, h, k) refl
+
+pub joined : (names : List (List ℕ)) (d : Accepted) → IsAccepted names d → (a : Answered) (told : Told) → AllHaveTold d a told 1 d.tree.facts → (s : Slot) (v : Value) → told_slot d a told s ≡ Some v → plain d a s ≡ Some (Complete v)
+joined names d accepted a told all = joined_by_rank names d accepted a (told_slot d a told) one
+  where
+    one : (s : Slot) (v : Value) → told_slot d a told s ≡ Some v → (look : Look) → HasKnown d (told_slot d a told) (rank d s.fact) look → plain_step d a look s ≡ Some (Complete v)
+    one s v e look has =
+        let t = value_told (told s.fact) (stands d.tree a s) s.member v e in
+        let there = fact_there a (home d.tree s.fact) s.member (fact_at d.tree.facts s.fact) t.0 in
+        let f = there.0 in
+        let its = subst (HasTold d a told s.fact f) t.1.1 (found_at d a told d.tree.facts all s.fact f there.1) in
+        in_step (fact_at d.tree.facts s.fact) f (stands d.tree a s) (slot_result d.tree a look s) (Complete v) there.1 t.0
+        (with_none d look s f.placeholder (main_result d.tree a look s f.stated (body f)) its.0 ∙ (step d a told s f (t.1.0 s.member) look has (body f) (its.1 s.member t.0) ∙ ap Complete t.1.2))

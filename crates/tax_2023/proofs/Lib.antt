@@ -1,0 +1,15 @@
+pub mod Ages
+pub mod Complete
+pub mod Facts
+mod HouseholdExamples
+pub mod Join
+pub mod Money
+pub mod NoFault
+pub mod Persons
+pub mod SourceLaws
+pub mod Spells
+pub mod TableLaw
+pub mod Told
+pub mod Values
+pub mod YearDictionary
+pub mod YearLaw

@@ -1,0 +1,41 @@
+-- The dictionary of a year: its ranks, and what its facts are worth.
+use Rattle.std.proofs.Common.{ℕ, IsTrue, List, [], ◌∷◌, refl}
+use Rattle.fact_values.specs.declared.value.Value.{Value}
+use Rattle.dict_tree.specs.Tree.{Source}
+use Rattle.dict_tree.specs.Dictionary.{Dictionary as Tree}
+use Rattle.dict_types.specs.TypedParts.{TypedDictionary}
+use Rattle.dict_order.specs.MentionGraph.{mention_graph}
+use Rattle.dict_order.specs.Ranks.{are_ranks}
+use Rattle.answers.specs.Answered.{Answered}
+use Rattle.dictionary.specs.Accepted.{Accepted}
+use Rattle.dictionary.specs.Reading.{slot}
+use Rattle.written_facts.specs.Figures.{Named}
+use Rattle.tax_2023.specs.Household.{Household}
+use Rattle.tax_2023.specs.Years.{Year}
+use Rattle.tax_2023.specs.Figures.{figures}
+use Rattle.tax_2023.specs.Facts.{dictionary}
+use Rattle.tax_2023.proofs.Told.{IsWorth}
+use Rattle.tax_2023.proofs.Values.{person, told}
+
+abbrev pub ranks : List ℕ
+ranks =
+    0 ∷ 0 ∷ 0 ∷ 0 ∷ 0 ∷ 0 ∷ 0 ∷ 0 ∷ 0 ∷ 0 ∷ 0 ∷ 0 ∷ 0 ∷ 0 ∷ 0 ∷ 0
+    ∷ 1 ∷ 1 ∷ 2 ∷ 3 ∷ 3 ∷ 2 ∷ 4 ∷ 1 ∷ 5
+    ∷ 0 ∷ 0 ∷ 0 ∷ 0 ∷ 0 ∷ 0 ∷ 0 ∷ 0 ∷ 0 ∷ 0 ∷ 0
+    ∷ 1 ∷ 2 ∷ 3 ∷ 4 ∷ 5
+    ∷ 6 ∷ 6 ∷ 4 ∷ 6
+    ∷ []
+
+pub ranks_are : (fs : List Named) → IsTrue (are_ranks (mention_graph (dictionary fs)) ranks)
+ranks_are fs = refl
+
+abbrev pub parts : Tree → TypedDictionary → List ℕ → Accepted
+parts tree typed ranks = record { tree = tree; typed = typed; ranks = ranks }
+
+-- the dictionary of a year, with any types
+abbrev pub of_year : Year → TypedDictionary → Accepted
+of_year y t = parts (dictionary (figures y)) t ranks
+
+-- over answers and a household, the expression of the fact with number n is worth the value at a member
+abbrev pub Worth : Year → TypedDictionary → Answered → Household → ℕ → ℕ → Value → Source → Type 0
+Worth y t a h n m v e = IsWorth (of_year y t) a (told y h (person a)) (slot n m) v e

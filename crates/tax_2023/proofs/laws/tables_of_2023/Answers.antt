@@ -1,0 +1,13 @@
+use Rattle.tax_2023.proofs.Complete.{household_is_there}
+use Rattle.tax_2023.proofs.TableLaw.{statuses_are_named, tables_hold_2023}
+use Rattle.tax_2023.specs.Years.{tables_2023}
+use Rattle.tax_2023.proofs.laws.tables_of_2023.Goals as goal
+
+pub returns-clause-tables : goal.returns-clause-tables
+returns-clause-tables c = tables_hold_2023
+
+pub returns-clause-names : goal.returns-clause-names
+returns-clause-names c = statuses_are_named tables_2023
+
+pub returns-clause-households : goal.returns-clause-households
+returns-clause-households c = household_is_there tables_2023

@@ -1,0 +1,135 @@
+// The source of the dictionary of each year.
+ghost use Rattle.std.specs.Prelude.{◌≡◌, List, IfOk, OnOk};
+ghost use Rattle.dict_tree.specs.Dictionary.{dictionary_view};
+ghost use Rattle.written_facts.specs.Figures.{Named, figures_view};
+ghost use Rattle.written_facts.specs.Rows.{rows_view};
+ghost use Rattle.tax_2023.specs.Facts.{at_start, counts, dictionary, filed, filer, filing_statuses, persons, tests, with_filer, with_persons, with_return, with_tests};
+ghost use Rattle.tax_2023.specs.Figures.{figures};
+ghost use Rattle.tax_2023.specs.Years.{tables_2023, tables_2024};
+
+use crate::figures::{FIGURES_2023, FIGURES_2024};
+use crate::rows::{COUNTS, DEPENDENTS, FILER, FILING_STATUSES, RETURN, TESTS};
+use dict_tree::DictSource;
+use fact_values::NoMemory;
+use std::alloc::Global;
+use value_text::EnumLists;
+use written_facts::{Figure, Row, add_options, push_rows};
+
+// ---- the rows write these facts, with any figures
+
+fn filer_rows() -> &'static [Row<'static>]
+    ensures { (fs : List Named) → rows_view fs result.now ≡ filer }
+{
+    FILER
+}
+
+fn return_rows() -> &'static [Row<'static>]
+    ensures { (fs : List Named) → rows_view fs result.now ≡ filed fs }
+{
+    RETURN
+}
+
+fn dependent_rows() -> &'static [Row<'static>]
+    ensures { (fs : List Named) → rows_view fs result.now ≡ persons }
+{
+    DEPENDENTS
+}
+
+fn test_rows() -> &'static [Row<'static>]
+    ensures { (fs : List Named) → rows_view fs result.now ≡ tests fs }
+{
+    TESTS
+}
+
+fn count_rows() -> &'static [Row<'static>]
+    ensures { (fs : List Named) → rows_view fs result.now ≡ counts }
+{
+    COUNTS
+}
+
+// ---- the source takes them, group by group
+
+fn add_filer(alloc: Global, figures: &[Figure<'_>], source: &mut DictSource) -> Result<(), NoMemory>
+    requires { dictionary_view source.old ≡ at_start }
+    ensures { OnOk result (dictionary_view source.new ≡ with_filer) }
+{
+    push_rows(alloc, figures, filer_rows(), source)
+}
+
+fn add_return(
+    alloc: Global,
+    figures: &[Figure<'_>],
+    source: &mut DictSource,
+) -> Result<(), NoMemory>
+    requires { dictionary_view source.old ≡ with_filer }
+    ensures { OnOk result (dictionary_view source.new ≡ with_return (figures_view figures.now)) }
+{
+    push_rows(alloc, figures, return_rows(), source)
+}
+
+fn add_dependents(
+    alloc: Global,
+    figures: &[Figure<'_>],
+    source: &mut DictSource,
+) -> Result<(), NoMemory>
+    requires { dictionary_view source.old ≡ with_return (figures_view figures.now) }
+    ensures { OnOk result (dictionary_view source.new ≡ with_persons (figures_view figures.now)) }
+{
+    push_rows(alloc, figures, dependent_rows(), source)
+}
+
+fn add_tests(alloc: Global, figures: &[Figure<'_>], source: &mut DictSource) -> Result<(), NoMemory>
+    requires { dictionary_view source.old ≡ with_persons (figures_view figures.now) }
+    ensures { OnOk result (dictionary_view source.new ≡ with_tests (figures_view figures.now)) }
+{
+    push_rows(alloc, figures, test_rows(), source)
+}
+
+fn add_counts(
+    alloc: Global,
+    figures: &[Figure<'_>],
+    source: &mut DictSource,
+) -> Result<(), NoMemory>
+    requires { dictionary_view source.old ≡ with_tests (figures_view figures.now) }
+    ensures { OnOk result (dictionary_view source.new ≡ dictionary (figures_view figures.now)) }
+{
+    push_rows(alloc, figures, count_rows(), source)
+}
+
+// ---- the source
+
+// The list of the filing statuses.
+fn options(alloc: Global) -> Result<EnumLists, NoMemory>
+    ensures { IfOk result (λ lists. lists ≡ filing_statuses) }
+{
+    let mut lists = EnumLists::new(alloc);
+    add_options(alloc, "filingStatus", &FILING_STATUSES, &mut lists)?;
+    Ok(lists)
+}
+
+// The facts, with the figures of a year.
+fn source(alloc: Global, figures: &[Figure<'_>]) -> Result<DictSource, NoMemory>
+    ensures { IfOk result (λ source. dictionary_view source ≡ dictionary (figures_view figures.now)) }
+{
+    let mut source = DictSource::new(alloc, options(alloc)?);
+    add_filer(alloc, figures, &mut source)?;
+    add_return(alloc, figures, &mut source)?;
+    add_dependents(alloc, figures, &mut source)?;
+    add_tests(alloc, figures, &mut source)?;
+    add_counts(alloc, figures, &mut source)?;
+    Ok(source)
+}
+
+/// The 45 facts of 2023, in order.
+pub fn source_2023(alloc: Global) -> Result<DictSource, NoMemory>
+    ensures { IfOk result (λ source. dictionary_view source ≡ dictionary (figures tables_2023)) }
+{
+    source(alloc, &FIGURES_2023)
+}
+
+/// The 45 facts of 2024, in order.
+pub fn source_2024(alloc: Global) -> Result<DictSource, NoMemory>
+    ensures { IfOk result (λ source. dictionary_view source ≡ dictionary (figures tables_2024)) }
+{
+    source(alloc, &FIGURES_2024)
+}

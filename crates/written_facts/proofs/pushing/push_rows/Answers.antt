@@ -1,0 +1,39 @@
+use Rattle.std.proofs.Common.{◌≡◌, ◌+◌, ℕ, IsTrue, List, ◌∷◌, drop, sym, ap, ◌∙◌, subst, add-one}
+use Rattle.dict_tree.specs.Dictionary.{Dictionary, dictionary_view, with_fact}
+use Rattle.dict_tree.specs.Facts.{Fact, fact_view}
+use Rattle.dict_tree.proofs.FindingLaws.{drop-view}
+use Rattle.written_facts.specs.Figures.{figures_view}
+use Rattle.written_facts.specs.Rows.{row_view, rows_view}
+use Rattle.written_facts.specs.Taking.{takes, takes_all, with_facts}
+use Rattle.written_facts.proofs.Taken.{first_taken, one_more, rest_taken, taken_name}
+use Rattle.written_facts.proofs.pushing.push_rows.Goals as goal
+
+pub fact_of-requires : goal.fact_of-requires
+fact_of-requires c =
+    let i = c.loop-row.row-index in
+    let views = rows_view (figures_view c.args.figures.now) c.args.rows.now in
+    let left = drop-view (row_view (figures_view c.args.figures.now)) c.args.rows.now i (i + 1) c.row-item.result c.loop-row-test.true c.row-item.is (add-one i) in
+    let f = row_view (figures_view c.args.figures.now) c.row-item.result in
+    taken_name (dictionary_view c.loop-row.source) f (first_taken (dictionary_view c.loop-row.source) f (drop (i + 1) views) (drop i views) left c.loop-row.invariant.taken)
+
+pub push-requires : goal.push-requires
+push-requires c =
+    let i = c.loop-row.row-index in
+    let views = rows_view (figures_view c.args.figures.now) c.args.rows.now in
+    let left = drop-view (row_view (figures_view c.args.figures.now)) c.args.rows.now i (i + 1) c.row-item.result c.loop-row-test.true c.row-item.is (add-one i) in
+    let f = row_view (figures_view c.args.figures.now) c.row-item.result in
+    subst (λ (g : Fact). IsTrue (takes (dictionary_view c.loop-row.source) g)) (sym c.in_ok-fact.ensures)
+    (first_taken (dictionary_view c.loop-row.source) f (drop (i + 1) views) (drop i views) left c.loop-row.invariant.taken)
+
+pub loop-row-preserved : goal.loop-row-preserved
+loop-row-preserved c =
+    let i = c.loop-row.row-index in
+    let views = rows_view (figures_view c.args.figures.now) c.args.rows.now in
+    let left = drop-view (row_view (figures_view c.args.figures.now)) c.args.rows.now i (i + 1) c.row-item.result c.loop-row-test.true c.row-item.is (add-one i) in
+    let f = row_view (figures_view c.args.figures.now) c.row-item.result in
+    let d = dictionary_view c.loop-row.source in
+    let now : dictionary_view c.push.new.source ≡ with_fact d f = c.in_ok-push.ensures ∙ ap (with_fact d) c.in_ok-fact.ensures in
+    record {
+      taken = subst (λ (e : Dictionary). IsTrue (takes_all e (drop (i + 1) views))) (sym now) (rest_taken d f (drop (i + 1) views) (drop i views) left c.loop-row.invariant.taken);
+      all = ap (λ (e : Dictionary). with_facts e (drop (i + 1) views)) now ∙ (sym (one_more d f (drop (i + 1) views) (drop i views) left) ∙ c.loop-row.invariant.all);
+    }

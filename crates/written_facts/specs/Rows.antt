@@ -1,0 +1,57 @@
+-- The fact that a row writes.
+use Rattle.std.specs.Prelude.{ℕ, List, [], ◌∷◌, map, Option, Some, None}
+use Rattle.fact_paths.specs.Reading.{fact_path_of}
+use Rattle.fact_values.specs.declared.fact_type.FactType.TheVariants as types
+use Rattle.dict_tree.specs.Tree.{Source}
+use Rattle.dict_tree.specs.Reading.{use_of}
+use Rattle.dict_tree.specs.Facts.{Bound, Fact, Stated, enum_of, item_of, least, list_of, scalar, writable_list}
+use Rattle.written_facts.specs.Figures.{Named}
+use Rattle.written_facts.specs.Forms.{form_view}
+use Rattle.written_facts.specs.declared.row.Kind.{Kind}
+use Rattle.written_facts.specs.declared.row.Kind.TheVariants as kinds
+use Rattle.written_facts.specs.declared.row.Row.{Row}
+use Rattle.written_facts.specs.declared.row.Row.TheVariants as rows
+
+abbrev pub kind_view : Kind → Stated
+kind_view kinds.Boolean = scalar types.Boolean
+kind_view kinds.Int = scalar types.Int
+kind_view kinds.Dollar = scalar types.Dollar
+kind_view kinds.Rational = scalar types.Rational
+kind_view kinds.Day = scalar types.Day
+kind_view kinds.Text = scalar types.Text
+kind_view (kinds.Enum name) = enum_of name.now
+kind_view kinds.Collection = writable_list
+kind_view (kinds.ListOf path) = list_of (use_of path.now)
+kind_view (kinds.ItemOf path) = item_of (use_of path.now)
+
+-- a fact with this path and type, these limits, and this expression where it follows from others
+abbrev pub fact : List ℕ → Stated → List Bound → Option Source → Fact
+fact path stated limits main = record {
+  path_text = path;
+  path = fact_path_of path;
+  stated = stated;
+  limits = limits;
+  main = main;
+  conditional = None;
+  placeholder = None;
+}
+
+-- a person answers it
+abbrev pub asked : List ℕ → Stated → Fact
+asked path stated = fact path stated [] None
+
+-- a person answers it with this value or a greater one
+abbrev pub asked_from : List ℕ → Stated → List ℕ → Fact
+asked_from path stated text = fact path stated (least text ∷ []) None
+
+-- it follows from others
+abbrev pub derived : List ℕ → Stated → Source → Fact
+derived path stated main = fact path stated [] (Some main)
+
+abbrev pub row_view : List Named → Row → Fact
+row_view fs (rows.Asked path kind) = asked path.now (kind_view kind)
+row_view fs (rows.AskedFrom path kind text) = asked_from path.now (kind_view kind) text.now
+row_view fs (rows.Derived path kind form) = derived path.now (kind_view kind) (form_view fs form)
+
+abbrev pub rows_view : List Named → List Row → List Fact
+rows_view fs rs = map (row_view fs) rs

@@ -1,0 +1,17 @@
+//! The facts of a dictionary written as rows: constants of the program, of which one function makes a source.
+#![tactic(auto)]
+
+mod building;
+mod figure;
+mod form;
+mod naming;
+mod pushing;
+mod row;
+mod stating;
+
+pub use building::build;
+pub use figure::{Figure, text_of};
+pub use form::{Fixed, Form, When};
+pub use naming::add_options;
+pub use pushing::push_rows;
+pub use row::{Kind, Row};
