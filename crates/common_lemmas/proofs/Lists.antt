@@ -1,8 +1,9 @@
 -- Elements of lists by their place, and tests of them.
-use Rattle.std.proofs.Common.{◌≡◌, ℕ, zero, suc, ◌≤◌, Bool, true, false, List, [], ◌∷◌, ◌++◌, Some, length, refl, ap, ◌∙◌, subst, append_assoc, arith}
+use Rattle.std.proofs.Common.{◌≡◌, ℕ, zero, suc, ◌≤◌, Bool, true, false, ◌&&◌, IsTrue, List, [], ◌∷◌, ◌++◌, Some, filter, length, refl, sym, ap, ◌∙◌, subst, append_assoc, arith}
 use Rattle.std.specs.Prelude.{nat_eq, ◌==◌, ◌||◌, if◌then◌else◌}
-use Rattle.std.specs.List.{All, list_any, slice_get}
+use Rattle.std.specs.List.{All, list_all, list_any, slice_get}
 use Rattle.std.proofs.lemmas.List.Elements.{All-head, All-tail}
+use Rattle.common_lemmas.proofs.Bools.{and_assoc, both}
 use Rattle.common_lemmas.proofs.Numbers.{nat_eq-comm}
 
 -- what holds of all holds of the one at a place
@@ -25,3 +26,17 @@ any_number n (x ∷ xs) = ap (λ b. b || list_any (λ other. other == n) xs) (na
 pub kept_one : {X : Type 0} (b : Bool) (xs : List X) (x : X) (ys : List X) → (if b then xs ++ x ∷ [] else xs) ++ ys ≡ xs ++ (if b then x ∷ ys else ys)
 kept_one true xs x ys = append_assoc xs (x ∷ []) ys
 kept_one false xs x ys = refl
+
+-- ---- tests of all elements
+
+pub all_append : {X : Type 0} (test : X → Bool) (xs ys : List X) → list_all test (xs ++ ys) ≡ (list_all test xs && list_all test ys)
+all_append test [] ys = refl
+all_append test (x ∷ xs) ys = rw (all_append test xs ys) (sym (and_assoc (test x) (list_all test xs) (list_all test ys)))
+
+pub all_parts : {X : Type 0} (test : X → Bool) (xs ys : List X) → IsTrue (list_all test (xs ++ ys)) → IsTrue (list_all test xs) × IsTrue (list_all test ys)
+all_parts test xs ys h = both (list_all test xs) (list_all test ys) (sym (all_append test xs ys) ∙ h)
+
+-- two tests that say the same of each element leave the same
+pub same_filter : {X : Type 0} (p q : X → Bool) → ((x : X) → p x ≡ q x) → (xs : List X) → filter p xs ≡ filter q xs
+same_filter p q h [] = refl
+same_filter p q h (x ∷ xs) = rw (h x, same_filter p q h xs) refl

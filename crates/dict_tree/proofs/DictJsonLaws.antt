@@ -1,7 +1,7 @@
 -- What is read of a value is spelled by it, and the part that is named isn't of the form.
 use Rattle.std.proofs.Common.{◌≡◌, inl, inr, ℕ, ◌+◌, List, [], ◌∷◌, Bool, true, false, ◌&&◌, Option, Some, None, option_and_then, Result, Ok, Err, refl, sym, ap, subst, ◌∙◌}
 use Rattle.std.specs.Prelude.{codes}
-use Rattle.std.proofs.lemmas.Option.{none-some, same_Some}
+use Rattle.std.proofs.lemmas.Option.{none-some}
 use Rattle.common_lemmas.proofs.Bools.{both}
 use Rattle.common_lemmas.proofs.Options.{both_some}
 use Rattle.serde_json.specs.Data.{Data, Items, no_items, item}

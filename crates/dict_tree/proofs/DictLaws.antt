@@ -1,5 +1,5 @@
 -- What `read` gives: a dictionary that the value spells is valid, and the exits of `read`.
-use Rattle.std.proofs.Common.{◌≡◌, ℕ, ◌≤◌, List, length, Result, Ok, Err, refl, sym, ap, ◌∙◌}
+use Rattle.std.proofs.Common.{◌≡◌, ℕ, ◌≤◌, List, length, Result, Ok, Err}
 use Rattle.std.specs.Prelude.{IfOk, IfErr}
 use Rattle.serde_json.specs.Data.{Data}
 use Rattle.dict_tree.specs.Dictionary.{Dictionary, Written, IsValid, dictionary_view}

@@ -1,5 +1,5 @@
 -- A list of options that is read is spelled, and one that is spelled is read.
-use Rattle.std.proofs.Common.{◌≡◌, ◌≢◌, ℕ, List, [], ◌∷◌, true, false, ◌&&◌, length, Option, Some, None, option_map, option_and_then, refl, sym, ap, subst, ◌∙◌, arith}
+use Rattle.std.proofs.Common.{◌≡◌, ◌≢◌, ℕ, List, [], ◌∷◌, true, false, ◌&&◌, length, Option, Some, None, option_and_then, refl, sym, ap, subst, ◌∙◌, arith}
 use Rattle.std.specs.Prelude.{codes, nat_lt}
 use Rattle.std.specs.List.{list_all}
 use Rattle.std.proofs.lemmas.Bool.{lt-ltb}
@@ -13,7 +13,7 @@ use Rattle.fact_paths.specs.Reading.{name_of}
 use Rattle.value_text.specs.Enums.{Listed, are_distinct, names_of}
 use Rattle.dict_tree.specs.FactJson.{items_from}
 use Rattle.dict_tree.specs.FactReading.{has_no_other, text_at}
-use Rattle.dict_tree.specs.DictReading.{name_list, if_sound, named_options, enum_fields, enum_with, enum_of, enum_list, if_apart, enums_in}
+use Rattle.dict_tree.specs.DictReading.{name_list, if_sound, enum_fields, enum_with, enum_of, enum_list, if_apart, enums_in}
 use Rattle.dict_tree.specs.DictJson.{enum_keys, SpellsEnum, AreSpelled, SpellEnums}
 use Rattle.dict_tree.proofs.MemberLaws.{guarded, object_is, is_object, array_is, text_found, array_found}
 

@@ -10,13 +10,13 @@ use Rattle.serde_json.specs.Find.{as_str}
 use Rattle.fact_paths.specs.declared.use_path.UsePath.{UsePath}
 use Rattle.fact_paths.specs.Reading.{use_path_of}
 use Rattle.dict_tree.specs.declared.operators.ManyOp.{ManyOp}
-use Rattle.dict_tree.specs.declared.operators.ManyOp.TheVariants.{All, Any, Add, Subtract, GreaterOf, LesserOf}
+use Rattle.dict_tree.specs.declared.operators.ManyOp.TheVariants.{Subtract}
 use Rattle.dict_tree.specs.declared.node_name.ConstantName.{ConstantName}
 use Rattle.dict_tree.specs.declared.node_name.ConstantName.TheVariants as constants
 use Rattle.dict_tree.specs.declared.node_name.NodeName.{NodeName}
 use Rattle.dict_tree.specs.declared.node_name.NodeName.TheVariants as names
 use Rattle.dict_tree.specs.Names.{node_name, node_named, constant_name, read_name, many_name, one_name, two_name, pick_name}
-use Rattle.dict_tree.specs.Tree.{Literal, literal_true, literal_false, literal_int, literal_dollar, literal_rational, literal_day, literal_text, literal_choice, Use, Source, Sources, SourceCase, SourceCases, literal, read, switch, many, one, two, pick, no_trees, tree, no_cases, a_case}
+use Rattle.dict_tree.specs.Tree.{Literal, literal_true, literal_false, literal_int, literal_dollar, literal_rational, literal_day, literal_text, Use, Source, Sources, SourceCase, SourceCases, literal, read, switch, many, one, two, pick, no_trees, tree, no_cases, a_case}
 use Rattle.dict_tree.specs.View.{trees_of, cases_of}
 use Rattle.dict_tree.specs.Forms.{HasForm, HaveForms, HaveCaseForms, AreEnough, AreSome, AreCases, IsUse}
 use Rattle.dict_tree.specs.Json.{node_json, text_json, literal_json, json_of, json_of_trees, json_of_cases, Spells}

@@ -1,5 +1,5 @@
 -- A fact that is read is spelled, and a fact that is spelled is read.
-use Rattle.std.proofs.Common.{◌≡◌, inl, inr, ℕ, List, [], ◌∷◌, Bool, true, false, cond, Option, Some, None, option_map, option_and_then, refl, sym, ap, subst, ◌∙◌}
+use Rattle.std.proofs.Common.{◌≡◌, inl, inr, ℕ, List, [], ◌∷◌, Bool, true, false, cond, Option, Some, None, option_and_then, refl, sym, ap, subst, ◌∙◌}
 use Rattle.std.specs.Prelude.{codes}
 use Rattle.std.proofs.lemmas.Option.{same_Some}
 use Rattle.common_lemmas.proofs.Options.{both_some, mapped}
@@ -9,7 +9,7 @@ use Rattle.fact_paths.specs.Reading.{fact_path_of}
 use Rattle.dict_tree.specs.declared.limits_json.LimitName.{LimitName}
 use Rattle.dict_tree.specs.declared.limits_json.LimitName.TheVariants as names
 use Rattle.dict_tree.specs.Tree.{Source, SourceCase}
-use Rattle.dict_tree.specs.Facts.{Fact, Stated, Bound, least, greatest, max_length, check}
+use Rattle.dict_tree.specs.Facts.{Fact, Stated, Bound, least}
 use Rattle.dict_tree.specs.Forms.{IsWritableType, IsDerivedType}
 use Rattle.dict_tree.specs.Json.{text_json}
 use Rattle.dict_tree.specs.FactJson.{items_from, stated_text, limit_json, IsNamed, SpellLimits, SpellsOptional, SpellsRequired, SpellsConditional, SpellsWritable, SpellsDerived, SpellsFact}

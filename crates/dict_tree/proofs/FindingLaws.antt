@@ -7,6 +7,7 @@ use Rattle.std.proofs.lemmas.List.Elements.{All-head, All-tail}
 use Rattle.std.proofs.lemmas.Option.{slice_get-map, slice_get_within}
 use Rattle.std.proofs.lemmas.Slice.Eq.{bytes_eq-Decides}
 use Rattle.common_lemmas.proofs.Bytes.{equal_bytes}
+use Rattle.common_lemmas.proofs.Bools.{same_test}
 use Rattle.fact_paths.specs.Paths.{IsFactPath, SpellsFactPath, fact_path_text}
 use Rattle.fact_paths.specs.declared.fact_path.FactPath.{FactPath}
 use Rattle.fact_paths.specs.declared.fact_path.FactPath.TheVariants.{Global, Member}
@@ -45,16 +46,10 @@ is_path-some p o h = ap (is_path p) h ∙ same_path-same p
 
 -- ---- a path and its text
 
--- two tests of one fact
-both : (a b : Bool) → (a ≡ true → b ≡ true) → (b ≡ true → a ≡ true) → a ≡ b
-both true b f g = sym (f refl)
-both false true f g = g refl
-both false false f g = refl
-
 text_path : (p : FactPath) → IsFactPath p → (text : List ℕ) (o : Option FactPath) → IsReadFrom SpellsFactPath text o → (is_some o && bytes_eq (fact_path_text p) text) ≡ is_path p o
 text_path p good text None h = refl
 text_path p good text (Some q) h =
-    both (bytes_eq (fact_path_text p) text) (same_path p q)
+    same_test (bytes_eq (fact_path_text p) text) (same_path p q)
     (λ e.
     let same : fact_path_text p ≡ text = (bytes_eq-Decides (fact_path_text p) text).0 e in
     let one : p ≡ q = one_path_from SpellsFactPath fact_path_of fact_path_reading text p q (good, sym same) h in

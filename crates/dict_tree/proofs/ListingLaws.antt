@@ -8,7 +8,7 @@ use Rattle.common_lemmas.proofs.Bools.{both}
 use Rattle.serde_json.specs.Data.{Data, Items, no_items, item}
 use Rattle.serde_json.specs.Find.{get}
 use Rattle.value_text.specs.Enums.{Listed, is_among, are_distinct, names_of}
-use Rattle.dict_tree.specs.Dictionary.{Dictionary, number_from, passed, too_many}
+use Rattle.dict_tree.specs.Dictionary.{Dictionary, number_from, passed}
 use Rattle.dict_tree.specs.DictJson.{SpellsEnum, AreSpelled, SpellEnums, ValueGives}
 use Rattle.dict_tree.specs.Listing.{may_follow, may_all_follow}
 use Rattle.dict_tree.proofs.DistinctLaws.{are_new, are_new_none}

@@ -11,7 +11,6 @@ use Rattle.fact_paths.specs.Names.{is_name}
 use Rattle.fact_paths.proofs.CutLaws.{after-append, after_some}
 use Rattle.fact_values.specs.declared.fact_type.FactType.{FactType}
 use Rattle.fact_values.specs.declared.fact_type.FactType.TheVariants as types
-use Rattle.dict_tree.specs.Tree.{Use}
 use Rattle.dict_tree.specs.Facts.{Stated, scalar, enum_of, writable_list, list_of, item_of}
 use Rattle.dict_tree.specs.FactJson.{scalar_text, stated_text, IsNamed}
 use Rattle.dict_tree.specs.Forms.{IsScalar, IsWritableType, IsDerivedType}

@@ -1,5 +1,5 @@
-ghost use Rattle.std.specs.Prelude.{◌≡◌};
-ghost use Rattle.dict_tree.specs.Names.{node_named};
+ghost use Rattle.std.specs.Prelude.{◌≡◌, drop};
+ghost use Rattle.dict_tree.specs.Names.{node_named, node_names, under_name};
 
 use crate::operators::{ManyOp, OneOp, PickOp, ReadOp, TwoOp};
 
@@ -28,6 +28,44 @@ pub enum NodeName {
     Pick(PickOp),
 }
 
+// The node of this name, among comparisons and those behind them.
+fn name_of_comparison(name: &str) -> Option<NodeName>
+    ensures { result ≡ under_name name.now (drop 23 node_names) }
+{
+    match name {
+        "Equal" => Some(NodeName::Two(TwoOp::Equal)),
+        "NotEqual" => Some(NodeName::Two(TwoOp::NotEqual)),
+        "GreaterThan" => Some(NodeName::Two(TwoOp::GreaterThan)),
+        "LessThan" => Some(NodeName::Two(TwoOp::LessThan)),
+        "GreaterThanOrEqual" => Some(NodeName::Two(TwoOp::GreaterThanOrEqual)),
+        "LessThanOrEqual" => Some(NodeName::Two(TwoOp::LessThanOrEqual)),
+        "Round" => Some(NodeName::One(OneOp::Round)),
+        "YearOf" => Some(NodeName::One(OneOp::YearOf)),
+        "AddDays" => Some(NodeName::Two(TwoOp::AddDays)),
+        "Filter" => Some(NodeName::Pick(PickOp::Filter)),
+        "Find" => Some(NodeName::Pick(PickOp::Find)),
+        _ => None,
+    }
+}
+
+// The node of this name, among those whose operands are expressions.
+fn name_of_operator(name: &str) -> Option<NodeName>
+    ensures { result ≡ under_name name.now (drop 14 node_names) }
+{
+    match name {
+        "All" => Some(NodeName::Many(ManyOp::All)),
+        "Any" => Some(NodeName::Many(ManyOp::Any)),
+        "Not" => Some(NodeName::One(OneOp::Not)),
+        "Add" => Some(NodeName::Many(ManyOp::Add)),
+        "Subtract" => Some(NodeName::Many(ManyOp::Subtract)),
+        "Multiply" => Some(NodeName::Two(TwoOp::Multiply)),
+        "Divide" => Some(NodeName::Two(TwoOp::Divide)),
+        "GreaterOf" => Some(NodeName::Many(ManyOp::GreaterOf)),
+        "LesserOf" => Some(NodeName::Many(ManyOp::LesserOf)),
+        _ => name_of_comparison(name),
+    }
+}
+
 /// The node of this name.
 pub fn name_of_node(name: &str) -> Option<NodeName>
     ensures { result ≡ node_named name.now }
@@ -47,26 +85,6 @@ pub fn name_of_node(name: &str) -> Option<NodeName>
         "CollectionSum" => Some(NodeName::Read(ReadOp::CollectionSum)),
         "Count" => Some(NodeName::Read(ReadOp::Count)),
         "Switch" => Some(NodeName::Switch),
-        "All" => Some(NodeName::Many(ManyOp::All)),
-        "Any" => Some(NodeName::Many(ManyOp::Any)),
-        "Not" => Some(NodeName::One(OneOp::Not)),
-        "Add" => Some(NodeName::Many(ManyOp::Add)),
-        "Subtract" => Some(NodeName::Many(ManyOp::Subtract)),
-        "Multiply" => Some(NodeName::Two(TwoOp::Multiply)),
-        "Divide" => Some(NodeName::Two(TwoOp::Divide)),
-        "GreaterOf" => Some(NodeName::Many(ManyOp::GreaterOf)),
-        "LesserOf" => Some(NodeName::Many(ManyOp::LesserOf)),
-        "Equal" => Some(NodeName::Two(TwoOp::Equal)),
-        "NotEqual" => Some(NodeName::Two(TwoOp::NotEqual)),
-        "GreaterThan" => Some(NodeName::Two(TwoOp::GreaterThan)),
-        "LessThan" => Some(NodeName::Two(TwoOp::LessThan)),
-        "GreaterThanOrEqual" => Some(NodeName::Two(TwoOp::GreaterThanOrEqual)),
-        "LessThanOrEqual" => Some(NodeName::Two(TwoOp::LessThanOrEqual)),
-        "Round" => Some(NodeName::One(OneOp::Round)),
-        "YearOf" => Some(NodeName::One(OneOp::YearOf)),
-        "AddDays" => Some(NodeName::Two(TwoOp::AddDays)),
-        "Filter" => Some(NodeName::Pick(PickOp::Filter)),
-        "Find" => Some(NodeName::Pick(PickOp::Find)),
-        _ => None,
+        _ => name_of_operator(name),
     }
 }

@@ -17,7 +17,7 @@ use Rattle.dict_types.specs.declared.limit.Limit.{Limit}
 use Rattle.dict_types.specs.declared.rules.Rule.{Rule}
 use Rattle.dict_types.specs.BadLimit.{fact_limits}
 use Rattle.dict_types.specs.Constants.{fact_values}
-use Rattle.dict_types.specs.DictFaults.{AreKept, AreLimits, AreTypedFacts, HaveWanted, IsFaultOf, IsFirstBadLimit, IsFirstBroken, IsFirstFault, IsFirstIllTyped, IsFirstNode, IsFirstOf, IsKept, IsTypedDictionary, IsTypedFact, Part, conditional_parts, fact_parts, option_parts, part}
+use Rattle.dict_types.specs.DictFaults.{AreKept, AreLimits, AreTypedFacts, HaveWanted, IsFaultOf, IsFirstBadLimit, IsFirstBroken, IsFirstFault, IsFirstIllTyped, IsFirstNode, IsFirstOf, IsTypedDictionary, IsTypedFact, Part, conditional_parts, fact_parts, option_parts}
 use Rattle.dict_types.specs.FactTyping.{conditional_as, expr_as, fact_typed, nodes_as, option_as, root_as, types_in}
 use Rattle.dict_types.specs.Inferring.{◌>>=◌, type_of}
 use Rattle.dict_types.specs.NodeFaults.{SourceTypes}

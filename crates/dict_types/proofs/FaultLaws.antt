@@ -1,5 +1,5 @@
 -- Where inferring names a node, it is the first at fault.
-use Rattle.std.proofs.Common.{◌≡◌, ℕ, zero, suc, ◌+◌, List, [], ◌∷◌, ◌++◌, length, Option, Some, None, Result, Ok, Err, inl, inr, refl, sym, ap, subst, ◌∙◌, arith, length-append}
+use Rattle.std.proofs.Common.{◌≡◌, ℕ, zero, suc, ◌+◌, List, [], ◌∷◌, ◌++◌, length, Option, Ok, Err, inl, inr, refl, sym, ap, subst, ◌∙◌, arith, length-append}
 use Rattle.std.specs.Prelude.{unwrap_or}
 use Rattle.fact_values.specs.declared.fact_type.FactType.{FactType}
 use Rattle.fact_values.specs.declared.fact_type.FactType.TheVariants.{Boolean}
@@ -8,7 +8,7 @@ use Rattle.dict_tree.specs.Tree.{Tree, literal, read, switch, many, one, two, pi
 use Rattle.dict_tree.specs.Typing.{Types, HasType, HaveTypes, HaveCaseTypes}
 use Rattle.dict_types.specs.declared.operand_types.CaseType.{CaseType}
 use Rattle.dict_types.specs.Inferring.{◌>>=◌, or_fault, type_of, types_of, case_types}
-use Rattle.dict_types.specs.NodeFaults.{inner_base, IsTyped, AreTyped, CasesTyped, OperandsTyped, Placed, IsAtFault, placed, placed_trees, placed_cases, FirstIn}
+use Rattle.dict_types.specs.NodeFaults.{inner_base, IsTyped, AreTyped, CasesTyped, Placed, IsAtFault, placed, placed_trees, placed_cases, FirstIn}
 use Rattle.dict_types.specs.CaseTypes.{picked_type, switch_type}
 use Rattle.dict_types.proofs.InferenceLaws.{bind_err, or_err, done, EachCase, sound, sounds, case_sound, complete}
 

@@ -1,6 +1,5 @@
 -- What is right of a dictionary is what is found, and the first fault is the one that is named.
-use Rattle.std.proofs.Common.{◌≡◌, ◌≢◌, ℕ, zero, suc, ◌+◌, Bool, true, false, List, [], ◌∷◌, Option, Some, None, Result, Ok, Err, ◌⊎◌, inl, inr, refl, sym, ap, ◌∙◌}
-use Rattle.std.specs.Prelude.{⊤}
+use Rattle.std.proofs.Common.{◌≡◌, ◌≢◌, ℕ, zero, suc, ◌+◌, Bool, true, false, List, [], ◌∷◌, Option, Some, None, Result, Ok, Err, inl, inr, refl, sym, ap, ◌∙◌}
 use Rattle.fact_values.specs.declared.fact_type.FactType.{FactType}
 use Rattle.fact_values.specs.declared.value.Value.{Value}
 use Rattle.dict_tree.specs.OperandTypes.{same_type}
@@ -10,13 +9,11 @@ use Rattle.dict_tree.specs.Dictionary.{Dictionary}
 use Rattle.dict_types.specs.declared.fault.TypeFault.{TypeFault}
 use Rattle.dict_types.specs.declared.limit.Limit.{Limit}
 use Rattle.dict_types.specs.declared.rules.Rule.{Rule}
-use Rattle.dict_types.specs.BadLimit.{fact_limits}
-use Rattle.dict_types.specs.Constants.{fact_values}
 use Rattle.dict_types.specs.DictFaults.{AreKept, AreLimits, AreTypedFacts, HaveWanted, IsFaultOf, IsFirstBadLimit, IsFirstBroken, IsFirstFault, IsFirstIllTyped, IsFirstNode, IsFirstOf, IsTypedDictionary, IsTypedFact, Part, fact_parts}
 use Rattle.dict_types.specs.FactTyping.{expr_as, fact_typed, nodes_as, types_in}
 use Rattle.dict_types.specs.Inferring.{type_of}
 use Rattle.dict_types.specs.NodeFaults.{FirstIn, IsAtFault, SourceTree, SourceTypes, placed}
-use Rattle.dict_types.specs.Rules.{breaks, first_breaking, first_fault as fault_by_rules, rule_order}
+use Rattle.dict_types.specs.Rules.{breaks, first_fault as fault_by_rules, rule_order}
 use Rattle.dict_types.specs.Typed.{limits_of, typed_dictionary, typed_fact, typed_facts}
 use Rattle.dict_types.specs.TypedParts.{TypedFact, TypedDictionary}
 use Rattle.dict_types.proofs.DictLaws.{fine, failed, kept, nodes_are, parts_as}

@@ -1,15 +1,13 @@
 -- The tests of the rules of paths and limits say what the rules say in their own words.
-use Rattle.std.proofs.Common.{◌≡◌, ◌↔◌, ◌⊎◌, inl, inr, ℕ, Bool, true, false, not, ◌&&◌, ◌||◌, List, [], ◌∷◌, Option, Some, None, refl, sym, ap, subst, ◌∙◌}
-use Rattle.std.specs.Prelude.{IsTrue, is_none, is_some, option_and_then, option_map, if◌then◌else◌}
+use Rattle.std.proofs.Common.{◌≡◌, ◌⊎◌, inl, inr, ℕ, Bool, true, false, not, ◌&&◌, List, Option, Some, None, refl, sym, ap, subst, ◌∙◌}
+use Rattle.std.specs.Prelude.{IsTrue, is_none, is_some}
 use Rattle.std.specs.Bool.{Decides}
-use Rattle.std.specs.List.{Any, list_any}
-use Rattle.std.proofs.lemmas.Bool.Decides.{Decides-and, Decides-at, Decides-like, Decides-not, Decides-or}
+use Rattle.std.proofs.lemmas.Bool.Decides.{Decides-and, Decides-like, Decides-not, Decides-or}
 use Rattle.fact_paths.specs.declared.fact_path.FactPath.{FactPath}
 use Rattle.fact_paths.specs.declared.fact_path.FactPath.TheVariants as facts
 use Rattle.fact_paths.specs.declared.use_path.UsePath.{UsePath}
 use Rattle.fact_paths.specs.declared.use_path.UsePath.TheVariants as uses
-use Rattle.dict_tree.specs.Tree.{Use}
-use Rattle.dict_tree.specs.Facts.{Fact, Stated, scalar, enum_of, writable_list, list_of, item_of}
+use Rattle.dict_tree.specs.Facts.{Fact, Stated, writable_list, list_of, item_of}
 use Rattle.dict_tree.specs.Dictionary.{Dictionary, is_collection}
 use Rattle.dict_tree.specs.Finding.{fact_at}
 use Rattle.dict_tree.specs.Targets.{find_global, first_target, targets}

@@ -1,6 +1,6 @@
 -- A fact has no limits just where one doesn't fit it, or one stands twice.
-use Rattle.std.proofs.Common.{◌≡◌, ◌≤◌, ℕ, ℤ, pos, negsuc, Bool, true, false, ◌||◌, cond, List, [], ◌∷◌, Option, Some, None, refl, ap, ◌∙◌, arith}
-use Rattle.std.specs.Prelude.{IsTrue, is_none, nat_le, option_and_then, option_map, unwrap_or, if◌then◌else◌}
+use Rattle.std.proofs.Common.{◌≡◌, ◌≤◌, ℕ, pos, negsuc, Bool, true, false, ◌||◌, List, [], ◌∷◌, Option, Some, None, refl, ap, ◌∙◌, arith}
+use Rattle.std.specs.Prelude.{is_none, nat_le, option_and_then, option_map, unwrap_or, if◌then◌else◌}
 use Rattle.std.specs.Bool.{Decides}
 use Rattle.std.specs.List.{Any, list_any}
 use Rattle.std.proofs.lemmas.Bool.Decides.{Decides-at, Decides-or, nat_tests}
@@ -17,7 +17,7 @@ use Rattle.dict_tree.specs.Typing.{IsOrdered}
 use Rattle.dict_tree.proofs.MemberLaws.{guarded}
 use Rattle.dict_types.specs.declared.limit.Limit.{Limit}
 use Rattle.dict_types.specs.declared.limit.Limit.TheVariants as limits
-use Rattle.dict_types.specs.BadLimit.{Fits, HasBadLimit, IsBoundOf, IsLengthOf, bound_value, fact_limits, has_twice, length_at, limit_at, limits_at, ordered_value, takes_text, value_length}
+use Rattle.dict_types.specs.BadLimit.{Fits, HasBadLimit, IsBoundOf, bound_value, fact_limits, has_twice, length_at, limit_at, limits_at, ordered_value, takes_text, value_length}
 use Rattle.dict_types.specs.UnknownCheck.{check_place}
 use Rattle.dict_types.proofs.UseLaws.{Decides-any}
 

@@ -1,5 +1,5 @@
 -- The types of the nodes of a dictionary's facts, and the first fault among them.
-use Rattle.std.specs.Prelude.{◌≡◌, ◌↔◌, ℕ, suc, ◌+◌, ◌==◌, Bool, List, [], ◌∷◌, Option, Some, None, Result, Ok, Err, ok_or, option_and_then, if◌then◌else◌, ⊤}
+use Rattle.std.specs.Prelude.{◌≡◌, ◌↔◌, ℕ, ◌+◌, ◌==◌, Option, Some, None, Result, Ok, Err, ok_or, option_and_then, if◌then◌else◌, ⊤}
 use Rattle.fact_paths.specs.declared.use_path.UsePath.{UsePath}
 use Rattle.fact_paths.specs.declared.use_path.UsePath.TheVariants as uses
 use Rattle.fact_values.specs.declared.fact_type.FactType.{FactType}

@@ -1,5 +1,5 @@
 -- Types from below, with the number of the first node at fault. A node's number is counted in preorder.
-use Rattle.std.specs.Prelude.{◌≡◌, ℕ, suc, ◌+◌, List, [], ◌∷◌, Option, Some, None, Result, Ok, Err, unwrap_or, ⊤}
+use Rattle.std.specs.Prelude.{◌≡◌, ℕ, ◌+◌, List, [], ◌∷◌, Option, Some, None, Result, Ok, Err, unwrap_or}
 use Rattle.fact_values.specs.declared.fact_type.FactType.{FactType}
 use Rattle.dict_tree.specs.OperandTypes.{many_type, one_type, two_type}
 use Rattle.dict_tree.specs.Tree.{Tree, literal, read, switch, many, one, two, pick, Trees, no_trees, tree, Cases, no_cases, a_case, size}

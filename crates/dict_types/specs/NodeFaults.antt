@@ -1,5 +1,5 @@
 -- Which node is at fault, and laws of inferring.
-use Rattle.std.specs.Prelude.{◌≡◌, ℕ, zero, suc, ◌+◌, List, [], ◌∷◌, ◌++◌, Result, Ok, Err, unwrap_or}
+use Rattle.std.specs.Prelude.{◌≡◌, ℕ, zero, suc, ◌+◌, List, [], ◌∷◌, ◌++◌, Ok, Err, unwrap_or}
 use Rattle.fact_values.specs.declared.fact_type.FactType.{FactType}
 use Rattle.dict_tree.specs.Tree.{Tree, literal, read, switch, many, one, two, pick, Trees, no_trees, tree, Cases, no_cases, a_case, Literal, Reading, Use}
 use Rattle.dict_tree.specs.Typing.{Types, HasType}

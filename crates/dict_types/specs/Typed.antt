@@ -1,6 +1,5 @@
 -- A dictionary's types, constants and limits, or its first fault of paths, types and limits.
-use Rattle.std.specs.Prelude.{◌≡◌, ℕ, zero, suc, ◌≤◌, List, [], ◌∷◌, length, slice_get, Option, Some, None, option_map, option_and_then, Result, Ok, Err, ⊤}
-use Rattle.fact_values.specs.declared.fact_type.FactType.{FactType}
+use Rattle.std.specs.Prelude.{◌≡◌, ℕ, zero, suc, ◌≤◌, List, [], ◌∷◌, length, slice_get, Option, Some, None, option_and_then, Result, Ok, Err, ⊤}
 use Rattle.fact_values.specs.declared.value.Value.{Value}
 use Rattle.dict_tree.specs.Facts.{Fact}
 use Rattle.dict_tree.specs.Dictionary.{Dictionary}

@@ -106,7 +106,7 @@ same_option same tells None (Some y) h = absurd (cc)
 same_option same tells (Some x) None h = absurd (cc)
 
 -- answers and overrides stand in slots that stand
-is_placed : (d : Tree) (a : Answered) → AnswersFit d a → (side : Side) (s : Slot) (v : Value) → value_of side a s ≡ Some v → IsTrue (stands d a s)
+pub is_placed : (d : Tree) (a : Answered) → AnswersFit d a → (side : Side) (s : Slot) (v : Value) → value_of side a s ≡ Some v → IsTrue (stands d a s)
 is_placed d a fits side s v e = (both (stands d a s) (takes side d s.fact) (fits.placed side s (rw e refl))).0
 
 same_overrides : (d : Tree) (a b : Answered) → AnswersFit d a → AnswersFit d b

@@ -44,7 +44,7 @@ body_is_untested (Some c) t h k =
     and_intro (has_no_complete_test c.0) (has_no_complete_test c.1 && (has_no_complete_test t && true)) parts.0
     (and_intro (has_no_complete_test c.1) (has_no_complete_test t && true) parts.1 (and_intro (has_no_complete_test t) true h refl))
 
-all_join : {X : Type 0} (M : X → Type 0) (xs ys : List X) → AllOf M xs → AllOf M ys → AllOf M (xs ++ ys)
+pub all_join : {X : Type 0} (M : X → Type 0) (xs ys : List X) → AllOf M xs → AllOf M ys → AllOf M (xs ++ ys)
 all_join M [] ys h k = k
 all_join M (x ∷ xs) ys h k = (h.0, all_join M xs ys h.1 k)
 

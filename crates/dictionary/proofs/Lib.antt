@@ -25,6 +25,7 @@ pub mod PickWeights
 pub mod PlacedReads
 pub mod PlainExamples
 pub mod PlainLaws
+pub mod PrintedLaws
 pub mod RankLaws
 pub mod ReadAgreement
 pub mod ReadTypes

@@ -49,13 +49,13 @@ once_distinct (x ∷ ms) h =
 
 -- ---- members of answers
 
-below_next : (a : Answered) → WellFormed a → (m : ℕ) → IsSome (map.get a.members m) → m < a.next
+pub below_next : (a : Answered) → WellFormed a → (m : ℕ) → IsSome (map.get a.members m) → m < a.next
 below_next a well m h = elim (cases_lt m a.next) [
   | inl k ↦ k
   | inr k ↦ absurd (none_some (map.get a.members m) (well.below m k) h)
 ]
 
-from_one : (a : Answered) → FromOne a → (m : ℕ) → IsSome (map.get a.members m) → 1 ≤ m
+pub from_one : (a : Answered) → FromOne a → (m : ℕ) → IsSome (map.get a.members m) → 1 ≤ m
 from_one a low zero h = absurd (none_some (map.get a.members zero) low.zero h)
 from_one a low (suc m) h = omega arith
 

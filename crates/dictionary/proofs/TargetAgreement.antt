@@ -47,10 +47,10 @@ same_speaks : (n m : ℕ) (s : Slot) → m ≡ s.member → IsTrue (speaks_of (s
 same_speaks n m s e = rw (eq-eqb n n refl, eq-eqb m s.member e) refl
 
 -- what stands in a home that isn't global, at 0
-at_zero : (a : Answered) (h : ℕ) → nat_eq h 0 ≡ false → is_member a h 0 ≡ false → stands_at a h 0 ≡ false
+pub at_zero : (a : Answered) (h : ℕ) → nat_eq h 0 ≡ false → is_member a h 0 ≡ false → stands_at a h 0 ≡ false
 at_zero a h e i = rw e i
 
-at_once : (a : Answered) (h : ℕ) → nat_eq h 0 ≡ true → IsTrue (stands_at a h 0)
+pub at_once : (a : Answered) (h : ℕ) → nat_eq h 0 ≡ true → IsTrue (stands_at a h 0)
 at_once a h e = rw e refl
 
 -- ---- a slot that stands in both

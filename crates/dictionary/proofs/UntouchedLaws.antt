@@ -57,7 +57,7 @@ given_same : (d : Accepted) (a b : Answered) (s : Slot) → IsQuiet d a b s → 
 given_same d a b s q writable_list = ap open_list q.list
 given_same d a b s q _ = q.answer
 
-step_is : (d : Accepted) (a : Answered) (s : Slot) (f : Fact) → fact_at d.tree.facts s.fact ≡ Some f → IsTrue (stands d.tree a s) → plain_step d a (plain d a) s ≡ Some (slot_result d.tree a (plain d a) s f)
+pub step_is : (d : Accepted) (a : Answered) (s : Slot) (f : Fact) → fact_at d.tree.facts s.fact ≡ Some f → IsTrue (stands d.tree a s) → plain_step d a (plain d a) s ≡ Some (slot_result d.tree a (plain d a) s f)
 step_is d a s f e i = rw i (ap (λ (o : Option Fact). at_fact o None (λ (f : Fact). Some (slot_result d.tree a (plain d a) s f))) e)
 
 module _ (names : List (List ℕ)) (d : Accepted) (accepted : IsAccepted names d) (a b : Answered) (before : AnswersFit d.tree a) (after : AnswersFit d.tree b) (s : Slot) (q : IsQuiet d a b s) where

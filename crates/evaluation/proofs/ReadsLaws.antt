@@ -13,26 +13,19 @@ use Rattle.evaluation.specs.Agreement.{IsIn}
 use Rattle.evaluation.specs.Over.{Env, over, over_all, over_cases, many_of, one_of, pick_of}
 use Rattle.evaluation.specs.SlotsRead.{AnswerAlike, ReadBy, after_condition, members_visited, slots_read, slots_read_of_all, slots_read_of_cases, up_to_decider}
 use Rattle.evaluation.proofs.Coincide.{pick_same, through_same}
-use Rattle.common_lemmas.proofs.Bools.{and_assoc, both}
-
-all-append : {X : Type 0} (test : X → Bool) (xs ys : List X) → list_all test (xs ++ ys) ≡ (list_all test xs && list_all test ys)
-all-append test [] ys = refl
-all-append test (x ∷ xs) ys = rw (all-append test xs ys) (sym (and_assoc (test x) (list_all test xs) (list_all test ys)))
-
-all-parts : {X : Type 0} (test : X → Bool) (xs ys : List X) → IsTrue (list_all test (xs ++ ys)) → IsTrue (list_all test xs) × IsTrue (list_all test ys)
-all-parts test xs ys h = both (list_all test xs) (list_all test ys) (sym (all-append test xs ys) ∙ h)
+use Rattle.common_lemmas.proofs.Lists.{all_parts}
 
 -- of what is read at each member
-all-at_by : {X : Type 0} (test : X → Bool) (g : ℕ → List X) (m k : ℕ) (ms : List ℕ) (b : Bool) → nat_eq m k ≡ b → IsTrue (b || list_any (nat_eq m) ms)
+all_at_member_by : {X : Type 0} (test : X → Bool) (g : ℕ → List X) (m k : ℕ) (ms : List ℕ) (b : Bool) → nat_eq m k ≡ b → IsTrue (b || list_any (nat_eq m) ms)
     → IsTrue (list_all test (g k)) → (IsIn ms m → IsTrue (list_all test (g m))) → IsTrue (list_all test (g m))
-all-at_by test g m k ms true e i h rest = rw (eqb-true m k e) h
-all-at_by test g m k ms false e i h rest = rest i
+all_at_member_by test g m k ms true e i h rest = rw (eqb-true m k e) h
+all_at_member_by test g m k ms false e i h rest = rest i
 
-all-at : {X : Type 0} (test : X → Bool) (g : ℕ → List X) (ms : List ℕ) → IsTrue (list_all test (flat_map g ms)) → (m : ℕ) → IsIn ms m → IsTrue (list_all test (g m))
-all-at test g [] h m i = cc
-all-at test g (k ∷ ms) h m i =
-    let parts = all-parts test (g k) (flat_map g ms) h in
-    all-at_by test g m k ms (nat_eq m k) refl i parts.0 (all-at test g ms parts.1 m)
+pub all_at_member : {X : Type 0} (test : X → Bool) (g : ℕ → List X) (ms : List ℕ) → IsTrue (list_all test (flat_map g ms)) → (m : ℕ) → IsIn ms m → IsTrue (list_all test (g m))
+all_at_member test g [] h m i = cc
+all_at_member test g (k ∷ ms) h m i =
+    let parts = all_parts test (g k) (flat_map g ms) h in
+    all_at_member_by test g m k ms (nat_eq m k) refl i parts.0 (all_at_member test g ms parts.1 m)
 
 -- ---- Switch
 
@@ -67,13 +60,13 @@ find-decides : {X : Type 0} (test : X → Bool) (g : ℕ → List X) (c c' : ℕ
 find-decides test g c c' h [] all = refl
 find-decides test g c c' h (m ∷ ms) all =
     let next = after_condition (c m) [] (up_to_decider c ms) in
-    let parts = all-parts test (g m) (flat_map g next) all in
+    let parts = all_parts test (g m) (flat_map g next) all in
     member-decides test g (c m) (Complete (Item m)) (find_member c ms) (find_member c' ms) (up_to_decider c ms) (find-decides test g c c' h ms) parts.1
     ∙ ap (λ r. switch_case r (Complete (Item m)) (find_member c' ms)) (h m parts.0)
 
 pick-decides : {X : Type 0} (test : X → Bool) (g : ℕ → List X) (op : PickOp) (source : Res) (c c' : ℕ → Res) → ((m : ℕ) → IsTrue (list_all test (g m)) → c m ≡ c' m)
     → IsTrue (list_all test (flat_map g (members_visited op c source))) → pick_of op source c ≡ pick_of op source c'
-pick-decides test g Filter source c c' h all = pick_same Filter source c c' (λ m i. h m (all-at test g (members_of source) all m i))
+pick-decides test g Filter source c c' h all = pick_same Filter source c c' (λ m i. h m (all_at_member test g (members_of source) all m i))
 pick-decides test g Find source c c' h all = through_same source (find_member c) (find_member c') (find-decides test g c c' h (members_of source) all)
 
 -- ---- expressions
@@ -86,20 +79,20 @@ mutual
   reads-decide by test e f h (many op ts) at all = ap (many_of op) (decide-all by test e f h ts at all)
   reads-decide by test e f h (one op t) at all = ap (one_of op) (reads-decide by test e f h t at all)
   reads-decide by test e f h (two op a b) at all =
-      let parts = all-parts test (slots_read e by at a) (slots_read e by at b) all in
+      let parts = all_parts test (slots_read e by at a) (slots_read e by at b) all in
       rw (reads-decide by test e f h a at parts.0, reads-decide by test e f h b at parts.1) refl
   reads-decide by test e f h (pick op p t) at all =
       let c = λ (m : ℕ). over e (e.enter at p m) t in
       let c' = λ (m : ℕ). over f (f.enter at p m) t in
       let g = λ (m : ℕ). slots_read e by (e.enter at p m) t in
-      let parts = all-parts test (by.source at p) (flat_map g (members_visited op c (e.source at p))) all in
+      let parts = all_parts test (by.source at p) (flat_map g (members_visited op c (e.source at p))) all in
       pick-decides test g op (e.source at p) c c' (λ m here. reads-decide by test e f h t (e.enter at p m) here ∙ ap (λ to. over f to t) (h.enter at p m)) parts.1
       ∙ ap (λ source. pick_of op source c') (h.source at p parts.0)
 
   decide-all : {C R P S X : Type 0} (by : ReadBy R P S X) (test : X → Bool) (e f : Env C R P S) → AnswerAlike by test e f → (ts : Trees C R P) (at : S) → IsTrue (list_all test (slots_read_of_all e by at ts)) → over_all e at ts ≡ over_all f at ts
   decide-all by test e f h no_trees at all = refl
   decide-all by test e f h (tree t ts) at all =
-      let parts = all-parts test (slots_read e by at t) (slots_read_of_all e by at ts) all in
+      let parts = all_parts test (slots_read e by at t) (slots_read_of_all e by at ts) all in
       rw (reads-decide by test e f h t at parts.0, decide-all by test e f h ts at parts.1) refl
 
   decide-cases : {C R P S X : Type 0} (by : ReadBy R P S X) (test : X → Bool) (e f : Env C R P S) → AnswerAlike by test e f → (cs : Cases C R P) (at : S) → IsTrue (list_all test (slots_read_of_cases e by at cs))
@@ -108,7 +101,7 @@ mutual
   decide-cases by test e f h (a_case t o cs) at all =
       let xs = slots_read e by at o in
       let ys = slots_read_of_cases e by at cs in
-      let parts = all-parts test (slots_read e by at t) (after_condition (over e at t) xs ys) all in
+      let parts = all_parts test (slots_read e by at t) (after_condition (over e at t) xs ys) all in
       case-decides test (over e at t) (over e at o) (over f at o) (switch_of (over_cases e at cs)) (switch_of (over_cases f at cs)) xs ys
       (reads-decide by test e f h o at) (decide-cases by test e f h cs at) parts.1
       ∙ ap (λ r. switch_case r (over f at o) (switch_of (over_cases f at cs))) (reads-decide by test e f h t at parts.0)

@@ -1,6 +1,7 @@
 -- What holds of all that each node reads holds of all that an expression does.
 use Rattle.std.proofs.Common.{◌≡◌, ℕ, Bool, true, false, ◌||◌, nat_eq, IsTrue, if◌then◌else◌, List, [], ◌∷◌, ◌++◌, flat_map, refl}
 use Rattle.std.specs.List.{list_any}
+use Rattle.dictionary.proofs.FinalLaws.{all_join}
 use Rattle.dict_tree.specs.Tree.{Tree, literal, read, switch, many, one, two, pick, Trees, no_trees, tree, Cases, no_cases, a_case}
 use Rattle.dict_tree.specs.declared.operators.PickOp.{PickOp}
 use Rattle.dict_tree.specs.declared.operators.PickOp.TheVariants.{Filter, Find}
@@ -16,13 +17,9 @@ use Rattle.common_lemmas.proofs.Bools.{or_left, or_right}
 
 -- ---- lists
 
-pub all_append : {X : Type 0} (P : X → Type 0) (xs ys : List X) → AllOf P xs → AllOf P ys → AllOf P (xs ++ ys)
-all_append P [] ys h k = k
-all_append P (x ∷ xs) ys h k = (h.0, all_append P xs ys h.1 k)
-
 pub all_flat : {X : Type 0} (P : X → Type 0) (f : ℕ → List X) (ms : List ℕ) → ((m : ℕ) → IsIn ms m → AllOf P (f m)) → AllOf P (flat_map f ms)
 all_flat P f [] h = tt
-all_flat P f (m ∷ ms) h = all_append P (f m) (flat_map f ms) (h m (is_head m ms)) (all_flat P f ms (λ n i. h n (is_behind m ms n i)))
+all_flat P f (m ∷ ms) h = all_join P (f m) (flat_map f ms) (h m (is_head m ms)) (all_flat P f ms (λ n i. h n (is_behind m ms n i)))
 
 all_chosen : {X : Type 0} (P : X → Type 0) (b : Bool) (xs ys : List X) → AllOf P xs → AllOf P ys → AllOf P (if b then xs else ys)
 all_chosen P true xs ys h k = h
@@ -75,11 +72,11 @@ mutual
   all_read Q W on K env by H h (many op ts) b k at l = all_read_all Q W on K env by H h ts b k at l
   all_read Q W on K env by H h (one op t) b k at l = all_read Q W on K env by H h t b k at l
   all_read Q W on K env by H h (two op x y) b k at l =
-      all_append H (slots_read env by at x) (slots_read env by at y) (all_read Q W on K env by H h x b k.0 at l) (all_read Q W on K env by H h y b k.1 at l)
+      all_join H (slots_read env by at x) (slots_read env by at y) (all_read Q W on K env by H h x b k.0 at l) (all_read Q W on K env by H h y b k.1 at l)
   all_read Q W on K env by H h (pick op p t) b k at l =
       let condition = λ (m : ℕ). over env (env.enter at p m) t in
       let visited = members_visited op condition (env.source at p) in
-      all_append H (by.source at p) (flat_map (λ m. slots_read env by (env.enter at p m) t) visited) (h.source b at l p k.0)
+      all_join H (by.source at p) (flat_map (λ m. slots_read env by (env.enter at p m) t) visited) (h.source b at l p k.0)
       (all_flat H (λ m. slots_read env by (env.enter at p m) t) visited
       (λ m i. all_read Q W on K env by H h t (on b p) k.1 (env.enter at p m) (h.reach b at l p k.0 m (visited_in op condition (env.source at p) m i))))
 
@@ -87,11 +84,11 @@ mutual
       → (ts : Trees C R P) (b : B) → EachInAll Q W on b ts → (at : S) → K b at → AllOf H (slots_read_of_all env by at ts)
   all_read_all Q W on K env by H h no_trees b k at l = tt
   all_read_all Q W on K env by H h (tree t ts) b k at l =
-      all_append H (slots_read env by at t) (slots_read_of_all env by at ts) (all_read Q W on K env by H h t b k.0 at l) (all_read_all Q W on K env by H h ts b k.1 at l)
+      all_join H (slots_read env by at t) (slots_read_of_all env by at ts) (all_read Q W on K env by H h t b k.0 at l) (all_read_all Q W on K env by H h ts b k.1 at l)
 
   all_read_cases : {B C R P S X : Type 0} (Q : B → R → Type 0) (W : B → P → Type 0) (on : B → P → B) (K : B → S → Type 0) (env : Env C R P S) (by : ReadBy R P S X) (H : X → Type 0) → AllRead Q W on K env by H
       → (cs : Cases C R P) (b : B) → EachInCases Q W on b cs → (at : S) → K b at → AllOf H (slots_read_of_cases env by at cs)
   all_read_cases Q W on K env by H h no_cases b k at l = tt
   all_read_cases Q W on K env by H h (a_case t o cs) b k at l =
-      all_append H (slots_read env by at t) (after_condition (over env at t) (slots_read env by at o) (slots_read_of_cases env by at cs)) (all_read Q W on K env by H h t b k.0 at l)
+      all_join H (slots_read env by at t) (after_condition (over env at t) (slots_read env by at o) (slots_read_of_cases env by at cs)) (all_read Q W on K env by H h t b k.0 at l)
       (all_after H (over env at t) (slots_read env by at o) (slots_read_of_cases env by at cs) (all_read Q W on K env by H h o b k.1 at l) (all_read_cases Q W on K env by H h cs b k.2 at l))

@@ -27,8 +27,9 @@ use Rattle.dictionary.specs.Reading.{Look, Place, collection, entered, outermost
 use Rattle.dictionary.proofs.FactMentions.{EachUse}
 use Rattle.dictionary.proofs.MentionedLaws.{ReadIs, SourceIs, base_under}
 use Rattle.dictionary.proofs.ReadAgreement.{first_member, listed_in, names}
+use Rattle.dictionary.proofs.FinalLaws.{all_join}
 use Rattle.explain.specs.Reads.{dependency_reads, expression_reads, fact_reads, field_reads, is_incomplete, main_reads, node_reads, placeholder_reads, reads_by, reads_of_op, source_reads, target_slot}
-use Rattle.explain.proofs.AllReads.{AllRead, all_append, all_flat, all_read}
+use Rattle.explain.proofs.AllReads.{AllRead, all_flat, all_read}
 
 -- ---- one use
 
@@ -49,7 +50,7 @@ named Incomplete m i = i
 named (Fault fault) m i = i
 
 all_of_item : (H : Slot → Type 0) (item : Res) (by_item : List Slot) (field : ℕ → List Slot) → AllOf H by_item → ((m : ℕ) → IsIn (names item) m → AllOf H (field m)) → AllOf H (item_read item by_item field)
-all_of_item H item by_item field h k = all_append H by_item (flat_map field (member_read item)) h (all_flat H field (member_read item) (λ m i. k m (named item m i)))
+all_of_item H item by_item field h k = all_join H by_item (flat_map field (member_read item)) h (all_flat H field (member_read item) (λ m i. k m (named item m i)))
 
 all_of_dependency : (H : Slot → Type 0) (look : Look) (t : Targets) (at : Place) (path : UsePath) → HoldsOf look t at path H → AllOf H (dependency_reads look t at path)
 all_of_dependency H look t at (Global n) h = h.first
@@ -61,7 +62,7 @@ all_of_dependency H look t at (SiblingThrough n m) h = all_of_item H (result_at 
 
 all_of_fields : (H : Slot → Type 0) (look : Look) (t : Targets) (at : Place) (path : UsePath) → HoldsOf look t at path H → AllOf H (field_reads look t)
 all_of_fields H look t at path h =
-    all_append H (target_slot t.first 0) (flat_map (target_slot t.second) (members_of (collection look t))) h.once
+    all_join H (target_slot t.first 0) (flat_map (target_slot t.second) (members_of (collection look t))) h.once
     (all_flat H (target_slot t.second) (members_of (collection look t)) (λ m i. h.second 0 m (listed_in (collection look t) m i)))
 
 all_of_op : (op : ReadOp) (H : Slot → Type 0) (look : Look) (t : Targets) (at : Place) (path : UsePath) → HoldsOf look t at path H → AllOf H (reads_of_op op look t at path)
@@ -125,4 +126,4 @@ module _ (d : Tree) (a : Answered) (s : Slot) (M : Mention → Type 0) (J : Plac
     pub of_fact : (f : Fact) → EachUse d s.fact M (body f) × EachUse d s.fact M f.placeholder → AllOf H (fact_reads d a look s f)
     of_fact f k =
         let incomplete = is_incomplete (main_result d a look s f.stated (body f)) in
-        all_append H (main_reads d a look s (body f)) (placeholder_reads d look s f.placeholder incomplete) (of_main (body f) k.0) (of_placeholder f.placeholder incomplete k.1)
+        all_join H (main_reads d a look s (body f)) (placeholder_reads d look s f.placeholder incomplete) (of_main (body f) k.0) (of_placeholder f.placeholder incomplete k.1)

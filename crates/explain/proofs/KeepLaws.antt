@@ -28,11 +28,12 @@ use Rattle.evaluation.specs.Mentioned.{AllOf}
 use Rattle.evaluation.specs.Reads.{collection_size, complete_test, sum_over, through_item}
 use Rattle.evaluation.specs.SlotsRead.{AnswerAlike, item_read, member_read}
 use Rattle.evaluation.proofs.Coincide.{is_head as is_first, map_same}
-use Rattle.evaluation.proofs.ReadsLaws.{reads-decide}
+use Rattle.evaluation.proofs.ReadsLaws.{all_at_member, reads-decide}
 use Rattle.answers.specs.Answered.{Answered, value_of}
 use Rattle.answers.specs.declared.edit.Side.TheVariants.{Answer, Override}
 use Rattle.common_lemmas.proofs.Bools.{and_intro, both}
 use Rattle.common_lemmas.proofs.Options.{nothing}
+use Rattle.common_lemmas.proofs.Lists.{all_parts}
 use Rattle.dictionary.specs.Accepted.{Accepted, IsAccepted}
 use Rattle.dictionary.specs.Extension.{Extends, IsExtension, both_same}
 use Rattle.dictionary.specs.Fits.{AnswersFit, is_writable}
@@ -43,11 +44,12 @@ use Rattle.dictionary.proofs.ExtensionLaws.{equal_same, same_option}
 use Rattle.dictionary.proofs.PlainLaws.{plain_is_recursive}
 use Rattle.dictionary.proofs.FinalLaws.{standing_stays}
 use Rattle.dictionary.proofs.SlotLaws.{fact_of_standing, listed_stand}
+use Rattle.dictionary.proofs.UntouchedLaws.{step_is}
 use Rattle.explain.specs.Missing.{MissingKeep, is_missing, is_unanswered, lacks_answer, missing}
 use Rattle.explain.specs.Reads.{dependency_reads, expression_reads, fact_reads, field_reads, is_in, is_incomplete, is_read, main_reads, node_reads, placeholder_reads, reads_by, reads_of_op, slot_reads, source_reads, standing_reads, target_slot}
 use Rattle.explain.proofs.PlacedLaws.{Follows, reads_follow}
 use Rattle.explain.proofs.ReachLaws.{falls, is_standing, reads_by_way, reads_itself, standing_is}
-use Rattle.explain.proofs.SlotLists.{all_at, all_member, all_parts, all_where, in_filter, test_all, test_at}
+use Rattle.explain.proofs.SlotLists.{all_at, all_where, in_filter, test_all, test_at}
 
 -- ---- two maps that give the slots that are read alike
 
@@ -79,7 +81,7 @@ module _ (look look' : Look) where
   item_same first second m h =
       let item = result_at look first m in
       let parts = all_parts test (target_slot first m) (flat_map (target_slot second) (member_read item)) h in
-      through_same item (result_at look second) (result_at look' second) (λ n i. target_same second n (all_member test (target_slot second) (member_read item) parts.1 n i))
+      through_same item (result_at look second) (result_at look' second) (λ n i. target_same second n (all_at_member test (target_slot second) (member_read item) parts.1 n i))
       ∙ ap (λ r. through_item r (result_at look' second)) (target_same first m parts.0)
 
   dependency_same : (t : Targets) (at : Place) (path : UsePath) → IsTrue (list_all test (dependency_reads look t at path)) → dependency look t at path ≡ dependency look' t at path
@@ -95,7 +97,7 @@ module _ (look look' : Look) where
       let ms = members_of (collection look t) in
       let parts = all_parts test (target_slot t.first 0) (flat_map (target_slot t.second) ms) h in (
         target_same t.first 0 parts.0,
-        map_same (result_at look t.second) (result_at look' t.second) ms (λ n i. target_same t.second n (all_member test (target_slot t.second) ms parts.1 n i)),
+        map_same (result_at look t.second) (result_at look' t.second) ms (λ n i. target_same t.second n (all_at_member test (target_slot t.second) ms parts.1 n i)),
       )
 
   sum_same : (t : FactType) (source source' : Res) (field field' : ℕ → Res) → source ≡ source' → map field (members_of source) ≡ map field' (members_of source) → sum_over t source field ≡ sum_over t source' field'
@@ -210,9 +212,6 @@ given_same a b h s f out writable = by (given_value f.stated a s) refl
     by (Some v) e = e ∙ sym (given_later a b h s f.stated v e)
 
 -- ---- by rank
-
-step_is : (d : Accepted) (a : Answered) (s : Slot) (f : Fact) → fact_at d.tree.facts s.fact ≡ Some f → IsTrue (stands d.tree a s) → plain_step d a (plain d a) s ≡ Some (slot_result d.tree a (plain d a) s f)
-step_is d a s f e i = rw i (ap (λ (o : Option Fact). at_fact o None (λ (f : Fact). Some (slot_result d.tree a (plain d a) s f))) e)
 
 module _ (names : List (List ℕ)) (d : Accepted) (accepted : IsAccepted names d) (a b : Answered) (extension : IsExtension d.tree a b) where
   -- of what the slot reads, what is unanswered stays so

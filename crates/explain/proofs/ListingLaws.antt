@@ -3,13 +3,14 @@ use Rattle.std.proofs.Common.{◌≡◌, ℕ, ◌+◌, ◌<◌, Bool, true, fals
 use Rattle.std.specs.Prelude.{Result, Ok, Err, IfOk}
 use Rattle.std.proofs.lemmas.List.{append-nil}
 use Rattle.std.proofs.lemmas.List.Elements.{filter-append}
+use Rattle.operations.proofs.StepLaws.{next_member}
 use Rattle.fact_values.specs.declared.slot.Slot.{Slot}
 use Rattle.common_lemmas.proofs.Lists.{kept_one}
 use Rattle.dict_tree.specs.Dictionary.{Dictionary as Tree}
 use Rattle.answers.specs.Answered.{Answered}
 use Rattle.dictionary.specs.Reading.{slot}
 use Rattle.dictionary.specs.Slots.{slots_of, slots_up_to, standing}
-use Rattle.explain.proofs.VisitLaws.{moved_on, next_member}
+use Rattle.explain.proofs.VisitLaws.{moved_on}
 
 pub taken_one : (test : Slot → Bool) (s : Slot) (old new : List Slot) (wanted : Bool) → wanted ≡ test s → new ≡ (if wanted then old ++ s ∷ [] else old) → new ≡ old ++ filter test (s ∷ [])
 taken_one test s old new wanted w e =
@@ -22,10 +23,6 @@ taken_next test fact ms i low old new e =
     let rest = map (slot fact) (drop (i + 1) ms) in
     moved_on old new (filter test (s ∷ [])) (filter test rest) (filter test (map (slot fact) (drop i ms))) e
     (ap (λ l. filter test (map (slot fact) l)) (next_member ms i low) ∙ filter-append test (s ∷ []) rest)
-
-pub same_filter : (p q : Slot → Bool) → ((s : Slot) → p s ≡ q s) → (xs : List Slot) → filter p xs ≡ filter q xs
-same_filter p q h [] = refl
-same_filter p q h (x ∷ xs) = ap (λ (b : Bool). if b then x ∷ filter p xs else filter p xs) (h x) ∙ ap (λ l. if q x then x ∷ l else l) (same_filter p q h xs)
 
 -- ---- of what is answered
 

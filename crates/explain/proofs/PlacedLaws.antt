@@ -31,7 +31,7 @@ use Rattle.dictionary.proofs.PlainLaws.{standing_have_results}
 use Rattle.dictionary.proofs.ReadAgreement.{first_member, names}
 use Rattle.dictionary.proofs.ReadTypes.{item_target, list_target, type_of_target}
 use Rattle.dictionary.proofs.SlotLaws.{fact_of_standing, stands_where}
-use Rattle.dictionary.proofs.TargetAgreement.{IsReached, StaysBy, agree_under}
+use Rattle.dictionary.proofs.TargetAgreement.{IsReached, StaysBy, agree_under, at_once, at_zero}
 use Rattle.dictionary.proofs.TargetHomes.{global_there, member_home, member_there}
 use Rattle.dictionary.proofs.TypedResultLaws.{target_typed}
 use Rattle.explain.specs.Reads.{fact_reads, slot_reads, target_slot}
@@ -47,12 +47,6 @@ anything M h (m ∷ ms) = (h m, anything M h ms)
 
 abbrev pub Follows : Accepted → Answered → Answered → Slot → Type 0
 Follows d a b t = (IsTrue (stands d.tree a t) → plain d a t ≡ plain d b t) → plain d a t ≡ plain d b t
-
-at_zero : (a : Answered) (h : ℕ) → nat_eq h 0 ≡ false → is_member a h 0 ≡ false → stands_at a h 0 ≡ false
-at_zero a h e i = rw e i
-
-at_once : (a : Answered) (h : ℕ) → nat_eq h 0 ≡ true → IsTrue (stands_at a h 0)
-at_once a h e = rw e refl
 
 module _ (checks : List (List ℕ)) (d : Accepted) (accepted : IsAccepted checks d) (a b : Answered) (before : AnswersFit d.tree a) (after : AnswersFit d.tree b) (s : Slot) (own : IsTrue (stands_at a (home d.tree s.fact) s.member)) where
   abbrev H : Slot → Type 0

@@ -78,24 +78,6 @@ test_at test ts h t i = all_at (λ u. IsTrue (test u)) ts (passes ts h) t i
     passes [] h = tt
     passes (x ∷ xs) h = let parts = both (test x) (list_all test xs) h in (parts.0, passes xs parts.1)
 
-pub all_parts : {X : Type 0} (test : X → Bool) (xs ys : List X) → IsTrue (list_all test (xs ++ ys)) → IsTrue (list_all test xs) × IsTrue (list_all test ys)
-all_parts test [] ys h = (refl, h)
-all_parts test (x ∷ xs) ys h =
-    let parts = both (test x) (list_all test (xs ++ ys)) h in
-    let rest = all_parts test xs ys parts.1 in
-    (and_intro (test x) (list_all test xs) parts.0 rest.0, rest.1)
-
--- of what there is at each member
-pub all_member : {X : Type 0} (test : X → Bool) (g : ℕ → List X) (ms : List ℕ) → IsTrue (list_all test (flat_map g ms)) → (m : ℕ) → IsIn ms m → IsTrue (list_all test (g m))
-all_member test g [] h m i = absurd (cc)
-all_member test g (k ∷ ms) h m i =
-    let parts = all_parts test (g k) (flat_map g ms) h in
-    by (nat_eq m k) refl i parts.0 (all_member test g ms parts.1 m)
-  where
-    by : (same : Bool) → nat_eq m k ≡ same → IsTrue (same || list_any (nat_eq m) ms) → IsTrue (list_all test (g k)) → (IsIn ms m → IsTrue (list_all test (g m))) → IsTrue (list_all test (g m))
-    by true e i here rest = subst (λ (n : ℕ). IsTrue (list_all test (g n))) (sym (eqb-true m k e)) here
-    by false e i here rest = rest i
-
 -- ---- how many pass a test
 
 -- where no more pass than before, there are no more

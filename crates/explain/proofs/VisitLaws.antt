@@ -19,6 +19,7 @@ use Rattle.operations.specs.ItemSteps.{item_step, value_step}
 use Rattle.operations.specs.Sources.{verdict_on_source}
 use Rattle.operations.specs.declared.reads.ItemStep.TheVariants.{Member}
 use Rattle.operations.specs.declared.reads.ItemStep.TheVariants as item_end
+use Rattle.operations.proofs.StepLaws.{next_member}
 use Rattle.three_state.specs.Results.{members_of, truth}
 use Rattle.three_state.specs.declared.res.Res.{Res}
 use Rattle.three_state.specs.declared.res.Res.TheVariants.{Complete, Placeholder, Incomplete, Fault}
@@ -74,9 +75,6 @@ module _ (env : Env Literal Reading Use Place) (by : ReadBy Reading Use Place Sl
 
 -- ---- members
 
-pub next_member : (ms : List ℕ) (i : ℕ) → i < length ms → drop i ms ≡ get_or ms i 0 ∷ drop (i + 1) ms
-next_member ms i h = drop-cons ms i 0 h ∙ ap (λ (k : ℕ). get_or ms i 0 ∷ drop k ms) (sym (add-one i))
-
 module _ {X : Type 0} (f : ℕ → List X) (ms : List ℕ) (i : ℕ) (low : i < length ms) (old new : List X) (e : new ≡ old ++ f (get_or ms i 0)) where
   pub member_read : new ++ flat_map f (drop (i + 1) ms) ≡ old ++ flat_map f (drop i ms)
   member_read = moved_on old new (f (get_or ms i 0)) (flat_map f (drop (i + 1) ms)) (flat_map f (drop i ms)) e (ap (flat_map f) (next_member ms i low))
@@ -106,18 +104,6 @@ conditional_read d look fact by at test value main r step f h old new e =
     (ap (λ l. slots_read env by at test ++ l) (after_this_step true r (over env at test) step (slots_read env by at value) (slots_read env by at main) f h))
 
 -- ---- a collection without members to go through
-
-pub no_members : (source : Res) → verdict_on_source source ≡ verdict.Incomplete → members_of source ≡ []
-no_members (Complete v) e = absurd (cc)
-no_members (Placeholder v) e = absurd (cc)
-no_members Incomplete e = refl
-no_members (Fault fault) e = refl
-
-pub no_members_at_fault : (source : Res) (fault : ValueFault) → verdict_on_source source ≡ verdict.Fault fault → members_of source ≡ []
-no_members_at_fault (Complete v) f e = absurd (cc)
-no_members_at_fault (Placeholder v) f e = absurd (cc)
-no_members_at_fault Incomplete f e = refl
-no_members_at_fault (Fault fault) f e = refl
 
 -- ---- the field of the member that an item names
 

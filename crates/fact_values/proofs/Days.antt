@@ -27,8 +27,8 @@ civil year month day h =
 not_under : (a b : ℤ) → a ≤ℤ b → int_lt b a ≡ false
 not_under a b h = grind (arith, ints)
 
-under : (a b : ℤ) → a <ℤ b → int_lt a b ≡ true
-under a b h = grind (arith, ints)
+pub is_under : (a b : ℤ) → a <ℤ b → int_lt a b ≡ true
+is_under a b h = grind (arith, ints)
 
 -- a day in the range lies from the first to the last
 pub IsDay-between : (n : ℤ) → IsDay n ↔ IsBetween first_day last_day n
@@ -114,7 +114,7 @@ last_year_begun-date (suc k) n year month day h le =
     by_lt_z year (pos (suc k + 1800))
     (λ lt.
     let before = number_of-lt_year year month day (pos (suc k + 1800)) h.0.0 lt in
-    let test : int_lt n (number_of (pos (suc k + 1800)) (pos 1) (pos 1)) ≡ true = under _ _ (subst (λ z. z <ℤ number_of (pos (suc k + 1800)) (pos 1) (pos 1)) h.1 before) in
+    let test : int_lt n (number_of (pos (suc k + 1800)) (pos 1) (pos 1)) ≡ true = is_under _ _ (subst (λ z. z <ℤ number_of (pos (suc k + 1800)) (pos 1) (pos 1)) h.1 before) in
     rw test (last_year_begun-date k n year month day h (omega (arith, signed_arith))))
     (λ ge.
     let same : pos (suc k + 1800) ≡ year = omega (arith, signed_arith) in

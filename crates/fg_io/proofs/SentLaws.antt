@@ -34,3 +34,11 @@ sent_whole a b text sent = subst (Appends a b) (sym (sent.split ∙ append-nil s
 -- and the other way round
 pub whole_sent : (a b : Option (List ℕ)) (text : List ℕ) → Appends a b text → Sent a b text []
 whole_sent a b text took = record { front = text; took = took; split = sym (append-nil text) }
+
+-- a text was written whole, and then another as far as its rest
+pub sent_on : (a b c : Option (List ℕ)) (text next rest : List ℕ) → Sent a b text [] → Sent b c next rest → Sent a c (text ++ next) rest
+sent_on a b c text next rest first second = record {
+  front = first.front ++ second.front;
+  took = appends_more a b c first.front second.front first.took second.took;
+  split = (λ i. (first.split ∙ append-nil first.front) i ++ second.split i) ∙ sym (append_assoc first.front second.front rest);
+}

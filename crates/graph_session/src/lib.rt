@@ -14,6 +14,8 @@ mod reply;
 mod running;
 mod session;
 
+pub use judging::read_value;
+pub use kinds::{is_answered, is_list, is_overridden};
 pub use laws::commands_lead_to_answers_that_fit;
 pub use reply::{Refusal, Reply};
 pub use running::run;

@@ -2,4 +2,5 @@ pub mod CaseLaws
 pub mod FieldLaws
 pub mod FilterLaws
 pub mod ManyLaws
+pub mod StepLaws
 pub mod SumLaws

@@ -20,6 +20,7 @@ use Rattle.operations.specs.ManyFolds.{ManySeen, many_from, saw}
 use Rattle.operations.specs.declared.cases.CaseStep.{CaseStep}
 use Rattle.operations.specs.declared.cases.CaseStep.TheVariants.{Next, Take, End}
 use Rattle.operations.proofs.CaseLaws.{switch_from-start}
+use Rattle.operations.proofs.StepLaws.{next_member}
 use Rattle.three_state.specs.Folds.{down_unless, filter_on, kept_next, verdict_next}
 use Rattle.three_state.specs.Results.{is_true, kept, switch_of, truth}
 use Rattle.three_state.specs.declared.res.Res.{Res}
@@ -29,16 +30,6 @@ use Rattle.dictionary.specs.Plain.{conditional_body}
 use Rattle.dictionary.specs.Reading.{Place}
 use Rattle.plain_table.specs.Ground.{env_of}
 use Rattle.plain_table.specs.declared.ground.Ground.{Ground}
-
--- a result that is one thing is also what that is equal to
-pub ok_same : (r : Result Res NoMemory) (x y : Res) → x ≡ y → IfOk r (λ z. z ≡ x) → IfOk r (λ z. z ≡ y)
-ok_same r x y e h = subst (λ (w : Res). IfOk r (λ z. z ≡ w)) e h
-
-pub one_more : (old ticked new work : ℕ) → ticked ≡ old + 1 → new ≤ ticked + work → new ≤ old + suc work
-one_more old ticked new work e h = omega arith
-
-pub ok_more : (r : Result Res NoMemory) (old ticked new work : ℕ) → ticked ≡ old + 1 → OnOk r (new ≡ ticked + work) → OnOk r (new ≡ old + suc work)
-ok_more r old ticked new work e h = on_ok_weaker r (λ (k : new ≡ ticked + work). omega (arith, k, e)) h
 
 -- ---- what is visited behind a condition
 
@@ -118,10 +109,6 @@ conditional_visits g at test value main condition step is taken =
     ap (λ n. suc (visits (env_of g) at test + n)) (sym (step_visits true condition (over (env_of g) at test) step (visits (env_of g) at value) (1 + visits (env_of g) at main) is taken))
 
 -- ---- members
-
--- the next member of a list, and those behind it
-next_member : (ms : List ℕ) (i : ℕ) → i < length ms → drop i ms ≡ get_or ms i 0 ∷ drop (i + 1) ms
-next_member ms i h = drop-cons ms i 0 h ∙ ap (λ (k : ℕ). get_or ms i 0 ∷ drop k ms) (sym (add-one i))
 
 module _ (ms : List ℕ) (i : ℕ) (low : i < length ms) where
   pub members_weigh : (work : ℕ → ℕ) → sum_by work (drop i ms) ≡ work (get_or ms i 0) + sum_by work (drop (i + 1) ms)

@@ -1,9 +1,8 @@
 -- What the test of a fact tells.
-use Rattle.std.proofs.Common.{◌≡◌, ℕ, Bool, true, false, ◌&&◌, IsTrue, bytes_eq, List, [], ◌∷◌, ◌++◌, Option, Some, None, Err, refl, sym, ap, ◌∙◌, subst, append-nil, append_assoc}
+use Rattle.std.proofs.Common.{◌≡◌, ℕ, ◌&&◌, IsTrue, bytes_eq, List, [], ◌∷◌, Option, Some, None, Err, refl, sym, ap, ◌∙◌, subst, append-nil, append_assoc}
 use Rattle.std.specs.Prelude.{is_none}
 use Rattle.common_lemmas.proofs.Bools.{both}
 use Rattle.common_lemmas.proofs.Bytes.{same_bytes}
-use Rattle.common_lemmas.proofs.Options.{nothing}
 use Rattle.fact_paths.specs.Paths.{Reads, SpellsFactPath}
 use Rattle.fact_paths.specs.declared.fault.PathFault.{PathFault}
 use Rattle.fact_paths.specs.declared.fault.PathFault.TheVariants.{BadPath, NoMemory}
@@ -14,15 +13,15 @@ use Rattle.fact_paths.specs.declared.use_path.UsePath.TheVariants.{Global, Sibli
 use Rattle.fact_paths.proofs.FactPathLaws.{fact_path_reading}
 use Rattle.fact_values.specs.declared.fact_type.FactType.{FactType}
 use Rattle.fact_values.specs.declared.fact_type.FactType.TheVariants as types
-use Rattle.dict_tree.specs.Reading.{use_of}
 use Rattle.dict_tree.specs.declared.operators.ManyOp.{ManyOp}
 use Rattle.dict_tree.specs.declared.operators.ManyOp.TheVariants.{All, Any, Add, Subtract, GreaterOf, LesserOf}
 use Rattle.dict_tree.specs.Tree.{Use, Source, Sources, SourceCases, literal, read, switch, many, one, two, pick, no_trees, tree, no_cases, a_case}
 use Rattle.dict_tree.specs.Facts.{Bound, Fact, Stated, enum_of, item_of, list_of, scalar, writable_list}
-use Rattle.dict_tree.specs.Forms.{AreCases, AreEnough, AreSome, AreTwo, HasConditionalForm, HasForm, HasKind, HasOptionForm, HaveCaseForms, HaveForms, IsDerivedType, IsReadFrom, IsScalar, IsUse, IsWellFormed, IsWritableType}
+use Rattle.dict_tree.specs.Forms.{AreCases, AreEnough, AreSome, AreTwo, HasConditionalForm, HasForm, HasKind, HasOptionForm, HaveCaseForms, HaveForms, IsDerivedType, IsScalar, IsUse, IsWellFormed, IsWritableType}
 use Rattle.dict_tree.specs.Dictionary.{Dictionary, IsWithinLimits, too_deep, too_many, with_fact}
 use Rattle.dict_tree.proofs.ExprLaws.{is_use}
 use Rattle.dict_tree.proofs.FindingLaws.{is_path-is}
+use Rattle.dict_tree.proofs.UseLaws.{fact_path_from}
 use Rattle.written_facts.specs.Taking.{are_cases, are_enough, are_some, are_two, has_form, has_kind, has_none, has_path, have_case_forms, have_forms, is_derived_type, is_named, is_read_use, is_scalar, is_well_formed, is_within, is_writable_type, same_option, same_path_option, same_use, takes, takes_all, with_facts}
 
 -- ---- uses
@@ -131,10 +130,6 @@ kind f (Some t) c h =
     let q = both (has_form t) (has_none f.limits) p.1 in
     (derived f.stated p.0, formed t q.0, none_are f.limits q.1)
 
-spelled : (text : List ℕ) (o : Option FactPath) → fact_path_of text ≡ o → IsReadFrom SpellsFactPath text o
-spelled text None e = λ p s. let found = fact_path_reading.complete text p s in absurd cc
-spelled text (Some p) e = fact_path_reading.sound text p e
-
 one_path : (p q : Option FactPath) → IsTrue (same_path_option p q) → q ≡ p
 one_path (Some p) q h = is_path-is p q h
 one_path None q h = nothing_is q h
@@ -161,7 +156,7 @@ well_formed f h =
     let q = both (has_kind f f.main) (is_none f.conditional && is_none f.placeholder) p.1 in
     let r = both (is_none f.conditional) (is_none f.placeholder) q.1 in
     record {
-      path = spelled f.path_text f.path (one_path f.path (fact_path_of f.path_text) p.0);
+      path = fact_path_from f.path_text f.path (one_path f.path (fact_path_of f.path_text) p.0);
       kind = kind f f.main (no_conditional f.conditional r.0) q.0;
       conditional = no_conditional_form f.conditional r.0;
       placeholder = no_placeholder f.placeholder r.1;

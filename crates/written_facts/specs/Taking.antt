@@ -1,5 +1,5 @@
 -- Which facts a source takes, as a test that computes.
-use Rattle.std.specs.Prelude.{ℕ, Bool, true, false, ◌&&◌, bytes_eq, is_none, List, [], ◌∷◌, ◌++◌, Option, Some, None}
+use Rattle.std.specs.Prelude.{Bool, true, false, ◌&&◌, bytes_eq, is_none, List, [], ◌∷◌, ◌++◌, Option, Some, None}
 use Rattle.fact_paths.specs.Names.{is_name}
 use Rattle.fact_paths.specs.Reading.{fact_path_of, use_path_of}
 use Rattle.fact_paths.specs.declared.fact_path.FactPath.{FactPath}

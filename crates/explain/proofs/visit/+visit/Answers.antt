@@ -12,12 +12,13 @@ use Rattle.operations.specs.declared.cases.CaseStep.TheVariants.{Next, Take, End
 use Rattle.operations.proofs.CaseLaws.{find_after-start, switch_from-start}
 use Rattle.operations.proofs.FilterLaws.{filter_on-source, kept-member_list}
 use Rattle.operations.proofs.ManyLaws.{many_from-start}
+use Rattle.operations.proofs.StepLaws.{ok_same}
 use Rattle.three_state.specs.Results.{kept, members_of}
 use Rattle.three_state.specs.declared.strict.Verdict.{Verdict}
 use Rattle.dictionary.specs.Reading.{Place}
-use Rattle.plain_table.proofs.EvalLaws.{all_next, case_at, filter_next, find_at, kept_more, ok_same}
+use Rattle.plain_table.proofs.EvalLaws.{all_next, case_at, filter_next, find_at, kept_more}
 use Rattle.explain.specs.Ground.{condition_on, condition_reads, env_of, reads_in}
-use Rattle.explain.proofs.VisitLaws.{case_read, joined, judged_read, member_read, no_members, no_members_at_fault, operand_read}
+use Rattle.explain.proofs.VisitLaws.{case_read, joined, judged_read, member_read, operand_read}
 use Rattle.explain.proofs.visit.+visit.Goals as goal
 
 -- ---- visit

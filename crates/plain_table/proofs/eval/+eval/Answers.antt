@@ -13,12 +13,13 @@ use Rattle.operations.specs.declared.cases.CaseStep.TheVariants.{Next, Take, End
 use Rattle.operations.proofs.CaseLaws.{find_after-start, switch_from-start}
 use Rattle.operations.proofs.FilterLaws.{filter_on-source, kept-member_list}
 use Rattle.operations.proofs.ManyLaws.{many_from-start}
+use Rattle.operations.proofs.StepLaws.{ok_more, ok_same, one_more}
 use Rattle.three_state.specs.Results.{kept, members_of}
 use Rattle.three_state.specs.declared.strict.Verdict.{Verdict}
 use Rattle.three_state.specs.declared.strict.Verdict.TheVariants as verdict
 use Rattle.dictionary.specs.Reading.{Place}
 use Rattle.plain_table.specs.Ground.{condition_on, env_of, visits_on, work_on}
-use Rattle.plain_table.proofs.EvalLaws.{all_next, all_visits, all_weigh, case_at, cases_visits, cases_weigh, filter_next, find_at, found_visits, kept_more, members_weigh, ok_more, ok_same, one_more}
+use Rattle.plain_table.proofs.EvalLaws.{all_next, all_visits, all_weigh, case_at, cases_visits, cases_weigh, filter_next, find_at, found_visits, kept_more, members_weigh}
 use Rattle.plain_table.proofs.eval.+eval.Goals as goal
 
 -- ---- eval
