@@ -4,6 +4,7 @@ use Rattle.std.specs.Prelude.{◌&&◌, ◌||◌, nat_eq, slice_get, slice_set}
 use Rattle.std.specs.List.{AllByRecursion, IsDistinct, filter, list_all, list_any}
 use Rattle.std.proofs.lemmas.List.{append-nil}
 use Rattle.common_lemmas.proofs.Numbers.{equal_number}
+use Rattle.common_lemmas.proofs.Bools.{and_assoc, and_true}
 use Rattle.dict_tree.specs.Dictionary.{Dictionary as Tree}
 use Rattle.dict_tree.specs.declared.mentions.Mention.{Mention}
 use Rattle.dictionary.specs.Feeds.{is_of, mentions_of}
@@ -61,18 +62,10 @@ some_of fact ms = list_any (is_of fact) ms
 same_of : ℕ → List Mention → Bool
 same_of fact ms = list_all (λ m. not (is_of fact m) || m.same) ms
 
-and_true : (b : Bool) → b ≡ (b && true)
-and_true true = refl
-and_true false = refl
-
-and_assoc : (a b c : Bool) → ((a && b) && c) ≡ (a && (b && c))
-and_assoc true b c = refl
-and_assoc false b c = refl
-
 -- after a first mention by g, each further one only says whether it is Same
 more_mentions : (fact g : ℕ) (rs : List ReaderOf) (b : Bool) (ms : List Mention) → with_mentions fact g (rs ++ at_fact g b ∷ []) ms ≡ rs ++ at_fact g (b && same_of fact ms) ∷ []
 unfolding same_of
-more_mentions fact g rs b [] = ap (λ c. rs ++ at_fact g c ∷ []) (and_true b)
+more_mentions fact g rs b [] = ap (λ c. rs ++ at_fact g c ∷ []) (sym (and_true b))
 more_mentions fact g rs b (m ∷ ms) = at (is_of fact m) (more_mentions fact g rs (b && m.same) ms) (more_mentions fact g rs b ms)
   where
     at : (here : Bool) → with_mentions fact g (rs ++ at_fact g (b && m.same) ∷ []) ms ≡ rs ++ at_fact g ((b && m.same) && same_of fact ms) ∷ []

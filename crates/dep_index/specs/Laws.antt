@@ -1,7 +1,8 @@
 -- Which slots a fact's readers are fed by.
-use Rattle.std.specs.Prelude.{◌≡◌, Bool, not, ◌&&◌, ◌||◌, nat_eq, List}
+use Rattle.std.specs.Prelude.{◌≡◌, ℕ, Bool, not, ◌&&◌, ◌||◌, nat_eq, List, All}
 use Rattle.std.specs.List.{list_any}
 use Rattle.fact_values.specs.declared.slot.Slot.{Slot}
+use Rattle.dict_tree.specs.Finding.{IsNumber}
 use Rattle.dictionary.specs.Accepted.{Accepted}
 use Rattle.dictionary.specs.Feeds.{feeds}
 use Rattle.dep_index.specs.Readers.{AreReaders, is_reader}
@@ -14,3 +15,7 @@ reads t s r = is_reader s.fact r && (not r.same || nat_eq t.member s.member)
 -- t feeds s exactly where s is so read by one of the readers of its fact
 abbrev pub FeedsByReaders : Type 0
 FeedsByReaders = (d : Accepted) (t s : Slot) (rs : List ReaderOf) → AreReaders d t.fact rs → list_any (reads t s) rs ≡ feeds d.tree t s
+
+-- each reader is one of the dictionary's facts
+abbrev pub ReadersAreFacts : Type 0
+ReadersAreFacts = (d : Accepted) (fact : ℕ) (rs : List ReaderOf) → AreReaders d fact rs → All (λ (r : ReaderOf). IsNumber d.tree.facts r.fact) rs

@@ -1,8 +1,13 @@
 // What readers say of slots. Each function's contract is the theorem.
-ghost use Rattle.dep_index.specs.Laws.{FeedsByReaders};
+ghost use Rattle.dep_index.specs.Laws.{FeedsByReaders, ReadersAreFacts};
 
 /// A slot feeds another exactly where the fact of the other is among its fact's readers and, where
 /// this one's mentions are all of the same member, the members are equal.
 pub fn slots_feed_readers()
     ensures { FeedsByReaders }
+{}
+
+/// Readers are facts of the dictionary.
+pub fn readers_are_facts()
+    ensures { ReadersAreFacts }
 {}

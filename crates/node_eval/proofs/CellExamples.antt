@@ -19,14 +19,14 @@ use Rattle.node_eval.specs.declared.node.Reader.TheVariants.{Global, Same, Inner
 
 -- the results of a fact, by its members
 pub record Column : Type 0 where
-  fact : ℕ
-  cells : List (ℕ × Res)
+  pub fact : ℕ
+  pub cells : List (ℕ × Res)
 
-abbrev cell_of : List (ℕ × Res) → ℕ → Option Res
+abbrev pub cell_of : List (ℕ × Res) → ℕ → Option Res
 cell_of [] m = None
 cell_of (c ∷ cs) m = if nat_eq c.0 m then Some c.1 else cell_of cs m
 
-abbrev look_in : List Column → Look
+abbrev pub look_in : List Column → Look
 look_in [] s = None
 look_in (c ∷ cs) s = if nat_eq c.fact s.fact then cell_of c.cells s.member else look_in cs s
 

@@ -3,3 +3,4 @@ pub mod MemoryLaws
 pub mod RestLaws
 pub mod Views
 mod CellExamples
+mod StateExamples

@@ -16,6 +16,7 @@ use Rattle.operations.specs.ManyFolds.{ManySeen, many_from, saw}
 use Rattle.operations.specs.Sources.{verdict_on_source}
 use Rattle.operations.specs.declared.cases.CaseStep.{CaseStep}
 use Rattle.operations.specs.declared.cases.CaseStep.TheVariants.{Next, Take, End}
+use Rattle.operations.proofs.StepLaws.{next_member}
 use Rattle.three_state.specs.Folds.{filter_on, kept_next, verdict_next}
 use Rattle.three_state.specs.Results.{is_true, kept, members_of, truth}
 use Rattle.three_state.specs.declared.res.Res.{Res}
@@ -25,16 +26,6 @@ use Rattle.three_state.specs.declared.strict.Verdict.TheVariants as verdict
 use Rattle.node_eval.specs.Memory.{AfterCondition, Chosen, SomeOf, TakesInAll, TakesInCases, TakesMemory}
 use Rattle.node_eval.specs.View.{cases_of, trees_of}
 use Rattle.evaluation.specs.Visits.{visits, visits_after, visits_of_all, visits_of_cases}
-
--- a result that is one thing is also what that is equal to
-pub ok_same : (r : Result Res NoMemory) (x y : Res) → x ≡ y → IfOk r (λ z. z ≡ x) → IfOk r (λ z. z ≡ y)
-ok_same r x y e h = subst (λ (w : Res). IfOk r (λ z. z ≡ w)) e h
-
-pub one_more : (old ticked new work : ℕ) → ticked ≡ old + 1 → new ≤ ticked + work → new ≤ old + suc work
-one_more old ticked new work e h = omega arith
-
-pub ok_more : (r : Result Res NoMemory) (old ticked new work : ℕ) → ticked ≡ old + 1 → OnOk r (new ≡ ticked + work) → OnOk r (new ≡ old + suc work)
-ok_more r old ticked new work e h = on_ok_weaker r (λ (k : new ≡ ticked + work). omega (arith, k, e)) h
 
 -- ---- what a condition says of its case, by the step that it leads to
 
@@ -147,10 +138,6 @@ module _ {C R P S X : Type 0} (v : X → Tree C R P × Tree C R P) (env : Env C 
 
 -- ---- members
 
--- the next member of a list, and those behind it
-next_member : (ms : List ℕ) (i : ℕ) → i < length ms → drop i ms ≡ get_or ms i 0 ∷ drop (i + 1) ms
-next_member ms i h = drop-cons ms i 0 h ∙ ap (λ (k : ℕ). get_or ms i 0 ∷ drop k ms) (sym (add-one i))
-
 module _ (ms : List ℕ) (i : ℕ) (low : i < length ms) where
   pub members_weigh : (work : ℕ → ℕ) → sum_by work (drop i ms) ≡ work (get_or ms i 0) + sum_by work (drop (i + 1) ms)
   members_weigh work = ap (sum_by work) (next_member ms i low) ∙ sum_by-cons work (get_or ms i 0) (drop (i + 1) ms)
@@ -193,16 +180,3 @@ module _ (ms : List ℕ) (i : ℕ) (low : i < length ms) where
           ap (λ (l : List ℕ). l ++ kept condition (drop (i + 1) ms)) more_found
           ∙ kept_one (is_true (condition (get_or ms i 0))) found (get_or ms i 0) (kept condition (drop (i + 1) ms))
           ∙ sym (ap (λ l. found ++ kept condition l) (next_member ms i low))
-
--- a collection whose verdict isn't to go on has no members
-pub none_incomplete : (source : Res) → verdict_on_source source ≡ verdict.Incomplete → members_of source ≡ []
-none_incomplete (Complete v) h = absurd cc
-none_incomplete (Placeholder v) h = absurd cc
-none_incomplete Incomplete h = refl
-none_incomplete (Fault fault) h = refl
-
-pub none_fault : (source : Res) (fault : ValueFault) → verdict_on_source source ≡ verdict.Fault fault → members_of source ≡ []
-none_fault (Complete v) fault h = absurd cc
-none_fault (Placeholder v) fault h = absurd cc
-none_fault Incomplete fault h = refl
-none_fault (Fault _) fault h = refl

@@ -1,38 +1,39 @@
 -- The change from answers to answers spreads as a loop has to know, and the loop leaves what is defined.
-use Rattle.std.proofs.Common.{◌≡◌, ◌≤◌, ℕ, Bool, true, false, not, ◌&&◌, ◌||◌, if◌then◌else◌, List, [], ◌∷◌, ◌++◌, filter, length, sum_by, Option, None, refl, sym, ap, ◌∙◌, arith}
+use Rattle.std.proofs.Common.{◌≡◌, ℕ, Bool, true, false, not, ◌&&◌, ◌||◌, if◌then◌else◌, IsTrue, List, [], ◌∷◌, length, sum_by, None, is_some, refl, sym, ap, subst, ◌∙◌}
 use Rattle.std.specs.List.{list_any}
-use Rattle.common_lemmas.proofs.Bools.{both_left}
-use Rattle.common_lemmas.proofs.Options.{nothing}
+use Rattle.common_lemmas.proofs.Bools.{and_true, both_left, both_right}
+use Rattle.common_lemmas.proofs.Lists.{same_filter}
 use Rattle.fact_values.specs.declared.slot.Slot.{Slot}
-use Rattle.three_state.specs.declared.res.Res.{Res}
 use Rattle.three_state.specs.Equality.{res_same}
 use Rattle.three_state.proofs.EqualityLaws.{res_same-Decides}
-use Rattle.answers.specs.Answered.{Answered}
-use Rattle.answers.specs.Change.{applied}
-use Rattle.dictionary.specs.Accepted.{Accepted}
-use Rattle.dictionary.specs.Extension.{both_same, extends}
+use Rattle.evaluation.proofs.ResolvingLaws.{everywhere}
+use Rattle.answers.specs.Answered.{Answered, value_of}
+use Rattle.answers.specs.Change.{Change, applied}
+use Rattle.answers.specs.declared.edit.Side.TheVariants.{Override}
+use Rattle.dictionary.specs.Accepted.{Accepted, IsAccepted}
+use Rattle.dictionary.specs.Extension.{both_same, extends, Extends}
 use Rattle.dictionary.specs.Feeds.{feeds}
-use Rattle.dictionary.specs.Final.{is_final}
-use Rattle.dictionary.specs.Plain.{plain, plain_step, rank}
-use Rattle.dictionary.specs.Reading.{Look}
-use Rattle.dictionary.specs.Slots.{slot_same, stands, standing}
+use Rattle.dictionary.specs.Final.{is_complete_in, is_final}
+use Rattle.dictionary.specs.Fits.{AnswersFit}
+use Rattle.dictionary.specs.Plain.{plain}
+use Rattle.dictionary.specs.Slots.{stands, standing}
+use Rattle.dictionary.specs.Steady.{steady}
 use Rattle.dictionary.specs.Touched.{has_moved, same_entry, touched, touches}
-use Rattle.dictionary.specs.Undone.{is_touched_first}
-use Rattle.dictionary.specs.Weights.{slot_weight, touched_weight}
-use Rattle.dictionary.proofs.ExtensionLaws.{equal_same}
+use Rattle.dictionary.specs.Undone.{is_extended, is_touched_first, IsUndone}
+use Rattle.dictionary.specs.Weights.{slot_weight}
+use Rattle.dictionary.proofs.ExtensionLaws.{equal_same, test_tells_extends}
 use Rattle.dictionary.proofs.FeedLaws.{feeds_fall}
-use Rattle.dictionary.proofs.PlainLaws.{standing_have_results, step_over_lower}
-use Rattle.dictionary.proofs.SlotLaws.{listed_stand, slot_same-equal}
-use Rattle.dictionary.proofs.UndoneLaws.{first_tells}
+use Rattle.dictionary.proofs.PlainLaws.{standing_have_results}
+use Rattle.dictionary.proofs.SlotLaws.{listed_stand}
+use Rattle.dictionary.proofs.UndoneLaws.{extended_tells, first_tells}
 use Rattle.dictionary.proofs.UntouchedLaws.{untouched_keeps}
 use Rattle.recalc.specs.Spread.{is_in, is_touched}
-use Rattle.recalc.specs.Marking.{IsLeast, IsMarked}
-use Rattle.recalc.specs.BetweenAnswers.{AllIsDone, AreBetween, AreResults, between, ChangesSpread, EditMarks, SpreadTouches, TurnIsPlain, TurnKeepsResults, WeighsAtMostTouched}
+use Rattle.recalc.specs.BetweenAnswers.{AllIsDone, AreBetween, between, ChangesSpread, EditMarks, from_nothing, results_before, SpreadTouches, StartPasses, TouchedWeigh, UndonePasses}
 use Rattle.recalc.specs.Laws.{touched_of}
-use Rattle.recalc.proofs.SlotLists.{in_push}
-use Rattle.recalc.proofs.MarkingLaws.{done_are_touched, lower_settle, none_least, start_marks}
+use Rattle.recalc.specs.Passages.{IsPassage, is_shielded, moves}
+use Rattle.recalc.proofs.MarkingLaws.{done_are_touched, start_marks}
 use Rattle.recalc.proofs.StandingOnce.{standing_once}
-use Rattle.recalc.proofs.WeighingLaws.{done_weigh_all, done_weigh_less, length_is}
+use Rattle.recalc.proofs.WeighingLaws.{done_weigh_all, length_is}
 
 -- ---- the exemption of a slot, taken out of what feeds it
 
@@ -89,61 +90,82 @@ edit_marks names d accepted undo now is due h =
     ∙ sym (same_under (stands d.tree now s) (not (stands d.tree (applied undo now) s) || not (same_entry (applied undo now) now s)) (is_touched_first undo now s)
     (λ there. first_tells names d accepted undo now is s there)))
 
--- ---- a turn
+-- ---- the results before
 
-module _ (names : List (List ℕ)) (d : Accepted) (a b : Answered) (is : AreBetween names d a b) (done : List Slot) (due : Slot → Bool) (m : IsMarked (between d a b) done due) (look : Look) (results : AreResults d a b done look) where
-  no_result : (t : Slot) → stands d.tree b t ≡ false → plain d b t ≡ None
-  no_result t off = nothing (plain d b t) (standing_have_results d b t ∙ off)
-
-  -- a slot that doesn't wait, and is of no higher rank than what waits, has its new result
-  settled : (t : Slot) → due t ≡ false → IsLeast (between d a b) due (rank d t.fact) → look t ≡ plain d b t
-  settled t off least = at (stands d.tree b t) refl (is_in done t) refl
-    where
-      at : (x : Bool) → stands d.tree b t ≡ x → (y : Bool) → is_in done t ≡ y → look t ≡ plain d b t
-      at false e y f = results.others t e ∙ sym (no_result t e)
-      at true e true f = results.standing t e ∙ ap (λ z. if z then plain d b t else plain d a t) f
-      at true e false f =
-          results.standing t e
-          ∙ ap (λ z. if z then plain d b t else plain d a t) f
-          ∙ untouched_keeps names d is.accepted a b is.before is.after t e
-          (sym (spread_touches d a b t) ∙ lower_settle (between d a b) (changes_spread names d a b is) done due m t e f off least)
-
-  turn : (s : Slot) → IsLeast (between d a b) due (rank d s.fact) → plain_step d b look s ≡ plain d b s
-  turn s least =
-      step_over_lower names d is.accepted b look s
-      (λ t known low. settled t (none_least (between d a b) due (rank d s.fact) t least low)
-      (λ w on. let h : rank d s.fact ≤ rank d w.fact = least w on in omega arith))
-
-pub turn_is_plain : TurnIsPlain
-turn_is_plain names d a b is done due m look results s on least = turn names d a b is done due m look results s least
-
-pub turn_keeps_results : TurnKeepsResults
-turn_keeps_results d a b done look next results s there put = record {
-  standing = λ q stands. put q
-      ∙ ap (λ r. if slot_same q s then plain d b s else r) (results.standing q stands)
-      ∙ choose (slot_same q s) (is_in done q) (plain d b s) (plain d b q) (plain d a q) (λ e. ap (plain d b) (sym (slot_same-equal q s e)))
-      ∙ ap (λ z. if z then plain d b q else plain d a q) (sym (in_push done s q));
-  others = λ q off. put q ∙ other q (slot_same q s) refl off ∙ results.others q off;
-}
+before_some : (d : Accepted) (a b : Answered) (s : Slot) (x : Bool) → is_some (if x then plain d a s else None) ≡ (stands d.tree a s && x)
+before_some d a b s true = standing_have_results d a s ∙ sym (and_true (stands d.tree a s))
+before_some d a b s false = nowhere (stands d.tree a s)
   where
-    choose : (x y : Bool) (p r o : Option Res) → (x ≡ true → p ≡ r) → (if x then p else (if y then r else o)) ≡ (if y || x then r else o)
-    choose true true p r o h = h refl
-    choose true false p r o h = h refl
-    choose false true p r o h = refl
-    choose false false p r o h = refl
+    nowhere : (y : Bool) → false ≡ (y && false)
+    nowhere true = refl
+    nowhere false = refl
 
-    other : (q : Slot) (x : Bool) → slot_same q s ≡ x → stands d.tree b q ≡ false → (if x then plain d b s else look q) ≡ look q
-    other q false e off = refl
-    other q true e off = absurd (let on : stands d.tree b q ≡ true = ap (stands d.tree b) (slot_same-equal q s e) ∙ there in cc)
+before_moved : (d : Accepted) (a b : Answered) (s : Slot) → has_moved d a b s ≡ moves (results_before d a b s) (plain d b s)
+before_moved d a b s =
+    same_under (stands d.tree a s && stands d.tree b s) (not (both_same res_same (plain d a s) (plain d b s))) (not (both_same res_same (results_before d a b s) (plain d b s)))
+    (λ both. ap (λ x. not (both_same res_same (if x then plain d a s else None) (plain d b s))) (sym (both_right (stands d.tree a s) (stands d.tree b s) both)))
+    ∙ ap (λ x. x && not (both_same res_same (results_before d a b s) (plain d b s))) (sym (before_some d a b s (stands d.tree b s)))
+
+-- an override is what it was where the answers extend those before
+final_before : (names : List (List ℕ)) (d : Accepted) → IsAccepted names d → (undo : Change) (now : Answered) → IsUndone d undo now → (s : Slot) → IsTrue (stands d.tree now s)
+    → (extends d.tree (applied undo now) now && is_final d (applied undo now) s) ≡ is_shielded (is_extended undo now) d now (results_before d (applied undo now) now) s
+final_before names d accepted undo now u s there =
+    ap (λ x. x && is_final d (applied undo now) s) told
+    ∙ same_under (is_extended undo now) (is_final d (applied undo now) s) (is_complete_in (results_before d (applied undo now) now s) && (is_some (value_of Override now s) || steady d s.fact))
+    (λ kept_on. ap (λ o. is_complete_in (plain d (applied undo now) s) && (is_some o || steady d s.fact)) (sym ((kept kept_on).overrides s))
+    ∙ ap (λ x. is_complete_in (if x then plain d (applied undo now) s else None) && (is_some (value_of Override now s) || steady d s.fact)) (sym there))
+  where
+    told : extends d.tree (applied undo now) now ≡ is_extended undo now
+    told = extended_tells names d accepted undo now u
+
+    kept : is_extended undo now ≡ true → Extends (applied undo now) now
+    kept h = (test_tells_extends names d accepted (applied undo now) now u.before u.after).0 (told ∙ h)
+
+pub are_between : (names : List (List ℕ)) (d : Accepted) → IsAccepted names d → (undo : Change) (now : Answered) → IsUndone d undo now → AreBetween names d (applied undo now) now
+are_between names d accepted undo now u = record { accepted = accepted; before = u.before; after = u.after }
+
+undone_passes_from : (names : List (List ℕ)) (d : Accepted) → IsAccepted names d → (undo : Change) (now : Answered) → IsUndone d undo now
+    → IsPassage d now (is_extended undo now) (results_before d (applied undo now) now) (between d (applied undo now) now)
+undone_passes_from names d accepted undo now u = record {
+  spreads = changes_spread names d (applied undo now) now (are_between names d accepted undo now u);
+  once = standing_once d now u.after;
+  there = λ s. refl;
+  ranks = λ s. refl;
+  fed = λ t s there. ap (λ x. feeds d.tree t s && not x) (final_before names d accepted undo now u s there);
+  moved = before_moved d (applied undo now) now;
+  keeps = λ s there h.
+      ap (λ x. if x then plain d (applied undo now) s else None) there
+      ∙ untouched_keeps names d accepted (applied undo now) now u.before u.after s there (sym (spread_touches d (applied undo now) now s) ∙ h);
+  others = λ s off. ap (λ x. if x then plain d (applied undo now) s else None) off;
+}
+
+pub undone_passes : UndonePasses
+undone_passes names d accepted undo now u old h =
+    subst (λ look. IsPassage d now (is_extended undo now) look (between d (applied undo now) now)) (sym (everywhere h)) (undone_passes_from names d accepted undo now u)
+
+start_passes_from : (names : List (List ℕ)) (d : Accepted) → IsAccepted names d → (b : Answered) → AnswersFit d.tree b → IsPassage d b false (λ s. None) (from_nothing d b)
+start_passes_from names d accepted b fit = record {
+  spreads = record {
+    listed = listed_stand d.tree b;
+    rising = λ t s i. feeds_fall names d accepted t s i;
+    keeps = λ s there h. refl;
+  };
+  once = standing_once d b fit;
+  there = λ s. refl;
+  ranks = λ s. refl;
+  fed = λ t s there. sym (and_true (feeds d.tree t s));
+  moved = λ s. refl;
+  keeps = λ s there h. absurd (cc);
+  others = λ s off. refl;
+}
+
+pub start_passes : StartPasses
+start_passes names d accepted b fit old h = subst (λ look. IsPassage d b false look (from_nothing d b)) (sym (everywhere h)) (start_passes_from names d accepted b fit)
 
 -- ---- the end
 
-filter_same : (p q : Slot → Bool) → ((s : Slot) → p s ≡ q s) → (ss : List Slot) → filter p ss ≡ filter q ss
-filter_same p q h [] = refl
-filter_same p q h (s ∷ ss) = rw (h s, filter_same p q h ss) refl
-
 same_touched : (d : Accepted) (a b : Answered) → touched_of (between d a b) ≡ touched d a b
-same_touched d a b = filter_same (is_touched (between d a b)) (touches d a b) (spread_touches d a b) (standing d.tree b)
+same_touched d a b = same_filter (is_touched (between d a b)) (touches d a b) (spread_touches d a b) (standing d.tree b)
 
 pub all_is_done : AllIsDone
 all_is_done names d a b is done due m none =
@@ -158,16 +180,7 @@ all_is_done names d a b is done due m none =
           ∙ sym (length_is (touched_of (between d a b)))
           ∙ ap length (same_touched d a b);
       stamps = λ k stamps s there. ap (λ z. if z then k else stamps s) (slots s ∙ ap (λ t. t && touches d a b s) there);
-      weight = done_weigh_all (between d a b) laws once done due m none (slot_weight d b)
-          ∙ ap (sum_by (slot_weight d b)) (same_touched d a b);
-      results = λ look results s. settled names d a b is done due m look results s (none s)
-          (λ w on. absurd (let off : due w ≡ false = none w in cc));
     }
 
-pub weighs_at_most_touched : WeighsAtMostTouched
-weighs_at_most_touched names d a b is done due m =
-    let less = done_weigh_less (between d a b) (changes_spread names d a b is) done due m (slot_weight d b) in
-    let same : sum_by (slot_weight d b) (touched_of (between d a b)) ≡ touched_weight d a b = ap (sum_by (slot_weight d b)) (same_touched d a b) in (
-      (let h : sum_by (slot_weight d b) done ≤ sum_by (slot_weight d b) (touched_of (between d a b)) = less.0 in omega arith),
-      λ s on. (let h : sum_by (slot_weight d b) (done ++ s ∷ []) ≤ sum_by (slot_weight d b) (touched_of (between d a b)) = less.1 s on in omega arith),
-    )
+pub touched_weigh : TouchedWeigh
+touched_weigh d a b = ap (sum_by (slot_weight d b)) (same_touched d a b)

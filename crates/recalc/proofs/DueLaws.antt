@@ -1,10 +1,12 @@
 -- The order of what waits.
-use Rattle.std.proofs.Common.{◌≡◌, ℕ, ◌≤◌, Bool, true, false, cond, ◌&&◌, ◌||◌, nat_eq, [], ◌∷◌, refl, sym, ap, ◌∙◌, arith}
+use Rattle.std.proofs.Common.{◌≡◌, ℕ, ◌≤◌, true, false, cond, ◌&&◌, ◌||◌, nat_eq, [], ◌∷◌, refl, sym, ap, ◌∙◌, arith}
 use Rattle.std.specs.List.{list_any}
 use Rattle.std.specs.Ordering.{nat_cmp, is_eq, is_gt, ordering_then}
 use Rattle.std.specs.declared.cmp.Ordering.{Ordering}
 use Rattle.std.specs.declared.cmp.Ordering.TheVariants.{Less, Equal, Greater}
 use Rattle.std.proofs.lemmas.Bool.Decides.{nat_tests}
+use Rattle.common_lemmas.proofs.Numbers.{nat_eq-comm}
+use Rattle.common_lemmas.proofs.Bools.{cond_or}
 use Rattle.recalc.specs.Waiting.{due_same, waits, Dues}
 use Rattle.recalc.specs.declared.work.Due.{Due}
 
@@ -38,15 +40,8 @@ pub waits_cmp : (ds : Dues) (q : Due) → waits ds q ≡ list_any (λ k. is_eq (
 waits_cmp [] q = refl
 waits_cmp (d ∷ ds) q = rw (same_cmp q d, waits_cmp ds q) refl
 
-eq_turn : (a b : ℕ) → nat_eq a b ≡ nat_eq b a
-eq_turn a b = grind (arith, nat_tests)
-
-due_turn : (p q : Due) → due_same p q ≡ due_same q p
-due_turn p q = rw (eq_turn p.rank q.rank, eq_turn p.fact q.fact, eq_turn p.member q.member) refl
-
-cond_or : (b c : Bool) → cond b true c ≡ (b || c)
-cond_or true c = refl
-cond_or false c = refl
+pub due_turn : (p q : Due) → due_same p q ≡ due_same q p
+due_turn p q = rw (nat_eq-comm p.rank q.rank, nat_eq-comm p.fact q.fact, nat_eq-comm p.member q.member) refl
 
 -- an insert, by the set's own tests
 pub added : (old new : Dues) (due q : Due) → list_any (λ k. is_eq (due_cmp q k)) new ≡ cond (is_eq (due_cmp due q)) true (list_any (λ k. is_eq (due_cmp q k)) old) → waits new q ≡ (due_same q due || waits old q)

@@ -1,8 +1,15 @@
 pub mod BetweenLaws
 pub mod DueLaws
+pub mod EngineLaws
+pub mod EvaluatingLaws
+pub mod ForgettingLaws
 pub mod MarkingLaws
+pub mod Outcomes
+pub mod PassageLaws
 pub mod ReaderLaws
 pub mod ReplacingLaws
+pub mod RunningLaws
+pub mod SeedingLaws
 pub mod SlotLists
 pub mod StandingOnce
 pub mod WeighingLaws

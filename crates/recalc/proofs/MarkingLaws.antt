@@ -1,7 +1,7 @@
 -- The loop over the slots that wait does exactly the touched ones.
 use Rattle.std.proofs.Common.{◌≡◌, ℕ, zero, suc, ◌<◌, ◌≤◌, Bool, true, false, ◌&&◌, ◌||◌, not, IsTrue, List, [], ◌∷◌, ◌++◌, refl, sym, ap, ◌∙◌, arith}
 use Rattle.std.proofs.lemmas.List.Folds.{list_any-append}
-use Rattle.common_lemmas.proofs.Bools.{and_intro, both_left, both_right, neither_or, not_true, or_false, or_left, or_neither, or_right}
+use Rattle.common_lemmas.proofs.Bools.{and_intro, both_left, both_right, neither_or, not_true, or_false, or_left, or_neither, or_right, same_test}
 use Rattle.fact_values.specs.declared.slot.Slot.{Slot}
 use Rattle.dictionary.specs.Slots.{slot_same}
 use Rattle.dictionary.proofs.SlotLaws.{slot_same-equal}
@@ -53,14 +53,9 @@ lower_settle c laws done due m s = settled_below c laws done due m (suc (c.rank 
 
 -- ---- the end
 
-only_standing : (a b : Bool) → (a ≡ true → b ≡ true) → (b ≡ true → a ≡ true) → a ≡ b
-only_standing true b h k = sym (h refl)
-only_standing false true h k = k refl
-only_standing false false h k = refl
-
 pub done_are_touched : DoneAreTouched
 done_are_touched c laws done due m none s =
-    only_standing (is_in done s) (c.stands s && is_touched c s)
+    same_test (is_in done s) (c.stands s && is_touched c s)
     (λ i. and_intro (c.stands s) (is_touched c s) (m.right s i).0 (m.right s i).1)
     (λ t. at (is_in done s) refl (both_left (c.stands s) (is_touched c s) t) (both_right (c.stands s) (is_touched c s) t))
   where
@@ -119,7 +114,7 @@ waits_as false false true false = refl
 waits_as false false false true = refl
 waits_as false false false false = refl
 
-not_done_yet :
+pub not_done_yet :
     (c : Spread) (done : List Slot) (due : Slot → Bool) → IsMarked c done due → (s : Slot) → IsTrue (due s)
     → (q : Slot) → c.rank s < c.rank q → is_in (done ++ s ∷ []) q ≡ false
 not_done_yet c done due m s on q l = at (is_in (done ++ s ∷ []) q) refl

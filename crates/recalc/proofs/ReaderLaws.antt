@@ -1,7 +1,7 @@
 -- The readers of a slot's fact let those slots wait that it feeds.
-use Rattle.std.proofs.Common.{◌≡◌, ℕ, Bool, true, false, ◌&&◌, ◌||◌, nat_eq, if◌then◌else◌, List, [], ◌∷◌, Option, Some, None, refl, sym, ap, ◌∙◌}
+use Rattle.std.proofs.Common.{◌≡◌, ℕ, Bool, true, false, not, ◌&&◌, ◌||◌, nat_eq, if◌then◌else◌, List, [], ◌∷◌, Option, Some, None, refl, sym, ap, ◌∙◌}
 use Rattle.std.specs.List.{list_any}
-use Rattle.common_lemmas.proofs.Bools.{or_false}
+use Rattle.common_lemmas.proofs.Bools.{both_left, both_right, or_false}
 use Rattle.common_lemmas.proofs.Numbers.{equal_number, nat_eq-comm, same_number}
 use Rattle.fact_values.specs.declared.slot.Slot.{Slot}
 use Rattle.dict_tree.specs.Facts.{Fact}
@@ -12,11 +12,15 @@ use Rattle.dictionary.specs.Accepted.{Accepted}
 use Rattle.dictionary.specs.Feeds.{speaks_of}
 use Rattle.dictionary.specs.Homes.{home}
 use Rattle.dictionary.specs.Plain.{rank}
+use Rattle.dictionary.specs.Reading.{slot}
 use Rattle.dictionary.specs.Slots.{is_member, members_of_home, stands_at, stands_of}
 use Rattle.dep_index.specs.Laws.{reads}
 use Rattle.dep_index.specs.declared.row.ReaderOf.{ReaderOf}
 use Rattle.dep_index.proofs.FeedLaws.{feeds_by_readers}
-use Rattle.recalc.specs.Readers.{due_of, marks, marks_of, MarksFeed, reads_at}
+use Rattle.recalc.specs.Readers.{due_of, marks, marks_at, marks_of, MarksFeed, reads_at}
+use Rattle.recalc.specs.Waiting.{due_same}
+use Rattle.recalc.specs.declared.work.Due.{Due}
+use Rattle.recalc.proofs.SlotLists.{either}
 
 -- ---- one member of a list
 
@@ -49,41 +53,52 @@ none_at P x k (m ∷ ms) = ap (λ b. (P m && (x && false)) || b) (none_at P x k 
     off true false = refl
     off false x = refl
 
-home_has : (a : Answered) (h m : ℕ) (once : Bool) → list_any (nat_eq m) (if once then 0 ∷ [] else list_of a h) ≡ (if once then nat_eq m 0 else is_member a h m)
+pub home_has : (a : Answered) (h m : ℕ) (once : Bool) → list_any (nat_eq m) (if once then 0 ∷ [] else list_of a h) ≡ (if once then nat_eq m 0 else is_member a h m)
 home_has a h m true = or_false (nat_eq m 0)
 home_has a h m false = refl
 
 -- ---- the readers of a slot's fact
 
-module _ (d : Accepted) (a : Answered) (s q : Slot) where
+module _ (d : Accepted) (a : Answered) (shielded : Slot → Bool) (s q : Slot) where
   here : Bool
   here = stands_at a (home d.tree q.fact) q.member
 
+  lets : ReaderOf → ℕ → ℕ → Bool
+  lets r f m = reads_at s r m && not (shielded (slot f m))
+
   -- whether the reader of this number has the slot q, by tests of ranks and of numbers
   waiting : ReaderOf → ℕ → Bool → Bool → Bool
-  waiting r f ranks facts = list_any (λ m. reads_at s r m && (ranks && (facts && nat_eq q.member m))) (members_of_home a (home d.tree f))
+  waiting r f ranks facts = list_any (λ m. lets r f m && (ranks && (facts && nat_eq q.member m))) (members_of_home a (home d.tree f))
 
-  one_reader : (r : ReaderOf) → marks_of d a s (due_of d q) r ≡ (reads s q r && here)
-  unfolding here waiting
+  one_reader : (r : ReaderOf) → marks_of d a shielded s (due_of d q) r ≡ (reads s q r && (here && not (shielded q)))
+  unfolding here lets waiting
   one_reader r = at (nat_eq r.fact q.fact) refl
     where
-      at : (x : Bool) → nat_eq r.fact q.fact ≡ x → marks_of d a s (due_of d q) r ≡ ((x && reads_at s r q.member) && here)
+      turned_in : (x y z : Bool) → ((x && y) && z) ≡ (x && (z && y))
+      turned_in true true true = refl
+      turned_in true true false = refl
+      turned_in true false true = refl
+      turned_in true false false = refl
+      turned_in false y z = refl
+
+      at : (x : Bool) → nat_eq r.fact q.fact ≡ x → marks_of d a shielded s (due_of d q) r ≡ ((x && reads_at s r q.member) && (here && not (shielded q)))
       at true e =
           ap (λ f. waiting r f (nat_eq (rank d q.fact) (rank d f)) (nat_eq q.fact f)) (same_number r.fact q.fact e)
           ∙ ap (λ x. waiting r q.fact x (nat_eq q.fact q.fact)) (equal_number (rank d q.fact))
           ∙ ap (waiting r q.fact true) (equal_number q.fact)
-          ∙ any_at (reads_at s r) q.member (members_of_home a (home d.tree q.fact))
-          ∙ ap (λ b. reads_at s r q.member && b) (home_has a (home d.tree q.fact) q.member (nat_eq (home d.tree q.fact) 0))
+          ∙ any_at (lets r q.fact) q.member (members_of_home a (home d.tree q.fact))
+          ∙ ap (λ b. lets r q.fact q.member && b) (home_has a (home d.tree q.fact) q.member (nat_eq (home d.tree q.fact) 0))
+          ∙ turned_in (reads_at s r q.member) (not (shielded q)) here
       at false e =
           ap (waiting r r.fact (nat_eq (rank d q.fact) (rank d r.fact))) (nat_eq-comm q.fact r.fact ∙ e)
-          ∙ none_at (reads_at s r) (nat_eq (rank d q.fact) (rank d r.fact)) q.member (members_of_home a (home d.tree r.fact))
+          ∙ none_at (lets r r.fact) (nat_eq (rank d q.fact) (rank d r.fact)) q.member (members_of_home a (home d.tree r.fact))
 
-  all_readers : (rs : List ReaderOf) → marks d a s rs (due_of d q) ≡ (list_any (reads s q) rs && here)
+  all_readers : (rs : List ReaderOf) → marks d a shielded s rs (due_of d q) ≡ (list_any (reads s q) rs && (here && not (shielded q)))
   all_readers [] = refl
   all_readers (r ∷ rs) =
-      ap (λ b. b || marks d a s rs (due_of d q)) (one_reader r)
-      ∙ ap (λ b. (reads s q r && here) || b) (all_readers rs)
-      ∙ joined (reads s q r) (list_any (reads s q) rs) here
+      ap (λ b. b || marks d a shielded s rs (due_of d q)) (one_reader r)
+      ∙ ap (λ b. (reads s q r && (here && not (shielded q))) || b) (all_readers rs)
+      ∙ joined (reads s q r) (list_any (reads s q) rs) (here && not (shielded q))
     where
       joined : (x y c : Bool) → ((x && c) || (y && c)) ≡ ((x || y) && c)
       joined true true true = refl
@@ -92,22 +107,39 @@ module _ (d : Accepted) (a : Answered) (s q : Slot) where
       joined true false false = refl
       joined false y c = refl
 
-turned : (x y : Bool) → (x && y) ≡ (y && x)
-turned true true = refl
-turned true false = refl
-turned false true = refl
-turned false false = refl
+turned : (x y z : Bool) → (x && (y && z)) ≡ (y && (x && z))
+turned true true z = refl
+turned true false z = refl
+turned false true z = refl
+turned false false z = refl
 
 -- a fact that isn't there mentions nothing and has no slot
-fed_and_standing : (d : Accepted) (a : Answered) (s q : Slot) (o : Option Fact) →
-    (list_any (speaks_of s q) (found_mentions d.tree q.fact o) && stands_at a (home d.tree q.fact) q.member)
-    ≡ (stands_of a (home d.tree q.fact) q.member o && list_any (speaks_of s q) (found_mentions d.tree q.fact o))
-fed_and_standing d a s q None = refl
-fed_and_standing d a s q (Some f) = turned (list_any (speaks_of s q) (found_mentions d.tree q.fact (Some f))) (stands_at a (home d.tree q.fact) q.member)
+fed_and_standing : (d : Accepted) (a : Answered) (free : Bool) (s q : Slot) (o : Option Fact) →
+    (list_any (speaks_of s q) (found_mentions d.tree q.fact o) && (stands_at a (home d.tree q.fact) q.member && free))
+    ≡ (stands_of a (home d.tree q.fact) q.member o && (list_any (speaks_of s q) (found_mentions d.tree q.fact o) && free))
+fed_and_standing d a free s q None = refl
+fed_and_standing d a free s q (Some f) = turned (list_any (speaks_of s q) (found_mentions d.tree q.fact (Some f))) (stands_at a (home d.tree q.fact) q.member) free
 
 pub marks_feed : MarksFeed
 unfolding here
-marks_feed d a s rs are q =
-    all_readers d a s q rs
-    ∙ ap (λ b. b && stands_at a (home d.tree q.fact) q.member) (feeds_by_readers d s q rs are)
-    ∙ fed_and_standing d a s q (fact_at d.tree.facts q.fact)
+marks_feed d a shielded s rs are q =
+    all_readers d a shielded s q rs
+    ∙ ap (λ b. b && (stands_at a (home d.tree q.fact) q.member && not (shielded q))) (feeds_by_readers d s q rs are)
+    ∙ fed_and_standing d a (not (shielded q)) s q (fact_at d.tree.facts q.fact)
+
+-- ---- what waits then has the rank of its fact
+
+rank_at : (d : Accepted) (shielded : Slot → Bool) (s : Slot) (q : Due) (r : ReaderOf) (ms : List ℕ) → list_any (marks_at shielded s r (rank d r.fact) q) ms ≡ true → q.rank ≡ rank d q.fact
+rank_at d shielded s q r [] h = absurd (cc)
+rank_at d shielded s q r (m ∷ ms) h =
+    either (marks_at shielded s r (rank d r.fact) q m) (list_any (marks_at shielded s r (rank d r.fact) q) ms) h
+    (λ e. let same = both_right (reads_at s r m && not (shielded (slot r.fact m))) (due_same q (record { rank = rank d r.fact; fact = r.fact; member = m })) e in
+    let ranks : q.rank ≡ rank d r.fact = same_number q.rank (rank d r.fact) (both_left (nat_eq q.rank (rank d r.fact)) (nat_eq q.fact r.fact && nat_eq q.member m) same) in
+    let facts : q.fact ≡ r.fact = same_number q.fact r.fact (both_left (nat_eq q.fact r.fact) (nat_eq q.member m) (both_right (nat_eq q.rank (rank d r.fact)) (nat_eq q.fact r.fact && nat_eq q.member m) same)) in
+    ranks ∙ ap (rank d) (sym facts))
+    (rank_at d shielded s q r ms)
+
+pub marks_rank : (d : Accepted) (a : Answered) (shielded : Slot → Bool) (s : Slot) (rs : List ReaderOf) (q : Due) → marks d a shielded s rs q ≡ true → q.rank ≡ rank d q.fact
+marks_rank d a shielded s [] q h = absurd (cc)
+marks_rank d a shielded s (r ∷ rs) q h =
+    either (marks_of d a shielded s q r) (marks d a shielded s rs q) h (rank_at d shielded s q r (members_of_home a (home d.tree r.fact))) (marks_rank d a shielded s rs q)

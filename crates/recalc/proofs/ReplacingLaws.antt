@@ -1,19 +1,19 @@
 -- What was replaced can be put back.
-use Rattle.std.proofs.Common.{◌≡◌, ◌≤◌, ◌+◌, ◌-◌, ℕ, Bool, true, false, not, cond, ◌&&◌, ◌||◌, if◌then◌else◌, List, [], ◌∷◌, ◌++◌, Option, Some, None, is_some, refl, sym, ap, subst, ◌∙◌, arith}
+use Rattle.std.proofs.Common.{◌≡◌, Bool, true, false, cond, ◌||◌, List, [], ◌∷◌, ◌++◌, Option, Some, IsSome, refl, sym, ap, subst, ◌∙◌}
 use Rattle.std.specs.FinMap as finite
-use Rattle.std.proofs.lemmas.List.Sums.{sum_by-append, sum_by-cons}
-use Rattle.common_lemmas.proofs.Bools.{neither_or, or_neither}
+use Rattle.common_lemmas.proofs.Bools.{neither_or, or_false, or_left, or_neither, or_right}
 use Rattle.fact_values.specs.declared.slot.Slot.{Slot}
 use Rattle.dictionary.specs.Slots.{slot_same}
 use Rattle.dictionary.proofs.SlotLaws.{slot_same-equal, slot_same-itself}
-use Rattle.cell_store.specs.Contents.{Cells, Contents}
+use Rattle.cell_store.specs.Contents.{Cells}
 use Rattle.cell_store.specs.Places.{put_at}
 use Rattle.cell_store.specs.declared.cell.Cell.{Cell}
 use Rattle.cell_store.proofs.SlotLaws.{get_put_at, same_cells}
 use Rattle.recalc.specs.Spread.{is_in, NoTwice}
-use Rattle.recalc.specs.Replacing.{before, CanPutBack, EntryKeepsBefore, EntryWantsRoom, slots_of, want, wants}
+use Rattle.recalc.specs.Replacing.{before, CanPutBack, EntryCanPutBack, EntryKeepsBefore, slots_of}
 use Rattle.recalc.specs.declared.log.Replaced.{Replaced}
 use Rattle.recalc.proofs.SlotLists.{in_push, once_push, other_way}
+use Rattle.recalc.proofs.WeighingLaws.{differs}
 
 -- ---- cells put over cells
 
@@ -51,59 +51,34 @@ pub slots_push : (es : List Replaced) (e : Replaced) → slots_of (es ++ e ∷ [
 slots_push [] e = refl
 slots_push (x ∷ es) e = ap (λ ss. x.slot ∷ ss) (slots_push es e)
 
--- ---- the room that is wanted
+-- ---- what can be put back
 
-wants_same : (m : Cells) (s : Slot) (o : Option Cell) (e : Replaced) → slot_same e.slot s ≡ false → wants (put_at m s o) e ≡ wants m e
-wants_same m s o e apart =
-    ap (λ (c : Option Cell). if is_some e.cell && not (is_some c) then 1 else 0)
-    (get_put_at m s o e.slot ∙ ap (λ b. cond b o (finite.get m e.slot)) apart)
+put_some : (m : Cells) (s : Slot) (c : Cell) (q : Slot) (x : Bool) → slot_same q s ≡ x → (x ≡ false → IsSome (finite.get m q)) → IsSome (cond x (Some c) (finite.get m q))
+put_some m s c q true e h = refl
+put_some m s c q false e h = h refl
 
-pub want_same : (m : Cells) (s : Slot) (o : Option Cell) (es : List Replaced) → is_in (slots_of es) s ≡ false → want (put_at m s o) es ≡ want m es
-want_same m s o [] apart = refl
-want_same m s o (e ∷ es) apart =
-    let parts = or_neither (slot_same s e.slot) (is_in (slots_of es) s) apart in
-    let head : wants (put_at m s o) e ≡ wants m e = wants_same m s o e (other_way s e.slot parts.0) in
-    let rest : want (put_at m s o) es ≡ want m es = want_same m s o es parts.1 in
-    let a : want (put_at m s o) (e ∷ es) ≡ wants (put_at m s o) e + want (put_at m s o) es = sum_by-cons (wants (put_at m s o)) e es in
-    let b : want m (e ∷ es) ≡ wants m e + want m es = sum_by-cons (wants m) e es in
-    omega arith
-
-pub want_push : (m : Cells) (es : List Replaced) (e : Replaced) → want m (es ++ e ∷ []) ≡ want m es + wants m e
-want_push m es e =
-    let a : want m (es ++ e ∷ []) ≡ want m es + want m (e ∷ []) = sum_by-append (wants m) es (e ∷ []) in
-    let b : want m (e ∷ []) ≡ wants m e + want m [] = sum_by-cons (wants m) e [] in
-    let c : want m [] ≡ 0 = refl in
-    omega arith
-
-own_put : (m : Cells) (s : Slot) (o : Option Cell) → finite.get (put_at m s o) s ≡ o
-own_put m s o = get_put_at m s o s ∙ ap (λ b. cond b o (finite.get m s)) (slot_same-itself s)
-
-after_put : (x : Bool) → ◌≡◌ {A = ℕ} (if x && not true then 1 else 0) 0
-after_put true = refl
-after_put false = refl
-
-after_take : (x : Bool) → ◌≡◌ {A = ℕ} (if x && not false then 1 else 0) (if x then 1 else 0)
-after_take true = refl
-after_take false = refl
-
-pub entry_wants_room : EntryWantsRoom
-entry_wants_room es m s once apart =
+pub entry_can_put_back : EntryCanPutBack
+entry_can_put_back es m s c can apart =
     let e : Replaced = record { slot = s; cell = finite.get m s } in
     record {
-      once = subst NoTwice (sym (slots_push es e)) (once_push (slots_of es) s once apart);
-      put = λ c.
-          let a : want (put_at m s (Some c)) (es ++ e ∷ []) ≡ want (put_at m s (Some c)) es + wants (put_at m s (Some c)) e = want_push (put_at m s (Some c)) es e in
-          let b : want (put_at m s (Some c)) es ≡ want m es = want_same m s (Some c) es apart in
-          let z : wants (put_at m s (Some c)) e ≡ 0 =
-          ap (λ (o : Option Cell). if is_some (finite.get m s) && not (is_some o) then 1 else 0) (own_put m s (Some c)) ∙ after_put (is_some (finite.get m s)) in
-          omega arith;
-      take =
-          let a : want (put_at m s None) (es ++ e ∷ []) ≡ want (put_at m s None) es + wants (put_at m s None) e = want_push (put_at m s None) es e in
-          let b : want (put_at m s None) es ≡ want m es = want_same m s None es apart in
-          let z : wants (put_at m s None) e ≡ (if is_some (finite.get m s) then 1 else 0) =
-          ap (λ (o : Option Cell). if is_some (finite.get m s) && not (is_some o) then 1 else 0) (own_put m s None) ∙ after_take (is_some (finite.get m s)) in
-          a ∙ ap (λ n. n + wants (put_at m s None) e) b ∙ ap (λ n. want m es + n) z;
+      once = subst NoTwice (sym (slots_push es e)) (once_push (slots_of es) s can.once apart);
+      there = λ q i. subst (λ (o : Option Cell). IsSome o) (sym (get_put_at m s (Some c) q))
+          (put_some m s c q (slot_same q s) refl
+          (λ other. can.there q (older q other (sym (in_push (slots_of es) s q) ∙ sym (ap (λ ss. is_in ss q) (slots_push es e)) ∙ i))));
     }
+  where
+    older : (q : Slot) → slot_same q s ≡ false → (is_in (slots_of es) q || slot_same q s) ≡ true → is_in (slots_of es) q ≡ true
+    older q other h = sym (or_false (is_in (slots_of es) q)) ∙ ap (λ x. is_in (slots_of es) q || x) (sym other) ∙ h
+
+-- ---- a cell that was put, with its entry
+
+pub put_keeps_before : (es fs : List Replaced) (m n : Cells) (s : Slot) (c : Cell) → fs ≡ es ++ record { slot = s; cell = finite.get m s } ∷ [] → n ≡ finite.insert m s c → before fs n ≡ before es m
+put_keeps_before es fs m n s c kept put = ap (λ xs. before xs n) kept ∙ ap (before (es ++ record { slot = s; cell = finite.get m s } ∷ [])) put ∙ entry_keeps_before es m s (Some c)
+
+pub put_can_be_put_back : (es fs : List Replaced) (m n : Cells) (s : Slot) (c : Cell) → fs ≡ es ++ record { slot = s; cell = finite.get m s } ∷ [] → n ≡ finite.insert m s c
+    → is_in (slots_of es) s ≡ false → CanPutBack es m → CanPutBack fs n
+put_can_be_put_back es fs m n s c kept put apart can =
+    subst (λ xs. CanPutBack xs n) (sym kept) (subst (CanPutBack (es ++ record { slot = s; cell = finite.get m s } ∷ [])) (sym put) (entry_can_put_back es m s c can apart))
 
 -- ---- one entry put back
 
@@ -115,19 +90,20 @@ once_before (x ∷ ss) s h =
     let parts = or_neither (is_in ss x) (slot_same x s) here in
     ((parts.0, rest.0), neither_or (slot_same s x) (is_in ss s) (other_way x s parts.1) rest.1)
 
-pub last_wants : (es fs : List Replaced) (e : Replaced) (store : Contents) → es ≡ fs ++ e ∷ [] → CanPutBack es store → wants store.cells e ≤ store.room
-last_wants es fs e store is can =
-    let a : want store.cells es ≡ want store.cells fs + wants store.cells e = ap (want store.cells) is ∙ want_push store.cells fs e in
-    let h : want store.cells es ≤ store.room = can.room in omega arith
+pub last_there : (es fs : List Replaced) (e : Replaced) (m : Cells) → es ≡ fs ++ e ∷ [] → CanPutBack es m → IsSome (finite.get m e.slot)
+last_there es fs e m is can =
+    can.there e.slot (ap (λ xs. is_in (slots_of xs) e.slot) is ∙ ap (λ ss. is_in ss e.slot) (slots_push fs e)
+    ∙ in_push (slots_of fs) e.slot e.slot ∙ or_right (is_in (slots_of fs) e.slot) (slot_same e.slot e.slot) (slot_same-itself e.slot))
 
-pub rest_can : (es fs : List Replaced) (e : Replaced) (store next : Contents) → es ≡ fs ++ e ∷ [] → next.cells ≡ put_at store.cells e.slot e.cell
-    → next.room ≡ store.room - wants store.cells e → CanPutBack es store → CanPutBack fs next
-rest_can es fs e store next is cells room can =
+pub rest_can : (es fs : List Replaced) (e : Replaced) (m n : Cells) → es ≡ fs ++ e ∷ [] → n ≡ put_at m e.slot e.cell → CanPutBack es m → CanPutBack fs n
+rest_can es fs e m n is cells can =
     let parts = once_before (slots_of fs) e.slot (subst NoTwice (ap slots_of is ∙ slots_push fs e) can.once) in
-    let a : want store.cells es ≡ want store.cells fs + wants store.cells e = ap (want store.cells) is ∙ want_push store.cells fs e in
-    let b : want next.cells fs ≡ want store.cells fs = ap (λ m. want m fs) cells ∙ want_same store.cells e.slot e.cell fs parts.1 in
-    let h : want store.cells es ≤ store.room = can.room in
-    record { once = parts.0; room = omega arith }
+    record {
+      once = parts.0;
+      there = λ q i. subst (λ (o : Option Cell). IsSome o)
+          (sym (ap (λ k. finite.get k q) cells ∙ get_put_at m e.slot e.cell q ∙ ap (λ x. cond x e.cell (finite.get m q)) (differs e.slot q (slots_of fs) parts.1 i)))
+          (can.there q (ap (λ xs. is_in (slots_of xs) q) is ∙ ap (λ ss. is_in ss q) (slots_push fs e) ∙ in_push (slots_of fs) e.slot q ∙ or_left (is_in (slots_of fs) q) (slot_same q e.slot) i));
+    }
 
 pub one_back : (es fs : List Replaced) (e : Replaced) (m n : Cells) → es ≡ fs ++ e ∷ [] → n ≡ put_at m e.slot e.cell → before fs n ≡ before es m
 one_back es fs e m n is cells = ap (before fs) cells ∙ sym (before_push fs e m) ∙ ap (λ xs. before xs m) (sym is)

@@ -43,7 +43,7 @@ left_in x s (y ∷ ys) d h = at (slot_same x y) refl (left_in x s ys d)
         (λ k. or_left (slot_same s y) (is_in (without x ys) s) k)
         (λ k. or_right (slot_same s y) (is_in (without x ys) s) (ih k))
 
-differs : (x s : Slot) (xs : List Slot) → is_in xs x ≡ false → is_in xs s ≡ true → slot_same s x ≡ false
+pub differs : (x s : Slot) (xs : List Slot) → is_in xs x ≡ false → is_in xs s ≡ true → slot_same s x ≡ false
 differs x s xs new i = at (slot_same s x) refl
   where
     at : (b : Bool) → slot_same s x ≡ b → b ≡ false

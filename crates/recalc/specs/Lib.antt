@@ -1,7 +1,12 @@
 pub mod BetweenAnswers
+pub mod Courses
 pub mod Laws
 pub mod Marking
+pub mod Passages
 pub mod Readers
 pub mod Replacing
+pub mod Running
+pub mod Seeding
 pub mod Spread
+pub mod Standing
 pub mod Waiting

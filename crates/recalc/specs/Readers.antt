@@ -7,6 +7,7 @@ use Rattle.dictionary.specs.Accepted.{Accepted}
 use Rattle.dictionary.specs.Feeds.{feeds}
 use Rattle.dictionary.specs.Homes.{home}
 use Rattle.dictionary.specs.Plain.{rank}
+use Rattle.dictionary.specs.Reading.{slot}
 use Rattle.dictionary.specs.Slots.{members_of_home, stands}
 use Rattle.dep_index.specs.Readers.{AreReaders}
 use Rattle.dep_index.specs.declared.row.ReaderOf.{ReaderOf}
@@ -21,22 +22,22 @@ due_of d s = record { rank = rank d s.fact; fact = s.fact; member = s.member }
 abbrev pub reads_at : Slot → ReaderOf → ℕ → Bool
 reads_at s r member = not r.same || nat_eq s.member member
 
--- what waits is the reader's slot at this member, where it reads the slot
-abbrev pub marks_at : Slot → ReaderOf → ℕ → Due → ℕ → Bool
-marks_at s r rank q member = reads_at s r member && due_same q (record { rank = rank; fact = r.fact; member = member })
+-- what waits is the reader's slot at this member, where it reads the slot and isn't shielded
+abbrev pub marks_at : (Slot → Bool) → Slot → ReaderOf → ℕ → Due → ℕ → Bool
+marks_at shielded s r rank q member = (reads_at s r member && not (shielded (slot r.fact member))) && due_same q (record { rank = rank; fact = r.fact; member = member })
 
 -- at one of the members where the reader has slots
-abbrev pub marks_of : Accepted → Answered → Slot → Due → ReaderOf → Bool
-marks_of d a s q r = list_any (marks_at s r (rank d r.fact) q) (members_of_home a (home d.tree r.fact))
+abbrev pub marks_of : Accepted → Answered → (Slot → Bool) → Slot → Due → ReaderOf → Bool
+marks_of d a shielded s q r = list_any (marks_at shielded s r (rank d r.fact) q) (members_of_home a (home d.tree r.fact))
 
 -- of one of these readers
-abbrev pub marks : Accepted → Answered → Slot → List ReaderOf → Due → Bool
-marks d a s rs q = list_any (marks_of d a s q) rs
+abbrev pub marks : Accepted → Answered → (Slot → Bool) → Slot → List ReaderOf → Due → Bool
+marks d a shielded s rs q = list_any (marks_of d a shielded s q) rs
 
 -- ---- a law
 
--- so the slots that stand and that this one feeds
+-- so the slots that stand and that this one feeds, but for those that are shielded
 abbrev pub MarksFeed : Type 0
 MarksFeed =
-    (d : Accepted) (a : Answered) (s : Slot) (rs : List ReaderOf) → AreReaders d s.fact rs
-    → (q : Slot) → marks d a s rs (due_of d q) ≡ (stands d.tree a q && feeds d.tree s q)
+    (d : Accepted) (a : Answered) (shielded : Slot → Bool) (s : Slot) (rs : List ReaderOf) → AreReaders d s.fact rs
+    → (q : Slot) → marks d a shielded s rs (due_of d q) ≡ (stands d.tree a q && (feeds d.tree s q && not (shielded q)))

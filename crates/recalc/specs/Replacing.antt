@@ -1,9 +1,9 @@
 -- What was replaced in a store, and how all is put back.
-use Rattle.std.specs.Prelude.{◌≡◌, ◌≤◌, ℕ, ◌+◌, false, not, ◌&&◌, if◌then◌else◌, List, [], ◌∷◌, ◌++◌, map, sum_by, Option, Some, None, is_some}
+use Rattle.std.specs.Prelude.{◌≡◌, ℕ, false, IsTrue, IsSome, List, [], ◌∷◌, ◌++◌, map, Option, Some, None}
 use Rattle.std.specs.FinMap as finite
 use Rattle.fact_values.specs.declared.slot.Slot.{Slot}
 use Rattle.three_state.specs.declared.res.Res.{Res}
-use Rattle.cell_store.specs.Contents.{Cells, Contents}
+use Rattle.cell_store.specs.Contents.{Cells}
 use Rattle.cell_store.specs.Places.{put_at}
 use Rattle.cell_store.specs.declared.cell.Cell.{Cell}
 use Rattle.recalc.specs.Spread.{is_in, NoTwice}
@@ -26,17 +26,10 @@ abbrev pub before : List Replaced → Cells → Cells
 before [] m = m
 before (e ∷ es) m = put_at (before es m) e.slot e.cell
 
--- for how many new slots it wants room to put an entry back, and all of them
-abbrev pub wants : Cells → Replaced → ℕ
-wants m e = if is_some e.cell && not (is_some (finite.get m e.slot)) then 1 else 0
-
-abbrev pub want : Cells → List Replaced → ℕ
-want m es = sum_by (wants m) es
-
--- no slot has two entries, and there is room for those whose cells were taken away
-pub record CanPutBack (es : List Replaced) (store : Contents) : Type 0 where
+-- no slot has two entries, and each has a cell, so to put all back takes no memory
+pub record CanPutBack (es : List Replaced) (m : Cells) : Type 0 where
   pub once : NoTwice (slots_of es)
-  pub room : want store.cells es ≤ store.room
+  pub there : (s : Slot) → IsTrue (is_in (slots_of es) s) → IsSome (finite.get m s)
 
 -- ---- laws
 
@@ -46,11 +39,8 @@ EntryKeepsBefore =
     (es : List Replaced) (m : Cells) (s : Slot) (o : Option Cell)
     → before (es ++ record { slot = s; cell = finite.get m s } ∷ []) (put_at m s o) ≡ before es m
 
--- what is put at a slot without an entry leaves the wanted room as it was, and what is taken from it wants room for one more
-pub record EntryWantsRoomFor (es : List Replaced) (m : Cells) (s : Slot) : Type 0 where
-  pub once : NoTwice (slots_of (es ++ record { slot = s; cell = finite.get m s } ∷ []))
-  pub put : (c : Cell) → want (finite.insert m s c) (es ++ record { slot = s; cell = finite.get m s } ∷ []) ≡ want m es
-  pub take : want (finite.remove m s) (es ++ record { slot = s; cell = finite.get m s } ∷ []) ≡ want m es + (if is_some (finite.get m s) then 1 else 0)
-
-abbrev pub EntryWantsRoom : Type 0
-EntryWantsRoom = (es : List Replaced) (m : Cells) (s : Slot) → NoTwice (slots_of es) → is_in (slots_of es) s ≡ false → EntryWantsRoomFor es m s
+-- and where a cell was put at a slot without an entry, all can still be put back
+abbrev pub EntryCanPutBack : Type 0
+EntryCanPutBack =
+    (es : List Replaced) (m : Cells) (s : Slot) (c : Cell) → CanPutBack es m → is_in (slots_of es) s ≡ false
+    → CanPutBack (es ++ record { slot = s; cell = finite.get m s } ∷ []) (finite.insert m s c)

@@ -1,11 +1,10 @@
 // The loop over the slots that wait, and what it leaves of a change of the answers. Each function's contract is its laws.
 ghost use Rattle.recalc.specs.BetweenAnswers.{AllIsDone, ChangesSpread, EditMarks, SpreadTouches};
-ghost use Rattle.recalc.specs.BetweenAnswers.{StandingOnce, TurnIsPlain, TurnKeepsResults};
-ghost use Rattle.recalc.specs.BetweenAnswers.{WeighsAtMostTouched};
+ghost use Rattle.recalc.specs.BetweenAnswers.{StandingOnce, StartPasses, TouchedWeigh, UndonePasses};
 ghost use Rattle.recalc.specs.Laws.{DoneAreTouched, DoneWeighAll, DoneWeighLess, LowerSettle};
 ghost use Rattle.recalc.specs.Laws.{StartMarks, TurnMarks};
 ghost use Rattle.recalc.specs.Readers.{MarksFeed};
-ghost use Rattle.recalc.specs.Replacing.{EntryKeepsBefore, EntryWantsRoom};
+ghost use Rattle.recalc.specs.Replacing.{EntryCanPutBack, EntryKeepsBefore};
 
 /// From the slots that a change touches by itself, turn by turn, exactly the touched ones are done.
 pub fn touched_slots_are_done()
@@ -29,23 +28,22 @@ pub fn changes_of_answers_spread()
     ensures start { EditMarks }
 {}
 
-/// Each turn puts the new result of a slot.
-pub fn turns_give_new_results()
-    ensures plain { TurnIsPlain }
-    ensures kept { TurnKeepsResults }
+/// The loop can go from the results before a change to those after it, and from none.
+pub fn changes_pass()
+    ensures undone { UndonePasses }
+    ensures start { StartPasses }
 {}
 
-/// In the end what is done is what the change touches, so many slots, of this weight, and all results are new.
+/// In the end what is done is what the change touches, so many slots, of this weight.
 pub fn a_change_of_answers_is_done()
     ensures done { AllIsDone }
-    ensures most { WeighsAtMostTouched }
+    ensures weight { TouchedWeigh }
 {}
 
-/// With an entry for what each change of one cell replaced, the cells before are what they were, and
-/// room is wanted for those that were taken away alone.
+/// With an entry for what a put replaced, the cells before are what they were, and can be put back.
 pub fn entries_put_back()
     ensures before { EntryKeepsBefore }
-    ensures room { EntryWantsRoom }
+    ensures can { EntryCanPutBack }
 {}
 
 /// The readers of a slot's fact let those slots wait that stand and that it feeds.

@@ -1,11 +1,20 @@
-//! The groundwork of an engine that goes from answers to answers and evaluates the touched slots alone.
+//! The incremental engine: it goes from answers to answers and evaluates the touched slots alone.
 #![tactic(auto)]
 
+mod changing;
+mod course;
+mod evaluating;
+mod forgetting;
+mod given;
 pub mod laws;
 mod log;
 mod marking;
+mod recalc;
+mod running;
+mod seeding;
+mod seen;
+mod turn;
+mod undone;
 mod work;
 
-pub use log::{Log, Replaced};
-pub use marking::mark;
-pub use work::{Due, Work};
+pub use recalc::Recalc;

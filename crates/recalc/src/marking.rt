@@ -1,91 +1,101 @@
 // Which slots wait once the result of a slot has moved.
-ghost use Rattle.std.specs.Prelude.{◌≡◌, ◌||◌, All, OnOk};
+ghost use Rattle.std.specs.Prelude.{◌≡◌, ◌||◌, ◌&&◌, All, OnOk, is_some, option_copied};
 ghost use Rattle.std.specs.List.{list_any};
-ghost use Rattle.answers.specs.Meaning.{answered};
 ghost use Rattle.dict_tree.specs.Finding.{IsNumber};
 ghost use Rattle.dictionary.specs.Accepted.{accepted};
-ghost use Rattle.recalc.specs.Readers.{marks, marks_at, marks_of, reads_at};
+ghost use Rattle.dictionary.specs.Final.{is_complete_in};
+ghost use Rattle.recalc.specs.Courses.{setting_of};
+ghost use Rattle.recalc.specs.Passages.{is_shielded};
+ghost use Rattle.recalc.specs.Readers.{marks_at, reads_at};
+ghost use Rattle.recalc.specs.Running.{let_by, let_by_all, shielded_in};
 ghost use Rattle.recalc.specs.Waiting.{waits};
 ghost use Rattle.recalc.specs.declared.work.Due.{Due};
 
+use crate::course::Course;
+use crate::seen::Seen;
 use crate::work::{Due, Work};
-use answers::Answers;
+use cell_store::Store;
 use dep_index::ReaderOf;
-use dictionary::Dictionary;
 use fact_values::{NoMemory, Slot};
+use node_eval::Cells;
+use three_state::Res;
 
-/// Lets those slots wait that these readers have now, at the members where they read the slot.
+/// Lets those slots wait that these readers have now, at the members where they read the slot, but
+/// for those whose results no further answer can change.
 pub fn mark(
     work: &mut Work,
-    dict: &Dictionary,
-    now: &Answers,
+    course: &Course,
+    store: &Store,
     slot: Slot,
     readers: &[ReaderOf],
 ) -> Result<(), NoMemory>
-    requires { All (λ r. IsNumber (accepted dict.now).tree.facts r.fact) readers.now }
-    ensures { OnOk result ((q : Due) → waits work.new q ≡ (waits work.old q
-        || marks (accepted dict.now) (answered now.now) slot readers.now q)) }
+    requires { All (λ r. IsNumber (accepted course.now.dict.now).tree.facts r.fact) readers.now }
+    ensures { OnOk result ((q : Due) → waits work.new q
+        ≡ (waits work.old q || let_by_all (setting_of course.now) store.now.cells slot readers.now q)) }
 {
     for reader in readers {
-        mark_reader(work, dict, now, slot, *reader)?;
+        mark_reader(work, course, store, slot, *reader)?;
     }
     Ok(())
 }
 
 fn mark_reader(
     work: &mut Work,
-    dict: &Dictionary,
-    now: &Answers,
+    course: &Course,
+    store: &Store,
     slot: Slot,
     reader: ReaderOf,
 ) -> Result<(), NoMemory>
-    requires { IsNumber (accepted dict.now).tree.facts reader.fact }
-    ensures { OnOk result ((q : Due) → waits work.new q ≡ (waits work.old q
-        || marks_of (accepted dict.now) (answered now.now) slot q reader)) }
+    requires { IsNumber (accepted course.now.dict.now).tree.facts reader.fact }
+    ensures { OnOk result ((q : Due) → waits work.new q
+        ≡ (waits work.old q || let_by (setting_of course.now) store.now.cells slot q reader)) }
 {
-    let rank = dict.rank(reader.fact);
-    let home = dict.home(reader.fact);
+    let rank = course.dict.rank(reader.fact);
+    let home = course.dict.home(reader.fact);
     if home == 0 {
-        return mark_members(work, rank, slot, reader, &[0]);
+        return mark_members(work, course, store, slot, reader, rank, &[0]);
     }
-    match now.members(home) {
-        Some(members) => mark_members(work, rank, slot, reader, members),
-        None => mark_members(work, rank, slot, reader, &[]),
+    match course.answers.members(home) {
+        Some(members) => mark_members(work, course, store, slot, reader, rank, members),
+        None => mark_members(work, course, store, slot, reader, rank, &[]),
     }
 }
 
 fn mark_members(
     work: &mut Work,
-    rank: u32,
+    course: &Course,
+    store: &Store,
     slot: Slot,
     reader: ReaderOf,
+    rank: u32,
     members: &[u32],
 ) -> Result<(), NoMemory>
-    ensures { OnOk result ((q : Due) → waits work.new q ≡ (waits work.old q
-        || list_any (marks_at slot reader rank q) members.now)) }
+    requires { IsNumber (accepted course.now.dict.now).tree.facts reader.fact }
+    ensures { OnOk result ((q : Due) → waits work.new q
+        ≡ (waits work.old q || list_any (marks_at (shielded_in (setting_of course.now) store.now.cells) slot reader rank q) members.now)) }
 {
     for member in members {
-        mark_member(work, rank, slot, reader, *member)?;
+        mark_member(work, course, store, slot, reader, rank, *member)?;
     }
     Ok(())
 }
 
 fn mark_member(
     work: &mut Work,
-    rank: u32,
+    course: &Course,
+    store: &Store,
     slot: Slot,
     reader: ReaderOf,
+    rank: u32,
     member: u32,
 ) -> Result<(), NoMemory>
+    requires { IsNumber (accepted course.now.dict.now).tree.facts reader.fact }
     ensures { OnOk result ((q : Due) → waits work.new q
-        ≡ (waits work.old q || marks_at slot reader rank q member)) }
+        ≡ (waits work.old q || marks_at (shielded_in (setting_of course.now) store.now.cells) slot reader rank q member)) }
 {
-    if reads(slot, reader, member) {
-        work.add(Due {
-            rank,
-            fact: reader.fact,
-            member,
-        })
+    let fact = reader.fact;
+    if reads(slot, reader, member) && !is_shielded(course, store, Slot { fact, member }) {
+        work.add(Due { rank, fact, member })
     } else {
         Ok(())
     }
@@ -95,4 +105,30 @@ fn reads(slot: Slot, reader: ReaderOf, member: u32) -> bool
     ensures { result ≡ reads_at slot reader member }
 {
     !reader.same || slot.member == member
+}
+
+// No change that extends the answers moves the slot.
+fn is_shielded(course: &Course, store: &Store, slot: Slot) -> bool
+    requires { IsNumber (accepted course.now.dict.now).tree.facts slot.fact }
+    ensures { result ≡ shielded_in (setting_of course.now) store.now.cells slot }
+{
+    let seen = Seen {
+        store,
+        gone: course.gone,
+    };
+    course.extended
+        && is_complete(seen.cell(slot))
+        && (course.answers.override_of(slot).is_some() || course.dict.steady(slot.fact))
+}
+
+fn is_complete(res: Option<&Res>) -> bool
+    ensures { result ≡ is_complete_in (option_copied res.entry) }
+{
+    match res {
+        None => false,
+        Some(Res::Complete(_)) => true,
+        Some(Res::Placeholder(_)) => false,
+        Some(Res::Incomplete) => false,
+        Some(Res::Fault(_)) => false,
+    }
 }

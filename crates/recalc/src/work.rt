@@ -52,6 +52,7 @@ impl Work {
     /// Takes out one of the lowest rank.
     pub fn pop(&mut self) -> Option<Due>
         ensures none { IfNone result ((q : Due) → waits self.old q ≡ false) }
+        ensures unchanged { IfNone result (self.new ≡ self.old) }
         ensures some { IfSome result (λ due. IsTrue (waits self.old due)) }
         ensures rest { IfSome result (λ due. (q : Due)
             → waits self.new q ≡ (waits self.old q && not (due_same q due))) }

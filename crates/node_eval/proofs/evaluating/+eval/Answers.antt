@@ -9,6 +9,7 @@ use Rattle.operations.specs.declared.cases.CaseStep.TheVariants.{Next, Take, End
 use Rattle.operations.proofs.CaseLaws.{find_after-start, switch_from-start}
 use Rattle.operations.proofs.FilterLaws.{filter_on-source, kept-member_list}
 use Rattle.operations.proofs.ManyLaws.{many_from-start}
+use Rattle.operations.proofs.StepLaws.{none_fault, none_incomplete, ok_more, ok_same, one_more}
 use Rattle.three_state.specs.Results.{kept, members_of}
 use Rattle.three_state.specs.declared.strict.Verdict.{Verdict}
 use Rattle.node_eval.specs.Evaluating.{TakesAt, condition_at, visits_at, work_at}
@@ -16,7 +17,7 @@ use Rattle.node_eval.specs.Reading.{node_env}
 use Rattle.node_eval.specs.View.{case_view, cases_of, trees_of, view}
 use Rattle.evaluation.specs.Visits.{visits, visits_of_all, visits_of_cases}
 use Rattle.node_eval.specs.declared.place.Place.{Place}
-use Rattle.node_eval.proofs.RestLaws.{all_next, all_take, all_visit, all_weigh, case_at, case_takes, case_visit, cases_weigh, filter_next, find_at, find_takes, find_visit, kept_more, member_takes, members_weigh, none_fault, none_incomplete, ok_more, ok_same, one_more, test_takes}
+use Rattle.node_eval.proofs.RestLaws.{all_next, all_take, all_visit, all_weigh, case_at, case_takes, case_visit, cases_weigh, filter_next, find_at, find_takes, find_visit, kept_more, member_takes, members_weigh, test_takes}
 use Rattle.node_eval.proofs.Views.{view-Pick}
 use Rattle.node_eval.proofs.evaluating.+eval.Goals as goal
 

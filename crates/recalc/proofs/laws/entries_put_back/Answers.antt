@@ -1,5 +1,5 @@
-use Rattle.recalc.proofs.ReplacingLaws.{entry_keeps_before, entry_wants_room}
+use Rattle.recalc.proofs.ReplacingLaws.{entry_can_put_back, entry_keeps_before}
 use Rattle.recalc.proofs.laws.entries_put_back.Goals as goal
 
 pub returns : goal.returns
-returns c = record { before = entry_keeps_before; room = entry_wants_room }
+returns c = record { before = entry_keeps_before; can = entry_can_put_back }

@@ -1,7 +1,6 @@
 use Rattle.std.proofs.Common.{◌≡◌, ◌||◌, drop}
-use Rattle.answers.specs.Meaning.{answered}
-use Rattle.dictionary.specs.Accepted.{accepted}
-use Rattle.recalc.specs.Readers.{marks}
+use Rattle.recalc.specs.Courses.{setting_of}
+use Rattle.recalc.specs.Running.{let_by_all}
 use Rattle.recalc.specs.Waiting.{waits}
 use Rattle.recalc.specs.declared.work.Due.{Due}
 use Rattle.recalc.proofs.marking.mark.Given as goal
@@ -9,5 +8,5 @@ use Rattle.recalc.proofs.marking.mark.Given as goal
 abbrev pub invariant-loop-reader : goal.invariant-loop-reader
 invariant-loop-reader l =
     (q : Due)
-    → (waits l.work q || marks (accepted l.dict) (answered l.now) l.slot (drop l.reader-index l.readers) q)
-    ≡ (waits l.initial.work q || marks (accepted l.dict) (answered l.now) l.slot l.readers q)
+    → (waits l.work q || let_by_all (setting_of l.course) l.store.cells l.slot (drop l.reader-index l.readers) q)
+    ≡ (waits l.initial.work q || let_by_all (setting_of l.course) l.store.cells l.slot l.readers q)

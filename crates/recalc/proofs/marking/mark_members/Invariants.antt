@@ -1,6 +1,8 @@
 use Rattle.std.proofs.Common.{◌≡◌, ◌||◌, drop}
 use Rattle.std.specs.List.{list_any}
+use Rattle.recalc.specs.Courses.{setting_of}
 use Rattle.recalc.specs.Readers.{marks_at}
+use Rattle.recalc.specs.Running.{shielded_in}
 use Rattle.recalc.specs.Waiting.{waits}
 use Rattle.recalc.specs.declared.work.Due.{Due}
 use Rattle.recalc.proofs.marking.mark_members.Given as goal
@@ -8,5 +10,5 @@ use Rattle.recalc.proofs.marking.mark_members.Given as goal
 abbrev pub invariant-loop-member : goal.invariant-loop-member
 invariant-loop-member l =
     (q : Due)
-    → (waits l.work q || list_any (marks_at l.slot l.reader l.rank q) (drop l.member-index l.members))
-    ≡ (waits l.initial.work q || list_any (marks_at l.slot l.reader l.rank q) l.members)
+    → (waits l.work q || list_any (marks_at (shielded_in (setting_of l.course) l.store.cells) l.slot l.reader l.rank q) (drop l.member-index l.members))
+    ≡ (waits l.initial.work q || list_any (marks_at (shielded_in (setting_of l.course) l.store.cells) l.slot l.reader l.rank q) l.members)

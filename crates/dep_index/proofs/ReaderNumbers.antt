@@ -1,0 +1,34 @@
+-- What mentions a fact is a fact.
+use Rattle.std.proofs.Common.{◌≡◌, ℕ, Bool, true, false, List, [], ◌∷◌, Option, Some, None, refl, sym, ◌∙◌, arith}
+use Rattle.std.specs.Prelude.{◌||◌, IsTrue, All}
+use Rattle.std.specs.List.{list_any}
+use Rattle.std.proofs.lemmas.List.Elements.{All-cons}
+use Rattle.common_lemmas.proofs.Bools.{or_left, or_right}
+use Rattle.common_lemmas.proofs.Numbers.{equal_number}
+use Rattle.dict_tree.specs.Dictionary.{Dictionary as Tree}
+use Rattle.dict_tree.specs.Facts.{Fact}
+use Rattle.dict_tree.specs.Finding.{fact_at, IsNumber}
+use Rattle.dict_tree.specs.Mentions.{found_mentions}
+use Rattle.dictionary.specs.Feeds.{is_of}
+use Rattle.dictionary.proofs.NumberLaws.{fact_within}
+use Rattle.dep_index.specs.Laws.{ReadersAreFacts}
+use Rattle.dep_index.specs.Readers.{is_mentioned_by, is_reader}
+use Rattle.dep_index.specs.declared.row.ReaderOf.{ReaderOf}
+
+-- a fact that isn't there mentions nothing
+mentioning : (d : Tree) (fact reader : ℕ) → is_mentioned_by d fact reader ≡ true → IsNumber d.facts reader
+mentioning d fact reader h = at (fact_at d.facts reader) refl h
+  where
+    at : (o : Option Fact) → fact_at d.facts reader ≡ o → list_any (is_of fact) (found_mentions d reader o) ≡ true → IsNumber d.facts reader
+    at None e k = absurd (cc)
+    at (Some f) e k = let within = fact_within d.facts reader f e in (omega (arith, within.0), within.1)
+
+-- what holds of each reader that is found holds of all
+each_found : (P : ReaderOf → Type 0) (rs : List ReaderOf) → ((r : ReaderOf) → IsTrue (list_any (is_reader r.fact) rs) → P r) → All P rs
+each_found P [] h = λ i r low. absurd (omega arith)
+each_found P (r ∷ rs) h =
+    All-cons P r rs (h r (or_left (is_reader r.fact r) (list_any (is_reader r.fact) rs) (equal_number r.fact)))
+    (each_found P rs (λ t i. h t (or_right (is_reader t.fact r) (list_any (is_reader t.fact) rs) i)))
+
+pub readers_are_facts : ReadersAreFacts
+readers_are_facts d fact rs are = each_found (λ r. IsNumber d.tree.facts r.fact) rs (λ r i. mentioning d.tree fact r.fact (sym (are.mentioning r.fact) ∙ i))

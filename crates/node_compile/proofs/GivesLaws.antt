@@ -1,0 +1,75 @@
+-- The node of a typed expression gives what the expression gives over any cells, and weighs as much.
+use Rattle.std.proofs.Common.{◌≡◌, ℕ, suc, List, [], ◌∷◌, sum_by, refl, sym, ap, subst, ◌∙◌}
+use Rattle.fact_values.specs.declared.fact_type.FactType.{FactType}
+use Rattle.fact_values.specs.declared.fact_type.FactType.TheVariants as types
+use Rattle.dict_tree.specs.Dictionary.{Dictionary as Tree}
+use Rattle.dict_tree.specs.Mentions.{condition_base}
+use Rattle.dict_tree.specs.Tree.{Source, Sources, SourceCases, literal, read, switch, many, one, two, pick, no_trees, tree, no_cases, a_case}
+use Rattle.dict_tree.specs.Typing.{HasType, HaveTypes, HaveCaseTypes}
+use Rattle.dict_types.specs.FactTyping.{path_type}
+use Rattle.three_state.specs.Results.{members_of, switch_of}
+use Rattle.evaluation.specs.Over.{over, over_all, over_cases, many_of, one_of, pick_of, weight, weight_of_all, weight_of_cases}
+use Rattle.evaluation.specs.Resolving.{resolved, resolved_all, resolved_cases}
+use Rattle.evaluation.proofs.ResolvingLaws.{everywhere}
+use Rattle.dictionary.specs.Reading.{Look, source_env, source_result}
+use Rattle.dictionary.proofs.PlacedReads.{placed_types}
+use Rattle.node_eval.specs.Reading.{entered, node_env}
+use Rattle.node_eval.specs.declared.place.Place.{Place as NodePlace}
+use Rattle.node_compile.specs.Compiling.{names}
+use Rattle.node_compile.proofs.ReadLaws.{list_by_path, read_by_path, standing}
+use Rattle.node_compile.proofs.TargetLaws.{known_is, unsuited}
+
+module _ (d : Tree) (fact : ℕ) (look : Look) where
+  -- the result and the weight
+  abbrev pub Same : Source → ℕ → NodePlace → Type 0
+  Same t base at =
+      (over (node_env look) at (resolved (names d fact) base t) ≡ over (source_env d look fact) (standing base at) t)
+      × (weight (node_env look) at (resolved (names d fact) base t) ≡ weight (source_env d look fact) (standing base at) t)
+
+  abbrev AllSame : Sources → ℕ → NodePlace → Type 0
+  AllSame ts base at =
+      (over_all (node_env look) at (resolved_all (names d fact) base ts) ≡ over_all (source_env d look fact) (standing base at) ts)
+      × (weight_of_all (node_env look) at (resolved_all (names d fact) base ts) ≡ weight_of_all (source_env d look fact) (standing base at) ts)
+
+  abbrev CasesSame : SourceCases → ℕ → NodePlace → Type 0
+  CasesSame cs base at =
+      (over_cases (node_env look) at (resolved_cases (names d fact) base cs) ≡ over_cases (source_env d look fact) (standing base at) cs)
+      × (weight_of_cases (node_env look) at (resolved_cases (names d fact) base cs) ≡ weight_of_cases (source_env d look fact) (standing base at) cs)
+
+  mutual
+    pub same : (t : Source) (base : ℕ) (at : NodePlace) (u : FactType) → HasType (placed_types d fact) base t u → Same t base at
+    same (literal c) base at u h = (refl, refl)
+    same (read r) base at u h = (read_by_path d look base at fact r.0 r.1.path u (unsuited r.0 r.1.path (path_type d fact base r.0 r.1.path) u h), refl)
+    same (switch cs) base at u h = let p = cases_same cs base at u h.1 in (ap switch_of p.0, ap suc p.1)
+    same (many op ts) base at u h = let p = all_same ts base at h.0 h.1 in (ap (many_of op) p.0, ap suc p.1)
+    same (one op t) base at u h = let p = same t base at h.0 h.1 in (ap (one_of op) p.0, ap suc p.1)
+    same (two op x y) base at u h =
+        let p = same x base at h.0 h.2 in
+        let q = same y base at h.1 h.3 in
+        (rw (p.0, q.0) refl, rw (p.1, q.1) refl)
+    same (pick op p t) base at u h =
+        let inner = condition_base d fact base p.path in
+        let under = subst (λ (c : ℕ). HasType (placed_types d fact) c t types.Boolean) (sym (known_is inner h.0 h.1)) h.2 in
+        let list = list_by_path d look base at fact p.path h.0 h.1 in
+        let node = resolved (names d fact) inner t in (
+          ap (λ s. pick_of op s (λ m. over (node_env look) (entered at m) node)) list
+              ∙ ap (pick_of op (source_result d look fact (standing base at) p.path)) (everywhere (λ m. (same t inner (entered at m) types.Boolean under).0)),
+          ap (λ s. suc (sum_by (λ m. weight (node_env look) (entered at m) node) (members_of s))) list
+              ∙ ap (λ f. suc (sum_by f (members_of (source_result d look fact (standing base at) p.path)))) (everywhere (λ m. (same t inner (entered at m) types.Boolean under).1)),
+        )
+
+    all_same : (ts : Sources) (base : ℕ) (at : NodePlace) (us : List FactType) → HaveTypes (placed_types d fact) base ts us → AllSame ts base at
+    all_same no_trees base at us h = (refl, refl)
+    all_same (tree t ts) base at [] h = absurd h
+    all_same (tree t ts) base at (u ∷ us) h =
+        let p = same t base at u h.0 in
+        let q = all_same ts base at us h.1 in
+        (rw (p.0, q.0) refl, rw (p.1, q.1) refl)
+
+    cases_same : (cs : SourceCases) (base : ℕ) (at : NodePlace) (u : FactType) → HaveCaseTypes (placed_types d fact) base cs u → CasesSame cs base at
+    cases_same no_cases base at u h = (refl, refl)
+    cases_same (a_case t o cs) base at u h =
+        let p = same t base at types.Boolean h.0 in
+        let q = same o base at u h.1 in
+        let r = cases_same cs base at u h.2 in
+        (rw (p.0, q.0, r.0) refl, rw (p.1, q.1, r.1) refl)

@@ -1,0 +1,27 @@
+-- Lists of operands and of cases, compiled one by one.
+use Rattle.std.proofs.Common.{◌≡◌, ℕ, List, [], ◌∷◌, map, refl, ap}
+use Rattle.dict_tree.specs.Dictionary.{Dictionary as Tree}
+use Rattle.dict_tree.specs.Tree.{Cases, Trees, a_case, tree}
+use Rattle.dict_tree.specs.View.{cases_view, trees_view, view}
+use Rattle.dict_tree.specs.declared.expr.Case.{Case}
+use Rattle.dict_tree.specs.declared.expr.Expr.{Expr}
+use Rattle.fact_values.specs.declared.value.Value.{Value}
+use Rattle.evaluation.specs.Resolving.{resolved, resolved_all, resolved_cases}
+use Rattle.node_eval.specs.View.{Compiled as NodeTree, CompiledCase as NodeTreeCase, Reading as NodeReading, cases_of, trees_of}
+use Rattle.node_eval.specs.declared.node.Reader.{Reader}
+use Rattle.node_compile.specs.Compiling.{names}
+
+module _ (d : Tree) (fact base : ℕ) where
+  abbrev pub node_of : Expr → NodeTree
+  node_of e = resolved (names d fact) base (view e)
+
+  abbrev pub node_case_of : Case → NodeTreeCase
+  node_case_of c = (resolved (names d fact) base (view c.test), resolved (names d fact) base (view c.outcome))
+
+  pub all_resolved : (es : List Expr) → resolved_all (names d fact) base (trees_view es) ≡ trees_of (map node_of es)
+  all_resolved [] = refl
+  all_resolved (e ∷ es) = ap (λ (ts : Trees Value NodeReading Reader). tree (node_of e) ts) (all_resolved es)
+
+  pub cases_resolved : (cs : List Case) → resolved_cases (names d fact) base (cases_view cs) ≡ cases_of (map node_case_of cs)
+  cases_resolved [] = refl
+  cases_resolved (c ∷ cs) = ap (λ (ts : Cases Value NodeReading Reader). a_case (resolved (names d fact) base (view c.test)) (resolved (names d fact) base (view c.outcome)) ts) (cases_resolved cs)

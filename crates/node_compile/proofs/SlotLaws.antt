@@ -1,0 +1,87 @@
+-- What a slot gives and weighs, by the nodes of its fact.
+use Rattle.std.proofs.Common.{◌≡◌, ℕ, ◌+◌, List, Option, Some, None, refl, sym, ap, subst, ◌∙◌}
+use Rattle.std.specs.Prelude.{option_and_then}
+use Rattle.fact_values.specs.declared.slot.Slot.{Slot}
+use Rattle.dict_tree.specs.Dictionary.{Dictionary as Tree}
+use Rattle.dict_tree.specs.Facts.{Fact, Stated}
+use Rattle.dict_tree.specs.Finding.{fact_at}
+use Rattle.dict_tree.specs.Tree.{Source}
+use Rattle.three_state.specs.Results.{down}
+use Rattle.three_state.specs.declared.res.Res.{Res}
+use Rattle.three_state.specs.declared.res.Res.TheVariants.{Complete, Placeholder, Incomplete, Fault}
+use Rattle.answers.specs.Answered.{Answered, value_of}
+use Rattle.answers.specs.declared.edit.Side.TheVariants.{Override}
+use Rattle.dictionary.specs.Accepted.{Accepted, IsAccepted}
+use Rattle.dictionary.specs.Fits.{AnswersFit, domains}
+use Rattle.dictionary.specs.Plain.{at_fact, body, main_result, or_override, or_placeholder, plain}
+use Rattle.dictionary.specs.Weights.{expression_weight}
+use Rattle.dictionary.proofs.TypedResultLaws.{plain_typed}
+use Rattle.node_eval.specs.Looks.{Look}
+use Rattle.node_eval.specs.View.{Compiled as NodeTree}
+use Rattle.node_eval.specs.declared.place.Place.{Place as NodePlace}
+use Rattle.node_compile.specs.Compiled.{IsCompiled, IsNodeOf, main_of, placeholder_of}
+use Rattle.node_compile.specs.Laws.{MeetsTypes, NodesGiveSlots, NodesMeetTypes, NodesWeighSlots, main_node_result, node_weight, or_placeholder_node}
+use Rattle.node_compile.specs.declared.compiled.Compiled.{Compiled}
+
+-- ---- the nodes of a fact that is there
+
+pub main_node : (d : Tree) (c : Compiled) → IsCompiled d c → (n : ℕ) (f : Fact) → fact_at d.facts n ≡ Some f → IsNodeOf d n (body f) (main_of c n)
+main_node d c is n f e = subst (λ (o : Option Fact). IsNodeOf d n (option_and_then body o) (main_of c n)) e (is.main n)
+
+pub placeholder_node : (d : Tree) (c : Compiled) → IsCompiled d c → (n : ℕ) (f : Fact) → fact_at d.facts n ≡ Some f → IsNodeOf d n f.placeholder (placeholder_of c n)
+placeholder_node d c is n f e = subst (λ (o : Option Fact). IsNodeOf d n (option_and_then (λ (g : Fact). g.placeholder) o) (placeholder_of c n)) e (is.placeholder n)
+
+-- ---- results
+
+by_main : (d : Tree) (a : Answered) (look : Look) (s : Slot) (stated : Stated) (o : Option Source) (n : Option NodeTree) → IsNodeOf d s.fact o n → main_result d a look s stated o ≡ main_node_result a look s stated n
+by_main d a look s stated None None h = refl
+by_main d a look s stated None (Some node) h = absurd h
+by_main d a look s stated (Some t) None h = absurd h
+by_main d a look s stated (Some t) (Some node) h = ap (or_override (value_of Override a s)) (sym (h.result look s.member 0))
+
+by_placeholder : (d : Tree) (look : Look) (s : Slot) (o : Option Source) (n : Option NodeTree) → IsNodeOf d s.fact o n → (r : Res) → or_placeholder d look s o r ≡ or_placeholder_node look s n r
+by_placeholder d look s None None h r = refl
+by_placeholder d look s None (Some node) h r = absurd h
+by_placeholder d look s (Some t) None h r = absurd h
+by_placeholder d look s (Some t) (Some node) h Incomplete = ap down (sym (h.result look s.member 0))
+by_placeholder d look s (Some t) (Some node) h (Complete v) = refl
+by_placeholder d look s (Some t) (Some node) h (Placeholder v) = refl
+by_placeholder d look s (Some t) (Some node) h (Fault fault) = refl
+
+pub nodes_give_slots : NodesGiveSlots
+nodes_give_slots d c is a look s f e =
+    ap (or_placeholder d look s f.placeholder) (by_main d a look s f.stated (body f) (main_of c s.fact) (main_node d c is s.fact f e))
+    ∙ by_placeholder d look s f.placeholder (placeholder_of c s.fact) (placeholder_node d c is s.fact f e) (main_node_result a look s f.stated (main_of c s.fact))
+
+-- ---- weights
+
+weighs : (d : Accepted) (a : Answered) (s : Slot) (o : Option Source) (n : Option NodeTree) → IsNodeOf d.tree s.fact o n → expression_weight d a s o ≡ node_weight (plain d a) s n
+weighs d a s None None h = refl
+weighs d a s None (Some node) h = absurd h
+weighs d a s (Some t) None h = absurd h
+weighs d a s (Some t) (Some node) h = sym (h.weight (plain d a) s.member 0)
+
+both_weigh : (d : Accepted) (a : Answered) (s : Slot) (main placeholder : Option NodeTree) (o : Option Fact)
+    → IsNodeOf d.tree s.fact (option_and_then body o) main → IsNodeOf d.tree s.fact (option_and_then (λ (f : Fact). f.placeholder) o) placeholder
+    → at_fact o 0 (λ (f : Fact). expression_weight d a s (body f) + expression_weight d a s f.placeholder) ≡ node_weight (plain d a) s main + node_weight (plain d a) s placeholder
+both_weigh d a s main placeholder None h k =
+    ap (λ (n : ℕ). n + 0) (weighs d a s None main h) ∙ ap (λ (n : ℕ). node_weight (plain d a) s main + n) (weighs d a s None placeholder k)
+both_weigh d a s main placeholder (Some f) h k =
+    ap (λ (n : ℕ). n + expression_weight d a s f.placeholder) (weighs d a s (body f) main h)
+    ∙ ap (λ (n : ℕ). node_weight (plain d a) s main + n) (weighs d a s f.placeholder placeholder k)
+
+pub nodes_weigh_slots : NodesWeighSlots
+nodes_weigh_slots d c is a s = both_weigh d a s (main_of c s.fact) (placeholder_of c s.fact) (fact_at d.tree.facts s.fact) (is.main s.fact) (is.placeholder s.fact)
+
+-- ---- types
+
+meets : (checks : List (List ℕ)) (d : Accepted) → IsAccepted checks d → (a : Answered) → AnswersFit d.tree a → (fact : ℕ) (at : NodePlace) (o : Option Source) (n : Option NodeTree) → IsNodeOf d.tree fact o n → MeetsTypes d a at n
+meets checks d good a fit fact at o None h = tt
+meets checks d good a fit fact at None (Some node) h = absurd h
+meets checks d good a fit fact at (Some t) (Some node) h = h.typed (domains d.tree a) (plain d a) at (plain_typed checks d good a fit)
+
+pub nodes_meet_types : NodesMeetTypes
+nodes_meet_types checks d good c is a fit fact at = (
+  meets checks d good a fit fact at (option_and_then body (fact_at d.tree.facts fact)) (main_of c fact) (is.main fact),
+  meets checks d good a fit fact at (option_and_then (λ (f : Fact). f.placeholder) (fact_at d.tree.facts fact)) (placeholder_of c fact) (is.placeholder fact),
+)

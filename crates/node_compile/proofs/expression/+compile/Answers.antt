@@ -1,0 +1,18 @@
+use Rattle.std.proofs.Common.{map, sym, ap, ◌∙◌}
+use Rattle.std.proofs.lemmas.List.{take_all}
+use Rattle.dict_tree.specs.Dictionary.{dictionary_view}
+use Rattle.node_eval.specs.View.{cases_of, trees_of}
+use Rattle.node_compile.proofs.OperandLaws.{all_resolved, cases_resolved, node_case_of, node_of}
+use Rattle.node_compile.proofs.expression.+compile.Goals as goal
+
+pub compile_all-returns : goal.compile_all-returns
+compile_all-returns t c =
+    let d = dictionary_view c.args.source.now in
+    ap trees_of (c.loop-operand.invariant ∙ ap (map (node_of d c.args.fact c.args.base)) (take_all c.loop-operand.operand-index c.args.operands.now c.loop-operand-test.false))
+    ∙ sym (all_resolved d c.args.fact c.args.base c.args.operands.now)
+
+pub compile_cases-returns : goal.compile_cases-returns
+compile_cases-returns t c =
+    let d = dictionary_view c.args.source.now in
+    ap cases_of (c.loop-case.invariant ∙ ap (map (node_case_of d c.args.fact c.args.base)) (take_all c.loop-case.case-index c.args.cases.now c.loop-case-test.false))
+    ∙ sym (cases_resolved d c.args.fact c.args.base c.args.cases.now)

@@ -1,0 +1,80 @@
+-- Whole facts by their nodes.
+use Rattle.std.specs.Prelude.{◌≡◌, ℕ, ◌+◌, List, Option, Some, None}
+use Rattle.fact_values.specs.declared.slot.Slot.{Slot}
+use Rattle.dict_tree.specs.Dictionary.{Dictionary as Tree}
+use Rattle.dict_tree.specs.Facts.{Fact, Stated}
+use Rattle.dict_tree.specs.Finding.{fact_at}
+use Rattle.dict_types.specs.StatedTypes.{type_at}
+use Rattle.three_state.specs.Results.{down}
+use Rattle.three_state.specs.declared.res.Res.{Res}
+use Rattle.three_state.specs.declared.res.Res.TheVariants.{Complete, Placeholder, Incomplete, Fault}
+use Rattle.evaluation.specs.Over.{over, weight}
+use Rattle.answers.specs.Answered.{Answered, value_of}
+use Rattle.answers.specs.declared.edit.Side.TheVariants.{Override}
+use Rattle.dictionary.specs.Accepted.{Accepted, IsAccepted}
+use Rattle.dictionary.specs.Fits.{AnswersFit, domains}
+use Rattle.dictionary.specs.Plain.{answer_result, given_value, or_override, plain, slot_result}
+use Rattle.dictionary.specs.Weights.{slot_weight}
+use Rattle.node_eval.specs.Looks.{Look}
+use Rattle.node_eval.specs.NodeTypes.{IsTyped}
+use Rattle.node_eval.specs.Reading.{node_env}
+use Rattle.node_eval.specs.View.{Compiled as NodeTree}
+use Rattle.node_eval.specs.declared.place.Place.{Place as NodePlace}
+use Rattle.node_compile.specs.Compiled.{IsCompiled, main_of, node_place, placeholder_of}
+use Rattle.node_compile.specs.declared.compiled.Compiled.{Compiled}
+
+-- ---- the result of a slot
+
+-- of a node of the slot's fact
+abbrev pub node_result : Look → Slot → NodeTree → Res
+node_result look s node = over (node_env look) (node_place s.member 0) node
+
+-- what is given to a Writable slot; else the override, or the result of the main node
+abbrev pub main_node_result : Answered → Look → Slot → Stated → Option NodeTree → Res
+main_node_result a look s stated None = answer_result (given_value stated a s)
+main_node_result a look s stated (Some node) = or_override (value_of Override a s) (node_result look s node)
+
+-- an incomplete result gives way to that of the placeholder's node
+abbrev pub or_placeholder_node : Look → Slot → Option NodeTree → Res → Res
+or_placeholder_node look s None r = r
+or_placeholder_node look s (Some node) (Complete v) = Complete v
+or_placeholder_node look s (Some node) (Placeholder v) = Placeholder v
+or_placeholder_node look s (Some node) Incomplete = down (node_result look s node)
+or_placeholder_node look s (Some node) (Fault fault) = Fault fault
+
+-- the main node's, or the override, the answer or the placeholder's
+abbrev pub result_by_nodes : Compiled → Answered → Look → Slot → Stated → Res
+result_by_nodes c a look s stated = or_placeholder_node look s (placeholder_of c s.fact) (main_node_result a look s stated (main_of c s.fact))
+
+-- ---- its weight
+
+abbrev pub node_weight : Look → Slot → Option NodeTree → ℕ
+node_weight look s None = 0
+node_weight look s (Some node) = weight (node_env look) (node_place s.member 0) node
+
+abbrev pub weight_by_nodes : Compiled → Look → Slot → ℕ
+weight_by_nodes c look s = node_weight look s (main_of c s.fact) + node_weight look s (placeholder_of c s.fact)
+
+-- ---- laws
+
+-- over any map, a slot's result is that of its fact's nodes
+abbrev pub NodesGiveSlots : Type 0
+NodesGiveSlots =
+    (d : Tree) (c : Compiled) → IsCompiled d c → (a : Answered) (look : Look) (s : Slot) (f : Fact) → fact_at d.facts s.fact ≡ Some f
+    → slot_result d a look s f ≡ result_by_nodes c a look s f.stated
+
+-- with the results of plain evaluation the nodes weigh what the slot weighs
+abbrev pub NodesWeighSlots : Type 0
+NodesWeighSlots =
+    (d : Accepted) (c : Compiled) → IsCompiled d.tree c → (a : Answered) (s : Slot) → slot_weight d a s ≡ weight_by_nodes c (plain d a) s
+
+-- the condition of evaluation, where there is a node
+abbrev pub MeetsTypes : Accepted → Answered → NodePlace → Option NodeTree → Type 0
+MeetsTypes d a at None = Unit {0}
+MeetsTypes d a at (Some node) = IsTyped (domains d.tree a) (type_at d.tree) (plain d a) at node
+
+-- over the results of plain evaluation a node meets the condition of evaluation, whatever answers stand
+abbrev pub NodesMeetTypes : Type 0
+NodesMeetTypes =
+    (checks : List (List ℕ)) (d : Accepted) → IsAccepted checks d → (c : Compiled) → IsCompiled d.tree c → (a : Answered) → AnswersFit d.tree a
+    → (fact : ℕ) (at : NodePlace) → MeetsTypes d a at (main_of c fact) × MeetsTypes d a at (placeholder_of c fact)

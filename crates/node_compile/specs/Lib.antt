@@ -1,0 +1,4 @@
+pub mod Compiling
+pub mod Compiled
+pub mod FactTrees
+pub mod Laws

@@ -1,0 +1,15 @@
+// Laws of whole facts. Each function's contract is the theorem.
+ghost use Rattle.node_compile.specs.Laws.{NodesGiveSlots, NodesMeetTypes, NodesWeighSlots};
+
+/// A slot's result is that of its fact's main node, or the override, the answer or the placeholder's,
+/// and its weight is that of the nodes.
+pub fn nodes_give_slots()
+    ensures result { NodesGiveSlots }
+    ensures weight { NodesWeighSlots }
+{}
+
+/// Whatever answers stand, over the results of plain evaluation each node meets the condition of
+/// evaluation: it has a type, and the cells that it reads are of the right types.
+pub fn nodes_meet_types()
+    ensures { NodesMeetTypes }
+{}

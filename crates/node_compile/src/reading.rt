@@ -1,0 +1,116 @@
+// What use paths and constants stand for.
+ghost use Rattle.std.specs.Prelude.{◌≡◌, IfOk, option_and_then};
+ghost use Rattle.dict_tree.specs.Dictionary.{dictionary_view};
+ghost use Rattle.dict_tree.specs.Mentions.{condition_base};
+ghost use Rattle.dict_tree.specs.Tree.{read};
+ghost use Rattle.dict_tree.specs.View.{literal_of};
+ghost use Rattle.dict_types.specs.StatedTypes.{type_at as type_of_fact};
+ghost use Rattle.dictionary.specs.Reading.{constant_value as value_of_constant};
+ghost use Rattle.node_eval.specs.View.{view};
+ghost use Rattle.node_compile.specs.Compiling.{number as number_of, read_of, reader as reader_in, reader_of, reading, sum_read};
+
+use dict_tree::{Constant, DictSource, PathUse, ReadOp, Targets};
+use dict_types::{constant_value, type_at};
+use fact_paths::UsePath;
+use fact_values::{FactType, NoMemory, Value};
+use node_eval::{Node, NodeRead, Reader};
+use std::alloc::Global;
+use value_text::EnumLists;
+
+/// The value of a constant. A text that spells no value counts as false.
+pub fn constant(alloc: Global, enums: &EnumLists, constant: &Constant) -> Result<Value, NoMemory>
+    ensures { IfOk result (λ v. v ≡ value_of_constant enums.now (literal_of constant.now)) }
+{
+    match constant_value(alloc, enums, constant)? {
+        Some(value) => Ok(value),
+        None => Ok(Value::Boolean(false)),
+    }
+}
+
+fn number(target: Option<u32>) -> u32
+    ensures { result ≡ number_of target }
+{
+    target.unwrap_or(0)
+}
+
+// The path's form, with the numbers of its targets.
+fn reader_of_targets(path: &UsePath, targets: Targets) -> Reader
+    ensures { result ≡ reader_of path.now targets }
+{
+    let first = number(targets.first);
+    let second = number(targets.second);
+    match path {
+        UsePath::Global(_) => Reader::Global(first),
+        UsePath::Sibling(_) => Reader::Same(first),
+        UsePath::Inner(_) => Reader::Inner(first),
+        UsePath::Each(..) => Reader::Each(first, second),
+        UsePath::Through(..) => Reader::Through(first, second),
+        UsePath::SiblingThrough(..) => Reader::SameThrough(first, second),
+    }
+}
+
+/// The reader of a path in this fact, under a condition over the base, or with the base 0 outside of
+/// conditions.
+pub fn reader(source: &DictSource, fact: u32, base: u32, used: &PathUse) -> Reader
+    ensures { result ≡ reader_in (dictionary_view source.now) fact base used.now.path }
+{
+    match &used.path {
+        None => Reader::Global(0),
+        Some(path) => reader_of_targets(path, source.targets(fact, base, path)),
+    }
+}
+
+fn field_type(source: &DictSource, field: Option<u32>) -> Option<FactType>
+    ensures { result ≡ option_and_then (type_of_fact (dictionary_view source.now)) field }
+{
+    type_at(source, field?)
+}
+
+// A sum by the type of its fields.
+fn sum_of_fields(of: FactType) -> NodeRead
+    ensures { result ≡ sum_read of }
+{
+    match of {
+        FactType::Dollar => NodeRead::SumDollar,
+        _ => NodeRead::SumInt,
+    }
+}
+
+fn read_of_targets(source: &DictSource, targets: Targets, op: ReadOp) -> NodeRead
+    ensures { result ≡ read_of (dictionary_view source.now) targets op }
+{
+    match op {
+        ReadOp::Dependency => NodeRead::Dependency,
+        ReadOp::IsComplete => NodeRead::IsComplete,
+        ReadOp::CollectionSize => NodeRead::CollectionSize,
+        ReadOp::CollectionSum => {
+            sum_of_fields(field_type(source, targets.second).unwrap_or(FactType::Int))
+        }
+        ReadOp::Count => NodeRead::Count,
+    }
+}
+
+/// The node that reads a path.
+#[tactic(auto, using(node_eval::proofs::Views::views))]
+pub fn read_path(source: &DictSource, fact: u32, base: u32, op: ReadOp, used: &PathUse) -> Node
+    ensures { view result ≡ read (reading (dictionary_view source.now) fact base op used.now.path) }
+{
+    match &used.path {
+        None => Node::Read(NodeRead::Dependency, Reader::Global(0)),
+        Some(path) => {
+            let targets = source.targets(fact, base, path);
+            let op = read_of_targets(source, targets, op);
+            Node::Read(op, reader_of_targets(path, targets))
+        }
+    }
+}
+
+/// The base of the condition of a Filter or a Find with this path.
+pub fn base_under(source: &DictSource, fact: u32, base: u32, used: &PathUse) -> u32
+    ensures { result ≡ condition_base (dictionary_view source.now) fact base used.now.path }
+{
+    match &used.path {
+        None => 0,
+        Some(path) => source.condition_base(fact, base, path),
+    }
+}

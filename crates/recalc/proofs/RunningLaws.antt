@@ -1,0 +1,244 @@
+-- Turn by turn, the loop keeps its work, its log and its cells in step.
+use Rattle.std.proofs.Common.{◌≡◌, ◌≤◌, ◌<◌, ℕ, ◌+◌, ◌-◌, Bool, true, false, cond, not, ◌&&◌, ◌||◌, nat_eq, if◌then◌else◌, IsTrue, List, [], ◌∷◌, ◌++◌, length, sum_by, Option, Some, None, option_map, is_some, IsSome, refl, sym, ap, subst, ◌∙◌, arith}
+use Rattle.std.specs.FinMap as finite
+use Rattle.std.proofs.lemmas.List.{length-append, length-map}
+use Rattle.std.proofs.lemmas.List.Sums.{sum_by-append, sum_by-cons}
+use Rattle.common_lemmas.proofs.Bools.{both_left, both_right}
+use Rattle.common_lemmas.proofs.Numbers.{equal_number, nat_eq-comm, same_number}
+use Rattle.fact_values.specs.declared.slot.Slot.{Slot}
+use Rattle.three_state.specs.declared.res.Res.{Res}
+use Rattle.dict_tree.specs.Finding.{IsNumber}
+use Rattle.cell_store.specs.Contents.{Cells}
+use Rattle.cell_store.specs.declared.cell.Cell.{Cell}
+use Rattle.cell_store.proofs.SlotLaws.{get_put_at}
+use Rattle.dep_index.specs.Readers.{AreReaders}
+use Rattle.dep_index.specs.declared.row.ReaderOf.{ReaderOf}
+use Rattle.dictionary.specs.Accepted.{Accepted}
+use Rattle.dictionary.specs.Feeds.{feeds}
+use Rattle.dictionary.specs.Plain.{IsPlainBelow, plain, rank}
+use Rattle.dictionary.specs.Slots.{slot_same, stands}
+use Rattle.dictionary.specs.Weights.{slot_weight}
+use Rattle.dictionary.proofs.PlainLaws.{standing_have_results}
+use Rattle.dictionary.proofs.SlotLaws.{slot_same-equal}
+use Rattle.recalc.specs.Laws.{touched_of}
+use Rattle.recalc.specs.Marking.{IsLeast, IsMarked, IsNext}
+use Rattle.recalc.specs.Passages.{AreResults, is_shielded, moves}
+use Rattle.recalc.specs.Readers.{due_of, marks}
+use Rattle.recalc.specs.Replacing.{CanPutBack, slots_of}
+use Rattle.recalc.specs.Running.{AreCells, course_weight, HasTurned, IsCourse, IsPopped, IsRunning, is_that, marks_now, seen_in, Setting, slot_of, stamped_cell, waits_in}
+use Rattle.recalc.specs.Spread.{is_in, Spread}
+use Rattle.recalc.specs.Waiting.{due_same, Dues, waits}
+use Rattle.recalc.specs.declared.log.Replaced.{Replaced}
+use Rattle.recalc.specs.declared.work.Due.{Due}
+use Rattle.recalc.proofs.DueLaws.{due_turn}
+use Rattle.recalc.proofs.MarkingLaws.{turn_marks}
+use Rattle.recalc.proofs.PassageLaws.{all_new, feeds_now, new_below, number_of_standing, turn_keeps_results}
+use Rattle.recalc.proofs.ReaderLaws.{marks_feed, marks_rank}
+use Rattle.recalc.proofs.ReplacingLaws.{slots_push}
+use Rattle.recalc.proofs.SlotLists.{either, in_push}
+use Rattle.recalc.proofs.WeighingLaws.{done_weigh_less, length_is}
+
+-- ---- cells and the results that are seen
+
+unstamped : (stamp : ℕ) (o : Option Res) → option_map (λ (c : Cell). c.res) (option_map (stamped_cell stamp) o) ≡ o
+unstamped stamp None = refl
+unstamped stamp (Some r) = refl
+
+-- what was taken out is the slot's, where it has the rank of its fact
+pub same_tests : (ranks facts members : Bool) → (facts ≡ true → ranks ≡ true) → (ranks && (facts && members)) ≡ (facts && members)
+same_tests true facts members h = refl
+same_tests false true members h = absurd (let k : false ≡ true = h refl in cc)
+same_tests false false members h = refl
+
+pub due_is : (d : Accepted) (due : Due) → due.rank ≡ rank d due.fact → (q : Slot) → due_same due (due_of d q) ≡ slot_same q (slot_of due)
+due_is d due ranked q =
+    same_tests (nat_eq due.rank (rank d q.fact)) (nat_eq due.fact q.fact) (nat_eq due.member q.member)
+    (λ e. ap (λ n. nat_eq n (rank d q.fact)) (ranked ∙ ap (rank d) (same_number due.fact q.fact e)) ∙ equal_number (rank d q.fact))
+    ∙ ap (λ x. x && nat_eq due.member q.member) (nat_eq-comm due.fact q.fact)
+    ∙ ap (λ x. nat_eq q.fact due.fact && x) (nat_eq-comm due.member q.member)
+
+module _ (k : Setting) (c : Spread) (first : Cells) (course : IsCourse k c first) (work : Dues) (log : List Replaced) (cells : Cells) (run : IsRunning k c first work log cells) where
+  stands_done : (s : Slot) → IsTrue (is_in (slots_of log) s) → IsTrue (stands k.dict.tree k.now s)
+  stands_done s i = sym (course.passage.there s) ∙ (run.marked.right s i).0
+
+  -- those done have their new result
+  pub are_results : AreResults k.dict k.now (seen_in k first) (slots_of log) (seen_in k cells)
+  are_results s = at (is_in (slots_of log) s) refl
+    where
+      at : (x : Bool) → is_in (slots_of log) s ≡ x → seen_in k cells s ≡ (if x then plain k.dict k.now s else seen_in k first s)
+      at true e =
+          ap (λ y. if y then None else option_map (λ (t : Cell). t.res) (finite.get cells s)) (course.stay s (stands_done s e))
+          ∙ ap (option_map (λ (t : Cell). t.res)) (run.kept s ∙ ap (λ y. if y then option_map (stamped_cell k.stamp) (plain k.dict k.now s) else finite.get first s) e)
+          ∙ unstamped k.stamp (plain k.dict k.now s)
+      at false e =
+          ap (λ (o : Option Cell). if is_that k.gone s.member then None else option_map (λ (t : Cell). t.res) o)
+          (run.kept s ∙ ap (λ y. if y then option_map (stamped_cell k.stamp) (plain k.dict k.now s) else finite.get first s) e)
+
+  -- each done slot has a cell, so all can be put back
+  pub can_put_back : CanPutBack log cells
+  can_put_back = record {
+    once = run.marked.once;
+    there = λ s i. subst (λ (o : Option Cell). IsSome o)
+        (sym (run.kept s ∙ ap (λ y. if y then option_map (stamped_cell k.stamp) (plain k.dict k.now s) else finite.get first s) i))
+        (still_some (plain k.dict k.now s) (standing_have_results k.dict k.now s ∙ stands_done s i));
+  }
+    where
+      still_some : (o : Option Res) → is_some o ≡ true → IsSome (option_map (stamped_cell k.stamp) o)
+      still_some (Some r) h = refl
+      still_some None h = absurd (cc)
+
+  -- ---- the slot that was taken out
+
+  module _ (left : Dues) (due : Due) (pop : IsPopped work left due) where
+    same_due : due ≡ due_of k.dict (slot_of due)
+    same_due = ap (λ n. record { rank = n; fact = due.fact; member = due.member }) (run.ranked due pop.some)
+
+    pub popped_waits : IsTrue (waits_in k.dict work (slot_of due))
+    popped_waits = subst (λ q. IsTrue (waits work q)) same_due pop.some
+
+    pub popped_least : IsLeast c (waits_in k.dict work) (c.rank (slot_of due))
+    popped_least w on =
+        let h : due.rank ≤ rank k.dict w.fact = pop.least (due_of k.dict w) on in
+        omega (arith, h, course.passage.ranks w, course.passage.ranks (slot_of due), run.ranked due pop.some)
+
+    pub popped_stands : IsTrue (stands k.dict.tree k.now (slot_of due))
+    popped_stands = sym (course.passage.there (slot_of due)) ∙ (run.marked.only (slot_of due) popped_waits).0
+
+    pub popped_number : IsNumber k.dict.tree.facts due.fact
+    popped_number = number_of_standing k.dict k.now (slot_of due) popped_stands
+
+    pub popped_new : is_in (slots_of log) (slot_of due) ≡ false
+    popped_new = (run.marked.only (slot_of due) popped_waits).1
+
+    -- the facts of lower rank have their new results
+    pub popped_below : IsPlainBelow k.dict k.now (rank k.dict due.fact) (seen_in k cells)
+    popped_below =
+        new_below k.dict k.now k.extended (seen_in k first) c course.passage (slots_of log) (waits_in k.dict work) run.marked
+        (seen_in k cells) are_results (slot_of due) popped_least
+
+    -- ---- the steps
+
+    within : sum_by (slot_weight k.dict k.now) (slots_of log ++ slot_of due ∷ []) ≤ course_weight k c
+    within = (done_weigh_less c course.passage.spreads (slots_of log) (waits_in k.dict work) run.marked (slot_weight k.dict k.now)).1 (slot_of due) popped_waits
+
+    pub steps_after : (start before after : ℕ) → before ≤ start + sum_by (slot_weight k.dict k.now) (slots_of log) → after ≤ before + slot_weight k.dict k.now (slot_of due)
+        → after ≤ start + sum_by (slot_weight k.dict k.now) (slots_of log ++ slot_of due ∷ [])
+    steps_after start before after h l =
+        let e : sum_by (slot_weight k.dict k.now) (slots_of log ++ slot_of due ∷ []) ≡ sum_by (slot_weight k.dict k.now) (slots_of log) + sum_by (slot_weight k.dict k.now) (slot_of due ∷ []) =
+        sum_by-append (slot_weight k.dict k.now) (slots_of log) (slot_of due ∷ []) in
+        let f : sum_by (slot_weight k.dict k.now) (slot_of due ∷ []) ≡ slot_weight k.dict k.now (slot_of due) + 0 = sum_by-cons (slot_weight k.dict k.now) (slot_of due) [] in
+        omega (arith, h, l, e, f)
+
+    pub steps_within : (start before after : ℕ) → before ≤ start + sum_by (slot_weight k.dict k.now) (slots_of log) → after ≤ before + slot_weight k.dict k.now (slot_of due)
+        → after ≤ start + course_weight k c
+    steps_within start before after h l = let m = steps_after start before after h l in omega (arith, m, within)
+
+    -- ---- once it is done
+
+    module _ (rs : List ReaderOf) (are : AreReaders k.dict due.fact rs) (work' : Dues) (log' : List Replaced) (cells' : Cells)
+        (turned : HasTurned k rs (slot_of due) left log cells work' log' cells') where
+      pub now_done : slots_of log' ≡ slots_of log ++ slot_of due ∷ []
+      now_done = ap slots_of turned.kept ∙ slots_push log (record { slot = slot_of due; cell = finite.get cells (slot_of due) })
+
+      -- the cells
+      choose : (q : Slot) (x y : Bool) → slot_same q (slot_of due) ≡ x
+          → cond x (option_map (stamped_cell k.stamp) (plain k.dict k.now (slot_of due))) (if y then option_map (stamped_cell k.stamp) (plain k.dict k.now q) else finite.get first q)
+          ≡ (if y || x then option_map (stamped_cell k.stamp) (plain k.dict k.now q) else finite.get first q)
+      choose q true true e = ap (λ t. option_map (stamped_cell k.stamp) (plain k.dict k.now t)) (sym (slot_same-equal q (slot_of due) e))
+      choose q true false e = ap (λ t. option_map (stamped_cell k.stamp) (plain k.dict k.now t)) (sym (slot_same-equal q (slot_of due) e))
+      choose q false true e = refl
+      choose q false false e = refl
+
+      cells_after : AreCells k.dict k.now k.stamp first (slots_of log') cells'
+      cells_after q =
+          ap (λ m. finite.get m q) turned.put
+          ∙ get_put_at cells (slot_of due) (option_map (stamped_cell k.stamp) (plain k.dict k.now (slot_of due))) q
+          ∙ ap (cond (slot_same q (slot_of due)) (option_map (stamped_cell k.stamp) (plain k.dict k.now (slot_of due)))) (run.kept q)
+          ∙ choose q (slot_same q (slot_of due)) (is_in (slots_of log) q) refl
+          ∙ ap (λ y. if y then option_map (stamped_cell k.stamp) (plain k.dict k.now q) else finite.get first q)
+          (sym (ap (λ ss. is_in ss q) now_done ∙ in_push (slots_of log) (slot_of due) q))
+
+      -- the results that are seen
+      put_seen : (q : Slot) → seen_in k cells' q ≡ (if slot_same q (slot_of due) then plain k.dict k.now (slot_of due) else seen_in k cells q)
+      put_seen q =
+          ap (λ m. seen_in k m q) turned.put
+          ∙ ap (λ (o : Option Cell). if is_that k.gone q.member then None else option_map (λ (t : Cell). t.res) o)
+          (get_put_at cells (slot_of due) (option_map (stamped_cell k.stamp) (plain k.dict k.now (slot_of due))) q)
+          ∙ at (slot_same q (slot_of due)) refl
+        where
+          at : (x : Bool) → slot_same q (slot_of due) ≡ x
+              → (if is_that k.gone q.member then None else option_map (λ (t : Cell). t.res) (cond x (option_map (stamped_cell k.stamp) (plain k.dict k.now (slot_of due))) (finite.get cells q)))
+              ≡ (if x then plain k.dict k.now (slot_of due) else seen_in k cells q)
+          at true e =
+              ap (λ y. if y then None else option_map (λ (t : Cell). t.res) (option_map (stamped_cell k.stamp) (plain k.dict k.now (slot_of due))))
+              (ap (λ (t : Slot). is_that k.gone t.member) (slot_same-equal q (slot_of due) e) ∙ course.stay (slot_of due) popped_stands)
+              ∙ unstamped k.stamp (plain k.dict k.now (slot_of due))
+          at false e = refl
+
+      results_after : AreResults k.dict k.now (seen_in k first) (slots_of log ++ slot_of due ∷ []) (seen_in k cells')
+      results_after = turn_keeps_results k.dict k.now (seen_in k first) (slots_of log) (seen_in k cells) (seen_in k cells') are_results (slot_of due) put_seen
+
+      -- what waits
+      moved_now : moves (seen_in k cells (slot_of due)) (plain k.dict k.now (slot_of due)) ≡ c.moved (slot_of due)
+      moved_now =
+          ap (λ o. moves o (plain k.dict k.now (slot_of due)))
+          (are_results (slot_of due) ∙ ap (λ y. if y then plain k.dict k.now (slot_of due) else seen_in k first (slot_of due)) popped_new)
+          ∙ sym (course.passage.moved (slot_of due))
+
+      next : IsNext c (waits_in k.dict work) (slot_of due) (waits_in k.dict work')
+      next q =
+          turned.marked (due_of k.dict q)
+          ∙ ap (λ x. x || marks_now k rs cells cells' (slot_of due) (due_of k.dict q))
+          (pop.rest (due_of k.dict q) ∙ ap (λ x. waits work (due_of k.dict q) && not x) taken)
+          ∙ ap (λ x. (waits work (due_of k.dict q) && not (slot_same q (slot_of due))) || x)
+          (ap (λ x. x && marks k.dict k.now (is_shielded k.extended k.dict k.now (seen_in k cells')) (slot_of due) rs (due_of k.dict q)) moved_now
+          ∙ ap (λ x. c.moved (slot_of due) && x)
+          (marks_feed k.dict k.now (is_shielded k.extended k.dict k.now (seen_in k cells')) (slot_of due) rs are q ∙ fed))
+        where
+          taken : due_same (due_of k.dict q) due ≡ slot_same q (slot_of due)
+          taken = due_turn (due_of k.dict q) due ∙ due_is k.dict due (run.ranked due pop.some) q
+
+          fed : (stands k.dict.tree k.now q && (feeds k.dict.tree (slot_of due) q && not (is_shielded k.extended k.dict k.now (seen_in k cells') q))) ≡ (c.stands q && c.feeds (slot_of due) q)
+          fed = at (stands k.dict.tree k.now q) refl
+            where
+              at : (x : Bool) → stands k.dict.tree k.now q ≡ x → (x && (feeds k.dict.tree (slot_of due) q && not (is_shielded k.extended k.dict k.now (seen_in k cells') q))) ≡ (c.stands q && c.feeds (slot_of due) q)
+              at true e =
+                  feeds_now course.names k.dict course.accepted k.now k.extended (seen_in k first) c course.passage (slots_of log) (waits_in k.dict work) run.marked
+                  (slot_of due) popped_waits (seen_in k cells') results_after q e
+                  ∙ ap (λ x. x && c.feeds (slot_of due) q) (sym (course.passage.there q ∙ e))
+              at false e = ap (λ x. x && c.feeds (slot_of due) q) (sym (course.passage.there q ∙ e))
+
+      ranked_after : (q : Due) → IsTrue (waits work' q) → q.rank ≡ rank k.dict q.fact
+      ranked_after q on =
+          either (waits left q) (marks_now k rs cells cells' (slot_of due) q) (sym (turned.marked q) ∙ on)
+          (λ e. run.ranked q (both_left (waits work q) (not (due_same q due)) (sym (pop.rest q) ∙ e)))
+          (λ e. marks_rank k.dict k.now (is_shielded k.extended k.dict k.now (seen_in k cells')) (slot_of due) rs q
+          (both_right (moves (seen_in k cells (slot_of due)) (plain k.dict k.now (slot_of due))) _ e))
+
+      pub still_running : IsRunning k c first work' log' cells'
+      still_running = record {
+        marked = subst (λ ss. IsMarked c ss (waits_in k.dict work')) (sym now_done)
+            (turn_marks c course.passage.spreads (slots_of log) (waits_in k.dict work) run.marked (slot_of due) popped_waits popped_least (waits_in k.dict work') next);
+        ranked = ranked_after;
+        kept = cells_after;
+      }
+
+      -- so many are left at most, one fewer than before
+      pub fewer : length (touched_of c) - length log' < length (touched_of c) - length log
+      fewer =
+          let h = (done_weigh_less c course.passage.spreads (slots_of log) (waits_in k.dict work) run.marked (λ _. 1)).1 (slot_of due) popped_waits in
+          let all : length (slots_of log ++ slot_of due ∷ []) ≤ length (touched_of c) = omega (arith, h, length_is (slots_of log ++ slot_of due ∷ []), length_is (touched_of c)) in
+          let a : length (slots_of log ++ slot_of due ∷ []) ≡ length log' = ap length (sym now_done) ∙ length-map log' (λ (e : Replaced). e.slot) in
+          let b : length (slots_of log ++ slot_of due ∷ []) ≡ length (slots_of log) + 1 = length-append (slots_of log) (slot_of due ∷ []) in
+          let e : length (slots_of log) ≡ length log = length-map log (λ (e : Replaced). e.slot) in
+          omega (arith, all, a, b, e)
+
+  -- ---- once nothing waits
+
+  module _ (none : (q : Due) → waits work q ≡ false) where
+    pub ended_new : (s : Slot) → seen_in k cells s ≡ plain k.dict k.now s
+    ended_new = all_new k.dict k.now k.extended (seen_in k first) c course.passage (slots_of log) (waits_in k.dict work) run.marked (seen_in k cells) are_results (λ s. none (due_of k.dict s))
+
+  pub steps_ended : (start now : ℕ) → now ≤ start + sum_by (slot_weight k.dict k.now) (slots_of log) → now ≤ start + course_weight k c
+  steps_ended start now h =
+      let l = (done_weigh_less c course.passage.spreads (slots_of log) (waits_in k.dict work) run.marked (slot_weight k.dict k.now)).0 in omega (arith, h, l)

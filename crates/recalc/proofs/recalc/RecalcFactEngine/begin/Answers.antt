@@ -1,0 +1,13 @@
+use Rattle.std.proofs.Common.{refl}
+use Rattle.answers.specs.Meaning.{answered}
+use Rattle.dictionary.specs.Accepted.{accepted}
+use Rattle.recalc.specs.Replacing.{entries}
+use Rattle.recalc.proofs.EngineLaws.{start_stamps}
+use Rattle.recalc.proofs.recalc.RecalcFactEngine.begin.Goals as goal
+
+pub returns-clause-fresh : goal.returns-clause-fresh
+returns-clause-fresh c = λ _. record {
+  changes = refl;
+  stamps = start_stamps (accepted c.args.dict.now) (answered c.args.answers.now) c.new-store.result.cells c.new-store.ensures.cells c.start.new.work (entries c.start.new.log) c.start.new.store.cells c.in_ok-start.ensures;
+  touched = refl;
+}

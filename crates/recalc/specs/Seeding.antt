@@ -1,0 +1,53 @@
+-- Which slots wait first.
+use Rattle.std.specs.Prelude.{ℕ, ◌-◌, Bool, false, nat_eq, if◌then◌else◌, List, [], ◌∷◌, Option, Some, None}
+use Rattle.std.specs.List.{list_any}
+use Rattle.fact_values.specs.declared.slot.Slot.{Slot}
+use Rattle.dict_tree.specs.Dictionary.{Dictionary as Tree}
+use Rattle.answers.specs.Answered.{Answered}
+use Rattle.answers.specs.Change.{Change, takes, removes}
+use Rattle.dictionary.specs.Accepted.{Accepted}
+use Rattle.dictionary.specs.Homes.{home}
+use Rattle.dictionary.specs.Plain.{rank}
+use Rattle.dictionary.specs.Slots.{members_of_home, slot_same}
+use Rattle.recalc.specs.Readers.{due_of}
+use Rattle.recalc.specs.Waiting.{due_same}
+use Rattle.recalc.specs.declared.undone.Came.{Came}
+use Rattle.recalc.specs.declared.work.Due.{Due}
+
+abbrev pub is_slot : Option Slot → Slot → Bool
+is_slot None s = false
+is_slot (Some t) s = slot_same t s
+
+-- the member that came with a change, and its collection
+abbrev pub came_by : Change → Answered → Option Came
+came_by (takes c closed) now = Some (record { list = c; member = now.next - 1 })
+came_by (removes c n) now = Some (record { list = c; member = n })
+came_by _ now = None
+
+-- ---- facts that wait at members
+
+-- what waits is the fact's slot at one of the members
+abbrev pub is_at : Accepted → Due → List ℕ → ℕ → Bool
+is_at d q ms fact = list_any (λ m. due_same q (record { rank = rank d fact; fact = fact; member = m })) ms
+
+-- a fact of this home at this member, and one of another home nowhere
+abbrev pub field_at : Tree → Came → ℕ → List ℕ
+field_at d c fact = if nat_eq (home d fact) c.list then c.member ∷ [] else []
+
+-- one of these facts at the member that came
+abbrev pub is_field : Accepted → Came → List ℕ → Due → Bool
+is_field d c facts q = list_any (λ f. is_at d q (field_at d.tree c f) f) facts
+
+-- one of these facts, wherever it has a slot
+abbrev pub is_anywhere : Accepted → Answered → List ℕ → Due → Bool
+is_anywhere d a facts q = list_any (λ f. is_at d q (members_of_home a (home d.tree f)) f) facts
+
+-- the member that came, if one did
+abbrev pub is_came : Accepted → Option Came → List ℕ → Due → Bool
+is_came d None facts q = false
+is_came d (Some c) facts q = is_field d c facts q
+
+-- the slot that differs, if one does
+abbrev pub is_own : Accepted → Option Slot → Due → Bool
+is_own d None q = false
+is_own d (Some s) q = due_same q (due_of d s)
