@@ -3,7 +3,7 @@ use Rattle.std.proofs.Common.{◌≡◌, ℕ, ◌-◌, ◌≤◌, Bool, true, fa
 use Rattle.std.specs.Prelude.{Ok, if◌then◌else◌}
 use Rattle.std.proofs.lemmas.List.{append-nil, take_all}
 use Rattle.fg_io.specs.Sent.{Sent}
-use Rattle.fg_io.proofs.SentLaws.{appends_more, sent_none}
+use Rattle.fg_io.proofs.SentLaws.{appends_more, sent_none, sent_on}
 use Rattle.script_lines.specs.Lines.{ScriptLine, script_lines, ready_lines}
 use Rattle.script_lines.specs.declared.command.Command.{Command}
 use Rattle.script_lines.specs.declared.lines.Ready.{Ready}
@@ -85,14 +85,6 @@ replies-append r state (x ∷ xs) ys =
 pub state_after-append : (r : Rules) (state : State) (xs ys : List ScriptLine) → state_after r state (xs ++ ys) ≡ state_after r (state_after r state xs) ys
 state_after-append r state [] ys = refl
 state_after-append r state (x ∷ xs) ys = state_after-append r (step r state x).state xs ys
-
--- a text was written whole, and then another as far as its rest
-pub sent_on : (a b c : Option (List ℕ)) (text next rest : List ℕ) → Sent a b text [] → Sent b c next rest → Sent a c (text ++ next) rest
-sent_on a b c text next rest first second = record {
-  front = first.front ++ second.front;
-  took = appends_more a b c first.front second.front first.took second.took;
-  split = (λ i. (first.split ∙ append-nil first.front) i ++ second.split i) ∙ sym (append_assoc first.front second.front rest);
-}
 
 -- ---- a piece on its way
 

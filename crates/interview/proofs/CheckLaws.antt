@@ -1,11 +1,11 @@
--- What a check and a run come to, and how a check ends.
+-- What a check comes to, and how it ends.
 use Rattle.std.proofs.Common.{◌≡◌, ℕ, false, List, inl, inr, refl, sym, ap, subst, ◌∙◌}
 use Rattle.std.specs.Io.KnownBytes.{Keeps}
 use Rattle.std.proofs.KnownBytes.{Keeps-refl}
 use Rattle.fg_io.specs.Outside.{Told}
 use Rattle.dictionary.specs.declared.fault.DictFault.{DictFault}
 use Rattle.dictionary.specs.declared.fault.DictFault.TheVariants as faults
-use Rattle.dictionary.specs.Accepted.{Accepted, Named, accepted, names_of}
+use Rattle.dictionary.specs.Accepted.{Named, accepted, names_of}
 use Rattle.dictionary.specs.Faults.{IsFault, Refuses}
 use Rattle.dictionary.proofs.FirstLaws.{accepted_has_none, one_dictionary, one_fault}
 use Rattle.interview.specs.declared.status.Status.{Status}
@@ -14,7 +14,7 @@ use Rattle.interview.specs.declared.fetching.Fetched.{Fetched}
 use Rattle.interview.specs.declared.fetching.Fetched.TheVariants as fetches
 use Rattle.interview.specs.Words.{IsCheck}
 use Rattle.interview.specs.FaultLines.{is_memory}
-use Rattle.interview.specs.Interview.{Defined, defined_accepted, defined_fault, defined_script, rules_by, OneEndOfCheck, OneEndOfRun}
+use Rattle.interview.specs.Interview.{Defined, defined_accepted, defined_fault, OneEndOfCheck}
 use Rattle.interview.specs.Devices.{SentWhole}
 use Rattle.interview.specs.StepEnds.{CheckDid, CheckEnds, EndedBy, FetchedAs, JudgedAs, NotFetched, defined_fetched}
 use Rattle.interview.specs.Ends.{Given, Did, Check, Ends, Unread}
@@ -26,13 +26,6 @@ one_end bytes checks d e (inl (dict, is, to)) (inl (other, is_other, to_other)) 
 one_end bytes checks d e (inl (dict, is, to)) (inr (fault, is_fault, to_fault)) = absurd (accepted_has_none bytes (names_of checks) dict fault is is_fault)
 one_end bytes checks d e (inr (fault, is_fault, to_fault)) (inl (dict, is, to)) = absurd (accepted_has_none bytes (names_of checks) dict fault is is_fault)
 one_end bytes checks d e (inr (fault, is, to)) (inr (other, is_other, to_other)) = to ∙ ap defined_fault (one_fault bytes (names_of checks) fault other is is_other) ∙ sym to_other
-
-pub one_run : OneEndOfRun
-one_run bytes checks script d e (inl (dict, is, to)) (inl (other, is_other, to_other)) =
-    to ∙ ap (λ (a : Accepted). defined_script (rules_by checks a) script) (one_dictionary bytes (names_of checks) dict other is is_other) ∙ sym to_other
-one_run bytes checks script d e (inl (dict, is, to)) (inr (fault, is_fault, to_fault)) = absurd (accepted_has_none bytes (names_of checks) dict fault is is_fault)
-one_run bytes checks script d e (inr (fault, is_fault, to_fault)) (inl (dict, is, to)) = absurd (accepted_has_none bytes (names_of checks) dict fault is is_fault)
-one_run bytes checks script d e (inr (fault, is, to)) (inr (other, is_other, to_other)) = to ∙ ap defined_fault (one_fault bytes (names_of checks) fault other is is_other) ∙ sym to_other
 
 -- what refuses it, but for want of memory, is its fault
 pub refused_for : (bytes : List ℕ) (names : List (List ℕ)) (fault : DictFault) → is_memory fault ≡ false → Refuses (IsFault bytes names) fault → IsFault bytes names fault

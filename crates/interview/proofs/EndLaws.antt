@@ -5,7 +5,7 @@ use Rattle.std.specs.Io.KnownBytes.{Appends, Consumes, Keeps, IsAtEnd}
 use Rattle.std.proofs.KnownBytes.{Consumes-kept}
 use Rattle.fg_io.specs.Outside.{Rose, MayBe}
 use Rattle.fg_io.specs.Sent.{Sent}
-use Rattle.fg_io.proofs.SentLaws.{sent_whole}
+use Rattle.fg_io.proofs.SentLaws.{sent_on, sent_whole}
 use Rattle.fg_io.proofs.ConsumedLaws.{consumes_more, may_be_whole, may_go_on}
 use Rattle.script_lines.specs.Lines.{ScriptLine, script_lines, ended_lines}
 use Rattle.script_lines.proofs.EndedLaws.{ready_lines_are_ended}
@@ -20,7 +20,6 @@ use Rattle.interview.specs.Interview.{script_limit, answered_lines, defined_scri
 use Rattle.interview.specs.Answering.{RepliedLines, RepliedSome, AnsweredAs, ending_of}
 use Rattle.interview.specs.SoFar.{AnsweredSoFar}
 use Rattle.interview.specs.ScriptEnds.{ScriptDid, ScriptEnds, piece_limit}
-use Rattle.interview.proofs.AnsweringLaws.{sent_on}
 use Rattle.interview.proofs.ScriptLaws.{defined_text, first_lines, first_written, replied_then, long_is_too_long, long_lines, over_in_front, over_written, part_written, replied_first, short_is_done, short_lines}
 
 module _ (r : Rules) (did : ScriptDid) (left_now taken_now : Option (List ℕ)) (count : ℕ) (session : SessionView) (held : List ℕ)

@@ -1,4 +1,5 @@
 pub mod CheckLaws
+pub mod DictionaryLaws
 pub mod EndLaws
 pub mod ExactLaws
 pub mod FinalLineLaws

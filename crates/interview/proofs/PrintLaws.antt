@@ -24,22 +24,9 @@ use Rattle.dictionary.specs.Slots.{stands, stands_of}
 use Rattle.dictionary.proofs.FactTypes.{typed_fact, type_of_number}
 use Rattle.dictionary.proofs.PlainLaws.{standing_have_results}
 use Rattle.dictionary.proofs.TypedResultLaws.{typed_results}
+use Rattle.dictionary.proofs.PrintedLaws.{value_printed}
+use Rattle.dictionary.proofs.SlotLaws.{fact_of_standing}
 use Rattle.interview.specs.Replies.{IsResPrinted}
-
--- ---- an option of a type is in its list
-
-option_there : (o : Option Listed) (place : ℕ) → place < unwrap_or (option_map (λ (e : Listed). length e.options) o) 0
-    → IsSome (option_and_then (λ options. slice_get options place) (option_map (λ (e : Listed). e.options) o))
-option_there None place h = absurd (omega (arith, h))
-option_there (Some e) place h = ap is_some (slice_get-get_or e.options place [] h)
-
-choice_there : (d : Tree) (list n place : ℕ) → list ≡ n → place < unwrap_or (option_map (λ (e : Listed). length e.options) (slice_get d.enums n)) 0 → IsSome (option_at d.enums list place)
-choice_there d list n place same h = rw same (option_there (slice_get d.enums n) place h)
-
-value_printed : (d : Tree) (a : Answered) (v : Value) (t : FactType) → IsOfType (domains d a) v t → IsPrinted d.enums v
-value_printed d a (values.Choice list place) (types.Enum n) h = choice_there d list n place h.0 h.1
-value_printed d a (values.Choice list place) t h = absurd h
-value_printed d a v t h = tt
 
 res_printed : (d : Tree) (a : Answered) (r : Res) (t : FactType) → IsResOfType (domains d a) r t → IsResPrinted d.enums r
 res_printed d a (Complete v) t h = value_printed d a v t h
@@ -51,13 +38,9 @@ res_printed d a r t h = tt
 pub stands_with : (d : Accepted) (a : Answered) (s : Slot) (r : Res) → plain d a s ≡ Some r → IsTrue (stands d.tree a s)
 stands_with d a s r e = sym (standing_have_results d a s) ∙ ap is_some e
 
-fact_there : (a : Answered) (h m : ℕ) (o : Option Fact) → IsTrue (stands_of a h m o) → (f : Fact) × (o ≡ Some f)
-fact_there a h m None i = absurd (cc)
-fact_there a h m (Some f) i = (f, refl)
-
 pub result_printed : (names : List (List ℕ)) (d : Accepted) → IsAccepted names d → (a : Answered) → AnswersFit d.tree a → (s : Slot) (r : Res) → plain d a s ≡ Some r → IsResPrinted d.tree.enums r
 result_printed names d accepted a fit s r e =
-    let there = fact_there a (home d.tree s.fact) s.member (fact_at d.tree.facts s.fact) (stands_with d a s r e) in
+    let there = fact_of_standing d.tree a s (stands_with d a s r e) in
     let typed = typed_fact d.tree names d.typed accepted.typed s.fact there.0 there.1 in
     res_printed d.tree a r typed.0 (typed_results names d accepted a fit s r e typed.0 (type_of_number d.tree s.fact there.0 typed.0 there.1 typed.1.stated))
 

@@ -3,20 +3,19 @@ use Rattle.std.proofs.Common.{◌≡◌, ℕ, ◌<◌, ◌≤◌, List, [], ◌�
 use Rattle.std.specs.declared.alloc.Global.{Global}
 use Rattle.std.specs.Io.KnownBytes.{Appends, Keeps}
 use Rattle.std.proofs.KnownBytes.{Keeps-refl}
-use Rattle.fg_io.specs.Outside.{MayBe, MayHold}
+use Rattle.fg_io.specs.Outside.{MayBe}
 use Rattle.fg_io.proofs.SentLaws.{appends_none}
 use Rattle.fg_io.proofs.ConsumedLaws.{consumes_none, may_go_on}
 use Rattle.dictionary.specs.declared.fault.DictFault.{DictFault}
-use Rattle.dictionary.specs.Accepted.{Accepted, Kept, accepted, names_of}
-use Rattle.dictionary.specs.Faults.{AreAccepted, IsFault}
-use Rattle.graph_session.specs.Rules.{Rules, rules}
+use Rattle.graph_session.specs.Rules.{Rules}
 use Rattle.interview.specs.declared.status.Status.{Status}
 use Rattle.interview.specs.declared.status.Status.TheVariants.{Done, DictionaryRefused, Usage, FetchFault, ReadFault, WriteFault, ScriptTooLong, NoMemory}
-use Rattle.interview.specs.Words.{IsRun, HasNoForm, texts}
-use Rattle.interview.specs.Interview.{usage, defined_fault, rules_by}
+use Rattle.interview.specs.Words.{IsRun, Origin, file, program, texts}
+use Rattle.interview.specs.Dictionaries.{Content, HasFault, IsAcceptedAs, MayGive}
+use Rattle.interview.specs.Interview.{defined_fault}
 use Rattle.interview.specs.ScriptEnds.{ScriptDid, ScriptEnds}
-use Rattle.interview.specs.StepEnds.{NotFetched, EndedBy}
-use Rattle.interview.specs.Ends.{Given, Did, AcceptedRun, RefusedRun, Ends, Unread, rules_over}
+use Rattle.interview.specs.StepEnds.{EndedBy, NotFetched, NotObtained}
+use Rattle.interview.specs.Ends.{Given, Did, AcceptedRun, RefusedRun, Ends, Unread}
 
 -- ---- words
 
@@ -47,18 +46,18 @@ not_begun r did still = record {
 abbrev Ended : Did → List ℕ → Status → Status → Type 0
 Ended did text whole status = EndedBy did.script.taken.before did.script.taken.after did.script.sink.before did.script.sink.after text whole status
 
-module _ (given : Given) (did : Did) (name : List ℕ) (asked : IsRun given.words name) where
-  pub ends_unfetched : (status : Status) → did.script.taken.before ≡ did.script.taken.after → Unread did → NotFetched name did.shelf.before did.shelf.after did.failed_name status → Ends given did status
-  ends_unfetched FetchFault still unread not = (not.0, inl (subst (IsRun given.words) (sym not.1) asked), subst (Keeps did.script.taken.before) still (Keeps-refl did.script.taken.before), unread)
-  ends_unfetched NoMemory still unread not = inl (subst (Keeps did.script.taken.before) still (Keeps-refl did.script.taken.before), unread)
-  ends_unfetched status still unread not = absurd not
+module _ (given : Given) (did : Did) (origin : Origin) (asked : IsRun given.words origin) where
+  ends_unfetched : (name : List ℕ) → IsRun given.words (file name) → (status : Status) → did.script.taken.before ≡ did.script.taken.after → Unread did → NotFetched name did.shelf.before did.shelf.after did.failed_name status → Ends given did status
+  ends_unfetched name named FetchFault still unread not = (not.0, inl (subst (λ n. IsRun given.words (file n)) (sym not.1) named), subst (Keeps did.script.taken.before) still (Keeps-refl did.script.taken.before), unread)
+  ends_unfetched name named NoMemory still unread not = inl (subst (Keeps did.script.taken.before) still (Keeps-refl did.script.taken.before), unread)
+  ends_unfetched name named status still unread not = absurd not
 
-  module _ (bytes : List ℕ) (held : MayHold (given.told name) bytes) where
+  module _ (content : Content) (gave : MayGive given.told origin content) where
     -- ---- a dictionary with a fault
 
-    module _ (fault : DictFault) (is : IsFault bytes (names_of given.checks) fault) where
+    module _ (fault : DictFault) (is : HasFault given.checks content fault) where
       abbrev refused_run : RefusedRun given
-      refused_run = record { name = name; bytes = bytes; fault = fault; asked = asked; held = held; is_fault = is }
+      refused_run = record { origin = origin; content = content; fault = fault; asked = asked; gave = gave; is_fault = is }
 
       pub ends_refused : Unread did → (status : Status) → Ended did (defined_fault fault).text DictionaryRefused status → Ends given did status
       ends_refused unread status (inl (same, wrote)) = subst (Ends given did) (sym same) (inl (refused_run, wrote, unread))
@@ -66,17 +65,19 @@ module _ (given : Given) (did : Did) (name : List ℕ) (asked : IsRun given.word
 
     -- ---- an accepted one
 
-    module _ (dict : Accepted) (is : AreAccepted bytes (names_of given.checks) dict) where
+    module _ (r : Rules) (is : IsAcceptedAs given.checks content r) where
       abbrev over : AcceptedRun given
-      over = record { name = name; bytes = bytes; dict = dict; asked = asked; held = held; is_accepted = is }
+      over = record { origin = origin; content = content; rules = r; asked = asked; gave = gave; is_accepted = is }
 
-      ends_over : (status : Status) → ScriptEnds (rules_over given over) did.script status → Ends given did status
-      ends_over Done ends = inl (over, ends)
-      ends_over ReadFault ends = (over, ends)
-      ends_over WriteFault ends = inl (over, ends)
-      ends_over ScriptTooLong ends = (over, ends)
-      ends_over NoMemory ends = inr (over, ends)
-      ends_over status ends = absurd ends
+      pub ends_run : (status : Status) → ScriptEnds r did.script status → Ends given did status
+      ends_run Done ends = inl (over, ends)
+      ends_run ReadFault ends = (over, ends)
+      ends_run WriteFault ends = inl (over, ends)
+      ends_run ScriptTooLong ends = (over, ends)
+      ends_run NoMemory ends = inr (over, ends)
+      ends_run status ends = absurd ends
 
-    pub ends_run : (dict : Kept) → AreAccepted bytes (names_of given.checks) (accepted dict) × (dict.checks ≡ given.checks) → (status : Status) → ScriptEnds (rules dict) did.script status → Ends given did status
-    ends_run dict is status ends = ends_over (accepted dict) is.0 status (subst (λ checks. ScriptEnds (rules_by checks (accepted dict)) did.script status) is.1 ends)
+-- no dictionary was had
+pub ends_unobtained : (given : Given) (did : Did) (origin : Origin) → IsRun given.words origin → (status : Status) → did.script.taken.before ≡ did.script.taken.after → Unread did → NotObtained origin did.shelf.before did.shelf.after did.failed_name status → Ends given did status
+ends_unobtained given did (file name) asked status still unread not = ends_unfetched given did (file name) asked name asked status still unread not
+ends_unobtained given did (program b) asked status still unread not = subst (Ends given did) (sym not) (inl (subst (Keeps did.script.taken.before) still (Keeps-refl did.script.taken.before), unread))

@@ -10,10 +10,12 @@ use Rattle.graph_session.specs.Rules.{Rules}
 use Rattle.interview.specs.declared.status.Status.{Status}
 use Rattle.interview.specs.declared.status.Status.TheVariants.{Done, DictionaryRefused, Usage, FetchFault, ReadFault, WriteFault, ScriptTooLong, NoMemory}
 use Rattle.interview.specs.Devices.{Counted, Rises, SentNothing, SentPart, SentWhole}
-use Rattle.interview.specs.Interview.{ChecksTo, Defined, FinalsHold, RunsTo, defined_fault, rules_by, usage}
+use Rattle.interview.specs.declared.built_in.BuiltIn.{BuiltIn}
+use Rattle.interview.specs.Dictionaries.{Content, Gives, HasFault, IsAcceptedAs, MayGive}
+use Rattle.interview.specs.Interview.{ChecksTo, Defined, FinalsHold, RunsTo, TablesHoldIn, defined_fault, usage}
 use Rattle.interview.specs.Replies.{at_start, state_after}
 use Rattle.interview.specs.ScriptEnds.{ReadThrough, ScriptDid, ScriptEnds}
-use Rattle.interview.specs.Words.{Fetches, HasNoForm, IsCheck, IsRun, texts}
+use Rattle.interview.specs.Words.{Fetches, HasNoForm, IsCheck, IsRun, Origin, program, texts}
 
 -- what an interview is given
 pub record Given : Type 0 where
@@ -44,30 +46,28 @@ did_by unfetched unfetched_now failed_name script = record {
 abbrev pub Unread : Did → Type 0
 Unread did = (did.script.left.after ≡ did.script.left.before) × (did.script.source.after ≡ did.script.source.before)
 
--- a dictionary that it may have been given to run, and that is accepted
+-- a dictionary that it may have been given to run, wherever it came from, and that is accepted
 pub record AcceptedRun (given : Given) : Type 0 where
-  pub name : List ℕ
-  pub bytes : List ℕ
-  pub dict : Accepted
-  pub asked : IsRun given.words name
-  pub held : MayHold (given.told name) bytes
-  pub is_accepted : AreAccepted bytes (names_of given.checks) dict
-
-abbrev pub rules_over : (given : Given) → AcceptedRun given → Rules
-rules_over given over = rules_by given.checks over.dict
+  pub origin : Origin
+  pub content : Content
+  -- what a session over it goes by
+  pub rules : Rules
+  pub asked : IsRun given.words origin
+  pub gave : MayGive given.told origin content
+  pub is_accepted : IsAcceptedAs given.checks content rules
 
 -- its script ended with this status
 abbrev pub AcceptedEnds : Given → Did → Status → Type 0
-AcceptedEnds given did status = (over : AcceptedRun given) × ScriptEnds (rules_over given over) did.script status
+AcceptedEnds given did status = (over : AcceptedRun given) × ScriptEnds over.rules did.script status
 
 -- a dictionary that it may have been given to run, with its fault
 pub record RefusedRun (given : Given) : Type 0 where
-  pub name : List ℕ
-  pub bytes : List ℕ
+  pub origin : Origin
+  pub content : Content
   pub fault : DictFault
-  pub asked : IsRun given.words name
-  pub held : MayHold (given.told name) bytes
-  pub is_fault : IsFault bytes (names_of given.checks) fault
+  pub asked : IsRun given.words origin
+  pub gave : MayGive given.told origin content
+  pub is_fault : HasFault given.checks content fault
 
 -- the line of the fault was written whole, without the script
 abbrev pub RefusedEnds : Given → Did → Type 0
@@ -112,11 +112,11 @@ IsOneOf status (s ∷ ss) = (status ≡ s) ⊎ IsOneOf status ss
 
 -- a run whose dictionary and script are told
 pub record KnownRun (given : Given) : Type 0 where
-  pub name : List ℕ
-  pub bytes : List ℕ
+  pub origin : Origin
+  pub content : Content
   pub script : List ℕ
-  pub asked : IsRun given.words name
-  pub held : given.told name ≡ holds bytes
+  pub asked : IsRun given.words origin
+  pub gives : Gives given.told origin content
   pub read : given.left ≡ Some script
 
 -- a check whose dictionary is told
@@ -134,9 +134,9 @@ EndedAs did status d = (status ≡ d.status) × SentWhole did.script.taken d.tex
 abbrev pub EndedByCheck : Given → Did → Status → List ℕ → Type 0
 EndedByCheck given did status bytes = (d : Defined) × ChecksTo bytes given.checks d × EndedAs did status d
 
--- it ended as a run of the bytes and the script comes to, with the text whole
-abbrev pub EndedByRun : Given → Did → Status → List ℕ → List ℕ → Type 0
-EndedByRun given did status bytes script = (d : Defined) × RunsTo bytes given.checks script d × EndedAs did status d
+-- it ended as a run over the dictionary and the script comes to, with the text whole
+abbrev pub EndedByRun : Given → Did → Status → Content → List ℕ → Type 0
+EndedByRun given did status content script = (d : Defined) × RunsTo content given.checks script d × EndedAs did status d
 
 -- a fetch of a name of the words failed
 abbrev pub FetchFailed : Given → Did → Type 0
@@ -150,21 +150,26 @@ pub record Interviewed (given : Given) (did : Did) (status : Status) : Type 0 wh
   -- a name that isn't there is a failed fetch
   pub missing : (name : List ℕ) → Fetches given.words name → given.told name ≡ missing → IsOneOf status (FetchFault ∷ NoMemory ∷ [])
   -- a run over a dictionary that is told and has this fault ends with its line, whatever the script
-  pub refused : (name bytes : List ℕ) (fault : DictFault) → IsRun given.words name → given.told name ≡ holds bytes → IsFault bytes (names_of given.checks) fault
+  pub refused : (origin : Origin) (content : Content) (fault : DictFault) → IsRun given.words origin → Gives given.told origin content → HasFault given.checks content fault
       → EndedAs did status (defined_fault fault) ⊎ IsOneOf status (FetchFault ∷ WriteFault ∷ NoMemory ∷ [])
   -- and reads nothing of the script
-  pub refused_unread : (name bytes : List ℕ) (fault : DictFault) → IsRun given.words name → given.told name ≡ holds bytes → IsFault bytes (names_of given.checks) fault → Unread did
+  pub refused_unread : (origin : Origin) (content : Content) (fault : DictFault) → IsRun given.words origin → Gives given.told origin content → HasFault given.checks content fault → Unread did
+  -- a run over a dictionary that the program brings with it ends by no fault of it, and by no fetch
+  pub built_in : (b : BuiltIn) → IsRun given.words (program b) → IsOneOf status (Done ∷ ReadFault ∷ WriteFault ∷ ScriptTooLong ∷ NoMemory ∷ [])
   -- a run that is told ends as defined, or by a fault of the outside, or for want of memory
-  pub exact : (run : KnownRun given) → EndedByRun given did status run.bytes run.script ⊎ IsOneOf status (FetchFault ∷ ReadFault ∷ WriteFault ∷ NoMemory ∷ [])
+  pub exact : (run : KnownRun given) → EndedByRun given did status run.content run.script ⊎ IsOneOf status (FetchFault ∷ ReadFault ∷ WriteFault ∷ NoMemory ∷ [])
   -- and where the outside doesn't fail, it ends as defined, or for want of memory
-  pub complete : (run : KnownRun given) → (FetchFailed given did → ⊥) → (Rises did.script.source → ⊥) → (Rises did.script.sink → ⊥) → EndedByRun given did status run.bytes run.script ⊎ (status ≡ NoMemory)
+  pub complete : (run : KnownRun given) → (FetchFailed given did → ⊥) → (Rises did.script.source → ⊥) → (Rises did.script.sink → ⊥) → EndedByRun given did status run.content run.script ⊎ (status ≡ NoMemory)
   -- whatever the status: what a run that is told wrote is a prefix of the defined text
-  pub prefix : (run : KnownRun given) (d : Defined) → RunsTo run.bytes given.checks run.script d → SentPart did.script.taken d.text
+  pub prefix : (run : KnownRun given) (d : Defined) → RunsTo run.content given.checks run.script d → SentPart did.script.taken d.text
   -- with status 0 the dictionary is accepted, and the script was read to its end, or to that of the piece in which `quit` ended
-  pub read_through : (run : KnownRun given) → status ≡ Done → (dict : Accepted) × AreAccepted run.bytes (names_of given.checks) dict × ReadThrough (rules_by given.checks dict) did.script
+  pub read_through : (run : KnownRun given) → status ≡ Done → (r : Rules) × IsAcceptedAs given.checks run.content r × ReadThrough r did.script
   -- over a dictionary that is accepted, wherever the lines of a script lead: what is printed as final there is complete, and stays
   -- so under every extension of the answers
-  pub finals : (over : AcceptedRun given) (lines : List ScriptLine) → FinalsHold (rules_over given over) (state_after (rules_over given over) (at_start (rules_over given over)) lines).course
+  pub finals : (over : AcceptedRun given) (lines : List ScriptLine) → FinalsHold over.rules (state_after over.rules (at_start over.rules) lines).course
+  -- over the dictionary of a year, wherever the lines of a script lead: what its facts are worth there is what the written tables
+  -- of the year give
+  pub tables : (b : BuiltIn) → IsRun given.words (program b) → (over : AcceptedRun given) (lines : List ScriptLine) → TablesHoldIn b over.rules (state_after over.rules (at_start over.rules) lines).course
   -- a check reads nothing of the script
   pub check_unread : (name : List ℕ) → IsCheck given.words name → Unread did
   -- a check of a dictionary that is told and has this fault ends with its line

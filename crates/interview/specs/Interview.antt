@@ -20,6 +20,11 @@ use Rattle.interview.specs.declared.status.Status.{Status}
 use Rattle.interview.specs.declared.status.Status.TheVariants.{Done, DictionaryRefused, Usage, ScriptTooLong}
 use Rattle.interview.specs.Replies.{line_with, at_start, replies, state_after, step_command}
 use Rattle.interview.specs.FaultLines.{fault_line, accepted_line}
+use Rattle.tax_2023.specs.Household.{Household}
+use Rattle.tax_2023.specs.Answers.{AreOfHousehold}
+use Rattle.tax_2023.specs.Laws.{HasTables, IsModest}
+use Rattle.interview.specs.declared.built_in.BuiltIn.{BuiltIn}
+use Rattle.interview.specs.Dictionaries.{Content, HasFault, IsAcceptedAs, tables_of}
 
 -- a text, and the status that comes with it
 pub record Defined : Type 0 where
@@ -53,17 +58,14 @@ defined_script r script = record {
 abbrev pub final_line : List ℕ → List ℕ
 final_line text = line_with (codes "final " ++ text)
 
--- ---- `run`
+-- ---- `run` and `year`
 
--- by an accepted dictionary and the checks that it may name
-abbrev pub rules_by : List Named → Accepted → Rules
-rules_by checks dict = record { accepted = dict; checks = checks }
-
--- what a run is to give over the bytes of a dictionary and of a script, with these checks: the replies, or the first fault
-abbrev pub RunsTo : List ℕ → List Named → List ℕ → Defined → Type 0
-RunsTo bytes checks script d =
-    ((dict : Accepted) × AreAccepted bytes (names_of checks) dict × (d ≡ defined_script (rules_by checks dict) script))
-    ⊎ ((fault : DictFault) × IsFault bytes (names_of checks) fault × (d ≡ defined_fault fault))
+-- What a run is to give over a dictionary and the bytes of a script, with these checks: the replies, or the first fault. Wherever
+-- the dictionary comes from, what comes behind its acceptance is the same.
+abbrev pub RunsTo : Content → List Named → List ℕ → Defined → Type 0
+RunsTo content checks script d =
+    ((r : Rules) × IsAcceptedAs checks content r × (d ≡ defined_script r script))
+    ⊎ ((fault : DictFault) × HasFault checks content fault × (d ≡ defined_fault fault))
 
 -- ---- `check`
 
@@ -83,7 +85,7 @@ abbrev pub OneEndOfCheck : Type 0
 OneEndOfCheck = (bytes : List ℕ) (checks : List Named) (d e : Defined) → ChecksTo bytes checks d → ChecksTo bytes checks e → d ≡ e
 
 abbrev pub OneEndOfRun : Type 0
-OneEndOfRun = (bytes : List ℕ) (checks : List Named) (script : List ℕ) (d e : Defined) → RunsTo bytes checks script d → RunsTo bytes checks script e → d ≡ e
+OneEndOfRun = (content : Content) (checks : List Named) (script : List ℕ) (d e : Defined) → RunsTo content checks script d → RunsTo content checks script e → d ≡ e
 
 -- ---- what is printed as final
 
@@ -101,6 +103,15 @@ FinalsHold r c = (path : SlotPath) (text : List ℕ) → (step_command r c (Fina
 -- wherever the session came from, and however it goes on
 abbrev pub FinalLinesStay : Type 0
 FinalLinesStay = (names : List (List ℕ)) (r : Rules) → IsAccepted names r.accepted → (c : Course) → FinalsHold r c
+
+-- ---- the tables of a year
+
+-- Where the answers are those of a household whose two incomes are modest, so that no sum overflows, the facts of the dictionary
+-- have the values of the written tables.
+abbrev pub TablesHoldIn : BuiltIn → Rules → Course → Type 0
+TablesHoldIn b r c =
+    (h : Household) → AreOfHousehold (tree_of r) c.timeline.now h → IsModest h.earned_income → IsModest h.other_income
+    → HasTables r.accepted (tables_of b) c.timeline.now h
 
 -- ---- undo
 

@@ -2,6 +2,7 @@ pub mod Checks
 pub mod Codes
 pub mod Replies
 pub mod Words
+pub mod Dictionaries
 pub mod FaultLines
 pub mod Interview
 pub mod Answering

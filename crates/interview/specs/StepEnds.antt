@@ -10,9 +10,13 @@ use Rattle.interview.specs.declared.fetching.Fetched.TheVariants as fetches
 use Rattle.interview.specs.declared.status.Status.{Status}
 use Rattle.interview.specs.declared.status.Status.TheVariants.{Done, DictionaryRefused, FetchFault, WriteFault, NoMemory}
 use Rattle.interview.specs.Devices.{Counted, Rises, Stream, SentNothing, SentPart, SentWhole}
+use Rattle.graph_session.specs.Refusals.{SameChecks}
+use Rattle.graph_session.specs.Rules.{rules}
+use Rattle.interview.specs.Words.{Origin, file, program}
+use Rattle.interview.specs.Dictionaries.{Content, HasFault, IsAcceptedAs, MayGive}
 use Rattle.interview.specs.Interview.{ChecksTo, Defined, defined_accepted, defined_fault}
 
--- ---- the dictionary
+-- ---- a fetch
 
 -- some bytes that the name may hold spell this dictionary, or have this fault
 abbrev pub FetchedAs : Told → List Named → Fetched → Type 0
@@ -29,6 +33,20 @@ abbrev pub NotFetched : List ℕ → ℕ → ℕ → List ℕ → Status → Typ
 NotFetched name faults faults_now failed_name FetchFault = Rose faults faults_now × (failed_name ≡ name)
 NotFetched name faults faults_now failed_name NoMemory = Unit {0}
 NotFetched name faults faults_now failed_name other = ⊥
+
+-- ---- the dictionary of a run
+
+-- what may come from there is accepted as this dictionary, with the checks of a table, or has this fault
+abbrev pub ObtainedAs : (List ℕ → Told) → Origin → List Named → Fetched → Type 0
+ObtainedAs told origin checks (fetches.Accepted dict) = (content : Content) × MayGive told origin content × IsAcceptedAs checks content (rules dict) × SameChecks (rules dict) checks
+ObtainedAs told origin checks (fetches.Refused fault) = (content : Content) × MayGive told origin content × HasFault checks content fault
+
+-- no dictionary was had: the shelf failed to give the name of a file, or there was no memory
+abbrev pub NotObtained : Origin → ℕ → ℕ → List ℕ → Status → Type 0
+NotObtained (file name) faults faults_now failed_name status = NotFetched name faults faults_now failed_name status
+NotObtained (program b) faults faults_now failed_name status = status ≡ NoMemory
+
+-- ---- a text
 
 -- a text was written whole, with this status, or in part after a fault
 abbrev pub EndedBy : Option (List ℕ) → Option (List ℕ) → ℕ → ℕ → List ℕ → Status → Status → Type 0

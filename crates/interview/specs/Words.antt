@@ -1,27 +1,52 @@
 -- The words of the command line, and the forms that they may have.
 use Rattle.std.specs.Prelude.{◌≡◌, ◌⊎◌, ℕ, List, [], ◌∷◌, map, codes, String, string_bytes}
 use Rattle.std.specs.declared.alloc.Global.{Global}
+use Rattle.interview.specs.declared.built_in.BuiltIn.{BuiltIn}
+use Rattle.interview.specs.declared.built_in.BuiltIn.TheVariants.{Year2023, Year2024}
+use Rattle.interview.specs.declared.words.Origin.{Origin as Asked}
+use Rattle.interview.specs.declared.words.Origin.TheVariants as asked
 use Rattle.interview.specs.declared.words.Form.{Form}
 use Rattle.interview.specs.declared.words.Form.TheVariants.{Run, Check, Unknown}
 
--- the words are `run` or `run-plain` and this name
-abbrev pub IsRun : List (List ℕ) → List ℕ → Type 0
-IsRun words name = (words ≡ codes "run" ∷ name ∷ []) ⊎ (words ≡ codes "run-plain" ∷ name ∷ [])
+-- ---- a run
+
+-- where its dictionary comes from: the file of a name, or the program, which brings it with it
+pub data Origin : Type 0 where
+  file : List ℕ → Origin
+  program : BuiltIn → Origin
+
+-- the words that run a script over a dictionary that the program brings
+abbrev pub words_for : BuiltIn → List (List ℕ)
+words_for Year2023 = codes "year" ∷ codes "2023" ∷ []
+words_for Year2024 = codes "year" ∷ codes "2024" ∷ []
+
+-- the words run a script over the dictionary from there: for a file `run` or `run-plain` and its name
+abbrev pub IsRun : List (List ℕ) → Origin → Type 0
+IsRun words (file name) = (words ≡ codes "run" ∷ name ∷ []) ⊎ (words ≡ codes "run-plain" ∷ name ∷ [])
+IsRun words (program b) = words ≡ words_for b
+
+-- ---- a check
 
 -- the words are `check` and this name
 abbrev pub IsCheck : List (List ℕ) → List ℕ → Type 0
 IsCheck words name = words ≡ codes "check" ∷ name ∷ []
 
+-- ---- all words
+
 -- a dictionary is fetched for the words, by this name
 abbrev pub Fetches : List (List ℕ) → List ℕ → Type 0
-Fetches words name = IsRun words name ⊎ IsCheck words name
+Fetches words name = IsRun words (file name) ⊎ IsCheck words name
 
 -- the words are no others than these
 abbrev pub HasNoForm : List (List ℕ) → Type 0
-HasNoForm words = (name : List ℕ) → Fetches words name → ⊥
+HasNoForm words = ((origin : Origin) → IsRun words origin → ⊥) × ((name : List ℕ) → IsCheck words name → ⊥)
+
+abbrev pub origin_of : Asked → Origin
+origin_of (asked.File name) = file name.now
+origin_of (asked.BuiltIn b) = program b
 
 abbrev pub IsForm : List (List ℕ) → Form → Type 0
-IsForm words (Run name) = IsRun words name.now
+IsForm words (Run origin) = IsRun words (origin_of origin)
 IsForm words (Check name) = IsCheck words name.now
 IsForm words Unknown = HasNoForm words
 

@@ -8,12 +8,14 @@ ghost use Rattle.interview.specs.Checks.{standard_checks};
 ghost use Rattle.interview.specs.Codes.{code_of};
 
 mod answering;
+mod built_in;
 mod checking;
 mod ending;
 mod fault_line;
 mod fetching;
 mod laws;
 mod numbered;
+mod obtaining;
 mod reply;
 mod script;
 mod status;

@@ -8,7 +8,8 @@ ghost use Rattle.interview.specs.Ends.{Ends, Interviewed, did_by, given_by};
 use crate::Status;
 use crate::checking::check;
 use crate::ending::{end_by, end_by_fault};
-use crate::fetching::{Fetched, fetch};
+use crate::fetching::Fetched;
+use crate::obtaining::obtain;
 use crate::script::run;
 use crate::words::{Form, form_of};
 use dictionary::Dictionary;
@@ -57,7 +58,7 @@ fn attempt<H: Shelf, S: Source, K: Sink>(
         result }
 {
     match form_of(words) {
-        Form::Run(name) => match fetch(alloc, name, checks, shelf) {
+        Form::Run(origin) => match obtain(alloc, origin, checks, shelf) {
             Ok(Fetched::Accepted(dictionary)) => run_over(alloc, dictionary, checks, script, out),
             Ok(Fetched::Refused(fault)) => end_by_fault(out, fault),
             Err(status) => status,

@@ -1,14 +1,37 @@
+ghost use Rattle.std.specs.Prelude.{[], ◌∷◌, codes};
 ghost use Rattle.interview.specs.Words.{IsForm, texts};
 
+use crate::built_in::BuiltIn;
+
+/// Where the dictionary of a run comes from.
+#[derive(Clone, Copy)]
+pub enum Origin<'a> {
+    /// The file of this name.
+    File(&'a str),
+    /// The program, which brings it with it.
+    BuiltIn(BuiltIn),
+}
+
 /// What the words of the command line ask for.
-#[derive(Clone, Copy, Debug)]
+#[derive(Clone, Copy)]
 pub enum Form<'a> {
-    /// `run NAME` or `run-plain NAME`: to run a script over the dictionary of this name.
-    Run(&'a str),
+    /// `run NAME`, `run-plain NAME` or `year Y`: to run a script over this dictionary.
+    Run(Origin<'a>),
     /// `check NAME`: to say whether the dictionary of this name is accepted.
     Check(&'a str),
     /// Nothing, since the words have no form.
     Unknown,
+}
+
+// What `year` and this word ask for.
+fn form_of_year<'a>(year: &str) -> Form<'a>
+    ensures { IsForm (codes "year" ∷ year.now ∷ []) result }
+{
+    match year {
+        "2023" => Form::Run(Origin::BuiltIn(BuiltIn::Year2023)),
+        "2024" => Form::Run(Origin::BuiltIn(BuiltIn::Year2024)),
+        _ => Form::Unknown,
+    }
 }
 
 /// What the words ask for.
@@ -16,9 +39,12 @@ pub fn form_of(words: &[String]) -> Form<'_>
     ensures { IsForm (texts words.now) result }
 {
     match words {
-        [command, name] if command.as_str() == "run" => Form::Run(name.as_str()),
-        [command, name] if command.as_str() == "run-plain" => Form::Run(name.as_str()),
+        [command, name] if command.as_str() == "run" => Form::Run(Origin::File(name.as_str())),
+        [command, name] if command.as_str() == "run-plain" => {
+            Form::Run(Origin::File(name.as_str()))
+        }
         [command, name] if command.as_str() == "check" => Form::Check(name.as_str()),
+        [command, year] if command.as_str() == "year" => form_of_year(year.as_str()),
         _ => Form::Unknown,
     }
 }

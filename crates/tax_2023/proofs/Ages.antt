@@ -9,11 +9,9 @@ use Rattle.common_lemmas.proofs.Numbers.{not_below}
 use Rattle.jiff_core.proofs.CalendarLemmas.{days_from_civil-day_count, day_count-later_year}
 use Rattle.jiff_core.proofs.SignedLemmas.{signed_arith}
 use Rattle.fact_values.specs.Days.{last_year_begun, number_of, year_of}
+use Rattle.fact_values.proofs.Days.{is_under}
 
 -- ---- orders and tests
-
-pub is_under : (a b : ℤ) → a <ℤ b → int_lt a b ≡ true
-is_under a b h = grind (arith, ints)
 
 pub isnt_under : (a b : ℤ) → b ≤ℤ a → int_lt a b ≡ false
 isnt_under a b h = grind (arith, ints)

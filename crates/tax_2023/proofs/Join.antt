@@ -28,6 +28,7 @@ use Rattle.dictionary.specs.Reading.{Look, Place, dependency, outermost, read_by
 use Rattle.dictionary.specs.Slots.{stands, stands_of}
 use Rattle.dictionary.specs.Homes.{home}
 use Rattle.dictionary.proofs.PlainLaws.{joined_by_rank}
+use Rattle.dictionary.proofs.SlotLaws.{fact_of_standing}
 use Rattle.tax_2023.proofs.Told.{AllHaveTold, HasBody, HasTold, Told, is_members, known, knows_by, knows_member, knows_path, knows_slot, knows_source, list_of_path, list_told, member_read, member_told, told_at, value_by, value_in, value_of_path}
 
 -- ---- the slots of which something is told
@@ -131,10 +132,6 @@ value_told None true m v e = absurd cc
 value_told (Some f) true m v e = (refl, (f, refl, cc))
 value_told o false m v e = absurd cc
 
-fact_there : (a : Answered) (h m : ℕ) (o : Option Fact) → IsTrue (stands_of a h m o) → (f : Fact) × (o ≡ Some f)
-fact_there a h m None k = absurd cc
-fact_there a h m (Some f) k = (f, refl)
-
 in_step : (o : Option Fact) (f : Fact) (b : Bool) (result : Fact → Res) (r : Res) → o ≡ Some f → IsTrue b → result f ≡ r → at_fact o None (λ g. if b then Some (result g) else None) ≡ Some r
 in_step o f b result r e h k = rw (e, h, k) refl
 
@@ -144,7 +141,7 @@ joined names d accepted a told all = joined_by_rank names d accepted a (told_slo
     one : (s : Slot) (v : Value) → told_slot d a told s ≡ Some v → (look : Look) → HasKnown d (told_slot d a told) (rank d s.fact) look → plain_step d a look s ≡ Some (Complete v)
     one s v e look has =
         let t = value_told (told s.fact) (stands d.tree a s) s.member v e in
-        let there = fact_there a (home d.tree s.fact) s.member (fact_at d.tree.facts s.fact) t.0 in
+        let there = fact_of_standing d.tree a s t.0 in
         let f = there.0 in
         let its = subst (HasTold d a told s.fact f) t.1.1 (found_at d a told d.tree.facts all s.fact f there.1) in
         in_step (fact_at d.tree.facts s.fact) f (stands d.tree a s) (slot_result d.tree a look s) (Complete v) there.1 t.0

@@ -1,12 +1,15 @@
 -- The law of the tables, of the dictionary of a year.
-use Rattle.std.proofs.Common.{◌≡◌, ℕ, IsTrue, nat_eq, pos, List, [], ◌∷◌, length, Some, refl, sym, ap, ◌∙◌, subst}
+use Rattle.std.proofs.Common.{◌≡◌, ℕ, IsTrue, nat_eq, pos, List, [], ◌∷◌, length, Some, Result, Ok, refl, sym, ap, ◌∙◌, subst}
 use Rattle.std.specs.List.{list_all, list_any}
 use Rattle.common_lemmas.proofs.Bools.{both}
 use Rattle.fact_values.specs.declared.slot.Slot.{Slot}
 use Rattle.fact_values.specs.declared.value.Value.{Value}
 use Rattle.fact_values.specs.declared.value.Value.TheVariants.{Boolean, Dollar, Int, Members}
 use Rattle.dict_tree.specs.Dictionary.{Dictionary as Tree}
+use Rattle.dict_types.specs.DictFaults.{IsTypedDictionary}
 use Rattle.dict_types.specs.TypedParts.{TypedDictionary}
+use Rattle.dict_types.specs.declared.fault.TypeFault.{TypeFault}
+use Rattle.dict_types.proofs.FoundLaws.{well_typed_is_found}
 use Rattle.dict_order.specs.MentionGraph.{mention_graph}
 use Rattle.dict_order.specs.Ranks.{are_ranks}
 use Rattle.dict_order.proofs.RankLaws.{only_one, test_tells}
@@ -99,6 +102,21 @@ is_of_year y d o =
     let tested = subst (λ (x : Tree). IsTrue (are_ranks (mention_graph x) ranks)) (sym o.facts) (ranks_are (figures y)) in
     let one : ranks ≡ d.ranks = only_one (mention_graph d.tree) ranks d.ranks (test_tells (mention_graph d.tree) ranks tested) o.is_accepted.ranked in
     ap (λ (x : Tree). parts x d.typed ranks) (sym o.facts) ∙ ap (parts d.tree d.typed) one
+
+-- ---- there is one
+
+abbrev found : TypedDictionary → Result TypedDictionary TypeFault
+found t = Ok t
+
+same_types : (d : Tree) (t u : TypedDictionary) → IsTypedDictionary d [] t → IsTypedDictionary d [] u → t ≡ u
+same_types d t u h k = let same : found t ≡ found u = sym (well_typed_is_found d [] t h) ∙ well_typed_is_found d [] u k in cc
+
+pub one_of_year : (y : Year) (d e : Accepted) → IsOfYear y d → IsOfYear y e → d ≡ e
+one_of_year y d e o p =
+    let typed = subst (λ (x : Tree). IsTypedDictionary x [] d.typed) (o.facts ∙ sym p.facts) o.is_accepted.typed in
+    sym (is_of_year y d o) ∙ ap (of_year y) (same_types e.tree d.typed e.typed typed p.is_accepted.typed) ∙ is_of_year y e p
+
+-- ---- the law
 
 tables_hold : (y : Year) → IsWritten y → TablesHold y
 tables_hold y w d o a h i earned other =

@@ -1,17 +1,20 @@
 use Rattle.std.proofs.Common.{refl}
 use Rattle.interview.proofs.CheckLaws.{ends_check}
-use Rattle.interview.proofs.TopLaws.{ends_refused, ends_run}
+use Rattle.interview.proofs.TopLaws.{ends_refused, ends_run, ends_unobtained}
 use Rattle.interview.proofs.top.attempt.Goals as goal
 
 pub returns-in-Ok-Accepted : goal.returns-in-Ok-Accepted
 returns-in-Ok-Accepted g c =
-    let found = rw c.in-Ok-Accepted.field-0-is at c.in-Ok-Accepted.ensures.fetched in
-    record { ends = ends_run _ _ _ c.in-Run.ensures found.0 found.1 _ found.2 c.run_over.result c.run_over.ensures.ends }
+    let had = rw c.in-Ok-Accepted.field-0-is at c.in-Ok-Accepted.ensures.obtained in
+    record { ends = ends_run _ _ _ c.in-Run.ensures had.0 had.1 _ had.2 c.run_over.result c.run_over.ensures.ends }
 
 pub returns-in-Ok-Refused : goal.returns-in-Ok-Refused
 returns-in-Ok-Refused g c =
-    let found = rw c.in-Ok-Refused.field-0-is at c.in-Ok-Refused.ensures.fetched in
-    record { ends = ends_refused _ _ _ c.in-Run.ensures found.0 found.1 _ found.2 (refl, refl) c.end_by_fault.result c.end_by_fault.ensures }
+    let had = rw c.in-Ok-Refused.field-0-is at c.in-Ok-Refused.ensures.obtained in
+    record { ends = ends_refused _ _ _ c.in-Run.ensures had.0 had.1 _ had.2 (refl, refl) c.end_by_fault.result c.end_by_fault.ensures }
+
+pub returns-in-Err : goal.returns-in-Err
+returns-in-Err g c = record { ends = ends_unobtained _ _ _ c.in-Run.ensures c.in-Err.status refl (refl, refl) c.in-Err.ensures.not_obtained }
 
 pub returns-in-Check : goal.returns-in-Check
 returns-in-Check g c = record { ends = ends_check _ _ _ c.in-Check.ensures (refl, refl) c.check.result c.check.ensures.ends }

@@ -10,4 +10,7 @@ pub faultless-requires : goal.faultless-requires
 faultless-requires c = subst (λ (d : Tree). (fault : DictFault) → IsFaultOf d [] fault → ⊥) (sym c.in_ok-source.ensures) no_fault_2023
 
 pub returns : goal.returns
-returns c = is_of_year tables_2023 c.in_ok-source.source c.in_ok-source.ensures c.faultless.result c.faultless.ensures.is_accepted c.faultless.ensures.source
+returns c = record {
+  of_year = is_of_year tables_2023 c.in_ok-source.source c.in_ok-source.ensures c.faultless.result c.faultless.ensures.is_accepted c.faultless.ensures.source;
+  checks = c.faultless.ensures.checks;
+}

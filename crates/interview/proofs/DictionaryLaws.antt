@@ -1,0 +1,188 @@
+-- The dictionary of a run: where it comes from, and what it comes to.
+use Rattle.std.proofs.Common.{◌≡◌, ℕ, false, List, [], ◌∷◌, Result, Ok, Err, inl, inr, refl, sym, ap, subst, ◌∙◌, arith}
+use Rattle.std.specs.Prelude.{codes, IfOk}
+use Rattle.fact_values.specs.declared.memory.NoMemory.{NoMemory}
+use Rattle.dictionary.specs.declared.fault.DictFault.{DictFault}
+use Rattle.dictionary.specs.Accepted.{IsAccepted, Kept, Named, accepted, names_of}
+use Rattle.dictionary.specs.Checks.{has_check}
+use Rattle.dictionary.specs.Faults.{IsFaultOf}
+use Rattle.dictionary.proofs.FirstLaws.{accepted_has_none, one_dictionary, one_fault}
+use Rattle.graph_session.specs.Rules.{Rules}
+use Rattle.tax_2023.proofs.NoFault.{no_fault_2023, no_fault_2024}
+use Rattle.tax_2023.proofs.TableLaw.{one_of_year, tables_hold_2023, tables_hold_2024}
+use Rattle.tax_2023.specs.Facts.{dictionary}
+use Rattle.tax_2023.specs.Figures.{figures}
+use Rattle.tax_2023.specs.Laws.{IsOfYear, TablesHold}
+use Rattle.tax_2023.specs.Years.{Year}
+use Rattle.interview.specs.declared.fetching.Fetched.{Fetched}
+use Rattle.interview.specs.declared.fetching.Fetched.TheVariants as fetches
+use Rattle.interview.specs.declared.status.Status.{Status}
+use Rattle.interview.specs.declared.built_in.BuiltIn.{BuiltIn}
+use Rattle.interview.specs.declared.built_in.BuiltIn.TheVariants.{Year2023, Year2024}
+use Rattle.fg_io.specs.Outside.{MayHold, Told, missing}
+use Rattle.interview.specs.Words.{Fetches, HasNoForm, IsCheck, IsRun, Origin, file, program}
+use Rattle.interview.specs.Dictionaries.{Content, Gives, HasFault, IsAcceptedAs, MayGive, brought, facts_of, spelled, tables_of}
+use Rattle.interview.specs.Interview.{OneEndOfRun, defined_fault, defined_script}
+use Rattle.interview.specs.StepEnds.{FetchedAs, ObtainedAs}
+
+-- ---- words
+
+-- two words have one second word
+same_second : (first other a b : List ℕ) → first ∷ a ∷ [] ≡ other ∷ b ∷ [] → a ≡ b
+same_second first other a b both = cc
+
+-- no words of a run are those of a check
+pub not_both : (words : List (List ℕ)) (origin : Origin) (name : List ℕ) → IsRun words origin → IsCheck words name → ⊥
+not_both words (file a) b (inl p) q = let both : codes "run" ∷ a ∷ [] ≡ codes "check" ∷ b ∷ [] = sym p ∙ q in cc
+not_both words (file a) b (inr p) q = let both : codes "run-plain" ∷ a ∷ [] ≡ codes "check" ∷ b ∷ [] = sym p ∙ q in cc
+not_both words (program Year2023) b p q = let both : codes "year" ∷ codes "2023" ∷ [] ≡ codes "check" ∷ b ∷ [] = sym p ∙ q in cc
+not_both words (program Year2024) b p q = let both : codes "year" ∷ codes "2024" ∷ [] ≡ codes "check" ∷ b ∷ [] = sym p ∙ q in cc
+
+-- the words of a run name one dictionary
+named : (words : List (List ℕ)) (a : List ℕ) → IsRun words (file a) → (first : List ℕ) × (words ≡ first ∷ a ∷ [])
+named words a (inl is) = (codes "run", is)
+named words a (inr is) = (codes "run-plain", is)
+
+not_brought : (words : List (List ℕ)) (b : BuiltIn) (name : List ℕ) → IsRun words (program b) → IsRun words (file name) → ⊥
+not_brought words Year2023 a p (inl q) = let both : codes "year" ∷ codes "2023" ∷ [] ≡ codes "run" ∷ a ∷ [] = sym p ∙ q in cc
+not_brought words Year2023 a p (inr q) = let both : codes "year" ∷ codes "2023" ∷ [] ≡ codes "run-plain" ∷ a ∷ [] = sym p ∙ q in cc
+not_brought words Year2024 a p (inl q) = let both : codes "year" ∷ codes "2024" ∷ [] ≡ codes "run" ∷ a ∷ [] = sym p ∙ q in cc
+not_brought words Year2024 a p (inr q) = let both : codes "year" ∷ codes "2024" ∷ [] ≡ codes "run-plain" ∷ a ∷ [] = sym p ∙ q in cc
+
+-- each year has words of its own: the fourth digit differs
+abbrev fourth_digit : List (List ℕ) → ℕ
+fourth_digit (first ∷ (a ∷ b ∷ c ∷ d ∷ rest) ∷ more) = d
+fourth_digit words = 0
+
+one_year : (words : List (List ℕ)) (b c : BuiltIn) → IsRun words (program b) → IsRun words (program c) → b ≡ c
+one_year words Year2023 Year2023 p q = refl
+one_year words Year2024 Year2024 p q = refl
+one_year words Year2023 Year2024 p q = absurd (omega (arith, ap fourth_digit (sym p ∙ q)))
+one_year words Year2024 Year2023 p q = absurd (omega (arith, ap fourth_digit (sym p ∙ q)))
+
+pub same_origin : (words : List (List ℕ)) (o p : Origin) → IsRun words o → IsRun words p → o ≡ p
+same_origin words (file a) (file b) h k =
+    let one = named words a h in
+    let two = named words b k in
+    ap file (same_second one.0 two.0 a b (sym one.1 ∙ two.1))
+same_origin words (program b) (program c) h k = ap program (one_year words b c h k)
+same_origin words (file a) (program b) h k = absurd (not_brought words b a k h)
+same_origin words (program b) (file a) h k = absurd (not_brought words b a h k)
+
+pub same_check : (words : List (List ℕ)) (a b : List ℕ) → IsCheck words a → IsCheck words b → a ≡ b
+same_check words a b h k = same_second (codes "check") (codes "check") a b (sym h ∙ k)
+
+pub none_fetched : (words : List (List ℕ)) (name : List ℕ) → HasNoForm words → Fetches words name → ⊥
+none_fetched words name none (inl asked) = none.0 (file name) asked
+none_fetched words name none (inr asked) = none.1 name asked
+
+-- nothing is fetched for the words of a year
+pub brought_unfetched : (words : List (List ℕ)) (b : BuiltIn) (name : List ℕ) → IsRun words (program b) → Fetches words name → ⊥
+brought_unfetched words b name asked (inl fetched) = not_brought words b name asked fetched
+brought_unfetched words b name asked (inr checked) = not_both words (program b) name asked checked
+
+-- ---- words without a form
+
+no_run_of_year : (year : List ℕ) → (year ≡ codes "2023" → ⊥) → (year ≡ codes "2024" → ⊥) → (o : Origin) → IsRun (codes "year" ∷ year ∷ []) o → ⊥
+no_run_of_year year a b (file name) (inl asked) = let both : codes "year" ∷ year ∷ [] ≡ codes "run" ∷ name ∷ [] = asked in cc
+no_run_of_year year a b (file name) (inr asked) = let both : codes "year" ∷ year ∷ [] ≡ codes "run-plain" ∷ name ∷ [] = asked in cc
+no_run_of_year year a b (program Year2023) asked = a (same_second (codes "year") (codes "year") year (codes "2023") asked)
+no_run_of_year year a b (program Year2024) asked = b (same_second (codes "year") (codes "year") year (codes "2024") asked)
+
+no_check_of_year : (year name : List ℕ) → IsCheck (codes "year" ∷ year ∷ []) name → ⊥
+no_check_of_year year name asked = let both : codes "year" ∷ year ∷ [] ≡ codes "check" ∷ name ∷ [] = asked in cc
+
+-- behind `year` stands no year
+pub no_year : (year : List ℕ) → (year ≡ codes "2023" → ⊥) → (year ≡ codes "2024" → ⊥) → HasNoForm (codes "year" ∷ year ∷ [])
+no_year year a b = (no_run_of_year year a b, no_check_of_year year)
+
+no_run : (words : List (List ℕ)) → ((name : List ℕ) → words ≡ codes "run" ∷ name ∷ [] → ⊥) → ((name : List ℕ) → words ≡ codes "run-plain" ∷ name ∷ [] → ⊥) → ((year : List ℕ) → words ≡ codes "year" ∷ year ∷ [] → ⊥)
+    → (o : Origin) → IsRun words o → ⊥
+no_run words run plain year (file name) (inl asked) = run name asked
+no_run words run plain year (file name) (inr asked) = plain name asked
+no_run words run plain year (program Year2023) asked = year (codes "2023") asked
+no_run words run plain year (program Year2024) asked = year (codes "2024") asked
+
+-- no first word of a form is followed by one word
+pub no_form : (words : List (List ℕ)) → ((name : List ℕ) → words ≡ codes "run" ∷ name ∷ [] → ⊥) → ((name : List ℕ) → words ≡ codes "run-plain" ∷ name ∷ [] → ⊥) → ((year : List ℕ) → words ≡ codes "year" ∷ year ∷ [] → ⊥)
+    → ((name : List ℕ) → words ≡ codes "check" ∷ name ∷ [] → ⊥) → HasNoForm words
+no_form words run plain year check = (no_run words run plain year, check)
+
+-- ---- what comes from there
+
+pub known_content : (told : List ℕ → Told) (o : Origin) (known may : Content) → Gives told o known → MayGive told o may → may ≡ known
+known_content told (file name) (spelled bytes) (spelled other) is held = ap spelled (sym (subst (λ t. MayHold t other) is held))
+known_content told (program b) (brought c) (brought other) is same = ap brought (sym same ∙ is)
+known_content told (file name) (spelled bytes) (brought other) is gave = absurd gave
+known_content told (file name) (brought b) may is gave = absurd is
+known_content told (program b) (spelled bytes) may is gave = absurd is
+known_content told (program b) (brought c) (spelled bytes) is gave = absurd gave
+
+pub nothing_missing : (told : List ℕ → Told) (name : List ℕ) (may : Content) → told name ≡ missing → MayGive told (file name) may → ⊥
+nothing_missing told name (spelled bytes) none held = subst (λ t. MayHold t bytes) none held
+nothing_missing told name (brought b) none gave = gave
+
+-- ---- what the program brings with it
+
+pub brought_has_none : (b : BuiltIn) (fault : DictFault) → IsFaultOf (facts_of b) [] fault → ⊥
+unfolding facts_of
+brought_has_none Year2023 = no_fault_2023
+brought_has_none Year2024 = no_fault_2024
+
+names_no_check : (y : Year) → has_check (dictionary (figures y)) ≡ false
+names_no_check y = refl
+
+-- what the program brings is accepted as this, and names no check
+pub brings : (y : Year) (r : Result Kept NoMemory) → IfOk r (λ d. IsOfYear y (accepted d)) → IfOk r (λ d. d.checks ≡ []) → IfOk r (λ d. IsOfYear y (accepted d) × (d.checks ≡ []))
+brings y (Ok d) h k = (h, k)
+brings y (Err fault) h k = tt
+
+pub brings_no_check : (y : Year) (r : Result Kept NoMemory) → IfOk r (λ d. IsOfYear y (accepted d)) → IfOk r (λ d. has_check (accepted d).tree ≡ false)
+brings_no_check y (Ok d) h = ap has_check h.facts ∙ names_no_check y
+brings_no_check y (Err fault) h = tt
+
+-- what is fetched comes from a file
+pub obtains_file : (told : List ℕ → Told) (name : List ℕ) (checks : List Named) (r : Result Fetched Status) → IfOk r (FetchedAs (told name) checks) → IfOk r (ObtainedAs told (file name) checks)
+obtains_file told name checks (Ok (fetches.Accepted dict)) (bytes, held, is) = (spelled bytes, held, is, inl is.1)
+obtains_file told name checks (Ok (fetches.Refused fault)) (bytes, held, is) = (spelled bytes, held, is)
+obtains_file told name checks (Err status) h = tt
+
+pub tables_hold : (b : BuiltIn) → TablesHold (tables_of b)
+tables_hold Year2023 = tables_hold_2023
+tables_hold Year2024 = tables_hold_2024
+
+pub brought_is_faultless : (told : List ℕ → Told) (checks : List Named) (b : BuiltIn) (content : Content) (fault : DictFault) → MayGive told (program b) content → HasFault checks content fault → ⊥
+brought_is_faultless told checks b (spelled bytes) fault gave is = gave
+brought_is_faultless told checks b (brought c) fault gave is = brought_has_none c fault is
+
+pub brought_is_of_year : (told : List ℕ → Told) (checks : List Named) (b : BuiltIn) (content : Content) (r : Rules) → MayGive told (program b) content → IsAcceptedAs checks content r → IsOfYear (tables_of b) r.accepted
+brought_is_of_year told checks b (spelled bytes) r gave is = absurd gave
+brought_is_of_year told checks b (brought c) r gave is = subst (λ x. IsOfYear (tables_of x) r.accepted) (sym gave) is.0
+
+-- ---- a dictionary comes to one end
+
+same_rules : (r s : Rules) → r.accepted ≡ s.accepted → r.checks ≡ s.checks → r ≡ s
+same_rules r s a b = λ i. record { accepted = a i; checks = b i }
+
+one_set_of_rules : (checks : List Named) (content : Content) (r s : Rules) → IsAcceptedAs checks content r → IsAcceptedAs checks content s → r ≡ s
+one_set_of_rules checks (spelled bytes) r s h k = same_rules r s (one_dictionary bytes (names_of checks) r.accepted s.accepted h.0 k.0) (h.1 ∙ sym k.1)
+one_set_of_rules checks (brought b) r s h k = same_rules r s (one_of_year (tables_of b) r.accepted s.accepted h.0 k.0) (h.1 ∙ sym k.1)
+
+pub accepted_is_faultless : (checks : List Named) (content : Content) (r : Rules) (fault : DictFault) → IsAcceptedAs checks content r → HasFault checks content fault → ⊥
+accepted_is_faultless checks (spelled bytes) r fault h is = accepted_has_none bytes (names_of checks) r.accepted fault h.0 is
+accepted_is_faultless checks (brought b) r fault h is = brought_has_none b fault is
+
+one_first_fault : (checks : List Named) (content : Content) (fault other : DictFault) → HasFault checks content fault → HasFault checks content other → fault ≡ other
+one_first_fault checks (spelled bytes) fault other h k = one_fault bytes (names_of checks) fault other h k
+one_first_fault checks (brought b) fault other h k = absurd (brought_has_none b fault h)
+
+pub one_run : OneEndOfRun
+one_run content checks script d e (inl (r, is, to)) (inl (s, is_other, to_other)) = to ∙ ap (λ q. defined_script q script) (one_set_of_rules checks content r s is is_other) ∙ sym to_other
+one_run content checks script d e (inl (r, is, to)) (inr (fault, is_fault, to_fault)) = absurd (accepted_is_faultless checks content r fault is is_fault)
+one_run content checks script d e (inr (fault, is_fault, to_fault)) (inl (r, is, to)) = absurd (accepted_is_faultless checks content r fault is is_fault)
+one_run content checks script d e (inr (fault, is, to)) (inr (other, is_other, to_other)) = to ∙ ap defined_fault (one_first_fault checks content fault other is is_other) ∙ sym to_other
+
+-- what a session goes by is an accepted dictionary
+pub rules_are_accepted : (checks : List Named) (content : Content) (r : Rules) → IsAcceptedAs checks content r → (names : List (List ℕ)) × IsAccepted names r.accepted
+rules_are_accepted checks (spelled bytes) r h = (names_of checks, h.0.1)
+rules_are_accepted checks (brought b) r h = ([], h.0.is_accepted)

@@ -1,0 +1,31 @@
+// The dictionaries that the program brings with it.
+ghost use Rattle.std.specs.Prelude.{◌≡◌, [], false, IfOk};
+ghost use Rattle.dictionary.specs.Accepted.{accepted};
+ghost use Rattle.dictionary.specs.Checks.{has_check};
+ghost use Rattle.graph_session.specs.Rules.{rules};
+ghost use Rattle.interview.specs.Dictionaries.{IsAcceptedAs, brought};
+
+use dictionary::Dictionary;
+use fact_values::NoMemory;
+use std::alloc::Global;
+use tax_2023::{year_2023, year_2024};
+
+/// A dictionary that the program brings with it.
+#[derive(Clone, Copy)]
+pub enum BuiltIn {
+    /// Filing status, dependents and standard deduction of 2023.
+    Year2023,
+    /// The same of 2024.
+    Year2024,
+}
+
+/// The dictionary that the program brings with it. It has no fault, and names no check.
+pub fn bring(alloc: Global, built_in: BuiltIn) -> Result<Dictionary, NoMemory>
+    ensures accepted { IfOk result (λ d. IsAcceptedAs [] (brought built_in) (rules d)) }
+    ensures no_check { IfOk result (λ d. has_check (accepted d).tree ≡ false) }
+{
+    match built_in {
+        BuiltIn::Year2023 => year_2023(alloc),
+        BuiltIn::Year2024 => year_2024(alloc),
+    }
+}

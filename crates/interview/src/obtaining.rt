@@ -1,0 +1,34 @@
+// Has the dictionary of a run.
+ghost use Rattle.std.specs.Prelude.{ℕ, List, map, IfErr, IfOk};
+ghost use Rattle.interview.specs.StepEnds.{NotObtained, ObtainedAs};
+ghost use Rattle.interview.specs.Words.{origin_of};
+
+use crate::Status;
+use crate::built_in::bring;
+use crate::fetching::{Fetched, fetch};
+use crate::words::Origin;
+use fact_values::NoMemory;
+use fg_io::Shelf;
+use std::alloc::Global;
+use text_checks::CheckTable;
+
+/// The dictionary of a run, or its first fault: that of a file is fetched, and one that the program brings with it isn't.
+pub fn obtain<H: Shelf>(
+    alloc: Global,
+    origin: Origin<'_>,
+    checks: &CheckTable,
+    shelf: &mut H,
+) -> Result<Fetched, Status>
+    ensures obtained { IfOk result (ObtainedAs (H.told shelf.old) (origin_of origin.entry)
+        (map {B = List ℕ × ℕ} (λ c. (c.name, c.code)) checks.now.checks.items)) }
+    ensures not_obtained { IfErr result (NotObtained (origin_of origin.entry)
+        (H.faults shelf.old) (H.faults shelf.new) (H.failed_name shelf.new)) }
+{
+    match origin {
+        Origin::File(name) => fetch(alloc, name, checks, shelf),
+        Origin::BuiltIn(built_in) => match bring(alloc, built_in) {
+            Ok(dictionary) => Ok(Fetched::Accepted(dictionary)),
+            Err(NoMemory) => Err(Status::NoMemory),
+        },
+    }
+}
