@@ -35,23 +35,14 @@ use Rattle.dictionary.specs.Homes.{home}
 use Rattle.dictionary.specs.Reading.{slot}
 use Rattle.dictionary.specs.Slots.{is_member, stands}
 use Rattle.dictionary.specs.SlotText.{IsSlot, slot_text}
-use Rattle.dictionary.proofs.ExtensionLaws.{list_home}
+use Rattle.dictionary.proofs.ExtensionLaws.{is_placed, list_home}
 use Rattle.dictionary.proofs.HomeLaws.{text_spells}
-use Rattle.dictionary.proofs.ListTypes.{open_members}
+use Rattle.dictionary.proofs.ListTypes.{below_next, from_one, open_members}
 use Rattle.dictionary.proofs.NumberLaws.{fact_within}
 use Rattle.dictionary.proofs.SlotLaws.{fact_of_standing}
+use Rattle.dictionary.proofs.PrintedLaws.{value_printed}
 
 -- ---- members
-
-below_next : (a : Answered) → WellFormed a → (m : ℕ) → IsSome (map.get a.members m) → m < a.next
-below_next a well m h = elim (cases_lt m a.next) [
-  | inl k ↦ k
-  | inr k ↦ absurd (none_some (map.get a.members m) (well.below m k) h)
-]
-
-from_one : (a : Answered) → FromOne a → (m : ℕ) → IsSome (map.get a.members m) → 1 ≤ m
-from_one a low zero h = absurd (none_some (map.get a.members zero) low.zero h)
-from_one a low (suc m) h = omega arith
 
 pub member_from_one : (a : Answered) → WellFormed a → FromOne a → (c m : ℕ) → IsIn m (list_of a c) → 1 ≤ m
 member_from_one a well low c m i = from_one a low m (well.listed c m i)
@@ -80,15 +71,11 @@ standing_slot d a well low s h =
     short h true e i = let z : s.member ≡ 0 = eqb-true s.member 0 i in omega arith
     short h false e i = omega (arith, member_below a well h s.member i, well.high)
 
--- and so has a slot with an answer or an override
-pub entry_stands : (d : Tree) (a : Answered) → AnswersFit d a → (side : Side) (s : Slot) (v : Value) → value_of side a s ≡ Some v → IsTrue (stands d a s)
-entry_stands d a fit side s v e = both_left (stands d a s) (takes side d s.fact) (fit.placed side s (ap is_some e))
-
 pub entry_slot : (d : Tree) (a : Answered) → AnswersFit d a → (side : Side) (s : Slot) (v : Value) → value_of side a s ≡ Some v → IsSlot d s
-entry_slot d a fit side s v e = standing_slot d a fit.well fit.from_one s (entry_stands d a fit side s v e)
+entry_slot d a fit side s v e = standing_slot d a fit.well fit.from_one s (is_placed d a fit side s v e)
 
 -- and the one of a collection
-list_there : (d : Tree) (c : ℕ) → IsTrue (is_list d c) → (f : Fact) × (fact_at d.facts c ≡ Some f)
+pub list_there : (d : Tree) (c : ℕ) → IsTrue (is_list d c) → (f : Fact) × (fact_at d.facts c ≡ Some f)
 list_there d c h = at (fact_at d.facts c) refl h
   where
     at : (o : Option Fact) → fact_at d.facts c ≡ o → IsTrue (opens_of o) → (f : Fact) × (fact_at d.facts c ≡ Some f)
@@ -106,9 +93,6 @@ open_list d a fit c ms e = fit.lists c (ap is_some e)
 
 pub open_list_members : (d : Tree) (a : Answered) → AnswersFit d a → (c : ℕ) (ms : List ℕ) → map.get a.lists c ≡ Some ms → IsMemberList ms
 open_list_members d a fit c ms e = (open_members d a fit.well fit.from_one c ms e).0
-
-pub members_short : (ms : List ℕ) → IsMemberList ms → length ms ≤ 100
-members_short ms h = leb-true (length ms) 100 (both_left (nat_le (length ms) 100) (list_all numbers.is_member ms && numbers.are_distinct ms) h)
 
 pub members_numbered : (ms : List ℕ) → IsMemberList ms → IsTrue (list_all numbers.is_member ms)
 members_numbered ms h = both_left (list_all numbers.is_member ms) (numbers.are_distinct ms) (both_right (nat_le (length ms) 100) (list_all numbers.is_member ms && numbers.are_distinct ms) h)
@@ -128,21 +112,8 @@ slot_short names d is s slot =
 
 -- ---- values
 
-option_there : (o : Option Listed) (place : ℕ) → place < unwrap_or (option_map (λ (e : Listed). length e.options) o) 0
-    → IsSome (option_and_then (λ options. slice_get options place) (option_map (λ (e : Listed). e.options) o))
-option_there None place h = absurd (omega (arith, h))
-option_there (Some e) place h = ap is_some (slice_get-get_or e.options place [] h)
-
-choice_there : (d : Tree) (list n place : ℕ) → list ≡ n → place < unwrap_or (option_map (λ (e : Listed). length e.options) (slice_get d.enums n)) 0 → IsSome (option_at d.enums list place)
-choice_there d list n place same h = rw same (option_there (slice_get d.enums n) place h)
-
-pub typed_printed : (d : Tree) (a : Answered) (v : Value) (t : FactType) → IsOfType (domains d a) v t → IsPrinted d.enums v
-typed_printed d a (values.Choice list place) (types.Enum n) h = choice_there d list n place h.0 h.1
-typed_printed d a (values.Choice list place) t h = absurd h
-typed_printed d a v t h = tt
-
 pub entry_printed : (d : Tree) (a : Answered) → AnswersFit d a → (side : Side) (s : Slot) (v : Value) → value_of side a s ≡ Some v → IsPrinted d.enums v
-entry_printed d a fit side s v e = let typed = fit.typed side s v e in typed_printed d a v typed.0 typed.2
+entry_printed d a fit side s v e = let typed = fit.typed side s v e in value_printed d a v typed.0 typed.2
 
 -- ---- lengths
 

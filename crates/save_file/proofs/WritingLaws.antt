@@ -5,7 +5,7 @@ use Rattle.std.specs.List.{flat_map}
 use Rattle.std.proofs.lemmas.List.{append-nil}
 use Rattle.fg_io.specs.Outside.{Rose}
 use Rattle.fg_io.specs.Sent.{Sent}
-use Rattle.fg_io.proofs.SentLaws.{appends_more}
+use Rattle.fg_io.proofs.SentLaws.{appends_more, sent_on as sent_next}
 use Rattle.script_lines.specs.Joined.{joined}
 use Rattle.save_file.specs.Writing.{Wrote, WroteAll, WrotePart}
 
@@ -53,16 +53,6 @@ sent_part a b c text piece rest left first second = record {
       ∙ sym (append_assoc first.front second.front (left ++ rest));
 }
 
--- a text behind another that was put whole
-sent_behind_whole : (a b c : Option (List ℕ)) (x y rest : List ℕ) → Sent a b x [] → Sent b c y rest → Sent a c (x ++ y) rest
-sent_behind_whole a b c x y rest first second =
-    let whole : x ≡ first.front = first.split ∙ append-nil first.front in
-    record {
-      front = first.front ++ second.front;
-      took = appends_more a b c _ _ first.took second.took;
-      split = ap (λ (t : List ℕ). t ++ y) whole ∙ ap (λ (t : List ℕ). first.front ++ t) second.split ∙ sym (append_assoc first.front second.front rest);
-    }
-
 rose_before : (f0 f1 f2 : ℕ) → f0 ≤ f1 → Rose f1 f2 → Rose f0 f2
 rose_before f0 f1 f2 le rose = omega arith
 
@@ -70,9 +60,9 @@ rose_before f0 f1 f2 le rose = omega arith
 pub wrote_behind : {T E : Type 0} (a b c : Option (List ℕ)) (f0 f1 f2 : ℕ) (x y : List ℕ) (r : Result T E)
     → WroteAll a b f0 f1 x → Wrote b c f1 f2 y r → Wrote a c f0 f2 (x ++ y) r
 wrote_behind a b c f0 f1 f2 x y (Ok done) first wrote =
-    (subst (λ (l : List ℕ). Sent a c (x ++ y) l) refl (sent_behind_whole a b c x y [] first.0 wrote.0), omega (arith, first.1, wrote.1))
+    (subst (λ (l : List ℕ). Sent a c (x ++ y) l) refl (sent_next a b c x y [] first.0 wrote.0), omega (arith, first.1, wrote.1))
 wrote_behind a b c f0 f1 f2 x y (Err e) first wrote =
-    ((wrote.0.0, sent_behind_whole a b c x y wrote.0.0 first.0 wrote.0.1), rose_before f0 f1 f2 first.1 wrote.1, omega (arith, first.1, wrote.2))
+    ((wrote.0.0, sent_next a b c x y wrote.0.0 first.0 wrote.0.1), rose_before f0 f1 f2 first.1 wrote.1, omega (arith, first.1, wrote.2))
 
 -- a failure before the rest
 pub failed_before : (a b : Option (List ℕ)) (f0 f1 : ℕ) (x y : List ℕ)

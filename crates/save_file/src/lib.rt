@@ -3,8 +3,11 @@
 
 mod cursor;
 mod entries;
+mod fault;
 mod lists;
 mod put;
 mod saving;
+mod stage;
 
+pub use fault::LoadFault;
 pub use saving::save;

@@ -1,11 +1,12 @@
 use Rattle.std.proofs.Common.{ℕ, List, [], ◌∷◌, ◌++◌, length, ◌≤◌, ap, subst, ◌∙◌, arith, append_assoc}
 use Rattle.std.specs.Prelude.{codes}
+use Rattle.evaluation.proofs.MemberLaws.{member_list-length}
 use Rattle.value_text.specs.MemberTexts.{printed_rest}
 use Rattle.dictionary.specs.Accepted.{accepted, names_of}
 use Rattle.dictionary.specs.Reading.{slot}
 use Rattle.dictionary.specs.SlotText.{slot_text}
 use Rattle.save_file.specs.Writing.{Wrote}
-use Rattle.save_file.proofs.EntryLaws.{length_behind, members_numbered, members_short, slot_short}
+use Rattle.save_file.proofs.EntryLaws.{length_behind, members_numbered, slot_short}
 use Rattle.save_file.proofs.lists.put_list.Goals as goal
 
 pub print_members-requires-clause-room : goal.print_members-requires-clause-room
@@ -15,7 +16,7 @@ print_members-requires-clause-room g c =
     let short = slot_short (names_of c.args.dict.now.checks) d c.source-accepted.ensures.is_accepted (slot c.args.fact 0) c.requires.collection in
     let front : length c.push.new.self ≤ 5 = omega (arith, c.push.ensures.len, ap length c.new-line.ensures) in
     let line = length_behind c.print_slot.new.out c.push.new.self text 5 140 c.print_slot.ensures front short in
-    omega (arith, line, members_short c.args.members.now c.requires.members)
+    omega (arith, line, member_list-length c.args.members.now c.requires.members)
 
 pub print_members-requires-clause-numbers : goal.print_members-requires-clause-numbers
 print_members-requires-clause-numbers g c = members_numbered c.args.members.now c.requires.members
@@ -27,7 +28,7 @@ push-requires-2 g c =
     let short = slot_short (names_of c.args.dict.now.checks) d c.source-accepted.ensures.is_accepted (slot c.args.fact 0) c.requires.collection in
     let front : length c.push.new.self ≤ 5 = omega (arith, c.push.ensures.len, ap length c.new-line.ensures) in
     let line = length_behind c.print_slot.new.out c.push.new.self text 5 140 c.print_slot.ensures front short in
-    omega (arith, line, members_short c.args.members.now c.requires.members, c.print_members.ensures.short)
+    omega (arith, line, member_list-length c.args.members.now c.requires.members, c.print_members.ensures.short)
 
 pub returns : goal.returns
 returns g c =

@@ -1,0 +1,125 @@
+-- Members that are read word by word, and the number of the next.
+use Rattle.std.proofs.Common.{◌≡◌, ◌≢◌, ◌⊎◌, ℕ, ◌<◌, ◌^◌, Bool, true, false, List, [], ◌∷◌, ◌++◌, length, Option, Some, None, inl, inr, refl, sym, ap, subst, ◌∙◌, append_assoc, cond, eqb, arith}
+use Rattle.std.specs.Prelude.{codes, decimal, option_map}
+use Rattle.std.specs.List.{AllByRecursion}
+use Rattle.std.specs.Str.{all_ascii_digits}
+use Rattle.std.specs.Str.Parse.{digits_value}
+use Rattle.std.proofs.lemmas.Bool.{cases_lt}
+use Rattle.std.proofs.lemmas.Bool.Decides.{nat_tests}
+use Rattle.std.proofs.lemmas.Fmt.{decimal-digits_value}
+use Rattle.std.proofs.lemmas.List.{append-nil}
+use Rattle.std.proofs.lemmas.Option.{some_pair_parts}
+use Rattle.common_lemmas.proofs.Options.{mapped}
+use Rattle.fact_paths.specs.Cuts.{Lacks, cut}
+use Rattle.fact_paths.specs.Paths.{IsMemberNumber, SpellsMemberNumber}
+use Rattle.fact_paths.proofs.CutLaws.{cut_some}
+use Rattle.value_text.specs.MemberTexts.{printed_item, printed_rest}
+use Rattle.value_text.proofs.DigitLemmas.{own}
+use Rattle.save_file.specs.Reading.{IsNextNumber}
+use Rattle.save_file.proofs.KeyedLines.{cons_not_nil, cons_parts}
+use Rattle.save_file.proofs.ListTexts.{item_lacks, same_parts, tail_of}
+
+-- ---- cuts
+
+-- no byte is the one at which a text isn't cut
+pub uncut_lacks : (c : ℕ) (text : List ℕ) → cut c text ≡ None → Lacks c text
+uncut_lacks c [] e = tt
+uncut_lacks c (b ∷ text) e = at (eqb b c) refl e (uncut_lacks c text)
+  where
+    left : (o : Option (List ℕ × List ℕ)) → option_map {T = List ℕ × List ℕ} {U = List ℕ × List ℕ} (λ p. (b ∷ p.0, p.1)) o ≡ None → o ≡ None
+    left None e = refl
+    left (Some p) e = absurd cc
+
+    at : (t : Bool) → eqb b c ≡ t → cond {A = Option (List ℕ × List ℕ)} t (Some ([], text)) (option_map (λ p. (b ∷ p.0, p.1)) (cut c text)) ≡ None → (cut c text ≡ None → Lacks c text) → Lacks c (b ∷ text)
+    at true h e rest = absurd cc
+    at false h e rest = (let other : b ≢ c = grind (arith, nat_tests) in other, rest (left (cut c text) e))
+
+-- nor is one in front of the cut
+pub front_lacks : (c : ℕ) (text front rest : List ℕ) → cut c text ≡ Some (front, rest) → Lacks c front
+front_lacks c [] front rest e = absurd cc
+front_lacks c (b ∷ text) front rest e = at (eqb b c) refl e (front_lacks c text)
+  where
+    at : (t : Bool) → eqb b c ≡ t → cond {A = Option (List ℕ × List ℕ)} t (Some ([], text)) (option_map (λ p. (b ∷ p.0, p.1)) (cut c text)) ≡ Some (front, rest)
+        → ((x y : List ℕ) → cut c text ≡ Some (x, y) → Lacks c x) → Lacks c front
+    at true h e later = subst (Lacks c) (some_pair_parts [] front text rest e).0 tt
+    at false h e later =
+        let found = mapped {A = List ℕ × List ℕ} {B = List ℕ × List ℕ} (λ p. (b ∷ p.0, p.1)) (cut c text) (front, rest) e in
+        let same : front ≡ b ∷ found.0.0 = ap (λ (p : List ℕ × List ℕ). p.0) found.2 in
+        subst (Lacks c) (sym same) (let other : b ≢ c = grind (arith, nat_tests) in other, later found.0.0 found.0.1 found.1)
+
+-- ---- members
+
+pub rest-push : (ms : List ℕ) (m : ℕ) → printed_rest (ms ++ m ∷ []) ≡ printed_rest ms ++ 32 ∷ printed_item m
+rest-push [] m = ap (λ (text : List ℕ). 32 ∷ text) (append-nil (printed_item m))
+rest-push (n ∷ ms) m =
+    ap (λ (text : List ℕ). 32 ∷ (printed_item n ++ text)) (rest-push ms m)
+    ∙ ap (λ (text : List ℕ). 32 ∷ text) (sym (append_assoc (printed_item n) (printed_rest ms) (32 ∷ printed_item m)))
+
+push-all : (ms : List ℕ) (m : ℕ) → AllByRecursion IsMemberNumber ms → IsMemberNumber m → AllByRecursion IsMemberNumber (ms ++ m ∷ [])
+push-all [] m all is = (is, tt)
+push-all (n ∷ ms) m all is = (all.0, push-all ms m all.1 is)
+
+-- the members so far, and what is left of the text behind a blank
+pub record AreSoFar (tail : List ℕ) (found : List ℕ) (rest : List ℕ) : Type 0 where
+  pub text : printed_rest found ++ 32 ∷ rest ≡ tail
+  pub numbers : AllByRecursion IsMemberNumber found
+  pub others : (ms : List ℕ) → AllByRecursion IsMemberNumber ms → printed_rest ms ≡ tail → (ns : List ℕ) × AllByRecursion IsMemberNumber ns × (printed_rest ns ≡ 32 ∷ rest)
+
+pub none_so_far : (text : List ℕ) → AreSoFar (32 ∷ text) [] text
+none_so_far text = record { text = refl; numbers = tt; others = λ ms all e. (ms, all, e) }
+
+-- what is left begins with a member
+first_left : (rest ns : List ℕ) → AllByRecursion IsMemberNumber ns → printed_rest ns ≡ 32 ∷ rest → (n : ℕ) × (more : List ℕ) × IsMemberNumber n × AllByRecursion IsMemberNumber more × (printed_item n ++ printed_rest more ≡ rest)
+first_left rest [] all e = absurd (cons_not_nil 32 rest (sym e))
+first_left rest (n ∷ more) all e = (n, more, all.0, all.1, (cons_parts 32 32 (printed_item n ++ printed_rest more) rest e).1)
+
+-- its first word is the text of that member
+word_is : (rest word behind : List ℕ) → cut 32 rest ≡ Some (word, behind) → (n : ℕ) (more : List ℕ) → Lacks 32 (printed_item n) → printed_item n ++ printed_rest more ≡ rest → (printed_item n ≡ word) × (printed_rest more ≡ 32 ∷ behind)
+word_is rest word behind e n more lacks text =
+    same_parts (printed_item n) word (printed_rest more) (32 ∷ behind) lacks (front_lacks 32 rest word behind e) (tail_of more) (inr (behind, refl)) (text ∙ cut_some 32 rest word behind e)
+
+last_is : (rest : List ℕ) → cut 32 rest ≡ None → (n : ℕ) (more : List ℕ) → Lacks 32 (printed_item n) → printed_item n ++ printed_rest more ≡ rest → printed_item n ≡ rest
+last_is rest e n more lacks text = (same_parts (printed_item n) rest (printed_rest more) [] lacks (uncut_lacks 32 rest e) (tail_of more) (inl refl) (text ∙ sym (append-nil rest))).0
+
+module _ (tail found rest : List ℕ) (so_far : AreSoFar tail found rest) where
+  pub one_more : (word behind : List ℕ) → cut 32 rest ≡ Some (word, behind) → (m : ℕ) → IsMemberNumber m → word ≡ printed_item m → AreSoFar tail (found ++ m ∷ []) behind
+  one_more word behind e m is spelled = record {
+    text =
+        ap (λ (t : List ℕ). t ++ 32 ∷ behind) (rest-push found m)
+        ∙ append_assoc (printed_rest found) (32 ∷ printed_item m) (32 ∷ behind)
+        ∙ ap (λ (t : List ℕ). printed_rest found ++ 32 ∷ (t ++ 32 ∷ behind)) (sym spelled)
+        ∙ ap (λ (t : List ℕ). printed_rest found ++ 32 ∷ t) (sym (cut_some 32 rest word behind e))
+        ∙ so_far.text;
+    numbers = push-all found m so_far.numbers is;
+    others = λ ms all whole.
+        (let left = so_far.others ms all whole in
+        let first = first_left rest left.0 left.1 left.2 in
+        (first.1, first.3, (word_is rest word behind e first.0 first.1 (item_lacks first.0 first.2) first.4).1));
+  }
+
+  pub bad_word : (word behind : List ℕ) → cut 32 rest ≡ Some (word, behind) → ((m : ℕ) → IsMemberNumber m → word ≢ printed_item m) → (ms : List ℕ) → AllByRecursion IsMemberNumber ms → printed_rest ms ≢ tail
+  bad_word word behind e none ms all whole =
+      let left = so_far.others ms all whole in
+      let first = first_left rest left.0 left.1 left.2 in
+      none first.0 first.2 (sym (word_is rest word behind e first.0 first.1 (item_lacks first.0 first.2) first.4).0)
+
+  pub bad_last : cut 32 rest ≡ None → ((m : ℕ) → IsMemberNumber m → rest ≢ printed_item m) → (ms : List ℕ) → AllByRecursion IsMemberNumber ms → printed_rest ms ≢ tail
+  bad_last e none ms all whole =
+      let left = so_far.others ms all whole in
+      let first = first_left rest left.0 left.1 left.2 in
+      none first.0 first.2 (sym (last_is rest e first.0 first.1 (item_lacks first.0 first.2) first.4))
+
+  pub last_one : (m : ℕ) → IsMemberNumber m → rest ≡ printed_item m → (printed_rest (found ++ m ∷ []) ≡ tail) × AllByRecursion IsMemberNumber (found ++ m ∷ [])
+  last_one m is spelled = (rest-push found m ∙ ap (λ (t : List ℕ). printed_rest found ++ 32 ∷ t) (sym spelled) ∙ so_far.text, push-all found m so_far.numbers is)
+
+-- ---- the next number
+
+-- the number behind the last member's
+pub last_next : decimal 1000001 ≡ codes "1000001"
+last_next = decimal-digits_value own (codes "1000001") refl (omega arith) (λ e. absurd (omega (arith, e))) (omega arith)
+
+pub no_next : (digits : List ℕ) → digits ≢ codes "1000001" → ((k : ℕ) → ¬ SpellsMemberNumber digits k) → (k : ℕ) → IsNextNumber k → digits ≢ decimal k
+no_next digits other none k is e = elim (cases_lt k 1000001) [
+  | inl low ↦ none k ((is.0, omega (arith, low)), e)
+  | inr high ↦ other (e ∙ ap decimal (let same : k ≡ 1000001 = omega (arith, high, is.1) in same) ∙ last_next)
+]

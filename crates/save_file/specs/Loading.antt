@@ -1,0 +1,36 @@
+-- Which bytes are a saved text, and at which line others are refused.
+use Rattle.std.specs.Prelude.{◌≡◌, ℕ, ◌+◌, ◌<◌, ◌≤◌, List, ◌++◌, length, take, Result, Ok, Err}
+use Rattle.script_lines.specs.Joined.{joined}
+use Rattle.script_lines.specs.Lines.{lines_of}
+use Rattle.dict_tree.specs.Dictionary.{Dictionary as Tree}
+use Rattle.answers.specs.Answered.{Answered}
+use Rattle.dictionary.specs.Fits.{AnswersFit}
+use Rattle.save_file.specs.SavedText.{saved}
+use Rattle.save_file.specs.declared.fault.LoadFault.{LoadFault}
+use Rattle.save_file.specs.declared.fault.LoadFault.TheVariants.{BadSaved, NoMemory}
+
+-- the bytes are the saved text of answers that fit
+abbrev pub IsSavedText : Tree → List ℕ → Type 0
+IsSavedText d bytes = (a : Answered) × AnswersFit d a × (bytes ≡ saved d a)
+
+-- some saved text begins with them
+abbrev pub BeginsSavedText : Tree → List ℕ → Type 0
+BeginsSavedText d front = (rest : List ℕ) × IsSavedText d (front ++ rest)
+
+-- the first so many lines, each with its newline, the last one too where it has none
+abbrev pub first_lines : ℕ → List ℕ → List ℕ
+first_lines n bytes = joined (take n (lines_of bytes))
+
+-- The bytes are no saved text, and the line of this number is the first with which the lines up to it begin none; where all
+-- lines begin one, only more is wanting, and the number is one past the last line.
+pub record IsRefusedAt (d : Tree) (bytes : List ℕ) (n : ℕ) : Type 0 where
+  pub text : ¬ IsSavedText d bytes
+  pub low : 1 ≤ n
+  pub high : n ≤ length (lines_of bytes) + 1
+  pub before : (k : ℕ) → k < n → BeginsSavedText d (first_lines k bytes)
+  pub here : n ≤ length (lines_of bytes) → ¬ BeginsSavedText d (first_lines n bytes)
+
+-- what a fault says; want of memory says nothing
+abbrev pub RefusesText : Tree → List ℕ → LoadFault → Type 0
+RefusesText d bytes (BadSaved n) = IsRefusedAt d bytes n
+RefusesText d bytes NoMemory = Unit {0}
