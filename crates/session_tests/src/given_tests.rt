@@ -7,7 +7,7 @@ use crate::begun::accepted;
 use crate::given::{FACTS, LIST, given, given_of};
 use answers::{Answers, Edit};
 use dictionary::{Dictionary, FactEngine};
-use fact_values::{Slot, Value};
+use fact_values::{NoMemory, Slot, Value};
 use graph_session::Session;
 use plain_table::PlainTable;
 use std::alloc::Global;
@@ -135,15 +135,20 @@ fn an_engine_goes_on_after_an_edit(rt: HostRuntime) -> Result<(), Fail> {
     Ok(())
 }
 
-fn session_of(alloc: Global, dict: Dictionary) -> Option<Session<PlainTable>> {
-    let answers = given_of(alloc, &dict)?;
-    Session::resume(alloc, dict, answers).ok()
+fn session_of(alloc: Global, dict: Dictionary) -> Result<Session<PlainTable>, &'static str> {
+    let Some(answers) = given_of(alloc, &dict) else {
+        return Err("no memory for the answers");
+    };
+    match Session::resume(alloc, dict, answers) {
+        Ok(session) => Ok(session),
+        Err(NoMemory) => Err("no memory for the session"),
+    }
 }
 
 #[test]
 fn a_session_resumes_with_given_answers(rt: HostRuntime) -> Result<(), Fail> {
     let dict = accepted(rt.alloc(), FACTS)?;
-    let session = session_of(rt.alloc(), dict).ok_or("no memory")?;
+    let session = session_of(rt.alloc(), dict)?;
     assert!(rt; size_by_session(&session) == Some(2));
     Ok(())
 }

@@ -1,8 +1,12 @@
-//! The tests of sessions over the plain engine, and of answers that are given.
+//! The tests of sessions over the plain engine, of answers that are given, of what is missing, and of watches.
 #![tactic(auto)]
 
 #[cfg(test)]
 mod begun;
+#[cfg(test)]
+mod explain_tests;
+#[cfg(test)]
+mod fact_watch_tests;
 #[cfg(test)]
 mod final_result_tests;
 #[cfg(test)]
@@ -11,5 +15,7 @@ mod given;
 mod given_tests;
 #[cfg(test)]
 mod graph_session_tests;
+#[cfg(test)]
+mod relation_tests;
 #[cfg(test)]
 mod run_tests;
