@@ -96,7 +96,7 @@ among d fact g (h ∷ gs) = at (is_mentioned_by d fact h) refl (nat_eq h g) refl
     at false e false i rest = rest
 
 -- what mentions the fact is a fact
-mentions_number : (d : Tree) (fact g : ℕ) → is_mentioned_by d fact g ≡ true → IsNumber d.facts g
+pub mentions_number : (d : Tree) (fact g : ℕ) → is_mentioned_by d fact g ≡ true → IsNumber d.facts g
 mentions_number d fact g h = at (fact_at d.facts g) refl h
   where
     at : (o : _) → fact_at d.facts g ≡ o → list_any (is_of fact) (found_mentions d g o) ≡ true → IsNumber d.facts g

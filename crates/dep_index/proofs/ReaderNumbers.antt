@@ -14,14 +14,7 @@ use Rattle.dictionary.proofs.NumberLaws.{fact_within}
 use Rattle.dep_index.specs.Laws.{ReadersAreFacts}
 use Rattle.dep_index.specs.Readers.{is_mentioned_by, is_reader}
 use Rattle.dep_index.specs.declared.row.ReaderOf.{ReaderOf}
-
--- a fact that isn't there mentions nothing
-mentioning : (d : Tree) (fact reader : ℕ) → is_mentioned_by d fact reader ≡ true → IsNumber d.facts reader
-mentioning d fact reader h = at (fact_at d.facts reader) refl h
-  where
-    at : (o : Option Fact) → fact_at d.facts reader ≡ o → list_any (is_of fact) (found_mentions d reader o) ≡ true → IsNumber d.facts reader
-    at None e k = absurd (cc)
-    at (Some f) e k = let within = fact_within d.facts reader f e in (omega (arith, within.0), within.1)
+use Rattle.dep_index.proofs.ReaderLaws.{mentions_number}
 
 -- what holds of each reader that is found holds of all
 each_found : (P : ReaderOf → Type 0) (rs : List ReaderOf) → ((r : ReaderOf) → IsTrue (list_any (is_reader r.fact) rs) → P r) → All P rs
@@ -31,4 +24,4 @@ each_found P (r ∷ rs) h =
     (each_found P rs (λ t i. h t (or_right (is_reader t.fact r) (list_any (is_reader t.fact) rs) i)))
 
 pub readers_are_facts : ReadersAreFacts
-readers_are_facts d fact rs are = each_found (λ r. IsNumber d.tree.facts r.fact) rs (λ r i. mentioning d.tree fact r.fact (sym (are.mentioning r.fact) ∙ i))
+readers_are_facts d fact rs are = each_found (λ r. IsNumber d.tree.facts r.fact) rs (λ r i. mentions_number d.tree fact r.fact (sym (are.mentioning r.fact) ∙ i))

@@ -27,7 +27,7 @@ four true false true d = refl
 four true false false d = refl
 four false b c d = refl
 
-swapped : (a b c : Bool) → (a && (b && c)) ≡ (b && (a && c))
+pub swapped : (a b c : Bool) → (a && (b && c)) ≡ (b && (a && c))
 swapped true b c = refl
 swapped false true c = refl
 swapped false false c = refl

@@ -25,7 +25,7 @@ blank_value Answer f = map.get-empty nat_cmp f
 blank_value Override f = map.get-empty nat_cmp f
 
 -- no slot has anything
-given_value : (lists : List (ℕ × List ℕ)) (next : ℕ) (a : Answered) → IsOfLists lists next a → (side : Side) (s : Slot) → value_of side a s ≡ None
+pub given_value : (lists : List (ℕ × List ℕ)) (next : ℕ) (a : Answered) → IsOfLists lists next a → (side : Side) (s : Slot) → value_of side a s ≡ None
 given_value lists next a is side s = at (nat_eq s.member 0)
   where
     member : (b : Bool) → and_then (λ (e : Entry). map.get (of_side side e) s.fact) (if b then Some blank else None) ≡ None

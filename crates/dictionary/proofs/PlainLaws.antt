@@ -20,6 +20,7 @@ use Rattle.dictionary.specs.Reading.{Look, Place, slot}
 use Rattle.dictionary.specs.Slots.{stands, stands_of}
 use Rattle.dictionary.proofs.RankLaws.{IsLower, IsLowerMention, lower_uses}
 use Rattle.dictionary.proofs.ReadAgreement.{AgreeOn, AgreeUnder, IsSameAt, slot_same}
+use Rattle.common_lemmas.proofs.Options.{nothing}
 
 -- ---- maps that agree on the facts of lower rank
 
@@ -122,3 +123,7 @@ pub standing_have_results : (d : Accepted) (a : Answered) (s : Slot) → is_some
 unfolding plain table
 standing_have_results d a s =
     standing_have_results_at a (home d.tree s.fact) s.member (rank d s.fact) (fact_at d.tree.facts s.fact) (slot_result d.tree a (table d a (rank d s.fact)) s)
+
+-- what doesn't stand has no result
+pub no_result : (d : Accepted) (a : Answered) (s : Slot) → stands d.tree a s ≡ false → plain d a s ≡ None
+no_result d a s h = nothing (plain d a s) (standing_have_results d a s ∙ h)

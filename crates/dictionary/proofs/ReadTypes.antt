@@ -94,7 +94,7 @@ pub item_target : (d : Tree) (o : Option ℕ) (b : List ℕ) → option_and_then
 item_target d None b e = absurd cc
 item_target d (Some n) b e = item_fact d (fact_at d.facts n) b e
 
-known_is : (n c : ℕ) → known n ≡ Some c → n ≡ c
+pub known_is : (n c : ℕ) → known n ≡ Some c → n ≡ c
 known_is n c e = by (n == 0) e
   where
     by : (b : Bool) → (if b then None else Some n) ≡ Some c → n ≡ c

@@ -64,7 +64,7 @@ set_is side other a s t v there = ap (and_then (λ (e : Entry). map.get (of_side
     at true e = entry_has side other (entry a t.member) s.fact t.fact v (subst (λ m. IsSome (entry a m)) (same_number s.member t.member e) there)
     at false e = never (is_side side other) (nat_eq s.fact t.fact) v (value_of other a t)
 
-same_side : (p q : Side) → is_side p q ≡ true → p ≡ q
+pub same_side : (p q : Side) → is_side p q ≡ true → p ≡ q
 same_side Answer Answer h = refl
 same_side Answer Override h = absurd (cc)
 same_side Override Answer h = absurd (cc)

@@ -1,5 +1,5 @@
 -- The slots that stand, as a list and as a test.
-use Rattle.std.proofs.Common.{◌≡◌, ℕ, zero, suc, ◌<◌, ◌≤◌, Bool, true, false, ◌||◌, nat_eq, IsTrue, if◌then◌else◌, List, [], ◌∷◌, length, map, Option, Some, None, refl, sym, ap, ◌∙◌, arith}
+use Rattle.std.proofs.Common.{◌≡◌, ℕ, zero, suc, ◌<◌, ◌≤◌, Bool, true, false, ◌&&◌, ◌||◌, nat_eq, IsTrue, if◌then◌else◌, List, [], ◌∷◌, length, map, Option, Some, None, refl, sym, ap, ◌∙◌, arith}
 use Rattle.std.specs.List.{list_any}
 use Rattle.std.proofs.lemmas.Bool.{eqb-true}
 use Rattle.std.proofs.lemmas.Bool.Decides.{nat_tests}
@@ -16,11 +16,15 @@ use Rattle.dictionary.specs.Homes.{home}
 use Rattle.dictionary.specs.Reading.{slot}
 use Rattle.dictionary.specs.Slots.{is_member, slot_same, slots_of, slots_up_to, standing, stands, stands_at, stands_of}
 use Rattle.dictionary.proofs.NumberLaws.{fact_there, fact_within}
+use Rattle.common_lemmas.proofs.Numbers.{nat_eq-comm}
 
 -- ---- one slot and another
 
 pub slot_same-itself : (s : Slot) → slot_same s s ≡ true
 slot_same-itself s = grind (arith, nat_tests)
+
+pub slot_same-comm : (s t : Slot) → slot_same s t ≡ slot_same t s
+slot_same-comm s t = ap (λ (b : Bool). b && nat_eq s.member t.member) (nat_eq-comm s.fact t.fact) ∙ ap (λ (b : Bool). nat_eq t.fact s.fact && b) (nat_eq-comm s.member t.member)
 
 pub slot_same-equal : (s t : Slot) → slot_same s t ≡ true → s ≡ t
 slot_same-equal s t h =

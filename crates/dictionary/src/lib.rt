@@ -10,9 +10,11 @@ mod fault;
 mod feed_laws;
 mod final_laws;
 mod fit_laws;
+mod given;
 mod homes;
 mod kept_check;
 mod laws;
+mod place;
 mod plain_laws;
 mod sizes;
 mod slot_laws;
@@ -32,10 +34,12 @@ pub use fault::DictFault;
 pub use feed_laws::{feeding_slots_are_lower, slots_feed_by_mentions};
 pub use final_laws::final_results_stay;
 pub use fit_laws::{allowed_changes_fit, given_lists_fit, the_start_fits};
+pub use given::given_result;
 pub use laws::{
     homes_are_collections, mentions_come_first, slot_texts_spell_paths, the_dictionary_is_one,
     the_fault_is_one, the_test_tells_steady,
 };
+pub use place::Place;
 pub use plain_laws::{
     known_values_are_joined_by_rank, lower_facts_are_enough, plain_evaluation_is_recursive,
     standing_slots_have_results,

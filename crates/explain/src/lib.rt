@@ -5,7 +5,6 @@ mod found;
 mod laws;
 mod listing;
 mod missing_answers;
-mod place;
 mod reads;
 mod slots;
 mod visit;

@@ -12,10 +12,9 @@ ghost use Rattle.dictionary.specs.Reading.{collection, constant_value as value_o
 ghost use Rattle.explain.specs.Ground.{look_of, tree_of};
 ghost use Rattle.explain.specs.Reads.{dependency_reads, node_reads, reads_of_op, source_reads, target_slot};
 
-use crate::place::Place;
 use dict_tree::{Constant, DictSource, PathUse, ReadOp, Targets};
 use dict_types::{constant_value, type_at};
-use dictionary::FactEngine;
+use dictionary::{FactEngine, Place};
 use fact_paths::UsePath;
 use fact_values::{FactType, NoMemory, Slot, Value};
 use graph_session::Session;

@@ -14,11 +14,10 @@ ghost use Rattle.explain.specs.Ground.{env_of, look_of, reads_in, tree_of};
 ghost use Rattle.explain.specs.Missing.{is_unanswered as lacks};
 ghost use Rattle.explain.specs.Reads.{expression_reads, fact_reads, is_incomplete as incomplete, main_reads, placeholder_reads, slot_reads as reads_of};
 
-use crate::place::Place;
 use crate::visit::visit;
 use answers::Answers;
 use dict_tree::{Conditional, Expr, FactSource, TypeText};
-use dictionary::FactEngine;
+use dictionary::{FactEngine, Place};
 use fact_values::{NoMemory, Slot};
 use graph_session::Session;
 use operations::{CaseStep, case_step, taken};

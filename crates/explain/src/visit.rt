@@ -8,10 +8,9 @@ ghost use Rattle.three_state.specs.Results.{filter_of, find_of, members_of, swit
 ghost use Rattle.three_state.specs.declared.res.Res.TheVariants.{Incomplete};
 ghost use Rattle.explain.specs.Ground.{condition_on, condition_reads, env_of, reads_in};
 
-use crate::place::Place;
 use crate::reads::{base_under, read, read_constant, read_source};
 use dict_tree::{Case, Expr, ManyOp, PathUse, PickOp};
-use dictionary::FactEngine;
+use dictionary::{FactEngine, Place};
 use fact_values::{NoMemory, Slot};
 use graph_session::Session;
 use operations::{

@@ -62,7 +62,8 @@ slot_there r a path rest fit h =
 
 -- ---- changes
 
-slot_stands : (d : Tree) (a : Answered) (s : Slot) → IsTrue (stands d a s) → Stands a s.member
+-- of a slot that stands at a member, the member is in a list
+pub slot_stands : (d : Tree) (a : Answered) (s : Slot) → IsTrue (stands d a s) → Stands a s.member
 slot_stands d a s h = at (nat_eq (home d s.fact) 0) (fact_of_standing d a s h).2
   where
     at : (b : Bool) → (if b then nat_eq s.member 0 else is_member a (home d s.fact) s.member) ≡ true → nat_eq s.member 0 ≡ false → IsListed a s.member

@@ -25,7 +25,8 @@ fn is_memory(said: &Result<Reply, Refusal>) -> bool
     }
 }
 
-fn is_want_of_memory(refusal: Refusal) -> bool
+/// Whether the refusal is want of memory, which no rule of a session says.
+pub fn is_want_of_memory(refusal: Refusal) -> bool
     ensures { result ≡ wants_memory refusal }
 {
     match refusal {

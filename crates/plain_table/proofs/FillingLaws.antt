@@ -11,14 +11,9 @@ use Rattle.dictionary.specs.Plain.{IsPlainBelow, at_fact, plain, rank, slot_resu
 use Rattle.dictionary.specs.Reading.{Look, slot}
 use Rattle.dictionary.specs.Slots.{slot_same, stands}
 use Rattle.dictionary.proofs.PlainLaws.{step_over_lower}
-use Rattle.dictionary.proofs.SlotLaws.{slot_same-equal}
+use Rattle.dictionary.proofs.SlotLaws.{slot_same-comm, slot_same-equal}
 use Rattle.plain_table.specs.Filling.{IsFilled}
 use Rattle.plain_table.specs.Table.{with_cell}
-
--- ---- tests of slots
-
-same_turned : (s t : Slot) → slot_same s t ≡ slot_same t s
-same_turned s t = ap (λ x. x && nat_eq s.member t.member) (nat_eq-comm s.fact t.fact) ∙ ap (λ x. nat_eq t.fact s.fact && x) (nat_eq-comm s.member t.member)
 
 -- ---- one slot
 
@@ -38,4 +33,4 @@ put_if d a look s t r false e h = refl
 pub put_is_filled : (d : Accepted) (a : Answered) (before after : Look) (fact m : ℕ) (r : Res) → Some r ≡ plain d a (slot fact m)
     → ((t : Slot) → after t ≡ with_cell before (slot fact m) r t) → IsFilled d a before (λ t. slot_same t (slot fact m)) after
 put_is_filled d a before after fact m r h put t =
-    put t ∙ put_if d a before (slot fact m) t r (slot_same (slot fact m) t) refl h ∙ ap (λ (b : Bool). if b then plain d a t else before t) (same_turned (slot fact m) t)
+    put t ∙ put_if d a before (slot fact m) t r (slot_same (slot fact m) t) refl h ∙ ap (λ (b : Bool). if b then plain d a t else before t) (slot_same-comm (slot fact m) t)

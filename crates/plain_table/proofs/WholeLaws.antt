@@ -23,7 +23,7 @@ use Rattle.dictionary.specs.Reading.{Look}
 use Rattle.dictionary.specs.Slots.{is_member, members_of_home, stands, stands_at, stands_of}
 use Rattle.dictionary.proofs.ByRankLaws.{place_of_fact}
 use Rattle.dictionary.proofs.NumberLaws.{fact_within}
-use Rattle.dictionary.proofs.PlainLaws.{standing_have_results}
+use Rattle.dictionary.proofs.PlainLaws.{no_result, standing_have_results}
 use Rattle.dictionary.proofs.SlotLaws.{fact_of_standing}
 use Rattle.plain_table.specs.Filling.{HasAll, HasFacts, IsFilled, is_at}
 
@@ -44,9 +44,6 @@ pub home_list : (a : Answered) (h : ℕ) (ms : List ℕ) → (h ≡ 0 → ⊥) �
 home_list a h ms apart e =
     ap (λ (o : Option (List ℕ)). unwrap_or o []) e ∙ sym (ap (λ (b : Bool). if b then 0 ∷ [] else list_of a h) (ne_eqb h 0 apart))
 
-fallen : (d : Accepted) (a : Answered) (s : Slot) → stands d.tree a s ≡ false → plain d a s ≡ None
-fallen d a s h = nothing (plain d a s) (standing_have_results d a s ∙ h)
-
 stands_not : (a : Answered) (h m : ℕ) (o : Option Fact) → stands_at a h m ≡ false → stands_of a h m o ≡ false
 stands_not a h m None e = refl
 stands_not a h m (Some f) e = e
@@ -55,7 +52,7 @@ outside : (d : Accepted) (a : Answered) (s : Slot) (n : ℕ) → nat_eq s.fact n
 outside d a s n e out =
     let same : s.fact ≡ n = eqb-true s.fact n e in
     let no : stands_at a (home d.tree s.fact) s.member ≡ false = ap (λ (k : ℕ). stands_at a (home d.tree k) s.member) same ∙ stands_among a (home d.tree n) s.member ∙ out in
-    fallen d a s (stands_not a (home d.tree s.fact) s.member (fact_at d.tree.facts s.fact) no)
+    no_result d a s (stands_not a (home d.tree s.fact) s.member (fact_at d.tree.facts s.fact) no)
 
 -- ---- places in the order
 
@@ -102,7 +99,7 @@ module _ (d : Accepted) (a : Answered) (order : List ℕ) (by_rank : AreByRank d
     where
       at : (b : Bool) → list_any (nat_eq s.fact) (take i order) ≡ b → (c : Bool) → stands d.tree a s ≡ c → look s ≡ plain d a s
       at true e c h = done s ∙ ap (λ (b : Bool). if b then plain d a s else None) e
-      at false e false h = done s ∙ ap (λ (b : Bool). if b then plain d a s else None) e ∙ sym (fallen d a s h)
+      at false e false h = done s ∙ ap (λ (b : Bool). if b then plain d a s else None) e ∙ sym (no_result d a s h)
       at false e true h =
           let here = fact_of_standing d.tree a s h in
           let number = fact_within d.tree.facts s.fact here.0 here.1 in

@@ -9,9 +9,9 @@ ghost use Rattle.three_state.specs.Results.{filter_of, find_of, members_of, swit
 ghost use Rattle.plain_table.specs.Ground.{condition_on, env_of, visits_on, visits_under, work_on};
 
 use crate::ground::Ground;
-use crate::place::Place;
 use crate::reads::{base_under, read, read_constant, read_source};
 use dict_tree::{Case, Expr, ManyOp, PathUse, PickOp};
+use dictionary::Place;
 use fact_values::NoMemory;
 use operations::{
     CaseStep, FilterFold, ManyFold, case_step, found, members, one, source_verdict, taken, two,

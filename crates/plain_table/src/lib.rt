@@ -3,7 +3,6 @@
 
 mod eval;
 mod ground;
-mod place;
 mod plain_table;
 mod reads;
 mod slots;

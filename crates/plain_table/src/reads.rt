@@ -12,10 +12,10 @@ ghost use Rattle.plain_table.specs.Ground.{look_on, tree_of};
 ghost use Rattle.plain_table.specs.Table.{look_of};
 
 use crate::ground::Ground;
-use crate::place::Place;
 use crate::table::Table;
 use dict_tree::{Constant, DictSource, PathUse, ReadOp, Targets};
 use dict_types::{constant_value, type_at};
+use dictionary::Place;
 use fact_paths::UsePath;
 use fact_values::{FactType, NoMemory, Value};
 use operations::{CountFold, ItemStep, SumFold, complete_test, item_step, members, size, taken};

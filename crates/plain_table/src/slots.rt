@@ -1,5 +1,5 @@
 // The result of one slot.
-ghost use Rattle.std.specs.Prelude.{◌≡◌, ◌+◌, ◌≤◌, List, ℕ, option_copied, option_map, IfOk, OnOk, Some};
+ghost use Rattle.std.specs.Prelude.{◌≡◌, ◌+◌, ◌≤◌, option_map, IfOk, OnOk, Some};
 ghost use Rattle.std.specs.FinMap as map;
 ghost use Rattle.answers.specs.Answered.{value_of};
 ghost use Rattle.answers.specs.Meaning.{answered};
@@ -9,67 +9,22 @@ ghost use Rattle.dict_tree.specs.Facts.{conditional_view, fact_view, stated_view
 ghost use Rattle.dict_tree.specs.View.{view};
 ghost use Rattle.evaluation.specs.Over.{over, weight};
 ghost use Rattle.evaluation.specs.Visits.{visits};
-ghost use Rattle.fact_values.specs.Members.{IsMemberList};
-ghost use Rattle.dictionary.specs.Plain.{answer_result, body, conditional_body, given_value, main_result, open_list, or_override, or_placeholder, slot_result};
+ghost use Rattle.dictionary.specs.Plain.{body, conditional_body, main_result, or_override, or_placeholder, slot_result};
 ghost use Rattle.dictionary.specs.Reading.{outermost, slot};
 ghost use Rattle.plain_table.specs.Ground.{env_of, look_on, option_weight, tree_of};
 ghost use Rattle.plain_table.specs.SlotVisits.{body_visits, placeholder_visits, visits_over};
 
 use crate::eval::eval;
 use crate::ground::Ground;
-use crate::place::Place;
 use answers::Answers;
-use dict_tree::{Conditional, Expr, FactSource, TypeText};
-use fact_values::{Members, NoMemory, Slot, Value};
+use dict_tree::{Conditional, Expr, FactSource};
+use dictionary::{Place, given_result};
+use fact_values::{NoMemory, Slot};
 use operations::{CaseStep, case_step, taken};
 use std::alloc::Global;
 use std::sync::ledger::Ledger;
 use steps::Steps;
 use three_state::{Res, down};
-
-// An answer, or none.
-fn answer_result(alloc: Global, answer: Option<&Value>) -> Result<Res, NoMemory>
-    ensures { IfOk result (λ r. r ≡ answer_result (option_copied answer.entry)) }
-{
-    match answer {
-        None => Ok(Res::Incomplete),
-        Some(value) => Ok(Res::Complete(value.copy(alloc)?)),
-    }
-}
-
-// The members of an open collection, or none.
-fn list_result(alloc: Global, list: Option<&[u32]>) -> Result<Res, NoMemory>
-    requires { (ms : List ℕ) → option_copied list ≡ Some ms → IsMemberList ms }
-    ensures { IfOk result (λ r. r ≡ answer_result (open_list (option_copied list.entry))) }
-{
-    match list {
-        None => Ok(Res::Incomplete),
-        Some(list) => {
-            let members = Members::new(Vec::from_slice(alloc, list)?).unwrap();
-            Ok(Res::Complete(Value::Members(members)))
-        }
-    }
-}
-
-// What a person gave to the slot of a writable fact.
-fn given_result(
-    alloc: Global,
-    answers: &Answers,
-    slot: Slot,
-    stated: &TypeText,
-) -> Result<Res, NoMemory>
-    requires well { WellFormed (answered answers.now) }
-    requires from_one { FromOne (answered answers.now) }
-    ensures { IfOk result (λ r. r ≡ answer_result (given_value (stated_view stated.now) (answered answers.now) slot)) }
-{
-    match stated {
-        TypeText::WritableList => list_result(alloc, answers.members(slot.fact)),
-        TypeText::Scalar(_) => answer_result(alloc, answers.value(slot)),
-        TypeText::EnumOf(_) => answer_result(alloc, answers.value(slot)),
-        TypeText::ListOf(_) => answer_result(alloc, answers.value(slot)),
-        TypeText::ItemOf(_) => answer_result(alloc, answers.value(slot)),
-    }
-}
 
 // The value of the conditional where its condition is true, else the main expression. It is a Switch
 // of two cases, and the second condition is a constant, true: both count as nodes.

@@ -2,7 +2,7 @@ use Rattle.std.proofs.Common.{[], sym, ◌∙◌}
 use Rattle.dict_tree.specs.Dictionary.{Dictionary}
 use Rattle.answers.specs.Meaning.{answered}
 use Rattle.dictionary.proofs.ListTypes.{open_members}
-use Rattle.plain_table.proofs.slots.given_result.Goals as goal
+use Rattle.dictionary.proofs.given.given_result.Goals as goal
 
 pub list_result-requires : goal.list_result-requires
 list_result-requires c = λ ms e.
