@@ -1,6 +1,7 @@
 -- The fact that a row writes.
 use Rattle.std.specs.Prelude.{ℕ, List, [], ◌∷◌, map, Option, Some, None}
 use Rattle.fact_paths.specs.Reading.{fact_path_of}
+use Rattle.fact_paths.specs.declared.fact_path.FactPath.{FactPath}
 use Rattle.fact_values.specs.declared.fact_type.FactType.TheVariants as types
 use Rattle.dict_tree.specs.Tree.{Source}
 use Rattle.dict_tree.specs.Reading.{use_of}
@@ -24,17 +25,21 @@ kind_view kinds.Collection = writable_list
 kind_view (kinds.ListOf path) = list_of (use_of path.now)
 kind_view (kinds.ItemOf path) = item_of (use_of path.now)
 
--- a fact with this path and type, these limits, and this expression where it follows from others
-abbrev pub fact : List ℕ → Stated → List Bound → Option Source → Fact
-fact path stated limits main = record {
-  path_text = path;
-  path = fact_path_of path;
+-- a fact with this text of its path and what that spells, this type, these limits, and this expression where it follows from others
+abbrev pub fact_with : List ℕ → Option FactPath → Stated → List Bound → Option Source → Fact
+fact_with text path stated limits main = record {
+  path_text = text;
+  path = path;
   stated = stated;
   limits = limits;
   main = main;
   conditional = None;
   placeholder = None;
 }
+
+-- a fact with this path
+abbrev pub fact : List ℕ → Stated → List Bound → Option Source → Fact
+fact path stated limits main = fact_with path (fact_path_of path) stated limits main
 
 -- a person answers it
 abbrev pub asked : List ℕ → Stated → Fact

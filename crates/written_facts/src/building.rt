@@ -1,14 +1,14 @@
 // Makes expressions of forms.
 ghost use Rattle.std.specs.Prelude.{◌≡◌, IfOk, string_bytes};
 ghost use Rattle.dict_tree.specs.Reading.{use_of};
-ghost use Rattle.dict_tree.specs.Tree.{one, pick, two};
-ghost use Rattle.dict_tree.specs.View.{cases_view, literal_of, trees_view, view};
+ghost use Rattle.dict_tree.specs.Tree.{pick, two};
+ghost use Rattle.dict_tree.specs.View.{box_view, case_view, cases_view, literal_of, trees_view, view};
 ghost use Rattle.written_facts.specs.Figures.{figures_view};
-ghost use Rattle.written_facts.specs.Forms.{fixed_view, form_view, forms_view, whens_view};
+ghost use Rattle.written_facts.specs.Forms.{fixed_view, form_view, forms_view, when_view, whens_view};
 
 use crate::figure::{Figure, text_of};
 use crate::form::{Fixed, Form, When};
-use dict_tree::{Case, Constant, Expr, OneOp, PickOp, TwoOp, read_use};
+use dict_tree::{Case, Constant, Expr, PickOp, TwoOp, read_use};
 use fact_values::NoMemory;
 use std::alloc::Global;
 
@@ -40,28 +40,27 @@ fn constant(alloc: Global, figures: &[Figure<'_>], fixed: &Fixed<'_>) -> Result<
 }
 
 #[tactic(auto, using(dict_tree::proofs::Views::views))]
-fn one(alloc: Global, op: OneOp, operand: Expr) -> Result<Expr, NoMemory>
-    ensures { IfOk result (λ e. view e ≡ one op (view operand)) }
-{
-    Ok(Expr::One(op, Box::new(alloc, operand)?))
-}
-
-#[tactic(auto, using(dict_tree::proofs::Views::views))]
-fn two(alloc: Global, op: TwoOp, left: Expr, right: Expr) -> Result<Expr, NoMemory>
-    ensures { IfOk result (λ e. view e ≡ two op (view left) (view right)) }
-{
-    let left = Box::new(alloc, left)?;
-    let right = Box::new(alloc, right)?;
-    Ok(Expr::Two(op, left, right))
-}
-
-#[tactic(auto, using(dict_tree::proofs::Views::views))]
-fn pick(alloc: Global, op: PickOp, path: &str, test: Expr) -> Result<Expr, NoMemory>
-    ensures { IfOk result (λ e. view e ≡ pick op (use_of path.now) (view test)) }
+fn pick(alloc: Global, op: PickOp, path: &str, test: Box<Expr>) -> Result<Expr, NoMemory>
+    ensures { IfOk result (λ e. view e ≡ pick op (use_of path.now) (box_view test)) }
 {
     let path = read_use(alloc, path)?;
-    let test = Box::new(alloc, test)?;
     Ok(Expr::Pick(op, path, test))
+}
+
+#[tactic(auto, using(dict_tree::proofs::Views::views))]
+fn two(op: TwoOp, left: Box<Expr>, right: Box<Expr>) -> Expr
+    ensures { view result ≡ two op (box_view left) (box_view right) }
+{
+    Expr::Two(op, left, right)
+}
+
+fn case_of(test: Box<Expr>, outcome: Box<Expr>) -> Case
+    ensures { case_view result ≡ (box_view test, box_view outcome) }
+{
+    Case {
+        test: Box::into_inner(test),
+        outcome: Box::into_inner(outcome),
+    }
 }
 
 /// The expression that the form writes, with the figures of these names.
@@ -75,14 +74,27 @@ pub fn build(alloc: Global, figures: &[Figure<'_>], form: &Form<'_>) -> Result<E
         Form::Read(op, path) => Ok(Expr::Read(*op, read_use(alloc, path)?)),
         Form::Switch(cases) => Ok(Expr::Switch(build_cases(alloc, figures, cases)?)),
         Form::Many(op, operands) => Ok(Expr::Many(*op, build_all(alloc, figures, operands)?)),
-        Form::One(op, operand) => one(alloc, *op, build(alloc, figures, operand)?),
+        Form::One(op, operand) => Ok(Expr::One(*op, build_boxed(alloc, figures, operand)?)),
         Form::Two(op, left, right) => {
-            let left = build(alloc, figures, left)?;
-            let right = build(alloc, figures, right)?;
-            two(alloc, *op, left, right)
+            let left = build_boxed(alloc, figures, left)?;
+            let right = build_boxed(alloc, figures, right)?;
+            Ok(two(*op, left, right))
         }
-        Form::Pick(op, path, test) => pick(alloc, *op, path, build(alloc, figures, test)?),
+        Form::Pick(op, path, test) => pick(alloc, *op, path, build_boxed(alloc, figures, test)?),
     }
+}
+
+// The expression in a place of its own.
+#[cycle(build)]
+fn build_boxed(
+    alloc: Global,
+    figures: &[Figure<'_>],
+    form: &Form<'_>,
+) -> Result<Box<Expr>, NoMemory>
+    ensures { IfOk result (λ b. box_view b ≡ form_view (figures_view figures.now) form.now) }
+{
+    let expr = build(alloc, figures, form)?;
+    Ok(Box::new(alloc, expr)?)
 }
 
 #[cycle(build)]
@@ -101,6 +113,15 @@ fn build_all(
 }
 
 #[cycle(build)]
+fn build_case(alloc: Global, figures: &[Figure<'_>], case: &When<'_>) -> Result<Case, NoMemory>
+    ensures { IfOk result (λ c. case_view c ≡ when_view (figures_view figures.now) case.now) }
+{
+    let test = build_boxed(alloc, figures, &case.0)?;
+    let outcome = build_boxed(alloc, figures, &case.1)?;
+    Ok(case_of(test, outcome))
+}
+
+#[cycle(build)]
 fn build_cases(
     alloc: Global,
     figures: &[Figure<'_>],
@@ -110,9 +131,7 @@ fn build_cases(
 {
     let mut all = Vec::new(alloc);
     for case in cases {
-        let test = build(alloc, figures, &case.0)?;
-        let outcome = build(alloc, figures, &case.1)?;
-        all.push(Case { test, outcome })?;
+        all.push(build_case(alloc, figures, case)?)?;
     }
     Ok(all)
 }

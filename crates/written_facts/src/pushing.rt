@@ -9,9 +9,14 @@ ghost use Rattle.written_facts.specs.Taking.{takes, takes_all, with_facts};
 use crate::figure::Figure;
 use crate::row::Row;
 use crate::stating::fact_of;
-use dict_tree::{DictSource, FactSource};
+use dict_tree::{DictSource, FactSource, Unpushed};
 use fact_values::NoMemory;
 use std::alloc::Global;
+
+// What comes back is let go.
+fn no_memory(_unpushed: Unpushed) -> NoMemory {
+    NoMemory
+}
 
 fn push(source: &mut DictSource, fact: FactSource) -> Result<(), NoMemory>
     requires { IsTrue (takes (dictionary_view source.old) (fact_view fact)) }
@@ -19,7 +24,7 @@ fn push(source: &mut DictSource, fact: FactSource) -> Result<(), NoMemory>
 {
     match source.push(fact) {
         Ok(()) => Ok(()),
-        Err(_) => Err(NoMemory),
+        Err(unpushed) => Err(no_memory(unpushed)),
     }
 }
 

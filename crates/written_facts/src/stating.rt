@@ -4,11 +4,13 @@ ghost use Rattle.fact_paths.specs.Reading.{fact_path_of};
 ghost use Rattle.dict_tree.specs.Facts.{fact_view, least, limit_view, stated_view};
 ghost use Rattle.dict_tree.specs.View.{view};
 ghost use Rattle.written_facts.specs.Figures.{figures_view};
-ghost use Rattle.written_facts.specs.Rows.{fact as written, kind_view, row_view};
+ghost use Rattle.written_facts.specs.Forms.{form_view};
+ghost use Rattle.written_facts.specs.Rows.{asked_from as from, derived as follows, fact_with, kind_view, row_view};
 ghost use Rattle.written_facts.specs.Taking.{is_named};
 
 use crate::building::build;
 use crate::figure::Figure;
+use crate::form::Form;
 use crate::naming::named;
 use crate::row::{Kind, Row};
 use dict_tree::{Expr, FactSource, LimitText, TypeText, read_use};
@@ -54,26 +56,71 @@ fn at_least(alloc: Global, text: &str) -> Result<Vec<LimitText>, NoMemory>
     Ok(limits)
 }
 
-fn fact(
-    alloc: Global,
-    path: &str,
-    kind: &Kind<'_>,
-    limits: Vec<LimitText>,
-    main: Option<Expr>,
-) -> Result<FactSource, NoMemory>
+// What each fact has: its path, with the text of it, and its type.
+#[derive(Drop)]
+struct Head {
+    path_text: String,
+    path: Option<FactPath>,
+    stated: TypeText,
+}
+
+fn start(alloc: Global, path: &str, kind: &Kind<'_>) -> Result<Head, NoMemory>
     requires { IsTrue (is_named (kind_view kind.now)) }
-    ensures { IfOk result (λ f. fact_view f ≡ written path.now (kind_view kind.now) (map limit_view limits.items) (option_map view main)) }
+    ensures text { IfOk result (λ h. string_bytes h.path_text ≡ path.now) }
+    ensures path { IfOk result (λ h. h.path ≡ fact_path_of path.now) }
+    ensures stated { IfOk result (λ h. stated_view h.stated ≡ kind_view kind.now) }
 {
+    let path_text = String::from_str(alloc, path)?;
     let stated = state(alloc, kind)?;
-    Ok(FactSource {
-        path_text: String::from_str(alloc, path)?,
-        path: path_of(alloc, path)?,
+    let path = path_of(alloc, path)?;
+    Ok(Head {
+        path_text,
+        path,
         stated,
+    })
+}
+
+fn fact(head: Head, limits: Vec<LimitText>, main: Option<Expr>) -> FactSource
+    ensures { fact_view result ≡ fact_with (string_bytes head.path_text) head.path (stated_view head.stated) (map limit_view limits.items) (option_map view main) }
+{
+    FactSource {
+        path_text: head.path_text,
+        path: head.path,
+        stated: head.stated,
         limits,
         main,
         conditional: None,
         placeholder: None,
-    })
+    }
+}
+
+fn asked_from(
+    alloc: Global,
+    path: &str,
+    kind: &Kind<'_>,
+    text: &str,
+) -> Result<FactSource, NoMemory>
+    requires { IsTrue (is_named (kind_view kind.now)) }
+    ensures { IfOk result (λ f. fact_view f ≡ from path.now (kind_view kind.now) text.now) }
+{
+    let limits = at_least(alloc, text)?;
+    let head = start(alloc, path, kind)?;
+    Ok(fact(head, limits, None))
+}
+
+fn derived(
+    alloc: Global,
+    figures: &[Figure<'_>],
+    path: &str,
+    kind: &Kind<'_>,
+    form: &Form<'_>,
+) -> Result<FactSource, NoMemory>
+    requires { IsTrue (is_named (kind_view kind.now)) }
+    ensures { IfOk result (λ f. fact_view f ≡ follows path.now (kind_view kind.now) (form_view (figures_view figures.now) form.now)) }
+{
+    let head = start(alloc, path, kind)?;
+    let main = build(alloc, figures, form)?;
+    Ok(fact(head, Vec::new(alloc), Some(main)))
 }
 
 /// The fact that the row writes, with the figures of these names.
@@ -82,13 +129,8 @@ pub fn fact_of(alloc: Global, figures: &[Figure<'_>], row: &Row<'_>) -> Result<F
     ensures { IfOk result (λ f. fact_view f ≡ row_view (figures_view figures.now) row.now) }
 {
     match row {
-        Row::Asked(path, kind) => fact(alloc, path, kind, Vec::new(alloc), None),
-        Row::AskedFrom(path, kind, text) => {
-            fact(alloc, path, kind, at_least(alloc, text)?, None)
-        }
-        Row::Derived(path, kind, form) => {
-            let main = build(alloc, figures, form)?;
-            fact(alloc, path, kind, Vec::new(alloc), Some(main))
-        }
+        Row::Asked(path, kind) => Ok(fact(start(alloc, path, kind)?, Vec::new(alloc), None)),
+        Row::AskedFrom(path, kind, text) => asked_from(alloc, path, kind, text),
+        Row::Derived(path, kind, form) => derived(alloc, figures, path, kind, form),
     }
 }
