@@ -17,7 +17,8 @@ use Rattle.node_eval.specs.Reading.{entered, node_env}
 use Rattle.node_eval.specs.declared.place.Place.{Place as NodePlace}
 use Rattle.node_compile.specs.Compiling.{names}
 use Rattle.node_compile.proofs.ReadLaws.{list_by_path, read_by_path, standing}
-use Rattle.node_compile.proofs.TargetLaws.{known_is, unsuited}
+use Rattle.node_compile.proofs.TargetLaws.{unsuited}
+use Rattle.dictionary.proofs.ReadTypes.{known_is}
 
 module _ (d : Tree) (fact : ℕ) (look : Look) where
   -- the result and the weight

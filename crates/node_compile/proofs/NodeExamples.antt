@@ -1,5 +1,5 @@
 -- The nodes of expressions in a small dictionary, by example.
-use Rattle.std.proofs.Common.{◌≡◌, true, pos, [], ◌∷◌, Some, None, Option, refl}
+use Rattle.std.proofs.Common.{◌≡◌, ℕ, true, pos, [], ◌∷◌, Some, None, Option, refl}
 use Rattle.std.specs.Prelude.{codes}
 use Rattle.fact_paths.specs.Paths.{fact_path_text, use_path_text}
 use Rattle.fact_paths.specs.declared.fact_path.FactPath.{FactPath}
@@ -9,7 +9,7 @@ use Rattle.fact_paths.specs.declared.use_path.UsePath.TheVariants as uses
 use Rattle.fact_values.specs.declared.fact_type.FactType.TheVariants as types
 use Rattle.fact_values.specs.declared.value.Value.TheVariants.{Boolean, Int}
 use Rattle.dict_tree.specs.declared.operators.ManyOp.TheVariants.{All}
-use Rattle.dict_tree.specs.declared.operators.PickOp.TheVariants.{Find}
+use Rattle.dict_tree.specs.declared.operators.PickOp.TheVariants.{Filter, Find}
 use Rattle.dict_tree.specs.declared.operators.ReadOp.{ReadOp}
 use Rattle.dict_tree.specs.declared.operators.ReadOp.TheVariants as reads
 use Rattle.dict_tree.specs.Tree.{Source, SourceCase, Use, a_case, literal, literal_int, many, no_cases, no_trees, pick, read, switch, tree}
@@ -37,7 +37,8 @@ used path = record { text = use_path_text path; path = Some path }
 abbrev by : ReadOp → UsePath → Source
 by op path = read (op, used path)
 
--- a collection with three fields, an item of it, the same as a field, a global number, and a fact with a conditional
+-- a collection with three fields, an item of it, the same as a field, a global number, a fact with a conditional, and another
+-- collection with a field
 abbrev either : Fact
 either = fact (facts.Global (codes "either")) (scalar types.Int) (Some (by reads.Dependency (uses.Global (codes "x")))) (Some (by reads.IsComplete (uses.Global (codes "x")), literal (literal_int (codes "2"))))
 
@@ -53,6 +54,8 @@ dictionary = record {
       ∷ fact (facts.Member (codes "c") (codes "own")) (item_of (used (uses.Global (codes "c")))) None None
       ∷ fact (facts.Global (codes "x")) (scalar types.Int) None None
       ∷ either
+      ∷ fact (facts.Global (codes "d")) writable_list None None
+      ∷ fact (facts.Member (codes "d") (codes "ok")) (scalar types.Boolean) None None
       ∷ [];
 }
 
@@ -64,19 +67,32 @@ condition =
     (tree (by reads.Dependency (uses.Sibling (codes "ok")))
     (tree (by reads.IsComplete (uses.Global (codes "x")))
     (tree (by reads.IsComplete (uses.Through (codes "i") (codes "n")))
-    (tree (by reads.IsComplete (uses.SiblingThrough (codes "own") (codes "n"))) no_trees)))))
+    (tree (by reads.IsComplete (uses.SiblingThrough (codes "own") (codes "n")))
+    (tree (by reads.Count (uses.Each (codes "c") (codes "ok"))) no_trees))))))
 
-abbrev condition_node : NodeTree
-condition_node =
+-- where the field of the condition's member is the fact with this number
+abbrev condition_node : ℕ → NodeTree
+condition_node ok =
     many All
-    (tree (read (Dependency, Inner 4))
+    (tree (read (Dependency, Inner ok))
     (tree (read (Dependency, Same 4))
     (tree (read (IsComplete, Global 7))
     (tree (read (IsComplete, Through 5 2))
-    (tree (read (IsComplete, SameThrough 6 2)) no_trees)))))
+    (tree (read (IsComplete, SameThrough 6 2))
+    (tree (read (Count, Each 1 4)) no_trees))))))
 
-under_a_condition : node_tree dictionary 6 (pick Find (used (uses.Global (codes "c"))) condition) ≡ pick Find (Global 1) condition_node
+under_a_condition : node_tree dictionary 6 (pick Find (used (uses.Global (codes "c"))) condition) ≡ pick Find (Global 1) (condition_node 4)
 under_a_condition = refl
+
+-- behind a condition that stands in another, names are again those of the outer one
+abbrev outer_condition : Source
+outer_condition =
+    many All
+    (tree (pick Filter (used (uses.Global (codes "d"))) condition)
+    (tree (by reads.Dependency (uses.Inner (codes "ok"))) no_trees))
+
+under_conditions_in_each_other : node_tree dictionary 6 (pick Filter (used (uses.Global (codes "c"))) outer_condition) ≡ pick Filter (Global 1) (many All (tree (pick Filter (Global 9) (condition_node 10)) (tree (read (Dependency, Inner 4)) no_trees)))
+under_conditions_in_each_other = refl
 
 over_fields : (node_tree dictionary 7 (by reads.CollectionSum (uses.Each (codes "c") (codes "n"))) ≡ read (SumInt, Each 1 2)) × (node_tree dictionary 7 (by reads.CollectionSum (uses.Each (codes "c") (codes "m"))) ≡ read (SumDollar, Each 1 3)) × (node_tree dictionary 7 (by reads.Count (uses.Each (codes "c") (codes "ok"))) ≡ read (Count, Each 1 4))
 over_fields = (refl, refl, refl)

@@ -30,13 +30,13 @@ use Rattle.evaluation.specs.Resolving.{resolved, resolved_all, resolved_cases}
 use Rattle.common_lemmas.proofs.Bools.{or_neither}
 use Rattle.dictionary.specs.Reading.{constant_value}
 use Rattle.dictionary.proofs.PlacedReads.{placed_types}
-use Rattle.dictionary.proofs.ReadTypes.{item_target, list_target}
+use Rattle.dictionary.proofs.ReadTypes.{item_target, known_is, list_target}
 use Rattle.node_eval.specs.NodeTypes.{FactTypes, behind, collection_base, constant_type, counted, dependency_type, item_base, node_types, read_type, source_base}
 use Rattle.node_eval.specs.NodeTypes as nodes
 use Rattle.node_eval.specs.declared.node.NodeRead.TheVariants as node_read
 use Rattle.node_eval.specs.declared.node.Reader.{Reader}
 use Rattle.node_compile.specs.Compiling.{names, number, read_of, reader, reader_of, reading, sum_read}
-use Rattle.node_compile.proofs.TargetLaws.{condition_lists, known_is, target_of_type, unsuited}
+use Rattle.node_compile.proofs.TargetLaws.{condition_lists, target_of_type, unsuited}
 
 -- ---- constants
 

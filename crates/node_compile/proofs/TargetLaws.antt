@@ -14,7 +14,7 @@ use Rattle.dict_tree.proofs.TargetsLaws.{targets-AreTargets}
 use Rattle.dict_types.specs.FactTyping.{known, last_target, target_type}
 use Rattle.dict_types.specs.StatedTypes.{base_number, type_at}
 use Rattle.dictionary.proofs.PlacedReads.{suited, suits}
-use Rattle.dictionary.proofs.ReadTypes.{list_target}
+use Rattle.dictionary.proofs.ReadTypes.{known_is, list_target}
 
 -- ---- targets that are there
 
@@ -67,13 +67,6 @@ unsuited op (Some path) t u e = by (suits op path) e
     by false h = absurd cc
 
 -- ---- collections
-
-pub known_is : (n c : ℕ) → known n ≡ Some c → n ≡ c
-known_is n c e = by (n == 0) e
-  where
-    by : (b : Bool) → (if b then None else Some n) ≡ Some c → n ≡ c
-    by true h = absurd cc
-    by false h = cc
 
 -- a fact that lists the members of a base which is known
 pub record Lists (d : Tree) (o : Option ℕ) (c : ℕ) : Type 0 where

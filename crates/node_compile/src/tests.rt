@@ -1,11 +1,254 @@
-//! The readers of a dictionary with each form of use path, and two sums.
-use crate::{Compiled, compile};
-use dictionary::{Dictionary, accept};
-use node_eval::{Node, NodeRead, Reader};
-use std::alloc::Global;
-use text_checks::CheckTable;
+//! The nodes of small dictionaries, each compared with a text that was worked out by hand.
+ghost use Rattle.std.specs.Prelude.{◌≡◌};
+ghost use Rattle.text_checks.specs.Checks.{check_says};
 
-const TEXT: &str = r#"{"version":"2","facts":[
+use crate::{Compiled, compile};
+use dict_tree::{ManyOp, OneOp, PickOp, TwoOp};
+use dictionary::accept;
+use fact_paths::Name;
+use fact_values::{NoMemory, Value};
+use node_eval::{Node, NodeCase, NodeRead, Reader};
+use std::alloc::Global;
+use text_checks::{CheckTable, nine_digits};
+
+// ---- a node as a text: that of its expression, with the numbers of facts for names, and amounts in cents
+
+fn write_value(text: &mut String, value: &Value) -> Result<(), NoMemory> {
+    match value {
+        Value::Boolean(b) => write!(text, "{b}")?,
+        Value::Int(n) => write!(text, "{}", n.get())?,
+        Value::Dollar(amount) => write!(text, "{}c", amount.cents())?,
+        Value::Rational(q) => write!(text, "{}:{}", q.num(), q.den())?,
+        Value::Day(day) => write!(text, "day {}", day.number())?,
+        Value::Text(of) => text.push_str(of.as_str())?,
+        Value::Choice(list, place) => write!(text, "option {list} {place}")?,
+        _ => text.push_str("?")?,
+    }
+    Ok(())
+}
+
+fn write_reader(text: &mut String, reader: Reader) -> Result<(), NoMemory> {
+    match reader {
+        Reader::Global(n) => write!(text, "/{n}")?,
+        Reader::Same(n) => write!(text, "../{n}")?,
+        Reader::Inner(n) => write!(text, "{n}")?,
+        Reader::Each(n, m) => write!(text, "/{n}/*/{m}")?,
+        Reader::Through(n, m) => write!(text, "/{n}/{m}")?,
+        Reader::SameThrough(n, m) => write!(text, "../{n}/{m}")?,
+    }
+    Ok(())
+}
+
+fn read_name(read: NodeRead) -> &'static str {
+    match read {
+        NodeRead::Dependency => "Dependency ",
+        NodeRead::IsComplete => "IsComplete ",
+        NodeRead::CollectionSize => "CollectionSize ",
+        NodeRead::SumInt => "SumInt ",
+        NodeRead::SumDollar => "SumDollar ",
+        NodeRead::Count => "Count ",
+    }
+}
+
+fn many_name(op: ManyOp) -> &'static str {
+    match op {
+        ManyOp::All => "All",
+        ManyOp::Any => "Any",
+        ManyOp::Add => "Add",
+        ManyOp::Subtract => "Subtract",
+        ManyOp::GreaterOf => "GreaterOf",
+        ManyOp::LesserOf => "LesserOf",
+    }
+}
+
+fn one_name(op: OneOp) -> &'static str {
+    match op {
+        OneOp::Not => "Not ",
+        OneOp::Round => "Round ",
+        OneOp::YearOf => "YearOf ",
+    }
+}
+
+fn two_name(op: TwoOp) -> &'static str {
+    match op {
+        TwoOp::Multiply => "Multiply ",
+        TwoOp::Divide => "Divide ",
+        TwoOp::AddDays => "AddDays ",
+        TwoOp::Equal => "Equal ",
+        TwoOp::NotEqual => "NotEqual ",
+        TwoOp::GreaterThan => "GreaterThan ",
+        TwoOp::LessThan => "LessThan ",
+        TwoOp::GreaterThanOrEqual => "GreaterThanOrEqual ",
+        TwoOp::LessThanOrEqual => "LessThanOrEqual ",
+    }
+}
+
+fn pick_name(op: PickOp) -> &'static str {
+    match op {
+        PickOp::Filter => "Filter ",
+        PickOp::Find => "Find ",
+    }
+}
+
+#[cycle(writing)]
+fn write_node(text: &mut String, node: &Node) -> Result<(), NoMemory> {
+    match node {
+        Node::Const(value) => write_value(text, value),
+        Node::Read(read, reader) => {
+            text.push_str(read_name(*read))?;
+            write_reader(text, *reader)
+        }
+        Node::Switch(cases) => write_cases(text, cases.as_slice()),
+        Node::Many(op, operands) => {
+            text.push_str(many_name(*op))?;
+            write_operands(text, operands.as_slice())
+        }
+        Node::One(op, operand) => {
+            text.push_str(one_name(*op))?;
+            write_operand(text, operand)
+        }
+        Node::Two(op, left, right) => {
+            text.push_str(two_name(*op))?;
+            write_operand(text, left)?;
+            text.push_str(" ")?;
+            write_operand(text, right)
+        }
+        Node::Pick(op, list, test) => {
+            text.push_str(pick_name(*op))?;
+            write_reader(text, *list)?;
+            text.push_str(" ")?;
+            write_operand(text, test)
+        }
+    }
+}
+
+#[cycle(writing)]
+fn write_operand(text: &mut String, operand: &Node) -> Result<(), NoMemory> {
+    text.push_str("[")?;
+    write_node(text, operand)?;
+    text.push_str("]")?;
+    Ok(())
+}
+
+#[cycle(writing)]
+fn write_operands(text: &mut String, operands: &[Node]) -> Result<(), NoMemory> {
+    for operand in operands {
+        text.push_str(" ")?;
+        write_operand(text, operand)?;
+    }
+    Ok(())
+}
+
+#[cycle(writing)]
+fn write_cases(text: &mut String, cases: &[NodeCase]) -> Result<(), NoMemory> {
+    text.push_str("Switch")?;
+    for case in cases {
+        text.push_str(" ")?;
+        write_operand(text, &case.test)?;
+        write_operand(text, &case.outcome)?;
+    }
+    Ok(())
+}
+
+// ---- all nodes of a dictionary, each in a line of its own
+
+fn write_line(
+    text: &mut String,
+    fact: u32,
+    word: &str,
+    node: Option<&Node>,
+) -> Result<(), NoMemory> {
+    match node {
+        None => Ok(()),
+        Some(node) => {
+            write!(text, "{fact}{word} ")?;
+            write_node(text, node)?;
+            text.push_str("\n")?;
+            Ok(())
+        }
+    }
+}
+
+fn write_all(text: &mut String, all: &Compiled, count: u32) -> Result<(), NoMemory> {
+    for place in 0..count {
+        let fact = place + 1;
+        write_line(text, fact, "", all.main(fact))?;
+        write_line(text, fact, " else", all.placeholder(fact))?;
+    }
+    Ok(())
+}
+
+// A table with the check `nine-digits`; none for want of memory.
+fn checks(alloc: Global) -> Option<CheckTable> {
+    let check = Box::new(
+        alloc,
+        |text: &str| -> bool
+            ensures { result ≡ check_says 2 text.now }
+        { nine_digits(text) },
+    );
+    let mut table = CheckTable::new(alloc);
+    table
+        .add(Name::read(alloc, "nine-digits").ok()?, 2, check.ok()?)
+        .ok()?;
+    Some(table)
+}
+
+// The nodes of a dictionary's facts, and how many facts there are.
+fn compiled(alloc: Global, dictionary: &str) -> Option<(Compiled, u32)> {
+    let dict = accept(alloc, dictionary.as_bytes(), &checks(alloc)?).ok()?;
+    Some((compile(alloc, &dict).ok()?, dict.fact_count()))
+}
+
+fn text_of(alloc: Global, dictionary: &str) -> Option<String> {
+    let (all, count) = compiled(alloc, dictionary)?;
+    let mut text = String::new(alloc);
+    write_all(&mut text, &all, count).ok()?;
+    Some(text)
+}
+
+fn has_nodes(alloc: Global, dictionary: &str, nodes: &str) -> bool {
+    match text_of(alloc, dictionary) {
+        Some(text) => text.as_str() == nodes,
+        None => false,
+    }
+}
+
+// ---- the dictionaries, and their nodes as they were worked out by hand
+
+const SUM: &str =
+    r#"{"version":"1","facts":[{"path":"/a","writable":"Dollar"},{"path":"/b","writable":"Dollar"},{"path":"/s","derived":"Dollar","is":["Add",["Dependency","/a"],["Dependency","/b"]]}]}"#;
+
+const SUM_OVER_A_PLACEHOLDER: &str =
+    r#"{"version":"1","facts":[{"path":"/a","writable":"Dollar"},{"path":"/b","writable":"Dollar","placeholder":["Dollar","0"]},{"path":"/s","derived":"Dollar","is":["Add",["Dependency","/a"],["Dependency","/b"]]}]}"#;
+
+const CONDITIONS: &str =
+    r#"{"version":"1","facts":[{"path":"/p","writable":"Boolean"},{"path":"/q","writable":"Boolean"},{"path":"/r","derived":"Boolean","is":["All",["Dependency","/p"],["Dependency","/q"]]},{"path":"/w","derived":"Int","is":["Switch",["Case",["Dependency","/p"],["Int","1"]],["Case",["Dependency","/q"],["Int","2"]]]},{"path":"/i","derived":"Boolean","is":["IsComplete","/p"]}]}"#;
+
+const AMOUNTS: &str =
+    r#"{"version":"1","facts":[{"path":"/p","writable":"Boolean"},{"path":"/d1","derived":"Dollar","is":["Add",["Dollar","9999999999999.99"],["Dollar","0.01"],["Dollar","-0.01"]]},{"path":"/d2","derived":"Dollar","is":["Add",["Dollar","9999999999999.99"],["Dollar","0.01"]]},{"path":"/d3","derived":"Dollar","is":["Multiply",["Dollar","100.05"],["Rational","1/2"]]},{"path":"/d4","derived":"Dollar","is":["Divide",["Dollar","1"],["Int","0"]]},{"path":"/d5","derived":"Boolean","is":["Any",["Equal",["Dependency","/d4"],["Dollar","0"]],["Dependency","/p"]]}]}"#;
+
+const MEMBERS: &str =
+    r#"{"version":"1","facts":[{"path":"/c","writable":"Collection"},{"path":"/c/*/k","writable":"Boolean"},{"path":"/c/*/v","writable":"Int"},{"path":"/l","derived":"Collection(/c)","is":["Filter","/c",["Dependency","k"]]},{"path":"/f","derived":"Item(/c)","is":["Find","/c",["Dependency","k"]]},{"path":"/t","derived":"Int","is":["CollectionSum","/l/*/v"]},{"path":"/g","derived":"Int","is":["Dependency","/f/v"]}]}"#;
+
+const CHECKED: &str =
+    r#"{"version":"1","facts":[{"path":"/z","writable":"Text","limits":[["MaxLength","9"],["Check","nine-digits"]]}]}"#;
+
+const CASES: &str =
+    r#"{"version":"1","facts":[{"path":"/p","writable":"Boolean","placeholder":["False"]},{"path":"/x","derived":"Int","is":["Switch",["Case",["Dependency","/p"],["Int","1"]],["Case",["True"],["Int","2"]]]}]}"#;
+
+const CONDITIONAL: &str =
+    r#"{"version":"2","facts":[{"path":"/p","writable":"Boolean"},{"path":"/a","writable":"Int"},{"path":"/x","derived":"Int","is":["Dependency","/a"],"conditional":[["Dependency","/p"],["Int","7"]]}]}"#;
+
+const KINDS: &str =
+    r#"{"version":"1","enums":[{"name":"size","options":["small"]},{"name":"color","options":["red","green"]}],"facts":[
+{"path":"/day","derived":"Day","is":["Day","1970-01-02"]},
+{"path":"/text","derived":"Text","is":["Text","a b"]},
+{"path":"/color","derived":"Enum(color)","is":["Enum","color","green"]},
+{"path":"/operations","derived":"Boolean","is":["Any",["Not",["True"]],["GreaterThan",["Round",["Dollar","1.50"]],["Dollar","1"]]]}
+]}"#;
+
+// Each form of use path, outside of conditions and under one, in a fact of a member too.
+const PATHS: &str = r#"{"version":"2","facts":[
 {"path":"/n","writable":"Int","placeholder":["Int","3"]},
 {"path":"/c","writable":"Collection"},
 {"path":"/c/*/n","writable":"Int"},
@@ -13,48 +256,75 @@ const TEXT: &str = r#"{"version":"2","facts":[
 {"path":"/c/*/ok","writable":"Boolean"},
 {"path":"/i","derived":"Item(/c)","is":["Find","/c",["Dependency","ok"]]},
 {"path":"/c/*/i","derived":"Item(/c)","is":["Dependency","/i"]},
-{"path":"/global","derived":"Int","is":["Dependency","/n"]},
 {"path":"/c/*/same","derived":"Int","is":["Dependency","../n"]},
 {"path":"/through","derived":"Int","is":["Dependency","/i/n"]},
 {"path":"/c/*/sameThrough","derived":"Int","is":["Dependency","../i/n"]},
 {"path":"/ints","derived":"Int","is":["CollectionSum","/c/*/n"]},
 {"path":"/dollars","derived":"Dollar","is":["CollectionSum","/c/*/m"]},
-{"path":"/either","derived":"Int","is":["Dependency","/n"],"conditional":[["IsComplete","/n"],["Int","2"]]}
+{"path":"/count","derived":"Int","is":["Count","/c/*/ok"]},
+{"path":"/size","derived":"Int","is":["CollectionSize","/c"]},
+{"path":"/d","writable":"Collection"},
+{"path":"/d/*/ok","writable":"Boolean"},
+{"path":"/c/*/other","derived":"Item(/d)","is":["Find","/d",["All",["Dependency","ok"],["Dependency","../ok"],["IsComplete","/n"],["IsComplete","/i/n"],["IsComplete","../i/n"]]]}
 ]}"#;
 
-fn dictionary(alloc: Global) -> Option<Dictionary> {
-    accept(alloc, TEXT.as_bytes(), &CheckTable::new(alloc)).ok()
+const NODES_OF_PATHS: &str = "1 else 3
+6 Find /2 [Dependency 5]
+7 Dependency /6
+8 Dependency ../3
+9 Dependency /6/3
+10 Dependency ../7/3
+11 SumInt /2/*/3
+12 SumDollar /2/*/4
+13 Count /2/*/5
+14 CollectionSize /2
+17 Find /15 [All [Dependency 16] [Dependency ../5] [IsComplete /1] [IsComplete /6/3] [IsComplete ../7/3]]
+";
+
+#[test]
+fn facts_have_the_nodes_of_their_expressions(rt: HostRuntime) {
+    let alloc = rt.alloc();
+    let sum = "3 Add [Dependency /1] [Dependency /2]\n";
+    assert!(rt; has_nodes(alloc, SUM, sum));
+    let with_placeholder = "2 else 0c\n3 Add [Dependency /1] [Dependency /2]\n";
+    assert!(rt; has_nodes(alloc, SUM_OVER_A_PLACEHOLDER, with_placeholder));
+    let conditions = "3 All [Dependency /1] [Dependency /2]
+4 Switch [Dependency /1][1] [Dependency /2][2]
+5 IsComplete /1
+";
+    assert!(rt; has_nodes(alloc, CONDITIONS, conditions));
+    let members = "4 Filter /1 [Dependency 2]
+5 Find /1 [Dependency 2]
+6 SumInt /4/*/3
+7 Dependency /5/3
+";
+    assert!(rt; has_nodes(alloc, MEMBERS, members));
+    assert!(rt; has_nodes(alloc, CHECKED, ""));
+    let cases = "1 else false\n2 Switch [Dependency /1][1] [true][2]\n";
+    assert!(rt; has_nodes(alloc, CASES, cases));
+    let conditional = "3 Switch [Dependency /1][7] [true][Dependency /2]\n";
+    assert!(rt; has_nodes(alloc, CONDITIONAL, conditional));
 }
 
-fn compiled(alloc: Global) -> Option<Compiled> {
-    let dict = dictionary(alloc)?;
-    compile(alloc, &dict).ok()
-}
-
-fn reads(all: &Compiled, fact: u32, op: NodeRead, reader: Reader) -> bool {
-    match all.main(fact) {
-        Some(Node::Read(read, by)) => *read == op && *by == reader,
-        _ => false,
-    }
-}
-
-fn has_none(all: &Compiled, fact: u32) -> bool {
-    all.main(fact).is_none()
+#[test]
+fn constants_are_read_and_operations_kept(rt: HostRuntime) {
+    let alloc = rt.alloc();
+    let amounts = "2 Add [999999999999999c] [1c] [-1c]
+3 Add [999999999999999c] [1c]
+4 Multiply [10005c] [1:2]
+5 Divide [100c] [0]
+6 Any [Equal [Dependency /5] [0c]] [Dependency /1]
+";
+    assert!(rt; has_nodes(alloc, AMOUNTS, amounts));
+    let kinds = "1 day 1
+2 a b
+3 option 1 1
+4 Any [Not [true]] [GreaterThan [Round [150c]] [100c]]
+";
+    assert!(rt; has_nodes(alloc, KINDS, kinds));
 }
 
 #[test]
 fn each_path_has_its_reader(rt: HostRuntime) {
-    let all = compiled(rt.alloc());
-    assert!(rt; all.is_some());
-    if let Some(all) = &all {
-        assert!(rt; has_none(all, 1));
-        assert!(rt; all.placeholder(1).is_some());
-        assert!(rt; all.placeholder(14).is_none());
-        assert!(rt; reads(all, 8, NodeRead::Dependency, Reader::Global(1)));
-        assert!(rt; reads(all, 9, NodeRead::Dependency, Reader::Same(3)));
-        assert!(rt; reads(all, 10, NodeRead::Dependency, Reader::Through(6, 3)));
-        assert!(rt; reads(all, 11, NodeRead::Dependency, Reader::SameThrough(7, 3)));
-        assert!(rt; reads(all, 12, NodeRead::SumInt, Reader::Each(2, 3)));
-        assert!(rt; reads(all, 13, NodeRead::SumDollar, Reader::Each(2, 4)));
-    }
+    assert!(rt; has_nodes(rt.alloc(), PATHS, NODES_OF_PATHS));
 }
