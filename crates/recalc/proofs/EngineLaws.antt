@@ -31,7 +31,7 @@ use Rattle.recalc.specs.Waiting.{Dues}
 use Rattle.recalc.specs.declared.log.Replaced.{Replaced}
 use Rattle.recalc.proofs.BetweenLaws.{all_is_done, are_between, edit_marks, start_passes, touched_weigh, undone_passes}
 use Rattle.recalc.proofs.MarkingLaws.{start_marks}
-use Rattle.recalc.proofs.PassageLaws.{no_result}
+use Rattle.dictionary.proofs.PlainLaws.{no_result}
 use Rattle.recalc.proofs.SeedingLaws.{standing_in}
 
 abbrev stamp_of : Option Cell → ℕ

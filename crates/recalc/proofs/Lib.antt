@@ -10,6 +10,8 @@ pub mod ReaderLaws
 pub mod ReplacingLaws
 pub mod RunningLaws
 pub mod SeedingLaws
+pub mod SessionLaws
 pub mod SlotLists
 pub mod StandingOnce
+pub mod StepExamples
 pub mod WeighingLaws

@@ -12,16 +12,13 @@ use Rattle.dictionary.specs.Reading.{Look}
 use Rattle.dictionary.specs.Slots.{slot_same, stands}
 use Rattle.dictionary.proofs.FeedLaws.{feeds_fall}
 use Rattle.dictionary.proofs.NumberLaws.{fact_within}
-use Rattle.dictionary.proofs.PlainLaws.{standing_have_results}
+use Rattle.dictionary.proofs.PlainLaws.{no_result, standing_have_results}
 use Rattle.dictionary.proofs.SlotLaws.{fact_of_standing, slot_same-equal}
 use Rattle.recalc.specs.Spread.{Spread, is_in}
 use Rattle.recalc.specs.Marking.{IsLeast, IsMarked}
 use Rattle.recalc.specs.Passages.{AreResults, IsPassage, is_shielded}
 use Rattle.recalc.proofs.SlotLists.{in_push}
 use Rattle.recalc.proofs.MarkingLaws.{lower_settle, none_least, not_done_yet}
-
-pub no_result : (d : Accepted) (b : Answered) (t : Slot) → stands d.tree b t ≡ false → plain d b t ≡ None
-no_result d b t off = nothing (plain d b t) (standing_have_results d b t ∙ off)
 
 -- the fact of a slot that stands is one of the dictionary's
 pub number_of_standing : (d : Accepted) (b : Answered) (s : Slot) → IsTrue (stands d.tree b s) → IsNumber d.tree.facts s.fact

@@ -21,6 +21,7 @@ use Rattle.recalc.specs.Readers.{due_of, marks, marks_at, marks_of, MarksFeed, r
 use Rattle.recalc.specs.Waiting.{due_same}
 use Rattle.recalc.specs.declared.work.Due.{Due}
 use Rattle.recalc.proofs.SlotLists.{either}
+use Rattle.dictionary.proofs.BodyLaws.{swapped}
 
 -- ---- one member of a list
 
@@ -107,18 +108,12 @@ module _ (d : Accepted) (a : Answered) (shielded : Slot → Bool) (s q : Slot) w
       joined true false false = refl
       joined false y c = refl
 
-turned : (x y z : Bool) → (x && (y && z)) ≡ (y && (x && z))
-turned true true z = refl
-turned true false z = refl
-turned false true z = refl
-turned false false z = refl
-
 -- a fact that isn't there mentions nothing and has no slot
 fed_and_standing : (d : Accepted) (a : Answered) (free : Bool) (s q : Slot) (o : Option Fact) →
     (list_any (speaks_of s q) (found_mentions d.tree q.fact o) && (stands_at a (home d.tree q.fact) q.member && free))
     ≡ (stands_of a (home d.tree q.fact) q.member o && (list_any (speaks_of s q) (found_mentions d.tree q.fact o) && free))
 fed_and_standing d a free s q None = refl
-fed_and_standing d a free s q (Some f) = turned (list_any (speaks_of s q) (found_mentions d.tree q.fact (Some f))) (stands_at a (home d.tree q.fact) q.member) free
+fed_and_standing d a free s q (Some f) = swapped (list_any (speaks_of s q) (found_mentions d.tree q.fact (Some f))) (stands_at a (home d.tree q.fact) q.member) free
 
 pub marks_feed : MarksFeed
 unfolding here

@@ -14,11 +14,10 @@ ghost use Rattle.node_compile.specs.Laws.{main_node_result, node_result, node_we
 ghost use Rattle.node_eval.specs.View.{view};
 ghost use Rattle.recalc.specs.Running.{seen};
 
-use crate::given::given_result;
 use crate::seen::Seen;
 use answers::Answers;
 use dict_tree::TypeText;
-use dictionary::Dictionary;
+use dictionary::{Dictionary, given_result};
 use fact_values::{NoMemory, Slot};
 use node_compile::Compiled;
 use node_eval::{Node, eval};

@@ -1,0 +1,127 @@
+-- How many steps changes take at most, by example.
+use Rattle.std.proofs.Common.{◌≡◌, ℕ, true, false, cond, List, [], ◌∷◌, Option, Some, None, pos, refl, ap, ◌∙◌}
+use Rattle.std.specs.Prelude.{codes, nat_eq, map as map_list}
+use Rattle.std.specs.FinMap as map
+use Rattle.std.specs.Ordering.{nat_cmp}
+use Rattle.fact_paths.specs.Paths.{fact_path_text, use_path_text}
+use Rattle.fact_paths.specs.declared.fact_path.FactPath.{FactPath}
+use Rattle.fact_paths.specs.declared.fact_path.FactPath.TheVariants as facts
+use Rattle.fact_paths.specs.declared.use_path.UsePath.{UsePath}
+use Rattle.fact_paths.specs.declared.use_path.UsePath.TheVariants as uses
+use Rattle.fact_values.specs.declared.fact_type.FactType.{FactType}
+use Rattle.fact_values.specs.declared.fact_type.FactType.TheVariants as types
+use Rattle.fact_values.specs.declared.value.Value.{Value}
+use Rattle.fact_values.specs.declared.value.Value.TheVariants.{Boolean, Int}
+use Rattle.dict_tree.specs.declared.operators.ManyOp.TheVariants.{Add}
+use Rattle.dict_tree.specs.declared.operators.ReadOp.TheVariants.{CollectionSum, Dependency}
+use Rattle.dict_tree.specs.declared.operators.PickOp.TheVariants.{Filter}
+use Rattle.dict_tree.specs.Tree.{Source, Use, many, no_trees, pick, read, tree}
+use Rattle.dict_tree.specs.Facts.{Fact, list_of, scalar, writable_list}
+use Rattle.answers.specs.Answered.{Answered, Entry}
+use Rattle.answers.specs.Finite.{Numbered, put_at}
+use Rattle.answers.proofs.FiniteLaws.{get_put}
+use Rattle.dictionary.specs.Accepted.{Accepted}
+use Rattle.dictionary.specs.Extension.{extends}
+use Rattle.dictionary.specs.Plain.{plain, table}
+use Rattle.dictionary.specs.Slots.{standing}
+use Rattle.dictionary.specs.Steady.{steady_by_rank}
+use Rattle.dictionary.specs.Weights.{touched_weight}
+
+-- ---- a rate, and a list of members, each with a test, a number, and the sum of that and the rate; those that pass the test, and
+-- their sums in all
+
+abbrev written : FactPath → FactType → Fact
+written path t = record {
+  path_text = fact_path_text path;
+  path = Some path;
+  stated = scalar t;
+  limits = [];
+  main = None;
+  conditional = None;
+  placeholder = None;
+}
+
+abbrev global : List ℕ → FactPath
+global name = facts.Global name
+
+abbrev field : List ℕ → FactPath
+field name = facts.Member (codes "c") name
+
+abbrev used : UsePath → Use
+used path = record { text = use_path_text path; path = Some path }
+
+abbrev depends : UsePath → Source
+depends path = read (Dependency, used path)
+
+abbrev sums : Accepted
+sums = record {
+  tree = record {
+    enums = [];
+    facts =
+        written (global (codes "rate")) types.Int
+        ∷ record (written (global (codes "c")) types.Int) { stated = writable_list }
+        ∷ written (field (codes "k")) types.Boolean
+        ∷ written (field (codes "v")) types.Int
+        ∷ record (written (field (codes "w")) types.Int) { main = Some (many Add (tree (depends (uses.Sibling (codes "v"))) (tree (depends (uses.Global (codes "rate"))) no_trees))) }
+        ∷ record (written (global (codes "l")) types.Int) { stated = list_of (used (uses.Global (codes "c"))); main = Some (pick Filter (used (uses.Global (codes "c"))) (depends (uses.Inner (codes "k")))) }
+        ∷ record (written (global (codes "t")) types.Int) { main = Some (read (CollectionSum, used (uses.Each (codes "l") (codes "w")))) }
+        ∷ [];
+  };
+  typed = record { facts = []; limits = [] };
+  ranks = 0 ∷ 0 ∷ 0 ∷ 0 ∷ 1 ∷ 1 ∷ 2 ∷ [];
+}
+
+-- ---- answers
+
+map_at : {X : Type 0} → List (ℕ × X) → Numbered X
+map_at [] = map.empty
+map_at (x ∷ xs) = put_at (map_at xs) x.0 (Some x.1)
+
+abbrev found_at : {X : Type 0} → List (ℕ × X) → ℕ → Option X
+found_at [] k = None
+found_at (x ∷ xs) k = cond (nat_eq x.0 k) (Some x.1) (found_at xs k)
+
+get_at : {X : Type 0} (xs : List (ℕ × X)) (k : ℕ) → map.get (map_at xs) k ≡ found_at xs k
+unfolding map_at
+get_at [] k = map.get-empty nat_cmp k
+get_at (x ∷ xs) k = get_put (map_at xs) x.0 (Some x.1) k ∙ ap (cond (nat_eq x.0 k) (Some x.1)) (get_at xs k)
+
+abbrev Values : Type 0
+Values = List (ℕ × Value)
+
+abbrev entry_of : Values → Entry
+entry_of values = record { values = map_at values; overrides = map_at [] }
+
+-- the rate, and what is answered of the members 1 and 2
+abbrev given : ℕ → Values → Values → Answered
+given rate first second = record {
+  next = 3;
+  lists = map_at ((2, 1 ∷ 2 ∷ []) ∷ []);
+  globals = entry_of ((1, Int (pos rate)) ∷ []);
+  members = map_at (map_list (λ (m : ℕ × Values). (m.0, entry_of m.1)) ((1, first) ∷ (2, second) ∷ []));
+}
+
+abbrev passes : ℕ → Values
+passes v = (3, Boolean true) ∷ (4, Int (pos v)) ∷ []
+
+-- ---- steps
+
+-- one member's number: the three nodes of its sum, and the one that adds all sums up
+number_set : touched_weight sums (given 1 (passes 5) (passes 7)) (given 1 (passes 5) (passes 8)) ≡ 4
+unfolding plain table standing extends steady_by_rank
+number_set = simp get_at
+
+-- the rate: three nodes for each member, and the one that adds their sums up
+rate_set : touched_weight sums (given 1 (passes 5) (passes 7)) (given 2 (passes 5) (passes 7)) ≡ 7
+unfolding plain table standing extends steady_by_rank
+rate_set = simp get_at
+
+-- a test: the Filter and its condition at each member, and the node that adds the sums up
+test_set : touched_weight sums (given 1 (passes 5) (passes 7)) (given 1 (passes 5) ((3, Boolean false) ∷ (4, Int (pos 7)) ∷ [])) ≡ 4
+unfolding plain table standing extends steady_by_rank
+test_set = simp get_at
+
+-- the same value again
+same_again : touched_weight sums (given 1 (passes 5) (passes 7)) (given 1 (passes 5) (passes 7)) ≡ 0
+unfolding plain table standing extends steady_by_rank
+same_again = simp get_at

@@ -1,0 +1,75 @@
+-- What the commands of a session take and leave, over an engine that counts.
+use Rattle.std.specs.Prelude.{◌≡◌, ℕ, ◌+◌, Bool, true, false, IsTrue, Option, Some, None, Result, Ok, Err}
+use Rattle.fact_values.specs.declared.slot.Slot.{Slot}
+use Rattle.script_lines.specs.declared.command.Command.{Command}
+use Rattle.script_lines.specs.declared.command.Command.TheVariants.{Set, Clear, OpenList, Add, Remove, Override, Release, Undo, Redo, Get, Final, Stamp, Touched, Missing, Watch, Unwatch, Quit}
+use Rattle.answers.specs.Answered.{Answered}
+use Rattle.dictionary.specs.Accepted.{IsAccepted, names_of}
+use Rattle.dictionary.specs.Fits.{AnswersFit}
+use Rattle.dictionary.specs.Plain.{plain}
+use Rattle.dictionary.specs.Slots.{stands}
+use Rattle.dictionary.specs.Touched.{touches}
+use Rattle.dictionary.specs.Weights.{touched_weight}
+use Rattle.graph_session.specs.Counts.{Counts, stamp_of}
+use Rattle.graph_session.specs.Rules.{Rules, tree_of}
+use Rattle.graph_session.specs.SessionView.{Course}
+use Rattle.graph_session.specs.Step.{most_steps, step}
+use Rattle.graph_session.specs.declared.reply.Refusal.{Refusal}
+use Rattle.graph_session.specs.declared.reply.Reply.{Reply}
+
+-- the command makes a change where it isn't refused; every other one asks, or ends the script
+abbrev pub is_change : Command → Bool
+is_change (Set path text) = true
+is_change (Clear path) = true
+is_change (OpenList path) = true
+is_change (Add path) = true
+is_change (Remove path member) = true
+is_change (Override path text) = true
+is_change (Release path) = true
+is_change Undo = true
+is_change Redo = true
+is_change (Get path) = false
+is_change (Final path) = false
+is_change (Stamp path) = false
+is_change Touched = false
+is_change (Missing path) = false
+is_change (Watch name path) = false
+is_change (Unwatch name path) = false
+is_change Quit = false
+
+-- ---- laws of the steps that a command may take
+
+-- a change takes what the slots weigh that it touches, from the answers before to those that it leaves
+abbrev pub ChangesTakeTouched : Type 0
+ChangesTakeTouched =
+    (r : Rules) (s t : Course) (c : Command) (said : Reply) → IsTrue (is_change c) → step r s c ≡ Ok (said, t)
+    → most_steps (touched_weight r.accepted) r s c ≡ touched_weight r.accepted s.timeline.now t.timeline.now
+
+-- a command that is refused takes none, whatever a change would take
+abbrev pub RefusedTakeNone : Type 0
+RefusedTakeNone = (most : Answered → Answered → ℕ) (r : Rules) (s : Course) (c : Command) (why : Refusal) → step r s c ≡ Err why → most_steps most r s c ≡ 0
+
+-- nor does one that makes no change, and it leaves all as it was
+abbrev pub QuestionsTakeNone : Type 0
+QuestionsTakeNone = (most : Answered → Answered → ℕ) (r : Rules) (s : Course) (c : Command) → is_change c ≡ false → most_steps most r s c ≡ 0
+
+abbrev pub QuestionsChangeNone : Type 0
+QuestionsChangeNone = (r : Rules) (s t : Course) (c : Command) (said : Reply) → is_change c ≡ false → step r s c ≡ Ok (said, t) → t ≡ s
+
+-- ---- laws of what a command leaves
+
+-- where the answers before and after it fit, a slot that stands after it and isn't touched keeps its result and its stamp
+abbrev pub UntouchedKeepAll : Type 0
+UntouchedKeepAll =
+    (r : Rules) → IsAccepted (names_of r.checks) r.accepted → (s t : Course) (c : Command) (said : Reply)
+    → AnswersFit (tree_of r) s.timeline.now → AnswersFit (tree_of r) t.timeline.now → step r s c ≡ Ok (said, t)
+    → (x : Slot) → IsTrue (stands (tree_of r) t.timeline.now x) → touches r.accepted s.timeline.now t.timeline.now x ≡ false
+    → (plain r.accepted s.timeline.now x ≡ plain r.accepted t.timeline.now x) × (stamp_of s.counts x ≡ stamp_of t.counts x)
+
+-- a slot that a change touches has the number of the change, where stamps are kept
+abbrev pub TouchedHaveNumber : Type 0
+TouchedHaveNumber =
+    (r : Rules) (s t : Course) (c : Command) (said : Reply) (counts : Counts)
+    → IsTrue (is_change c) → step r s c ≡ Ok (said, t) → s.counts ≡ Some counts
+    → (x : Slot) → IsTrue (stands (tree_of r) t.timeline.now x) → IsTrue (touches r.accepted s.timeline.now t.timeline.now x)
+    → (stamp_of t.counts x ≡ s.changes + 1) × (t.changes ≡ s.changes + 1)
