@@ -31,8 +31,8 @@ use Rattle.dictionary.specs.Homes.{home}
 use Rattle.dictionary.specs.SlotText.{IsSlot, slot_text}
 use Rattle.dictionary.specs.Slots.{is_member, slot_same, stands}
 use Rattle.dictionary.proofs.FitChangeLaws.{allowed_changes_fit}
-use Rattle.dictionary.proofs.SetLaws.{is_side, set_is}
-use Rattle.dictionary.proofs.SlotLaws.{fact_of_standing, slot_same-equal, slot_same-itself}
+use Rattle.dictionary.proofs.SetLaws.{is_side, same_side, set_is}
+use Rattle.dictionary.proofs.SlotLaws.{fact_of_standing, slot_same-comm, slot_same-equal, slot_same-itself}
 use Rattle.graph_session.specs.Kinds.{value_spelled}
 use Rattle.graph_session.proofs.TypeLaws.{value_typed}
 use Rattle.save_file.specs.Following.{AreSlots, FollowsEntries, IsBuilt, IsPast, IsToCome, behind_side}
@@ -43,6 +43,7 @@ use Rattle.save_file.proofs.SlotsOnce.{behind_skipped, in_front}
 use Rattle.save_file.proofs.SlotTexts.{one_slot, same_behind, text_lacks_blank}
 use Rattle.save_file.proofs.ValueTexts.{printed_read}
 use Rattle.save_file.proofs.WordLaws.{everywhere, first, no_entry, none_behind, one_entry, entry_shown}
+use Rattle.graph_session.proofs.AllowedLaws.{slot_stands}
 
 -- ---- what is past and what is to come
 
@@ -83,12 +84,6 @@ past_other Answer xs ys Override s other past = past
 past_other Override xs ys Answer s other past = past
 past_other Override xs ys Override s other past = absurd cc
 
-same_side : (side k : Side) → is_side side k ≡ true → side ≡ k
-same_side Answer Answer e = refl
-same_side Answer Override e = absurd cc
-same_side Override Answer e = absurd cc
-same_side Override Override e = refl
-
 side_itself : (side : Side) → is_side side side ≡ true
 side_itself Answer = refl
 side_itself Override = refl
@@ -125,16 +120,13 @@ module _ (names : List (List ℕ)) (d : Accepted) (is : IsAccepted names d) (sid
       let parts = entry_cut s has.0 text (entry_slot d.tree a fit side s has.0 has.1) (sym has.2 ∙ same) in
       other (some_pair_parts (slot_text d.tree s) path (printed d.tree.enums has.0) value (sym parts ∙ e)).0
 
-  others_by_path : (a : Answered) → AnswersFit d.tree a → (text path value : List ℕ) → cut 32 text ≡ Some (path, value) → (ks : List Slot) → AllByRecursion (λ (k : Slot). slot_text d.tree k ≢ path) ks → AllByRecursion (HasOther (entry_lines side d.tree a) (side_word side ++ text)) ks
+  pub others_by_path : (a : Answered) → AnswersFit d.tree a → (text path value : List ℕ) → cut 32 text ≡ Some (path, value) → (ks : List Slot) → AllByRecursion (λ (k : Slot). slot_text d.tree k ≢ path) ks → AllByRecursion (HasOther (entry_lines side d.tree a) (side_word side ++ text)) ks
   others_by_path a fit text path value e [] all = tt
   others_by_path a fit text path value e (k ∷ ks) all = (other_path a fit text path value e k all.0, others_by_path a fit text path value e ks all.1)
 
-side_first : (side : Side) (text : List ℕ) → first (side_word side ++ text) ≡ first (side_word side)
+pub side_first : (side : Side) (text : List ℕ) → first (side_word side ++ text) ≡ first (side_word side)
 side_first Answer text = refl
 side_first Override text = refl
-
-slot_same-comm : (s t : Slot) → slot_same s t ≡ slot_same t s
-slot_same-comm s t = ap (λ (b : Bool). b && nat_eq s.member t.member) (nat_eq-comm s.fact t.fact) ∙ ap (λ (b : Bool). nat_eq t.fact s.fact && b) (nat_eq-comm s.member t.member)
 
 -- one of the slots stands
 stands_one : (d : Tree) (b : Answered) (ks : List Slot) → AreSlots d b ks → (u : Slot) → list_any (slot_same u) ks ≡ true → IsTrue (stands d b u)
@@ -150,16 +142,8 @@ slots_kept : (d : Tree) (a b : Answered) → ((u : Slot) → stands d a u ≡ st
 slots_kept d a b same [] all = tt
 slots_kept d a b same (k ∷ ks) all = (sym (same k) ∙ all.0, all.1, slots_kept d a b same ks all.2)
 
--- of a slot that stands at a member, the member is in a list
-listed_at : (d : Tree) (b : Answered) (s : Slot) → IsTrue (stands d b s) → Stands b s.member
-listed_at d b s h = λ other. at (nat_eq (home d s.fact) 0) other (fact_of_standing d b s h).2
-  where
-    at : (once : Bool) → nat_eq s.member 0 ≡ false → IsTrue (if once then nat_eq s.member 0 else is_member b (home d s.fact) s.member) → IsListed b s.member
-    at true other i = absurd cc
-    at false other i = (home d s.fact, i)
-
 -- a value that was read is of the fact's type
-spelled_fits : (d : Tree) (b : Answered) (fact : ℕ) (text : List ℕ) (v : Value) → value_spelled d fact text ≡ Some v → IsOfFact d b fact v
+pub spelled_fits : (d : Tree) (b : Answered) (fact : ℕ) (text : List ℕ) (v : Value) → value_spelled d fact text ≡ Some v → IsOfFact d b fact v
 spelled_fits d b fact text v e =
     let found = both_some (λ (t : FactType). value_at d.enums t text) (type_at d fact) v e in
     (found.0, found.1, value_typed d b found.0 v (of_type d.enums found.0 text v (value_again d.enums found.0 text v found.2)))
@@ -215,7 +199,7 @@ module _ (names : List (List ℕ)) (d : Accepted) (is : IsAccepted names d) (enu
 
   module _ (v : Value) (takes_it : IsTrue (takes side d.tree s.fact)) (spelled : value_spelled d.tree s.fact value ≡ Some v) (shown : printed d.tree.enums v ≡ value) where
     stands_in : IsSome (entry b s.member)
-    stands_in = entry_stands b s.member built.fit.well (listed_at d.tree b s its_slots.0)
+    stands_in = entry_stands b s.member built.fit.well (slot_stands d.tree b s its_slots.0)
 
     own_after : value_of side (applied (sets side s (Some v)) b) s ≡ Some v
     own_after =
@@ -308,7 +292,7 @@ module _ (names : List (List ℕ)) (d : Accepted) (is : IsAccepted names d) (enu
 
     pub built_after : IsBuilt d.tree side (applied (sets side s (Some v)) b) now
     built_after = record {
-      fit = allowed_changes_fit names d is b (sets side s (Some v)) built.fit (listed_at d.tree b s its_slots.0)
+      fit = allowed_changes_fit names d is b (sets side s (Some v)) built.fit (slot_stands d.tree b s its_slots.0)
           (and_intro (stands d.tree b s) (takes side d.tree s.fact) its_slots.0 takes_it, spelled_fits d.tree b s.fact value v spelled);
       slots = slots_kept d.tree b (applied (sets side s (Some v)) b) (λ u. refl) now its_slots.2;
       none = λ k u come. other_after k u (not_it k u come) ∙ built.none k u (still_to_come side (skipped ++ s ∷ now) now k u (in_all u) come);

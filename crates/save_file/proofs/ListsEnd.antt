@@ -23,8 +23,8 @@ use Rattle.answers.proofs.FiniteLaws.{same}
 use Rattle.answers.proofs.OpenedListsLaws.{given_well, of_lists}
 use Rattle.dictionary.specs.Fits.{AnswersFit, is_list}
 use Rattle.dictionary.specs.Slots.{slot_same}
-use Rattle.dictionary.proofs.FitStart.{blank_value, given_fit, start_fits}
-use Rattle.save_file.specs.Following.{AreRead, FollowsEntries, FollowsLists, IsBuilt, IsPast, IsToCome, behind_lists, behind_opening, behind_side}
+use Rattle.dictionary.proofs.FitStart.{blank_value, given_fit, given_value, start_fits}
+use Rattle.save_file.specs.Following.{BeginsOther, AreRead, FollowsEntries, FollowsLists, IsBuilt, IsPast, IsToCome, behind_lists, behind_opening, behind_side}
 use Rattle.save_file.specs.Reading.{IsNextNumber}
 use Rattle.save_file.specs.SavedText.{counted, end_line, entries, entry_lines, list_lines, list_lines_of, lists as lists_lines, next_line, opening_line, slots}
 use Rattle.save_file.proofs.CursorLaws.{counted_all}
@@ -35,20 +35,7 @@ use Rattle.save_file.proofs.SidesFollow.{end_back, turn_back, turned}
 use Rattle.save_file.proofs.SlotsOnce.{all_slots}
 use Rattle.save_file.proofs.SlotsThere.{none_outside, same_slots}
 use Rattle.save_file.proofs.SlotTexts.{same_behind}
-use Rattle.save_file.proofs.WordLaws.{BeginsOther, everywhere, no_list, one_list, other_list}
-
--- ---- answers of which only lists are given have no values
-
-nothing_given : (lists : List (ℕ × List ℕ)) (next : ℕ) (b : Answered) → IsOfLists lists next b → (side : Side) (s : Slot) → value_of side b s ≡ None
-nothing_given lists next b is side s = at (nat_eq s.member 0)
-  where
-    member : (t : Bool) → and_then (λ (e : Entry). map.get (of_side side e) s.fact) (if t then Some blank else None) ≡ None
-    member true = blank_value side s.fact
-    member false = refl
-
-    at : (t : Bool) → and_then (λ (e : Entry). map.get (of_side side e) s.fact) (if t then Some b.globals else map.get b.members s.member) ≡ None
-    at true = ap (λ (e : Entry). map.get (of_side side e) s.fact) is.no_globals ∙ blank_value side s.fact
-    at false = ap (and_then (λ (e : Entry). map.get (of_side side e) s.fact)) (is.no_entries s.member) ∙ member (is_in_some s.member lists)
+use Rattle.save_file.proofs.WordLaws.{everywhere, no_list, one_list, other_list}
 
 module _ (d : Tree) (next : ℕ) (lists : List (ℕ × List ℕ)) (done : ℕ) (read : AreRead d next lists done) (b : Answered) (of : IsOfLists lists next b) where
   sound : WellFormed b × FromOne b
@@ -58,7 +45,7 @@ module _ (d : Tree) (next : ℕ) (lists : List (ℕ × List ℕ)) (done : ℕ) (
   fits = given_fit d lists next b sound.0 sound.1 of read.collections
 
   pub opened : IsBuilt d Answer b (slots d b)
-  opened = record { fit = fits; slots = all_slots d b fits.well; none = λ k s come. nothing_given lists next b of k s }
+  opened = record { fit = fits; slots = all_slots d b fits.well; none = λ k s come. given_value lists next b of k s }
 
   given_at : (q : ℕ) → map.get b.lists q ≡ map.get (given lists) q
   given_at q = ap (λ (ls : Numbered (List ℕ)). map.get ls q) of.lists_are
@@ -120,7 +107,7 @@ lists_go_on d next lists done read =
 
 -- ---- the line of the next number
 
-decimals_one : (n k : ℕ) → n ≤ 1000001 → k ≤ 1000001 → decimal n ≡ decimal k → n ≡ k
+pub decimals_one : (n k : ℕ) → n ≤ 1000001 → k ≤ 1000001 → decimal n ≡ decimal k → n ≡ k
 decimals_one n k low high e = sym (digits_value-decimal own n (omega (arith, low))) ∙ ap (digits_value 10) e ∙ digits_value-decimal own k (omega (arith, high))
 
 pub next_is : (a : Answered) → WellFormed a → FromOne a → IsNextNumber a.next

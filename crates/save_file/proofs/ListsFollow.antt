@@ -91,7 +91,7 @@ no_list_at d a fit c none = at (map.get a.lists c) refl
 
 -- a line of lists that is some list's line
 module _ (names : List (List ℕ)) (d : Accepted) (is : IsAccepted names d) where
-  line_parts : (c k : ℕ) (ms ns : List ℕ) → IsTrue (is_list d.tree c) → IsTrue (is_list d.tree k) → list_line d.tree c ms ≡ list_line d.tree k ns → (c ≡ k) × (printed_rest ms ≡ printed_rest ns)
+  pub line_parts : (c k : ℕ) (ms ns : List ℕ) → IsTrue (is_list d.tree c) → IsTrue (is_list d.tree k) → list_line d.tree c ms ≡ list_line d.tree k ns → (c ≡ k) × (printed_rest ms ≡ printed_rest ns)
   line_parts c k ms ns list other e =
       let slot_c = list_slot names d is c list in
       let slot_k = list_slot names d is k other in

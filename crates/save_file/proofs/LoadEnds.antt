@@ -9,7 +9,7 @@ use Rattle.answers.specs.declared.parts.Parts.{Parts}
 use Rattle.dictionary.specs.Accepted.{Accepted, IsAccepted}
 use Rattle.dictionary.specs.Fits.{AnswersFit}
 use Rattle.save_file.specs.Following.{Ends, HasRead, IsStage, ReadsOn}
-use Rattle.save_file.specs.Loading.{IsRefusedAt, RefusesText}
+use Rattle.save_file.specs.Loading.{IsLoad, IsRefusedAt, RefusesText}
 use Rattle.save_file.specs.SavedText.{saved}
 use Rattle.save_file.specs.declared.fault.LoadFault.{LoadFault}
 use Rattle.save_file.specs.declared.fault.LoadFault.TheVariants.{BadSaved, NoMemory}
@@ -17,14 +17,8 @@ use Rattle.save_file.specs.declared.stage.Stage.{Stage}
 use Rattle.save_file.specs.declared.stage.Stage.TheVariants.{Opening, Number, Lists, Entries, Whole}
 use Rattle.save_file.proofs.LoadLaws.{loaded, only, refused_bytes, refused_line, unended, unfinished}
 
--- what is said of a load
-pub record IsLoad (d : Accepted) (bytes : List ℕ) (r : Result Parts LoadFault) : Type 0 where
-  pub loaded : IfOk r (λ (b : Parts). AnswersFit d.tree (answered b) × (bytes ≡ saved d.tree (answered b)))
-  pub only : (a : Answered) → AnswersFit d.tree a → bytes ≡ saved d.tree a → IfOk r (λ (b : Parts). answered b ≡ a)
-  pub refused : IfErr r (RefusesText d.tree bytes)
-
-refused_load : (d : Accepted) (bytes : List ℕ) (n : ℕ) → IsRefusedAt d.tree bytes n → (r : Result Parts LoadFault) → r ≡ Err (BadSaved n) → IsLoad d bytes r
-refused_load d bytes n is r e = subst (IsLoad d bytes) (sym e) (record { loaded = tt; only = λ a fit text. tt; refused = is })
+refused_load : (d : Accepted) (bytes : List ℕ) (n : ℕ) → IsRefusedAt d.tree bytes n → (r : Result Parts LoadFault) → r ≡ Err (BadSaved n) → IsLoad d.tree bytes r
+refused_load d bytes n is r e = subst (IsLoad d.tree bytes) (sym e) (record { loaded = tt; only = λ a fit text. tt; refused = is })
 
 module _ (names : List (List ℕ)) (d : Accepted) (is : IsAccepted names d) (enums : AreLists d.tree.enums) (ls : List (List ℕ)) (stage : Stage) (read : HasRead d.tree ls stage) (sound : IsStage d.tree stage) (bytes behind : List ℕ)
     (lines : lines_of bytes ≡ ls ++ lines_of behind) (number : ℕ) (counted : number ≡ length ls + 1) where
@@ -37,10 +31,10 @@ module _ (names : List (List ℕ)) (d : Accepted) (is : IsAccepted names d) (enu
   refused_next line more at_line NoMemory h = tt
 
   module _ (ended : behind ≡ []) (last : Bool) (tells : IsTrue last ↔ ((front : List ℕ) × (bytes ≡ front ++ 10 ∷ []))) where
-    wanting : ((b : Parts) → stage ≡ Whole b → ⊥) → (r : Result Parts LoadFault) → r ≡ Err (BadSaved number) → IsLoad d bytes r
+    wanting : ((b : Parts) → stage ≡ Whole b → ⊥) → (r : Result Parts LoadFault) → r ≡ Err (BadSaved number) → IsLoad d.tree bytes r
     wanting other r e = refused_load d bytes number (subst (IsRefusedAt d.tree bytes) (sym next) (unfinished names d is enums ls stage read sound bytes behind lines ended other)) r e
 
-    pub finished : (r : Result Parts LoadFault) (s : Stage) (b : Bool) → stage ≡ s → last ≡ b → Ends s b number r → IsLoad d bytes r
+    pub finished : (r : Result Parts LoadFault) (s : Stage) (b : Bool) → stage ≡ s → last ≡ b → Ends s b number r → IsLoad d.tree bytes r
     finished r Opening b is_stage is_last e = wanting (λ p f. let g : Opening ≡ Whole p = sym is_stage ∙ f in absurd cc) r e
     finished r Number b is_stage is_last e = wanting (λ p f. let g : Number ≡ Whole p = sym is_stage ∙ f in absurd cc) r e
     finished r (Lists x) b is_stage is_last e = wanting (λ p f. let g : Lists x ≡ Whole p = sym is_stage ∙ f in absurd cc) r e
@@ -48,7 +42,7 @@ module _ (names : List (List ℕ)) (d : Accepted) (is : IsAccepted names d) (enu
     finished r (Whole p) true is_stage is_last e =
         let front = tells.0 is_last in
         let found = loaded names d is enums ls stage read sound bytes behind lines ended p front.0 is_stage front.1 in
-        subst (IsLoad d bytes) (sym e) (record { loaded = found; only = λ a fit text. only names d is enums ls stage read sound bytes behind lines ended p is_stage a fit text; refused = tt })
+        subst (IsLoad d.tree bytes) (sym e) (record { loaded = found; only = λ a fit text. only names d is enums ls stage read sound bytes behind lines ended p is_stage a fit text; refused = tt })
     finished r (Whole p) false is_stage is_last e =
         refused_load d bytes number
         (subst (IsRefusedAt d.tree bytes) (sym next) (unended names d is enums ls stage read sound bytes behind lines ended (λ front text. let there : last ≡ true = tells.1 (front, text) in absurd cc)))

@@ -1,6 +1,6 @@
 -- Members that are read word by word, and the number of the next.
-use Rattle.std.proofs.Common.{◌≡◌, ◌≢◌, ◌⊎◌, ℕ, ◌<◌, ◌^◌, Bool, true, false, List, [], ◌∷◌, ◌++◌, length, Option, Some, None, inl, inr, refl, sym, ap, subst, ◌∙◌, append_assoc, cond, eqb, arith}
-use Rattle.std.specs.Prelude.{codes, decimal, option_map}
+use Rattle.std.proofs.Common.{◌≡◌, ◌≢◌, ◌⊎◌, ℕ, ◌<◌, ◌≤◌, ◌^◌, Bool, true, false, List, [], ◌∷◌, ◌++◌, length, Option, Some, None, inl, inr, refl, sym, ap, subst, ◌∙◌, append_assoc, cond, eqb, Result, Ok, Err, arith, length-append}
+use Rattle.std.specs.Prelude.{codes, decimal, option_map, MatchOption}
 use Rattle.std.specs.List.{AllByRecursion}
 use Rattle.std.specs.Str.{all_ascii_digits}
 use Rattle.std.specs.Str.Parse.{digits_value}
@@ -8,14 +8,16 @@ use Rattle.std.proofs.lemmas.Bool.{cases_lt}
 use Rattle.std.proofs.lemmas.Bool.Decides.{nat_tests}
 use Rattle.std.proofs.lemmas.Fmt.{decimal-digits_value}
 use Rattle.std.proofs.lemmas.List.{append-nil}
-use Rattle.std.proofs.lemmas.Option.{some_pair_parts}
+use Rattle.std.proofs.lemmas.Option.{none-some, same_Some, some_pair_parts}
 use Rattle.common_lemmas.proofs.Options.{mapped}
-use Rattle.fact_paths.specs.Cuts.{Lacks, cut}
+use Rattle.fact_paths.specs.Cuts.{Lacks, after, cut}
 use Rattle.fact_paths.specs.Paths.{IsMemberNumber, SpellsMemberNumber}
-use Rattle.fact_paths.proofs.CutLaws.{cut_some}
+use Rattle.fact_paths.proofs.CutLaws.{after-append, after_some, cut_some}
 use Rattle.value_text.specs.MemberTexts.{printed_item, printed_rest}
 use Rattle.value_text.proofs.DigitLemmas.{own}
-use Rattle.save_file.specs.Reading.{IsNextNumber}
+use Rattle.script_lines.specs.declared.fault.LineFault.{LineFault}
+use Rattle.script_lines.specs.declared.fault.LineFault.TheVariants.{BadLine, NoMemory}
+use Rattle.save_file.specs.Reading.{IsNextNumber, ReadsMember, ReadsMembers}
 use Rattle.save_file.proofs.KeyedLines.{cons_not_nil, cons_parts}
 use Rattle.save_file.proofs.ListTexts.{item_lacks, same_parts, tail_of}
 
@@ -112,6 +114,36 @@ module _ (tail found rest : List ℕ) (so_far : AreSoFar tail found rest) where
   pub last_one : (m : ℕ) → IsMemberNumber m → rest ≡ printed_item m → (printed_rest (found ++ m ∷ []) ≡ tail) × AllByRecursion IsMemberNumber (found ++ m ∷ [])
   last_one m is spelled = (rest-push found m ∙ ap (λ (t : List ℕ). printed_rest found ++ 32 ∷ t) (sym spelled) ∙ so_far.text, push-all found m so_far.numbers is)
 
+-- ---- words
+
+pub no_sign : (word : List ℕ) → after (codes "#") word ≡ None → (m : ℕ) → IsMemberNumber m → word ≢ printed_item m
+no_sign word none m is e = none-some (decimal m) (sym none ∙ ap (after (codes "#")) e ∙ after-append (codes "#") (decimal m))
+
+pub no_digits : (word digits : List ℕ) → after (codes "#") word ≡ Some digits → ((k : ℕ) → ¬ SpellsMemberNumber digits k) → (m : ℕ) → IsMemberNumber m → word ≢ printed_item m
+no_digits word digits e none m is same = none m (is, same_Some digits (decimal m) (sym e ∙ ap (after (codes "#")) same ∙ after-append (codes "#") (decimal m)))
+
+pub word_spelled : (word digits : List ℕ) (m : ℕ) → after (codes "#") word ≡ Some digits → SpellsMemberNumber digits m → IsMemberNumber m × (word ≡ printed_item m)
+word_spelled word digits m e (is, spelled) = (is, after_some (codes "#") word digits e ∙ ap (λ (t : List ℕ). 35 ∷ t) spelled)
+
+-- where a word isn't read, no members have the text
+pub not_read : (tail found rest word behind new : List ℕ) → AreSoFar tail found rest → cut 32 rest ≡ Some (word, behind) → (fault : LineFault) → ReadsMember word found new (Err fault) → ReadsMembers tail (Err fault)
+not_read tail found rest word behind new so_far e BadLine reads = bad_word tail found rest so_far word behind e reads
+not_read tail found rest word behind new so_far e NoMemory reads = tt
+
+pub last_not_read : (tail found rest new : List ℕ) → AreSoFar tail found rest → cut 32 rest ≡ None → (fault : LineFault) → ReadsMember rest found new (Err fault) → ReadsMembers tail (Err fault)
+last_not_read tail found rest new so_far e BadLine reads = bad_last tail found rest so_far e reads
+last_not_read tail found rest new so_far e NoMemory reads = tt
+
+pub read_more : (tail found rest word behind new : List ℕ) (done : Unit {0}) → AreSoFar tail found rest → cut 32 rest ≡ Some (word, behind) → ReadsMember word found new (Ok done) → AreSoFar tail new behind
+read_more tail found rest word behind new done so_far e reads = subst (λ (ms : List ℕ). AreSoFar tail ms behind) (sym reads.1) (one_more tail found rest so_far word behind e reads.0 reads.2 reads.3)
+
+pub read_last : (tail found rest new : List ℕ) (done : Unit {0}) → AreSoFar tail found rest → ReadsMember rest found new (Ok done) → (printed_rest new ≡ tail) × AllByRecursion IsMemberNumber new
+read_last tail found rest new done so_far reads = subst (λ (ms : List ℕ). (printed_rest ms ≡ tail) × AllByRecursion IsMemberNumber ms) (sym reads.1) (last_one tail found rest so_far reads.0 reads.2 reads.3)
+
+-- less is left
+pub shorter : (rest word behind : List ℕ) → cut 32 rest ≡ Some (word, behind) → length behind < length rest
+shorter rest word behind e = omega (arith, ap length (cut_some 32 rest word behind e), length-append word (32 ∷ behind))
+
 -- ---- the next number
 
 -- the number behind the last member's
@@ -123,3 +155,11 @@ no_next digits other none k is e = elim (cases_lt k 1000001) [
   | inl low ↦ none k ((is.0, omega (arith, low)), e)
   | inr high ↦ other (e ∙ ap decimal (let same : k ≡ 1000001 = omega (arith, high, is.1) in same) ∙ last_next)
 ]
+
+pub next_read : (digits : List ℕ) → digits ≢ codes "1000001" → (r : Option ℕ) → MatchOption r ((k : ℕ) → ¬ SpellsMemberNumber digits k) (SpellsMemberNumber digits)
+    → MatchOption r ((k : ℕ) → IsNextNumber k → digits ≢ decimal k) (λ k. IsNextNumber k × (digits ≡ decimal k))
+next_read digits other None none = no_next digits other none
+next_read digits other (Some k) h = ((h.0.0, omega (arith, h.0.1)), h.1)
+
+pub last_read : (digits : List ℕ) → digits ≡ codes "1000001" → IsNextNumber 1000001 × (digits ≡ decimal 1000001)
+last_read digits e = ((omega arith, omega arith), e ∙ sym last_next)

@@ -10,14 +10,14 @@ use Rattle.answers.specs.declared.edit.Side.{Side}
 use Rattle.answers.specs.declared.edit.Side.TheVariants.{Answer, Override}
 use Rattle.dictionary.specs.Fits.{AnswersFit}
 use Rattle.dictionary.specs.Slots.{slot_same}
-use Rattle.save_file.specs.Following.{FollowsEntries, IsBuilt, IsPast, IsToCome, behind_side}
+use Rattle.save_file.specs.Following.{BeginsOther, FollowsEntries, IsBuilt, IsPast, IsToCome, behind_side}
 use Rattle.save_file.specs.SavedText.{end_line, entries, entry_lines, entry_lines_of, side_word, slots}
 use Rattle.save_file.proofs.EntriesFollow.{at_one, come_own, each, past_own}
 use Rattle.save_file.proofs.KeyedLines.{HasNone, HasOther, none_added, skip}
 use Rattle.save_file.proofs.SameAnswers.{same_answers}
 use Rattle.save_file.proofs.SlotsOnce.{all_slots}
 use Rattle.save_file.proofs.SlotsThere.{none_outside, same_slots}
-use Rattle.save_file.proofs.WordLaws.{BeginsOther, end_only, everywhere, no_entry, one_entry, other_entry}
+use Rattle.save_file.proofs.WordLaws.{end_only, everywhere, no_entry, one_entry, other_entry}
 
 -- a line with another first word is none of the slots that are left
 nothing_left : (d : Tree) (side : Side) (b : Answered) (left : List Slot) (a : Answered) (line : List ℕ) (more : List (List ℕ)) → BeginsOther (side_word side) line

@@ -1,5 +1,5 @@
 -- The list of slots has all that stand, and rests on the lists of members alone.
-use Rattle.std.proofs.Common.{◌≡◌, ℕ, zero, suc, ◌+◌, ◌<◌, ◌≤◌, Bool, true, false, ◌&&◌, List, [], ◌∷◌, ◌++◌, length, IsTrue, Option, Some, None, IsSome, is_some, refl, sym, ap, ◌∙◌, append_assoc, arith}
+use Rattle.std.proofs.Common.{◌≡◌, ℕ, zero, suc, ◌+◌, ◌-◌, ◌<◌, ◌≤◌, Bool, true, false, ◌&&◌, List, [], ◌∷◌, ◌++◌, length, drop, IsTrue, Option, Some, None, IsSome, is_some, refl, sym, ap, ◌∙◌, append_assoc, arith}
 use Rattle.std.specs.List.{flat_map, list_any}
 use Rattle.std.specs.FinMap as map
 use Rattle.std.proofs.lemmas.List.{append-nil}
@@ -15,7 +15,9 @@ use Rattle.answers.proofs.StandLaws.{none_some}
 use Rattle.dictionary.specs.Fits.{AnswersFit, takes}
 use Rattle.dictionary.specs.Slots.{slot_same, slots_of, slots_up_to, standing, stands}
 use Rattle.dictionary.proofs.SlotLaws.{listed_stand}
+use Rattle.save_file.specs.Cursors.{slots_from, slots_left}
 use Rattle.save_file.specs.SavedText.{counted, facts, slots}
+use Rattle.save_file.specs.declared.cursor.Cursor.{Cursor}
 
 counted-last : (from n : ℕ) → counted from (suc n) ≡ counted from n ++ (from + n) ∷ []
 counted-last from zero = let e : from ≡ from + 0 = omega arith in ap (λ (k : ℕ). k ∷ []) e
@@ -58,3 +60,17 @@ of_lists lists a = record { next = a.next; lists = lists; globals = a.globals; m
 pub same_slots : (d : Tree) (a b : Answered) → a.lists ≡ b.lists → slots d a ≡ slots d b
 unfolding of_lists
 same_slots d a b e = same_by (slots_of d a) (slots_of d b) (λ f. ap (λ (ls : Numbered (List ℕ)). slots_of d (of_lists ls a) f) e) (facts d)
+
+fact_slots : (d : Tree) (a b : Answered) → a.lists ≡ b.lists → (f : ℕ) → slots_of d a f ≡ slots_of d b f
+unfolding of_lists
+fact_slots d a b e f = ap (λ (ls : Numbered (List ℕ)). slots_of d (of_lists ls a) f) e
+
+same_from : (d : Tree) (a b : Answered) → a.lists ≡ b.lists → (gone : ℕ) (fs : List ℕ) → slots_from d a gone fs ≡ slots_from d b gone fs
+same_from d a b e gone [] = refl
+same_from d a b e gone (f ∷ fs) =
+    ap (λ (ss : List Slot). drop gone ss ++ flat_map (slots_of d a) fs) (fact_slots d a b e f)
+    ∙ ap (λ (ss : List Slot). drop gone (slots_of d b f) ++ ss) (same_by (slots_of d a) (slots_of d b) (fact_slots d a b e) fs)
+
+-- and so do those that a cursor still goes through
+pub left_same : (d : Tree) (a b : Answered) (c : Cursor) → a.lists ≡ b.lists → slots_left d a c ≡ slots_left d b c
+left_same d a b c e = same_from d a b e c.gone (counted (suc c.done) (length d.facts - c.done))

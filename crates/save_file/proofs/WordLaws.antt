@@ -16,7 +16,7 @@ use Rattle.value_text.specs.MemberTexts.{printed_rest}
 use Rattle.value_text.specs.Values.{printed}
 use Rattle.dictionary.specs.Reading.{slot}
 use Rattle.dictionary.specs.SlotText.{slot_text}
-use Rattle.save_file.specs.Following.{behind_lists, behind_side}
+use Rattle.save_file.specs.Following.{BeginsOther, behind_lists, behind_side}
 use Rattle.save_file.specs.SavedText.{end_line, entries, entry_line, entry_lines, entry_lines_of, list_line, list_lines, list_lines_of, side_word, slots}
 use Rattle.save_file.proofs.KeyedLines.{HasOneAtMost, HasOther, cons_not_nil, cons_parts, skip}
 
@@ -75,10 +75,6 @@ no_list d a c e = at (map.get a.lists c) refl e
     at (Some ms) is e = absurd (cons_not_nil (list_line d c ms) [] e)
 
 -- ---- words
-
--- the line doesn't begin with the word
-abbrev pub BeginsOther : List ℕ → List ℕ → Type 0
-BeginsOther word line = (text : List ℕ) → line ≢ word ++ text
 
 -- so it is no entry's line
 pub other_entry : (side : Side) (d : Tree) (a : Answered) (line : List ℕ) → BeginsOther (side_word side) line → (s : Slot) → HasOther (entry_lines side d a) line s

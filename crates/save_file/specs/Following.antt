@@ -121,9 +121,13 @@ Judges d old line (Ok new) = IsStage d new × TakesLine d old line new
 Judges d old line (Err BadLine) = (a : Answered) (more : List (List ℕ)) → ¬ Follows d old a (line ∷ more)
 Judges d old line (Err NoMemory) = Unit {0}
 
+-- the line doesn't begin with the word
+abbrev pub BeginsOther : List ℕ → List ℕ → Type 0
+BeginsOther word line = (text : List ℕ) → line ≢ word ++ text
+
 -- where a line doesn't begin with the word, as much goes on with it from the one as from the other
 abbrev pub GoesOn : Tree → List ℕ → Stage → Stage → Type 0
-GoesOn d word old new = (a : Answered) (line : List ℕ) (more : List (List ℕ)) → ((text : List ℕ) → line ≢ word ++ text) → Follows d old a (line ∷ more) ↔ Follows d new a (line ∷ more)
+GoesOn d word old new = (a : Answered) (line : List ℕ) (more : List (List ℕ)) → BeginsOther word line → Follows d old a (line ∷ more) ↔ Follows d new a (line ∷ more)
 
 -- the line was read, or is refused by its number: no answers go on with it, or it is no UTF-8
 abbrev pub ReadsOn : Tree → Stage → List ℕ → ℕ → Result Stage LoadFault → Type 0

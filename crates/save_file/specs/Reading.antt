@@ -13,7 +13,8 @@ use Rattle.script_lines.specs.declared.fault.LineFault.{LineFault}
 use Rattle.script_lines.specs.declared.fault.LineFault.TheVariants.{BadLine, NoMemory}
 use Rattle.dict_tree.specs.Dictionary.{Dictionary as Tree}
 use Rattle.dict_tree.specs.Finding.{IsNumber}
-use Rattle.dictionary.specs.Fits.{is_list}
+use Rattle.answers.specs.declared.edit.Side.{Side}
+use Rattle.dictionary.specs.Fits.{is_list, takes}
 use Rattle.dictionary.specs.Reading.{slot}
 use Rattle.dictionary.specs.SlotText.{slot_text}
 use Rattle.graph_session.specs.Kinds.{value_spelled}
@@ -90,3 +91,9 @@ abbrev pub ReadsPrinted : Tree → ℕ → List ℕ → Result Value LineFault �
 ReadsPrinted d fact text (Ok v) = (value_spelled d fact text ≡ Some v) × (printed d.enums v ≡ text)
 ReadsPrinted d fact text (Err BadLine) = (v : Value) → value_spelled d fact text ≡ Some v → printed d.enums v ≢ text
 ReadsPrinted d fact text (Err NoMemory) = Unit {0}
+
+-- the same, of a fact whose slots may have a value on the side
+abbrev pub ReadsValue : Tree → Side → ℕ → List ℕ → Result Value LineFault → Type 0
+ReadsValue d side fact text (Ok v) = IsTrue (takes side d fact) × ((value_spelled d fact text ≡ Some v) × (printed d.enums v ≡ text))
+ReadsValue d side fact text (Err BadLine) = IsTrue (takes side d fact) → (v : Value) → value_spelled d fact text ≡ Some v → printed d.enums v ≢ text
+ReadsValue d side fact text (Err NoMemory) = Unit {0}

@@ -1,0 +1,15 @@
+use Rattle.std.proofs.Common.{◌≡◌, ℕ, ◌+◌, ◌≤◌, List, ◌++◌, length}
+use Rattle.script_lines.specs.Lines.{lines_of}
+use Rattle.dictionary.specs.Accepted.{accepted}
+use Rattle.save_file.specs.Following.{HasRead, IsStage}
+use Rattle.save_file.proofs.loading.load_lines.Given as goal
+
+abbrev pub invariant-loop-rest : goal.invariant-loop-rest
+invariant-loop-rest l = record {
+  told : (ls : List (List ℕ)) × HasRead (accepted l.dict).tree ls l.stage × (lines_of l.fn.bytes ≡ ls ++ lines_of l.rest) × (l.number ≡ length ls + 1);
+  sound : IsStage (accepted l.dict).tree l.stage;
+  room : l.number + length l.rest ≤ length l.fn.bytes + 1;
+}
+
+abbrev pub decreases-loop-rest : goal.decreases-loop-rest
+decreases-loop-rest l = length l.rest
