@@ -3,7 +3,7 @@ use Rattle.std.proofs.Common.{◌≡◌, ℕ, ◌-◌, ◌≤◌, Bool, true, fa
 use Rattle.std.specs.Prelude.{Ok, if◌then◌else◌}
 use Rattle.std.proofs.lemmas.List.{append-nil, take_all}
 use Rattle.fg_io.specs.Sent.{Sent}
-use Rattle.fg_io.proofs.SentLaws.{appends_more, sent_none, sent_on}
+use Rattle.fg_io.proofs.SentLaws.{sent_none, sent_on}
 use Rattle.script_lines.specs.Lines.{ScriptLine, script_lines, ready_lines}
 use Rattle.script_lines.specs.declared.command.Command.{Command}
 use Rattle.script_lines.specs.declared.lines.Ready.{Ready}

@@ -20,7 +20,9 @@ use Rattle.interview.specs.declared.status.Status.{Status}
 use Rattle.interview.specs.declared.built_in.BuiltIn.{BuiltIn}
 use Rattle.interview.specs.declared.built_in.BuiltIn.TheVariants.{Year2023, Year2024}
 use Rattle.fg_io.specs.Outside.{MayHold, Told, missing}
-use Rattle.interview.specs.Words.{Fetches, HasNoForm, IsCheck, IsRun, Origin, file, program}
+use Rattle.interview.specs.declared.words.Engine.{Engine}
+use Rattle.interview.specs.declared.words.Engine.TheVariants.{Incremental, Plain}
+use Rattle.interview.specs.Words.{Fetches, HasNoForm, IsCheck, IsRun, IsRunOver, Origin, file, program, words_for}
 use Rattle.interview.specs.Dictionaries.{Content, Gives, HasFault, IsAcceptedAs, MayGive, brought, facts_of, spelled, tables_of}
 use Rattle.interview.specs.Interview.{OneEndOfRun, defined_fault, defined_script}
 use Rattle.interview.specs.StepEnds.{FetchedAs, ObtainedAs}
@@ -32,42 +34,67 @@ same_second : (first other a b : List ℕ) → first ∷ a ∷ [] ≡ other ∷ 
 same_second first other a b both = cc
 
 -- no words of a run are those of a check
+apart_over : (words : List (List ℕ)) (origin : Origin) (engine : Engine) (name : List ℕ) → IsRunOver words origin engine → IsCheck words name → ⊥
+apart_over words (file a) Incremental b p q = let both : codes "run" ∷ a ∷ [] ≡ codes "check" ∷ b ∷ [] = sym p ∙ q in cc
+apart_over words (file a) Plain b p q = let both : codes "run-plain" ∷ a ∷ [] ≡ codes "check" ∷ b ∷ [] = sym p ∙ q in cc
+apart_over words (program Year2023) Incremental b p q = let both : codes "year" ∷ codes "2023" ∷ [] ≡ codes "check" ∷ b ∷ [] = sym p ∙ q in cc
+apart_over words (program Year2024) Incremental b p q = let both : codes "year" ∷ codes "2024" ∷ [] ≡ codes "check" ∷ b ∷ [] = sym p ∙ q in cc
+apart_over words (program c) Plain b p q = absurd p
+
 pub not_both : (words : List (List ℕ)) (origin : Origin) (name : List ℕ) → IsRun words origin → IsCheck words name → ⊥
-not_both words (file a) b (inl p) q = let both : codes "run" ∷ a ∷ [] ≡ codes "check" ∷ b ∷ [] = sym p ∙ q in cc
-not_both words (file a) b (inr p) q = let both : codes "run-plain" ∷ a ∷ [] ≡ codes "check" ∷ b ∷ [] = sym p ∙ q in cc
-not_both words (program Year2023) b p q = let both : codes "year" ∷ codes "2023" ∷ [] ≡ codes "check" ∷ b ∷ [] = sym p ∙ q in cc
-not_both words (program Year2024) b p q = let both : codes "year" ∷ codes "2024" ∷ [] ≡ codes "check" ∷ b ∷ [] = sym p ∙ q in cc
+not_both words origin name run check = apart_over words origin run.engine name run.over check
 
 -- the words of a run name one dictionary
-named : (words : List (List ℕ)) (a : List ℕ) → IsRun words (file a) → (first : List ℕ) × (words ≡ first ∷ a ∷ [])
-named words a (inl is) = (codes "run", is)
-named words a (inr is) = (codes "run-plain", is)
+abbrev first_word : Engine → List ℕ
+first_word Incremental = codes "run"
+first_word Plain = codes "run-plain"
 
-not_brought : (words : List (List ℕ)) (b : BuiltIn) (name : List ℕ) → IsRun words (program b) → IsRun words (file name) → ⊥
-not_brought words Year2023 a p (inl q) = let both : codes "year" ∷ codes "2023" ∷ [] ≡ codes "run" ∷ a ∷ [] = sym p ∙ q in cc
-not_brought words Year2023 a p (inr q) = let both : codes "year" ∷ codes "2023" ∷ [] ≡ codes "run-plain" ∷ a ∷ [] = sym p ∙ q in cc
-not_brought words Year2024 a p (inl q) = let both : codes "year" ∷ codes "2024" ∷ [] ≡ codes "run" ∷ a ∷ [] = sym p ∙ q in cc
-not_brought words Year2024 a p (inr q) = let both : codes "year" ∷ codes "2024" ∷ [] ≡ codes "run-plain" ∷ a ∷ [] = sym p ∙ q in cc
+named : (words : List (List ℕ)) (a : List ℕ) (engine : Engine) → IsRunOver words (file a) engine → words ≡ first_word engine ∷ a ∷ []
+named words a Incremental is = is
+named words a Plain is = is
+
+not_brought : (words : List (List ℕ)) (b : BuiltIn) (name : List ℕ) (engine other : Engine) → IsRunOver words (program b) engine → IsRunOver words (file name) other → ⊥
+not_brought words Year2023 a Incremental Incremental p q = let both : codes "year" ∷ codes "2023" ∷ [] ≡ codes "run" ∷ a ∷ [] = sym p ∙ q in cc
+not_brought words Year2023 a Incremental Plain p q = let both : codes "year" ∷ codes "2023" ∷ [] ≡ codes "run-plain" ∷ a ∷ [] = sym p ∙ q in cc
+not_brought words Year2024 a Incremental Incremental p q = let both : codes "year" ∷ codes "2024" ∷ [] ≡ codes "run" ∷ a ∷ [] = sym p ∙ q in cc
+not_brought words Year2024 a Incremental Plain p q = let both : codes "year" ∷ codes "2024" ∷ [] ≡ codes "run-plain" ∷ a ∷ [] = sym p ∙ q in cc
+not_brought words b a Plain other p q = absurd p
 
 -- each year has words of its own: the fourth digit differs
 abbrev fourth_digit : List (List ℕ) → ℕ
 fourth_digit (first ∷ (a ∷ b ∷ c ∷ d ∷ rest) ∷ more) = d
 fourth_digit words = 0
 
-one_year : (words : List (List ℕ)) (b c : BuiltIn) → IsRun words (program b) → IsRun words (program c) → b ≡ c
+one_year : (words : List (List ℕ)) (b c : BuiltIn) → words ≡ words_for b → words ≡ words_for c → b ≡ c
 one_year words Year2023 Year2023 p q = refl
 one_year words Year2024 Year2024 p q = refl
 one_year words Year2023 Year2024 p q = absurd (omega (arith, ap fourth_digit (sym p ∙ q)))
 one_year words Year2024 Year2023 p q = absurd (omega (arith, ap fourth_digit (sym p ∙ q)))
 
+-- words run over one dictionary, and over one engine
+one_origin : (words : List (List ℕ)) (o p : Origin) (e f : Engine) → IsRunOver words o e → IsRunOver words p f → o ≡ p
+one_origin words (file a) (file b) e f h k = ap file (same_second (first_word e) (first_word f) a b (sym (named words a e h) ∙ named words b f k))
+one_origin words (program b) (program c) Incremental Incremental h k = ap program (one_year words b c h k)
+one_origin words (program b) (program c) Plain f h k = absurd h
+one_origin words (program b) (program c) Incremental Plain h k = absurd k
+one_origin words (file a) (program b) e f h k = absurd (not_brought words b a f e k h)
+one_origin words (program b) (file a) e f h k = absurd (not_brought words b a e f h k)
+
 pub same_origin : (words : List (List ℕ)) (o p : Origin) → IsRun words o → IsRun words p → o ≡ p
-same_origin words (file a) (file b) h k =
-    let one = named words a h in
-    let two = named words b k in
-    ap file (same_second one.0 two.0 a b (sym one.1 ∙ two.1))
-same_origin words (program b) (program c) h k = ap program (one_year words b c h k)
-same_origin words (file a) (program b) h k = absurd (not_brought words b a k h)
-same_origin words (program b) (file a) h k = absurd (not_brought words b a h k)
+same_origin words o p h k = one_origin words o p h.engine k.engine h.over k.over
+
+one_engine : (words : List (List ℕ)) (o p : Origin) (e f : Engine) → IsRunOver words o e → IsRunOver words p f → e ≡ f
+one_engine words o p Incremental Incremental h k = refl
+one_engine words o p Plain Plain h k = refl
+one_engine words (file a) (file b) Incremental Plain h k = let both : codes "run" ∷ a ∷ [] ≡ codes "run-plain" ∷ b ∷ [] = sym h ∙ k in cc
+one_engine words (file a) (file b) Plain Incremental h k = let both : codes "run-plain" ∷ a ∷ [] ≡ codes "run" ∷ b ∷ [] = sym h ∙ k in cc
+one_engine words (program b) (file a) Incremental Plain h k = absurd (not_brought words b a Incremental Plain h k)
+one_engine words (file a) (program b) Plain Incremental h k = absurd (not_brought words b a Incremental Plain k h)
+one_engine words (program b) p Plain Incremental h k = absurd h
+one_engine words o (program b) Incremental Plain h k = absurd k
+
+pub same_engine : (words : List (List ℕ)) (o p : Origin) (h : IsRun words o) (k : IsRun words p) → h.engine ≡ k.engine
+same_engine words o p h k = one_engine words o p h.engine k.engine h.over k.over
 
 pub same_check : (words : List (List ℕ)) (a b : List ℕ) → IsCheck words a → IsCheck words b → a ≡ b
 same_check words a b h k = same_second (codes "check") (codes "check") a b (sym h ∙ k)
@@ -78,35 +105,37 @@ none_fetched words name none (inr asked) = none.1 name asked
 
 -- nothing is fetched for the words of a year
 pub brought_unfetched : (words : List (List ℕ)) (b : BuiltIn) (name : List ℕ) → IsRun words (program b) → Fetches words name → ⊥
-brought_unfetched words b name asked (inl fetched) = not_brought words b name asked fetched
+brought_unfetched words b name asked (inl fetched) = not_brought words b name asked.engine fetched.engine asked.over fetched.over
 brought_unfetched words b name asked (inr checked) = not_both words (program b) name asked checked
 
 -- ---- words without a form
 
-no_run_of_year : (year : List ℕ) → (year ≡ codes "2023" → ⊥) → (year ≡ codes "2024" → ⊥) → (o : Origin) → IsRun (codes "year" ∷ year ∷ []) o → ⊥
-no_run_of_year year a b (file name) (inl asked) = let both : codes "year" ∷ year ∷ [] ≡ codes "run" ∷ name ∷ [] = asked in cc
-no_run_of_year year a b (file name) (inr asked) = let both : codes "year" ∷ year ∷ [] ≡ codes "run-plain" ∷ name ∷ [] = asked in cc
-no_run_of_year year a b (program Year2023) asked = a (same_second (codes "year") (codes "year") year (codes "2023") asked)
-no_run_of_year year a b (program Year2024) asked = b (same_second (codes "year") (codes "year") year (codes "2024") asked)
+no_run_of_year : (year : List ℕ) → (year ≡ codes "2023" → ⊥) → (year ≡ codes "2024" → ⊥) → (o : Origin) (engine : Engine) → IsRunOver (codes "year" ∷ year ∷ []) o engine → ⊥
+no_run_of_year year a b (file name) Incremental asked = let both : codes "year" ∷ year ∷ [] ≡ codes "run" ∷ name ∷ [] = asked in cc
+no_run_of_year year a b (file name) Plain asked = let both : codes "year" ∷ year ∷ [] ≡ codes "run-plain" ∷ name ∷ [] = asked in cc
+no_run_of_year year a b (program Year2023) Incremental asked = a (same_second (codes "year") (codes "year") year (codes "2023") asked)
+no_run_of_year year a b (program Year2024) Incremental asked = b (same_second (codes "year") (codes "year") year (codes "2024") asked)
+no_run_of_year year a b (program c) Plain asked = asked
 
 no_check_of_year : (year name : List ℕ) → IsCheck (codes "year" ∷ year ∷ []) name → ⊥
 no_check_of_year year name asked = let both : codes "year" ∷ year ∷ [] ≡ codes "check" ∷ name ∷ [] = asked in cc
 
 -- behind `year` stands no year
 pub no_year : (year : List ℕ) → (year ≡ codes "2023" → ⊥) → (year ≡ codes "2024" → ⊥) → HasNoForm (codes "year" ∷ year ∷ [])
-no_year year a b = (no_run_of_year year a b, no_check_of_year year)
+no_year year a b = (λ o asked. no_run_of_year year a b o asked.engine asked.over, no_check_of_year year)
 
 no_run : (words : List (List ℕ)) → ((name : List ℕ) → words ≡ codes "run" ∷ name ∷ [] → ⊥) → ((name : List ℕ) → words ≡ codes "run-plain" ∷ name ∷ [] → ⊥) → ((year : List ℕ) → words ≡ codes "year" ∷ year ∷ [] → ⊥)
-    → (o : Origin) → IsRun words o → ⊥
-no_run words run plain year (file name) (inl asked) = run name asked
-no_run words run plain year (file name) (inr asked) = plain name asked
-no_run words run plain year (program Year2023) asked = year (codes "2023") asked
-no_run words run plain year (program Year2024) asked = year (codes "2024") asked
+    → (o : Origin) (engine : Engine) → IsRunOver words o engine → ⊥
+no_run words run plain year (file name) Incremental asked = run name asked
+no_run words run plain year (file name) Plain asked = plain name asked
+no_run words run plain year (program Year2023) Incremental asked = year (codes "2023") asked
+no_run words run plain year (program Year2024) Incremental asked = year (codes "2024") asked
+no_run words run plain year (program b) Plain asked = asked
 
 -- no first word of a form is followed by one word
 pub no_form : (words : List (List ℕ)) → ((name : List ℕ) → words ≡ codes "run" ∷ name ∷ [] → ⊥) → ((name : List ℕ) → words ≡ codes "run-plain" ∷ name ∷ [] → ⊥) → ((year : List ℕ) → words ≡ codes "year" ∷ year ∷ [] → ⊥)
     → ((name : List ℕ) → words ≡ codes "check" ∷ name ∷ [] → ⊥) → HasNoForm words
-no_form words run plain year check = (no_run words run plain year, check)
+no_form words run plain year check = (λ o asked. no_run words run plain year o asked.engine asked.over, check)
 
 -- ---- what comes from there
 
@@ -177,10 +206,10 @@ one_first_fault checks (spelled bytes) fault other h k = one_fault bytes (names_
 one_first_fault checks (brought b) fault other h k = absurd (brought_has_none b fault h)
 
 pub one_run : OneEndOfRun
-one_run content checks script d e (inl (r, is, to)) (inl (s, is_other, to_other)) = to ∙ ap (λ q. defined_script q script) (one_set_of_rules checks content r s is is_other) ∙ sym to_other
-one_run content checks script d e (inl (r, is, to)) (inr (fault, is_fault, to_fault)) = absurd (accepted_is_faultless checks content r fault is is_fault)
-one_run content checks script d e (inr (fault, is_fault, to_fault)) (inl (r, is, to)) = absurd (accepted_is_faultless checks content r fault is is_fault)
-one_run content checks script d e (inr (fault, is, to)) (inr (other, is_other, to_other)) = to ∙ ap defined_fault (one_first_fault checks content fault other is is_other) ∙ sym to_other
+one_run content checks stamps script d e (inl (r, is, to)) (inl (s, is_other, to_other)) = to ∙ ap (λ q. defined_script q stamps script) (one_set_of_rules checks content r s is is_other) ∙ sym to_other
+one_run content checks stamps script d e (inl (r, is, to)) (inr (fault, is_fault, to_fault)) = absurd (accepted_is_faultless checks content r fault is is_fault)
+one_run content checks stamps script d e (inr (fault, is_fault, to_fault)) (inl (r, is, to)) = absurd (accepted_is_faultless checks content r fault is is_fault)
+one_run content checks stamps script d e (inr (fault, is, to)) (inr (other, is_other, to_other)) = to ∙ ap defined_fault (one_first_fault checks content fault other is is_other) ∙ sym to_other
 
 -- what a session goes by is an accepted dictionary
 pub rules_are_accepted : (checks : List Named) (content : Content) (r : Rules) → IsAcceptedAs checks content r → (names : List (List ℕ)) × IsAccepted names r.accepted

@@ -1,26 +1,17 @@
 -- Each result of a slot has a text.
-use Rattle.std.proofs.Common.{◌≡◌, ℕ, zero, suc, ◌<◌, IsTrue, IsSome, List, [], ◌∷◌, length, slice_get, Option, Some, None, is_some, option_map, unwrap_or, refl, sym, ap, subst, ◌∙◌, arith}
-use Rattle.std.specs.Prelude.{option_and_then}
-use Rattle.std.proofs.lemmas.Option.{slice_get-get_or}
+use Rattle.std.proofs.Common.{◌≡◌, ℕ, IsTrue, List, Some, is_some, sym, ap, subst, ◌∙◌}
 use Rattle.fact_values.specs.declared.fact_type.FactType.{FactType}
-use Rattle.fact_values.specs.declared.fact_type.FactType.TheVariants as types
 use Rattle.fact_values.specs.declared.slot.Slot.{Slot}
-use Rattle.fact_values.specs.declared.value.Value.{Value}
-use Rattle.fact_values.specs.declared.value.Value.TheVariants as values
-use Rattle.value_text.specs.Enums.{Listed, option_at}
-use Rattle.value_text.specs.Values.{IsPrinted}
-use Rattle.dict_tree.specs.Facts.{Fact}
+use Rattle.value_text.specs.Enums.{Listed}
 use Rattle.dict_tree.specs.Dictionary.{Dictionary as Tree, Written}
-use Rattle.dict_tree.specs.Finding.{fact_at}
 use Rattle.three_state.specs.declared.res.Res.{Res}
 use Rattle.three_state.specs.declared.res.Res.TheVariants.{Complete, Placeholder}
-use Rattle.evaluation.specs.Typed.{IsOfType, IsResOfType}
+use Rattle.evaluation.specs.Typed.{IsResOfType}
 use Rattle.answers.specs.Answered.{Answered}
 use Rattle.dictionary.specs.Accepted.{Accepted, IsAccepted, Kept, accepted, names_of}
 use Rattle.dictionary.specs.Fits.{AnswersFit, domains}
-use Rattle.dictionary.specs.Homes.{home}
 use Rattle.dictionary.specs.Plain.{plain}
-use Rattle.dictionary.specs.Slots.{stands, stands_of}
+use Rattle.dictionary.specs.Slots.{stands}
 use Rattle.dictionary.proofs.FactTypes.{typed_fact, type_of_number}
 use Rattle.dictionary.proofs.PlainLaws.{standing_have_results}
 use Rattle.dictionary.proofs.TypedResultLaws.{typed_results}

@@ -1,5 +1,5 @@
 -- A script at its end: what was written is what is defined.
-use Rattle.std.proofs.Common.{◌≡◌, ℕ, ◌+◌, ◌-◌, ◌<◌, ◌≤◌, true, false, List, [], ◌∷◌, ◌++◌, length, take, Option, refl, sym, ap, subst, ◌∙◌, arith, append_assoc, length-append}
+use Rattle.std.proofs.Common.{◌≡◌, ℕ, ◌+◌, ◌-◌, ◌<◌, ◌≤◌, Bool, true, false, List, [], ◌∷◌, ◌++◌, length, take, Option, refl, sym, ap, subst, ◌∙◌, arith, append_assoc, length-append}
 use Rattle.std.specs.Prelude.{nat_le, if◌then◌else◌}
 use Rattle.std.proofs.lemmas.Bool.{le-leb, lt-leb}
 use Rattle.std.proofs.lemmas.List.{append-nil}
@@ -63,29 +63,29 @@ long_lines front more full long =
     ap (λ b. if b then script_lines (front ++ more) else ended_lines (take script_limit (front ++ more))) (lt-leb (length (front ++ more)) script_limit long)
     ∙ ap ended_lines (ap (λ n. take n (front ++ more)) (sym full) ∙ take-append_seam front more)
 
-module _ (r : Rules) (script : List ℕ) where
-  pub defined_text : (defined_script r script).text ≡ replies r (at_start r) (answered_lines script)
+module _ (r : Rules) (stamps : Bool) (script : List ℕ) where
+  pub defined_text : (defined_script r stamps script).text ≡ replies r (at_start r stamps) (answered_lines script)
   unfolding defined_script
   defined_text = refl
 
   -- it is done within the limit, and where `quit` is among the lines
-  pub short_is_done : length script ≤ script_limit → (defined_script r script).status ≡ Done
+  pub short_is_done : length script ≤ script_limit → (defined_script r stamps script).status ≡ Done
   unfolding defined_script
-  short_is_done short = ap (λ b. if b then Done else if (state_after r (at_start r) (answered_lines script)).over then Done else ScriptTooLong) (le-leb (length script) script_limit short)
+  short_is_done short = ap (λ b. if b then Done else if (state_after r (at_start r stamps) (answered_lines script)).over then Done else ScriptTooLong) (le-leb (length script) script_limit short)
 
-  pub over_is_done : (state_after r (at_start r) (answered_lines script)).over ≡ true → (defined_script r script).status ≡ Done
+  pub over_is_done : (state_after r (at_start r stamps) (answered_lines script)).over ≡ true → (defined_script r stamps script).status ≡ Done
   unfolding defined_script
   over_is_done over =
-      elim (nat_le (length script) script_limit) as (λ b. (if b then Done else if (state_after r (at_start r) (answered_lines script)).over then Done else ScriptTooLong) ≡ Done) [
+      elim (nat_le (length script) script_limit) as (λ b. (if b then Done else if (state_after r (at_start r stamps) (answered_lines script)).over then Done else ScriptTooLong) ≡ Done) [
         | true ↦ refl
         | false ↦ ap (λ b. if b then Done else ScriptTooLong) over
       ]
 
   -- and else too long
-  pub long_is_too_long : script_limit < length script → (state_after r (at_start r) (answered_lines script)).over ≡ false → (defined_script r script).status ≡ ScriptTooLong
+  pub long_is_too_long : script_limit < length script → (state_after r (at_start r stamps) (answered_lines script)).over ≡ false → (defined_script r stamps script).status ≡ ScriptTooLong
   unfolding defined_script
   long_is_too_long long open_still =
-      ap (λ b. if b then Done else if (state_after r (at_start r) (answered_lines script)).over then Done else ScriptTooLong) (lt-leb (length script) script_limit long)
+      ap (λ b. if b then Done else if (state_after r (at_start r stamps) (answered_lines script)).over then Done else ScriptTooLong) (lt-leb (length script) script_limit long)
       ∙ ap (λ b. if b then Done else ScriptTooLong) open_still
 
 -- ---- a piece behind the bytes that were answered
@@ -105,30 +105,34 @@ replied_then r r_now a b c here here_now bytes held chunk chunk_now held_next be
     piece.cut piece.wrote piece.left
 
 -- before the first byte
-pub none_so_far : (session : SessionView) (left taken : Option (List ℕ)) → course session ≡ beginning (rules session.dict) → AnsweredSoFar (rules session.dict) left left taken taken 0 session []
-none_so_far session left taken begun = record {
+pub none_so_far : (stamps : Bool) (session : SessionView) (left taken : Option (List ℕ)) → course session ≡ beginning (rules session.dict) stamps → AnsweredSoFar (rules session.dict) stamps left left taken taken 0 session []
+none_so_far stamps session left taken begun = record {
   bytes = [];
   read = consumes_none left;
   counted = refl;
   same_rules = refl;
   few = let none : session.changes ≡ 0 = ap (λ (c : Course). c.changes) begun in omega (arith, none);
-  replied = subst (λ (c : Course). RepliedLines (rules session.dict) taken taken (beginning (rules session.dict)) [] [] (open_at c) [] [] []) (sym begun) (replied_none (rules session.dict) taken (beginning (rules session.dict)) [] []);
+  replied = subst (λ (c : Course). RepliedLines (rules session.dict) taken taken (beginning (rules session.dict) stamps) [] [] (open_at c) [] [] []) (sym begun) (replied_none (rules session.dict) taken (beginning (rules session.dict) stamps) [] []);
   unended = λ k d h. absurd (omega (arith, h));
 }
 
-pub more_so_far : (r : Rules) (a b c : Option (List ℕ)) (left left_now left_next : Option (List ℕ)) (count n : ℕ) (session session_next : SessionView) (held held_next chunk chunk_now : List ℕ)
-    → AnsweredSoFar r left left_now a b count session held → Consumes left_now left_next chunk → n ≡ length chunk → chunk_now ≡ chunk → session_next.dict ≡ session.dict → session_next.changes ≤ session.changes + length chunk_now
+-- these bytes more
+pub more_so_far : (r : Rules) (stamps : Bool) (a b c : Option (List ℕ)) (left left_now left_next : Option (List ℕ)) (count n : ℕ) (session session_next : SessionView) (held held_next chunk chunk_now : List ℕ)
+    → (so_far : AnsweredSoFar r stamps left left_now a b count session held) → Consumes left_now left_next chunk → n ≡ length chunk → chunk_now ≡ chunk → session_next.dict ≡ session.dict → session_next.changes ≤ session.changes + length chunk_now
     → RepliedLines (rules session.dict) b c (course session) held chunk_now (open_at (course session_next)) held_next [] [] → HasNoNewline held_next
-    → AnsweredSoFar r left left_next a c (count + n) session_next held_next
-more_so_far r a b c left left_now left_next count n session session_next held held_next chunk chunk_now so_far read long same_chunk same_dict few replied unended = record {
-  bytes = so_far.bytes ++ chunk;
-  read = consumes_more left left_now left_next so_far.bytes chunk so_far.read read;
-  counted = omega (arith, so_far.counted, long, length-append so_far.bytes chunk);
-  same_rules = ap rules same_dict ∙ so_far.same_rules;
-  few = omega (arith, few, so_far.few, long, ap length same_chunk);
-  replied = replied_then r (rules session.dict) a b c (beginning r) (course session) so_far.bytes held chunk chunk_now held_next [] [] (open_at (course session_next)) so_far.replied so_far.same_rules same_chunk replied;
-  unended = unended;
-}
+    → (now : AnsweredSoFar r stamps left left_next a c (count + n) session_next held_next) × (now.bytes ≡ so_far.bytes ++ chunk)
+more_so_far r stamps a b c left left_now left_next count n session session_next held held_next chunk chunk_now so_far read long same_chunk same_dict few replied unended = (
+  record {
+    bytes = so_far.bytes ++ chunk;
+    read = consumes_more left left_now left_next so_far.bytes chunk so_far.read read;
+    counted = omega (arith, so_far.counted, long, length-append so_far.bytes chunk);
+    same_rules = ap rules same_dict ∙ so_far.same_rules;
+    few = omega (arith, few, so_far.few, long, ap length same_chunk);
+    replied = replied_then r (rules session.dict) a b c (beginning r stamps) (course session) so_far.bytes held chunk chunk_now held_next [] [] (open_at (course session_next)) so_far.replied so_far.same_rules same_chunk replied;
+    unended = unended;
+  },
+  refl,
+)
 
 -- ---- ends
 
@@ -137,16 +141,16 @@ pub part_of : (taken : Stream) (text more defined : List ℕ) → defined ≡ te
 part_of taken text more defined split wrote = (more, record { front = text; took = wrote; split = split })
 
 -- the replies to the first lines that are answered are a part of what is defined
-module _ (r : Rules) (script : List ℕ) (lines others : List ScriptLine) (answers : answered_lines script ≡ lines ++ others) where
-  pub first_lines : (defined_script r script).text ≡ replies r (at_start r) lines ++ replies r (state_after r (at_start r) lines) others
-  first_lines = defined_text r script ∙ ap (replies r (at_start r)) answers ∙ replies-append r (at_start r) lines others
+module _ (r : Rules) (stamps : Bool) (script : List ℕ) (lines others : List ScriptLine) (answers : answered_lines script ≡ lines ++ others) where
+  pub first_lines : (defined_script r stamps script).text ≡ replies r (at_start r stamps) lines ++ replies r (state_after r (at_start r stamps) lines) others
+  first_lines = defined_text r stamps script ∙ ap (replies r (at_start r stamps)) answers ∙ replies-append r (at_start r stamps) lines others
 
-  pub part_by_lines : (taken : Stream) → SentWhole taken (replies r (at_start r) lines) → SentPart taken (defined_script r script).text
-  part_by_lines taken wrote = part_of taken (replies r (at_start r) lines) (replies r (state_after r (at_start r) lines) others) (defined_script r script).text first_lines wrote
+  pub part_by_lines : (taken : Stream) → SentWhole taken (replies r (at_start r stamps) lines) → SentPart taken (defined_script r stamps script).text
+  part_by_lines taken wrote = part_of taken (replies r (at_start r stamps) lines) (replies r (state_after r (at_start r stamps) lines) others) (defined_script r stamps script).text first_lines wrote
 
 -- the replies to the first lines of a script were written
-pub replied_first : (r : Rules) (did : ScriptDid) (script : List ℕ) (lines others : List ScriptLine) → MayBe did.left.before script → answered_lines script ≡ lines ++ others → SentWhole did.taken (replies r (at_start r) lines) → RepliedFirst r did
-replied_first r did script lines others read answers wrote = record {
+pub replied_first : (r : Rules) (stamps : Bool) (did : ScriptDid) (script : List ℕ) (lines others : List ScriptLine) → MayBe did.left.before script → answered_lines script ≡ lines ++ others → SentWhole did.taken (replies r (at_start r stamps) lines) → RepliedFirst r stamps did
+replied_first r stamps did script lines others read answers wrote = record {
   script = script;
   read = read;
   count = length lines;
@@ -154,9 +158,9 @@ replied_first r did script lines others read answers wrote = record {
 }
 
 -- what was written of a script whose front was answered
-module _ (r : Rules) (did : ScriptDid) (front rest : List ℕ) (state_now : State) (held_now behind : List ℕ) (replied : RepliedLines r did.taken.before did.taken.after (beginning r) [] front state_now held_now behind rest) (short : length front ≤ script_limit) where
+module _ (r : Rules) (stamps : Bool) (did : ScriptDid) (front rest : List ℕ) (state_now : State) (held_now behind : List ℕ) (replied : RepliedLines r did.taken.before did.taken.after (beginning r stamps) [] front state_now held_now behind rest) (short : length front ≤ script_limit) where
   abbrev text : List ℕ
-  text = replies r (at_start r) replied.lines
+  text = replies r (at_start r stamps) replied.lines
 
   whole : rest ≡ [] → SentWhole did.taken text
   whole none = sent_whole did.taken.before did.taken.after text (subst (λ l. Sent did.taken.before did.taken.after text l) none replied.wrote)
@@ -172,41 +176,41 @@ module _ (r : Rules) (did : ScriptDid) (front rest : List ℕ) (state_now : Stat
       (ended_lines (held_now ++ behind) ++ ended.0, ended.1 ∙ ap (λ l. l ++ ended.0) front_ended ∙ append_assoc replied.lines (ended_lines (held_now ++ behind)) ended.0)
 
   -- a part of it
-  pub part_written : (more : List ℕ) → SentPart did.taken (defined_script r (front ++ more)).text
+  pub part_written : (more : List ℕ) → SentPart did.taken (defined_script r stamps (front ++ more)).text
   part_written more =
       let answered = front_answered more in
-      let others = replies r (state_after r (at_start r) replied.lines) answered.0 in (
+      let others = replies r (state_after r (at_start r stamps) replied.lines) answered.0 in (
         rest ++ others,
         record {
           front = replied.wrote.front;
           took = replied.wrote.took;
-          split = first_lines r (front ++ more) replied.lines answered.0 answered.1 ∙ ap (λ l. l ++ others) replied.wrote.split ∙ append_assoc replied.wrote.front rest others;
+          split = first_lines r stamps (front ++ more) replied.lines answered.0 answered.1 ∙ ap (λ l. l ++ others) replied.wrote.split ∙ append_assoc replied.wrote.front rest others;
         },
       )
 
   -- all of it, where one of them was `quit`
   module _ (over : state_now.over ≡ true) where
-    over_now : (state_after r (at_start r) replied.lines).over ≡ true
+    over_now : (state_after r (at_start r stamps) replied.lines).over ≡ true
     over_now = ap (λ (s : State). s.over) replied.left ∙ over
 
-    over_behind : (lines others : List ScriptLine) → lines ≡ replied.lines ++ others → (state_after r (at_start r) lines).over ≡ true
+    over_behind : (lines others : List ScriptLine) → lines ≡ replied.lines ++ others → (state_after r (at_start r stamps) lines).over ≡ true
     over_behind lines others are =
-        ap (λ l. (state_after r (at_start r) l).over) are
-        ∙ ap (λ (s : State). s.over) (state_after-append r (at_start r) replied.lines others ∙ stays_over r (state_after r (at_start r) replied.lines) others over_now)
+        ap (λ l. (state_after r (at_start r stamps) l).over) are
+        ∙ ap (λ (s : State). s.over) (state_after-append r (at_start r stamps) replied.lines others ∙ stays_over r (state_after r (at_start r stamps) replied.lines) others over_now)
         ∙ over_now
 
     -- it ended in the front
-    pub over_in_front : (state_after r (at_start r) (ended_lines front)).over ≡ true
+    pub over_in_front : (state_after r (at_start r stamps) (ended_lines front)).over ≡ true
     over_in_front = over_behind (ended_lines front) (ended_lines (held_now ++ behind)) front_ended
 
-    pub over_written : (more : List ℕ) → rest ≡ [] → ((defined_script r (front ++ more)).status ≡ Done) × SentWhole did.taken (defined_script r (front ++ more)).text
+    pub over_written : (more : List ℕ) → rest ≡ [] → ((defined_script r stamps (front ++ more)).status ≡ Done) × SentWhole did.taken (defined_script r stamps (front ++ more)).text
     over_written more none =
         let answered = front_answered more in
-        let same : (defined_script r (front ++ more)).text ≡ text =
-        first_lines r (front ++ more) replied.lines answered.0 answered.1 ∙ ap (λ l. text ++ l) (silent r (state_after r (at_start r) replied.lines) answered.0 over_now) ∙ append-nil text in
-        (over_is_done r (front ++ more) (over_behind (answered_lines (front ++ more)) answered.0 answered.1), subst (λ t. Appends did.taken.before did.taken.after t) (sym same) (whole none))
+        let same : (defined_script r stamps (front ++ more)).text ≡ text =
+        first_lines r stamps (front ++ more) replied.lines answered.0 answered.1 ∙ ap (λ l. text ++ l) (silent r (state_after r (at_start r stamps) replied.lines) answered.0 over_now) ∙ append-nil text in
+        (over_is_done r stamps (front ++ more) (over_behind (answered_lines (front ++ more)) answered.0 answered.1), subst (λ t. Appends did.taken.before did.taken.after t) (sym same) (whole none))
 
-  pub first_written : (more : List ℕ) → MayBe did.left.before (front ++ more) → rest ≡ [] → RepliedFirst r did
+  pub first_written : (more : List ℕ) → MayBe did.left.before (front ++ more) → rest ≡ [] → RepliedFirst r stamps did
   first_written more read none =
       let answered = front_answered more in
-      replied_first r did (front ++ more) replied.lines answered.0 read answered.1 (whole none)
+      replied_first r stamps did (front ++ more) replied.lines answered.0 read answered.1 (whole none)

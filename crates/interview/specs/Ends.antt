@@ -4,8 +4,8 @@ use Rattle.std.specs.declared.alloc.Global.{Global}
 use Rattle.fg_io.specs.Outside.{MayHold, Told, holds, missing}
 use Rattle.script_lines.specs.Lines.{ScriptLine}
 use Rattle.dictionary.specs.declared.fault.DictFault.{DictFault}
-use Rattle.dictionary.specs.Accepted.{Accepted, Named, names_of}
-use Rattle.dictionary.specs.Faults.{AreAccepted, IsFault}
+use Rattle.dictionary.specs.Accepted.{Named, names_of}
+use Rattle.dictionary.specs.Faults.{IsFault}
 use Rattle.graph_session.specs.Rules.{Rules}
 use Rattle.interview.specs.declared.status.Status.{Status}
 use Rattle.interview.specs.declared.status.Status.TheVariants.{Done, DictionaryRefused, Usage, FetchFault, ReadFault, WriteFault, ScriptTooLong, NoMemory}
@@ -15,7 +15,7 @@ use Rattle.interview.specs.Dictionaries.{Content, Gives, HasFault, IsAcceptedAs,
 use Rattle.interview.specs.Interview.{ChecksTo, Defined, FinalsHold, RunsTo, TablesHoldIn, defined_fault, usage}
 use Rattle.interview.specs.Replies.{at_start, state_after}
 use Rattle.interview.specs.ScriptEnds.{ReadThrough, ScriptDid, ScriptEnds}
-use Rattle.interview.specs.Words.{Fetches, HasNoForm, IsCheck, IsRun, Origin, program, texts}
+use Rattle.interview.specs.Words.{Fetches, HasNoForm, IsCheck, IsRun, Origin, keeps_stamps, program, texts}
 
 -- what an interview is given
 pub record Given : Type 0 where
@@ -58,7 +58,7 @@ pub record AcceptedRun (given : Given) : Type 0 where
 
 -- its script ended with this status
 abbrev pub AcceptedEnds : Given → Did → Status → Type 0
-AcceptedEnds given did status = (over : AcceptedRun given) × ScriptEnds over.rules did.script status
+AcceptedEnds given did status = (over : AcceptedRun given) × ScriptEnds over.rules (keeps_stamps over.asked.engine) did.script status
 
 -- a dictionary that it may have been given to run, with its fault
 pub record RefusedRun (given : Given) : Type 0 where
@@ -134,9 +134,13 @@ EndedAs did status d = (status ≡ d.status) × SentWhole did.script.taken d.tex
 abbrev pub EndedByCheck : Given → Did → Status → List ℕ → Type 0
 EndedByCheck given did status bytes = (d : Defined) × ChecksTo bytes given.checks d × EndedAs did status d
 
--- it ended as a run over the dictionary and the script comes to, with the text whole
-abbrev pub EndedByRun : Given → Did → Status → Content → List ℕ → Type 0
-EndedByRun given did status content script = (d : Defined) × RunsTo content given.checks script d × EndedAs did status d
+-- what a run that is told comes to
+abbrev pub ComesTo : (given : Given) → KnownRun given → Defined → Type 0
+ComesTo given run d = RunsTo run.content given.checks (keeps_stamps run.asked.engine) run.script d
+
+-- it ended as a run that is told comes to, with the text whole
+abbrev pub EndedByRun : (given : Given) → KnownRun given → Did → Status → Type 0
+EndedByRun given run did status = (d : Defined) × ComesTo given run d × EndedAs did status d
 
 -- a fetch of a name of the words failed
 abbrev pub FetchFailed : Given → Did → Type 0
@@ -157,19 +161,19 @@ pub record Interviewed (given : Given) (did : Did) (status : Status) : Type 0 wh
   -- a run over a dictionary that the program brings with it ends by no fault of it, and by no fetch
   pub built_in : (b : BuiltIn) → IsRun given.words (program b) → IsOneOf status (Done ∷ ReadFault ∷ WriteFault ∷ ScriptTooLong ∷ NoMemory ∷ [])
   -- a run that is told ends as defined, or by a fault of the outside, or for want of memory
-  pub exact : (run : KnownRun given) → EndedByRun given did status run.content run.script ⊎ IsOneOf status (FetchFault ∷ ReadFault ∷ WriteFault ∷ NoMemory ∷ [])
+  pub exact : (run : KnownRun given) → EndedByRun given run did status ⊎ IsOneOf status (FetchFault ∷ ReadFault ∷ WriteFault ∷ NoMemory ∷ [])
   -- and where the outside doesn't fail, it ends as defined, or for want of memory
-  pub complete : (run : KnownRun given) → (FetchFailed given did → ⊥) → (Rises did.script.source → ⊥) → (Rises did.script.sink → ⊥) → EndedByRun given did status run.content run.script ⊎ (status ≡ NoMemory)
+  pub complete : (run : KnownRun given) → (FetchFailed given did → ⊥) → (Rises did.script.source → ⊥) → (Rises did.script.sink → ⊥) → EndedByRun given run did status ⊎ (status ≡ NoMemory)
   -- whatever the status: what a run that is told wrote is a prefix of the defined text
-  pub prefix : (run : KnownRun given) (d : Defined) → RunsTo run.content given.checks run.script d → SentPart did.script.taken d.text
+  pub prefix : (run : KnownRun given) (d : Defined) → ComesTo given run d → SentPart did.script.taken d.text
   -- with status 0 the dictionary is accepted, and the script was read to its end, or to that of the piece in which `quit` ended
-  pub read_through : (run : KnownRun given) → status ≡ Done → (r : Rules) × IsAcceptedAs given.checks run.content r × ReadThrough r did.script
+  pub read_through : (run : KnownRun given) → status ≡ Done → (r : Rules) × IsAcceptedAs given.checks run.content r × ReadThrough r (keeps_stamps run.asked.engine) did.script
   -- over a dictionary that is accepted, wherever the lines of a script lead: what is printed as final there is complete, and stays
   -- so under every extension of the answers
-  pub finals : (over : AcceptedRun given) (lines : List ScriptLine) → FinalsHold over.rules (state_after over.rules (at_start over.rules) lines).course
+  pub finals : (over : AcceptedRun given) (lines : List ScriptLine) → FinalsHold over.rules (state_after over.rules (at_start over.rules (keeps_stamps over.asked.engine)) lines).course
   -- over the dictionary of a year, wherever the lines of a script lead: what its facts are worth there is what the written tables
   -- of the year give
-  pub tables : (b : BuiltIn) → IsRun given.words (program b) → (over : AcceptedRun given) (lines : List ScriptLine) → TablesHoldIn b over.rules (state_after over.rules (at_start over.rules) lines).course
+  pub tables : (b : BuiltIn) → IsRun given.words (program b) → (over : AcceptedRun given) (lines : List ScriptLine) → TablesHoldIn b over.rules (state_after over.rules (at_start over.rules (keeps_stamps over.asked.engine)) lines).course
   -- a check reads nothing of the script
   pub check_unread : (name : List ℕ) → IsCheck given.words name → Unread did
   -- a check of a dictionary that is told and has this fault ends with its line

@@ -1,5 +1,5 @@
 -- The defined interview: what words, a dictionary and a script are to write, and the status at the end.
-use Rattle.std.specs.Prelude.{◌≡◌, ◌⊎◌, ℕ, List, ◌++◌, length, take, codes, nat_le, IsSome, None, if◌then◌else◌}
+use Rattle.std.specs.Prelude.{◌≡◌, ◌⊎◌, ℕ, Bool, List, ◌++◌, length, take, codes, nat_le, IsSome, None, if◌then◌else◌}
 use Rattle.fact_paths.specs.declared.slot_path.SlotPath.{SlotPath}
 use Rattle.value_text.specs.Values.{printed}
 use Rattle.dictionary.specs.declared.fault.DictFault.{DictFault}
@@ -47,24 +47,25 @@ script_limit = 67108864
 unfoldable pub answered_lines : List ℕ → List ScriptLine
 answered_lines script = if nat_le (length script) script_limit then script_lines script else ended_lines (take script_limit script)
 
--- what a script is to give: the replies to these lines; past the limit it is too long, but where one of them is `quit`
-unfoldable pub defined_script : Rules → List ℕ → Defined
-defined_script r script = record {
-  text = replies r (at_start r) (answered_lines script);
-  status = if nat_le (length script) script_limit then Done else if (state_after r (at_start r) (answered_lines script)).over then Done else ScriptTooLong;
+-- What a script is to give, with stamps or without: the replies to these lines; past the limit it is too long, but where one of
+-- them is `quit`.
+unfoldable pub defined_script : Rules → Bool → List ℕ → Defined
+defined_script r stamps script = record {
+  text = replies r (at_start r stamps) (answered_lines script);
+  status = if nat_le (length script) script_limit then Done else if (state_after r (at_start r stamps) (answered_lines script)).over then Done else ScriptTooLong;
 }
 
 -- the line of a value that is final
 abbrev pub final_line : List ℕ → List ℕ
 final_line text = line_with (codes "final " ++ text)
 
--- ---- `run` and `year`
+-- ---- `run`, `run-plain` and `year`
 
--- What a run is to give over a dictionary and the bytes of a script, with these checks: the replies, or the first fault. Wherever
--- the dictionary comes from, what comes behind its acceptance is the same.
-abbrev pub RunsTo : Content → List Named → List ℕ → Defined → Type 0
-RunsTo content checks script d =
-    ((r : Rules) × IsAcceptedAs checks content r × (d ≡ defined_script r script))
+-- What a run is to give over a dictionary and the bytes of a script, with these checks, with stamps or without: the replies, or
+-- the first fault. Wherever the dictionary comes from, what comes behind its acceptance is the same.
+abbrev pub RunsTo : Content → List Named → Bool → List ℕ → Defined → Type 0
+RunsTo content checks stamps script d =
+    ((r : Rules) × IsAcceptedAs checks content r × (d ≡ defined_script r stamps script))
     ⊎ ((fault : DictFault) × HasFault checks content fault × (d ≡ defined_fault fault))
 
 -- ---- `check`
@@ -85,7 +86,7 @@ abbrev pub OneEndOfCheck : Type 0
 OneEndOfCheck = (bytes : List ℕ) (checks : List Named) (d e : Defined) → ChecksTo bytes checks d → ChecksTo bytes checks e → d ≡ e
 
 abbrev pub OneEndOfRun : Type 0
-OneEndOfRun = (content : Content) (checks : List Named) (script : List ℕ) (d e : Defined) → RunsTo content checks script d → RunsTo content checks script e → d ≡ e
+OneEndOfRun = (content : Content) (checks : List Named) (stamps : Bool) (script : List ℕ) (d e : Defined) → RunsTo content checks stamps script d → RunsTo content checks stamps script e → d ≡ e
 
 -- ---- what is printed as final
 

@@ -5,9 +5,11 @@ pub mod Words
 pub mod Dictionaries
 pub mod FaultLines
 pub mod Interview
+pub mod Engines
 pub mod Answering
 pub mod SoFar
 pub mod Devices
 pub mod ScriptEnds
+pub mod StepsOfScript
 pub mod StepEnds
 pub mod Ends

@@ -191,9 +191,9 @@ state_after r state (line ∷ lines) = state_after r (step r state line).state l
 
 -- ---- the start
 
--- nothing is answered, and no stamps are kept
-abbrev pub beginning : Rules → Course
-beginning r = begun r.accepted start false
+-- nothing is answered, and no change was made; stamps are kept or not
+abbrev pub beginning : Rules → Bool → Course
+beginning r stamps = begun r.accepted start stamps
 
-abbrev pub at_start : Rules → State
-at_start r = open_at (beginning r)
+abbrev pub at_start : Rules → Bool → State
+at_start r stamps = open_at (beginning r stamps)

@@ -1,5 +1,6 @@
--- How a script over an accepted dictionary ends: for each status, what was written, what was read, and why it came.
-use Rattle.std.specs.Prelude.{◌≡◌, ◌⊎◌, ℕ, ◌≤◌, true, false, List, ◌++◌, length, take, Option}
+-- How a script over an accepted dictionary ends, with stamps or without: for each status, what was written, what was read, and why
+-- it came.
+use Rattle.std.specs.Prelude.{◌≡◌, ◌⊎◌, ℕ, ◌≤◌, Bool, true, false, List, ◌++◌, length, take, Option}
 use Rattle.std.specs.Io.KnownBytes.{Consumes, IsAtEnd}
 use Rattle.fg_io.specs.Outside.{MayBe}
 use Rattle.script_lines.specs.Lines.{ended_lines}
@@ -27,27 +28,28 @@ script_did left left_now taken taken_now unread unread_now unwritten unwritten_n
 }
 
 -- the replies to these first lines, whole
-abbrev pub RepliedTo : Rules → ScriptDid → List ℕ → Type 0
-RepliedTo r did bytes = SentWhole did.taken (replies r (at_start r) (ended_lines bytes))
+abbrev pub RepliedTo : Rules → Bool → ScriptDid → List ℕ → Type 0
+RepliedTo r stamps did bytes = SentWhole did.taken (replies r (at_start r stamps) (ended_lines bytes))
 
 -- it ended as defined for some script that it may have been given, with the text whole
-abbrev pub ScriptEndsAs : Rules → ScriptDid → Status → Type 0
-ScriptEndsAs r did status = (script : List ℕ) × MayBe did.left.before script × ((defined_script r script).status ≡ status) × SentWhole did.taken (defined_script r script).text
+abbrev pub ScriptEndsAs : Rules → Bool → ScriptDid → Status → Type 0
+ScriptEndsAs r stamps did status =
+    (script : List ℕ) × MayBe did.left.before script × ((defined_script r stamps script).status ≡ status) × SentWhole did.taken (defined_script r stamps script).text
 
 -- a read failed behind these bytes, in which no `quit` ended: the lines that ended in them were answered, and no other
-pub record ReadSoFar (r : Rules) (did : ScriptDid) : Type 0 where
+pub record ReadSoFar (r : Rules) (stamps : Bool) (did : ScriptDid) : Type 0 where
   pub bytes : List ℕ
   pub read : Consumes did.left.before did.left.after bytes
   pub within : length bytes ≤ script_limit
-  pub unquit : (state_after r (at_start r) (ended_lines bytes)).over ≡ false
-  pub replied : RepliedTo r did bytes
+  pub unquit : (state_after r (at_start r stamps) (ended_lines bytes)).over ≡ false
+  pub replied : RepliedTo r stamps did bytes
 
 -- whole replies to the first of the lines that are answered, of a script that it may have been given
-pub record RepliedFirst (r : Rules) (did : ScriptDid) : Type 0 where
+pub record RepliedFirst (r : Rules) (stamps : Bool) (did : ScriptDid) : Type 0 where
   pub script : List ℕ
   pub read : MayBe did.left.before script
   pub count : ℕ
-  pub replied : SentWhole did.taken (replies r (at_start r) (take count (answered_lines script)))
+  pub replied : SentWhole did.taken (replies r (at_start r stamps) (take count (answered_lines script)))
 
 -- it was read, and nothing is left of it
 abbrev pub ReadToEnd : ScriptDid → Type 0
@@ -58,21 +60,21 @@ abbrev pub piece_limit : ℕ
 piece_limit = 4096
 
 -- it was read as far as the piece in which `quit` ended: in what was read before, none did
-pub record ReadToQuit (r : Rules) (did : ScriptDid) : Type 0 where
+pub record ReadToQuit (r : Rules) (stamps : Bool) (did : ScriptDid) : Type 0 where
   pub earlier : List ℕ
   pub piece : List ℕ
   pub read : Consumes did.left.before did.left.after (earlier ++ piece)
   pub short : length piece ≤ piece_limit
-  pub unquit : (state_after r (at_start r) (ended_lines earlier)).over ≡ false
-  pub quit : (state_after r (at_start r) (ended_lines (earlier ++ piece))).over ≡ true
+  pub unquit : (state_after r (at_start r stamps) (ended_lines earlier)).over ≡ false
+  pub quit : (state_after r (at_start r stamps) (ended_lines (earlier ++ piece))).over ≡ true
 
-abbrev pub ReadThrough : Rules → ScriptDid → Type 0
-ReadThrough r did = ReadToEnd did ⊎ ReadToQuit r did
+abbrev pub ReadThrough : Rules → Bool → ScriptDid → Type 0
+ReadThrough r stamps did = ReadToEnd did ⊎ ReadToQuit r stamps did
 
-abbrev pub ScriptEnds : Rules → ScriptDid → Status → Type 0
-ScriptEnds r did Done = ScriptEndsAs r did Done × ReadThrough r did
-ScriptEnds r did ScriptTooLong = ScriptEndsAs r did ScriptTooLong
-ScriptEnds r did ReadFault = Rises did.source × ReadSoFar r did
-ScriptEnds r did WriteFault = Rises did.sink × ((script : List ℕ) × MayBe did.left.before script × SentPart did.taken (defined_script r script).text)
-ScriptEnds r did NoMemory = RepliedFirst r did
-ScriptEnds r did other = ⊥
+abbrev pub ScriptEnds : Rules → Bool → ScriptDid → Status → Type 0
+ScriptEnds r stamps did Done = ScriptEndsAs r stamps did Done × ReadThrough r stamps did
+ScriptEnds r stamps did ScriptTooLong = ScriptEndsAs r stamps did ScriptTooLong
+ScriptEnds r stamps did ReadFault = Rises did.source × ReadSoFar r stamps did
+ScriptEnds r stamps did WriteFault = Rises did.sink × ((script : List ℕ) × MayBe did.left.before script × SentPart did.taken (defined_script r stamps script).text)
+ScriptEnds r stamps did NoMemory = RepliedFirst r stamps did
+ScriptEnds r stamps did other = ⊥

@@ -1,8 +1,10 @@
 -- The words of the command line, and the forms that they may have.
-use Rattle.std.specs.Prelude.{◌≡◌, ◌⊎◌, ℕ, List, [], ◌∷◌, map, codes, String, string_bytes}
+use Rattle.std.specs.Prelude.{◌≡◌, ◌⊎◌, ℕ, Bool, true, false, List, [], ◌∷◌, map, codes, String, string_bytes}
 use Rattle.std.specs.declared.alloc.Global.{Global}
 use Rattle.interview.specs.declared.built_in.BuiltIn.{BuiltIn}
 use Rattle.interview.specs.declared.built_in.BuiltIn.TheVariants.{Year2023, Year2024}
+use Rattle.interview.specs.declared.words.Engine.{Engine}
+use Rattle.interview.specs.declared.words.Engine.TheVariants.{Incremental, Plain}
 use Rattle.interview.specs.declared.words.Origin.{Origin as Asked}
 use Rattle.interview.specs.declared.words.Origin.TheVariants as asked
 use Rattle.interview.specs.declared.words.Form.{Form}
@@ -20,10 +22,23 @@ abbrev pub words_for : BuiltIn → List (List ℕ)
 words_for Year2023 = codes "year" ∷ codes "2023" ∷ []
 words_for Year2024 = codes "year" ∷ codes "2024" ∷ []
 
--- the words run a script over the dictionary from there: for a file `run` or `run-plain` and its name
-abbrev pub IsRun : List (List ℕ) → Origin → Type 0
-IsRun words (file name) = (words ≡ codes "run" ∷ name ∷ []) ⊎ (words ≡ codes "run-plain" ∷ name ∷ [])
-IsRun words (program b) = words ≡ words_for b
+-- The words run a script over the dictionary from there, with the results kept so: for a file `run` or `run-plain` and its name.
+-- Over what the program brings runs the incremental engine alone.
+abbrev pub IsRunOver : List (List ℕ) → Origin → Engine → Type 0
+IsRunOver words (file name) Incremental = words ≡ codes "run" ∷ name ∷ []
+IsRunOver words (file name) Plain = words ≡ codes "run-plain" ∷ name ∷ []
+IsRunOver words (program b) Incremental = words ≡ words_for b
+IsRunOver words (program b) Plain = ⊥
+
+-- the words run a script over the dictionary from there
+pub record IsRun (words : List (List ℕ)) (origin : Origin) : Type 0 where
+  pub engine : Engine
+  pub over : IsRunOver words origin engine
+
+-- changes are numbered, and each slot keeps the number of the last that touched it
+abbrev pub keeps_stamps : Engine → Bool
+keeps_stamps Incremental = true
+keeps_stamps Plain = false
 
 -- ---- a check
 
@@ -46,7 +61,7 @@ origin_of (asked.File name) = file name.now
 origin_of (asked.BuiltIn b) = program b
 
 abbrev pub IsForm : List (List ℕ) → Form → Type 0
-IsForm words (Run origin) = IsRun words (origin_of origin)
+IsForm words (Run engine origin) = IsRunOver words (origin_of origin) engine
 IsForm words (Check name) = IsCheck words name.now
 IsForm words Unknown = HasNoForm words
 

@@ -1,4 +1,5 @@
 // Laws of the definitions, each the contract of a function that does nothing.
+ghost use Rattle.interview.specs.Engines.{EnginesAgree};
 ghost use Rattle.interview.specs.Interview.{FinalLinesStay, OneEndOfCheck, OneEndOfRun, UndoRestores};
 
 /// A check of the bytes of a dictionary comes to one text and one status at most.
@@ -6,7 +7,7 @@ pub fn a_check_has_one_end()
     ensures { OneEndOfCheck }
 {}
 
-/// A run of the bytes of a dictionary and of a script comes to one text and one status at most.
+/// A run of the bytes of a dictionary and of a script, with stamps or without, comes to one text and one status at most.
 pub fn a_run_has_one_end()
     ensures { OneEndOfRun }
 {}
@@ -23,4 +24,10 @@ pub fn final_lines_stay()
 #[tactic(auto, using(crate::proofs::UndoLaws::undo_restores))]
 pub fn undo_restores()
     ensures { UndoRestores }
+{}
+
+/// Of a script none of whose lines is a `stamp` or a `touched`, `run` and `run-plain` have one text and one status.
+#[tactic(auto, using(crate::proofs::EngineLaws::engines_agree))]
+pub fn engines_agree()
+    ensures { EnginesAgree }
 {}

@@ -1,7 +1,8 @@
 // Has the dictionary of a run.
-ghost use Rattle.std.specs.Prelude.{ℕ, List, map, IfErr, IfOk};
+ghost use Rattle.std.specs.Prelude.{◌≡◌, ℕ, List, map, IfErr, IfOk};
 ghost use Rattle.interview.specs.StepEnds.{NotObtained, ObtainedAs};
-ghost use Rattle.interview.specs.Words.{origin_of};
+ghost use Rattle.interview.specs.Words.{origin_of, program};
+ghost use Rattle.interview.specs.declared.built_in.BuiltIn.{BuiltIn};
 
 use crate::Status;
 use crate::built_in::bring;
@@ -23,6 +24,7 @@ pub fn obtain<H: Shelf>(
         (map {B = List ℕ × ℕ} (λ c. (c.name, c.code)) checks.now.checks.items)) }
     ensures not_obtained { IfErr result (NotObtained (origin_of origin.entry)
         (H.faults shelf.old) (H.faults shelf.new) (H.failed_name shelf.new)) }
+    ensures unfetched { (b : BuiltIn) → origin_of origin.entry ≡ program b → shelf.new ≡ shelf.old }
 {
     match origin {
         Origin::File(name) => fetch(alloc, name, checks, shelf),

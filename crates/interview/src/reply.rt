@@ -9,10 +9,10 @@ ghost use Rattle.three_state.specs.declared.res.Res.TheVariants.{Complete};
 ghost use Rattle.interview.specs.Replies.{IsResPrinted, asked_text, fault_text as text_of_fault, final_text, refusal_name as name_of_refusal, refusal_place, refusal_text, reply_text, result_text};
 
 use crate::numbered::print_numbered;
+use dictionary::FactEngine;
 use fact_values::{Slot, Value, ValueFault};
 use graph_session::{Refusal, Reply, Session};
 use placeholder_laws::is_final;
-use plain_table::PlainTable;
 use three_state::Res;
 use value_text::{EnumLists, Line, print};
 
@@ -78,7 +78,7 @@ fn print_finality(res: &Res, final_value: bool, lists: &EnumLists, line: &mut Li
 }
 
 // Prints the result of a slot into an empty line.
-fn print_result(session: &Session<PlainTable>, slot: Slot, line: &mut Line)
+fn print_result<E: FactEngine>(session: &Session<E>, slot: Slot, line: &mut Line)
     requires { line.old ≡ [] }
     ensures text { line.new ≡ asked_text (result_text (tree_of (rules session.now.dict)).enums)
         (plain (accepted session.now.dict) session.now.timeline.now slot) (codes "incomplete") }
@@ -93,7 +93,7 @@ fn print_result(session: &Session<PlainTable>, slot: Slot, line: &mut Line)
 }
 
 // Prints into an empty line whether the result of a slot is final.
-fn print_final(session: &Session<PlainTable>, slot: Slot, line: &mut Line)
+fn print_final<E: FactEngine>(session: &Session<E>, slot: Slot, line: &mut Line)
     requires { line.old ≡ [] }
     ensures text { line.new ≡ asked_text
         (final_text (tree_of (rules session.now.dict)).enums
@@ -110,7 +110,7 @@ fn print_final(session: &Session<PlainTable>, slot: Slot, line: &mut Line)
 }
 
 /// Prints into an empty line what a session says, without its newline.
-pub fn print_reply(session: &Session<PlainTable>, reply: Reply, line: &mut Line)
+pub fn print_reply<E: FactEngine>(session: &Session<E>, reply: Reply, line: &mut Line)
     requires { line.old ≡ [] }
     ensures text { line.new ≡ reply_text (rules session.now.dict) (course session.now) reply }
     ensures short { length line.new ≤ 1050 }

@@ -1,20 +1,23 @@
 // Runs a script over a session, while it is read.
-ghost use Rattle.std.specs.Prelude.{◌≡◌, ◌≤◌, ◌<◌, ◌^◌, ℕ, List, map};
+ghost use Rattle.std.specs.Prelude.{◌≡◌, ◌≤◌, ◌<◌, ◌+◌, ◌^◌, ℕ, List, map};
 ghost use Rattle.script_lines.specs.Lines.{script_lines};
 ghost use Rattle.graph_session.specs.Refusals.{SameChecks};
 ghost use Rattle.graph_session.specs.Rules.{rules};
 ghost use Rattle.graph_session.specs.SessionView.{course};
-ghost use Rattle.interview.specs.Replies.{beginning};
+ghost use Rattle.interview.specs.Replies.{beginning, open_at};
+ghost use Rattle.interview.specs.StepsOfScript.{StepsWithin, steps_of_lines};
 ghost use Rattle.interview.specs.Answering.{AnsweredAs, ending_of};
 ghost use Rattle.interview.specs.ScriptEnds.{ScriptEnds, script_did};
 
 use crate::Status;
 use crate::answering::{Progress, answer_piece, answer_ready};
+use dictionary::FactEngine;
 use fg_io::{Failed, Sink, Source};
 use graph_session::Session;
-use plain_table::PlainTable;
 use script_lines::Lines;
 use std::alloc::Global;
+use std::sync::ledger::Ledger;
+use steps::Steps;
 use text_checks::CheckTable;
 
 /// The most bytes of a script.
@@ -23,12 +26,13 @@ const LIMIT: usize = 67_108_864;
 const BUFFER: usize = 4_096;
 
 // Answers the last line.
-fn finish<K: Sink>(
+fn finish<E: FactEngine, L: Ledger, K: Sink>(
     alloc: Global,
-    session: &mut Session<PlainTable>,
+    session: &mut Session<E>,
     checks: &CheckTable,
     lines: &mut Lines,
     out: &mut K,
+    steps: &mut Steps<L>,
 ) -> Progress
     requires same_checks { SameChecks (rules session.old.dict)
         (map {B = List ℕ × ℕ} (λ c. (c.name, c.code)) checks.now.checks.items) }
@@ -37,9 +41,11 @@ fn finish<K: Sink>(
         (K.taken out.old) (K.taken out.new) (K.faults out.old) (K.faults out.new)
         (course session.old) (course session.new) (script_lines lines.old.so_far) result }
     ensures later { K.faults out.old ≤ K.faults out.new }
+    ensures steps { steps.new ≤ steps.old + steps_of_lines E.most (rules session.old.dict)
+        (open_at (course session.old)) (script_lines lines.old.so_far) }
 {
     let ready = lines.finish();
-    answer_ready(alloc, session, checks, ready, lines.line(), out)
+    answer_ready(alloc, session, checks, ready, lines.line(), out, steps)
 }
 
 fn status_at_end(progress: Progress) -> Status
@@ -53,21 +59,26 @@ fn status_at_end(progress: Progress) -> Status
     }
 }
 
-/// Runs a script over a session at its start. It is read in pieces, and each line is answered before the next piece.
-pub fn run<S: Source, K: Sink>(
+/// Runs a script over a session at its start. It is read in pieces, and each line is answered before the next piece. The steps
+/// are those of the changes that are accepted, each at most the engine's bound.
+pub fn run<E: FactEngine, L: Ledger, S: Source, K: Sink>(
     alloc: Global,
-    session: &mut Session<PlainTable>,
+    session: &mut Session<E>,
     checks: &CheckTable,
     script: &mut S,
     out: &mut K,
+    steps: &mut Steps<L>,
 ) -> Status
     requires same_checks { SameChecks (rules session.old.dict)
         (map {B = List ℕ × ℕ} (λ c. (c.name, c.code)) checks.now.checks.items) }
-    requires begun { course session.old ≡ beginning (rules session.old.dict) }
-    ensures ends { ScriptEnds (rules session.old.dict)
+    requires begun { course session.old ≡ beginning (rules session.old.dict) E.STAMPS }
+    ensures ends { ScriptEnds (rules session.old.dict) E.STAMPS
         (script_did (S.left script.old) (S.left script.new) (K.taken out.old) (K.taken out.new)
         (S.faults script.old) (S.faults script.new) (K.faults out.old) (K.faults out.new))
         result }
+    ensures steps { StepsWithin E.most (rules session.old.dict) E.STAMPS
+        (record { before = S.left script.old; after = S.left script.new })
+        (record { before = steps.old; after = steps.new }) }
 {
     let mut lines = Lines::new();
     let mut taken = 0usize;
@@ -75,9 +86,17 @@ pub fn run<S: Source, K: Sink>(
     while taken < LIMIT {
         let room = BUFFER.min(LIMIT - taken);
         match script.pull(&mut buf[..room]) {
-            Ok(0) => return status_at_end(finish(alloc, session, checks, &mut lines, out)),
+            Ok(0) => return status_at_end(finish(alloc, session, checks, &mut lines, out, steps)),
             Ok(count) => {
-                match answer_piece(alloc, session, checks, &mut lines, out, &buf[..count]) {
+                match answer_piece(
+                    alloc,
+                    session,
+                    checks,
+                    &mut lines,
+                    out,
+                    &buf[..count],
+                    steps,
+                ) {
                     Progress::More => taken += count,
                     Progress::Over => return Status::Done,
                     Progress::Unwritten => return Status::WriteFault,
@@ -88,7 +107,7 @@ pub fn run<S: Source, K: Sink>(
         }
     }
     match script.pull(&mut buf[..1]) {
-        Ok(0) => status_at_end(finish(alloc, session, checks, &mut lines, out)),
+        Ok(0) => status_at_end(finish(alloc, session, checks, &mut lines, out, steps)),
         Ok(_) => Status::ScriptTooLong,
         Err(Failed) => Status::ReadFault,
     }

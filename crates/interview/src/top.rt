@@ -1,9 +1,11 @@
 // The top call: all that the program does, over the words of its command line and what it sees of the outside.
-ghost use Rattle.std.specs.Prelude.{◌≡◌, ℕ, List, map};
+ghost use Rattle.std.specs.Prelude.{◌≡◌, ◌<◌, ℕ, List, map};
 ghost use Rattle.graph_session.specs.Refusals.{SameChecks};
 ghost use Rattle.graph_session.specs.Rules.{rules};
 ghost use Rattle.interview.specs.ScriptEnds.{ScriptEnds, script_did};
 ghost use Rattle.interview.specs.Ends.{Ends, Interviewed, did_by, given_by};
+ghost use Rattle.interview.specs.Words.{IsRun, keeps_stamps, program, texts};
+ghost use Rattle.interview.specs.declared.built_in.BuiltIn.{BuiltIn};
 
 use crate::Status;
 use crate::checking::check;
@@ -11,18 +13,49 @@ use crate::ending::{end_by, end_by_fault};
 use crate::fetching::Fetched;
 use crate::obtaining::obtain;
 use crate::script::run;
-use crate::words::{Form, form_of};
-use dictionary::Dictionary;
+use crate::words::{Engine, Form, form_of};
+use dictionary::{Dictionary, FactEngine};
 use fact_values::NoMemory;
 use fg_io::{Shelf, Sink, Source};
 use graph_session::Session;
 use plain_table::PlainTable;
+use recalc::Recalc;
 use std::alloc::Global;
+use std::marker::Brand;
+use std::sync::ledger::{Blank, Ledger};
+use steps::Steps;
 use text_checks::CheckTable;
 
-// Runs the script over the dictionary.
-fn run_over<S: Source, K: Sink>(
+// Runs the script over the dictionary, with the results kept by this engine. Its steps are counted for nobody else.
+fn run_over<E: FactEngine, L: Ledger, S: Source, K: Sink>(
     alloc: Global,
+    dictionary: Dictionary,
+    checks: &CheckTable,
+    script: &mut S,
+    out: &mut K,
+    blank: Blank,
+) -> Status
+    requires name { blank.name ≡ L.name }
+    requires parts { blank.parts ≡ L.parts }
+    requires some { 0 < blank.parts }
+    requires same_checks { SameChecks (rules dictionary)
+        (map {B = List ℕ × ℕ} (λ c. (c.name, c.code)) checks.now.checks.items) }
+    ensures ends { ScriptEnds (rules dictionary) E.STAMPS
+        (script_did (S.left script.old) (S.left script.new) (K.taken out.old) (K.taken out.new)
+        (S.faults script.old) (S.faults script.new) (K.faults out.old) (K.faults out.new))
+        result }
+{
+    let mut steps = Steps::<L>::new(blank);
+    match Session::<E>::new(alloc, dictionary) {
+        Ok(mut session) => run(alloc, &mut session, checks, script, out, &mut steps),
+        Err(NoMemory) => Status::NoMemory,
+    }
+}
+
+// Runs the script over the dictionary, with the results kept as the words ask.
+fn run_by<S: Source, K: Sink>(
+    alloc: Global,
+    engine: Engine,
     dictionary: Dictionary,
     checks: &CheckTable,
     script: &mut S,
@@ -30,14 +63,25 @@ fn run_over<S: Source, K: Sink>(
 ) -> Status
     requires { SameChecks (rules dictionary)
         (map {B = List ℕ × ℕ} (λ c. (c.name, c.code)) checks.now.checks.items) }
-    ensures ends { ScriptEnds (rules dictionary)
+    ensures ends { ScriptEnds (rules dictionary) (keeps_stamps engine)
         (script_did (S.left script.old) (S.left script.new) (K.taken out.old) (K.taken out.new)
         (S.faults script.old) (S.faults script.new) (K.faults out.old) (K.faults out.new))
         result }
 {
-    match Session::<PlainTable>::new(alloc, dictionary) {
-        Ok(mut session) => run(alloc, &mut session, checks, script, out),
-        Err(NoMemory) => Status::NoMemory,
+    match engine {
+        Engine::Incremental => {
+            run_over::<Recalc, Brand, S, K>(alloc, dictionary, checks, script, out, Blank::new(1))
+        }
+        Engine::Plain => {
+            run_over::<PlainTable, Brand, S, K>(
+                alloc,
+                dictionary,
+                checks,
+                script,
+                out,
+                Blank::new(1),
+            )
+        }
     }
 }
 
@@ -56,10 +100,13 @@ fn attempt<H: Shelf, S: Source, K: Sink>(
         (script_did (S.left script.old) (S.left script.new) (K.taken out.old) (K.taken out.new)
         (S.faults script.old) (S.faults script.new) (K.faults out.old) (K.faults out.new)))
         result }
+    ensures unfetched { (b : BuiltIn) → IsRun (texts words.now) (program b) → shelf.new ≡ shelf.old }
 {
     match form_of(words) {
-        Form::Run(origin) => match obtain(alloc, origin, checks, shelf) {
-            Ok(Fetched::Accepted(dictionary)) => run_over(alloc, dictionary, checks, script, out),
+        Form::Run(engine, origin) => match obtain(alloc, origin, checks, shelf) {
+            Ok(Fetched::Accepted(dictionary)) => {
+                run_by(alloc, engine, dictionary, checks, script, out)
+            }
             Ok(Fetched::Refused(fault)) => end_by_fault(out, fault),
             Err(status) => status,
         },
@@ -71,7 +118,8 @@ fn attempt<H: Shelf, S: Source, K: Sink>(
 /// Does all that the program does, over the words of its command line, without the program's name. The checks are those
 /// that a dictionary may name.
 ///
-/// A dictionary has at most 8,388,608 bytes, a script at most 67,108,864.
+/// A dictionary has at most 8,388,608 bytes, a script at most 67,108,864. For a dictionary of the program's own nothing is
+/// fetched: the shelf is as it was.
 pub fn interview<H: Shelf, S: Source, K: Sink>(
     alloc: Global,
     words: &[String],
@@ -80,13 +128,14 @@ pub fn interview<H: Shelf, S: Source, K: Sink>(
     script: &mut S,
     out: &mut K,
 ) -> Status
-    ensures { Interviewed
+    ensures ends { Interviewed
         (given_by words.now (map {B = List ℕ × ℕ} (λ c. (c.name, c.code)) checks.now.checks.items)
         (H.told shelf.old) (S.left script.old))
         (did_by (H.faults shelf.old) (H.faults shelf.new) (H.failed_name shelf.new)
         (script_did (S.left script.old) (S.left script.new) (K.taken out.old) (K.taken out.new)
         (S.faults script.old) (S.faults script.new) (K.faults out.old) (K.faults out.new)))
         result }
+    ensures unfetched { (b : BuiltIn) → IsRun (texts words.now) (program b) → shelf.new ≡ shelf.old }
 {
     attempt(alloc, words, checks, shelf, script, out)
 }

@@ -12,11 +12,20 @@ pub enum Origin<'a> {
     BuiltIn(BuiltIn),
 }
 
+/// What keeps the results of a run.
+#[derive(Clone, Copy)]
+pub enum Engine {
+    /// The incremental engine, which numbers the changes and keeps stamps.
+    Incremental,
+    /// The whole table, made anew by each change, without stamps.
+    Plain,
+}
+
 /// What the words of the command line ask for.
 #[derive(Clone, Copy)]
 pub enum Form<'a> {
-    /// `run NAME`, `run-plain NAME` or `year Y`: to run a script over this dictionary.
-    Run(Origin<'a>),
+    /// `run NAME`, `run-plain NAME` or `year Y`: to run a script over this dictionary, with the results kept so.
+    Run(Engine, Origin<'a>),
     /// `check NAME`: to say whether the dictionary of this name is accepted.
     Check(&'a str),
     /// Nothing, since the words have no form.
@@ -28,8 +37,8 @@ fn form_of_year<'a>(year: &str) -> Form<'a>
     ensures { IsForm (codes "year" ∷ year.now ∷ []) result }
 {
     match year {
-        "2023" => Form::Run(Origin::BuiltIn(BuiltIn::Year2023)),
-        "2024" => Form::Run(Origin::BuiltIn(BuiltIn::Year2024)),
+        "2023" => Form::Run(Engine::Incremental, Origin::BuiltIn(BuiltIn::Year2023)),
+        "2024" => Form::Run(Engine::Incremental, Origin::BuiltIn(BuiltIn::Year2024)),
         _ => Form::Unknown,
     }
 }
@@ -39,9 +48,11 @@ pub fn form_of(words: &[String]) -> Form<'_>
     ensures { IsForm (texts words.now) result }
 {
     match words {
-        [command, name] if command.as_str() == "run" => Form::Run(Origin::File(name.as_str())),
+        [command, name] if command.as_str() == "run" => {
+            Form::Run(Engine::Incremental, Origin::File(name.as_str()))
+        }
         [command, name] if command.as_str() == "run-plain" => {
-            Form::Run(Origin::File(name.as_str()))
+            Form::Run(Engine::Plain, Origin::File(name.as_str()))
         }
         [command, name] if command.as_str() == "check" => Form::Check(name.as_str()),
         [command, year] if command.as_str() == "year" => form_of_year(year.as_str()),

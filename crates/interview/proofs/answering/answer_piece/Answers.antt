@@ -4,6 +4,7 @@ use Rattle.graph_session.specs.Rules.{rules}
 use Rattle.graph_session.specs.SessionView.{course}
 use Rattle.interview.specs.Replies.{open_at}
 use Rattle.interview.proofs.AnsweringLaws.{replied_fed, behind_is}
+use Rattle.interview.proofs.StepLaws.{steps_fed, steps_on}
 use Rattle.interview.proofs.answering.answer_piece.Goals as goal
 
 pub returns-in-Over-clause-answered : goal.returns-in-Over-clause-answered
@@ -41,6 +42,21 @@ returns-in-OutOfMemory-clause-answered g c = record {
   replied = rw c.in-OutOfMemory.ensures.answered c.loop-rest.invariant.replied;
 }
 
+pub returns-in-Over-clause-steps : goal.returns-in-Over-clause-steps
+returns-in-Over-clause-steps g c =
+    let fed = steps_fed g.E.FactEngine.most (rules c.args.session.now.dict) (rules c.loop-rest.session.dict) (course c.loop-rest.session) c.loop-rest.lines.so_far c.loop-rest.rest.now c.feed-fed.new.self.so_far (drop c.feed-fed.result.taken c.loop-rest.rest.now) c.feed-fed.new.self.line c.line.result.now c.feed-fed.result.ready (ap rules c.loop-rest.invariant.dict) c.feed-fed.ensures.stream c.line.ensures.line in
+    omega (arith, c.loop-rest.invariant.steps, c.answer_ready.ensures.steps, fed)
+
+pub returns-in-Unwritten-clause-steps : goal.returns-in-Unwritten-clause-steps
+returns-in-Unwritten-clause-steps g c =
+    let fed = steps_fed g.E.FactEngine.most (rules c.args.session.now.dict) (rules c.loop-rest.session.dict) (course c.loop-rest.session) c.loop-rest.lines.so_far c.loop-rest.rest.now c.feed-fed.new.self.so_far (drop c.feed-fed.result.taken c.loop-rest.rest.now) c.feed-fed.new.self.line c.line.result.now c.feed-fed.result.ready (ap rules c.loop-rest.invariant.dict) c.feed-fed.ensures.stream c.line.ensures.line in
+    omega (arith, c.loop-rest.invariant.steps, c.answer_ready.ensures.steps, fed)
+
+pub returns-in-OutOfMemory-clause-steps : goal.returns-in-OutOfMemory-clause-steps
+returns-in-OutOfMemory-clause-steps g c =
+    let fed = steps_fed g.E.FactEngine.most (rules c.args.session.now.dict) (rules c.loop-rest.session.dict) (course c.loop-rest.session) c.loop-rest.lines.so_far c.loop-rest.rest.now c.feed-fed.new.self.so_far (drop c.feed-fed.result.taken c.loop-rest.rest.now) c.feed-fed.new.self.line c.line.result.now c.feed-fed.result.ready (ap rules c.loop-rest.invariant.dict) c.feed-fed.ensures.stream c.line.ensures.line in
+    omega (arith, c.loop-rest.invariant.steps, c.answer_ready.ensures.steps, fed)
+
 pub loop-rest-preserved : goal.loop-rest-preserved
 loop-rest-preserved g c = record {
   replied = replied_fed _ _ _ _ _ _ (course c.loop-rest.session) _ _ c.loop-rest.lines.so_far c.loop-rest.rest.now _ _ _ c.feed-fed.new.self.line c.line.result.now c.feed-fed.result.ready c.feed-fed.result.taken _
@@ -51,4 +67,6 @@ loop-rest-preserved g c = record {
       let some : 0 < length c.loop-rest.rest.now = search the_rules in
       omega (arith, c.loop-rest.invariant.few, c.answer_ready.ensures.few, c.feed-fed.ensures.some some, c.feed-fed.ensures.taken, length-take {A = ℕ}, length-drop c.feed-fed.result.taken c.loop-rest.rest.now);
   later = omega (arith, c.loop-rest.invariant.later, c.answer_ready.ensures.later);
+  steps = steps_on g.E.FactEngine.most (rules c.args.session.now.dict) (rules c.loop-rest.session.dict) (course c.loop-rest.session) (course c.answer_ready.new.session) c.loop-rest.lines.so_far c.loop-rest.rest.now c.feed-fed.new.self.so_far _ c.feed-fed.new.self.line c.line.result.now c.feed-fed.result.ready c.feed-fed.result.taken _ _ _
+      (ap rules c.loop-rest.invariant.dict) c.feed-fed.ensures.stream c.line.ensures.line (behind_is c.loop-rest.rest.now c.feed-fed.result.taken _ (omega arith)) c.in-More.ensures.answered.1 c.loop-rest.invariant.steps c.answer_ready.ensures.steps;
 }

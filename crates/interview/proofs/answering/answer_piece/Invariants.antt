@@ -1,9 +1,10 @@
-use Rattle.std.proofs.Common.{◌≡◌, ◌+◌, ◌≤◌, [], length}
-use Rattle.script_lines.specs.Lines.{HasNoNewline}
+use Rattle.std.proofs.Common.{◌≡◌, ◌+◌, ◌≤◌, [], ◌++◌, length}
+use Rattle.script_lines.specs.Lines.{HasNoNewline, ended_lines}
 use Rattle.graph_session.specs.Rules.{rules}
 use Rattle.graph_session.specs.SessionView.{course}
 use Rattle.interview.specs.Replies.{open_at}
 use Rattle.interview.specs.Answering.{RepliedLines}
+use Rattle.interview.specs.StepsOfScript.{steps_of_lines}
 use Rattle.interview.proofs.answering.answer_piece.Given as goal
 
 abbrev pub invariant-loop-rest : goal.invariant-loop-rest
@@ -12,6 +13,8 @@ invariant-loop-rest g l = record {
   unended : HasNoNewline l.lines.so_far;
   dict : l.session.dict ≡ l.fn.session.dict;
   few : l.session.changes + length l.rest ≤ l.fn.session.changes + length l.fn.bytes;
+  steps : l.steps + steps_of_lines g.E.FactEngine.most (rules l.fn.session.dict) (open_at (course l.session)) (ended_lines (l.lines.so_far ++ l.rest))
+      ≤ l.fn.steps + steps_of_lines g.E.FactEngine.most (rules l.fn.session.dict) (open_at (course l.fn.session)) (ended_lines (l.fn.lines.so_far ++ l.fn.bytes));
   later : g.K.Sink.faults l.fn.out ≤ g.K.Sink.faults l.out;
 }
 

@@ -1,4 +1,5 @@
-use Rattle.std.proofs.Common.{inr, refl}
+use Rattle.std.proofs.Common.{◌≡◌, inr, refl}
+use Rattle.interview.specs.Words.{file, program}
 use Rattle.interview.specs.Dictionaries.{brought}
 use Rattle.interview.proofs.DictionaryLaws.{obtains_file}
 use Rattle.interview.proofs.obtaining.obtain.Goals as goal
@@ -7,10 +8,12 @@ pub returns-in-File : goal.returns-in-File
 returns-in-File g c = record {
   obtained = rw c.in-File.is (obtains_file (g.H.Shelf.told c.args.shelf.now) c.in-File.name.now _ c.fetch.result c.fetch.ensures.fetched);
   not_obtained = rw c.in-File.is c.fetch.ensures.not_fetched;
+  unfetched = λ b is. absurd (let both : file c.in-File.name.now ≡ program b = rw c.in-File.is at is in cc);
 }
 
 pub returns-in-Ok : goal.returns-in-Ok
 returns-in-Ok g c = record {
   obtained = rw c.in-BuiltIn.is (brought _, refl, c.in-Ok.ensures.accepted, inr c.in-Ok.ensures.no_check);
   not_obtained = tt;
+  unfetched = λ b is. refl;
 }

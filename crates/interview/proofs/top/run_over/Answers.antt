@@ -3,8 +3,8 @@ use Rattle.graph_session.specs.SessionView.{SessionView}
 use Rattle.interview.proofs.TopLaws.{not_begun}
 use Rattle.interview.proofs.top.run_over.Goals as goal
 
-pub returns-in-Err : goal.returns-in-Err
-returns-in-Err g c = record { ends = not_begun _ _ refl }
+pub returns : goal.returns
+returns g c = record { ends = not_begun _ _ _ refl }
 
 pub returns-in-Ok : goal.returns-in-Ok
 returns-in-Ok g c = record { ends = rw (ap (λ (s : SessionView). s.dict) c.in-Ok.ensures) at c.run.ensures.ends }
