@@ -1,12 +1,10 @@
 -- What follows of one line of an answer or an override.
-use Rattle.std.proofs.Common.{◌≡◌, ◌≢◌, ◌⊎◌, ℕ, ◌||◌, ◌&&◌, Bool, true, false, if◌then◌else◌, nat_eq, IsTrue, List, [], ◌∷◌, ◌++◌, Option, Some, None, inl, inr, refl, sym, ap, subst, ◌∙◌, append_assoc, arith}
-use Rattle.std.specs.Prelude.{◌↔◌, codes, option_and_then, IsSome}
+use Rattle.std.proofs.Common.{◌≡◌, ◌≢◌, ℕ, ◌||◌, ◌&&◌, Bool, true, false, if◌then◌else◌, IsTrue, List, [], ◌∷◌, ◌++◌, Option, Some, None, refl, sym, ap, subst, ◌∙◌}
+use Rattle.std.specs.Prelude.{codes, IsSome}
 use Rattle.std.specs.List.{AllByRecursion, flat_map, list_any}
-use Rattle.std.specs.FinMap as map
 use Rattle.std.proofs.lemmas.Option.{some_pair_parts}
 use Rattle.std.proofs.lemmas.List.Folds.{list_any-append}
 use Rattle.common_lemmas.proofs.Bools.{and_intro, neither_or, or_left, or_neither, or_right}
-use Rattle.common_lemmas.proofs.Numbers.{nat_eq-comm}
 use Rattle.common_lemmas.proofs.Options.{both_some}
 use Rattle.fact_paths.specs.Cuts.{cut}
 use Rattle.fact_paths.proofs.CutLaws.{cut-append, cut_some}
@@ -15,24 +13,22 @@ use Rattle.fact_values.specs.declared.slot.Slot.{Slot}
 use Rattle.fact_values.specs.declared.value.Value.{Value}
 use Rattle.value_text.specs.Enums.{AreLists}
 use Rattle.value_text.specs.Values.{printed, value_at}
-use Rattle.value_text.specs.ValueLaws.{IsValueOf}
 use Rattle.value_text.proofs.ReadingLaws.{value_again}
 use Rattle.value_text.proofs.TypeLaws.{of_type}
 use Rattle.dict_tree.specs.Dictionary.{Dictionary as Tree}
 use Rattle.dict_types.specs.StatedTypes.{type_at}
 use Rattle.answers.specs.Answered.{Answered, entry, value_of}
-use Rattle.answers.specs.Change.{IsListed, Stands, applied, sets}
+use Rattle.answers.specs.Change.{applied, sets}
 use Rattle.answers.proofs.StandLaws.{entry_stands}
 use Rattle.answers.specs.declared.edit.Side.{Side}
 use Rattle.answers.specs.declared.edit.Side.TheVariants.{Answer, Override}
 use Rattle.dictionary.specs.Accepted.{Accepted, IsAccepted}
 use Rattle.dictionary.specs.Fits.{AnswersFit, IsOfFact, takes}
-use Rattle.dictionary.specs.Homes.{home}
 use Rattle.dictionary.specs.SlotText.{IsSlot, slot_text}
-use Rattle.dictionary.specs.Slots.{is_member, slot_same, stands}
+use Rattle.dictionary.specs.Slots.{slot_same, stands}
 use Rattle.dictionary.proofs.FitChangeLaws.{allowed_changes_fit}
 use Rattle.dictionary.proofs.SetLaws.{is_side, same_side, set_is}
-use Rattle.dictionary.proofs.SlotLaws.{fact_of_standing, slot_same-comm, slot_same-equal, slot_same-itself}
+use Rattle.dictionary.proofs.SlotLaws.{slot_same-comm, slot_same-equal, slot_same-itself}
 use Rattle.graph_session.specs.Kinds.{value_spelled}
 use Rattle.graph_session.proofs.TypeLaws.{value_typed}
 use Rattle.save_file.specs.Following.{AreSlots, FollowsEntries, IsBuilt, IsPast, IsToCome, behind_side}
@@ -42,7 +38,7 @@ use Rattle.save_file.proofs.KeyedLines.{HasNone, HasOther, behind_keys, cons_par
 use Rattle.save_file.proofs.SlotsOnce.{behind_skipped, in_front}
 use Rattle.save_file.proofs.SlotTexts.{one_slot, same_behind, text_lacks_blank}
 use Rattle.save_file.proofs.ValueTexts.{printed_read}
-use Rattle.save_file.proofs.WordLaws.{everywhere, first, no_entry, none_behind, one_entry, entry_shown}
+use Rattle.save_file.proofs.WordLaws.{first, no_entry, none_behind, one_entry, entry_shown}
 use Rattle.graph_session.proofs.AllowedLaws.{slot_stands}
 
 -- ---- what is past and what is to come

@@ -1,21 +1,16 @@
 -- What is saved has a text.
-use Rattle.std.proofs.Common.{◌≡◌, ℕ, zero, suc, ◌+◌, ◌<◌, ◌≤◌, nat_le, Bool, true, false, ◌&&◌, nat_eq, if◌then◌else◌, IsTrue, IsSome, List, [], ◌++◌, length, slice_get, Option, Some, None, is_some, option_map, unwrap_or, refl, sym, ap, subst, inl, inr, arith, length-append}
-use Rattle.std.specs.Prelude.{codes, decimal, option_and_then}
+use Rattle.std.proofs.Common.{◌≡◌, ℕ, ◌+◌, ◌<◌, ◌≤◌, nat_le, Bool, true, false, ◌&&◌, nat_eq, if◌then◌else◌, IsTrue, List, ◌++◌, length, Option, Some, None, is_some, refl, sym, ap, subst, arith, length-append}
+use Rattle.std.specs.Prelude.{codes, decimal}
 use Rattle.std.specs.FinMap as map
 use Rattle.std.specs.List.{list_all}
-use Rattle.std.proofs.lemmas.Bool.{cases_lt, eqb-true, leb-true}
-use Rattle.std.proofs.lemmas.Option.{slice_get-get_or}
+use Rattle.std.proofs.lemmas.Bool.{eqb-true}
 use Rattle.fact_paths.specs.Paths.{IsSlotPath, slot_path_text}
 use Rattle.fact_paths.specs.declared.slot_path.SlotPath.{SlotPath}
 use Rattle.fact_paths.specs.declared.slot_path.SlotPath.TheVariants as paths
 use Rattle.fact_values.specs.Members.{IsMemberList}
 use Rattle.fact_values.specs.Members as numbers
-use Rattle.fact_values.specs.declared.fact_type.FactType.{FactType}
-use Rattle.fact_values.specs.declared.fact_type.FactType.TheVariants as types
 use Rattle.fact_values.specs.declared.slot.Slot.{Slot}
 use Rattle.fact_values.specs.declared.value.Value.{Value}
-use Rattle.fact_values.specs.declared.value.Value.TheVariants as values
-use Rattle.value_text.specs.Enums.{Listed, option_at}
 use Rattle.value_text.specs.Values.{IsPrinted}
 use Rattle.value_text.proofs.Decimals.{decimal_of_member}
 use Rattle.value_text.proofs.EnumLemmas.{name_short}
@@ -23,14 +18,12 @@ use Rattle.common_lemmas.proofs.Bools.{both_left, both_right}
 use Rattle.dict_tree.specs.Facts.{Fact}
 use Rattle.dict_tree.specs.Dictionary.{Dictionary as Tree}
 use Rattle.dict_tree.specs.Finding.{fact_at}
-use Rattle.evaluation.specs.Typed.{IsOfType}
 use Rattle.answers.specs.Answered.{Answered, list_of, value_of}
 use Rattle.answers.specs.Lists.{IsIn}
 use Rattle.answers.specs.WellFormed.{FromOne, WellFormed}
 use Rattle.answers.specs.declared.edit.Side.{Side}
-use Rattle.answers.proofs.StandLaws.{none_some}
 use Rattle.dictionary.specs.Accepted.{Accepted, IsAccepted}
-use Rattle.dictionary.specs.Fits.{AnswersFit, domains, is_list, opens_of, takes}
+use Rattle.dictionary.specs.Fits.{AnswersFit, is_list, opens_of}
 use Rattle.dictionary.specs.Homes.{home}
 use Rattle.dictionary.specs.Reading.{slot}
 use Rattle.dictionary.specs.Slots.{is_member, stands}

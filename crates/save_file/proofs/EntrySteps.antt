@@ -1,6 +1,5 @@
 -- What one line of a slot does to what was read.
-use Rattle.std.proofs.Common.{◌≡◌, ◌≢◌, ℕ, IsTrue, List, [], ◌∷◌, ◌++◌, Option, Some, None, Result, Ok, Err, is_some, refl, sym, ap, subst, ◌∙◌}
-use Rattle.std.specs.Prelude.{◌↔◌}
+use Rattle.std.proofs.Common.{◌≡◌, ◌≢◌, ℕ, IsTrue, List, ◌∷◌, ◌++◌, Option, Some, None, Result, Ok, Err, is_some, sym, ap, subst, ◌∙◌}
 use Rattle.std.specs.List.{AllByRecursion}
 use Rattle.std.proofs.lemmas.Option.{none-some, same_Some}
 use Rattle.common_lemmas.proofs.Bools.{both}
@@ -25,11 +24,10 @@ use Rattle.graph_session.proofs.AllowedLaws.{slot_stands}
 use Rattle.script_lines.specs.declared.fault.LineFault.{LineFault}
 use Rattle.script_lines.specs.declared.fault.LineFault.TheVariants.{BadLine, NoMemory}
 use Rattle.save_file.specs.Cursors.{slots_left}
-use Rattle.save_file.specs.Following.{AreSlots, FollowsEntries, IsBuilt, IsStage, Judges, TakesLine, behind_side}
+use Rattle.save_file.specs.Following.{FollowsEntries, IsBuilt, IsStage, Judges, behind_side}
 use Rattle.save_file.specs.Reading.{FindsSlot, ReadsPrinted, ReadsValue}
 use Rattle.save_file.specs.SavedText.{entry_lines, side_word}
 use Rattle.save_file.specs.declared.stage.EntriesRead.{EntriesRead}
-use Rattle.save_file.specs.declared.stage.Stage.{Stage}
 use Rattle.save_file.specs.declared.stage.Stage.TheVariants.{Entries}
 use Rattle.save_file.proofs.EntriesFollow.{built_after, entry_cut, given_back, others_by_path, refused_value, side_first, spelled_fits, taken}
 use Rattle.save_file.proofs.EntryLaws.{entry_slot, standing_slot}

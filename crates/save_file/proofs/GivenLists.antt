@@ -1,13 +1,13 @@
 -- Lists whose facts rise, with one more at their end.
-use Rattle.std.proofs.Common.{◌≡◌, ◌≢◌, ℕ, ◌<◌, ◌≤◌, Bool, true, false, cond, nat_eq, if◌then◌else◌, List, [], ◌∷◌, ◌++◌, Option, Some, None, refl, sym, ap, ◌∙◌, arith}
+use Rattle.std.proofs.Common.{◌≡◌, ℕ, ◌<◌, ◌≤◌, Bool, true, false, cond, nat_eq, if◌then◌else◌, List, [], ◌∷◌, ◌++◌, Option, Some, None, refl, sym, ap, ◌∙◌, arith}
 use Rattle.std.specs.List.{All}
 use Rattle.std.specs.Map.{lookup}
 use Rattle.std.specs.FinMap as map
 use Rattle.std.proofs.lemmas.Bool.Decides.{nat_tests}
-use Rattle.std.proofs.lemmas.List.Elements.{All-cons, All-head, All-nil, All-push, All-tail, All-weaker}
+use Rattle.std.proofs.lemmas.List.Elements.{All-cons, All-head, All-nil, All-push, All-tail}
 use Rattle.common_lemmas.proofs.Numbers.{same_number}
 use Rattle.answers.specs.Finite.{Numbered, and_then, map_of}
-use Rattle.answers.specs.GivenLists.{AreApart, AreBelow, AreMemberLists, FactsRise, IsAfter, IsBelow, IsWithout}
+use Rattle.answers.specs.GivenLists.{AreApart, FactsRise, IsAfter, IsWithout}
 use Rattle.answers.proofs.FiniteLaws.{get_map_of}
 
 -- what the lists have at a fact

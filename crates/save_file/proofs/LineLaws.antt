@@ -1,14 +1,13 @@
 -- Bytes and their lines.
-use Rattle.std.proofs.Common.{◌≡◌, ◌≢◌, ◌⊎◌, ℕ, zero, suc, ◌+◌, ◌<◌, ◌≤◌, Bool, true, false, List, [], ◌∷◌, ◌++◌, length, take, inl, inr, refl, sym, ap, subst, ◌∙◌, append_assoc, arith}
+use Rattle.std.proofs.Common.{◌≡◌, ◌≢◌, ℕ, Bool, true, false, List, [], ◌∷◌, ◌++◌, refl, sym, ap, ◌∙◌, append_assoc, arith}
 use Rattle.std.specs.Prelude.{if◌then◌else◌, ◌==◌}
 use Rattle.std.specs.List.{AllByRecursion}
 use Rattle.std.proofs.lemmas.Bool.{eqb-true}
 use Rattle.std.proofs.lemmas.Bool.Decides.{nat_tests}
-use Rattle.std.proofs.lemmas.List.{append-nil}
 use Rattle.std.proofs.lemmas.List.Elements.{All-cons, All-nil}
 use Rattle.script_lines.specs.Joined.{joined}
 use Rattle.script_lines.specs.Lines.{HasNoNewline, lines_of, onto_first}
-use Rattle.script_lines.proofs.Bytes.{at_newline, at_other, lines_of-newline}
+use Rattle.script_lines.proofs.Bytes.{lines_of-newline}
 
 -- lines before other bytes are the first lines
 pub lines_before : (ls : List (List ℕ)) (rest : List ℕ) → AllByRecursion HasNoNewline ls → lines_of (joined ls ++ rest) ≡ ls ++ lines_of rest

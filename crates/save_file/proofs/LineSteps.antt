@@ -1,10 +1,8 @@
 -- What one line does to what was read, by the parts of a saved text.
-use Rattle.std.proofs.Common.{◌≡◌, ◌≢◌, ◌⊎◌, ℕ, IsTrue, List, [], ◌∷◌, ◌++◌, Option, Some, None, Result, Ok, Err, inl, inr, refl, sym, ap, subst, ◌∙◌}
-use Rattle.std.specs.Prelude.{◌↔◌, codes, decimal}
-use Rattle.std.specs.Str.{IsUtf8}
+use Rattle.std.proofs.Common.{◌≡◌, ◌≢◌, ℕ, List, [], ◌∷◌, ◌++◌, Some, None, Result, Ok, Err, inl, refl, sym, ap, subst, ◌∙◌}
+use Rattle.std.specs.Prelude.{codes, decimal}
 use Rattle.fact_paths.specs.Cuts.{after}
 use Rattle.fact_paths.proofs.CutLaws.{after_some}
-use Rattle.fact_values.specs.declared.slot.Slot.{Slot}
 use Rattle.answers.specs.Answered.{Answered}
 use Rattle.answers.specs.GivenLists.{IsOfLists}
 use Rattle.answers.specs.Meaning.{answered}
@@ -18,9 +16,7 @@ use Rattle.save_file.specs.Cursors.{slots_left}
 use Rattle.save_file.specs.Following.{AreRead, BeginsOther, FollowsEntries, FollowsLists, GoesOn, IsBuilt, IsStage, Judges, ReadsOn, behind_lists, behind_opening}
 use Rattle.save_file.specs.Reading.{IsNextNumber}
 use Rattle.save_file.specs.SavedText.{end_line, lists, next_line, opening_line, slots}
-use Rattle.save_file.specs.declared.fault.LoadFault.{LoadFault}
 use Rattle.save_file.specs.declared.fault.LoadFault.TheVariants.{BadSaved}
-use Rattle.save_file.specs.declared.fault.LoadFault.TheVariants as faults
 use Rattle.save_file.specs.declared.stage.EntriesRead.{EntriesRead}
 use Rattle.save_file.specs.declared.stage.ListsRead.{ListsRead}
 use Rattle.save_file.specs.declared.stage.Stage.{Stage}

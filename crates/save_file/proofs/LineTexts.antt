@@ -1,5 +1,5 @@
 -- The texts of which the lines are made are UTF-8, and have no newline.
-use Rattle.std.proofs.Common.{◌≡◌, ◌≢◌, ◌⊎◌, ℕ, ℤ, zero, suc, ◌<◌, ◌^◌, Bool, true, false, ◌&&◌, ◌||◌, not, Option, None, slice_get, List, [], ◌∷◌, ◌++◌, length, get_or, Some, inl, inr, refl, sym, ap, subst, ◌∙◌, arith}
+use Rattle.std.proofs.Common.{◌≡◌, ◌≢◌, ℕ, ℤ, zero, suc, ◌<◌, ◌^◌, Bool, true, false, ◌&&◌, ◌||◌, not, slice_get, List, [], ◌∷◌, ◌++◌, length, Some, inl, inr, refl, sym, ap, subst, ◌∙◌, arith}
 use Rattle.std.specs.Prelude.{codes, decimal, nat_le, nat_lt}
 use Rattle.std.specs.Char.{is_ascii_digit, is_control}
 use Rattle.std.specs.Int.{is_in_range}
@@ -9,7 +9,7 @@ use Rattle.std.proofs.Math.Utf8.{encode, encodes}
 use Rattle.std.proofs.lemmas.Bool.Decides.{nat_tests}
 use Rattle.std.proofs.lemmas.Fmt.{digits_decimal}
 use Rattle.std.proofs.lemmas.List.{append-nil}
-use Rattle.std.proofs.lemmas.List.Elements.{All-append, All-from_get_or, All-nil, All-cons}
+use Rattle.std.proofs.lemmas.List.Elements.{All-from_get_or, All-nil, All-cons}
 use Rattle.std.proofs.lemmas.Str.{IsUtf8-append, IsUtf8-from_ascii, IsUtf8-from_is_utf8, IsUtf8-nil, encodes-chars, inside_one}
 use Rattle.std.proofs.lemmas.Str.Ascii.{IsAscii-cons, IsAscii-nil}
 use Rattle.common_lemmas.proofs.Bools.{both, or_neither, not_true}
@@ -18,12 +18,11 @@ use Rattle.fact_paths.specs.Names.{IsName, is_name, is_name_byte}
 use Rattle.fact_paths.specs.Paths.{IsMemberNumber, IsSlotPath, slot_path_text}
 use Rattle.fact_paths.specs.declared.slot_path.SlotPath.{SlotPath}
 use Rattle.fact_paths.specs.declared.slot_path.SlotPath.TheVariants as slots
-use Rattle.fact_values.specs.Texts.{IsPlainText, has_control, is_plain_text}
+use Rattle.fact_values.specs.Texts.{IsPlainText, has_control}
 use Rattle.fact_values.specs.declared.fact_type.FactType.{FactType}
 use Rattle.fact_values.specs.declared.fact_type.FactType.TheVariants as types
 use Rattle.fact_values.specs.declared.value.Value.{Value}
 use Rattle.fact_values.specs.declared.value.Value.TheVariants as values
-use Rattle.value_text.specs.Digits.{AreDigits}
 use Rattle.value_text.specs.Dollars.{SpellsSize}
 use Rattle.value_text.specs.Enums.{AreLists, Listed, are_distinct, are_options, is_listed, option_at, options_at}
 use Rattle.value_text.specs.Fractions.{SpellsFraction}

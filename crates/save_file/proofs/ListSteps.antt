@@ -1,7 +1,7 @@
 -- What one line of a collection does to what was read.
-use Rattle.std.proofs.Common.{◌≡◌, ◌≢◌, ℕ, ◌+◌, ◌<◌, ◌≤◌, Bool, true, false, IsTrue, List, [], ◌∷◌, ◌++◌, length, Option, Some, None, Result, Ok, Err, inl, inr, refl, sym, ap, subst, ◌∙◌, arith}
-use Rattle.std.specs.Prelude.{◌↔◌, codes}
-use Rattle.std.specs.List.{All, AllByRecursion, list_all}
+use Rattle.std.proofs.Common.{◌≡◌, ◌≢◌, ℕ, ◌+◌, ◌≤◌, true, false, IsTrue, List, [], ◌∷◌, ◌++◌, length, Some, None, Result, Ok, Err, inl, inr, refl, sym, ap, subst, ◌∙◌, arith}
+use Rattle.std.specs.Prelude.{codes}
+use Rattle.std.specs.List.{AllByRecursion, list_all}
 use Rattle.std.proofs.lemmas.Bool.{cases_lt}
 use Rattle.std.proofs.lemmas.List.{append-nil}
 use Rattle.fact_paths.specs.Cuts.{Lacks, cut}
@@ -10,7 +10,6 @@ use Rattle.fact_paths.proofs.CutLaws.{cut_some}
 use Rattle.fact_values.specs.Members.{IsMemberList}
 use Rattle.value_text.specs.MemberTexts.{printed_rest}
 use Rattle.answers.specs.Answered.{Answered}
-use Rattle.answers.specs.GivenLists.{IsBelow, IsWithout}
 use Rattle.dict_tree.specs.Dictionary.{Dictionary as Tree}
 use Rattle.dictionary.specs.Accepted.{Accepted, IsAccepted}
 use Rattle.dictionary.specs.Fits.{is_list}

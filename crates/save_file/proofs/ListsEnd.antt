@@ -1,7 +1,7 @@
 -- What follows where the lists are at their end, and before them.
-use Rattle.std.proofs.Common.{◌≡◌, ◌≢◌, ℕ, zero, suc, ◌+◌, ◌-◌, ◌<◌, ◌≤◌, ◌^◌, Bool, true, false, nat_eq, if◌then◌else◌, IsTrue, List, [], ◌∷◌, ◌++◌, length, Option, Some, None, IsSome, inl, inr, refl, sym, ap, subst, ◌∙◌, arith}
-use Rattle.std.specs.Prelude.{◌↔◌, codes, decimal}
-use Rattle.std.specs.List.{All, AllByRecursion, flat_map, list_any}
+use Rattle.std.proofs.Common.{◌≡◌, ◌≢◌, ℕ, suc, ◌-◌, ◌<◌, ◌≤◌, List, [], ◌∷◌, ◌++◌, length, None, inl, inr, sym, ap, ◌∙◌, arith}
+use Rattle.std.specs.Prelude.{codes, decimal}
+use Rattle.std.specs.List.{AllByRecursion, flat_map, list_any}
 use Rattle.std.specs.FinMap as map
 use Rattle.std.specs.Ordering.{nat_cmp}
 use Rattle.std.specs.Str.Parse.{digits_value}
@@ -9,24 +9,23 @@ use Rattle.std.proofs.lemmas.Bool.{cases_lt}
 use Rattle.std.proofs.lemmas.Fmt.{digits_value-decimal}
 use Rattle.std.proofs.lemmas.List.Elements.{All-nil}
 use Rattle.fact_values.specs.declared.slot.Slot.{Slot}
-use Rattle.fact_values.specs.declared.value.Value.{Value}
 use Rattle.value_text.proofs.DigitLemmas.{own}
 use Rattle.dict_tree.specs.Dictionary.{Dictionary as Tree}
-use Rattle.answers.specs.Answered.{Answered, Entry, blank, of_side, start, start_at, value_of}
-use Rattle.answers.specs.Finite.{Numbered, and_then}
-use Rattle.answers.specs.GivenLists.{IsOfLists, is_in_some}
+use Rattle.answers.specs.Answered.{Answered, start_at, value_of}
+use Rattle.answers.specs.Finite.{Numbered}
+use Rattle.answers.specs.GivenLists.{IsOfLists}
 use Rattle.answers.specs.OpenedLists.{with_all}
 use Rattle.answers.specs.WellFormed.{FromOne, WellFormed}
 use Rattle.answers.specs.declared.edit.Side.{Side}
 use Rattle.answers.specs.declared.edit.Side.TheVariants.{Answer, Override}
 use Rattle.answers.proofs.FiniteLaws.{same}
 use Rattle.answers.proofs.OpenedListsLaws.{given_well, of_lists}
-use Rattle.dictionary.specs.Fits.{AnswersFit, is_list}
+use Rattle.dictionary.specs.Fits.{AnswersFit}
 use Rattle.dictionary.specs.Slots.{slot_same}
-use Rattle.dictionary.proofs.FitStart.{blank_value, given_fit, given_value, start_fits}
-use Rattle.save_file.specs.Following.{BeginsOther, AreRead, FollowsEntries, FollowsLists, IsBuilt, IsPast, IsToCome, behind_lists, behind_opening, behind_side}
+use Rattle.dictionary.proofs.FitStart.{given_fit, given_value}
+use Rattle.save_file.specs.Following.{BeginsOther, AreRead, FollowsEntries, FollowsLists, IsBuilt, IsPast, behind_lists, behind_opening, behind_side}
 use Rattle.save_file.specs.Reading.{IsNextNumber}
-use Rattle.save_file.specs.SavedText.{counted, end_line, entries, entry_lines, list_lines, list_lines_of, lists as lists_lines, next_line, opening_line, slots}
+use Rattle.save_file.specs.SavedText.{counted, end_line, entry_lines, list_lines, list_lines_of, lists as lists_lines, next_line, slots}
 use Rattle.save_file.proofs.CursorLaws.{counted_all}
 use Rattle.save_file.proofs.GivenLists.{given, given_none}
 use Rattle.save_file.proofs.KeyedLines.{HasNone, HasOther, cons_parts, none_added, skip}

@@ -1,51 +1,33 @@
 -- What follows of one line of an open collection, and where the lists are at their end.
-use Rattle.std.proofs.Common.{◌≡◌, ◌≢◌, ◌⊎◌, ℕ, zero, suc, ◌+◌, ◌-◌, ◌<◌, ◌≤◌, Bool, true, false, ◌&&◌, nat_eq, if◌then◌else◌, IsTrue, List, [], ◌∷◌, ◌++◌, length, Option, Some, None, IsSome, is_some, unwrap_or, inl, inr, refl, sym, ap, subst, ◌∙◌, arith}
-use Rattle.std.specs.Prelude.{◌↔◌, codes, nat_le}
-use Rattle.std.specs.List.{All, AllByRecursion, flat_map, list_all, list_any}
+use Rattle.std.proofs.Common.{◌≡◌, ◌≢◌, ℕ, zero, suc, ◌+◌, ◌-◌, ◌<◌, ◌≤◌, Bool, true, false, nat_eq, if◌then◌else◌, IsTrue, List, [], ◌∷◌, ◌++◌, length, Option, Some, None, is_some, unwrap_or, inl, inr, refl, sym, ap, subst, ◌∙◌, arith}
+use Rattle.std.specs.Prelude.{codes}
+use Rattle.std.specs.List.{All, AllByRecursion, flat_map, list_any}
 use Rattle.std.specs.Map.{lookup}
 use Rattle.std.specs.FinMap as map
-use Rattle.std.specs.Ordering.{nat_cmp}
-use Rattle.std.proofs.lemmas.Bool.{cases_lt, eqb-true}
+use Rattle.std.proofs.lemmas.Bool.{cases_lt}
 use Rattle.std.proofs.lemmas.Bool.Decides.{nat_tests}
 use Rattle.std.proofs.lemmas.List.Elements.{All-push, All-weaker}
-use Rattle.std.proofs.lemmas.Option.{same_Some}
-use Rattle.common_lemmas.proofs.Bools.{both}
 use Rattle.common_lemmas.proofs.Numbers.{same_number}
 use Rattle.fact_values.specs.Members.{IsMemberList}
 use Rattle.fact_values.specs.declared.slot.Slot.{Slot}
-use Rattle.fact_values.specs.declared.value.Value.{Value}
 use Rattle.value_text.specs.MemberTexts.{printed_rest}
 use Rattle.dict_tree.specs.Dictionary.{Dictionary as Tree}
-use Rattle.dict_tree.specs.Facts.{Fact}
-use Rattle.dict_tree.specs.Finding.{fact_at}
-use Rattle.answers.specs.Answered.{Answered, Entry, blank, list_of, of_side, start_at, value_of}
-use Rattle.answers.specs.Finite.{Numbered, and_then, map_of}
-use Rattle.answers.specs.GivenLists.{AreApart, AreBelow, AreMemberLists, FactsRise, IsBelow, IsOfLists, IsWithout, is_in_some}
+use Rattle.answers.specs.Answered.{Answered, list_of}
+use Rattle.answers.specs.GivenLists.{IsBelow, IsWithout}
 use Rattle.answers.specs.Lists.{IsIn, IsNotIn}
-use Rattle.answers.specs.OpenedLists.{with_all}
-use Rattle.answers.specs.WellFormed.{FromOne, WellFormed}
-use Rattle.answers.specs.declared.edit.Side.{Side}
-use Rattle.answers.specs.declared.edit.Side.TheVariants.{Answer, Override}
-use Rattle.answers.proofs.FiniteLaws.{same}
-use Rattle.answers.proofs.OpenedListsLaws.{given_well, of_lists}
-use Rattle.answers.proofs.StandLaws.{none_some}
 use Rattle.dictionary.specs.Accepted.{Accepted, IsAccepted}
 use Rattle.dictionary.specs.Fits.{AnswersFit, is_list}
 use Rattle.dictionary.specs.Reading.{slot}
-use Rattle.dictionary.specs.SlotText.{IsSlot, slot_text}
-use Rattle.dictionary.specs.Slots.{slot_same}
-use Rattle.dictionary.proofs.FitStart.{blank_value, given_fit}
-use Rattle.save_file.specs.Following.{AreRead, FollowsEntries, FollowsLists, IsBuilt, IsPast, IsToCome, behind_lists}
+use Rattle.dictionary.specs.SlotText.{slot_text}
+use Rattle.save_file.specs.Following.{AreRead, FollowsLists, behind_lists}
 use Rattle.save_file.specs.Reading.{IsLaterList, IsListFound}
-use Rattle.save_file.specs.SavedText.{counted, end_line, entries, entry_lines, list_line, list_lines, list_lines_of, slots}
+use Rattle.save_file.specs.SavedText.{counted, list_line, list_lines, list_lines_of}
 use Rattle.save_file.proofs.EntryLaws.{list_slot, list_there, member_below, members_numbered, open_list_members}
 use Rattle.save_file.proofs.GivenLists.{IsUpTo, apart_push, each_given, given, given_is, given_none, given_push, rise_push}
 use Rattle.save_file.proofs.KeyedLines.{HasNone, HasOther, behind_keys, cons_parts, none_added, skip}
 use Rattle.save_file.proofs.ListTexts.{numbers_of, same_members, same_parts, tail_of}
-use Rattle.save_file.proofs.SlotsOnce.{all_slots}
-use Rattle.save_file.proofs.SlotsThere.{none_outside, same_slots}
 use Rattle.save_file.proofs.SlotTexts.{one_slot, same_behind, text_lacks_blank}
-use Rattle.save_file.proofs.WordLaws.{everywhere, first, list_shown, no_list, no_list_behind, one_list, other_list}
+use Rattle.save_file.proofs.WordLaws.{first, list_shown, no_list, no_list_behind, one_list}
 use Rattle.dictionary.proofs.NumberLaws.{fact_within}
 
 -- ---- numbers in a row

@@ -1,16 +1,12 @@
 -- How loading ends: with a line that is refused, or behind the last.
-use Rattle.std.proofs.Common.{◌≡◌, ◌⊎◌, ℕ, suc, ◌+◌, Bool, true, false, List, [], ◌∷◌, ◌++◌, length, Result, Ok, Err, inl, inr, refl, sym, ap, subst, ◌∙◌, arith}
-use Rattle.std.specs.Prelude.{◌↔◌, IfErr, IfOk, IsTrue}
+use Rattle.std.proofs.Common.{◌≡◌, ℕ, suc, ◌+◌, Bool, true, false, List, [], ◌∷◌, ◌++◌, length, Result, Err, inl, inr, sym, subst, ◌∙◌, arith}
+use Rattle.std.specs.Prelude.{◌↔◌, IsTrue}
 use Rattle.value_text.specs.Enums.{AreLists}
 use Rattle.script_lines.specs.Lines.{lines_of}
-use Rattle.answers.specs.Answered.{Answered}
-use Rattle.answers.specs.Meaning.{answered}
 use Rattle.answers.specs.declared.parts.Parts.{Parts}
 use Rattle.dictionary.specs.Accepted.{Accepted, IsAccepted}
-use Rattle.dictionary.specs.Fits.{AnswersFit}
 use Rattle.save_file.specs.Following.{Ends, HasRead, IsStage, ReadsOn}
 use Rattle.save_file.specs.Loading.{IsLoad, IsRefusedAt, RefusesText}
-use Rattle.save_file.specs.SavedText.{saved}
 use Rattle.save_file.specs.declared.fault.LoadFault.{LoadFault}
 use Rattle.save_file.specs.declared.fault.LoadFault.TheVariants.{BadSaved, NoMemory}
 use Rattle.save_file.specs.declared.stage.Stage.{Stage}

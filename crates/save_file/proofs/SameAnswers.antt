@@ -1,11 +1,9 @@
 -- Answers with the same lists, values and overrides are the same.
-use Rattle.std.proofs.Common.{◌≡◌, ℕ, Bool, true, false, nat_eq, if◌then◌else◌, List, [], unwrap_or, Option, Some, None, IsSome, is_some, refl, sym, ap, subst, ◌∙◌, arith}
+use Rattle.std.proofs.Common.{◌≡◌, ℕ, Bool, true, false, nat_eq, if◌then◌else◌, List, [], unwrap_or, Option, Some, None, IsSome, is_some, refl, sym, ap, subst, ◌∙◌}
 use Rattle.std.specs.FinMap as map
-use Rattle.std.proofs.lemmas.Bool.Decides.{nat_tests}
 use Rattle.common_lemmas.proofs.Numbers.{same_number}
 use Rattle.fact_values.specs.declared.slot.Slot.{Slot}
-use Rattle.fact_values.specs.declared.value.Value.{Value}
-use Rattle.answers.specs.Answered.{Answered, Entry, entry, list_of, of_side, value_of}
+use Rattle.answers.specs.Answered.{Answered, Entry, of_side, value_of}
 use Rattle.answers.specs.Change.{IsListed}
 use Rattle.answers.specs.Finite.{Numbered, and_then}
 use Rattle.answers.specs.Lists.{IsIn}

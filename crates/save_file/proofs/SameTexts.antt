@@ -1,5 +1,5 @@
 -- A saved text tells its answers.
-use Rattle.std.proofs.Common.{◌≡◌, ◌≢◌, ◌⊎◌, ℕ, zero, suc, ◌+◌, ◌-◌, ◌<◌, ◌≤◌, Bool, true, false, IsTrue, List, [], ◌∷◌, ◌++◌, length, Option, Some, None, inl, inr, is_some, refl, sym, ap, subst, ◌∙◌, arith}
+use Rattle.std.proofs.Common.{◌≡◌, ◌≢◌, ◌⊎◌, ℕ, zero, suc, Bool, true, false, List, [], ◌∷◌, ◌++◌, length, Option, Some, None, inl, inr, refl, sym, ap, subst, ◌∙◌, arith}
 use Rattle.std.specs.Prelude.{codes, decimal}
 use Rattle.std.specs.List.{AllByRecursion, flat_map, list_any}
 use Rattle.std.specs.FinMap as map
@@ -9,20 +9,18 @@ use Rattle.fact_values.specs.declared.slot.Slot.{Slot}
 use Rattle.fact_values.specs.declared.value.Value.{Value}
 use Rattle.value_text.specs.Enums.{AreLists}
 use Rattle.value_text.specs.Values.{printed}
-use Rattle.script_lines.specs.Joined.{joined}
 use Rattle.script_lines.specs.Lines.{lines_of}
 use Rattle.answers.specs.Answered.{Answered, value_of}
 use Rattle.answers.specs.declared.edit.Side.{Side}
 use Rattle.answers.specs.declared.edit.Side.TheVariants.{Answer, Override}
 use Rattle.answers.proofs.FiniteLaws.{same}
-use Rattle.dict_tree.specs.Dictionary.{Dictionary as Tree}
 use Rattle.dictionary.specs.Accepted.{Accepted, IsAccepted}
 use Rattle.dictionary.specs.Fits.{AnswersFit, is_list}
 use Rattle.dictionary.specs.Slots.{slot_same}
 use Rattle.dictionary.specs.SlotText.{slot_text}
 use Rattle.graph_session.specs.Kinds.{value_spelled}
 use Rattle.save_file.specs.Following.{AreSlots, behind_lists, behind_opening, behind_side}
-use Rattle.save_file.specs.SavedText.{counted, end_line, entries, entry_line, entry_lines, entry_lines_of, facts, list_line, list_lines, list_lines_of, lists, next_line, opening_line, saved, saved_lines, side_word, slots}
+use Rattle.save_file.specs.SavedText.{counted, entries, entry_line, entry_lines, entry_lines_of, facts, list_line, list_lines, list_lines_of, lists, next_line, opening_line, saved, saved_lines, side_word, slots}
 use Rattle.save_file.proofs.EntriesFollow.{at_one, each, entry_cut, side_first}
 use Rattle.save_file.proofs.EntryLaws.{entry_slot, members_numbered, open_list, open_list_members}
 use Rattle.save_file.proofs.KeyedLines.{HasOneAtMost, HasOther, cons_not_nil, cons_parts, skip}

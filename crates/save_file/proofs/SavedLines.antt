@@ -1,23 +1,20 @@
 -- Each line of a saved text is UTF-8, and has no newline.
-use Rattle.std.proofs.Common.{◌≡◌, ◌⊎◌, ℕ, ◌^◌, List, [], ◌∷◌, ◌++◌, length, Option, Some, None, inl, inr, refl, sym, ap, subst, ◌∙◌, arith}
+use Rattle.std.proofs.Common.{◌≡◌, ◌⊎◌, ℕ, List, [], ◌∷◌, ◌++◌, inl, inr, refl, sym, subst, arith}
 use Rattle.std.specs.Prelude.{codes, decimal}
 use Rattle.std.specs.List.{AllByRecursion, flat_map}
-use Rattle.std.specs.FinMap as map
 use Rattle.fact_values.specs.declared.slot.Slot.{Slot}
-use Rattle.fact_values.specs.declared.value.Value.{Value}
 use Rattle.value_text.specs.Enums.{AreLists}
 use Rattle.value_text.specs.MemberTexts.{printed_rest}
 use Rattle.value_text.specs.Values.{printed}
 use Rattle.script_lines.specs.Lines.{HasNoNewline}
-use Rattle.dict_tree.specs.Dictionary.{Dictionary as Tree}
-use Rattle.answers.specs.Answered.{Answered, value_of}
+use Rattle.answers.specs.Answered.{Answered}
 use Rattle.answers.specs.declared.edit.Side.{Side}
 use Rattle.answers.specs.declared.edit.Side.TheVariants.{Answer, Override}
 use Rattle.dictionary.specs.Accepted.{Accepted, IsAccepted}
 use Rattle.dictionary.specs.Fits.{AnswersFit}
 use Rattle.dictionary.specs.Reading.{slot}
 use Rattle.dictionary.specs.SlotText.{slot_text}
-use Rattle.save_file.specs.SavedText.{end_line, entries, entry_line, entry_lines, facts, list_line, list_lines, lists, next_line, opening_line, saved_lines, side_word, slots}
+use Rattle.save_file.specs.SavedText.{end_line, entries, entry_lines, facts, list_lines, lists, opening_line, saved_lines, side_word, slots}
 use Rattle.save_file.proofs.EntryLaws.{entry_slot, list_slot, members_numbered, open_list, open_list_members}
 use Rattle.save_file.proofs.KeyedLines.{HasOneAtMost}
 use Rattle.save_file.proofs.LineTexts.{IsLine, decimal_line, line-append, plain_line, rest_line}

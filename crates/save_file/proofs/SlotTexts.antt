@@ -1,18 +1,17 @@
 -- The text of a slot has no blank, and no other slot has it.
-use Rattle.std.proofs.Common.{◌≡◌, ℕ, ◌<◌, ◌≤◌, Bool, true, false, IsTrue, List, [], ◌∷◌, ◌++◌, Option, Some, None, inl, inr, refl, sym, ap, subst, ◌∙◌, arith}
-use Rattle.std.specs.Prelude.{codes, decimal, nat_lt, option_and_then, option_map}
+use Rattle.std.proofs.Common.{◌≡◌, ℕ, Bool, true, false, List, [], ◌∷◌, ◌++◌, Option, Some, None, inl, inr, refl, sym, ap, subst, ◌∙◌, arith}
+use Rattle.std.specs.Prelude.{codes, decimal, nat_lt, option_and_then}
 use Rattle.std.proofs.lemmas.Bool.{cases_lt}
 use Rattle.std.proofs.lemmas.Bool.Decides.{nat_tests}
 use Rattle.std.proofs.lemmas.Option.{same_Some}
 use Rattle.common_lemmas.proofs.Options.{both_some, mapped}
-use Rattle.fact_paths.specs.Cuts.{Lacks, after, cut}
-use Rattle.fact_paths.specs.Names.{IsName}
+use Rattle.fact_paths.specs.Cuts.{Lacks, after}
 use Rattle.fact_paths.specs.Paths.{IsSlotPath, SpellsSlotPath, slot_path_text}
 use Rattle.fact_paths.specs.declared.fact_path.FactPath.{FactPath}
 use Rattle.fact_paths.specs.declared.fact_path.FactPath.TheVariants as facts
 use Rattle.fact_paths.specs.declared.slot_path.SlotPath.{SlotPath}
 use Rattle.fact_paths.specs.declared.slot_path.SlotPath.TheVariants as slots
-use Rattle.fact_paths.proofs.CutLaws.{after-append, cut-append, cut-lacks}
+use Rattle.fact_paths.proofs.CutLaws.{after-append}
 use Rattle.fact_paths.proofs.MemberNumbers.{decimal_lacks}
 use Rattle.fact_paths.proofs.NameLaws.{name_lacks}
 use Rattle.fact_paths.proofs.ReadingLaws.{one_path_from}
@@ -21,7 +20,7 @@ use Rattle.fact_paths.specs.Reading.{slot_path_of as read_slot_path}
 use Rattle.fact_values.specs.declared.slot.Slot.{Slot}
 use Rattle.dict_tree.specs.Facts.{Fact}
 use Rattle.dict_tree.specs.Dictionary.{Dictionary as Tree}
-use Rattle.dict_tree.specs.Finding.{HasPath, IsFirst, fact_at, find_path}
+use Rattle.dict_tree.specs.Finding.{HasPath, fact_at, find_path}
 use Rattle.dict_tree.proofs.FindingLaws.{find_path-first, find_path-none}
 use Rattle.dict_types.specs.DuplicatePath.{is_before, is_taken}
 use Rattle.dictionary.specs.Accepted.{Accepted, IsAccepted}

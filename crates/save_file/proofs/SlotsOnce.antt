@@ -1,5 +1,5 @@
 -- Each slot that stands comes once.
-use Rattle.std.proofs.Common.{◌≡◌, ◌⊎◌, ℕ, zero, suc, ◌<◌, ◌≤◌, ◌+◌, Bool, true, false, ◌&&◌, ◌||◌, nat_eq, if◌then◌else◌, IsTrue, List, [], ◌∷◌, ◌++◌, length, map, inl, inr, refl, sym, ap, ◌∙◌, arith}
+use Rattle.std.proofs.Common.{◌≡◌, ℕ, zero, suc, ◌<◌, ◌≤◌, ◌+◌, Bool, true, false, ◌&&◌, ◌||◌, nat_eq, if◌then◌else◌, IsTrue, List, [], ◌∷◌, ◌++◌, length, map, refl, sym, ap, ◌∙◌, arith}
 use Rattle.std.specs.List.{flat_map, list_any}
 use Rattle.std.proofs.lemmas.Bool.{eqb-true}
 use Rattle.std.proofs.lemmas.Bool.Decides.{nat_tests}
@@ -12,11 +12,11 @@ use Rattle.answers.specs.Lists.{Once}
 use Rattle.answers.specs.WellFormed.{WellFormed}
 use Rattle.dictionary.specs.Homes.{home}
 use Rattle.dictionary.specs.Reading.{slot}
-use Rattle.dictionary.specs.Slots.{is_member, members_of_home, slot_same, slots_of, stands, stands_at}
+use Rattle.dictionary.specs.Slots.{is_member, members_of_home, slot_same, slots_of, stands}
 use Rattle.dictionary.proofs.NumberLaws.{fact_there}
 use Rattle.dictionary.proofs.SlotLaws.{slot_same-equal, slot_same-itself, stands_where}
 use Rattle.save_file.specs.Following.{AreSlots}
-use Rattle.save_file.specs.SavedText.{counted, facts, slots}
+use Rattle.save_file.specs.SavedText.{counted, slots}
 
 -- ---- parts of a list of slots
 

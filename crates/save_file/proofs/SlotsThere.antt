@@ -1,7 +1,6 @@
 -- The list of slots has all that stand, and rests on the lists of members alone.
-use Rattle.std.proofs.Common.{◌≡◌, ℕ, zero, suc, ◌+◌, ◌-◌, ◌<◌, ◌≤◌, Bool, true, false, ◌&&◌, List, [], ◌∷◌, ◌++◌, length, drop, IsTrue, Option, Some, None, IsSome, is_some, refl, sym, ap, ◌∙◌, append_assoc, arith}
+use Rattle.std.proofs.Common.{◌≡◌, ℕ, zero, suc, ◌+◌, ◌-◌, true, false, List, [], ◌∷◌, ◌++◌, length, drop, Option, Some, None, is_some, refl, sym, ap, ◌∙◌, arith}
 use Rattle.std.specs.List.{flat_map, list_any}
-use Rattle.std.specs.FinMap as map
 use Rattle.std.proofs.lemmas.List.{append-nil}
 use Rattle.std.proofs.lemmas.List.Concat.{flat_map-append}
 use Rattle.common_lemmas.proofs.Bools.{both}
@@ -11,7 +10,6 @@ use Rattle.dict_tree.specs.Dictionary.{Dictionary as Tree}
 use Rattle.answers.specs.Answered.{Answered, value_of}
 use Rattle.answers.specs.Finite.{Numbered}
 use Rattle.answers.specs.declared.edit.Side.{Side}
-use Rattle.answers.proofs.StandLaws.{none_some}
 use Rattle.dictionary.specs.Fits.{AnswersFit, takes}
 use Rattle.dictionary.specs.Slots.{slot_same, slots_of, slots_up_to, standing, stands}
 use Rattle.dictionary.proofs.SlotLaws.{listed_stand}

@@ -1,18 +1,15 @@
 -- Some answers go on from what was read, and none without a line to come but where the text is whole.
-use Rattle.std.proofs.Common.{◌≡◌, ℕ, List, [], ◌∷◌, ◌++◌, refl, sym, ap, ◌∙◌, append_assoc}
-use Rattle.std.specs.Prelude.{◌↔◌}
+use Rattle.std.proofs.Common.{◌≡◌, ℕ, List, [], ◌∷◌, ◌++◌, refl, sym, ◌∙◌, append_assoc}
 use Rattle.std.specs.List.{flat_map}
-use Rattle.std.proofs.lemmas.List.{append-nil}
 use Rattle.fact_values.specs.declared.slot.Slot.{Slot}
 use Rattle.dict_tree.specs.Dictionary.{Dictionary as Tree}
 use Rattle.answers.specs.Answered.{Answered, start}
 use Rattle.answers.specs.Meaning.{answered}
 use Rattle.answers.specs.declared.edit.Side.{Side}
 use Rattle.answers.specs.declared.edit.Side.TheVariants.{Answer, Override}
-use Rattle.dictionary.specs.Fits.{AnswersFit}
 use Rattle.dictionary.proofs.FitStart.{start_fits}
 use Rattle.save_file.specs.Cursors.{slots_left}
-use Rattle.save_file.specs.Following.{Follows, FollowsEntries, FollowsLists, HasRead, IsBuilt, IsStage, TakesLine, behind_lists, behind_opening, behind_side}
+use Rattle.save_file.specs.Following.{Follows, FollowsEntries, HasRead, IsBuilt, IsStage, TakesLine, behind_lists, behind_opening, behind_side}
 use Rattle.save_file.specs.SavedText.{end_line, entries, entry_lines, list_lines, lists, next_line, opening_line, saved_lines, slots}
 use Rattle.save_file.specs.declared.stage.Stage.{Stage}
 use Rattle.save_file.specs.declared.stage.Stage.TheVariants.{Opening, Number, Lists, Entries, Whole}

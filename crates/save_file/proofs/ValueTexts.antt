@@ -1,5 +1,5 @@
 -- What is printed of a value that fits is read as the value, and is part of a line.
-use Rattle.std.proofs.Common.{◌≡◌, ℕ, ◌||◌, ◌&&◌, IsTrue, List, Option, Some, None, IsSome, refl, sym, ap, subst, ◌∙◌}
+use Rattle.std.proofs.Common.{◌≡◌, ℕ, IsTrue, List, Some, IsSome, refl, ap, subst, ◌∙◌}
 use Rattle.std.specs.Prelude.{option_and_then}
 use Rattle.common_lemmas.proofs.Bools.{both, or_left, or_right}
 use Rattle.fact_values.specs.declared.fact_type.FactType.{FactType}

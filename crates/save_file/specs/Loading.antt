@@ -1,5 +1,5 @@
 -- Which bytes are a saved text, and at which line others are refused.
-use Rattle.std.specs.Prelude.{◌≡◌, ℕ, ◌+◌, ◌<◌, ◌≤◌, List, ◌++◌, length, take, Result, Ok, Err, IfErr, IfOk}
+use Rattle.std.specs.Prelude.{◌≡◌, ℕ, ◌+◌, ◌<◌, ◌≤◌, List, ◌++◌, length, take, Result, IfErr, IfOk}
 use Rattle.script_lines.specs.Joined.{joined}
 use Rattle.script_lines.specs.Lines.{lines_of}
 use Rattle.dict_tree.specs.Dictionary.{Dictionary as Tree}

@@ -1,4 +1,4 @@
-use Rattle.std.proofs.Common.{◌≡◌, true, false}
+use Rattle.std.proofs.Common.{◌≡◌, true}
 use Rattle.dictionary.specs.Accepted.{accepted}
 use Rattle.dictionary.specs.Fits.{takes}
 use Rattle.save_file.proofs.EntrySteps.{value_read}

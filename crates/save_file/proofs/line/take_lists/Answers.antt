@@ -1,4 +1,4 @@
-use Rattle.std.proofs.Common.{Result, Err, refl, sym, subst}
+use Rattle.std.proofs.Common.{Err, refl, sym, subst}
 use Rattle.std.specs.Prelude.{codes}
 use Rattle.dictionary.specs.Accepted.{accepted}
 use Rattle.script_lines.specs.declared.fault.LineFault.{LineFault}

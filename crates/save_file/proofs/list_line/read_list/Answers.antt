@@ -1,4 +1,4 @@
-use Rattle.std.proofs.Common.{ℕ, List, sym, subst}
+use Rattle.std.proofs.Common.{sym, subst}
 use Rattle.std.specs.List.{AllByRecursion}
 use Rattle.dictionary.specs.Accepted.{accepted, names_of}
 use Rattle.fact_paths.specs.Paths.{IsMemberNumber}
