@@ -5,3 +5,4 @@ pub mod Fetched
 pub mod KeptFiles
 pub mod Rising
 pub mod SentLaws
+pub mod WritingLaws

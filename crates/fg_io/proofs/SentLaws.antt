@@ -3,6 +3,7 @@ use Rattle.std.proofs.Common.{◌≡◌, ℕ, ◌-◌, ◌≤◌, List, [], ◌+
 use Rattle.std.proofs.KnownBytes.{Appends-nil, Appends-trans}
 use Rattle.std.proofs.lemmas.List.{append-nil, take_all}
 use Rattle.std.specs.Io.KnownBytes.{Appends}
+use Rattle.fg_io.specs.Outside.{Rose}
 use Rattle.fg_io.specs.Sent.{Sent}
 
 -- what didn't change took nothing
@@ -42,3 +43,31 @@ sent_on a b c text next rest first second = record {
   took = appends_more a b c first.front second.front first.took second.took;
   split = (λ i. (first.split ∙ append-nil first.front) i ++ second.split i) ∙ sym (append_assoc first.front second.front rest);
 }
+
+-- ---- a text in pieces
+
+-- a piece was put whole, and the rest is left
+pub sent_piece : (a b c : Option (List ℕ)) (text piece rest : List ℕ) → Sent a b text (piece ++ rest) → Sent b c piece [] → Sent a c text rest
+sent_piece a b c text piece rest first second =
+    let whole : piece ≡ second.front = second.split ∙ append-nil second.front in
+    record {
+      front = first.front ++ second.front;
+      took = appends_more a b c _ _ first.took second.took;
+      split = first.split ∙ ap (λ (p : List ℕ). first.front ++ (p ++ rest)) whole ∙ sym (append_assoc first.front second.front rest);
+    }
+
+-- a part of a piece was put
+pub sent_part : (a b c : Option (List ℕ)) (text piece rest left : List ℕ) → Sent a b text (piece ++ rest) → Sent b c piece left → Sent a c text (left ++ rest)
+sent_part a b c text piece rest left first second = record {
+  front = first.front ++ second.front;
+  took = appends_more a b c _ _ first.took second.took;
+  split =
+      first.split
+      ∙ ap (λ (p : List ℕ). first.front ++ (p ++ rest)) second.split
+      ∙ ap (λ (p : List ℕ). first.front ++ p) (append_assoc second.front left rest)
+      ∙ sym (append_assoc first.front second.front (left ++ rest));
+}
+
+-- a count that rose since rose since before
+pub rose_before : (f0 f1 f2 : ℕ) → f0 ≤ f1 → Rose f1 f2 → Rose f0 f2
+rose_before f0 f1 f2 le rose = omega arith

@@ -6,3 +6,4 @@ pub mod Sent
 pub mod ShelfState
 pub mod SinkState
 pub mod SourceState
+pub mod Writing

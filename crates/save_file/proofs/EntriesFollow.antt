@@ -33,7 +33,8 @@ use Rattle.graph_session.specs.Kinds.{value_spelled}
 use Rattle.graph_session.proofs.TypeLaws.{value_typed}
 use Rattle.save_file.specs.Following.{AreSlots, FollowsEntries, IsBuilt, IsPast, IsToCome, behind_side}
 use Rattle.save_file.specs.SavedText.{entry_line, entry_lines, entry_lines_of, side_word}
-use Rattle.save_file.proofs.EntryLaws.{entry_slot, standing_slot}
+use Rattle.dictionary.proofs.SlotTextLaws.{standing_slot}
+use Rattle.save_file.proofs.EntryLaws.{entry_slot}
 use Rattle.save_file.proofs.KeyedLines.{HasNone, HasOther, behind_keys, cons_parts, none_added, skip}
 use Rattle.save_file.proofs.SlotsOnce.{behind_skipped, in_front}
 use Rattle.save_file.proofs.SlotTexts.{one_slot, same_behind, text_lacks_blank}
@@ -80,7 +81,7 @@ past_other Answer xs ys Override s other past = past
 past_other Override xs ys Answer s other past = past
 past_other Override xs ys Override s other past = absurd cc
 
-side_itself : (side : Side) → is_side side side ≡ true
+pub side_itself : (side : Side) → is_side side side ≡ true
 side_itself Answer = refl
 side_itself Override = refl
 

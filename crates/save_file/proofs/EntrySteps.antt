@@ -30,7 +30,8 @@ use Rattle.save_file.specs.SavedText.{entry_lines, side_word}
 use Rattle.save_file.specs.declared.stage.EntriesRead.{EntriesRead}
 use Rattle.save_file.specs.declared.stage.Stage.TheVariants.{Entries}
 use Rattle.save_file.proofs.EntriesFollow.{built_after, entry_cut, given_back, others_by_path, refused_value, side_first, spelled_fits, taken}
-use Rattle.save_file.proofs.EntryLaws.{entry_slot, standing_slot}
+use Rattle.dictionary.proofs.SlotTextLaws.{standing_slot}
+use Rattle.save_file.proofs.EntryLaws.{entry_slot}
 use Rattle.save_file.proofs.KeyedLines.{HasOther, skip}
 use Rattle.save_file.proofs.SlotsOnce.{behind_skipped}
 use Rattle.save_file.proofs.ValueTexts.{printed_read}

@@ -1,5 +1,5 @@
 -- The texts of which the lines are made are UTF-8, and have no newline.
-use Rattle.std.proofs.Common.{◌≡◌, ◌≢◌, ℕ, ℤ, zero, suc, ◌<◌, ◌^◌, Bool, true, false, ◌&&◌, ◌||◌, not, slice_get, List, [], ◌∷◌, ◌++◌, length, Some, inl, inr, refl, sym, ap, subst, ◌∙◌, arith}
+use Rattle.std.proofs.Common.{◌≡◌, ◌≢◌, ℕ, ℤ, zero, suc, ◌<◌, ◌^◌, Bool, true, false, ◌&&◌, not, slice_get, List, [], ◌∷◌, ◌++◌, length, Some, inl, inr, refl, sym, ap, subst, ◌∙◌, arith}
 use Rattle.std.specs.Prelude.{codes, decimal, nat_le, nat_lt}
 use Rattle.std.specs.Char.{is_ascii_digit, is_control}
 use Rattle.std.specs.Int.{is_in_range}
@@ -18,6 +18,7 @@ use Rattle.fact_paths.specs.Names.{IsName, is_name, is_name_byte}
 use Rattle.fact_paths.specs.Paths.{IsMemberNumber, IsSlotPath, slot_path_text}
 use Rattle.fact_paths.specs.declared.slot_path.SlotPath.{SlotPath}
 use Rattle.fact_paths.specs.declared.slot_path.SlotPath.TheVariants as slots
+use Rattle.fact_paths.proofs.NameLaws.{one_of_all}
 use Rattle.fact_values.specs.Texts.{IsPlainText, has_control}
 use Rattle.fact_values.specs.declared.fact_type.FactType.{FactType}
 use Rattle.fact_values.specs.declared.fact_type.FactType.TheVariants as types
@@ -88,12 +89,6 @@ plain_line text h = passed is_plain_byte plain_test text h
 
 pub word_line : (text : List ℕ) → list_all is_name_byte text ≡ true → IsLine text
 word_line text h = passed is_name_byte name_test text h
-
-one_of_all : (digit upper lower low dash : Bool) → (upper || lower) ≡ true → ((((digit || upper) || lower) || low) || dash) ≡ true
-one_of_all true upper lower low dash e = refl
-one_of_all false true lower low dash e = refl
-one_of_all false false true low dash e = refl
-one_of_all false false false low dash e = absurd cc
 
 pub name_line : (text : List ℕ) → IsName text → IsLine text
 name_line [] h = line-nil

@@ -6,7 +6,7 @@ use Rattle.std.proofs.lemmas.Bool.{cases_lt}
 use Rattle.std.proofs.lemmas.List.{append-nil}
 use Rattle.fact_paths.specs.Cuts.{Lacks, cut}
 use Rattle.fact_paths.specs.Paths.{IsMemberNumber}
-use Rattle.fact_paths.proofs.CutLaws.{cut_some}
+use Rattle.fact_paths.proofs.CutLaws.{cut_some, front_lacks}
 use Rattle.fact_values.specs.Members.{IsMemberList}
 use Rattle.value_text.specs.MemberTexts.{printed_rest}
 use Rattle.answers.specs.Answered.{Answered}
@@ -26,7 +26,6 @@ use Rattle.save_file.proofs.EntryLaws.{list_slot, members_numbered}
 use Rattle.save_file.proofs.GivenLists.{given}
 use Rattle.save_file.proofs.ListsFollow.{are_new, given_back, list_within, none_found, read_after, taken}
 use Rattle.save_file.proofs.ListTexts.{Tail, numbers_of, same_members, same_parts, tail_of}
-use Rattle.save_file.proofs.MemberReading.{front_lacks}
 use Rattle.save_file.proofs.NewMembers.{below_by, by_apart, by_below, apart_by}
 use Rattle.save_file.proofs.SlotTexts.{same_behind, text_lacks_blank}
 

@@ -22,7 +22,8 @@ use Rattle.dictionary.specs.SlotText.{slot_text}
 use Rattle.save_file.specs.Following.{AreRead, FollowsLists, behind_lists}
 use Rattle.save_file.specs.Reading.{IsLaterList, IsListFound}
 use Rattle.save_file.specs.SavedText.{counted, list_line, list_lines, list_lines_of}
-use Rattle.save_file.proofs.EntryLaws.{list_slot, list_there, member_below, members_numbered, open_list_members}
+use Rattle.dictionary.proofs.SlotTextLaws.{member_below}
+use Rattle.save_file.proofs.EntryLaws.{list_slot, list_there, members_numbered, open_list_members}
 use Rattle.save_file.proofs.GivenLists.{IsUpTo, apart_push, each_given, given, given_is, given_none, given_push, rise_push}
 use Rattle.save_file.proofs.KeyedLines.{HasNone, HasOther, behind_keys, cons_parts, none_added, skip}
 use Rattle.save_file.proofs.ListTexts.{numbers_of, same_members, same_parts, tail_of}

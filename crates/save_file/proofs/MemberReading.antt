@@ -1,16 +1,14 @@
 -- Members that are read word by word, and the number of the next.
-use Rattle.std.proofs.Common.{◌≡◌, ◌≢◌, ℕ, ◌<◌, Bool, true, false, List, [], ◌∷◌, ◌++◌, length, Option, Some, None, inl, inr, refl, sym, ap, subst, ◌∙◌, append_assoc, cond, eqb, Ok, Err, arith, length-append}
-use Rattle.std.specs.Prelude.{codes, decimal, option_map, MatchOption}
+use Rattle.std.proofs.Common.{◌≡◌, ◌≢◌, ℕ, ◌<◌, List, [], ◌∷◌, ◌++◌, length, Option, Some, None, inl, inr, refl, sym, ap, subst, ◌∙◌, append_assoc, Ok, Err, arith, length-append}
+use Rattle.std.specs.Prelude.{codes, decimal, MatchOption}
 use Rattle.std.specs.List.{AllByRecursion}
 use Rattle.std.proofs.lemmas.Bool.{cases_lt}
-use Rattle.std.proofs.lemmas.Bool.Decides.{nat_tests}
 use Rattle.std.proofs.lemmas.Fmt.{decimal-digits_value}
 use Rattle.std.proofs.lemmas.List.{append-nil}
-use Rattle.std.proofs.lemmas.Option.{none-some, same_Some, some_pair_parts}
-use Rattle.common_lemmas.proofs.Options.{mapped}
+use Rattle.std.proofs.lemmas.Option.{none-some, same_Some}
 use Rattle.fact_paths.specs.Cuts.{Lacks, after, cut}
 use Rattle.fact_paths.specs.Paths.{IsMemberNumber, SpellsMemberNumber}
-use Rattle.fact_paths.proofs.CutLaws.{after-append, after_some, cut_some}
+use Rattle.fact_paths.proofs.CutLaws.{after-append, after_some, cut_some, front_lacks, uncut_lacks}
 use Rattle.value_text.specs.MemberTexts.{printed_item, printed_rest}
 use Rattle.value_text.proofs.DigitLemmas.{own}
 use Rattle.script_lines.specs.declared.fault.LineFault.{LineFault}
@@ -18,34 +16,6 @@ use Rattle.script_lines.specs.declared.fault.LineFault.TheVariants.{BadLine, NoM
 use Rattle.save_file.specs.Reading.{IsNextNumber, ReadsMember, ReadsMembers}
 use Rattle.save_file.proofs.KeyedLines.{cons_not_nil, cons_parts}
 use Rattle.save_file.proofs.ListTexts.{item_lacks, same_parts, tail_of}
-
--- ---- cuts
-
--- no byte is the one at which a text isn't cut
-pub uncut_lacks : (c : ℕ) (text : List ℕ) → cut c text ≡ None → Lacks c text
-uncut_lacks c [] e = tt
-uncut_lacks c (b ∷ text) e = at (eqb b c) refl e (uncut_lacks c text)
-  where
-    left : (o : Option (List ℕ × List ℕ)) → option_map {T = List ℕ × List ℕ} {U = List ℕ × List ℕ} (λ p. (b ∷ p.0, p.1)) o ≡ None → o ≡ None
-    left None e = refl
-    left (Some p) e = absurd cc
-
-    at : (t : Bool) → eqb b c ≡ t → cond {A = Option (List ℕ × List ℕ)} t (Some ([], text)) (option_map (λ p. (b ∷ p.0, p.1)) (cut c text)) ≡ None → (cut c text ≡ None → Lacks c text) → Lacks c (b ∷ text)
-    at true h e rest = absurd cc
-    at false h e rest = (let other : b ≢ c = grind (arith, nat_tests) in other, rest (left (cut c text) e))
-
--- nor is one in front of the cut
-pub front_lacks : (c : ℕ) (text front rest : List ℕ) → cut c text ≡ Some (front, rest) → Lacks c front
-front_lacks c [] front rest e = absurd cc
-front_lacks c (b ∷ text) front rest e = at (eqb b c) refl e (front_lacks c text)
-  where
-    at : (t : Bool) → eqb b c ≡ t → cond {A = Option (List ℕ × List ℕ)} t (Some ([], text)) (option_map (λ p. (b ∷ p.0, p.1)) (cut c text)) ≡ Some (front, rest)
-        → ((x y : List ℕ) → cut c text ≡ Some (x, y) → Lacks c x) → Lacks c front
-    at true h e later = subst (Lacks c) (some_pair_parts [] front text rest e).0 tt
-    at false h e later =
-        let found = mapped {A = List ℕ × List ℕ} {B = List ℕ × List ℕ} (λ p. (b ∷ p.0, p.1)) (cut c text) (front, rest) e in
-        let same : front ≡ b ∷ found.0.0 = ap (λ (p : List ℕ × List ℕ). p.0) found.2 in
-        subst (Lacks c) (sym same) (let other : b ≢ c = grind (arith, nat_tests) in other, later found.0.0 found.0.1 found.1)
 
 -- ---- members
 

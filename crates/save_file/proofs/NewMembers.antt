@@ -12,7 +12,7 @@ use Rattle.save_file.specs.Reading.{are_below, are_others}
 
 -- ---- apart
 
-none_there : (others ms : List ℕ) → list_any (λ m. list_any (nat_eq m) others) ms ≡ false → (m : ℕ) → IsIn m ms → IsNotIn m others
+pub none_there : (others ms : List ℕ) → list_any (λ m. list_any (nat_eq m) others) ms ≡ false → (m : ℕ) → IsIn m ms → IsNotIn m others
 none_there others [] out m i = absurd cc
 none_there others (k ∷ ms) out m i = at (nat_eq m k) refl i (none_there others ms parts.1 m)
   where
@@ -23,7 +23,7 @@ none_there others (k ∷ ms) out m i = at (nat_eq m k) refl i (none_there others
     at true e i rest = ap (λ (n : ℕ). list_any (nat_eq n) others) (same_number m k e) ∙ parts.0
     at false e i rest = rest i
 
-there_none : (others ms : List ℕ) → ((m : ℕ) → IsIn m ms → IsNotIn m others) → list_any (λ m. list_any (nat_eq m) others) ms ≡ false
+pub there_none : (others ms : List ℕ) → ((m : ℕ) → IsIn m ms → IsNotIn m others) → list_any (λ m. list_any (nat_eq m) others) ms ≡ false
 there_none others [] all = refl
 there_none others (k ∷ ms) all =
     neither_or (list_any (nat_eq k) others) (list_any (λ n. list_any (nat_eq n) others) ms)

@@ -3,7 +3,6 @@ use Rattle.std.proofs.Common.{◌≡◌, ◌≢◌, ◌⊎◌, ℕ, zero, suc, B
 use Rattle.std.specs.Prelude.{codes, decimal}
 use Rattle.std.specs.List.{AllByRecursion, flat_map, list_any}
 use Rattle.std.specs.FinMap as map
-use Rattle.std.proofs.lemmas.List.{append-nil}
 use Rattle.std.proofs.lemmas.Option.{some_pair_parts}
 use Rattle.fact_values.specs.declared.slot.Slot.{Slot}
 use Rattle.fact_values.specs.declared.value.Value.{Value}
@@ -24,17 +23,17 @@ use Rattle.save_file.specs.SavedText.{counted, entries, entry_line, entry_lines,
 use Rattle.save_file.proofs.EntriesFollow.{at_one, each, entry_cut, side_first}
 use Rattle.save_file.proofs.EntryLaws.{entry_slot, members_numbered, open_list, open_list_members}
 use Rattle.save_file.proofs.KeyedLines.{HasOneAtMost, HasOther, cons_not_nil, cons_parts, skip}
-use Rattle.save_file.proofs.LineLaws.{lines_before}
 use Rattle.save_file.proofs.ListsEnd.{decimals_one}
 use Rattle.save_file.proofs.ListsFollow.{at_counted, each_counted, line_parts, list_within, no_list_at}
 use Rattle.save_file.proofs.ListTexts.{numbers_of, same_members}
 use Rattle.save_file.proofs.SameAnswers.{same_answers}
-use Rattle.save_file.proofs.SavedLines.{saved_have_none}
+use Rattle.save_file.proofs.SavedLines.{all_lines}
 use Rattle.save_file.proofs.SlotsOnce.{all_slots}
 use Rattle.save_file.proofs.SlotsThere.{none_outside, same_slots}
 use Rattle.save_file.proofs.SlotTexts.{one_slot, same_behind}
 use Rattle.save_file.proofs.ValueTexts.{printed_read}
 use Rattle.save_file.proofs.WordLaws.{entry_shown, first, list_shown, no_list_behind, none_behind, one_entry, one_list}
+use Rattle.save_file.proofs.TextLaws.{whole_lines}
 
 -- ---- keys with one line at most
 
@@ -162,7 +161,7 @@ module _ (names : List (List ℕ)) (d : Accepted) (is : IsAccepted names d) (enu
   -- ---- the whole text
 
   lines_are : (a : Answered) → AnswersFit d.tree a → saved_lines d.tree a ≡ lines_of (saved d.tree a)
-  lines_are a fit = sym (append-nil (saved_lines d.tree a)) ∙ sym (lines_before (saved_lines d.tree a) [] (saved_have_none names d is enums a fit)) ∙ ap lines_of (append-nil (saved d.tree a))
+  lines_are a fit = whole_lines (AnswersFit d.tree) (saved_lines d.tree) (all_lines names d is enums) a fit (saved d.tree a) refl
 
   pub one_saved : (a b : Answered) → AnswersFit d.tree a → AnswersFit d.tree b → saved d.tree a ≡ saved d.tree b → a ≡ b
   one_saved a b fit other_fit e = same_answers a b fit.well other_fit.well fit.from_one other_fit.from_one lists_same values_same next_same

@@ -6,7 +6,6 @@ use Rattle.fact_values.specs.declared.slot.Slot.{Slot}
 use Rattle.value_text.specs.Enums.{AreLists}
 use Rattle.value_text.specs.MemberTexts.{printed_rest}
 use Rattle.value_text.specs.Values.{printed}
-use Rattle.script_lines.specs.Lines.{HasNoNewline}
 use Rattle.answers.specs.Answered.{Answered}
 use Rattle.answers.specs.declared.edit.Side.{Side}
 use Rattle.answers.specs.declared.edit.Side.TheVariants.{Answer, Override}
@@ -20,12 +19,9 @@ use Rattle.save_file.proofs.KeyedLines.{HasOneAtMost}
 use Rattle.save_file.proofs.LineTexts.{IsLine, decimal_line, line-append, plain_line, rest_line}
 use Rattle.save_file.proofs.ListTexts.{numbers_of}
 use Rattle.save_file.proofs.SlotTexts.{text_line}
+use Rattle.save_file.proofs.TextLaws.{all-append}
 use Rattle.save_file.proofs.ValueTexts.{printed_line}
 use Rattle.save_file.proofs.WordLaws.{entry_shown, list_shown, one_entry, one_list}
-
-pub all-append : (P : List ℕ → Type 0) (xs ys : List (List ℕ)) → AllByRecursion P xs → AllByRecursion P ys → AllByRecursion P (xs ++ ys)
-all-append P [] ys left right = right
-all-append P (x ∷ xs) ys left right = (left.0, all-append P xs ys left.1 right)
 
 all_shown : {K : Type 0} (P : List ℕ → Type 0) (g : K → List (List ℕ)) → HasOneAtMost g → ((k : K) (l : List ℕ) → g k ≡ l ∷ [] → P l) → (ks : List K) → AllByRecursion P (flat_map g ks)
 all_shown P g one all [] = tt
@@ -68,10 +64,3 @@ module _ (names : List (List ℕ)) (d : Accepted) (is : IsAccepted names d) (enu
           (plain_line end_line refl, tt))),
     ),
   )
-
-  no_newlines : (ls : List (List ℕ)) → AllByRecursion IsLine ls → AllByRecursion HasNoNewline ls
-  no_newlines [] all = tt
-  no_newlines (l ∷ ls) all = (all.0.no_newline, no_newlines ls all.1)
-
-  pub saved_have_none : AllByRecursion HasNoNewline (saved_lines d.tree a)
-  saved_have_none = no_newlines (saved_lines d.tree a) all_lines

@@ -1,21 +1,18 @@
 -- The text of a slot has no blank, and no other slot has it.
-use Rattle.std.proofs.Common.{◌≡◌, ℕ, Bool, true, false, List, [], ◌∷◌, ◌++◌, Option, Some, None, inl, inr, refl, sym, ap, subst, ◌∙◌, arith}
-use Rattle.std.specs.Prelude.{codes, decimal, nat_lt, option_and_then}
+use Rattle.std.proofs.Common.{◌≡◌, ℕ, Bool, true, false, List, ◌++◌, Option, Some, None, inl, inr, refl, sym, ap, subst, ◌∙◌, arith}
+use Rattle.std.specs.Prelude.{nat_lt, option_and_then}
 use Rattle.std.proofs.lemmas.Bool.{cases_lt}
 use Rattle.std.proofs.lemmas.Bool.Decides.{nat_tests}
 use Rattle.std.proofs.lemmas.Option.{same_Some}
 use Rattle.common_lemmas.proofs.Options.{both_some, mapped}
 use Rattle.fact_paths.specs.Cuts.{Lacks, after}
-use Rattle.fact_paths.specs.Paths.{IsSlotPath, SpellsSlotPath, slot_path_text}
+use Rattle.fact_paths.specs.Paths.{SpellsSlotPath}
 use Rattle.fact_paths.specs.declared.fact_path.FactPath.{FactPath}
 use Rattle.fact_paths.specs.declared.fact_path.FactPath.TheVariants as facts
 use Rattle.fact_paths.specs.declared.slot_path.SlotPath.{SlotPath}
-use Rattle.fact_paths.specs.declared.slot_path.SlotPath.TheVariants as slots
 use Rattle.fact_paths.proofs.CutLaws.{after-append}
-use Rattle.fact_paths.proofs.MemberNumbers.{decimal_lacks}
-use Rattle.fact_paths.proofs.NameLaws.{name_lacks}
 use Rattle.fact_paths.proofs.ReadingLaws.{one_path_from}
-use Rattle.fact_paths.proofs.SlotPathLaws.{slot_path_reading}
+use Rattle.fact_paths.proofs.SlotPathLaws.{slot_lacks_blank, slot_path_reading}
 use Rattle.fact_paths.specs.Reading.{slot_path_of as read_slot_path}
 use Rattle.fact_values.specs.declared.slot.Slot.{Slot}
 use Rattle.dict_tree.specs.Facts.{Fact}
@@ -34,20 +31,6 @@ use Rattle.save_file.proofs.LineTexts.{IsLine, slot_line}
 -- what stands behind the same front is the same
 pub same_behind : (front x y : List ℕ) → front ++ x ≡ front ++ y → x ≡ y
 same_behind front x y e = same_Some x y (sym (after-append front x) ∙ ap (after front) e ∙ after-append front y)
-
-Lacks-append : (c : ℕ) (front back : List ℕ) → Lacks c front → Lacks c back → Lacks c (front ++ back)
-Lacks-append c [] back none back_none = back_none
-Lacks-append c (b ∷ front) back none back_none = (none.0, Lacks-append c front back none.1 back_none)
-
-slot_lacks_blank : (slot : SlotPath) → IsSlotPath slot → Lacks 32 (slot_path_text slot)
-slot_lacks_blank (slots.Global n) is = (omega arith, name_lacks 32 refl n is)
-slot_lacks_blank (slots.Member n k m) is = (
-  omega arith,
-  Lacks-append 32 n (codes "/#" ++ (decimal k ++ (codes "/" ++ m))) (name_lacks 32 refl n is.0) (
-    omega arith,
-    (omega arith, Lacks-append 32 (decimal k) (codes "/" ++ m) (decimal_lacks 32 refl k is.1) (omega arith, name_lacks 32 refl m is.2)),
-  ),
-)
 
 -- ---- paths
 
@@ -79,14 +62,14 @@ module _ (names : List (List ℕ)) (d : Accepted) (is : IsAccepted names d) wher
       subst IsLine (sym spelled.2.1) (slot_line spelled.0 spelled.2.0)
 
   -- a slot's path, its fact and the fact's path
-  path_parts : (s : Slot) (path : SlotPath) → slot_path d.tree s ≡ Some path → (p : FactPath) × HasPath d.tree.facts p s.fact × (path ≡ slot_path_of s.member p)
+  pub path_parts : (s : Slot) (path : SlotPath) → slot_path d.tree s ≡ Some path → (p : FactPath) × HasPath d.tree.facts p s.fact × (path ≡ slot_path_of s.member p)
   path_parts s path e =
       let whole = mapped (slot_path_of s.member) (option_and_then (λ (f : Fact). f.path) (fact_at d.tree.facts s.fact)) path e in
       let found = both_some (λ (f : Fact). f.path) (fact_at d.tree.facts s.fact) whole.0 whole.1 in
       (whole.0, record { fact = found.0; is_there = found.1; path_is = found.2 }, whole.2)
 
   -- one fact at most has a path
-  found_at : (p : FactPath) (fact : ℕ) → HasPath d.tree.facts p fact → find_path d.tree.facts p ≡ Some fact
+  pub found_at : (p : FactPath) (fact : ℕ) → HasPath d.tree.facts p fact → find_path d.tree.facts p ≡ Some fact
   found_at p fact has = first_here d.tree fact p has (sym (ap (is_taken d.tree fact) has.path_is) ∙ kept)
     where
       kept : is_taken d.tree fact has.fact.path ≡ false

@@ -31,7 +31,7 @@ goes_on d (Whole b) is = (answered b, [], (refl, refl))
 
 -- ---- a line is wanting
 
-never_empty : {X : Type 0} (xs : List X) (y : X) → xs ++ y ∷ [] ≡ [] → ⊥
+pub never_empty : {X : Type 0} (xs : List X) (y : X) → xs ++ y ∷ [] ≡ [] → ⊥
 never_empty [] y e = cc
 never_empty (x ∷ xs) y e = cc
 

@@ -1,6 +1,10 @@
+pub mod CarriedReading
+pub mod CarriedText
+pub mod Carrying
 pub mod Cursors
 pub mod Following
+pub mod Heads
+pub mod Keeping
 pub mod Loading
 pub mod Reading
 pub mod SavedText
-pub mod Writing

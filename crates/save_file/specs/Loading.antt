@@ -17,26 +17,26 @@ use Rattle.save_file.specs.declared.fault.LoadFault.TheVariants.{BadSaved, NoMem
 abbrev pub IsSavedText : Tree → List ℕ → Type 0
 IsSavedText d bytes = (a : Answered) × AnswersFit d a × (bytes ≡ saved d a)
 
--- some saved text begins with them
-abbrev pub BeginsSavedText : Tree → List ℕ → Type 0
-BeginsSavedText d front = (rest : List ℕ) × IsSavedText d (front ++ rest)
+-- some text of a kind begins with them
+abbrev pub Begins : (List ℕ → Type 0) → List ℕ → Type 0
+Begins IsText front = (rest : List ℕ) × IsText (front ++ rest)
 
 -- the first so many lines, each with its newline, the last one too where it has none
 abbrev pub first_lines : ℕ → List ℕ → List ℕ
 first_lines n bytes = joined (take n (lines_of bytes))
 
--- The bytes are no saved text, and the line of this number is the first with which the lines up to it begin none; where all
--- lines begin one, only more is wanting, and the number is one past the last line.
-pub record IsRefusedAt (d : Tree) (bytes : List ℕ) (n : ℕ) : Type 0 where
-  pub text : ¬ IsSavedText d bytes
+-- The bytes are no text of the kind, and the line of this number is the first with which the lines up to it begin none; where
+-- all lines begin one, only more is wanting, and the number is one past the last line.
+pub record IsRefusedAt (IsText : List ℕ → Type 0) (bytes : List ℕ) (n : ℕ) : Type 0 where
+  pub text : ¬ IsText bytes
   pub low : 1 ≤ n
   pub high : n ≤ length (lines_of bytes) + 1
-  pub before : (k : ℕ) → k < n → BeginsSavedText d (first_lines k bytes)
-  pub here : n ≤ length (lines_of bytes) → ¬ BeginsSavedText d (first_lines n bytes)
+  pub before : (k : ℕ) → k < n → Begins IsText (first_lines k bytes)
+  pub here : n ≤ length (lines_of bytes) → ¬ Begins IsText (first_lines n bytes)
 
 -- what a fault says; want of memory says nothing
 abbrev pub RefusesText : Tree → List ℕ → LoadFault → Type 0
-RefusesText d bytes (BadSaved n) = IsRefusedAt d bytes n
+RefusesText d bytes (BadSaved n) = IsRefusedAt (IsSavedText d) bytes n
 RefusesText d bytes NoMemory = Unit {0}
 
 -- what is said of a load

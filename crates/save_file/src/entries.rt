@@ -8,14 +8,13 @@ ghost use Rattle.dictionary.specs.Accepted.{accepted};
 ghost use Rattle.dictionary.specs.Fits.{AnswersFit};
 ghost use Rattle.dictionary.specs.SlotText.{IsSlot, slot_text};
 ghost use Rattle.save_file.specs.SavedText.{entries, entry_line, entry_lines, side_word as word_of_side};
-ghost use Rattle.save_file.specs.Writing.{Wrote};
+ghost use Rattle.fg_io.specs.Writing.{Wrote};
 
 use crate::cursor::Cursor;
-use crate::put::put;
 use answers::{Answers, Side};
 use dictionary::Dictionary;
 use fact_values::{Slot, Value};
-use fg_io::{Failed, Sink};
+use fg_io::{Failed, Sink, put_text};
 use value_text::{Line, print};
 
 /// The first word of an entry's line, with its blank.
@@ -48,7 +47,7 @@ fn put_slot<K: Sink>(dict: &Dictionary, side: Side, slot: Slot, out: &mut K) -> 
     line.push(side_word(side).as_bytes());
     dict.print_slot(slot, &mut line);
     line.push(b" ");
-    put(line.bytes(), out)
+    put_text(line.bytes(), out)
 }
 
 // Puts a value and its newline.
@@ -59,7 +58,7 @@ fn put_value<K: Sink>(dict: &Dictionary, value: &Value, out: &mut K) -> Result<(
     let mut line = Line::new();
     print(value, dict.source().enums(), &mut line);
     line.push(b"\n");
-    put(line.bytes(), out)
+    put_text(line.bytes(), out)
 }
 
 // Puts the line of a slot with this value.

@@ -85,8 +85,8 @@ fn read_entry(
     read_printed(alloc, dict, fact, text)
 }
 
-// The edit that gives a slot a value.
-fn edit_of(side: Side, slot: Slot, value: Value) -> Edit
+/// The edit that gives a slot a value.
+pub fn edit_of(side: Side, slot: Slot, value: Value) -> Edit
     ensures { change result ≡ sets side slot (Some value) }
 {
     match side {

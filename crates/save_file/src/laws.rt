@@ -1,7 +1,30 @@
-// Laws of saved texts. Each function's contract is its law.
+// Laws of saved and carried texts. Each function's contract is its law.
+ghost use Rattle.save_file.specs.CarriedText.{CarriedTextsTellLines};
+ghost use Rattle.save_file.specs.Carrying.{CarryingGivesOne, EachLineIsKeptOrListed, OwnLinesAreKept};
 ghost use Rattle.save_file.specs.Loading.{SavedTextsTellAnswers};
 
 /// Answers that fit an accepted dictionary and have one saved text are the same.
 pub fn saved_texts_tell_their_answers()
     ensures { SavedTextsTellAnswers }
+{}
+
+/// A carried text has one number of the next member, and one list of lines.
+pub fn carried_texts_tell_their_lines()
+    ensures { CarriedTextsTellLines }
+{}
+
+/// What a line of a carried text says is in the answers, or the line's number is listed, and never both.
+pub fn each_line_is_kept_or_listed()
+    ensures { EachLineIsKeptOrListed }
+{}
+
+/// Carrying gives one list of answers, and one list of numbers.
+pub fn carrying_gives_one_result()
+    ensures { CarryingGivesOne }
+{}
+
+/// Where the saved text of answers is carried to their own dictionary, it drops nothing but answers that a limit or a check
+/// refuses.
+pub fn own_lines_are_kept()
+    ensures { OwnLinesAreKept }
 {}

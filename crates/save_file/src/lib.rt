@@ -1,21 +1,29 @@
 //! The answers of a session as a text, and back.
 #![tactic(auto)]
 
+mod carried_line;
+mod carried_read;
+mod carried_stage;
+mod carried_text;
+mod carrying;
 mod cursor;
 mod entries;
 mod entry_line;
 mod fault;
+mod heads;
+mod keeping;
 pub mod laws;
 mod line;
 mod list_line;
 mod lists;
 mod loading;
-mod put;
+mod opening;
 mod reading;
 mod saving;
 mod stage;
 mod texts;
 
+pub use carrying::{Carried, carry};
 pub use fault::LoadFault;
 pub use loading::load;
 pub use saving::save;

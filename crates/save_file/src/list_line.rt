@@ -91,8 +91,8 @@ fn read_list(
     }
 }
 
-// Whether the member is one of the others.
-fn is_among(member: u32, others: &[u32]) -> bool
+/// Whether the member is one of the others.
+pub fn is_among(member: u32, others: &[u32]) -> bool
     ensures { result ≡ list_any (nat_eq member) others.now }
 {
     others.iter().any(|other| member == *other)
@@ -105,8 +105,8 @@ fn has_one(others: &[u32], members: &[u32]) -> bool
     members.iter().any(|member| is_among(*member, others))
 }
 
-// Whether none of the members is one of the others.
-fn are_others(others: &[u32], members: &[u32]) -> bool
+/// Whether none of the members is one of the others.
+pub fn are_others(others: &[u32], members: &[u32]) -> bool
     ensures { result ≡ are_other_members others.now members.now }
 {
     !has_one(others, members)
@@ -126,11 +126,11 @@ fn are_new(read: &ListsRead, members: &Members) -> bool
     read.lists.iter().all(|list| is_apart(members, list))
 }
 
-// Whether each of the members is below the next number.
-fn are_below(read: &ListsRead, members: &Members) -> bool
-    ensures { result ≡ are_below_next read.now.next members.now }
+/// Whether each of the members is below the next number.
+pub fn are_below(next: u32, members: &Members) -> bool
+    ensures { result ≡ are_below_next next members.now }
 {
-    members.as_slice().iter().all(|member| *member < read.next)
+    members.as_slice().iter().all(|member| *member < next)
 }
 
 // Opens one more collection.
@@ -170,7 +170,7 @@ pub fn take_list(
             if !are_new(&read, &members) {
                 return Err(LineFault::BadLine);
             }
-            if !are_below(&read, &members) {
+            if !are_below(read.next, &members) {
                 return Err(LineFault::BadLine);
             }
             match push_list(read, fact, members) {

@@ -11,13 +11,12 @@ ghost use Rattle.dictionary.specs.Fits.{AnswersFit};
 ghost use Rattle.dictionary.specs.Reading.{slot};
 ghost use Rattle.dictionary.specs.SlotText.{IsSlot};
 ghost use Rattle.save_file.specs.SavedText.{list_line, list_lines, lists};
-ghost use Rattle.save_file.specs.Writing.{Wrote};
+ghost use Rattle.fg_io.specs.Writing.{Wrote};
 
-use crate::put::put;
 use answers::Answers;
 use dictionary::Dictionary;
 use fact_values::Slot;
-use fg_io::{Failed, Sink};
+use fg_io::{Failed, Sink, put_text};
 use itoa::Buffer;
 use value_text::Line;
 
@@ -63,7 +62,7 @@ fn put_list<K: Sink>(
     dict.print_slot(Slot { fact, member: 0 }, &mut line);
     print_members(members, &mut line);
     line.push(b"\n");
-    put(line.bytes(), out)
+    put_text(line.bytes(), out)
 }
 
 // Puts the line of a fact that is an open collection.

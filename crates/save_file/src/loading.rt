@@ -24,8 +24,8 @@ fn newline_at(bytes: &[u8]) -> Option<usize>
     bytes.iter().position(|byte| *byte == b'\n')
 }
 
-// The first line, and what stands behind its newline.
-fn cut_line(bytes: &[u8]) -> (&[u8], &[u8])
+/// The first line, and what stands behind its newline.
+pub fn cut_line(bytes: &[u8]) -> (&[u8], &[u8])
     requires { 0 < length bytes.now }
     ensures lines { lines_of bytes.now ≡ result.0.now ∷ lines_of result.1.now }
     ensures shorter { length result.1.now < length bytes.now }
@@ -36,8 +36,8 @@ fn cut_line(bytes: &[u8]) -> (&[u8], &[u8])
     }
 }
 
-// Whether the last byte is a newline.
-fn is_ended(bytes: &[u8]) -> bool
+/// Whether the last byte is a newline.
+pub fn is_ended(bytes: &[u8]) -> bool
     ensures { IsTrue result ↔ ((front : List ℕ) × (bytes.now ≡ front ++ 10 ∷ [])) }
 {
     match bytes.last() {

@@ -8,14 +8,13 @@ ghost use Rattle.dictionary.specs.Fits.{AnswersFit};
 ghost use Rattle.answers.specs.declared.edit.Side.TheVariants.{Answer, Override};
 ghost use Rattle.script_lines.specs.Joined.{joined};
 ghost use Rattle.save_file.specs.SavedText.{end_line, entries, lists, next_line, saved, saved_lines};
-ghost use Rattle.save_file.specs.Writing.{Wrote};
+ghost use Rattle.fg_io.specs.Writing.{Wrote};
 
 use crate::entries::put_entries;
 use crate::lists::put_lists;
-use crate::put::put;
 use answers::{Answers, Side};
 use dictionary::Dictionary;
-use fg_io::{Failed, Sink};
+use fg_io::{Failed, Sink, put_text};
 use itoa::Buffer;
 use value_text::Line;
 
@@ -29,7 +28,7 @@ fn put_next<K: Sink>(next: u32, out: &mut K) -> Result<(), Failed>
     let mut buffer = Buffer::new();
     line.push(buffer.format(next).as_bytes());
     line.push(b"\n");
-    put(line.bytes(), out)
+    put_text(line.bytes(), out)
 }
 
 // Puts the overrides and the last line.
@@ -39,7 +38,7 @@ fn put_overrides<K: Sink>(dict: &Dictionary, answers: &Answers, out: &mut K) -> 
 {
     match put_entries(dict, answers, Side::Override, out) {
         Err(failed) => Err(failed),
-        Ok(()) => put(b"end\n", out),
+        Ok(()) => put_text(b"end\n", out),
     }
 }
 
@@ -81,7 +80,7 @@ fn put_saved<K: Sink>(dict: &Dictionary, answers: &Answers, out: &mut K) -> Resu
     requires { AnswersFit (accepted dict.now).tree (answered answers.now) }
     ensures { Wrote (K.taken out.old) (K.taken out.new) (K.faults out.old) (K.faults out.new) (joined (saved_lines (accepted dict.now).tree (answered answers.now))) result }
 {
-    match put(b"saved 1\n", out) {
+    match put_text(b"saved 1\n", out) {
         Err(failed) => Err(failed),
         Ok(()) => put_numbered(dict, answers, out),
     }

@@ -5,7 +5,9 @@ use Rattle.answers.specs.Meaning.{answered}
 use Rattle.dictionary.specs.Accepted.{accepted}
 use Rattle.save_file.specs.Cursors.{slots_left}
 use Rattle.save_file.specs.SavedText.{entries, entry_lines}
-use Rattle.save_file.proofs.WritingLaws.{failed_within, next_piece, sent_on}
+use Rattle.fg_io.proofs.SentLaws.{sent_piece}
+use Rattle.fg_io.proofs.WritingLaws.{failed_within}
+use Rattle.save_file.proofs.WritingLaws.{next_piece}
 use Rattle.save_file.proofs.entries.put_entries.Goals as goal
 
 pub returns-in-Err : goal.returns-in-Err
@@ -25,7 +27,7 @@ loop-slot-preserved g c =
     let f = entry_lines c.args.side d a in
     let rest = slots_left d a c.next.new.self in
     record {
-      sent = sent_on _ _ _ (joined (entries c.args.side d a)) (joined (f c.in-Some.slot)) (joined (flat_map f rest))
+      sent = sent_piece _ _ _ (joined (entries c.args.side d a)) (joined (f c.in-Some.slot)) (joined (flat_map f rest))
           (next_piece f _ _ _ c.in-Some.slot (slots_left d a c.loop-slot.cursor) rest c.in-Some.ensures c.loop-slot.invariant.sent)
           c.in-Ok.ensures.0;
       later = omega (arith, c.loop-slot.invariant.later, c.in-Ok.ensures.1);

@@ -3,8 +3,9 @@ use Rattle.std.specs.Prelude.{codes}
 use Rattle.dictionary.specs.Accepted.{accepted, names_of}
 use Rattle.dictionary.specs.SlotText.{slot_text}
 use Rattle.save_file.specs.SavedText.{side_word}
-use Rattle.save_file.specs.Writing.{Wrote}
-use Rattle.save_file.proofs.EntryLaws.{length_behind, slot_short}
+use Rattle.fg_io.specs.Writing.{Wrote}
+use Rattle.dictionary.proofs.SlotTextLaws.{slot_short}
+use Rattle.save_file.proofs.EntryLaws.{length_behind}
 use Rattle.save_file.proofs.entries.put_slot.Goals as goal
 
 pub push-requires-2 : goal.push-requires-2
@@ -18,8 +19,8 @@ push-requires-2 g c =
 pub returns : goal.returns
 returns g c =
     let d = accepted c.args.dict.now in
-    subst (λ (t : List ℕ). Wrote (g.K.Sink.taken c.args.out.now) (g.K.Sink.taken c.put.new.out) (g.K.Sink.faults c.args.out.now) (g.K.Sink.faults c.put.new.out) t c.put.result)
+    subst (λ (t : List ℕ). Wrote (g.K.Sink.taken c.args.out.now) (g.K.Sink.taken c.put_text.new.out) (g.K.Sink.faults c.args.out.now) (g.K.Sink.faults c.put_text.new.out) t c.put_text.result)
     (c.bytes.ensures.value ∙ c.push-2.ensures.appended
     ∙ ap (λ (t : List ℕ). t ++ codes " ") (c.print_slot.ensures ∙ ap (λ (t : List ℕ). t ++ slot_text d.tree c.args.slot) (c.push.ensures.appended ∙ ap (λ (t : List ℕ). t ++ c.as_bytes.result.now) c.new-line.ensures ∙ c.as_bytes.ensures.value ∙ c.side_word.ensures.word))
     ∙ append_assoc (side_word c.args.side) (slot_text d.tree c.args.slot) (codes " "))
-    c.put.ensures
+    c.put_text.ensures

@@ -3,7 +3,7 @@ use Rattle.std.specs.List.{AllByRecursion}
 use Rattle.dictionary.specs.Accepted.{accepted, names_of}
 use Rattle.fact_paths.specs.Paths.{IsMemberNumber}
 use Rattle.save_file.proofs.ListSteps.{bad_members, with_members, without_members}
-use Rattle.save_file.proofs.MemberReading.{front_lacks, uncut_lacks}
+use Rattle.fact_paths.proofs.CutLaws.{front_lacks, uncut_lacks}
 use Rattle.save_file.proofs.list_line.read_list.Goals as goal
 
 pub list_with-requires-clause-path : goal.list_with-requires-clause-path

@@ -3,7 +3,7 @@ use Rattle.script_lines.specs.Joined.{joined}
 use Rattle.answers.specs.Meaning.{answered}
 use Rattle.dictionary.specs.Accepted.{accepted, names_of}
 use Rattle.save_file.specs.SavedText.{list_lines_of}
-use Rattle.save_file.specs.Writing.{Wrote}
+use Rattle.fg_io.specs.Writing.{Wrote}
 use Rattle.save_file.proofs.EntryLaws.{list_slot, open_list, open_list_members}
 use Rattle.save_file.proofs.lists.put_if_open.Goals as goal
 

@@ -5,8 +5,9 @@ use Rattle.value_text.specs.MemberTexts.{printed_rest}
 use Rattle.dictionary.specs.Accepted.{accepted, names_of}
 use Rattle.dictionary.specs.Reading.{slot}
 use Rattle.dictionary.specs.SlotText.{slot_text}
-use Rattle.save_file.specs.Writing.{Wrote}
-use Rattle.save_file.proofs.EntryLaws.{length_behind, members_numbered, slot_short}
+use Rattle.fg_io.specs.Writing.{Wrote}
+use Rattle.dictionary.proofs.SlotTextLaws.{slot_short}
+use Rattle.save_file.proofs.EntryLaws.{length_behind, members_numbered}
 use Rattle.save_file.proofs.lists.put_list.Goals as goal
 
 pub print_members-requires-clause-room : goal.print_members-requires-clause-room
@@ -34,10 +35,10 @@ pub returns : goal.returns
 returns g c =
     let d = accepted c.args.dict.now in
     let text = slot_text d.tree (slot c.args.fact 0) in
-    subst (λ (t : List ℕ). Wrote (g.K.Sink.taken c.args.out.now) (g.K.Sink.taken c.put.new.out) (g.K.Sink.faults c.args.out.now) (g.K.Sink.faults c.put.new.out) t c.put.result)
+    subst (λ (t : List ℕ). Wrote (g.K.Sink.taken c.args.out.now) (g.K.Sink.taken c.put_text.new.out) (g.K.Sink.faults c.args.out.now) (g.K.Sink.faults c.put_text.new.out) t c.put_text.result)
     (c.bytes.ensures.value ∙ c.push-2.ensures.appended
     ∙ ap (λ (t : List ℕ). t ++ 10 ∷ []) (
     c.print_members.ensures.appended
     ∙ ap (λ (t : List ℕ). t ++ printed_rest c.args.members.now) (c.print_slot.ensures ∙ ap (λ (t : List ℕ). t ++ text) (c.push.ensures.appended ∙ ap (λ (t : List ℕ). t ++ codes "list ") c.new-line.ensures))
     ∙ append_assoc (codes "list ") text (printed_rest c.args.members.now)))
-    c.put.ensures
+    c.put_text.ensures

@@ -5,7 +5,9 @@ use Rattle.answers.specs.Meaning.{answered}
 use Rattle.dictionary.specs.Accepted.{accepted}
 use Rattle.save_file.specs.SavedText.{counted, list_lines, lists}
 use Rattle.save_file.proofs.CursorLaws.{counted_more}
-use Rattle.save_file.proofs.WritingLaws.{failed_within, next_piece, sent_on}
+use Rattle.fg_io.proofs.SentLaws.{sent_piece}
+use Rattle.fg_io.proofs.WritingLaws.{failed_within}
+use Rattle.save_file.proofs.WritingLaws.{next_piece}
 use Rattle.save_file.proofs.lists.put_lists.Goals as goal
 
 pub returns-in-Err : goal.returns-in-Err
@@ -31,7 +33,7 @@ loop-done-preserved g c =
     let one : suc done ≡ done + 1 = omega arith in
     let rest = counted (suc (done + 1)) (count - (done + 1)) in
     record {
-      sent = sent_on _ _ _ (joined (lists d a)) (joined (f (done + 1))) (joined (flat_map f rest))
+      sent = sent_piece _ _ _ (joined (lists d a)) (joined (f (done + 1))) (joined (flat_map f rest))
           (next_piece f _ _ _ (done + 1) (counted (suc done) (count - done)) rest (counted_more done count c.loop-done-test.true ∙ ap (λ (n : ℕ). n ∷ counted (suc n) (count - n)) one) c.loop-done.invariant.sent)
           c.in-Ok.ensures.0;
       later = omega (arith, c.loop-done.invariant.later, c.in-Ok.ensures.1);

@@ -3,7 +3,7 @@ use Rattle.answers.specs.Meaning.{answered}
 use Rattle.answers.specs.declared.edit.Side.TheVariants.{Answer, Override}
 use Rattle.dictionary.specs.Accepted.{accepted}
 use Rattle.save_file.specs.SavedText.{end_line, entries, lists, next_line}
-use Rattle.save_file.specs.Writing.{WroteAll, WrotePart}
+use Rattle.fg_io.specs.Writing.{WroteAll, WrotePart}
 use Rattle.save_file.proofs.WritingLaws.{failed_lines, wrote_lines}
 use Rattle.save_file.proofs.saving.put_numbered.Goals as goal
 

@@ -16,4 +16,4 @@ pub returns-in-Ok : goal.returns-in-Ok
 returns-in-Ok g c =
     let d = (accepted c.args.dict.now).tree in
     let a = answered c.args.answers.now in
-    wrote_lines _ _ _ _ _ _ (entries Override d a) (end_line ∷ []) c.put.result c.in-Ok.ensures c.put.ensures
+    wrote_lines _ _ _ _ _ _ (entries Override d a) (end_line ∷ []) c.put_text.result c.in-Ok.ensures c.put_text.ensures

@@ -1,0 +1,12 @@
+// Puts a text, and tells how much of it was taken.
+ghost use Rattle.fg_io.specs.Writing.{Wrote};
+
+use crate::write::put_all;
+use crate::{Failed, Sink};
+
+/// Puts a text whole. After a failure a part of it was taken.
+pub fn put_text<K: Sink>(text: &[u8], out: &mut K) -> Result<(), Failed>
+    ensures { Wrote (K.taken out.old) (K.taken out.new) (K.faults out.old) (K.faults out.new) text.now result }
+{
+    put_all(out, text)
+}

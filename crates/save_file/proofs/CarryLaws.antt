@@ -1,0 +1,120 @@
+-- A carried text tells its lines, each line is kept or listed, and carrying gives one result.
+use Rattle.std.proofs.Common.{◌≡◌, ℕ, zero, suc, ◌+◌, ◌<◌, Bool, true, false, not, ◌||◌, nat_eq, cond, List, [], ◌∷◌, ◌++◌, map, Option, Some, None, Contains, slice_get, is_some, refl, sym, ap, subst, ◌∙◌, arith}
+use Rattle.std.specs.Prelude.{IsTrue, decimal, codes, if◌then◌else◌}
+use Rattle.std.specs.List.{list_any}
+use Rattle.std.specs.FinMap as map
+use Rattle.std.proofs.lemmas.Bool.Decides.{nat_tests}
+use Rattle.std.proofs.lemmas.Option.{same_Some}
+use Rattle.common_lemmas.proofs.Numbers.{equal_number}
+use Rattle.common_lemmas.proofs.Options.{something}
+use Rattle.fact_paths.specs.declared.slot_path.SlotPath.TheVariants.{Global}
+use Rattle.script_lines.specs.Lines.{lines_of}
+use Rattle.answers.specs.Answered.{Answered, value_of}
+use Rattle.answers.proofs.FiniteLaws.{same}
+use Rattle.dictionary.specs.Fits.{is_list}
+use Rattle.graph_session.specs.Naming.{fact_of, slot_of}
+use Rattle.graph_session.specs.Rules.{Rules, tree_of}
+use Rattle.save_file.specs.CarriedText.{CarriedLine, CarriedText, CarriedTextsTellLines, IsCarried, carried, carried_lines, collection, entry, line_text}
+use Rattle.save_file.specs.Carrying.{AreOfKept, CarryingGivesOne, EachLineIsKeptOrListed, IsCarryOf, IsKept, keeps, kept_value, numbers_failing}
+use Rattle.save_file.specs.SavedText.{end_line, next_line, opening_line}
+use Rattle.save_file.proofs.CarriedEnds.{are_lines}
+use Rattle.save_file.proofs.CarriedLines.{same_lines}
+use Rattle.save_file.proofs.CarriedSteps.{behind_next}
+use Rattle.save_file.proofs.LinesThere.{at_first, later_too}
+use Rattle.save_file.proofs.ListsEnd.{decimals_one}
+use Rattle.save_file.proofs.SameAnswers.{same_answers}
+use Rattle.save_file.proofs.SlotTexts.{same_behind}
+use Rattle.save_file.proofs.TextLaws.{whole_lines}
+
+-- ---- lines
+
+pub one_text : CarriedTextsTellLines
+one_text c e is other same =
+    ap (λ (n : ℕ). record { next = n; lines = c.lines }) next ∙ ap (λ (ls : List CarriedLine). record { next = e.next; lines = ls }) (same_lines c.lines e.lines is.forms other.forms parts.1)
+  where
+    all : carried_lines c ≡ carried_lines e
+    all = whole_lines IsCarried carried_lines are_lines c is (carried c) refl ∙ ap lines_of same ∙ sym (whole_lines IsCarried carried_lines are_lines e other (carried e) refl)
+
+    parts : (next_line c.next ≡ next_line e.next) × (map line_text c.lines ++ end_line ∷ [] ≡ map line_text e.lines ++ end_line ∷ [])
+    parts = behind_next c opening_line (next_line e.next) (map line_text e.lines ++ end_line ∷ []) all
+
+    next : c.next ≡ e.next
+    next = decimals_one c.next e.next is.number.1 other.number.1 (same_behind (codes "next ") (decimal c.next) (decimal e.next) parts.0)
+
+-- ---- numbers
+
+not_before : (test : CarriedLine → Bool) (k n : ℕ) (xs : List CarriedLine) → k < n → list_any (nat_eq k) (numbers_failing test n xs) ≡ false
+not_before test k n [] low = refl
+not_before test k n (x ∷ xs) low = at (test x) (not_before test k (suc n) xs (omega (arith, low)))
+  where
+    other : nat_eq k n ≡ false
+    other = grind (arith, nat_tests)
+
+    at : (b : Bool) → list_any (nat_eq k) (numbers_failing test (suc n) xs) ≡ false → list_any (nat_eq k) (if b then numbers_failing test (suc n) xs else n ∷ numbers_failing test (suc n) xs) ≡ false
+    at true h = h
+    at false h = ap (λ (b : Bool). b || list_any (nat_eq k) (numbers_failing test (suc n) xs)) other ∙ h
+
+listed_where : (test : CarriedLine → Bool) (n place k : ℕ) (xs : List CarriedLine) (x : CarriedLine) → k ≡ place + n → slice_get xs place ≡ Some x → list_any (nat_eq k) (numbers_failing test n xs) ≡ not (test x)
+listed_where test n place k [] x e found = absurd cc
+listed_where test n zero k (y ∷ xs) x e found = at (test y) refl
+  where
+    number : k ≡ n
+    number = omega (arith, e)
+
+    same_line : y ≡ x
+    same_line = same_Some y x found
+
+    at : (b : Bool) → test y ≡ b → list_any (nat_eq k) (if b then numbers_failing test (suc n) xs else n ∷ numbers_failing test (suc n) xs) ≡ not (test x)
+    at true h = not_before test k (suc n) xs (omega (arith, number)) ∙ ap not (sym h ∙ ap test same_line)
+    at false h = ap (λ (b : Bool). b || list_any (nat_eq k) (numbers_failing test (suc n) xs)) (ap (nat_eq k) (sym number) ∙ equal_number k) ∙ ap not (sym h ∙ ap test same_line)
+listed_where test n (suc place) k (y ∷ xs) x e found = at (test y) (listed_where test (suc n) place k xs x (omega (arith, e)) found)
+  where
+    other : nat_eq k n ≡ false
+    other = let up : n < k = omega (arith, e) in grind (arith, nat_tests)
+
+    at : (b : Bool) → list_any (nat_eq k) (numbers_failing test (suc n) xs) ≡ not (test x) → list_any (nat_eq k) (if b then numbers_failing test (suc n) xs else n ∷ numbers_failing test (suc n) xs) ≡ not (test x)
+    at true h = h
+    at false h = ap (λ (b : Bool). b || list_any (nat_eq k) (numbers_failing test (suc n) xs)) other ∙ h
+
+there_at : (xs : List CarriedLine) (place : ℕ) (x : CarriedLine) → slice_get xs place ≡ Some x → Contains xs x
+there_at [] place x e = absurd cc
+there_at (y ∷ xs) zero x e = subst (λ (l : CarriedLine). Contains (y ∷ xs) l) (same_Some y x e) (at_first y xs)
+there_at (y ∷ xs) (suc place) x e = later_too y xs x (there_at xs place x e)
+
+-- ---- what is kept
+
+kept_there : (r : Rules) (c : CarriedText) (a : Answered) → AreOfKept r c a → (line : CarriedLine) → Contains c.lines line → IsTrue (keeps r line) → IsKept r a line
+kept_there r c a of (collection name members) h kept = (of.lists (fact_of (tree_of r) (Global name)) members).1 (name, h, collection_is (is_list (tree_of r) (fact_of (tree_of r) (Global name))) (fact_of (tree_of r) (Global name)) kept)
+  where
+    collection_is : (b : Bool) (n : ℕ) → is_some (cond b (Some n) None) ≡ true → cond b (Some n) None ≡ Some n
+    collection_is true n e = refl
+    collection_is false n e = absurd cc
+kept_there r c a of (entry side path text) h kept =
+    let found = something (kept_value r side (fact_of (tree_of r) path) text) kept in
+    (of.values side (slot_of (tree_of r) path) found.0).1 (path, text, h, refl, found.1) ∙ sym found.1
+
+pub kept_or_listed : EachLineIsKeptOrListed
+kept_or_listed r c a dropped of place line found = (
+  ap (list_any (nat_eq (place + 3))) of.others ∙ listed_where (keeps r) 3 place (place + 3) c.lines line refl found,
+  λ kept. kept_there r c a of.kept line (there_at c.lines place line found) kept,
+)
+
+-- ---- one result
+
+same_options : {X : Type 0} (o p : Option X) → ((x : X) → o ≡ Some x → p ≡ Some x) → ((x : X) → p ≡ Some x → o ≡ Some x) → o ≡ p
+same_options None None to from = refl
+same_options None (Some x) to from = from x refl
+same_options (Some x) p to from = sym (to x refl)
+
+of_one : (r : Rules) (c : CarriedText) (a b : Answered) (dropped others : List ℕ) → IsCarryOf r c a dropped → IsCarryOf r c b others → (a ≡ b) × (dropped ≡ others)
+of_one r c a b dropped others one two = (
+  same_answers a b one.fit.well two.fit.well one.fit.from_one two.fit.from_one
+      (same a.lists b.lists (λ q. same_options (map.get a.lists q) (map.get b.lists q) (λ ms h. (two.kept.lists q ms).1 ((one.kept.lists q ms).0 h)) (λ ms h. (one.kept.lists q ms).1 ((two.kept.lists q ms).0 h))))
+      (λ side s. same_options (value_of side a s) (value_of side b s) (λ v h. (two.kept.values side s v).1 ((one.kept.values side s v).0 h)) (λ v h. (one.kept.values side s v).1 ((two.kept.values side s v).0 h)))
+      (one.kept.number ∙ sym two.kept.number),
+  one.others ∙ sym two.others,
+)
+
+pub one_carry : CarryingGivesOne
+one_carry r bytes a b dropped others one two =
+    of_one r two.0 a b dropped others (subst (λ (c : CarriedText). IsCarryOf r c a dropped) (one_text one.0 two.0 one.1 two.1 (sym one.2 ∙ two.2)) one.3) two.3

@@ -1,0 +1,20 @@
+use Rattle.std.proofs.Common.{Err, refl, sym, subst}
+use Rattle.script_lines.specs.Lines.{HasNoNewline}
+use Rattle.script_lines.specs.declared.fault.LineFault.{LineFault}
+use Rattle.save_file.specs.CarriedReading.{JudgesCarried}
+use Rattle.save_file.proofs.CarriedEnds.{no_bytes, text_refused, text_taken}
+use Rattle.save_file.proofs.carried_stage.read_carried.Goals as goal
+
+pub returns-in_default : goal.returns-in_default
+returns-in_default c = (refl, no_bytes c.args.stage c.args.line.now (λ h. c.in_default.ensures.cases.0 h.utf8))
+
+pub returns-in-Ok-take_line : goal.returns-in-Ok-take_line
+returns-in-Ok-take_line c = text_taken c.args.stage c.in-Ok-take_line.new c.args.line.now c.in-Ok.text.now c.args.number c.in-Ok.ensures.cases.0 c.in-Ok-take_line.ensures
+
+pub returns-in-Err-BadLine : goal.returns-in-Err-BadLine
+returns-in-Err-BadLine c =
+    text_refused c.args.stage c.args.line.now c.in-Ok.text.now c.args.number c.in-Ok.ensures.cases.0
+    (subst (λ (f : LineFault). JudgesCarried c.args.stage c.in-Ok.text.now (Err f)) c.in-Err-BadLine.field-0-is c.in-Err-BadLine.ensures)
+
+pub take_line-requires-clause-line : goal.take_line-requires-clause-line
+take_line-requires-clause-line c = subst HasNoNewline (sym c.in-Ok.ensures.cases.0) c.requires.line

@@ -1,0 +1,21 @@
+use Rattle.std.proofs.Common.{Err, sym, subst}
+use Rattle.script_lines.specs.declared.fault.LineFault.TheVariants.{BadLine}
+use Rattle.save_file.specs.CarriedReading.{IsCarriedStage, JudgesCarried}
+use Rattle.save_file.specs.declared.carried_stage.CarriedStage.{CarriedStage}
+use Rattle.save_file.proofs.CarriedSteps.{none_behind_end}
+use Rattle.save_file.proofs.carried_stage.take_line.Goals as goal
+
+pub returns-in-Opening : goal.returns-in-Opening
+returns-in-Opening c = subst (λ (s : CarriedStage). JudgesCarried s c.args.line.now c.take_opening.result) (sym c.in-Opening.is) c.take_opening.ensures
+
+pub returns-in-Number : goal.returns-in-Number
+returns-in-Number c = subst (λ (s : CarriedStage). JudgesCarried s c.args.line.now c.take_number.result) (sym c.in-Number.is) c.take_number.ensures
+
+pub take_later-requires-clause-sound : goal.take_later-requires-clause-sound
+take_later-requires-clause-sound c = subst IsCarriedStage c.in-Lines.is c.requires.sound
+
+pub returns-in-Lines : goal.returns-in-Lines
+returns-in-Lines c = subst (λ (s : CarriedStage). JudgesCarried s c.args.line.now c.take_later.result) (sym c.in-Lines.is) c.take_later.ensures
+
+pub returns : goal.returns
+returns c = subst (λ (s : CarriedStage). JudgesCarried s c.args.line.now (Err BadLine)) (sym c.in-Whole.is) (none_behind_end c.in-Whole.field-0 c.args.line.now)

@@ -1,0 +1,110 @@
+// Reads a line of a carried text, whatever the dictionary.
+ghost use Rattle.std.specs.Prelude.{◌≡◌, ◌++◌, List, ℕ, IfErr, IfOk, codes, string_bytes};
+ghost use Rattle.std.specs.List.{AllByRecursion};
+ghost use Rattle.std.specs.Str.{IsUtf8};
+ghost use Rattle.fact_paths.specs.Cuts.{Lacks};
+ghost use Rattle.fact_paths.specs.Names.{IsName};
+ghost use Rattle.fact_paths.specs.Paths.{IsMemberNumber};
+ghost use Rattle.script_lines.specs.Lines.{HasNoNewline};
+ghost use Rattle.script_lines.specs.declared.fault.LineFault.TheVariants.{NoMemory};
+ghost use Rattle.value_text.specs.MemberTexts.{printed_rest};
+ghost use Rattle.save_file.specs.CarriedReading.{ReadsLine, ReadsName, ReadsPath, line_of_entry, line_of_list};
+ghost use Rattle.save_file.specs.SavedText.{side_word as word_of_side};
+
+use crate::reading::{at_blank, read_members};
+use answers::Side;
+use fact_paths::{Name, PathFault, SlotPath, read_slot_path};
+use fact_values::Members;
+use script_lines::LineFault;
+use std::alloc::Global;
+
+/// A collection's name with its members.
+#[derive(Drop)]
+pub struct ListLine {
+    pub name: Name,
+    pub members: Members,
+}
+
+/// A slot's path with the text of its value, on a side.
+#[derive(Drop)]
+pub struct EntryLine {
+    pub side: Side,
+    pub path: SlotPath,
+    pub text: String,
+}
+
+fn read_name(alloc: Global, text: &str) -> Result<Name, LineFault>
+    ensures { ReadsName text.now result }
+{
+    match Name::read(alloc, text) {
+        Ok(name) => Ok(name),
+        Err(PathFault::BadPath) => Err(LineFault::BadLine),
+        Err(PathFault::NoMemory) => Err(LineFault::NoMemory),
+    }
+}
+
+fn read_path(alloc: Global, text: &str) -> Result<SlotPath, LineFault>
+    ensures { ReadsPath text.now result }
+{
+    match read_slot_path(alloc, text) {
+        Ok(path) => Ok(path),
+        Err(PathFault::BadPath) => Err(LineFault::BadLine),
+        Err(PathFault::NoMemory) => Err(LineFault::NoMemory),
+    }
+}
+
+fn copy_text(alloc: Global, text: &str) -> Result<String, LineFault>
+    ensures copied { IfOk result (λ copy. string_bytes copy ≡ text.now) }
+    ensures utf8 { IsUtf8 text.now }
+    ensures memory { IfErr result (λ fault. fault ≡ NoMemory) }
+{
+    match String::from_str(alloc, text) {
+        Ok(copy) => Ok(copy),
+        Err(_) => Err(LineFault::NoMemory),
+    }
+}
+
+// The line of this name with these members.
+fn with_members(alloc: Global, name: &str, found: Vec<u32>) -> Result<ListLine, LineFault>
+    requires name { Lacks 32 name.now }
+    requires numbers { AllByRecursion IsMemberNumber found.items }
+    ensures { ReadsLine line_of_list (codes "list /" ++ (name.now ++ printed_rest found.items)) result }
+{
+    match read_name(alloc, name) {
+        Err(fault) => Err(fault),
+        Ok(name) => match Members::new(found) {
+            None => Err(LineFault::BadLine),
+            Some(members) => Ok(ListLine { name, members }),
+        },
+    }
+}
+
+/// The line of a list, of what stands behind its first word and the slash.
+pub fn read_list_line(alloc: Global, text: &str) -> Result<ListLine, LineFault>
+    ensures { ReadsLine line_of_list (codes "list /" ++ text.now) result }
+{
+    match at_blank(text) {
+        None => with_members(alloc, text, Vec::new(alloc)),
+        Some((name, behind)) => match read_members(alloc, behind) {
+            Err(fault) => Err(fault),
+            Ok(found) => with_members(alloc, name, found),
+        },
+    }
+}
+
+/// The line of an entry, of what stands behind its first word.
+pub fn read_entry_line(alloc: Global, side: Side, text: &str) -> Result<EntryLine, LineFault>
+    requires { HasNoNewline text.now }
+    ensures { ReadsLine line_of_entry (word_of_side side ++ text.now) result }
+{
+    let Some((path, value)) = at_blank(text) else {
+        return Err(LineFault::BadLine);
+    };
+    match read_path(alloc, path) {
+        Err(fault) => Err(fault),
+        Ok(path) => match copy_text(alloc, value) {
+            Err(fault) => Err(fault),
+            Ok(text) => Ok(EntryLine { side, path, text }),
+        },
+    }
+}

@@ -1,0 +1,202 @@
+// The lines of a carried text that were read, and one more.
+ghost use Rattle.std.specs.Prelude.{◌≡◌, ◌||◌, ℕ, List, map, not, bytes_eq, IfErr, IfOk, OnOk, string_bytes};
+ghost use Rattle.std.specs.List.{list_all, list_any};
+ghost use Rattle.save_file.specs.CarriedReading.{IsRead, IsWithEntry, IsWithList, Takes, is_other_list, is_override as is_side_override, line_of_entry, line_of_list, may_enter as may_be_entered, may_list as may_be_listed};
+ghost use Rattle.save_file.specs.Heads.{has};
+ghost use Rattle.save_file.specs.CarriedText.{HasItsForm, IsShort, head_text, lists_member as lists_the_member, lists_member_of};
+ghost use Rattle.script_lines.specs.declared.fault.LineFault.TheVariants.{NoMemory};
+
+use crate::carried_line::{EntryLine, ListLine};
+use crate::entries::side_word;
+use crate::heads::Heads;
+use crate::list_line::{are_below, are_others, is_among};
+use answers::Side;
+use fact_paths::{Name, SlotPath};
+use script_lines::LineFault;
+use std::alloc::Global;
+
+/// The most lists of a text.
+const MOST_LISTS: usize = 32;
+
+/// The number of the next member, and the lines so far; what the entries name, and whether one of them is an override.
+#[derive(Drop)]
+pub struct CarriedRead {
+    pub next: u32,
+    pub lists: Vec<ListLine>,
+    pub entries: Vec<EntryLine>,
+    pub heads: Heads,
+    pub overridden: bool,
+}
+
+// Whether the line has another name than an earlier one, and no member of it.
+fn is_other(line: &ListLine, earlier: &ListLine) -> bool
+    ensures { result ≡ is_other_list line.now earlier.now }
+{
+    earlier.name.as_str() != line.name.as_str()
+        && are_others(line.members.as_slice(), earlier.members.as_slice())
+}
+
+fn is_new(line: &ListLine, lists: &[ListLine]) -> bool
+    ensures { result ≡ list_all (is_other_list line.now) lists.now }
+{
+    lists.iter().all(|earlier| is_other(line, earlier))
+}
+
+// Whether the line lists the member in the collection of this name.
+fn lists_member(line: &ListLine, name: &Name, member: u32) -> bool
+    ensures { result ≡ lists_the_member name.now member (line_of_list line.now) }
+{
+    line.name.as_str() == name.as_str() && is_among(member, line.members.as_slice())
+}
+
+// Whether one of the lists has the member in the collection of this name.
+fn have_member(lists: &[ListLine], name: &Name, member: u32) -> bool
+    ensures { result ≡ list_any (λ l. lists_the_member name.now member (line_of_list l)) lists.now }
+{
+    lists.iter().any(|line| lists_member(line, name, member))
+}
+
+// Whether the member in the path is in the list of the path's collection.
+fn is_listed(path: &SlotPath, lists: &[ListLine]) -> bool
+    ensures { result ≡ lists_member_of (map line_of_list lists.now) path.now }
+{
+    match path {
+        SlotPath::Global(_) => true,
+        SlotPath::Member(name, member, _) => have_member(lists, name, *member),
+    }
+}
+
+// The kind of the entry and what it names.
+fn head_of(alloc: Global, line: &EntryLine) -> Result<String, LineFault>
+    ensures head { IfOk result (λ head. string_bytes head ≡ head_text (line_of_entry line.now)) }
+    ensures memory { IfErr result (λ fault. fault ≡ NoMemory) }
+{
+    let word = side_word(line.side);
+    let path = &line.path;
+    match format!(in alloc; "{word}{path}") {
+        Ok(head) => Ok(head),
+        Err(_) => Err(LineFault::NoMemory),
+    }
+}
+
+fn is_override(side: Side) -> bool
+    ensures { result ≡ is_side_override side }
+{
+    match side {
+        Side::Answer => false,
+        Side::Override => true,
+    }
+}
+
+// Whether the list may stand behind the lines.
+fn may_list(read: &CarriedRead, line: &ListLine) -> bool
+    ensures { result ≡ may_be_listed read.now line.now }
+{
+    read.entries.is_empty()
+        && read.lists.len() < MOST_LISTS
+        && are_below(read.next, &line.members)
+        && is_new(line, read.lists.as_slice())
+}
+
+// Whether the entry may, but for what other entries name.
+fn may_enter(read: &CarriedRead, line: &EntryLine) -> bool
+    ensures { result ≡ may_be_entered read.now line.now }
+{
+    (is_override(line.side) || !read.overridden) && is_listed(&line.path, read.lists.as_slice())
+}
+
+// With one more list.
+fn with_list(read: CarriedRead, line: ListLine) -> Result<CarriedRead, LineFault>
+    ensures read { IfOk result (λ new. IsWithList read line new) }
+    ensures memory { IfErr result (λ fault. fault ≡ NoMemory) }
+{
+    let CarriedRead {
+        next,
+        mut lists,
+        entries,
+        heads,
+        overridden,
+    } = read;
+    match lists.push(line) {
+        Err(_) => Err(LineFault::NoMemory),
+        Ok(()) => Ok(CarriedRead {
+            next,
+            lists,
+            entries,
+            heads,
+            overridden,
+        }),
+    }
+}
+
+// With one more entry.
+fn with_entry(read: CarriedRead, line: EntryLine) -> Result<CarriedRead, LineFault>
+    ensures read { IfOk result (λ new. IsWithEntry read line new) }
+    ensures memory { IfErr result (λ fault. fault ≡ NoMemory) }
+{
+    let CarriedRead {
+        next,
+        lists,
+        mut entries,
+        heads,
+        overridden,
+    } = read;
+    let overridden = overridden || is_override(line.side);
+    match entries.push(line) {
+        Err(_) => Err(LineFault::NoMemory),
+        Ok(()) => Ok(CarriedRead {
+            next,
+            lists,
+            entries,
+            heads,
+            overridden,
+        }),
+    }
+}
+
+/// One more list.
+pub fn take_list_line(read: CarriedRead, line: ListLine) -> Result<CarriedRead, LineFault>
+    requires sound { IsRead read }
+    requires form { HasItsForm (line_of_list line) }
+    requires short { IsShort (line_of_list line) }
+    ensures { Takes read (line_of_list line) result }
+{
+    if !may_list(&read, &line) {
+        return Err(LineFault::BadLine);
+    }
+    with_list(read, line)
+}
+
+// Notes what the entry names, and tells whether it is new.
+fn note_head(alloc: Global, heads: &mut Heads, line: &EntryLine) -> Result<bool, LineFault>
+    ensures fresh { IfOk result (λ fresh. fresh ≡ not (has heads.old (head_text (line_of_entry line.now)))) }
+    ensures added { OnOk result ((text : List ℕ) → has heads.new text ≡ (bytes_eq text (head_text (line_of_entry line.now)) || has heads.old text)) }
+    ensures memory { IfErr result (λ fault. fault ≡ NoMemory) }
+{
+    match head_of(alloc, line) {
+        Err(fault) => Err(fault),
+        Ok(head) => heads.add(head),
+    }
+}
+
+/// One more entry.
+pub fn take_entry_line(
+    alloc: Global,
+    read: CarriedRead,
+    line: EntryLine,
+) -> Result<CarriedRead, LineFault>
+    requires sound { IsRead read }
+    requires form { HasItsForm (line_of_entry line) }
+    requires short { IsShort (line_of_entry line) }
+    ensures { Takes read (line_of_entry line) result }
+{
+    if !may_enter(&read, &line) {
+        return Err(LineFault::BadLine);
+    }
+    let mut read = read;
+    match note_head(alloc, &mut read.heads, &line) {
+        Err(fault) => Err(fault),
+        Ok(false) => Err(LineFault::BadLine),
+        Ok(true) => with_entry(read, line),
+    }
+}

@@ -1,0 +1,181 @@
+// Takes the next line of a carried text.
+ghost use Rattle.std.specs.Prelude.{◌≡◌, ◌≢◌, ◌++◌, ◌≤◌, codes, length};
+ghost use Rattle.script_lines.specs.Lines.{HasNoNewline};
+ghost use Rattle.save_file.specs.CarriedReading.{IsCarriedStage, IsRead, JudgesCarried, ReadsCarried, TakesText};
+ghost use Rattle.save_file.specs.Following.{BeginsOther};
+ghost use Rattle.save_file.specs.SavedText.{end_line, side_word as word_of_side};
+ghost use Rattle.save_file.specs.declared.carried_stage.CarriedStage.TheVariants.{Lines, Number, Opening};
+
+use crate::carried_line::{read_entry_line, read_list_line};
+use crate::carried_read::{CarriedRead, take_entry_line, take_list_line};
+use crate::fault::LoadFault;
+use crate::heads::Heads;
+use crate::reading::{behind, is_word, read_next};
+use answers::Side;
+use script_lines::LineFault;
+use std::alloc::Global;
+
+/// The most bytes of a line, without its newline.
+const MOST_BYTES: usize = 4_096;
+
+/// What was read, and so what may come next.
+#[derive(Drop)]
+pub enum CarriedStage {
+    Opening,
+    Number,
+    Lines(CarriedRead),
+    Whole(CarriedRead),
+}
+
+// `saved 1`
+fn take_opening(line: &str) -> Result<CarriedStage, LineFault>
+    ensures { JudgesCarried Opening line.now result }
+{
+    if is_word(line, "saved 1") {
+        Ok(CarriedStage::Number)
+    } else {
+        Err(LineFault::BadLine)
+    }
+}
+
+// `next K`
+fn take_number(alloc: Global, line: &str) -> Result<CarriedStage, LineFault>
+    ensures { JudgesCarried Number line.now result }
+{
+    let Some(digits) = behind("next ", line) else {
+        return Err(LineFault::BadLine);
+    };
+    let Some(next) = read_next(digits) else {
+        return Err(LineFault::BadLine);
+    };
+    Ok(CarriedStage::Lines(CarriedRead {
+        next,
+        lists: Vec::new(alloc),
+        entries: Vec::new(alloc),
+        heads: Heads::new(alloc),
+        overridden: false,
+    }))
+}
+
+// `list ..`, by what stands behind the slash
+fn take_list(alloc: Global, read: CarriedRead, text: &str) -> Result<CarriedRead, LineFault>
+    requires sound { IsRead read }
+    requires short { length (codes "list /" ++ text.now) ≤ 4096 }
+    ensures { TakesText read (codes "list /" ++ text.now) result }
+{
+    match read_list_line(alloc, text) {
+        Err(fault) => Err(fault),
+        Ok(line) => take_list_line(read, line),
+    }
+}
+
+// `value ..` or `override ..`, by what stands behind the first word
+fn take_entry(
+    alloc: Global,
+    read: CarriedRead,
+    side: Side,
+    text: &str,
+) -> Result<CarriedRead, LineFault>
+    requires sound { IsRead read }
+    requires short { length (word_of_side side ++ text.now) ≤ 4096 }
+    requires line { HasNoNewline text.now }
+    ensures { TakesText read (word_of_side side ++ text.now) result }
+{
+    match read_entry_line(alloc, side, text) {
+        Err(fault) => Err(fault),
+        Ok(line) => take_entry_line(alloc, read, line),
+    }
+}
+
+// A line of an override, or none.
+fn take_override(alloc: Global, read: CarriedRead, line: &str) -> Result<CarriedRead, LineFault>
+    requires sound { IsRead read }
+    requires short { length line.now ≤ 4096 }
+    requires line { HasNoNewline line.now }
+    requires no_list { BeginsOther (codes "list /") line.now }
+    requires no_value { BeginsOther (codes "value ") line.now }
+    ensures { TakesText read line.now result }
+{
+    match behind("override ", line) {
+        None => Err(LineFault::BadLine),
+        Some(text) => take_entry(alloc, read, Side::Override, text),
+    }
+}
+
+// A line of an entry, or none.
+fn take_either(alloc: Global, read: CarriedRead, line: &str) -> Result<CarriedRead, LineFault>
+    requires sound { IsRead read }
+    requires short { length line.now ≤ 4096 }
+    requires line { HasNoNewline line.now }
+    requires no_list { BeginsOther (codes "list /") line.now }
+    ensures { TakesText read line.now result }
+{
+    match behind("value ", line) {
+        None => take_override(alloc, read, line),
+        Some(text) => take_entry(alloc, read, Side::Answer, text),
+    }
+}
+
+// A line of a list or of an entry.
+fn take_text(alloc: Global, read: CarriedRead, line: &str) -> Result<CarriedRead, LineFault>
+    requires sound { IsRead read }
+    requires line { HasNoNewline line.now }
+    ensures { TakesText read line.now result }
+{
+    if line.len() > MOST_BYTES {
+        return Err(LineFault::BadLine);
+    }
+    match behind("list /", line) {
+        None => take_either(alloc, read, line),
+        Some(text) => take_list(alloc, read, text),
+    }
+}
+
+// A line behind the first two.
+fn take_later(alloc: Global, read: CarriedRead, line: &str) -> Result<CarriedStage, LineFault>
+    requires sound { IsRead read }
+    requires line { HasNoNewline line.now }
+    ensures { JudgesCarried (Lines read) line.now result }
+{
+    if is_word(line, "end") {
+        return Ok(CarriedStage::Whole(read));
+    }
+    match take_text(alloc, read, line) {
+        Err(fault) => Err(fault),
+        Ok(read) => Ok(CarriedStage::Lines(read)),
+    }
+}
+
+fn take_line(alloc: Global, stage: CarriedStage, line: &str) -> Result<CarriedStage, LineFault>
+    requires sound { IsCarriedStage stage }
+    requires line { HasNoNewline line.now }
+    ensures { JudgesCarried stage line.now result }
+{
+    match stage {
+        CarriedStage::Opening => take_opening(line),
+        CarriedStage::Number => take_number(alloc, line),
+        CarriedStage::Lines(read) => take_later(alloc, read, line),
+        CarriedStage::Whole(_) => Err(LineFault::BadLine),
+    }
+}
+
+/// Takes the line of this number.
+pub fn read_carried(
+    alloc: Global,
+    stage: CarriedStage,
+    line: &[u8],
+    number: u32,
+) -> Result<CarriedStage, LoadFault>
+    requires sound { IsCarriedStage stage }
+    requires line { HasNoNewline line.now }
+    ensures { ReadsCarried stage line.now number result }
+{
+    let Ok(text) = str::from_utf8(line) else {
+        return Err(LoadFault::BadSaved(number));
+    };
+    match take_line(alloc, stage, text) {
+        Ok(new) => Ok(new),
+        Err(LineFault::BadLine) => Err(LoadFault::BadSaved(number)),
+        Err(LineFault::NoMemory) => Err(LoadFault::NoMemory),
+    }
+}

@@ -1,0 +1,183 @@
+// Carries a saved text to another dictionary.
+ghost use Rattle.std.specs.Prelude.{◌≡◌, ◌+◌, ◌<◌, ◌++◌, ◌∷◌, [], ℕ, List, Some, ◌≤◌, IfErr, IfOk, OnOk, length, map, if◌then◌else◌};
+ghost use Rattle.answers.specs.Change.{Fits, applied, sets};
+ghost use Rattle.answers.specs.Meaning.{answered};
+ghost use Rattle.graph_session.specs.Naming.{slot_of};
+ghost use Rattle.graph_session.specs.Refusals.{SameChecks};
+ghost use Rattle.graph_session.specs.Rules.{rules, tree_of};
+ghost use Rattle.save_file.specs.CarriedReading.{line_of_entry, line_of_list, text_of};
+ghost use Rattle.save_file.specs.CarriedText.{IsCarried};
+ghost use Rattle.save_file.specs.Carrying.{IsCarry, IsCarryOf, RefusesCarried, keeps, numbers_failing};
+ghost use Rattle.save_file.specs.Keeping.{ArePlaced, IsPlaced, entered, noted, with_worth, worth_of as worth_of_entry};
+ghost use Rattle.save_file.specs.declared.fault.LoadFault.TheVariants.{NoMemory};
+
+use crate::carried_line::{EntryLine, ListLine};
+use crate::carried_read::CarriedRead;
+use crate::carried_text::read_lines;
+use crate::entry_line::edit_of;
+use crate::fault::LoadFault;
+use crate::keeping::{collection_of, worth_of};
+use crate::opening::open_kept;
+use answers::{Answers, Side};
+use dictionary::Dictionary;
+use fact_values::{Slot, Value};
+use std::alloc::Global;
+use text_checks::CheckTable;
+
+/// What was carried.
+#[derive(Drop)]
+pub struct Carried {
+    /// The answers of the lines that are kept.
+    pub answers: Answers,
+    /// The numbers of the others, from 1, in their order.
+    pub dropped: Vec<u32>,
+}
+
+fn note(number: u32, dropped: &mut Vec<u32>) -> Result<(), LoadFault>
+    ensures noted { OnOk result (dropped.new.items ≡ dropped.old.items ++ number ∷ []) }
+    ensures memory { IfErr result (λ fault. fault ≡ NoMemory) }
+{
+    match dropped.push(number) {
+        Err(_) => Err(LoadFault::NoMemory),
+        Ok(()) => Ok(()),
+    }
+}
+
+// Notes the number of a list that is dropped.
+fn note_list(
+    dict: &Dictionary,
+    line: &ListLine,
+    number: u32,
+    dropped: &mut Vec<u32>,
+) -> Result<(), LoadFault>
+    ensures noted { OnOk result (dropped.new.items ≡ (if keeps (rules dict.now) (line_of_list line.now) then dropped.old.items else dropped.old.items ++ number ∷ [])) }
+    ensures memory { IfErr result (λ fault. fault ≡ NoMemory) }
+{
+    match collection_of(dict, line) {
+        Some(_) => Ok(()),
+        None => note(number, dropped),
+    }
+}
+
+// The numbers of the lists that are dropped.
+fn dropped_lists(
+    alloc: Global,
+    dict: &Dictionary,
+    lists: &[ListLine],
+) -> Result<Vec<u32>, LoadFault>
+    requires { length lists.now ≤ 32 }
+    ensures dropped { IfOk result (λ ns. ns.items ≡ numbers_failing (keeps (rules dict.now)) 3 (map line_of_list lists.now)) }
+    ensures memory { IfErr result (λ fault. fault ≡ NoMemory) }
+{
+    let mut dropped = Vec::new(alloc);
+    let mut number = 3;
+    for line in lists {
+        match note_list(dict, line, number, &mut dropped) {
+            Err(fault) => return Err(fault),
+            Ok(()) => number += 1,
+        }
+    }
+    Ok(dropped)
+}
+
+fn set_value(answers: &mut Answers, side: Side, slot: Slot, value: Value) -> Result<(), LoadFault>
+    requires { Fits (sets side slot (Some value)) (answered answers.old) }
+    ensures new { OnOk result (answered answers.new ≡ applied (sets side slot (Some value)) (answered answers.old)) }
+    ensures memory { IfErr result (λ fault. fault ≡ NoMemory) }
+{
+    match answers.apply(edit_of(side, slot, value)) {
+        Err(_) => Err(LoadFault::NoMemory),
+        Ok(_) => Ok(()),
+    }
+}
+
+// Gives a slot the value of an entry that is kept, and notes the number of another.
+fn keep_entry(
+    alloc: Global,
+    dict: &Dictionary,
+    checks: &CheckTable,
+    line: &EntryLine,
+    number: u32,
+    carried: &mut Carried,
+) -> Result<(), LoadFault>
+    requires same_checks { SameChecks (rules dict.now) (map {B = List ℕ × ℕ} (λ c. (c.name, c.code)) checks.now.checks.items) }
+    requires placed { IsPlaced (tree_of (rules dict.now)) (answered carried.old.answers) line.now.path }
+    ensures entered { OnOk result (answered carried.new.answers ≡ with_worth (rules dict.now) line.now (worth_of_entry (rules dict.now) line.now) (answered carried.old.answers)) }
+    ensures noted { OnOk result (carried.new.dropped.items ≡ noted (worth_of_entry (rules dict.now) line.now) number carried.old.dropped.items) }
+    ensures memory { IfErr result (λ fault. fault ≡ NoMemory) }
+{
+    match worth_of(alloc, dict, checks, &carried.answers, line) {
+        Err(fault) => Err(fault),
+        Ok(None) => note(number, &mut carried.dropped),
+        Ok(Some((slot, value))) => set_value(&mut carried.answers, line.side, slot, value),
+    }
+}
+
+// Goes through the entries, behind the lists.
+fn keep_entries(
+    alloc: Global,
+    dict: &Dictionary,
+    checks: &CheckTable,
+    read: &CarriedRead,
+    carried: Carried,
+) -> Result<Carried, LoadFault>
+    requires same_checks { SameChecks (rules dict.now) (map {B = List ℕ × ℕ} (λ c. (c.name, c.code)) checks.now.checks.items) }
+    requires placed { ArePlaced (tree_of (rules dict.now)) (answered carried.answers) read.now.entries.items }
+    requires few { length read.now.lists.items + length read.now.entries.items + 3 < 4294967296 }
+    ensures entered { IfOk result (λ c. answered c.answers ≡ entered (rules dict.now) (answered carried.answers) read.now.entries.items) }
+    ensures dropped { IfOk result (λ c. c.dropped.items ≡ carried.dropped.items ++ numbers_failing (keeps (rules dict.now)) (length read.now.lists.items + 3) (map line_of_entry read.now.entries.items)) }
+    ensures memory { IfErr result (λ fault. fault ≡ NoMemory) }
+{
+    let mut carried = carried;
+    let mut number = read.lists.len() as u32 + 3;
+    for line in read.entries.iter() {
+        match keep_entry(alloc, dict, checks, line, number, &mut carried) {
+            Err(fault) => return Err(fault),
+            Ok(()) => number += 1,
+        }
+    }
+    Ok(carried)
+}
+
+// Carries lines that make a carried text.
+fn carry_lines(
+    alloc: Global,
+    dict: &Dictionary,
+    checks: &CheckTable,
+    read: &CarriedRead,
+) -> Result<Carried, LoadFault>
+    requires same_checks { SameChecks (rules dict.now) (map {B = List ℕ × ℕ} (λ c. (c.name, c.code)) checks.now.checks.items) }
+    requires text { IsCarried (text_of read.now) }
+    requires few { length read.now.lists.items + length read.now.entries.items + 3 < 4294967296 }
+    ensures carried { IfOk result (λ c. IsCarryOf (rules dict.now) (text_of read.now) (answered c.answers) c.dropped.items) }
+    ensures memory { IfErr result (λ fault. fault ≡ NoMemory) }
+{
+    let _accepted = dict.source();
+    match open_kept(alloc, dict, read) {
+        Err(fault) => Err(fault),
+        Ok(answers) => match dropped_lists(alloc, dict, read.lists.as_slice()) {
+            Err(fault) => Err(fault),
+            Ok(dropped) => keep_entries(alloc, dict, checks, read, Carried { answers, dropped }),
+        },
+    }
+}
+
+/// The answers of a saved text over another dictionary, as far as they may stand there, and the numbers of the lines that are
+/// dropped. A text that was saved over any dictionary is carried, also where lines of a kind were put into another order or
+/// their paths were renamed.
+pub fn carry(
+    alloc: Global,
+    dict: &Dictionary,
+    checks: &CheckTable,
+    bytes: &[u8],
+) -> Result<Carried, LoadFault>
+    requires same_checks { SameChecks (rules dict.now) (map {B = List ℕ × ℕ} (λ c. (c.name, c.code)) checks.now.checks.items) }
+    requires short { length bytes.now < 4294967295 }
+    ensures carried { IfOk result (λ c. IsCarry (rules dict.now) bytes.now (answered c.answers) c.dropped.items) }
+    ensures refused { IfErr result (RefusesCarried bytes.now) }
+{
+    match read_lines(alloc, bytes) {
+        Err(fault) => Err(fault),
+        Ok(read) => carry_lines(alloc, dict, checks, &read),
+    }
+}
