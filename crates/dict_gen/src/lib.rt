@@ -1,0 +1,14 @@
+//! A load that anyone can repeat: a dictionary of so many sums, one upon the other, and a script that answers, undoes and redoes.
+#![tactic(auto)]
+
+mod laws;
+mod lines;
+mod made;
+mod script;
+mod source;
+
+pub use laws::{the_load_has_its_size, the_script_is_read_line_by_line};
+pub use made::{Made, make};
+
+#[cfg(test)]
+mod tests;
