@@ -6,7 +6,5 @@ mod expression;
 mod fact;
 pub mod laws;
 mod reading;
-#[cfg(test)]
-mod tests;
 
 pub use compiled::{Compiled, compile};
