@@ -206,10 +206,10 @@ one_first_fault checks (spelled bytes) fault other h k = one_fault bytes (names_
 one_first_fault checks (brought b) fault other h k = absurd (brought_has_none b fault h)
 
 pub one_run : OneEndOfRun
-one_run content checks stamps script d e (inl (r, is, to)) (inl (s, is_other, to_other)) = to ∙ ap (λ q. defined_script q stamps script) (one_set_of_rules checks content r s is is_other) ∙ sym to_other
-one_run content checks stamps script d e (inl (r, is, to)) (inr (fault, is_fault, to_fault)) = absurd (accepted_is_faultless checks content r fault is is_fault)
-one_run content checks stamps script d e (inr (fault, is_fault, to_fault)) (inl (r, is, to)) = absurd (accepted_is_faultless checks content r fault is is_fault)
-one_run content checks stamps script d e (inr (fault, is, to)) (inr (other, is_other, to_other)) = to ∙ ap defined_fault (one_first_fault checks content fault other is is_other) ∙ sym to_other
+one_run content checks terms script d e (inl (r, is, to)) (inl (s, is_other, to_other)) = to ∙ ap (λ q. defined_script q terms script) (one_set_of_rules checks content r s is is_other) ∙ sym to_other
+one_run content checks terms script d e (inl (r, is, to)) (inr (fault, is_fault, to_fault)) = absurd (accepted_is_faultless checks content r fault is is_fault)
+one_run content checks terms script d e (inr (fault, is_fault, to_fault)) (inl (r, is, to)) = absurd (accepted_is_faultless checks content r fault is is_fault)
+one_run content checks terms script d e (inr (fault, is, to)) (inr (other, is_other, to_other)) = to ∙ ap defined_fault (one_first_fault checks content fault other is is_other) ∙ sym to_other
 
 -- what a session goes by is an accepted dictionary
 pub rules_are_accepted : (checks : List Named) (content : Content) (r : Rules) → IsAcceptedAs checks content r → (names : List (List ℕ)) × IsAccepted names r.accepted

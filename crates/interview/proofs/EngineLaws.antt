@@ -1,6 +1,6 @@
 -- A session with stamps and one without answer the same, but for what is counted.
 use Rattle.std.proofs.Common.{◌≡◌, ℕ, Bool, true, false, List, [], ◌∷◌, ◌++◌, length, take, drop, Option, Some, None, inl, inr, refl, sym, ap, subst, ◌∙◌, take-append-drop}
-use Rattle.std.specs.Prelude.{All, nat_le, if◌then◌else◌}
+use Rattle.std.specs.Prelude.{All, Result, Ok, Err, nat_le, if◌then◌else◌}
 use Rattle.std.proofs.Math.Seq.{take-append_seam}
 use Rattle.std.proofs.lemmas.List.Elements.{All-head, All-tail, All-take}
 use Rattle.script_lines.specs.Lines.{ScriptLine, whole, long, script_lines, ended_lines}
@@ -10,7 +10,7 @@ use Rattle.script_lines.specs.declared.command.Command.TheVariants.{Set, Clear, 
 use Rattle.script_lines.proofs.EndedLaws.{lines_go_on}
 use Rattle.session_undo.specs.Timeline.{Timeline}
 use Rattle.dictionary.specs.Accepted.{Named}
-use Rattle.graph_session.specs.Refusals.{decided}
+use Rattle.graph_session.specs.Refusals.{decided, slot_found}
 use Rattle.graph_session.specs.Rules.{Rules, tree_of}
 use Rattle.graph_session.specs.SessionView.{Course}
 use Rattle.graph_session.specs.Step as session
@@ -20,15 +20,24 @@ use Rattle.graph_session.specs.declared.reply.Reply.TheVariants as replied
 use Rattle.interview.specs.declared.status.Status.TheVariants.{Done, ScriptTooLong}
 use Rattle.interview.specs.Dictionaries.{Content}
 use Rattle.interview.specs.Engines.{AsksNoCounts, EnginesAgree, asks_counts, is_of_counts, line_asks_counts}
-use Rattle.interview.specs.Interview.{Defined, RunsTo, answered_lines, defined_script, script_limit}
-use Rattle.interview.specs.Replies.{State, Step, at_start, replies, reply_text, state_after, step, step_answered, step_command, step_heard, step_line, step_writing}
+use Rattle.interview.specs.Interview.{Defined, RunsTo, answered_lines, defined_script, run_terms, script_limit}
+use Rattle.interview.specs.declared.words.Engine.TheVariants.{Incremental, Plain}
+use Rattle.session_lines.specs.Replies.{reply_text}
+use Rattle.session_lines.specs.Stepping.{Standing, State, Step, Terms, at_start, cut_watch, missing_answer, open_at, place_in, put_watch, replies, said, state_after, step, step_answered, step_command, step_heard, step_line, watch_decided}
+use Rattle.fact_watch.specs.Refusals.{unwatch_refusal, watch_refusal}
+use Rattle.fact_watch.specs.Watching.{Pair}
+use Rattle.fact_watch.specs.declared.commands.WatchRefusal.{WatchRefusal}
+use Rattle.fact_values.specs.declared.slot.Slot.{Slot}
 
 -- the same session without its counts
 abbrev plain_course : Course → Course
 plain_course c = record { timeline = c.timeline; changes = c.changes; counts = None }
 
+abbrev plain_standing : Standing → Standing
+plain_standing s = record s { course = plain_course s.course }
+
 abbrev plain_state : State → State
-plain_state s = record { course = plain_course s.course; over = s.over }
+plain_state s = record { standing = plain_standing s.standing; over = s.over }
 
 abbrev plain_step : Step → Step
 plain_step s = record { text = s.text; state = plain_state s.state }
@@ -51,50 +60,69 @@ moved_same : (r : Rules) (c : Course) (t : Option Timeline) → session.moved_by
 moved_same r c None = refl
 moved_same r c (Some t) = refl
 
-answered_same : (r : Rules) (c : Course) (o : Option Refusal) (reply : Reply) (t : Option Timeline)
-    → step_answered r (plain_course c) (decided o (reply, session.moved_by r (plain_course c) t)) ≡ plain_step (step_answered r c (decided o (reply, session.moved_by r c t)))
-answered_same r c (Some refusal) reply t = refl
-answered_same r c None reply t =
-    ap (λ d. step_writing d (reply_text r d reply)) (moved_same r c t)
-    ∙ ap (step_writing (plain_course (session.moved_by r c t))) (text_same r (session.moved_by r c t) reply)
+answered_same : (r : Rules) (s : Standing) (asked : Command) (o : Option Refusal) (reply : Reply) (t : Option Timeline)
+    → step_answered r (plain_standing s) asked (decided o (reply, session.moved_by r (plain_course s.course) t)) ≡ plain_step (step_answered r s asked (decided o (reply, session.moved_by r s.course t)))
+answered_same r s asked (Some refusal) reply t = refl
+answered_same r s asked None reply t =
+    let d = session.moved_by r s.course t in
+    ap (λ (e : Course). step_answered r (plain_standing s) asked (Ok (reply, e))) (moved_same r s.course t)
+    ∙ ap {A = List ℕ} {B = Step} (λ text. record { text = said r (plain_standing s) asked text (plain_course d); state = open_at (record s { course = plain_course d }) }) (text_same r d reply)
+
+-- what a session doesn't answer itself
+
+missing_same : (r : Rules) (c : Course) (o : Result Slot Refusal) → missing_answer r (plain_course c) o ≡ missing_answer r c o
+missing_same r c (Ok slot) = refl
+missing_same r c (Err refusal) = refl
+
+decided_same : (s : Standing) (pairs : List Pair) (o : Option WatchRefusal) → watch_decided (plain_standing s) pairs o ≡ plain_step (watch_decided s pairs o)
+decided_same s pairs None = refl
+decided_same s pairs (Some refusal) = refl
+
+put_same : (s : Standing) (name : List ℕ) (o : Result Slot Refusal) → put_watch (plain_standing s) name o ≡ plain_step (put_watch s name o)
+put_same s name (Ok slot) = decided_same s _ (watch_refusal (place_in s.relations name) s.watched slot)
+put_same s name (Err refusal) = refl
+
+cut_same : (s : Standing) (name : List ℕ) (o : Result Slot Refusal) → cut_watch (plain_standing s) name o ≡ plain_step (cut_watch s name o)
+cut_same s name (Ok slot) = decided_same s _ (unwatch_refusal (place_in s.relations name) s.watched slot)
+cut_same s name (Err refusal) = refl
 
 -- a command that doesn't ask for them
-command_same : (r : Rules) (c : Course) (asked : Command) → asks_counts asked ≡ false → step_command r (plain_course c) asked ≡ plain_step (step_command r c asked)
-command_same r c (Set path text) none = answered_same r c (session.refusal r c (Set path text)) _ (session.timeline_by (tree_of r) c.timeline (Set path text))
-command_same r c (Clear path) none = answered_same r c (session.refusal r c (Clear path)) _ (session.timeline_by (tree_of r) c.timeline (Clear path))
-command_same r c (OpenList path) none = answered_same r c (session.refusal r c (OpenList path)) _ (session.timeline_by (tree_of r) c.timeline (OpenList path))
-command_same r c (Add path) none = answered_same r c (session.refusal r c (Add path)) _ (session.timeline_by (tree_of r) c.timeline (Add path))
-command_same r c (Remove path member) none = answered_same r c (session.refusal r c (Remove path member)) _ (session.timeline_by (tree_of r) c.timeline (Remove path member))
-command_same r c (Override path text) none = answered_same r c (session.refusal r c (Override path text)) _ (session.timeline_by (tree_of r) c.timeline (Override path text))
-command_same r c (Release path) none = answered_same r c (session.refusal r c (Release path)) _ (session.timeline_by (tree_of r) c.timeline (Release path))
-command_same r c Undo none = answered_same r c (session.refusal r c Undo) _ (session.timeline_by (tree_of r) c.timeline Undo)
-command_same r c Redo none = answered_same r c (session.refusal r c Redo) _ (session.timeline_by (tree_of r) c.timeline Redo)
-command_same r c (Get path) none = answered_same r c (session.refusal r c (Get path)) _ None
-command_same r c (Final path) none = answered_same r c (session.refusal r c (Final path)) _ None
-command_same r c (Stamp path) none = absurd cc
-command_same r c Touched none = absurd cc
-command_same r c (Missing path) none = refl
-command_same r c (Watch name path) none = refl
-command_same r c (Unwatch name path) none = refl
-command_same r c Quit none = refl
+command_same : (r : Rules) (s : Standing) (asked : Command) → asks_counts asked ≡ false → step_command r (plain_standing s) asked ≡ plain_step (step_command r s asked)
+command_same r s (Set path text) none = answered_same r s (Set path text) (session.refusal r s.course (Set path text)) _ (session.timeline_by (tree_of r) s.course.timeline (Set path text))
+command_same r s (Clear path) none = answered_same r s (Clear path) (session.refusal r s.course (Clear path)) _ (session.timeline_by (tree_of r) s.course.timeline (Clear path))
+command_same r s (OpenList path) none = answered_same r s (OpenList path) (session.refusal r s.course (OpenList path)) _ (session.timeline_by (tree_of r) s.course.timeline (OpenList path))
+command_same r s (Add path) none = answered_same r s (Add path) (session.refusal r s.course (Add path)) _ (session.timeline_by (tree_of r) s.course.timeline (Add path))
+command_same r s (Remove path member) none = answered_same r s (Remove path member) (session.refusal r s.course (Remove path member)) _ (session.timeline_by (tree_of r) s.course.timeline (Remove path member))
+command_same r s (Override path text) none = answered_same r s (Override path text) (session.refusal r s.course (Override path text)) _ (session.timeline_by (tree_of r) s.course.timeline (Override path text))
+command_same r s (Release path) none = answered_same r s (Release path) (session.refusal r s.course (Release path)) _ (session.timeline_by (tree_of r) s.course.timeline (Release path))
+command_same r s Undo none = answered_same r s Undo (session.refusal r s.course Undo) _ (session.timeline_by (tree_of r) s.course.timeline Undo)
+command_same r s Redo none = answered_same r s Redo (session.refusal r s.course Redo) _ (session.timeline_by (tree_of r) s.course.timeline Redo)
+command_same r s (Get path) none = answered_same r s (Get path) (session.refusal r s.course (Get path)) _ None
+command_same r s (Final path) none = answered_same r s (Final path) (session.refusal r s.course (Final path)) _ None
+command_same r s (Stamp path) none = absurd cc
+command_same r s Touched none = absurd cc
+command_same r s (Missing path) none = ap {A = List ℕ} {B = Step} (λ text. record { text = text; state = open_at (plain_standing s) }) (missing_same r s.course (slot_found r s.course.timeline.now path))
+command_same r s (Watch name path) none = put_same s name (slot_found r s.course.timeline.now path)
+command_same r s (Unwatch name path) none = cut_same s name (slot_found r s.course.timeline.now path)
+command_same r s Quit none = refl
 
 -- ---- lines
 
-heard_same : (r : Rules) (c : Course) (said : Heard) → is_of_counts said ≡ false → step_heard r (plain_course c) said ≡ plain_step (step_heard r c said)
-heard_same r c nothing none = refl
-heard_same r c bad_line none = refl
-heard_same r c (command asked) none = command_same r c asked none
+heard_same : (r : Rules) (s : Standing) (heard : Heard) → is_of_counts heard ≡ false → step_heard r (plain_standing s) heard ≡ plain_step (step_heard r s heard)
+heard_same r s nothing none = refl
+heard_same r s bad_line none = refl
+heard_same r s (command asked) none = command_same r s asked none
 
-line_same : (r : Rules) (c : Course) (line : ScriptLine) → line_asks_counts line ≡ false → step_line r (plain_course c) line ≡ plain_step (step_line r c line)
-line_same r c (whole line) none = heard_same r c (heard_in line) none
-line_same r c long none = refl
+line_same : (r : Rules) (s : Standing) (line : ScriptLine) → line_asks_counts line ≡ false → step_line r (plain_standing s) line ≡ plain_step (step_line r s line)
+line_same r s (whole line) none = heard_same r s (heard_in line) none
+line_same r s long none = refl
 
 step_same : (r : Rules) (s : State) (line : ScriptLine) → line_asks_counts line ≡ false → step r (plain_state s) line ≡ plain_step (step r s line)
 step_same r s line none = by s.over
   where
-    by : (over : Bool) → (if over then record { text = []; state = plain_state s } else step_line r (plain_course s.course) line) ≡ plain_step (if over then record { text = []; state = s } else step_line r s.course line)
+    by : (over : Bool) → (if over then record { text = []; state = plain_state s } else step_line r (plain_standing s.standing) line) ≡ plain_step (if over then record { text = []; state = s } else step_line r s.standing line)
     by true = refl
-    by false = line_same r s.course line none
+    by false = line_same r s.standing line none
 
 lines_same : (r : Rules) (s : State) (lines : List ScriptLine) → All (λ l. line_asks_counts l ≡ false) lines
     → (replies r (plain_state s) lines ≡ replies r s lines) × (state_after r (plain_state s) lines ≡ plain_state (state_after r s lines))
@@ -123,24 +151,24 @@ answered_ask_none script none =
           first_ask_none (ended_lines (take script_limit script)) go_on.0 (subst (All (λ l. line_asks_counts l ≡ false)) all none)
     ]
 
-script_same : (r : Rules) (script : List ℕ) → AsksNoCounts script → defined_script r true script ≡ defined_script r false script
+script_same : (r : Rules) (relations : List Named) (script : List ℕ) → AsksNoCounts script → defined_script r (run_terms Incremental relations) script ≡ defined_script r (run_terms Plain relations) script
 unfolding defined_script
-script_same r script none =
-    let same = lines_same r (at_start r true) (answered_lines script) (answered_ask_none script none) in
-    let over : (state_after r (at_start r false) (answered_lines script)).over ≡ (state_after r (at_start r true) (answered_lines script)).over = ap (λ (s : State). s.over) same.1 in
+script_same r relations script none =
+    let same = lines_same r (at_start r (run_terms Incremental relations)) (answered_lines script) (answered_ask_none script none) in
+    let over : (state_after r (at_start r (run_terms Plain relations)) (answered_lines script)).over ≡ (state_after r (at_start r (run_terms Incremental relations)) (answered_lines script)).over = ap (λ (s : State). s.over) same.1 in
     λ i. record {
       text = sym same.0 i;
       status = if nat_le (length script) script_limit then Done else if sym over i then Done else ScriptTooLong;
     }
 
-to_other : (a b : Bool) (script : List ℕ) → ((r : Rules) → defined_script r a script ≡ defined_script r b script) → (content : Content) (checks : List Named) (d : Defined)
+to_other : (a b : Terms) (script : List ℕ) → ((r : Rules) → defined_script r a script ≡ defined_script r b script) → (content : Content) (checks : List Named) (d : Defined)
     → RunsTo content checks a script d → RunsTo content checks b script d
 to_other a b script same content checks d (inl (r, is, to)) = inl (r, is, to ∙ same r)
 to_other a b script same content checks d (inr refused) = inr refused
 
 pub engines_agree : EnginesAgree
-engines_agree script none = record {
-  defined = λ r. script_same r script none;
-  there = to_other true false script (λ r. script_same r script none);
-  back = to_other false true script (λ r. sym (script_same r script none));
+engines_agree relations script none = record {
+  defined = λ r. script_same r relations script none;
+  there = to_other (run_terms Incremental relations) (run_terms Plain relations) script (λ r. script_same r relations script none);
+  back = to_other (run_terms Plain relations) (run_terms Incremental relations) script (λ r. sym (script_same r relations script none));
 }

@@ -14,16 +14,16 @@ use Rattle.graph_session.specs.Rules.{Rules}
 use Rattle.interview.specs.declared.built_in.BuiltIn.{BuiltIn}
 use Rattle.interview.specs.declared.status.Status.{Status}
 use Rattle.interview.specs.declared.status.Status.TheVariants.{Done, DictionaryRefused, Usage, FetchFault, ReadFault, WriteFault, ScriptTooLong, NoMemory}
-use Rattle.interview.specs.Words.{IsRun, IsCheck, Fetches, HasNoForm, Origin, file, keeps_stamps, program}
+use Rattle.interview.specs.Words.{IsRun, IsCheck, Fetches, HasNoForm, Origin, file, program}
 use Rattle.interview.specs.Dictionaries.{Content, Gives, HasFault, IsAcceptedAs, MayGive}
-use Rattle.interview.specs.Interview.{Defined, answered_lines, defined_fault, defined_script, ChecksTo, RunsTo, TablesHoldIn}
+use Rattle.interview.specs.Interview.{run_terms, Defined, answered_lines, defined_fault, defined_script, ChecksTo, RunsTo, TablesHoldIn}
 use Rattle.interview.specs.Devices.{Rises, SentNothing, SentPart, SentWhole}
 use Rattle.interview.specs.ScriptEnds.{ReadThrough, ScriptEndsAs}
 use Rattle.interview.specs.Ends.{Given, Did, AcceptedRun, RefusedRun, Check, CheckEndsAs, ComesTo, KnownRun, KnownCheck, Ends, EndedAs, EndedByCheck, EndedByRun, FetchFailed, Interviewed, IsOneOf, Unread}
-use Rattle.interview.specs.Replies.{at_start, state_after}
+use Rattle.session_lines.specs.Stepping.{at_start, state_after}
 use Rattle.interview.proofs.CheckLaws.{one_end}
 use Rattle.interview.proofs.DictionaryLaws.{accepted_is_faultless, brought_is_faultless, brought_is_of_year, brought_unfetched, known_content, none_fetched, not_both, nothing_missing, one_run, rules_are_accepted, same_check, same_engine, same_origin, tables_hold}
-use Rattle.interview.proofs.FinalLineLaws.{final_lines_stay}
+use Rattle.session_lines.proofs.FinalLineLaws.{final_lines_stay}
 use Rattle.interview.proofs.ScriptLaws.{ended_are_answered, part_by_lines, part_of}
 
 module _ (given : Given) where
@@ -36,7 +36,7 @@ module _ (given : Given) where
     pub asked : IsRun given.words origin
     pub gave : MayGive given.told origin content
     pub read : MayBe given.left script
-    pub ran : RunsTo content given.checks (keeps_stamps asked.engine) script outcome
+    pub ran : RunsTo content given.checks (run_terms asked.engine given.relations) script outcome
 
   -- ---- what is told
 
@@ -50,9 +50,9 @@ module _ (given : Given) where
       let content = content_is k.origin k.content k.asked k.gives run.origin run.content run.asked run.gave in
       let engine = same_engine given.words run.origin k.origin run.asked k.asked in
       let script = subst (λ (o : Option (List ℕ)). MayBe o run.script) k.read run.read in
-      subst (λ e. RunsTo k.content given.checks (keeps_stamps e) k.script run.outcome) engine
-      (subst (λ c. RunsTo c given.checks (keeps_stamps run.asked.engine) k.script run.outcome) content
-      (subst (λ l. RunsTo run.content given.checks (keeps_stamps run.asked.engine) l run.outcome) (sym script) run.ran))
+      subst (λ e. RunsTo k.content given.checks (run_terms e given.relations) k.script run.outcome) engine
+      (subst (λ c. RunsTo c given.checks (run_terms run.asked.engine given.relations) k.script run.outcome) content
+      (subst (λ l. RunsTo run.content given.checks (run_terms run.asked.engine given.relations) l run.outcome) (sym script) run.ran))
 
   -- what the name of a check may hold is what is told of it
   check_holds : (name other may : List ℕ) (told : Told) → IsCheck given.words name → given.told name ≡ told → IsCheck given.words other → MayHold (given.told other) may → MayHold told may
@@ -88,7 +88,7 @@ module _ (given : Given) where
       origin = over.origin;
       content = over.content;
       script = script;
-      outcome = defined_script over.rules (keeps_stamps over.asked.engine) script;
+      outcome = defined_script over.rules (run_terms over.asked.engine given.relations) script;
       asked = over.asked;
       gave = over.gave;
       read = subst (λ l. MayBe l script) same_left read;
@@ -101,7 +101,7 @@ module _ (given : Given) where
         let some = may_go_on given.left given.left [] (consumes_none given.left) in
         record { origin = run.origin; content = run.content; script = some.0; outcome = defined_fault run.fault; asked = run.asked; gave = run.gave; read = some.1; ran = inr (run.fault, run.is_fault, refl) }
 
-    run_ended : (over : AcceptedRun given) (status : Status) → ScriptEndsAs over.rules (keeps_stamps over.asked.engine) did.script status → RunEndsAs status
+    run_ended : (over : AcceptedRun given) (status : Status) → ScriptEndsAs over.rules (run_terms over.asked.engine given.relations) did.script status → RunEndsAs status
     run_ended over status ends = (accepted_run over ends.0 ends.1, ends.2, ends.3)
 
     done_ended : Ends given did Done → EndsAs Done
@@ -172,7 +172,7 @@ module _ (given : Given) where
         let run = ends.0 in
         let same = content_is o content asked gives run.origin run.content run.asked run.gave in
         let outcome : run.outcome ≡ defined_fault fault =
-        one_run run.content given.checks (keeps_stamps run.asked.engine) run.script run.outcome (defined_fault fault) run.ran (inr (fault, subst (λ c. HasFault given.checks c fault) (sym same) is, refl)) in
+        one_run run.content given.checks (run_terms run.asked.engine given.relations) run.script run.outcome (defined_fault fault) run.ran (inr (fault, subst (λ c. HasFault given.checks c fault) (sym same) is, refl)) in
         subst (EndedAs did status) outcome (sym ends.1, ends.2)
 
     refused : (status : Status) → Ends given did status → (o : Origin) (content : Content) (fault : DictFault) → IsRun given.words o → Gives given.told o content → HasFault given.checks content fault
@@ -237,7 +237,7 @@ module _ (given : Given) where
     whole_part text whole same wrote = part_of did.script.taken text [] whole (sym same ∙ sym (append-nil text)) wrote
 
     run_part : (k : KnownRun given) (d : Defined) → ComesTo given k d → (run : Run) → SentPart did.script.taken run.outcome.text → SentPart did.script.taken d.text
-    run_part k d runs run part = subst (λ (e : Defined). SentPart did.script.taken e.text) (one_run k.content given.checks (keeps_stamps k.asked.engine) k.script run.outcome d (known_run k run) runs) part
+    run_part k d runs run part = subst (λ (e : Defined). SentPart did.script.taken e.text) (one_run k.content given.checks (run_terms k.asked.engine given.relations) k.script run.outcome d (known_run k run) runs) part
 
     ended_part : (status : Status) → EndsAs status → (k : KnownRun given) (d : Defined) → ComesTo given k d → SentPart did.script.taken d.text
     ended_part status ends k d runs = let run = ran status ends k.origin k.asked in run_part k d runs run.0 (whole_part run.0.outcome.text run.0.outcome.text refl run.2)
@@ -251,7 +251,7 @@ module _ (given : Given) where
         let r = ends.0.rules in
         let more = may_go_on did.script.left.before did.script.left.after read.bytes read.read in
         let answers = ended_are_answered read.bytes more.0 read.within in
-        run_part k d runs (accepted_run ends.0 (read.bytes ++ more.0) more.1) (part_by_lines r (keeps_stamps ends.0.asked.engine) (read.bytes ++ more.0) (ended_lines read.bytes) answers.0 answers.1 did.script.taken read.replied)
+        run_part k d runs (accepted_run ends.0 (read.bytes ++ more.0) more.1) (part_by_lines r (run_terms ends.0.asked.engine given.relations) (read.bytes ++ more.0) (ended_lines read.bytes) answers.0 answers.1 did.script.taken read.replied)
     prefix WriteFault (inl ends) k d runs = run_part k d runs (accepted_run ends.0 ends.1.1.0 ends.1.1.1) ends.1.1.2
     prefix WriteFault (inr (rose, inl part)) k d runs = absurd (part.0.0 k.origin k.asked)
     prefix WriteFault (inr (rose, inr (inl part))) k d runs = run_part k d runs (refused_run part.0) part.1
@@ -263,17 +263,17 @@ module _ (given : Given) where
         let r = ends.0.rules in
         let lines = answered_lines first.script in
         run_part k d runs (accepted_run ends.0 first.script first.read)
-        (part_by_lines r (keeps_stamps ends.0.asked.engine) first.script (take first.count lines) (drop first.count lines) (sym (take-append-drop first.count lines)) did.script.taken first.replied)
+        (part_by_lines r (run_terms ends.0.asked.engine given.relations) first.script (take first.count lines) (drop first.count lines) (sym (take-append-drop first.count lines)) did.script.taken first.replied)
     prefix DictionaryRefused ends k d runs = ended_part DictionaryRefused (refused_ended ends) k d runs
 
     -- ---- how far a script was read
 
-    read_through : (status : Status) → Ends given did status → (k : KnownRun given) → status ≡ Done → (r : Rules) × IsAcceptedAs given.checks k.content r × ReadThrough r (keeps_stamps k.asked.engine) did.script
+    read_through : (status : Status) → Ends given did status → (k : KnownRun given) → status ≡ Done → (r : Rules) × IsAcceptedAs given.checks k.content r × ReadThrough r (run_terms k.asked.engine given.relations) did.script
     read_through Done (inl ends) k is =
         let over = ends.0 in
         let same = content_is k.origin k.content k.asked k.gives over.origin over.content over.asked over.gave in
         let engine = same_engine given.words over.origin k.origin over.asked k.asked in
-        (over.rules, subst (λ c. IsAcceptedAs given.checks c over.rules) same over.is_accepted, subst (λ e. ReadThrough over.rules (keeps_stamps e) did.script) engine ends.1.1)
+        (over.rules, subst (λ c. IsAcceptedAs given.checks c over.rules) same over.is_accepted, subst (λ e. ReadThrough over.rules (run_terms e given.relations) did.script) engine ends.1.1)
     read_through Done (inr ends) k is = absurd (not_both given.words k.origin ends.0.name k.asked ends.0.asked)
     read_through status ends k is = absurd cc
 
@@ -291,11 +291,11 @@ module _ (given : Given) where
         absurd (brought_is_faultless given.told given.checks b run.content run.fault (subst (λ q. MayGive given.told q run.content) (same_origin given.words run.origin (program b) run.asked asked) run.gave) run.is_fault)
     built_in DictionaryRefused (inr ends) b asked = absurd (not_both given.words (program b) ends.0.name asked ends.0.asked)
 
-    tables : (b : BuiltIn) → IsRun given.words (program b) → (over : AcceptedRun given) (lines : List ScriptLine) → TablesHoldIn b over.rules (state_after over.rules (at_start over.rules (keeps_stamps over.asked.engine)) lines).course
+    tables : (b : BuiltIn) → IsRun given.words (program b) → (over : AcceptedRun given) (lines : List ScriptLine) → TablesHoldIn b over.rules (state_after over.rules (at_start over.rules (run_terms over.asked.engine given.relations)) lines).standing
     tables b asked over lines h is earned other =
         let gave = subst (λ q. MayGive given.told q over.content) (same_origin given.words over.origin (program b) over.asked asked) over.gave in
         let of_year = brought_is_of_year given.told given.checks b over.content over.rules gave over.is_accepted in
-        tables_hold b over.rules.accepted of_year (state_after over.rules (at_start over.rules (keeps_stamps over.asked.engine)) lines).course.timeline.now h is earned other
+        tables_hold b over.rules.accepted of_year (state_after over.rules (at_start over.rules (run_terms over.asked.engine given.relations)) lines).standing.course.timeline.now h is earned other
 
     -- ---- checks
 
@@ -383,7 +383,7 @@ module _ (given : Given) where
       complete = complete status ends;
       prefix = prefix status ends;
       read_through = read_through status ends;
-      finals = λ over lines. let accepted = rules_are_accepted given.checks over.content over.rules over.is_accepted in final_lines_stay accepted.0 over.rules accepted.1 (state_after over.rules (at_start over.rules (keeps_stamps over.asked.engine)) lines).course;
+      finals = λ over lines. let accepted = rules_are_accepted given.checks over.content over.rules over.is_accepted in final_lines_stay accepted.0 over.rules accepted.1 (state_after over.rules (at_start over.rules (run_terms over.asked.engine given.relations)) lines).standing;
       tables = tables;
       check_unread = check_unread status ends;
       check_refused = check_refused status ends;

@@ -3,10 +3,6 @@ pub mod DictionaryLaws
 pub mod EndLaws
 pub mod EngineLaws
 pub mod ExactLaws
-pub mod FinalLineLaws
-pub mod AnsweringLaws
-pub mod PrintLaws
 pub mod ScriptLaws
 pub mod StepLaws
 pub mod TopLaws
-pub mod UndoLaws

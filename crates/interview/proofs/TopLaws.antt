@@ -1,5 +1,5 @@
 -- Words, the dictionary, and the ends of an interview from those of its steps.
-use Rattle.std.proofs.Common.{◌≡◌, ℕ, ◌<◌, ◌≤◌, Bool, List, [], ◌∷◌, length, get_or, Option, String, string_bytes, inl, inr, sym, ap, subst, ◌∙◌, arith}
+use Rattle.std.proofs.Common.{◌≡◌, ℕ, ◌<◌, ◌≤◌, List, [], ◌∷◌, length, get_or, Option, String, string_bytes, inl, inr, sym, ap, subst, ◌∙◌, arith}
 use Rattle.std.specs.declared.alloc.Global.{Global}
 use Rattle.std.specs.Io.KnownBytes.{Appends, Keeps}
 use Rattle.std.proofs.KnownBytes.{Keeps-refl}
@@ -8,11 +8,12 @@ use Rattle.fg_io.proofs.SentLaws.{appends_none}
 use Rattle.fg_io.proofs.ConsumedLaws.{consumes_none, may_go_on}
 use Rattle.dictionary.specs.declared.fault.DictFault.{DictFault}
 use Rattle.graph_session.specs.Rules.{Rules}
+use Rattle.session_lines.specs.Stepping.{Terms}
 use Rattle.interview.specs.declared.status.Status.{Status}
 use Rattle.interview.specs.declared.status.Status.TheVariants.{Done, DictionaryRefused, FetchFault, ReadFault, WriteFault, ScriptTooLong, NoMemory}
-use Rattle.interview.specs.Words.{IsRun, Origin, file, keeps_stamps, program, texts}
+use Rattle.interview.specs.Words.{IsRun, Origin, file, program, texts}
 use Rattle.interview.specs.Dictionaries.{Content, HasFault, IsAcceptedAs, MayGive}
-use Rattle.interview.specs.Interview.{defined_fault}
+use Rattle.interview.specs.Interview.{run_terms, defined_fault}
 use Rattle.interview.specs.ScriptEnds.{ScriptDid, ScriptEnds}
 use Rattle.interview.specs.StepEnds.{EndedBy, NotFetched, NotObtained}
 use Rattle.interview.specs.Ends.{Given, Did, AcceptedRun, RefusedRun, Ends, Unread}
@@ -32,8 +33,8 @@ two_words (x ∷ y ∷ z ∷ words) a b first low high is_a is_b same = absurd (
 some_script : (left : Option (List ℕ)) → (script : List ℕ) × MayBe left script
 some_script left = may_go_on left left [] (consumes_none left)
 
-pub not_begun : (r : Rules) (stamps : Bool) (did : ScriptDid) → did.taken.before ≡ did.taken.after → ScriptEnds r stamps did NoMemory
-not_begun r stamps did still = record {
+pub not_begun : (r : Rules) (terms : Terms) (did : ScriptDid) → did.taken.before ≡ did.taken.after → ScriptEnds r terms did NoMemory
+not_begun r terms did still = record {
   script = (some_script did.left.before).0;
   read = (some_script did.left.before).1;
   count = 0;
@@ -69,7 +70,7 @@ module _ (given : Given) (did : Did) (origin : Origin) (asked : IsRun given.word
       abbrev over : AcceptedRun given
       over = record { origin = origin; content = content; rules = r; asked = asked; gave = gave; is_accepted = is }
 
-      pub ends_run : (status : Status) → ScriptEnds r (keeps_stamps asked.engine) did.script status → Ends given did status
+      pub ends_run : (status : Status) → ScriptEnds r (run_terms asked.engine given.relations) did.script status → Ends given did status
       ends_run Done ends = inl (over, ends)
       ends_run ReadFault ends = (over, ends)
       ends_run WriteFault ends = inl (over, ends)

@@ -12,16 +12,19 @@ use Rattle.interview.specs.declared.status.Status.TheVariants.{Done, DictionaryR
 use Rattle.interview.specs.Devices.{Counted, Rises, SentNothing, SentPart, SentWhole}
 use Rattle.interview.specs.declared.built_in.BuiltIn.{BuiltIn}
 use Rattle.interview.specs.Dictionaries.{Content, Gives, HasFault, IsAcceptedAs, MayGive}
-use Rattle.interview.specs.Interview.{ChecksTo, Defined, FinalsHold, RunsTo, TablesHoldIn, defined_fault, usage}
-use Rattle.interview.specs.Replies.{at_start, state_after}
+use Rattle.session_lines.specs.Laws.{FinalsHold}
+use Rattle.interview.specs.Interview.{ChecksTo, Defined, RunsTo, TablesHoldIn, defined_fault, run_terms, usage}
+use Rattle.session_lines.specs.Stepping.{at_start, state_after}
 use Rattle.interview.specs.ScriptEnds.{ReadThrough, ScriptDid, ScriptEnds}
-use Rattle.interview.specs.Words.{Fetches, HasNoForm, IsCheck, IsRun, Origin, keeps_stamps, program, texts}
+use Rattle.interview.specs.Words.{Fetches, HasNoForm, IsCheck, IsRun, Origin, program, texts}
 
 -- what an interview is given
 pub record Given : Type 0 where
   pub words : List (List ℕ)
   -- the checks that a dictionary may name
   pub checks : List Named
+  -- the relations by which slots may be watched
+  pub relations : List Named
   pub told : List ℕ → Told
   pub left : Option (List ℕ)
 
@@ -31,8 +34,8 @@ pub record Did : Type 0 where
   pub failed_name : List ℕ
   pub script : ScriptDid
 
-abbrev pub given_by : List (String Global) → List Named → (List ℕ → Told) → Option (List ℕ) → Given
-given_by words checks told left = record { words = texts words; checks = checks; told = told; left = left }
+abbrev pub given_by : List (String Global) → List Named → List Named → (List ℕ → Told) → Option (List ℕ) → Given
+given_by words checks relations told left = record { words = texts words; checks = checks; relations = relations; told = told; left = left }
 
 -- by the faults of the shelf, before and after, and the name of the last
 abbrev pub did_by : (unfetched unfetched_now : ℕ) → List ℕ → ScriptDid → Did
@@ -58,7 +61,7 @@ pub record AcceptedRun (given : Given) : Type 0 where
 
 -- its script ended with this status
 abbrev pub AcceptedEnds : Given → Did → Status → Type 0
-AcceptedEnds given did status = (over : AcceptedRun given) × ScriptEnds over.rules (keeps_stamps over.asked.engine) did.script status
+AcceptedEnds given did status = (over : AcceptedRun given) × ScriptEnds over.rules (run_terms over.asked.engine given.relations) did.script status
 
 -- a dictionary that it may have been given to run, with its fault
 pub record RefusedRun (given : Given) : Type 0 where
@@ -136,7 +139,7 @@ EndedByCheck given did status bytes = (d : Defined) × ChecksTo bytes given.chec
 
 -- what a run that is told comes to
 abbrev pub ComesTo : (given : Given) → KnownRun given → Defined → Type 0
-ComesTo given run d = RunsTo run.content given.checks (keeps_stamps run.asked.engine) run.script d
+ComesTo given run d = RunsTo run.content given.checks (run_terms run.asked.engine given.relations) run.script d
 
 -- it ended as a run that is told comes to, with the text whole
 abbrev pub EndedByRun : (given : Given) → KnownRun given → Did → Status → Type 0
@@ -167,13 +170,13 @@ pub record Interviewed (given : Given) (did : Did) (status : Status) : Type 0 wh
   -- whatever the status: what a run that is told wrote is a prefix of the defined text
   pub prefix : (run : KnownRun given) (d : Defined) → ComesTo given run d → SentPart did.script.taken d.text
   -- with status 0 the dictionary is accepted, and the script was read to its end, or to that of the piece in which `quit` ended
-  pub read_through : (run : KnownRun given) → status ≡ Done → (r : Rules) × IsAcceptedAs given.checks run.content r × ReadThrough r (keeps_stamps run.asked.engine) did.script
+  pub read_through : (run : KnownRun given) → status ≡ Done → (r : Rules) × IsAcceptedAs given.checks run.content r × ReadThrough r (run_terms run.asked.engine given.relations) did.script
   -- over a dictionary that is accepted, wherever the lines of a script lead: what is printed as final there is complete, and stays
   -- so under every extension of the answers
-  pub finals : (over : AcceptedRun given) (lines : List ScriptLine) → FinalsHold over.rules (state_after over.rules (at_start over.rules (keeps_stamps over.asked.engine)) lines).course
+  pub finals : (over : AcceptedRun given) (lines : List ScriptLine) → FinalsHold over.rules (state_after over.rules (at_start over.rules (run_terms over.asked.engine given.relations)) lines).standing
   -- over the dictionary of a year, wherever the lines of a script lead: what its facts are worth there is what the written tables
   -- of the year give
-  pub tables : (b : BuiltIn) → IsRun given.words (program b) → (over : AcceptedRun given) (lines : List ScriptLine) → TablesHoldIn b over.rules (state_after over.rules (at_start over.rules (keeps_stamps over.asked.engine)) lines).course
+  pub tables : (b : BuiltIn) → IsRun given.words (program b) → (over : AcceptedRun given) (lines : List ScriptLine) → TablesHoldIn b over.rules (state_after over.rules (at_start over.rules (run_terms over.asked.engine given.relations)) lines).standing
   -- a check reads nothing of the script
   pub check_unread : (name : List ℕ) → IsCheck given.words name → Unread did
   -- a check of a dictionary that is told and has this fault ends with its line

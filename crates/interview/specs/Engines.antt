@@ -7,7 +7,8 @@ use Rattle.script_lines.specs.declared.command.Command.TheVariants as commands
 use Rattle.dictionary.specs.Accepted.{Named}
 use Rattle.graph_session.specs.Rules.{Rules}
 use Rattle.interview.specs.Dictionaries.{Content}
-use Rattle.interview.specs.Interview.{Defined, RunsTo, defined_script}
+use Rattle.interview.specs.Interview.{Defined, RunsTo, defined_script, run_terms}
+use Rattle.interview.specs.declared.words.Engine.TheVariants.{Incremental, Plain}
 
 -- the commands that ask for what an engine counts
 abbrev pub asks_counts : Command → Bool
@@ -31,11 +32,12 @@ AsksNoCounts script = All (λ l. line_asks_counts l ≡ false) (script_lines scr
 
 -- ---- a law
 
--- what such a script comes to is the same with stamps and without: `run` and `run-plain` have one defined interview
-pub record AgreeOn (script : List ℕ) : Type 0 where
-  pub defined : (r : Rules) → defined_script r true script ≡ defined_script r false script
-  pub there : (content : Content) (checks : List Named) (d : Defined) → RunsTo content checks true script d → RunsTo content checks false script d
-  pub back : (content : Content) (checks : List Named) (d : Defined) → RunsTo content checks false script d → RunsTo content checks true script d
+-- What such a script comes to is the same with stamps and without, whatever may be watched: `run` and `run-plain` have one defined
+-- interview.
+pub record AgreeOn (relations : List Named) (script : List ℕ) : Type 0 where
+  pub defined : (r : Rules) → defined_script r (run_terms Incremental relations) script ≡ defined_script r (run_terms Plain relations) script
+  pub there : (content : Content) (checks : List Named) (d : Defined) → RunsTo content checks (run_terms Incremental relations) script d → RunsTo content checks (run_terms Plain relations) script d
+  pub back : (content : Content) (checks : List Named) (d : Defined) → RunsTo content checks (run_terms Plain relations) script d → RunsTo content checks (run_terms Incremental relations) script d
 
 abbrev pub EnginesAgree : Type 0
-EnginesAgree = (script : List ℕ) → AsksNoCounts script → AgreeOn script
+EnginesAgree = (relations : List Named) (script : List ℕ) → AsksNoCounts script → AgreeOn relations script

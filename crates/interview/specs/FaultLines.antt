@@ -2,7 +2,7 @@
 use Rattle.std.specs.Prelude.{ℕ, Bool, true, false, List, [], ◌++◌, codes}
 use Rattle.dictionary.specs.declared.fault.DictFault.{DictFault}
 use Rattle.dictionary.specs.declared.fault.DictFault.TheVariants.{TooLong, NotJson, Shape, TooMany, TooDeep, BadPath, DuplicatePath, NoCollection, UnknownPath, WrongPlace, UnknownCheck, IllTyped, BadLimit, Cycle, NoMemory}
-use Rattle.interview.specs.Replies.{line_with, numbered}
+use Rattle.session_lines.specs.Replies.{line_with, numbered}
 
 -- want of memory is no fault of a dictionary
 abbrev pub is_memory : DictFault → Bool

@@ -1,12 +1,10 @@
-pub mod Checks
+pub mod Tables
 pub mod Codes
-pub mod Replies
 pub mod Words
 pub mod Dictionaries
 pub mod FaultLines
 pub mod Interview
 pub mod Engines
-pub mod Answering
 pub mod SoFar
 pub mod Devices
 pub mod ScriptEnds

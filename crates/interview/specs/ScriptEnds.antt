@@ -1,15 +1,17 @@
--- How a script over an accepted dictionary ends, with stamps or without: for each status, what was written, what was read, and why
--- it came.
-use Rattle.std.specs.Prelude.{◌≡◌, ◌⊎◌, ℕ, ◌≤◌, Bool, true, false, List, ◌++◌, length, take, Option}
+-- How a script over an accepted dictionary ends, on the terms on which it began: for each status, what was written, what was read,
+-- and why it came.
+use Rattle.std.specs.Prelude.{◌≡◌, ◌⊎◌, ℕ, ◌≤◌, true, false, List, ◌++◌, length, take, Option}
 use Rattle.std.specs.Io.KnownBytes.{Consumes, IsAtEnd}
 use Rattle.fg_io.specs.Outside.{MayBe}
 use Rattle.script_lines.specs.Lines.{ended_lines}
 use Rattle.graph_session.specs.Rules.{Rules}
+use Rattle.session_lines.specs.declared.progress.Progress.{Progress}
+use Rattle.session_lines.specs.declared.progress.Progress.TheVariants.{More, Over, Unwritten, OutOfMemory}
 use Rattle.interview.specs.declared.status.Status.{Status}
 use Rattle.interview.specs.declared.status.Status.TheVariants.{Done, ReadFault, WriteFault, ScriptTooLong, NoMemory}
 use Rattle.interview.specs.Devices.{Counted, Rises, Stream, SentPart, SentWhole}
 use Rattle.interview.specs.Interview.{answered_lines, defined_script, script_limit}
-use Rattle.interview.specs.Replies.{at_start, replies, state_after}
+use Rattle.session_lines.specs.Stepping.{Terms, at_start, replies, state_after}
 
 -- what a script did to its source and its sink
 pub record ScriptDid : Type 0 where
@@ -28,28 +30,28 @@ script_did left left_now taken taken_now unread unread_now unwritten unwritten_n
 }
 
 -- the replies to these first lines, whole
-abbrev pub RepliedTo : Rules → Bool → ScriptDid → List ℕ → Type 0
-RepliedTo r stamps did bytes = SentWhole did.taken (replies r (at_start r stamps) (ended_lines bytes))
+abbrev pub RepliedTo : Rules → Terms → ScriptDid → List ℕ → Type 0
+RepliedTo r terms did bytes = SentWhole did.taken (replies r (at_start r terms) (ended_lines bytes))
 
 -- it ended as defined for some script that it may have been given, with the text whole
-abbrev pub ScriptEndsAs : Rules → Bool → ScriptDid → Status → Type 0
-ScriptEndsAs r stamps did status =
-    (script : List ℕ) × MayBe did.left.before script × ((defined_script r stamps script).status ≡ status) × SentWhole did.taken (defined_script r stamps script).text
+abbrev pub ScriptEndsAs : Rules → Terms → ScriptDid → Status → Type 0
+ScriptEndsAs r terms did status =
+    (script : List ℕ) × MayBe did.left.before script × ((defined_script r terms script).status ≡ status) × SentWhole did.taken (defined_script r terms script).text
 
 -- a read failed behind these bytes, in which no `quit` ended: the lines that ended in them were answered, and no other
-pub record ReadSoFar (r : Rules) (stamps : Bool) (did : ScriptDid) : Type 0 where
+pub record ReadSoFar (r : Rules) (terms : Terms) (did : ScriptDid) : Type 0 where
   pub bytes : List ℕ
   pub read : Consumes did.left.before did.left.after bytes
   pub within : length bytes ≤ script_limit
-  pub unquit : (state_after r (at_start r stamps) (ended_lines bytes)).over ≡ false
-  pub replied : RepliedTo r stamps did bytes
+  pub unquit : (state_after r (at_start r terms) (ended_lines bytes)).over ≡ false
+  pub replied : RepliedTo r terms did bytes
 
 -- whole replies to the first of the lines that are answered, of a script that it may have been given
-pub record RepliedFirst (r : Rules) (stamps : Bool) (did : ScriptDid) : Type 0 where
+pub record RepliedFirst (r : Rules) (terms : Terms) (did : ScriptDid) : Type 0 where
   pub script : List ℕ
   pub read : MayBe did.left.before script
   pub count : ℕ
-  pub replied : SentWhole did.taken (replies r (at_start r stamps) (take count (answered_lines script)))
+  pub replied : SentWhole did.taken (replies r (at_start r terms) (take count (answered_lines script)))
 
 -- it was read, and nothing is left of it
 abbrev pub ReadToEnd : ScriptDid → Type 0
@@ -60,21 +62,28 @@ abbrev pub piece_limit : ℕ
 piece_limit = 4096
 
 -- it was read as far as the piece in which `quit` ended: in what was read before, none did
-pub record ReadToQuit (r : Rules) (stamps : Bool) (did : ScriptDid) : Type 0 where
+pub record ReadToQuit (r : Rules) (terms : Terms) (did : ScriptDid) : Type 0 where
   pub earlier : List ℕ
   pub piece : List ℕ
   pub read : Consumes did.left.before did.left.after (earlier ++ piece)
   pub short : length piece ≤ piece_limit
-  pub unquit : (state_after r (at_start r stamps) (ended_lines earlier)).over ≡ false
-  pub quit : (state_after r (at_start r stamps) (ended_lines (earlier ++ piece))).over ≡ true
+  pub unquit : (state_after r (at_start r terms) (ended_lines earlier)).over ≡ false
+  pub quit : (state_after r (at_start r terms) (ended_lines (earlier ++ piece))).over ≡ true
 
-abbrev pub ReadThrough : Rules → Bool → ScriptDid → Type 0
-ReadThrough r stamps did = ReadToEnd did ⊎ ReadToQuit r stamps did
+abbrev pub ReadThrough : Rules → Terms → ScriptDid → Type 0
+ReadThrough r terms did = ReadToEnd did ⊎ ReadToQuit r terms did
 
-abbrev pub ScriptEnds : Rules → Bool → ScriptDid → Status → Type 0
-ScriptEnds r stamps did Done = ScriptEndsAs r stamps did Done × ReadThrough r stamps did
-ScriptEnds r stamps did ScriptTooLong = ScriptEndsAs r stamps did ScriptTooLong
-ScriptEnds r stamps did ReadFault = Rises did.source × ReadSoFar r stamps did
-ScriptEnds r stamps did WriteFault = Rises did.sink × ((script : List ℕ) × MayBe did.left.before script × SentPart did.taken (defined_script r stamps script).text)
-ScriptEnds r stamps did NoMemory = RepliedFirst r stamps did
-ScriptEnds r stamps did other = ⊥
+abbrev pub ScriptEnds : Rules → Terms → ScriptDid → Status → Type 0
+ScriptEnds r terms did Done = ScriptEndsAs r terms did Done × ReadThrough r terms did
+ScriptEnds r terms did ScriptTooLong = ScriptEndsAs r terms did ScriptTooLong
+ScriptEnds r terms did ReadFault = Rises did.source × ReadSoFar r terms did
+ScriptEnds r terms did WriteFault = Rises did.sink × ((script : List ℕ) × MayBe did.left.before script × SentPart did.taken (defined_script r terms script).text)
+ScriptEnds r terms did NoMemory = RepliedFirst r terms did
+ScriptEnds r terms did other = ⊥
+
+-- the status of a script that ends behind its last line
+abbrev pub ending_of : Progress → Status
+ending_of More = Done
+ending_of Over = Done
+ending_of Unwritten = WriteFault
+ending_of OutOfMemory = NoMemory

@@ -1,10 +1,10 @@
 // The line that says what a dictionary came to. Nothing here takes memory.
 ghost use Rattle.std.specs.Prelude.{◌≡◌, ◌+◌, ◌≤◌, [], ◌++◌, length, codes};
 ghost use Rattle.interview.specs.FaultLines.{accepted_line, at_fact, fault_line, fault_name as name_of_fault, fault_place};
-ghost use Rattle.interview.specs.Replies.{numbered};
+ghost use Rattle.session_lines.specs.Replies.{numbered};
 
-use crate::numbered::print_numbered;
 use dictionary::DictFault;
+use session_lines::print_numbered;
 use value_text::Line;
 
 fn fault_name(fault: DictFault) -> &'static str

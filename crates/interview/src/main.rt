@@ -4,25 +4,24 @@
 ghost use Rattle.std.specs.Prelude.{◌≡◌, ℕ, ◌+◌, ◌-◌, ◌≤◌, ◌<◌, ◌^◌, Bool, List, [], ◌∷◌, ◌++◌, ◌⊎◌, IfOk, OnErr, OnOk, length, map};
 ghost use Rattle.text_checks.specs.Checks.{IsCode, check_says};
 ghost use Rattle.std.specs.Process.{exit_status};
-ghost use Rattle.interview.specs.Checks.{standard_checks};
+ghost use Rattle.fact_watch.specs.Says.{watch_says, IsCode as IsRelation};
+ghost use Rattle.interview.specs.Tables.{standard_checks, standard_relations};
 ghost use Rattle.interview.specs.Codes.{code_of};
 
-mod answering;
 mod built_in;
 mod checking;
 mod ending;
 mod fault_line;
 mod fetching;
 mod laws;
-mod numbered;
 mod obtaining;
-mod reply;
 mod script;
 mod status;
 mod top;
 mod words;
 
 use fact_paths::Name;
+use fact_watch::{Says, WatchTable, changed, completed, lost, raised};
 use fg_io::{FolderShelf, StdinSource, StdoutSink};
 pub use status::Status;
 use std::alloc::{AllocError, Global};
@@ -30,6 +29,7 @@ use std::io::ErrorKind;
 use std::process::ExitCode;
 use std::{env, io};
 use text_checks::{CheckTable, Test, digits, nine_digits, printable_ascii, trimmed};
+use three_state::Res;
 pub use top::interview;
 
 #[cfg(test)]
@@ -76,15 +76,103 @@ fn add_check(
     }
 }
 
-// Runs the program over the words, the current folder and the standard streams. A dictionary may name the four checks.
-fn run_with(rt: HostRuntime, alloc: Global, words: &[String], checks: &CheckTable) -> Status
-    requires { map {B = List ℕ × ℕ} (λ c. (c.name, c.code)) checks.now.checks.items
+// Adds a relation under another name than those that are there, so that nothing but want of memory hinders it.
+fn add_relation(
+    alloc: Global,
+    table: &mut WatchTable,
+    name: &str,
+    code: u32,
+    says: Says,
+) -> Result<(), AllocError>
+    requires room { length table.old.relations.items < 2 ^ 32 - 1 }
+    requires code { IsRelation code }
+    requires callable { (old : _) (new : _) → Says.pre says old new }
+    requires says { (old : _) (new : _) (answer : Bool) → Says.post says old new answer
+        → answer ≡ watch_says code old.now new.now }
+    ensures added { OnOk result
+        (map {B = List ℕ × ℕ} (λ r. (r.name, r.code)) table.new.relations.items
+        ≡ map {B = List ℕ × ℕ} (λ r. (r.name, r.code)) table.old.relations.items
+        ++ (name.now, code) ∷ []) }
+    ensures count { OnOk result
+        (length table.new.relations.items ≡ length table.old.relations.items + 1) }
+{
+    let Ok(name) = Name::read(alloc, name) else {
+        return Err(AllocError);
+    };
+    match table.add(name, code, says) {
+        Ok(()) => Ok(()),
+        Err(_) => Err(AllocError),
+    }
+}
+
+// Runs the program over the words, the current folder and the standard streams. A dictionary may name the four checks,
+// and a slot may be watched by the four relations.
+fn run_with(
+    rt: HostRuntime,
+    alloc: Global,
+    words: &[String],
+    checks: &CheckTable,
+    table: &WatchTable,
+) -> Status
+    requires checks { map {B = List ℕ × ℕ} (λ c. (c.name, c.code)) checks.now.checks.items
         ≡ standard_checks }
+    requires relations { map {B = List ℕ × ℕ} (λ r. (r.name, r.code)) table.now.relations.items
+        ≡ standard_relations }
 {
     let mut shelf = FolderShelf::new(rt, alloc);
     let mut script = StdinSource::new(rt.stdin());
     let mut out = StdoutSink::new(rt.stdout());
-    interview(alloc, words, checks, &mut shelf, &mut script, &mut out)
+    interview(
+        alloc,
+        words,
+        checks,
+        table,
+        &mut shelf,
+        &mut script,
+        &mut out,
+    )
+}
+
+// Makes the table of relations, and runs the program.
+fn run_checked(
+    rt: HostRuntime,
+    alloc: Global,
+    words: &[String],
+    checks: &CheckTable,
+) -> Result<Status, AllocError>
+    requires { map {B = List ℕ × ℕ} (λ c. (c.name, c.code)) checks.now.checks.items
+        ≡ standard_checks }
+{
+    let mut table = WatchTable::new(alloc);
+    let says = Box::new(
+        alloc,
+        |old: &Res, new: &Res| -> bool
+            ensures { result ≡ watch_says 1 old.now new.now }
+        { changed(old, new) },
+    )?;
+    add_relation(alloc, &mut table, "changed", 1, says)?;
+    let says = Box::new(
+        alloc,
+        |old: &Res, new: &Res| -> bool
+            ensures { result ≡ watch_says 2 old.now new.now }
+        { completed(old, new) },
+    )?;
+    add_relation(alloc, &mut table, "completed", 2, says)?;
+    let says = Box::new(
+        alloc,
+        |old: &Res, new: &Res| -> bool
+            ensures { result ≡ watch_says 3 old.now new.now }
+        { lost(old, new) },
+    )?;
+    add_relation(alloc, &mut table, "lost", 3, says)?;
+    let says = Box::new(
+        alloc,
+        |old: &Res, new: &Res| -> bool
+            ensures { result ≡ watch_says 4 old.now new.now }
+        { raised(old, new) },
+    )?;
+    add_relation(alloc, &mut table, "raised", 4, says)?;
+    Ok(run_with(rt, alloc, words, checks, &table))
 }
 
 // Makes the table of checks, and runs the program.
@@ -92,15 +180,35 @@ fn run(rt: HostRuntime) -> io::Result<Status> {
     let alloc = rt.alloc();
     let words = given_words(&rt)?;
     let mut checks = CheckTable::new(alloc);
-    let check = Box::new(alloc, |text: &str| digits(text))?;
+    let check = Box::new(
+        alloc,
+        |text: &str| -> bool
+            ensures { result ≡ check_says 1 text.now }
+        { digits(text) },
+    )?;
     add_check(alloc, &mut checks, "digits", 1, check)?;
-    let check = Box::new(alloc, |text: &str| nine_digits(text))?;
+    let check = Box::new(
+        alloc,
+        |text: &str| -> bool
+            ensures { result ≡ check_says 2 text.now }
+        { nine_digits(text) },
+    )?;
     add_check(alloc, &mut checks, "nine-digits", 2, check)?;
-    let check = Box::new(alloc, |text: &str| printable_ascii(text))?;
+    let check = Box::new(
+        alloc,
+        |text: &str| -> bool
+            ensures { result ≡ check_says 3 text.now }
+        { printable_ascii(text) },
+    )?;
     add_check(alloc, &mut checks, "printable-ascii", 3, check)?;
-    let check = Box::new(alloc, |text: &str| trimmed(text))?;
+    let check = Box::new(
+        alloc,
+        |text: &str| -> bool
+            ensures { result ≡ check_says 4 text.now }
+        { trimmed(text) },
+    )?;
     add_check(alloc, &mut checks, "trimmed", 4, check)?;
-    Ok(run_with(rt, alloc, &words, &checks))
+    Ok(run_checked(rt, alloc, &words, &checks)?)
 }
 
 // Ends with the exit status of this ending. Standard error names it from 3 on.

@@ -1,5 +1,6 @@
 // The program over fakes in memory, which fail at a call or give the script in pieces: what no run of the program shows.
 use crate::{Status, interview};
+use fact_watch::WatchTable;
 use fg_io::{MemShelf, MemSink, MemSource};
 use std::alloc::{AllocError, Global};
 use std::process::Abort;
@@ -56,7 +57,16 @@ fn end_of(
     let mut source = MemSource::new(script, devices.pulled, vec![in alloc; devices.pull_fails]?);
     let mut sink = MemSink::new(alloc, devices.put, vec![in alloc; devices.put_fails]?)?;
     let checks = CheckTable::new(alloc);
-    let status = interview(alloc, &words, &checks, &mut shelf, &mut source, &mut sink);
+    let table = WatchTable::new(alloc);
+    let status = interview(
+        alloc,
+        &words,
+        &checks,
+        &table,
+        &mut shelf,
+        &mut source,
+        &mut sink,
+    );
     let text = sink.bytes().to_vec(alloc)?;
     Ok(Ended { status, text })
 }

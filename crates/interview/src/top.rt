@@ -4,7 +4,9 @@ ghost use Rattle.graph_session.specs.Refusals.{SameChecks};
 ghost use Rattle.graph_session.specs.Rules.{rules};
 ghost use Rattle.interview.specs.ScriptEnds.{ScriptEnds, script_did};
 ghost use Rattle.interview.specs.Ends.{Ends, Interviewed, did_by, given_by};
-ghost use Rattle.interview.specs.Words.{IsRun, keeps_stamps, program, texts};
+ghost use Rattle.answers.specs.Answered.{start};
+ghost use Rattle.interview.specs.Interview.{run_terms};
+ghost use Rattle.interview.specs.Words.{IsRun, program, texts};
 ghost use Rattle.interview.specs.declared.built_in.BuiltIn.{BuiltIn};
 
 use crate::Status;
@@ -16,6 +18,7 @@ use crate::script::run;
 use crate::words::{Engine, Form, form_of};
 use dictionary::{Dictionary, FactEngine};
 use fact_values::NoMemory;
+use fact_watch::WatchTable;
 use fg_io::{Shelf, Sink, Source};
 use graph_session::Session;
 use plain_table::PlainTable;
@@ -31,6 +34,7 @@ fn run_over<E: FactEngine, L: Ledger, S: Source, K: Sink>(
     alloc: Global,
     dictionary: Dictionary,
     checks: &CheckTable,
+    table: &WatchTable,
     script: &mut S,
     out: &mut K,
     blank: Blank,
@@ -40,14 +44,15 @@ fn run_over<E: FactEngine, L: Ledger, S: Source, K: Sink>(
     requires some { 0 < blank.parts }
     requires same_checks { SameChecks (rules dictionary)
         (map {B = List ℕ × ℕ} (λ c. (c.name, c.code)) checks.now.checks.items) }
-    ensures ends { ScriptEnds (rules dictionary) E.STAMPS
+    ensures ends { ScriptEnds (rules dictionary)
+        (record { answers = start; stamps = E.STAMPS; relations = (map {B = List ℕ × ℕ} (λ r. (r.name, r.code)) table.now.relations.items) })
         (script_did (S.left script.old) (S.left script.new) (K.taken out.old) (K.taken out.new)
         (S.faults script.old) (S.faults script.new) (K.faults out.old) (K.faults out.new))
         result }
 {
     let mut steps = Steps::<L>::new(blank);
     match Session::<E>::new(alloc, dictionary) {
-        Ok(mut session) => run(alloc, &mut session, checks, script, out, &mut steps),
+        Ok(mut session) => run(alloc, &mut session, table, checks, script, out, &mut steps),
         Err(NoMemory) => Status::NoMemory,
     }
 }
@@ -58,25 +63,35 @@ fn run_by<S: Source, K: Sink>(
     engine: Engine,
     dictionary: Dictionary,
     checks: &CheckTable,
+    table: &WatchTable,
     script: &mut S,
     out: &mut K,
 ) -> Status
     requires { SameChecks (rules dictionary)
         (map {B = List ℕ × ℕ} (λ c. (c.name, c.code)) checks.now.checks.items) }
-    ensures ends { ScriptEnds (rules dictionary) (keeps_stamps engine)
+    ensures ends { ScriptEnds (rules dictionary) (run_terms engine (map {B = List ℕ × ℕ} (λ r. (r.name, r.code)) table.now.relations.items))
         (script_did (S.left script.old) (S.left script.new) (K.taken out.old) (K.taken out.new)
         (S.faults script.old) (S.faults script.new) (K.faults out.old) (K.faults out.new))
         result }
 {
     match engine {
         Engine::Incremental => {
-            run_over::<Recalc, Brand, S, K>(alloc, dictionary, checks, script, out, Blank::new(1))
+            run_over::<Recalc, Brand, S, K>(
+                alloc,
+                dictionary,
+                checks,
+                table,
+                script,
+                out,
+                Blank::new(1),
+            )
         }
         Engine::Plain => {
             run_over::<PlainTable, Brand, S, K>(
                 alloc,
                 dictionary,
                 checks,
+                table,
                 script,
                 out,
                 Blank::new(1),
@@ -89,12 +104,14 @@ fn attempt<H: Shelf, S: Source, K: Sink>(
     alloc: Global,
     words: &[String],
     checks: &CheckTable,
+    table: &WatchTable,
     shelf: &mut H,
     script: &mut S,
     out: &mut K,
 ) -> Status
     ensures ends { Ends
         (given_by words.now (map {B = List ℕ × ℕ} (λ c. (c.name, c.code)) checks.now.checks.items)
+        (map {B = List ℕ × ℕ} (λ r. (r.name, r.code)) table.now.relations.items)
         (H.told shelf.old) (S.left script.old))
         (did_by (H.faults shelf.old) (H.faults shelf.new) (H.failed_name shelf.new)
         (script_did (S.left script.old) (S.left script.new) (K.taken out.old) (K.taken out.new)
@@ -105,7 +122,7 @@ fn attempt<H: Shelf, S: Source, K: Sink>(
     match form_of(words) {
         Form::Run(engine, origin) => match obtain(alloc, origin, checks, shelf) {
             Ok(Fetched::Accepted(dictionary)) => {
-                run_by(alloc, engine, dictionary, checks, script, out)
+                run_by(alloc, engine, dictionary, checks, table, script, out)
             }
             Ok(Fetched::Refused(fault)) => end_by_fault(out, fault),
             Err(status) => status,
@@ -116,7 +133,7 @@ fn attempt<H: Shelf, S: Source, K: Sink>(
 }
 
 /// Does all that the program does, over the words of its command line, without the program's name. The checks are those
-/// that a dictionary may name.
+/// that a dictionary may name, and the relations of the table those by which a slot may be watched.
 ///
 /// A dictionary has at most 8,388,608 bytes, a script at most 67,108,864. For a dictionary of the program's own nothing is
 /// fetched: the shelf is as it was.
@@ -124,12 +141,14 @@ pub fn interview<H: Shelf, S: Source, K: Sink>(
     alloc: Global,
     words: &[String],
     checks: &CheckTable,
+    table: &WatchTable,
     shelf: &mut H,
     script: &mut S,
     out: &mut K,
 ) -> Status
     ensures ends { Interviewed
         (given_by words.now (map {B = List ℕ × ℕ} (λ c. (c.name, c.code)) checks.now.checks.items)
+        (map {B = List ℕ × ℕ} (λ r. (r.name, r.code)) table.now.relations.items)
         (H.told shelf.old) (S.left script.old))
         (did_by (H.faults shelf.old) (H.faults shelf.new) (H.failed_name shelf.new)
         (script_did (S.left script.old) (S.left script.new) (K.taken out.old) (K.taken out.new)
@@ -137,5 +156,5 @@ pub fn interview<H: Shelf, S: Source, K: Sink>(
         result }
     ensures unfetched { (b : BuiltIn) → IsRun (texts words.now) (program b) → shelf.new ≡ shelf.old }
 {
-    attempt(alloc, words, checks, shelf, script, out)
+    attempt(alloc, words, checks, table, shelf, script, out)
 }

@@ -7,4 +7,4 @@ pub returns : goal.returns
 returns g c = record { ends = not_begun _ _ _ refl }
 
 pub returns-in-Ok : goal.returns-in-Ok
-returns-in-Ok g c = record { ends = rw (ap (λ (s : SessionView). s.dict) c.in-Ok.ensures) at c.run.ensures.ends }
+returns-in-Ok g c = record { ends = rw (ap (λ (s : SessionView). s.dict) c.in-Ok.ensures, ap (λ (s : SessionView). s.timeline.now) c.in-Ok.ensures) at c.run.ensures.ends }

@@ -1,0 +1,159 @@
+-- A script on its way: steps, lines, and pieces of bytes one behind another.
+use Rattle.std.proofs.Common.{◌≡◌, ℕ, ◌-◌, ◌≤◌, Bool, true, false, List, [], ◌∷◌, ◌++◌, length, take, drop, Option, refl, sym, ap, subst, ◌∙◌, arith, append_assoc, length-drop}
+use Rattle.std.specs.Prelude.{Ok, if◌then◌else◌}
+use Rattle.std.proofs.lemmas.List.{append-nil, take_all}
+use Rattle.fg_io.specs.Sent.{Sent}
+use Rattle.fg_io.proofs.SentLaws.{sent_none, sent_on}
+use Rattle.script_lines.specs.Lines.{ScriptLine, script_lines, ready_lines}
+use Rattle.script_lines.specs.declared.command.Command.{Command}
+use Rattle.script_lines.specs.declared.command.Command.TheVariants as commands
+use Rattle.script_lines.specs.declared.lines.Ready.{Ready}
+use Rattle.graph_session.specs.Refusals.{Refused}
+use Rattle.graph_session.specs.Rules.{Rules}
+use Rattle.graph_session.specs.Run.{is_memory}
+use Rattle.graph_session.specs.SessionView.{Course}
+use Rattle.graph_session.specs.Step as session
+use Rattle.graph_session.specs.declared.reply.Refusal.{Refusal}
+use Rattle.graph_session.specs.declared.reply.Reply.{Reply}
+use Rattle.graph_session.proofs.RunLaws.{refused_step}
+use Rattle.session_lines.specs.declared.progress.Progress.{Progress}
+use Rattle.session_lines.specs.declared.progress.Progress.TheVariants.{More, Over, Unwritten, OutOfMemory}
+use Rattle.session_lines.specs.Answering.{AnsweredAs, EndsOrWrites, RefusedAs, RepliedLines, SteppedAs, ToldAs, WrittenAs}
+use Rattle.session_lines.specs.Replies.{line_with, refusal_text, reply_text}
+use Rattle.session_lines.specs.Stepping.{Standing, State, Step, fired, is_change, is_known, open_at, replies, said, state_after, step, step_answered, step_command, step_known, step_writing}
+
+-- ---- one command
+
+-- the session answers a command that is its own
+pub known_step : (r : Rules) (s : Standing) (asked : Command) → is_known asked ≡ true → step_command r s asked ≡ step_known r s asked
+known_step r s (commands.Missing path) known = absurd cc
+known_step r s (commands.Watch name path) known = absurd cc
+known_step r s (commands.Unwatch name path) known = absurd cc
+known_step r s commands.Quit known = absurd cc
+known_step r s asked known = refl
+
+-- what is said behind a change, and behind what is none
+pub said_of_change : (r : Rules) (s : Standing) (asked : Command) (text : List ℕ) (after : Course) → is_change asked ≡ true → said r s asked text after ≡ line_with text ++ fired r s after
+said_of_change r s asked text after change = ap (λ b. if b then line_with text ++ fired r s after else line_with text) change
+
+pub said_of_question : (r : Rules) (s : Standing) (asked : Command) (text : List ℕ) (after : Course) → is_change asked ≡ false → said r s asked text after ≡ line_with text
+said_of_question r s asked text after none = ap (λ b. if b then line_with text ++ fired r s after else line_with text) none
+
+module _ (taken taken_now : Option (List ℕ)) (faults faults_now : ℕ) where
+  -- a text that was written is a step
+  pub text_step : (text : List ℕ) (after : Standing) (progress : Progress) → WrittenAs taken taken_now faults faults_now text progress
+      → SteppedAs taken taken_now faults faults_now (record { text = text; state = open_at after }) after progress
+  text_step text after More written = (written, refl)
+  text_step text after Over written = absurd written
+  text_step text after Unwritten written = written
+  text_step text after OutOfMemory written = absurd written
+
+  -- so is one for which there may have been no memory
+  pub told_step : (text : List ℕ) (after : Standing) (progress : Progress) → ToldAs taken taken_now faults faults_now text progress
+      → SteppedAs taken taken_now faults faults_now (record { text = text; state = open_at after }) after progress
+  told_step text after More told = (told, refl)
+  told_step text after Over told = absurd told
+  told_step text after Unwritten told = told
+  told_step text after OutOfMemory told = told
+
+  pub written_told : (text : List ℕ) (progress : Progress) → WrittenAs taken taken_now faults faults_now text progress → ToldAs taken taken_now faults faults_now text progress
+  written_told text More written = written
+  written_told text Over written = absurd written
+  written_told text Unwritten written = written
+  written_told text OutOfMemory written = absurd written
+
+  -- a refusal is told
+  pub refusal_told : (text : List ℕ) (memory : Bool) (progress : Progress) → EndsOrWrites memory taken taken_now faults faults_now text progress → ToldAs taken taken_now faults faults_now text progress
+  refusal_told text true progress ended = subst (ToldAs taken taken_now faults faults_now text) (sym ended.1) ended.0
+  refusal_told text false progress written = written_told text progress written
+
+  -- and it is a step, where it isn't want of memory
+  pub ends_or_steps : (made : Step) (s : Standing) (text : List ℕ) (memory : Bool) (progress : Progress) → (memory ≡ false → made ≡ step_writing s text)
+      → EndsOrWrites memory taken taken_now faults faults_now (line_with text) progress → SteppedAs taken taken_now faults faults_now made s progress
+  ends_or_steps made s text true progress is ended = subst (SteppedAs taken taken_now faults faults_now made s) (sym ended.1) ended.0
+  ends_or_steps made s text false progress is written =
+      subst (λ k. SteppedAs taken taken_now faults faults_now k s progress) (sym (is refl)) (text_step (line_with text) s progress written)
+
+  -- the session's reply, with what is said behind it
+  pub reply_steps : (r : Rules) (s : Standing) (d : Course) (asked : Command) (reply : Reply) (text : List ℕ) (progress : Progress) → session.step r s.course asked ≡ Ok (reply, d)
+      → said r s asked (reply_text r d reply) d ≡ text → WrittenAs taken taken_now faults faults_now text progress → SteppedAs taken taken_now faults faults_now (step_known r s asked) (record s { course = d }) progress
+  reply_steps r s d asked reply text progress is same written =
+      subst (λ k. SteppedAs taken taken_now faults faults_now k (record s { course = d }) progress)
+      (sym (ap (step_answered r s asked) is ∙ ap {A = List ℕ} {B = Step} (λ t. record { text = t; state = open_at (record s { course = d }) }) same))
+      (text_step text (record s { course = d }) progress written)
+
+  -- and its refusal
+  pub refusal_steps : (r : Rules) (s : Standing) (d : Course) (asked : Command) (refusal : Refusal) (progress : Progress) → Refused refusal (session.refusal r s.course asked) → d ≡ s.course
+      → RefusedAs taken taken_now faults faults_now refusal progress → SteppedAs taken taken_now faults faults_now (step_known r s asked) (record s { course = d }) progress
+  refusal_steps r s d asked refusal progress refused same written =
+      subst (λ (e : Course). SteppedAs taken taken_now faults faults_now (step_known r s asked) (record s { course = e }) progress) (sym same)
+      (ends_or_steps (step_known r s asked) s (refusal_text refusal) (is_memory refusal) progress
+      (λ known. ap (step_answered r s asked) (refused_step r s.course asked refusal known refused)) written)
+
+module _ (taken taken_now : Option (List ℕ)) (faults faults_now : ℕ) (here_now : Standing) where
+  -- a step is the answer to its line
+  pub answers_line : (r : Rules) (here : Standing) (line : ScriptLine) (made : Step) (progress : Progress) → step r (open_at here) line ≡ made → SteppedAs taken taken_now faults faults_now made here_now progress
+      → AnsweredAs r taken taken_now faults faults_now here here_now (line ∷ []) progress
+  answers_line r here line made progress is stepped = cases progress (subst (λ s. SteppedAs taken taken_now faults faults_now s here_now progress) (sym is) stepped)
+    where
+      text : (step r (open_at here) line).text ≡ replies r (open_at here) (line ∷ [])
+      text = sym (append-nil (step r (open_at here) line).text)
+
+      cases : (progress : Progress) → SteppedAs taken taken_now faults faults_now (step r (open_at here) line) here_now progress → AnsweredAs r taken taken_now faults faults_now here here_now (line ∷ []) progress
+      cases More stepped = (subst (λ t. Sent taken taken_now t []) text stepped.0, stepped.1)
+      cases Over stepped =
+          let silent : [] ≡ replies r (open_at here) (line ∷ []) = sym stepped.1 ∙ text in
+          (subst (λ t. Sent taken taken_now t []) silent (subst (λ now. Sent taken now [] []) (sym stepped.0) (sent_none taken [])), stepped.2)
+      cases Unwritten stepped = (stepped.0, (stepped.1.0, subst (λ t. Sent taken taken_now t stepped.1.0) text stepped.1.1))
+      cases OutOfMemory stepped = stepped
+
+-- ---- replies to lines one behind another
+
+pub replies-append : (r : Rules) (state : State) (xs ys : List ScriptLine) → replies r state (xs ++ ys) ≡ replies r state xs ++ replies r (state_after r state xs) ys
+replies-append r state [] ys = refl
+replies-append r state (x ∷ xs) ys =
+    ap (λ l. (step r state x).text ++ l) (replies-append r (step r state x).state xs ys) ∙ sym (append_assoc (step r state x).text _ _)
+
+pub state_after-append : (r : Rules) (state : State) (xs ys : List ScriptLine) → state_after r state (xs ++ ys) ≡ state_after r (state_after r state xs) ys
+state_after-append r state [] ys = refl
+state_after-append r state (x ∷ xs) ys = state_after-append r (step r state x).state xs ys
+
+-- ---- a piece on its way
+
+pub replied_none : (r : Rules) (taken : Option (List ℕ)) (here : Standing) (held bytes : List ℕ) → RepliedLines r taken taken here held bytes (open_at here) held bytes []
+replied_none r taken here held bytes = record { lines = []; cut = λ more. refl; wrote = sent_none taken []; left = refl }
+
+-- one more line was cut from what stands behind, and its reply was written as far as `rest`
+pub replied_line : (r : Rules) (a b c : Option (List ℕ)) (here here_now : Standing) (held bytes held_now behind held_next next rest : List ℕ) (lines : List ScriptLine) (state_next : State)
+    → RepliedLines r a b here held bytes (open_at here_now) held_now behind []
+    → ((more : List ℕ) → script_lines (held_now ++ (behind ++ more)) ≡ lines ++ script_lines (held_next ++ (next ++ more)))
+    → Sent b c (replies r (open_at here_now) lines) rest → state_after r (open_at here_now) lines ≡ state_next
+    → RepliedLines r a c here held bytes state_next held_next next rest
+replied_line r a b c here here_now held bytes held_now behind held_next next rest lines state_next replied stream wrote left = record {
+  lines = replied.lines ++ lines;
+  cut = λ more. replied.cut more ∙ ap (λ l. replied.lines ++ l) (stream more) ∙ sym (append_assoc replied.lines lines (script_lines (held_next ++ (next ++ more))));
+  wrote = subst (λ t. Sent a c t rest) (text lines) (sent_on a b c (replies r (open_at here) replied.lines) (replies r (open_at here_now) lines) rest replied.wrote wrote);
+  left = state_after-append r (open_at here) replied.lines lines ∙ ap (λ s. state_after r s lines) replied.left ∙ left;
+}
+  where
+    text : (lines : List ScriptLine) → replies r (open_at here) replied.lines ++ replies r (open_at here_now) lines ≡ replies r (open_at here) (replied.lines ++ lines)
+    text lines =
+        ap (λ s. replies r (open_at here) replied.lines ++ replies r s lines) (sym replied.left)
+        ∙ sym (replies-append r (open_at here) replied.lines lines)
+
+-- the same, of the line that was fed and answered
+pub replied_fed : (r r_now : Rules) (a b c : Option (List ℕ)) (here here_now : Standing) (held bytes held_now behind held_next next rest line line_now : List ℕ) (ready : Ready) (n : ℕ) (state_next : State)
+    → RepliedLines r a b here held bytes (open_at here_now) held_now behind [] → r_now ≡ r
+    → ((more : List ℕ) → script_lines (held_now ++ (behind ++ more)) ≡ ready_lines ready line ++ script_lines (held_next ++ (drop n behind ++ more)))
+    → line_now ≡ line → next ≡ drop n behind
+    → Sent b c (replies r_now (open_at here_now) (ready_lines ready line_now)) rest → state_after r_now (open_at here_now) (ready_lines ready line_now) ≡ state_next
+    → RepliedLines r a c here held bytes state_next held_next next rest
+replied_fed r r_now a b c here here_now held bytes held_now behind held_next next rest line line_now ready n state_next replied same_rules stream same_line is_next wrote left =
+    replied_line r a b c here here_now held bytes held_now behind held_next next rest (ready_lines ready line) state_next replied
+    (λ more. stream more ∙ ap (λ l. ready_lines ready line ++ script_lines (held_next ++ (l ++ more))) (sym is_next))
+    (subst (λ t. Sent b c t rest) (λ i. replies (same_rules i) (open_at here_now) (ready_lines ready (same_line i))) wrote)
+    ((λ i. state_after (sym same_rules i) (open_at here_now) (ready_lines ready (sym same_line i))) ∙ left)
+
+-- what the slice behind n bytes is
+pub behind_is : (bytes : List ℕ) (n m : ℕ) → length bytes - n ≤ m → take m (drop n bytes) ≡ drop n bytes
+behind_is bytes n m all = take_all m (drop n bytes) (omega (arith, length-drop n bytes))

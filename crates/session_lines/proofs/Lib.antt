@@ -1,0 +1,9 @@
+pub mod AnsweringLaws
+pub mod FinalLineLaws
+pub mod FiringLaws
+pub mod ListingLaws
+pub mod PrintLaws
+pub mod ProgressLaws
+pub mod StepLaws
+pub mod UndoLaws
+pub mod WatchLaws

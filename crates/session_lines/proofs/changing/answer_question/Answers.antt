@@ -1,0 +1,25 @@
+use Rattle.std.proofs.Common.{ℕ, List, map, ap}
+use Rattle.graph_session.specs.Rules.{rules}
+use Rattle.graph_session.specs.SessionView.{course}
+use Rattle.graph_session.proofs.RunLaws.{step_count}
+use Rattle.session_lines.specs.Answering.{standing_of}
+use Rattle.session_lines.specs.Replies.{line_with, reply_text}
+use Rattle.session_lines.proofs.AnsweringLaws.{refusal_steps, reply_steps, said_of_question}
+use Rattle.session_lines.proofs.changing.answer_question.Goals as goal
+
+pub returns-in-Ok-clause-stepped : goal.returns-in-Ok-clause-stepped
+returns-in-Ok-clause-stepped g c =
+    let r = rules c.args.session.now.dict in
+    let here = standing_of c.args.session.now (map {B = List ℕ × ℕ} (λ r. (r.name, r.code)) c.args.table.now.relations.items) c.args.watches.now in
+    let after = course c.command.new.self in
+    reply_steps _ _ _ _ r here after c.args.command.now c.in-Ok.reply (line_with (reply_text r after c.in-Ok.reply)) c.write_reply.result
+    c.in-Ok.ensures.ok (said_of_question r here c.args.command.now (reply_text r after c.in-Ok.reply) after c.requires.is_none)
+    (rw c.command.ensures.dict at c.write_reply.ensures.written)
+
+pub returns-in-Ok-clause-few : goal.returns-in-Ok-clause-few
+returns-in-Ok-clause-few g c = step_count (rules c.args.session.now.dict) (course c.args.session.now) c.args.command.now c.in-Ok.reply (course c.command.new.self) c.in-Ok.ensures.ok
+
+pub returns-in-Err-clause-stepped : goal.returns-in-Err-clause-stepped
+returns-in-Err-clause-stepped g c =
+    refusal_steps _ _ _ _ (rules c.args.session.now.dict) (standing_of c.args.session.now (map {B = List ℕ × ℕ} (λ r. (r.name, r.code)) c.args.table.now.relations.items) c.args.watches.now) (course c.command.new.self) c.args.command.now c.in-Err.refusal c.write_refusal.result
+    c.in-Err.ensures.refused (ap course c.in-Err.ensures.unchanged) c.write_refusal.ensures.written

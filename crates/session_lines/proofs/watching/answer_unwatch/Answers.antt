@@ -1,0 +1,19 @@
+use Rattle.std.proofs.Common.{ℕ, List, map, sym, ap, subst}
+use Rattle.graph_session.specs.Run.{is_memory}
+use Rattle.session_lines.specs.Answering.{SteppedAs, standing_of}
+use Rattle.session_lines.specs.Replies.{refusal_text}
+use Rattle.session_lines.specs.Stepping.{cut_watch}
+use Rattle.session_lines.proofs.AnsweringLaws.{ends_or_steps}
+use Rattle.session_lines.proofs.watching.answer_unwatch.Goals as goal
+
+pub returns-in-Ok-clause-stepped : goal.returns-in-Ok-clause-stepped
+returns-in-Ok-clause-stepped g c =
+    let here = standing_of c.args.session.now (map {B = List ℕ × ℕ} (λ r. (r.name, r.code)) c.args.table.now.relations.items) c.args.watches.now in
+    subst (λ o. SteppedAs (g.K.Sink.taken c.args.out.now) (g.K.Sink.taken c.unwatch_slot.new.out) (g.K.Sink.faults c.args.out.now) (g.K.Sink.faults c.unwatch_slot.new.out) (cut_watch here c.args.name.now o) (standing_of c.args.session.now (map {B = List ℕ × ℕ} (λ r. (r.name, r.code)) c.args.table.now.relations.items) c.unwatch_slot.new.watches) c.unwatch_slot.result)
+    c.in-Ok.ensures.found c.unwatch_slot.ensures.stepped
+
+pub returns-in-Err-clause-stepped : goal.returns-in-Err-clause-stepped
+returns-in-Err-clause-stepped g c =
+    let here = standing_of c.args.session.now (map {B = List ℕ × ℕ} (λ r. (r.name, r.code)) c.args.table.now.relations.items) c.args.watches.now in
+    ends_or_steps _ _ _ _ _ here (refusal_text c.in-Err.refusal) (is_memory c.in-Err.refusal) c.write_refusal.result
+    (λ _. ap (cut_watch here c.args.name.now) (sym c.in-Err.ensures.found)) c.write_refusal.ensures.written

@@ -1,0 +1,6 @@
+pub mod Replies
+pub mod Firing
+pub mod Stepping
+pub mod Steps
+pub mod Laws
+pub mod Answering

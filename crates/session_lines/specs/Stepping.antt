@@ -1,0 +1,176 @@
+-- What a line of a script answers, and what it leaves.
+use Rattle.std.specs.Prelude.{ℕ, Bool, true, false, List, [], ◌∷◌, ◌++◌, codes, Option, Some, None, Result, Ok, Err, if◌then◌else◌}
+use Rattle.fact_paths.specs.declared.slot_path.SlotPath.{SlotPath}
+use Rattle.fact_values.specs.declared.slot.Slot.{Slot}
+use Rattle.text_checks.specs.Places.{place_of}
+use Rattle.script_lines.specs.Joined.{joined}
+use Rattle.script_lines.specs.Lines.{ScriptLine, whole, long}
+use Rattle.script_lines.specs.Reading.{Heard, nothing, bad_line, command, heard_in}
+use Rattle.script_lines.specs.declared.command.Command.{Command}
+use Rattle.script_lines.specs.declared.command.Command.TheVariants as commands
+use Rattle.answers.specs.Answered.{Answered}
+use Rattle.dictionary.specs.Accepted.{Named}
+use Rattle.dictionary.specs.Plain.{plain}
+use Rattle.graph_session.specs.Refusals.{slot_found}
+use Rattle.graph_session.specs.Rules.{Rules, tree_of}
+use Rattle.graph_session.specs.SessionView.{Course, begun}
+use Rattle.graph_session.specs.Step as session
+use Rattle.graph_session.specs.declared.reply.Refusal.{Refusal}
+use Rattle.graph_session.specs.declared.reply.Reply.{Reply}
+use Rattle.fact_watch.specs.Refusals.{pair_of, unwatch_refusal, watch_refusal}
+use Rattle.fact_watch.specs.Watching.{Pair, without}
+use Rattle.fact_watch.specs.declared.commands.WatchRefusal.{WatchRefusal}
+use Rattle.session_lines.specs.Firing.{firing_lines}
+use Rattle.session_lines.specs.Replies.{bad_line_text, line_with, long_line_text, missing_lines, refusal_text, reply_text, watch_refusal_text}
+
+-- ---- where a script stands
+
+-- the course of the session, and its watches: the relations by which a slot may be watched, by name and code, and the pairs of a
+-- relation's place and a slot that are watched, in the order in which they were put
+pub record Standing : Type 0 where
+  pub course : Course
+  pub relations : List Named
+  pub watched : List Pair
+
+-- and whether the script has been quit
+pub record State : Type 0 where
+  pub standing : Standing
+  pub over : Bool
+
+abbrev pub open_at : Standing → State
+open_at s = record { standing = s; over = false }
+
+abbrev pub quit_at : Standing → State
+quit_at s = record { standing = s; over = true }
+
+pub record Step : Type 0 where
+  pub text : List ℕ
+  pub state : State
+
+-- a line is written, and nothing changes
+abbrev pub step_writing : Standing → List ℕ → Step
+step_writing s text = record { text = line_with text; state = open_at s }
+
+-- ---- commands of the session
+
+-- those that move along the answers, where they are accepted
+abbrev pub is_change : Command → Bool
+is_change (commands.Set path text) = true
+is_change (commands.Clear path) = true
+is_change (commands.OpenList path) = true
+is_change (commands.Add path) = true
+is_change (commands.Remove path member) = true
+is_change (commands.Override path text) = true
+is_change (commands.Release path) = true
+is_change commands.Undo = true
+is_change commands.Redo = true
+is_change _ = false
+
+-- the lines of the watches that fire between two courses
+abbrev pub fired : Rules → Standing → Course → List ℕ
+fired r s after = joined (firing_lines (tree_of r) s.relations (plain r.accepted s.course.timeline.now) (plain r.accepted after.timeline.now) s.watched)
+
+-- behind the reply of a change stand the watches that fire
+abbrev pub said : Rules → Standing → Command → List ℕ → Course → List ℕ
+said r s asked text after = if is_change asked then line_with text ++ fired r s after else line_with text
+
+-- a session's reply and the course that it leaves, or its refusal
+-- its step reads a value by `value_at`: value_text's law `reads_spelled_values` ties that to what the text spells
+abbrev pub step_answered : Rules → Standing → Command → Result (Reply × Course) Refusal → Step
+step_answered r s asked (Ok answer) = record {
+  text = said r s asked (reply_text r answer.1 answer.0) answer.1;
+  state = open_at (record s { course = answer.1 });
+}
+step_answered r s asked (Err refusal) = step_writing s (refusal_text refusal)
+
+abbrev pub step_known : Rules → Standing → Command → Step
+step_known r s asked = step_answered r s asked (session.step r s.course asked)
+
+-- ---- commands that the session itself doesn't answer
+
+-- what is missing of a slot, or why the slot isn't there
+abbrev pub missing_answer : Rules → Course → Result Slot Refusal → List ℕ
+missing_answer r c (Ok slot) = joined (missing_lines r c slot)
+missing_answer r c (Err refusal) = line_with (refusal_text refusal)
+
+abbrev pub step_missing : Rules → Standing → SlotPath → Step
+step_missing r s path = record { text = missing_answer r s.course (slot_found r s.course.timeline.now path); state = open_at s }
+
+-- the place of a relation's name
+abbrev pub place_in : List Named → List ℕ → Option ℕ
+place_in relations name = place_of relations (λ (n : Named). n.0) name
+
+-- these are watched from now on, or the refusal is told
+abbrev pub watch_decided : Standing → List Pair → Option WatchRefusal → Step
+watch_decided s pairs None = record { text = line_with (codes "ok"); state = open_at (record s { watched = pairs }) }
+watch_decided s pairs (Some refusal) = step_writing s (watch_refusal_text refusal)
+
+abbrev pub put_watch : Standing → List ℕ → Result Slot Refusal → Step
+put_watch s name (Ok slot) =
+    let place = place_in s.relations name in
+    watch_decided s (s.watched ++ pair_of place slot ∷ []) (watch_refusal place s.watched slot)
+put_watch s name (Err refusal) = step_writing s (refusal_text refusal)
+
+abbrev pub cut_watch : Standing → List ℕ → Result Slot Refusal → Step
+cut_watch s name (Ok slot) =
+    let place = place_in s.relations name in
+    watch_decided s (without (pair_of place slot) s.watched) (unwatch_refusal place s.watched slot)
+cut_watch s name (Err refusal) = step_writing s (refusal_text refusal)
+
+-- ---- one command
+
+-- the session itself answers it
+abbrev pub is_known : Command → Bool
+is_known (commands.Missing path) = false
+is_known (commands.Watch name path) = false
+is_known (commands.Unwatch name path) = false
+is_known commands.Quit = false
+is_known _ = true
+
+abbrev pub step_command : Rules → Standing → Command → Step
+step_command r s commands.Quit = record { text = []; state = quit_at s }
+step_command r s (commands.Missing path) = step_missing r s path
+step_command r s (commands.Watch name path) = put_watch s name (slot_found r s.course.timeline.now path)
+step_command r s (commands.Unwatch name path) = cut_watch s name (slot_found r s.course.timeline.now path)
+step_command r s asked = step_known r s asked
+
+-- ---- lines in order
+
+abbrev pub step_heard : Rules → Standing → Heard → Step
+step_heard r s nothing = record { text = []; state = open_at s }
+step_heard r s bad_line = step_writing s bad_line_text
+step_heard r s (command asked) = step_command r s asked
+
+-- `heard_in` reads the line: script_lines' law `a_line_says_one_thing` ties it to what the line spells
+abbrev pub step_line : Rules → Standing → ScriptLine → Step
+step_line r s (whole line) = step_heard r s (heard_in line)
+step_line r s long = step_writing s long_line_text
+
+-- what follows `quit` has no effect
+abbrev pub step : Rules → State → ScriptLine → Step
+step r state line = if state.over then record { text = []; state = state } else step_line r state.standing line
+
+-- the replies to lines in order, and the state behind them
+abbrev pub replies : Rules → State → List ScriptLine → List ℕ
+replies r state [] = []
+replies r state (line ∷ lines) = (step r state line).text ++ replies r (step r state line).state lines
+
+abbrev pub state_after : Rules → State → List ScriptLine → State
+state_after r state [] = state
+state_after r state (line ∷ lines) = state_after r (step r state line).state lines
+
+-- ---- the start
+
+-- how a script begins: with which answers, whether changes are numbered and stamps kept, and by which relations slots may be
+-- watched
+pub record Terms : Type 0 where
+  pub answers : Answered
+  pub stamps : Bool
+  pub relations : List Named
+
+-- no change was made, and nothing is watched
+abbrev pub beginning : Rules → Terms → Standing
+beginning r terms = record { course = begun r.accepted terms.answers terms.stamps; relations = terms.relations; watched = [] }
+
+abbrev pub at_start : Rules → Terms → State
+at_start r terms = open_at (beginning r terms)

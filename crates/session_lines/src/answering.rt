@@ -1,0 +1,140 @@
+// Answers the lines of a script while its bytes come.
+ghost use Rattle.std.specs.Prelude.{◌≡◌, ℕ, List, ◌+◌, ◌<◌, ◌≤◌, ◌^◌, ◌∷◌, ◌++◌, [], length, map};
+ghost use Rattle.script_lines.specs.Lines.{ended_lines, ready_lines, whole, HasNoNewline};
+ghost use Rattle.graph_session.specs.Refusals.{SameChecks};
+ghost use Rattle.graph_session.specs.Rules.{rules};
+ghost use Rattle.session_lines.specs.Answering.{AnsweredAs, PieceAnsweredAs, standing_of};
+ghost use Rattle.session_lines.specs.Stepping.{open_at};
+ghost use Rattle.session_lines.specs.Steps.{steps_of_line, steps_of_lines};
+
+use crate::command::answer_command;
+use crate::progress::Progress;
+use crate::writing::write_text;
+use dictionary::FactEngine;
+use fact_watch::{WatchTable, Watches};
+use fg_io::Sink;
+use graph_session::Session;
+use script_lines::{LineFault, Lines, Ready, command_of};
+use std::alloc::Global;
+use std::sync::ledger::Ledger;
+use steps::Steps;
+use text_checks::CheckTable;
+
+// Answers a line of at most 4,096 bytes.
+fn answer_line<E: FactEngine, L: Ledger, K: Sink>(
+    alloc: Global,
+    session: &mut Session<E>,
+    watches: &mut Watches,
+    table: &WatchTable,
+    checks: &CheckTable,
+    line: &[u8],
+    out: &mut K,
+    steps: &mut Steps<L>,
+) -> Progress
+    requires short { length line.now ≤ 4096 }
+    requires same_checks { SameChecks (rules session.old.dict)
+        (map {B = List ℕ × ℕ} (λ c. (c.name, c.code)) checks.now.checks.items) }
+    requires few { session.old.changes < 2 ^ 63 }
+    ensures answered { AnsweredAs (rules session.old.dict)
+        (K.taken out.old) (K.taken out.new) (K.faults out.old) (K.faults out.new)
+        (standing_of session.old (map {B = List ℕ × ℕ} (λ r. (r.name, r.code)) table.now.relations.items) watches.old)
+        (standing_of session.new (map {B = List ℕ × ℕ} (λ r. (r.name, r.code)) table.now.relations.items) watches.new) (whole line.now ∷ []) result }
+    ensures dict { session.new.dict ≡ session.old.dict }
+    ensures few { session.new.changes ≤ session.old.changes + 1 }
+    ensures later { K.faults out.old ≤ K.faults out.new }
+    ensures steps { steps.new ≤ steps.old
+        + steps_of_line E.most (rules session.old.dict) (standing_of session.old (map {B = List ℕ × ℕ} (λ r. (r.name, r.code)) table.now.relations.items) watches.old) (whole line.now) }
+{
+    match command_of(alloc, line) {
+        Ok(None) => Progress::More,
+        Ok(Some(command)) => answer_command(
+            alloc, session, watches, table, &command, checks, out, steps,
+        ),
+        Err(LineFault::BadLine) => write_text(b"refused 1 BadLine\n", out),
+        Err(LineFault::NoMemory) => Progress::OutOfMemory,
+    }
+}
+
+/// Answers the line that is ready, if there is one.
+pub fn answer_ready<E: FactEngine, L: Ledger, K: Sink>(
+    alloc: Global,
+    session: &mut Session<E>,
+    watches: &mut Watches,
+    table: &WatchTable,
+    checks: &CheckTable,
+    ready: Ready,
+    line: &[u8],
+    out: &mut K,
+    steps: &mut Steps<L>,
+) -> Progress
+    requires short { length line.now ≤ 4096 }
+    requires same_checks { SameChecks (rules session.old.dict)
+        (map {B = List ℕ × ℕ} (λ c. (c.name, c.code)) checks.now.checks.items) }
+    requires few { session.old.changes < 2 ^ 63 }
+    ensures answered { AnsweredAs (rules session.old.dict)
+        (K.taken out.old) (K.taken out.new) (K.faults out.old) (K.faults out.new)
+        (standing_of session.old (map {B = List ℕ × ℕ} (λ r. (r.name, r.code)) table.now.relations.items) watches.old)
+        (standing_of session.new (map {B = List ℕ × ℕ} (λ r. (r.name, r.code)) table.now.relations.items) watches.new) (ready_lines ready line.now) result }
+    ensures dict { session.new.dict ≡ session.old.dict }
+    ensures few { session.new.changes ≤ session.old.changes + 1 }
+    ensures later { K.faults out.old ≤ K.faults out.new }
+    ensures steps { steps.new ≤ steps.old
+        + steps_of_lines E.most (rules session.old.dict) (open_at (standing_of session.old (map {B = List ℕ × ℕ} (λ r. (r.name, r.code)) table.now.relations.items) watches.old)) (ready_lines ready line.now) }
+{
+    match ready {
+        Ready::NotYet => Progress::More,
+        Ready::Whole => answer_line(alloc, session, watches, table, checks, line, out, steps),
+        Ready::Long => write_text(b"refused 2 LongLine\n", out),
+    }
+}
+
+/// Answers each line that ends in the bytes, in order. A line makes one change at most.
+pub fn answer_piece<E: FactEngine, L: Ledger, K: Sink>(
+    alloc: Global,
+    session: &mut Session<E>,
+    watches: &mut Watches,
+    table: &WatchTable,
+    checks: &CheckTable,
+    lines: &mut Lines,
+    out: &mut K,
+    bytes: &[u8],
+    steps: &mut Steps<L>,
+) -> Progress
+    requires unended { HasNoNewline lines.old.so_far }
+    requires same_checks { SameChecks (rules session.old.dict)
+        (map {B = List ℕ × ℕ} (λ c. (c.name, c.code)) checks.now.checks.items) }
+    requires few { session.old.changes + length bytes.now < 2 ^ 63 }
+    ensures answered { PieceAnsweredAs (rules session.old.dict)
+        (K.taken out.old) (K.taken out.new) (K.faults out.old) (K.faults out.new)
+        (standing_of session.old (map {B = List ℕ × ℕ} (λ r. (r.name, r.code)) table.now.relations.items) watches.old)
+        (standing_of session.new (map {B = List ℕ × ℕ} (λ r. (r.name, r.code)) table.now.relations.items) watches.new)
+        lines.old.so_far lines.new.so_far bytes.now result }
+    ensures dict { session.new.dict ≡ session.old.dict }
+    ensures few { session.new.changes ≤ session.old.changes + length bytes.now }
+    ensures later { K.faults out.old ≤ K.faults out.new }
+    ensures steps { steps.new ≤ steps.old + steps_of_lines E.most (rules session.old.dict)
+        (open_at (standing_of session.old (map {B = List ℕ × ℕ} (λ r. (r.name, r.code)) table.now.relations.items) watches.old)) (ended_lines (lines.old.so_far ++ bytes.now)) }
+{
+    let mut rest = bytes;
+    while !rest.is_empty() {
+        let fed = lines.feed(rest);
+        match answer_ready(
+            alloc,
+            session,
+            watches,
+            table,
+            checks,
+            fed.ready,
+            lines.line(),
+            out,
+            steps,
+        ) {
+            Progress::More => {}
+            Progress::Over => return Progress::Over,
+            Progress::Unwritten => return Progress::Unwritten,
+            Progress::OutOfMemory => return Progress::OutOfMemory,
+        }
+        rest = &rest[fed.taken..];
+    }
+    Progress::More
+}

@@ -1,0 +1,192 @@
+// Answers the commands of the session, and tells the watches that fire behind a change.
+ghost use Rattle.std.specs.Prelude.{◌≡◌, ◌≤◌, ◌<◌, ◌+◌, ◌^◌, ◌++◌, ℕ, List, true, false, map};
+ghost use Rattle.script_lines.specs.Joined.{joined};
+ghost use Rattle.dictionary.specs.Accepted.{accepted};
+ghost use Rattle.dictionary.specs.Plain.{plain};
+ghost use Rattle.dictionary.specs.Reading.{Look};
+ghost use Rattle.fact_watch.specs.Watching.{noted};
+ghost use Rattle.graph_session.specs.Refusals.{SameChecks};
+ghost use Rattle.graph_session.specs.Rules.{rules};
+ghost use Rattle.graph_session.specs.SessionView.{course};
+ghost use Rattle.session_lines.specs.Answering.{SteppedAs, WrittenAs, standing_of};
+ghost use Rattle.session_lines.specs.Firing.{firing_lines};
+ghost use Rattle.session_lines.specs.Replies.{line_with, reply_text};
+ghost use Rattle.session_lines.specs.Stepping.{is_change as changes, step_known};
+ghost use Rattle.session_lines.specs.Steps.{steps_of_command};
+
+use crate::firing::write_fired;
+use crate::progress::Progress;
+use crate::writing::{write_refusal, write_reply};
+use dictionary::FactEngine;
+use fact_values::NoMemory;
+use fact_watch::{WatchTable, Watches};
+use fg_io::Sink;
+use graph_session::{Reply, Session};
+use script_lines::Command;
+use std::sync::ledger::Ledger;
+use steps::Steps;
+use text_checks::CheckTable;
+
+fn is_change(command: &Command) -> bool
+    ensures { result ≡ changes command.now }
+{
+    match command {
+        Command::Set(..)
+        | Command::Clear(_)
+        | Command::OpenList(_)
+        | Command::Add(_)
+        | Command::Remove(..)
+        | Command::Override(..)
+        | Command::Release(_)
+        | Command::Undo
+        | Command::Redo => true,
+        Command::Get(_)
+        | Command::Final(_)
+        | Command::Stamp(_)
+        | Command::Touched
+        | Command::Missing(_)
+        | Command::Watch(..)
+        | Command::Unwatch(..)
+        | Command::Quit => false,
+    }
+}
+
+// Writes the reply of a change, and behind it the watches that fire.
+fn write_change<E: FactEngine, K: Sink>(
+    session: &Session<E>,
+    watches: &Watches,
+    table: &WatchTable,
+    reply: Reply,
+    out: &mut K,
+) -> Progress
+    requires noted { (before : Look) × (watches.now ≡ noted watches.now.pairs before) }
+    ensures written { (before : Look) → watches.now ≡ noted watches.now.pairs before → WrittenAs (K.taken out.old) (K.taken out.new) (K.faults out.old) (K.faults out.new)
+        (line_with (reply_text (rules session.now.dict) (course session.now) reply)
+        ++ joined (firing_lines (accepted session.now.dict).tree (map {B = List ℕ × ℕ} (λ r. (r.name, r.code)) table.now.relations.items) before
+        (plain (accepted session.now.dict) session.now.timeline.now) watches.now.pairs)) result }
+    ensures later { K.faults out.old ≤ K.faults out.new }
+{
+    match write_reply(session, reply, out) {
+        Progress::More => write_fired(session, watches, table, out),
+        Progress::Over => Progress::Over,
+        Progress::Unwritten => Progress::Unwritten,
+        Progress::OutOfMemory => Progress::OutOfMemory,
+    }
+}
+
+// Answers a change before which what is watched was noted.
+fn answer_noted<E: FactEngine, L: Ledger, K: Sink>(
+    session: &mut Session<E>,
+    watches: &Watches,
+    table: &WatchTable,
+    command: &Command,
+    checks: &CheckTable,
+    out: &mut K,
+    steps: &mut Steps<L>,
+) -> Progress
+    requires is_change { changes command.now ≡ true }
+    requires noted { watches.now ≡ noted watches.now.pairs (plain (accepted session.old.dict) session.old.timeline.now) }
+    requires same_checks { SameChecks (rules session.old.dict)
+        (map {B = List ℕ × ℕ} (λ c. (c.name, c.code)) checks.now.checks.items) }
+    requires few { session.old.changes < 2 ^ 63 }
+    ensures stepped { SteppedAs (K.taken out.old) (K.taken out.new) (K.faults out.old) (K.faults out.new)
+        (step_known (rules session.old.dict) (standing_of session.old (map {B = List ℕ × ℕ} (λ r. (r.name, r.code)) table.now.relations.items) watches.now) command.now)
+        (standing_of session.new (map {B = List ℕ × ℕ} (λ r. (r.name, r.code)) table.now.relations.items) watches.now) result }
+    ensures dict { session.new.dict ≡ session.old.dict }
+    ensures few { session.new.changes ≤ session.old.changes + 1 }
+    ensures later { K.faults out.old ≤ K.faults out.new }
+    ensures steps { steps.new ≤ steps.old
+        + steps_of_command E.most (rules session.old.dict) (standing_of session.old (map {B = List ℕ × ℕ} (λ r. (r.name, r.code)) table.now.relations.items) watches.now) command.now }
+{
+    match session.command(command, checks, steps) {
+        Ok(reply) => write_change(session, watches, table, reply, out),
+        Err(refusal) => write_refusal(refusal, out),
+    }
+}
+
+// Answers a change. What is watched is noted before it.
+fn answer_change<E: FactEngine, L: Ledger, K: Sink>(
+    session: &mut Session<E>,
+    watches: &mut Watches,
+    table: &WatchTable,
+    command: &Command,
+    checks: &CheckTable,
+    out: &mut K,
+    steps: &mut Steps<L>,
+) -> Progress
+    requires is_change { changes command.now ≡ true }
+    requires same_checks { SameChecks (rules session.old.dict)
+        (map {B = List ℕ × ℕ} (λ c. (c.name, c.code)) checks.now.checks.items) }
+    requires few { session.old.changes < 2 ^ 63 }
+    ensures stepped { SteppedAs (K.taken out.old) (K.taken out.new) (K.faults out.old) (K.faults out.new)
+        (step_known (rules session.old.dict) (standing_of session.old (map {B = List ℕ × ℕ} (λ r. (r.name, r.code)) table.now.relations.items) watches.old) command.now)
+        (standing_of session.new (map {B = List ℕ × ℕ} (λ r. (r.name, r.code)) table.now.relations.items) watches.new) result }
+    ensures dict { session.new.dict ≡ session.old.dict }
+    ensures few { session.new.changes ≤ session.old.changes + 1 }
+    ensures later { K.faults out.old ≤ K.faults out.new }
+    ensures steps { steps.new ≤ steps.old
+        + steps_of_command E.most (rules session.old.dict) (standing_of session.old (map {B = List ℕ × ℕ} (λ r. (r.name, r.code)) table.now.relations.items) watches.old) command.now }
+{
+    match watches.note(session) {
+        Err(NoMemory) => Progress::OutOfMemory,
+        Ok(()) => answer_noted(session, watches, table, command, checks, out, steps),
+    }
+}
+
+// Answers a command that changes nothing.
+fn answer_question<E: FactEngine, L: Ledger, K: Sink>(
+    session: &mut Session<E>,
+    watches: &Watches,
+    table: &WatchTable,
+    command: &Command,
+    checks: &CheckTable,
+    out: &mut K,
+    steps: &mut Steps<L>,
+) -> Progress
+    requires is_none { changes command.now ≡ false }
+    requires same_checks { SameChecks (rules session.old.dict)
+        (map {B = List ℕ × ℕ} (λ c. (c.name, c.code)) checks.now.checks.items) }
+    requires few { session.old.changes < 2 ^ 63 }
+    ensures stepped { SteppedAs (K.taken out.old) (K.taken out.new) (K.faults out.old) (K.faults out.new)
+        (step_known (rules session.old.dict) (standing_of session.old (map {B = List ℕ × ℕ} (λ r. (r.name, r.code)) table.now.relations.items) watches.now) command.now)
+        (standing_of session.new (map {B = List ℕ × ℕ} (λ r. (r.name, r.code)) table.now.relations.items) watches.now) result }
+    ensures dict { session.new.dict ≡ session.old.dict }
+    ensures few { session.new.changes ≤ session.old.changes + 1 }
+    ensures later { K.faults out.old ≤ K.faults out.new }
+    ensures steps { steps.new ≤ steps.old
+        + steps_of_command E.most (rules session.old.dict) (standing_of session.old (map {B = List ℕ × ℕ} (λ r. (r.name, r.code)) table.now.relations.items) watches.now) command.now }
+{
+    match session.command(command, checks, steps) {
+        Ok(reply) => write_reply(session, reply, out),
+        Err(refusal) => write_refusal(refusal, out),
+    }
+}
+
+/// Answers a command of the session.
+pub fn answer_known<E: FactEngine, L: Ledger, K: Sink>(
+    session: &mut Session<E>,
+    watches: &mut Watches,
+    table: &WatchTable,
+    command: &Command,
+    checks: &CheckTable,
+    out: &mut K,
+    steps: &mut Steps<L>,
+) -> Progress
+    requires same_checks { SameChecks (rules session.old.dict)
+        (map {B = List ℕ × ℕ} (λ c. (c.name, c.code)) checks.now.checks.items) }
+    requires few { session.old.changes < 2 ^ 63 }
+    ensures stepped { SteppedAs (K.taken out.old) (K.taken out.new) (K.faults out.old) (K.faults out.new)
+        (step_known (rules session.old.dict) (standing_of session.old (map {B = List ℕ × ℕ} (λ r. (r.name, r.code)) table.now.relations.items) watches.old) command.now)
+        (standing_of session.new (map {B = List ℕ × ℕ} (λ r. (r.name, r.code)) table.now.relations.items) watches.new) result }
+    ensures dict { session.new.dict ≡ session.old.dict }
+    ensures few { session.new.changes ≤ session.old.changes + 1 }
+    ensures later { K.faults out.old ≤ K.faults out.new }
+    ensures steps { steps.new ≤ steps.old
+        + steps_of_command E.most (rules session.old.dict) (standing_of session.old (map {B = List ℕ × ℕ} (λ r. (r.name, r.code)) table.now.relations.items) watches.old) command.now }
+{
+    if is_change(command) {
+        answer_change(session, watches, table, command, checks, out, steps)
+    } else {
+        answer_question(session, watches, table, command, checks, out, steps)
+    }
+}

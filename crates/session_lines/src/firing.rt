@@ -1,0 +1,128 @@
+// Writes the lines of the watches that fire.
+ghost use Rattle.std.specs.Prelude.{◌≡◌, ◌≤◌, ◌+◌, ◌∷◌, ◌++◌, [], ℕ, List, IsTrue, IfSome, length, map, slice_get};
+ghost use Rattle.script_lines.specs.Joined.{joined};
+ghost use Rattle.dictionary.specs.Accepted.{accepted};
+ghost use Rattle.dictionary.specs.Plain.{plain};
+ghost use Rattle.dictionary.specs.Reading.{Look};
+ghost use Rattle.dictionary.specs.Slots.{stands};
+ghost use Rattle.fact_watch.specs.Watching.{code_at, noted, pair_says};
+ghost use Rattle.fg_io.specs.Writing.{Wrote};
+ghost use Rattle.session_lines.specs.Answering.{WrittenAs};
+ghost use Rattle.session_lines.specs.Firing.{firing_lines, firing_lines_at, name_at, watch_line};
+
+use crate::progress::Progress;
+use crate::writing::as_progress;
+use dictionary::FactEngine;
+use fact_values::Slot;
+use fact_watch::{WatchTable, Watches};
+use fg_io::{Failed, Sink, put_text};
+use graph_session::Session;
+use value_text::Line;
+
+// Appends the name of the relation at a place.
+#[tactic(auto, using(value_text::proofs::EnumLemmas::name_short))]
+fn print_relation(table: &WatchTable, place: u32, line: &mut Line)
+    requires { length line.old ≤ 100 }
+    ensures text { line.new ≡ line.old ++ name_at (map {B = List ℕ × ℕ} (λ r. (r.name, r.code)) table.now.relations.items) place }
+    ensures short { length line.new ≤ length line.old + 64 }
+{
+    match table.name(place) {
+        None => {}
+        Some(name) => line.push(name.as_str().as_bytes()),
+    }
+}
+
+// Puts the line of a watch whose slot stands.
+fn put_line<E: FactEngine, K: Sink>(
+    session: &Session<E>,
+    table: &WatchTable,
+    place: u32,
+    slot: Slot,
+    out: &mut K,
+) -> Result<(), Failed>
+    requires { IsTrue (stands (accepted session.now.dict).tree session.now.timeline.now slot) }
+    ensures { Wrote (K.taken out.old) (K.taken out.new) (K.faults out.old) (K.faults out.new)
+        (watch_line (accepted session.now.dict).tree (map {B = List ℕ × ℕ} (λ r. (r.name, r.code)) table.now.relations.items) (place, slot) ++ 10 ∷ []) result }
+{
+    let dict = session.dict();
+    let _accepted = dict.source();
+    let _fit = session.answers();
+    let mut line = Line::new();
+    line.push(b"watch ");
+    print_relation(table, place, &mut line);
+    line.push(b" ");
+    dict.print_slot(slot, &mut line);
+    line.push(b"\n");
+    put_text(line.bytes(), out)
+}
+
+// Whether the watch at n fires, of what was noted and the result now.
+fn fires<E: FactEngine>(session: &Session<E>, watches: &Watches, table: &WatchTable, n: u32) -> bool
+    ensures { (before : Look) → watches.now ≡ noted watches.now.pairs before
+        → result ≡ pair_says (code_at (λ r. r.1) (map {B = List ℕ × ℕ} (λ r. (r.name, r.code)) table.now.relations.items)) (slice_get watches.now.pairs n) before
+        (plain (accepted session.now.dict) session.now.timeline.now) }
+{
+    match watches.at(n) {
+        None => false,
+        Some(pair) => pair.0 < table.len() && watches.fires(table, session, n),
+    }
+}
+
+// Puts the line of the watch at n, where it fires.
+fn put_at<E: FactEngine, K: Sink>(
+    session: &Session<E>,
+    watches: &Watches,
+    table: &WatchTable,
+    n: u32,
+    out: &mut K,
+) -> Result<(), Failed>
+    requires noted { (before : Look) × (watches.now ≡ noted watches.now.pairs before) }
+    ensures { (before : Look) → watches.now ≡ noted watches.now.pairs before → Wrote (K.taken out.old) (K.taken out.new) (K.faults out.old) (K.faults out.new)
+        (joined (firing_lines_at (accepted session.now.dict).tree (map {B = List ℕ × ℕ} (λ r. (r.name, r.code)) table.now.relations.items) before
+        (plain (accepted session.now.dict) session.now.timeline.now) (slice_get watches.now.pairs n))) result }
+{
+    if !fires(session, watches, table, n) {
+        return Ok(());
+    }
+    match watches.at(n) {
+        None => Ok(()),
+        Some(pair) => put_line(session, table, pair.0, pair.1, out),
+    }
+}
+
+// Puts the lines of the watches that fire, in the order in which they were put.
+fn put_fired<E: FactEngine, K: Sink>(
+    session: &Session<E>,
+    watches: &Watches,
+    table: &WatchTable,
+    out: &mut K,
+) -> Result<(), Failed>
+    requires noted { (before : Look) × (watches.now ≡ noted watches.now.pairs before) }
+    ensures { (before : Look) → watches.now ≡ noted watches.now.pairs before → Wrote (K.taken out.old) (K.taken out.new) (K.faults out.old) (K.faults out.new)
+        (joined (firing_lines (accepted session.now.dict).tree (map {B = List ℕ × ℕ} (λ r. (r.name, r.code)) table.now.relations.items) before
+        (plain (accepted session.now.dict) session.now.timeline.now) watches.now.pairs)) result }
+{
+    for n in 0..watches.len() {
+        match put_at(session, watches, table, n, out) {
+            Err(failed) => return Err(failed),
+            Ok(()) => {}
+        }
+    }
+    Ok(())
+}
+
+/// Writes the lines of the watches that fire, of what they noted and the results now. It takes no memory.
+pub fn write_fired<E: FactEngine, K: Sink>(
+    session: &Session<E>,
+    watches: &Watches,
+    table: &WatchTable,
+    out: &mut K,
+) -> Progress
+    requires noted { (before : Look) × (watches.now ≡ noted watches.now.pairs before) }
+    ensures written { (before : Look) → watches.now ≡ noted watches.now.pairs before → WrittenAs (K.taken out.old) (K.taken out.new) (K.faults out.old) (K.faults out.new)
+        (joined (firing_lines (accepted session.now.dict).tree (map {B = List ℕ × ℕ} (λ r. (r.name, r.code)) table.now.relations.items) before
+        (plain (accepted session.now.dict) session.now.timeline.now) watches.now.pairs)) result }
+    ensures later { K.faults out.old ≤ K.faults out.new }
+{
+    as_progress(put_fired(session, watches, table, out))
+}

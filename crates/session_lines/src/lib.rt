@@ -1,0 +1,19 @@
+//! Answers the lines of a script over a session: the texts of replies, and the watches that fire.
+#![tactic(auto)]
+
+mod answering;
+mod changing;
+mod command;
+mod firing;
+mod laws;
+mod listing;
+mod numbered;
+mod progress;
+mod reply;
+mod watching;
+mod writing;
+
+pub use answering::{answer_piece, answer_ready};
+pub use laws::{final_lines_stay, undo_restores};
+pub use numbered::print_numbered;
+pub use progress::Progress;

@@ -1,0 +1,125 @@
+// Answers which slots are missing of one.
+ghost use Rattle.std.specs.Prelude.{◌≡◌, ◌≤◌, ◌∷◌, ◌++◌, [], All, IsTrue, codes, map};
+ghost use Rattle.script_lines.specs.Joined.{joined};
+ghost use Rattle.dictionary.specs.Accepted.{accepted};
+ghost use Rattle.dictionary.specs.SlotText.{slot_text};
+ghost use Rattle.dictionary.specs.Slots.{stands};
+ghost use Rattle.fg_io.specs.Writing.{Wrote};
+ghost use Rattle.graph_session.specs.Refusals.{slot_found};
+ghost use Rattle.graph_session.specs.Rules.{rules};
+ghost use Rattle.graph_session.specs.SessionView.{course};
+ghost use Rattle.session_lines.specs.Answering.{ToldAs};
+ghost use Rattle.session_lines.specs.Replies.{line_with, missing_count, missing_lines, numbered};
+ghost use Rattle.session_lines.specs.Stepping.{missing_answer};
+
+use crate::numbered::print_numbered;
+use crate::progress::Progress;
+use crate::writing::{as_progress, write_refusal};
+use dictionary::FactEngine;
+use explain::missing;
+use fact_paths::SlotPath;
+use fact_values::{NoMemory, Slot};
+use fg_io::{Failed, Sink, put_text};
+use graph_session::Session;
+use std::alloc::Global;
+use value_text::Line;
+
+// Puts the path of a slot that stands.
+fn put_slot<E: FactEngine, K: Sink>(
+    session: &Session<E>,
+    slot: Slot,
+    out: &mut K,
+) -> Result<(), Failed>
+    requires { IsTrue (stands (accepted session.now.dict).tree session.now.timeline.now slot) }
+    ensures { Wrote (K.taken out.old) (K.taken out.new) (K.faults out.old) (K.faults out.new)
+        (slot_text (accepted session.now.dict).tree slot ++ 10 ∷ []) result }
+{
+    let dict = session.dict();
+    let _accepted = dict.source();
+    let _fit = session.answers();
+    let mut line = Line::new();
+    dict.print_slot(slot, &mut line);
+    line.push(b"\n");
+    put_text(line.bytes(), out)
+}
+
+// Puts the paths of slots that stand, in order.
+fn put_slots<E: FactEngine, K: Sink>(
+    session: &Session<E>,
+    slots: &[Slot],
+    out: &mut K,
+) -> Result<(), Failed>
+    requires { All (λ s. IsTrue (stands (accepted session.now.dict).tree session.now.timeline.now s)) slots.now }
+    ensures { Wrote (K.taken out.old) (K.taken out.new) (K.faults out.old) (K.faults out.new)
+        (joined (map (slot_text (accepted session.now.dict).tree) slots.now)) result }
+{
+    for slot in slots {
+        match put_slot(session, *slot, out) {
+            Err(failed) => return Err(failed),
+            Ok(()) => {}
+        }
+    }
+    Ok(())
+}
+
+// Puts how many they are.
+fn put_count<K: Sink>(count: usize, out: &mut K) -> Result<(), Failed>
+    ensures { Wrote (K.taken out.old) (K.taken out.new) (K.faults out.old) (K.faults out.new) (line_with (numbered (codes "missing ") count)) result }
+{
+    let mut line = Line::new();
+    print_numbered("missing ", count as u64, &mut line);
+    line.push(b"\n");
+    put_text(line.bytes(), out)
+}
+
+// Puts how many they are, and their paths.
+fn put_missing<E: FactEngine, K: Sink>(
+    session: &Session<E>,
+    slots: &[Slot],
+    out: &mut K,
+) -> Result<(), Failed>
+    requires { All (λ s. IsTrue (stands (accepted session.now.dict).tree session.now.timeline.now s)) slots.now }
+    ensures { Wrote (K.taken out.old) (K.taken out.new) (K.faults out.old) (K.faults out.new)
+        (joined (missing_count slots.now ∷ map (slot_text (accepted session.now.dict).tree) slots.now)) result }
+{
+    match put_count(slots.len(), out) {
+        Err(failed) => Err(failed),
+        Ok(()) => put_slots(session, slots, out),
+    }
+}
+
+// Writes what is missing of a slot that stands.
+fn write_missing<E: FactEngine, K: Sink>(
+    alloc: Global,
+    session: &Session<E>,
+    slot: Slot,
+    out: &mut K,
+) -> Progress
+    requires { IsTrue (stands (accepted session.now.dict).tree session.now.timeline.now slot) }
+    ensures told { ToldAs (K.taken out.old) (K.taken out.new) (K.faults out.old) (K.faults out.new)
+        (joined (missing_lines (rules session.now.dict) (course session.now) slot)) result }
+    ensures later { K.faults out.old ≤ K.faults out.new }
+{
+    match missing(alloc, session, slot) {
+        Ok(slots) => as_progress(put_missing(session, &slots, out)),
+        Err(NoMemory) => Progress::OutOfMemory,
+    }
+}
+
+/// Writes what is missing of the slot that the path names, or why the slot isn't there.
+pub fn answer_missing<E: FactEngine, K: Sink>(
+    alloc: Global,
+    session: &Session<E>,
+    path: &SlotPath,
+    out: &mut K,
+) -> Progress
+    ensures told { ToldAs (K.taken out.old) (K.taken out.new) (K.faults out.old) (K.faults out.new)
+        (missing_answer (rules session.now.dict) (course session.now)
+        (slot_found (rules session.now.dict) session.now.timeline.now path.now)) result }
+    ensures later { K.faults out.old ≤ K.faults out.new }
+{
+    match session.slot_of(path) {
+        Ok(slot) => write_missing(alloc, session, slot, out),
+        Err(refusal) => write_refusal(refusal, out),
+    }
+}

@@ -1,0 +1,62 @@
+// Writes texts, and tells how the script goes on behind them.
+ghost use Rattle.std.specs.Prelude.{◌≡◌, ◌≤◌};
+ghost use Rattle.graph_session.specs.Rules.{rules};
+ghost use Rattle.graph_session.specs.SessionView.{course};
+ghost use Rattle.session_lines.specs.Answering.{RefusedAs, WrittenAs, progress_of};
+ghost use Rattle.session_lines.specs.Replies.{line_with, reply_text};
+
+use crate::progress::Progress;
+use crate::reply::{print_refusal, print_reply};
+use dictionary::FactEngine;
+use fg_io::{Failed, Sink, put_text};
+use graph_session::{Refusal, Reply, Session, is_want_of_memory};
+use value_text::Line;
+
+/// The script goes on behind a text that was put whole.
+pub fn as_progress(put: Result<(), Failed>) -> Progress
+    ensures { result ≡ progress_of put }
+{
+    match put {
+        Ok(()) => Progress::More,
+        Err(Failed) => Progress::Unwritten,
+    }
+}
+
+/// Writes a text.
+pub fn write_text<K: Sink>(text: &[u8], out: &mut K) -> Progress
+    ensures written { WrittenAs (K.taken out.old) (K.taken out.new) (K.faults out.old) (K.faults out.new) text.now result }
+    ensures later { K.faults out.old ≤ K.faults out.new }
+{
+    let put = put_text(text, out);
+    as_progress(put)
+}
+
+/// Writes what the session says.
+pub fn write_reply<E: FactEngine, K: Sink>(
+    session: &Session<E>,
+    reply: Reply,
+    out: &mut K,
+) -> Progress
+    ensures written { WrittenAs (K.taken out.old) (K.taken out.new) (K.faults out.old) (K.faults out.new)
+        (line_with (reply_text (rules session.now.dict) (course session.now) reply)) result }
+    ensures later { K.faults out.old ≤ K.faults out.new }
+{
+    let mut line = Line::new();
+    print_reply(session, reply, &mut line);
+    line.push(b"\n");
+    write_text(line.bytes(), out)
+}
+
+/// Writes why a command is refused.
+pub fn write_refusal<K: Sink>(refusal: Refusal, out: &mut K) -> Progress
+    ensures written { RefusedAs (K.taken out.old) (K.taken out.new) (K.faults out.old) (K.faults out.new) refusal result }
+    ensures later { K.faults out.old ≤ K.faults out.new }
+{
+    if is_want_of_memory(refusal) {
+        return Progress::OutOfMemory;
+    }
+    let mut line = Line::new();
+    print_refusal(refusal, &mut line);
+    line.push(b"\n");
+    write_text(line.bytes(), out)
+}
