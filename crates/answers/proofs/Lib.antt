@@ -8,6 +8,7 @@ pub mod OpenedListsLaws
 pub mod Results
 pub mod RoomLaws
 pub mod SideLaws
+pub mod SmallMaps
 pub mod StandLaws
 pub mod Start
 pub mod WellLaws

@@ -1,18 +1,13 @@
 -- What mentions a fact is a fact.
-use Rattle.std.proofs.Common.{◌≡◌, ℕ, Bool, true, false, List, [], ◌∷◌, Option, Some, None, refl, sym, ◌∙◌, arith}
-use Rattle.std.specs.Prelude.{◌||◌, IsTrue, All}
+use Rattle.std.proofs.Common.{List, [], ◌∷◌, sym, ◌∙◌, arith}
+use Rattle.std.specs.Prelude.{IsTrue, All}
 use Rattle.std.specs.List.{list_any}
 use Rattle.std.proofs.lemmas.List.Elements.{All-cons}
 use Rattle.common_lemmas.proofs.Bools.{or_left, or_right}
 use Rattle.common_lemmas.proofs.Numbers.{equal_number}
-use Rattle.dict_tree.specs.Dictionary.{Dictionary as Tree}
-use Rattle.dict_tree.specs.Facts.{Fact}
-use Rattle.dict_tree.specs.Finding.{fact_at, IsNumber}
-use Rattle.dict_tree.specs.Mentions.{found_mentions}
-use Rattle.dictionary.specs.Feeds.{is_of}
-use Rattle.dictionary.proofs.NumberLaws.{fact_within}
+use Rattle.dict_tree.specs.Finding.{IsNumber}
 use Rattle.dep_index.specs.Laws.{ReadersAreFacts}
-use Rattle.dep_index.specs.Readers.{is_mentioned_by, is_reader}
+use Rattle.dep_index.specs.Readers.{is_reader}
 use Rattle.dep_index.specs.declared.row.ReaderOf.{ReaderOf}
 use Rattle.dep_index.proofs.ReaderLaws.{mentions_number}
 

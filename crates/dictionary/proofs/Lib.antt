@@ -32,6 +32,7 @@ pub mod ReadTypes
 pub mod SetLaws
 pub mod SettleLaws
 pub mod SlotLaws
+pub mod SlotTextLaws
 pub mod SteadyLaws
 pub mod TargetAgreement
 pub mod TargetHomes

@@ -1,8 +1,6 @@
 -- Plain evaluation of small dictionaries over answers, by example.
-use Rattle.std.proofs.Common.{◌≡◌, ℕ, true, false, cond, List, [], ◌∷◌, Option, Some, None, pos, refl, ap, ◌∙◌}
-use Rattle.std.specs.Prelude.{codes, nat_eq, map as map_list}
-use Rattle.std.specs.FinMap as map
-use Rattle.std.specs.Ordering.{nat_cmp}
+use Rattle.std.proofs.Common.{◌≡◌, ℕ, true, false, List, [], ◌∷◌, Some, None, pos, refl}
+use Rattle.std.specs.Prelude.{codes, map as map_list}
 use Rattle.fact_paths.specs.Paths.{fact_path_text, use_path_text}
 use Rattle.fact_paths.specs.declared.fact_path.FactPath.TheVariants as facts
 use Rattle.fact_paths.specs.declared.use_path.UsePath.{UsePath}
@@ -19,8 +17,7 @@ use Rattle.dict_tree.specs.Tree.{Source, Use, literal, literal_dollar, literal_i
 use Rattle.dict_tree.specs.Facts.{Fact, item_of, list_of, scalar, writable_list}
 use Rattle.three_state.specs.declared.res.Res.TheVariants.{Complete, Placeholder, Incomplete}
 use Rattle.answers.specs.Answered.{Answered, Entry}
-use Rattle.answers.specs.Finite.{Numbered, put_at}
-use Rattle.answers.proofs.FiniteLaws.{get_put}
+use Rattle.answers.proofs.SmallMaps.{map_at, get_at}
 use Rattle.dictionary.specs.Accepted.{Accepted}
 use Rattle.dictionary.specs.Extension.{extends}
 use Rattle.dictionary.specs.Final.{is_final}
@@ -61,20 +58,6 @@ abbrev dictionary : List Fact → List ℕ → Accepted
 dictionary fs ranks = record { tree = record { enums = []; facts = fs }; typed = record { facts = []; limits = [] }; ranks = ranks }
 
 -- ---- answers
-
--- what stands at some numbers
-map_at : {X : Type 0} → List (ℕ × X) → Numbered X
-map_at [] = map.empty
-map_at (x ∷ xs) = put_at (map_at xs) x.0 (Some x.1)
-
-abbrev found_at : {X : Type 0} → List (ℕ × X) → ℕ → Option X
-found_at [] k = None
-found_at (x ∷ xs) k = cond (nat_eq x.0 k) (Some x.1) (found_at xs k)
-
-get_at : {X : Type 0} (xs : List (ℕ × X)) (k : ℕ) → map.get (map_at xs) k ≡ found_at xs k
-unfolding map_at
-get_at [] k = map.get-empty nat_cmp k
-get_at (x ∷ xs) k = get_put (map_at xs) x.0 (Some x.1) k ∙ ap (cond (nat_eq x.0 k) (Some x.1)) (get_at xs k)
 
 abbrev Values : Type 0
 Values = List (ℕ × Value)

@@ -1,5 +1,5 @@
 -- A value of a type has a text: an option of a type is in its list.
-use Rattle.std.proofs.Common.{◌≡◌, ℕ, ◌<◌, IsSome, List, length, slice_get, Option, Some, None, is_some, option_map, unwrap_or, ap, arith}
+use Rattle.std.proofs.Common.{◌≡◌, ℕ, ◌<◌, IsSome, length, slice_get, Option, Some, None, is_some, option_map, unwrap_or, ap, arith}
 use Rattle.std.specs.Prelude.{option_and_then, []}
 use Rattle.std.proofs.lemmas.Option.{slice_get-get_or}
 use Rattle.fact_values.specs.declared.fact_type.FactType.{FactType}

@@ -1,5 +1,5 @@
 -- What holds of all that each node reads holds of all that an expression does.
-use Rattle.std.proofs.Common.{◌≡◌, ℕ, Bool, true, false, ◌||◌, nat_eq, IsTrue, if◌then◌else◌, List, [], ◌∷◌, ◌++◌, flat_map, refl}
+use Rattle.std.proofs.Common.{ℕ, Bool, true, false, ◌||◌, nat_eq, IsTrue, if◌then◌else◌, List, [], ◌∷◌, flat_map, refl}
 use Rattle.std.specs.List.{list_any}
 use Rattle.dictionary.proofs.FinalLaws.{all_join}
 use Rattle.dict_tree.specs.Tree.{Tree, literal, read, switch, many, one, two, pick, Trees, no_trees, tree, Cases, no_cases, a_case}
@@ -13,7 +13,6 @@ use Rattle.evaluation.specs.Mentioned.{AllOf, Each, EachInAll, EachInCases}
 use Rattle.evaluation.specs.Over.{Env, over}
 use Rattle.evaluation.specs.SlotsRead.{ReadBy, after_condition, members_visited, slots_read, slots_read_of_all, slots_read_of_cases, up_to_decider}
 use Rattle.evaluation.proofs.Coincide.{is_behind, is_head}
-use Rattle.common_lemmas.proofs.Bools.{or_left, or_right}
 
 -- ---- lists
 

@@ -1,5 +1,5 @@
 -- What holds of the slots of each use's targets holds of all that a slot reads.
-use Rattle.std.proofs.Common.{◌≡◌, ℕ, Bool, true, false, IsTrue, if◌then◌else◌, List, [], ◌∷◌, ◌++◌, flat_map, Option, Some, None, is_some, refl, sym, ap, subst, ◌∙◌}
+use Rattle.std.proofs.Common.{◌≡◌, ℕ, Bool, true, false, if◌then◌else◌, List, [], flat_map, Option, Some, None, is_some, refl, sym, ap, subst}
 use Rattle.fact_paths.specs.declared.use_path.UsePath.{UsePath}
 use Rattle.fact_paths.specs.declared.use_path.UsePath.TheVariants.{Global, Sibling, Inner, Each, Through, SiblingThrough}
 use Rattle.fact_values.specs.declared.slot.Slot.{Slot}

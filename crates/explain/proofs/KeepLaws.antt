@@ -1,5 +1,5 @@
 -- While the missing answers of a slot are missing, its result stays: by induction on its rank.
-use Rattle.std.proofs.Common.{◌≡◌, ℕ, zero, suc, ◌+◌, ◌<◌, Bool, true, false, ◌&&◌, if◌then◌else◌, nat_eq, IsTrue, is_none, is_some, List, [], ◌∷◌, ◌++◌, filter, flat_map, map, Option, Some, None, unwrap_or, refl, sym, ap, subst, ◌∙◌, arith}
+use Rattle.std.proofs.Common.{◌≡◌, ℕ, zero, suc, ◌+◌, ◌<◌, Bool, true, ◌&&◌, if◌then◌else◌, IsTrue, is_none, is_some, List, [], ◌∷◌, ◌++◌, flat_map, map, Option, Some, None, unwrap_or, refl, sym, ap, subst, ◌∙◌, arith}
 use Rattle.std.specs.Prelude.{option_map}
 use Rattle.std.specs.FinMap as map_of
 use Rattle.std.specs.List.{list_all}
@@ -9,7 +9,7 @@ use Rattle.fact_values.specs.declared.slot.Slot.{Slot}
 use Rattle.fact_values.specs.declared.fact_type.FactType.{FactType}
 use Rattle.fact_values.specs.declared.fact_type.FactType.TheVariants as types
 use Rattle.fact_values.specs.declared.value.Value.{Value}
-use Rattle.fact_values.specs.declared.value.Value.TheVariants.{Item, Members}
+use Rattle.fact_values.specs.declared.value.Value.TheVariants.{Item}
 use Rattle.dict_tree.specs.declared.operators.ReadOp.{ReadOp}
 use Rattle.dict_tree.specs.declared.operators.ReadOp.TheVariants as read_op
 use Rattle.dict_tree.specs.declared.targets.Targets.{Targets}
@@ -17,7 +17,7 @@ use Rattle.dict_tree.specs.Dictionary.{Dictionary as Tree}
 use Rattle.dict_tree.specs.Facts.{Fact, Stated, scalar, enum_of, writable_list, list_of, item_of}
 use Rattle.dict_tree.specs.Finding.{fact_at}
 use Rattle.dict_tree.specs.Targets.{targets}
-use Rattle.dict_tree.specs.Tree.{Literal, Reading, Source, Use}
+use Rattle.dict_tree.specs.Tree.{Source}
 use Rattle.three_state.specs.declared.res.Res.{Res}
 use Rattle.three_state.specs.declared.res.Res.TheVariants.{Complete, Placeholder, Incomplete, Fault}
 use Rattle.three_state.specs.Equality.{res_same}
@@ -30,14 +30,13 @@ use Rattle.evaluation.specs.SlotsRead.{AnswerAlike, item_read, member_read}
 use Rattle.evaluation.proofs.Coincide.{is_head as is_first, map_same}
 use Rattle.evaluation.proofs.ReadsLaws.{all_at_member, reads-decide}
 use Rattle.answers.specs.Answered.{Answered, value_of}
-use Rattle.answers.specs.declared.edit.Side.TheVariants.{Answer, Override}
+use Rattle.answers.specs.declared.edit.Side.TheVariants.{Override}
 use Rattle.common_lemmas.proofs.Bools.{and_intro, both}
-use Rattle.common_lemmas.proofs.Options.{nothing}
 use Rattle.common_lemmas.proofs.Lists.{all_parts}
 use Rattle.dictionary.specs.Accepted.{Accepted, IsAccepted}
 use Rattle.dictionary.specs.Extension.{Extends, IsExtension, both_same}
-use Rattle.dictionary.specs.Fits.{AnswersFit, is_writable}
-use Rattle.dictionary.specs.Plain.{answer_result, at_fact, body, conditional_body, expression, given_value, main_result, open_list, or_override, or_placeholder, plain, plain_step, rank, slot_result}
+use Rattle.dictionary.specs.Fits.{is_writable}
+use Rattle.dictionary.specs.Plain.{answer_result, at_fact, body, conditional_body, expression, given_value, main_result, open_list, or_override, or_placeholder, plain, rank, slot_result}
 use Rattle.dictionary.specs.Reading.{Look, Place, collection, dependency, field_type, outermost, read_by, read_result, result_at, source_env, source_result, slot}
 use Rattle.dictionary.specs.Slots.{standing, stands}
 use Rattle.dictionary.proofs.ExtensionLaws.{equal_same, same_option}
@@ -48,7 +47,7 @@ use Rattle.dictionary.proofs.UntouchedLaws.{step_is}
 use Rattle.explain.specs.Missing.{MissingKeep, is_missing, is_unanswered, lacks_answer, missing}
 use Rattle.explain.specs.Reads.{dependency_reads, expression_reads, fact_reads, field_reads, is_in, is_incomplete, is_read, main_reads, node_reads, placeholder_reads, reads_by, reads_of_op, slot_reads, source_reads, standing_reads, target_slot}
 use Rattle.explain.proofs.PlacedLaws.{Follows, reads_follow}
-use Rattle.explain.proofs.ReachLaws.{falls, is_standing, reads_by_way, reads_itself, standing_is}
+use Rattle.explain.proofs.ReachLaws.{falls, is_standing, reads_by_way, reads_itself}
 use Rattle.explain.proofs.SlotLists.{all_at, all_where, in_filter, test_all, test_at}
 
 -- ---- two maps that give the slots that are read alike

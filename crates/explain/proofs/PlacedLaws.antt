@@ -1,41 +1,36 @@
 -- What a slot that stands reads stands too, or is a slot that never stands: at 0 of a fact whose slots are at members.
-use Rattle.std.proofs.Common.{◌≡◌, ℕ, Bool, true, false, nat_eq, IsTrue, List, [], ◌∷◌, Option, Some, None, refl, sym, ap, ◌∙◌}
-use Rattle.std.specs.Prelude.{option_and_then}
-use Rattle.std.proofs.lemmas.Bool.{eqb-true}
+use Rattle.std.proofs.Common.{◌≡◌, ℕ, Bool, true, false, nat_eq, IsTrue, List, [], ◌∷◌, Option, Some, None, refl, sym, ◌∙◌}
 use Rattle.fact_paths.specs.declared.use_path.UsePath.{UsePath}
 use Rattle.fact_paths.specs.declared.use_path.UsePath.TheVariants.{Global, Sibling, Inner, Each, Through, SiblingThrough}
-use Rattle.fact_values.specs.declared.fact_type.FactType.{FactType}
 use Rattle.fact_values.specs.declared.fact_type.FactType.TheVariants.{Collection, Item}
 use Rattle.fact_values.specs.declared.slot.Slot.{Slot}
 use Rattle.dict_tree.specs.declared.mentions.Mention.{Mention}
 use Rattle.dict_tree.specs.Facts.{Fact}
 use Rattle.dict_tree.specs.Finding.{fact_at}
-use Rattle.dict_tree.specs.Mentions.{found_mentions, use_mentions}
+use Rattle.dict_tree.specs.Mentions.{found_mentions}
 use Rattle.dict_tree.specs.Targets.{collection_at, find_global, find_member, first_target, global_at, item_base_at, list_base_at, second_target, targets}
 use Rattle.dict_types.specs.StatedTypes.{base_number}
-use Rattle.three_state.specs.declared.res.Res.{Res}
 use Rattle.evaluation.specs.Agreement.{IsIn}
 use Rattle.evaluation.specs.Mentioned.{AllOf}
-use Rattle.evaluation.specs.Typed.{IsResOfType}
 use Rattle.answers.specs.Answered.{Answered}
 use Rattle.common_lemmas.proofs.Options.{nothing}
 use Rattle.dictionary.specs.Accepted.{Accepted, IsAccepted}
-use Rattle.dictionary.specs.Fits.{AnswersFit, domains}
+use Rattle.dictionary.specs.Fits.{AnswersFit}
 use Rattle.dictionary.specs.Homes.{home}
 use Rattle.dictionary.specs.Plain.{at_fact, plain}
 use Rattle.dictionary.specs.Reading.{Place, outermost, result_at, slot}
-use Rattle.dictionary.specs.Slots.{is_member, stands, stands_at}
+use Rattle.dictionary.specs.Slots.{stands, stands_at}
 use Rattle.dictionary.proofs.FactMentions.{uses_of_fact}
 use Rattle.dictionary.proofs.MemberLaws.{member_stands, named_by_item, named_by_list, zero_is_none}
 use Rattle.dictionary.proofs.PlainLaws.{standing_have_results}
 use Rattle.dictionary.proofs.ReadAgreement.{first_member, names}
-use Rattle.dictionary.proofs.ReadTypes.{item_target, list_target, type_of_target}
-use Rattle.dictionary.proofs.SlotLaws.{fact_of_standing, stands_where}
+use Rattle.dictionary.proofs.ReadTypes.{item_target, list_target}
+use Rattle.dictionary.proofs.SlotLaws.{stands_where}
 use Rattle.dictionary.proofs.TargetAgreement.{IsReached, StaysBy, agree_under, at_once, at_zero}
 use Rattle.dictionary.proofs.TargetHomes.{global_there, member_home, member_there}
 use Rattle.dictionary.proofs.TypedResultLaws.{target_typed}
 use Rattle.explain.specs.Reads.{fact_reads, slot_reads, target_slot}
-use Rattle.explain.proofs.FactReads.{HoldsOf, HoldsUnder, of_fact}
+use Rattle.explain.proofs.FactReads.{HoldsUnder, of_fact}
 
 -- ---- what holds of every mention
 

@@ -1,8 +1,7 @@
 -- What is read is of lower rank, and so a slot reads itself and all that the slots read that it reads.
-use Rattle.std.proofs.Common.{◌≡◌, ℕ, zero, suc, ◌+◌, ◌<◌, ◌≤◌, ◌||◌, Bool, true, false, ◌&&◌, IsTrue, List, [], ◌∷◌, ◌++◌, filter, flat_map, Option, Some, None, refl, sym, ap, subst, ◌∙◌, arith}
+use Rattle.std.proofs.Common.{◌≡◌, ℕ, zero, suc, ◌+◌, ◌<◌, ◌||◌, Bool, true, false, IsTrue, List, [], ◌∷◌, ◌++◌, flat_map, Option, Some, None, refl, sym, ap, subst, ◌∙◌, arith}
 use Rattle.fact_paths.specs.declared.use_path.UsePath.{UsePath}
 use Rattle.fact_values.specs.declared.slot.Slot.{Slot}
-use Rattle.dict_tree.specs.declared.mentions.Mention.{Mention}
 use Rattle.dict_tree.specs.Facts.{Fact}
 use Rattle.dict_tree.specs.Finding.{fact_at}
 use Rattle.dict_tree.specs.Mentions.{is_same, mention_of, use_mentions}
@@ -10,10 +9,10 @@ use Rattle.dict_tree.specs.Targets.{targets}
 use Rattle.evaluation.specs.Mentioned.{AllOf}
 use Rattle.evaluation.proofs.Mentions.{all-left, all-right}
 use Rattle.answers.specs.Answered.{Answered}
-use Rattle.common_lemmas.proofs.Bools.{and_intro, both, or_left, or_right}
+use Rattle.common_lemmas.proofs.Bools.{and_intro, both, or_right}
 use Rattle.dictionary.specs.Accepted.{Accepted, IsAccepted}
 use Rattle.dictionary.specs.Plain.{at_fact, plain, rank}
-use Rattle.dictionary.specs.Reading.{Place, slot}
+use Rattle.dictionary.specs.Reading.{Place}
 use Rattle.dictionary.specs.Slots.{slot_same, stands}
 use Rattle.dictionary.proofs.RankLaws.{IsLowerMention, lower_uses}
 use Rattle.dictionary.proofs.ReadAgreement.{first_member}

@@ -1,13 +1,11 @@
 -- Slots in lists.
-use Rattle.std.proofs.Common.{◌≡◌, ℕ, ◌+◌, ◌<◌, ◌≤◌, suc, Bool, true, false, not, ◌&&◌, ◌||◌, nat_eq, IsTrue, if◌then◌else◌, List, [], ◌∷◌, ◌++◌, filter, flat_map, length, take, refl, sym, ap, subst, ◌∙◌, arith}
-use Rattle.std.specs.List.{list_any, list_all}
-use Rattle.std.proofs.lemmas.Bool.{eqb-true}
+use Rattle.std.proofs.Common.{◌≡◌, ◌+◌, ◌≤◌, Bool, true, false, ◌&&◌, ◌||◌, IsTrue, if◌then◌else◌, List, [], ◌∷◌, ◌++◌, filter, flat_map, length, refl, sym, ap, subst, ◌∙◌, arith}
+use Rattle.std.specs.List.{list_all}
 use Rattle.std.proofs.lemmas.List.Folds.{list_any-append}
 use Rattle.fact_values.specs.declared.slot.Slot.{Slot}
 use Rattle.common_lemmas.proofs.Bools.{and_intro, both, or_left, or_right}
 use Rattle.dictionary.specs.Slots.{slot_same}
 use Rattle.dictionary.proofs.SlotLaws.{slot_same-equal, slot_same-itself}
-use Rattle.evaluation.specs.Agreement.{IsIn}
 use Rattle.evaluation.specs.Mentioned.{AllOf}
 use Rattle.explain.specs.Reads.{is_in}
 

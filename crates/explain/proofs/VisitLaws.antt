@@ -1,7 +1,6 @@
 -- What is left to read of a list of operands, of cases or of members, before and behind the next one.
-use Rattle.std.proofs.Common.{◌≡◌, ℕ, ◌+◌, ◌<◌, Bool, true, false, if◌then◌else◌, List, [], ◌∷◌, ◌++◌, map, flat_map, length, get_or, drop, drop-cons, add-one, append_assoc, Some, refl, sym, ap, ◌∙◌}
+use Rattle.std.proofs.Common.{◌≡◌, ℕ, ◌+◌, ◌<◌, Bool, true, false, if◌then◌else◌, List, [], ◌∷◌, ◌++◌, map, flat_map, length, get_or, drop, add-one, append_assoc, Some, refl, sym, ap, ◌∙◌}
 use Rattle.fact_values.specs.declared.slot.Slot.{Slot}
-use Rattle.fact_values.specs.declared.fault.ValueFault.{ValueFault}
 use Rattle.fact_values.specs.declared.value.Value.{Value}
 use Rattle.fact_values.specs.declared.value.Value.TheVariants.{Item}
 use Rattle.dict_tree.specs.Dictionary.{Dictionary as Tree}
@@ -16,14 +15,12 @@ use Rattle.operations.specs.CaseSteps.{case_step, truth_step}
 use Rattle.operations.specs.declared.cases.CaseStep.{CaseStep}
 use Rattle.operations.specs.declared.cases.CaseStep.TheVariants.{Next, Take, End}
 use Rattle.operations.specs.ItemSteps.{item_step, value_step}
-use Rattle.operations.specs.Sources.{verdict_on_source}
 use Rattle.operations.specs.declared.reads.ItemStep.TheVariants.{Member}
 use Rattle.operations.specs.declared.reads.ItemStep.TheVariants as item_end
 use Rattle.operations.proofs.StepLaws.{next_member}
-use Rattle.three_state.specs.Results.{members_of, truth}
+use Rattle.three_state.specs.Results.{truth}
 use Rattle.three_state.specs.declared.res.Res.{Res}
 use Rattle.three_state.specs.declared.res.Res.TheVariants.{Complete, Placeholder, Incomplete, Fault}
-use Rattle.three_state.specs.declared.strict.Verdict.TheVariants as verdict
 use Rattle.dictionary.specs.Plain.{conditional_body}
 use Rattle.dictionary.specs.Reading.{Look, Place, source_env}
 

@@ -1,5 +1,5 @@
 -- A walk finds exactly what is read.
-use Rattle.std.proofs.Common.{◌≡◌, ℕ, ◌+◌, ◌<◌, ◌≤◌, Bool, true, false, not, ◌&&◌, ◌||◌, IsTrue, if◌then◌else◌, List, [], ◌∷◌, ◌++◌, filter, length, length-append, ◌-◌, take, refl, sym, ap, subst, ◌∙◌, arith}
+use Rattle.std.proofs.Common.{◌≡◌, ℕ, ◌+◌, Bool, true, false, not, ◌&&◌, ◌||◌, IsTrue, if◌then◌else◌, List, [], ◌∷◌, ◌++◌, filter, length-append, ◌-◌, take, refl, sym, ap, subst, ◌∙◌, arith}
 use Rattle.std.specs.Cmp.{both_ways}
 use Rattle.fact_values.specs.declared.slot.Slot.{Slot}
 use Rattle.dict_tree.specs.Dictionary.{Dictionary as Tree}
@@ -11,7 +11,7 @@ use Rattle.dictionary.proofs.SlotLaws.{listed_stand, slot_same-equal, slot_same-
 use Rattle.explain.specs.declared.found.Found.{Found}
 use Rattle.explain.specs.Found.{has}
 use Rattle.explain.specs.Reads.{is_in, is_read, slot_reads, standing_reads}
-use Rattle.explain.specs.Walk.{AddsReads, IsWalked, unfound}
+use Rattle.explain.specs.Walk.{AddsReads, IsWalked}
 use Rattle.explain.proofs.ReachLaws.{closed_reads, reads_itself, reads_on}
 use Rattle.explain.proofs.SlotLists.{in_append, in_filter, no_more, one_fewer}
 

@@ -1,8 +1,7 @@
 -- The slots that a walk has found.
-use Rattle.std.specs.Prelude.{◌≡◌, ℕ, ◌&&◌, ◌||◌, Bool, nat_eq}
+use Rattle.std.specs.Prelude.{ℕ, ◌&&◌, Bool, nat_eq}
 use Rattle.std.specs.HashSet.{contains}
 use Rattle.fact_values.specs.declared.slot.Slot.{Slot}
-use Rattle.dictionary.specs.Slots.{slot_same}
 use Rattle.explain.specs.declared.found.Found.{Found}
 
 -- a fact and a member

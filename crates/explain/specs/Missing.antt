@@ -1,5 +1,5 @@
 -- Which answers are missing.
-use Rattle.std.specs.Prelude.{◌≡◌, ◌↔◌, ◌⊎◌, ℕ, ◌&&◌, Bool, false, IsTrue, is_none, List, ◌∷◌, filter, flat_map, Option, Some, None}
+use Rattle.std.specs.Prelude.{◌≡◌, ℕ, ◌&&◌, Bool, false, IsTrue, is_none, List, ◌∷◌, filter, flat_map, Option, Some, None}
 use Rattle.std.specs.List.{list_all}
 use Rattle.fact_values.specs.declared.slot.Slot.{Slot}
 use Rattle.dict_tree.specs.Dictionary.{Dictionary as Tree}

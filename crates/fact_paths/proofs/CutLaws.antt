@@ -1,10 +1,12 @@
 -- What cutting a text gives.
-use Rattle.std.proofs.Common.{◌≡◌, ◌≢◌, ℕ, suc, ◌<◌, true, false, List, [], ◌∷◌, ◌++◌, length, drop, get_or, Option, Some, None, eqb, eq-eqb, cond, refl, sym, ap, ◌∙◌, arith}
+use Rattle.std.proofs.Common.{◌≡◌, ◌≢◌, ℕ, suc, ◌<◌, Bool, true, false, List, [], ◌∷◌, ◌++◌, length, drop, get_or, Option, Some, None, eqb, eq-eqb, cond, refl, sym, ap, subst, ◌∙◌, arith}
 use Rattle.std.specs.Prelude.{MatchOption, option_map, option_copied}
 use Rattle.std.proofs.lemmas.Bool.{eqb-true}
+use Rattle.std.proofs.lemmas.Bool.Decides.{nat_tests}
 use Rattle.std.proofs.lemmas.Option.{some_pair_parts}
 use Rattle.std.proofs.lemmas.Str.Pattern.{split_parts, IsSplitOnceResult}
 use Rattle.std.specs.Str.Pattern.{FindsTextPrefix, StripsPrefix}
+use Rattle.common_lemmas.proofs.Options.{mapped}
 use Rattle.fact_paths.specs.Cuts.{Lacks, cut, after}
 use denote.Ref.{Bor}
 
@@ -12,6 +14,11 @@ use denote.Ref.{Bor}
 pub Lacks-at : (c : ℕ) (text : List ℕ) → ((i : ℕ) → i < length text → get_or text i 0 ≢ c) → Lacks c text
 Lacks-at c [] h = tt
 Lacks-at c (b ∷ bs) h = (h 0 (omega arith), Lacks-at c bs (λ i lt. h (suc i) (omega arith)))
+
+-- what neither part has, both in a row don't have
+pub Lacks-append : (c : ℕ) (front back : List ℕ) → Lacks c front → Lacks c back → Lacks c (front ++ back)
+Lacks-append c [] back none back_none = back_none
+Lacks-append c (b ∷ front) back none back_none = (none.0, Lacks-append c front back none.1 back_none)
 
 -- the byte that is looked for decides one way
 same_byte : {A : Type 0} (c : ℕ) (x y : A) → cond (eqb c c) x y ≡ x
@@ -55,6 +62,32 @@ cut_some c (b ∷ bs) front rest e =
           ap (λ (x : List ℕ). b ∷ x) (cut_some c bs p.0 rest p.1) ∙ ap (λ (x : List ℕ). x ++ c ∷ rest) (sym p.2)
     ]
     refl e
+
+-- no byte is the one at which a text isn't cut
+pub uncut_lacks : (c : ℕ) (text : List ℕ) → cut c text ≡ None → Lacks c text
+uncut_lacks c [] e = tt
+uncut_lacks c (b ∷ text) e = at (eqb b c) refl e (uncut_lacks c text)
+  where
+    left : (o : Option (List ℕ × List ℕ)) → option_map {T = List ℕ × List ℕ} {U = List ℕ × List ℕ} (λ p. (b ∷ p.0, p.1)) o ≡ None → o ≡ None
+    left None e = refl
+    left (Some p) e = absurd cc
+
+    at : (t : Bool) → eqb b c ≡ t → cond {A = Option (List ℕ × List ℕ)} t (Some ([], text)) (option_map (λ p. (b ∷ p.0, p.1)) (cut c text)) ≡ None → (cut c text ≡ None → Lacks c text) → Lacks c (b ∷ text)
+    at true h e rest = absurd cc
+    at false h e rest = (let other : b ≢ c = grind (arith, nat_tests) in other, rest (left (cut c text) e))
+
+-- nor is one in front of the cut
+pub front_lacks : (c : ℕ) (text front rest : List ℕ) → cut c text ≡ Some (front, rest) → Lacks c front
+front_lacks c [] front rest e = absurd cc
+front_lacks c (b ∷ text) front rest e = at (eqb b c) refl e (front_lacks c text)
+  where
+    at : (t : Bool) → eqb b c ≡ t → cond {A = Option (List ℕ × List ℕ)} t (Some ([], text)) (option_map (λ p. (b ∷ p.0, p.1)) (cut c text)) ≡ Some (front, rest)
+        → ((x y : List ℕ) → cut c text ≡ Some (x, y) → Lacks c x) → Lacks c front
+    at true h e later = subst (Lacks c) (some_pair_parts [] front text rest e).0 tt
+    at false h e later =
+        let found = mapped {A = List ℕ × List ℕ} {B = List ℕ × List ℕ} (λ p. (b ∷ p.0, p.1)) (cut c text) (front, rest) e in
+        let same : front ≡ b ∷ found.0.0 = ap (λ (p : List ℕ × List ℕ). p.0) found.2 in
+        subst (Lacks c) (sym same) (let other : b ≢ c = grind (arith, nat_tests) in other, later found.0.0 found.0.1 found.1)
 
 -- what `split_once` says of a byte of ASCII
 pub cut_from_split : (c : ℕ) (text : List ℕ) (r : Option (Bor (List ℕ) × Bor (List ℕ))) → c < 128 → IsSplitOnceResult c text r

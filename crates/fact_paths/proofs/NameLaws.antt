@@ -14,7 +14,7 @@ passed_lack test c outside (b ∷ bs) h =
     (λ e. absurd cc, passed_lack test c outside bs parts.1)
 
 -- a letter is one of the bytes of names
-one_of_all : (digit upper lower low dash : Bool) → (upper || lower) ≡ true → ((((digit || upper) || lower) || low) || dash) ≡ true
+pub one_of_all : (digit upper lower low dash : Bool) → (upper || lower) ≡ true → ((((digit || upper) || lower) || low) || dash) ≡ true
 one_of_all true upper lower low dash e = refl
 one_of_all false true lower low dash e = refl
 one_of_all false false true low dash e = refl

@@ -1,16 +1,16 @@
 -- Reading a path of a slot.
-use Rattle.std.proofs.Common.{◌≡◌, ℕ, List, ◌∷◌, ◌++◌, Option, Some, None, refl, ap, ◌∙◌}
+use Rattle.std.proofs.Common.{◌≡◌, ℕ, List, ◌∷◌, ◌++◌, Option, Some, None, refl, ap, ◌∙◌, arith}
 use Rattle.std.specs.Prelude.{codes, decimal}
 use Rattle.std.proofs.lemmas.Option.{none-some, option_and_then_some}
-use Rattle.fact_paths.specs.Cuts.{cut, after}
+use Rattle.fact_paths.specs.Cuts.{Lacks, cut, after}
 use Rattle.fact_paths.specs.Names.{IsName}
-use Rattle.fact_paths.specs.Paths.{IsMemberNumber, SpellsSlotPath}
+use Rattle.fact_paths.specs.Paths.{IsMemberNumber, IsSlotPath, SpellsSlotPath, slot_path_text}
 use Rattle.fact_paths.specs.Reading.{◌>>=◌, of_names, member_number_of, slot_member_from, slot_path_from, slot_path_of}
 use Rattle.fact_paths.specs.declared.slot_path.SlotPath.{SlotPath}
 use Rattle.fact_paths.specs.declared.slot_path.SlotPath.TheVariants as slots
-use Rattle.fact_paths.proofs.CutLaws.{cut-lacks, cut-append, cut_some, after_some}
+use Rattle.fact_paths.proofs.CutLaws.{Lacks-append, cut-lacks, cut-append, cut_some, after_some}
 use Rattle.fact_paths.proofs.MemberNumbers.{member_number_some, member_number-decimal, decimal_lacks}
-use Rattle.fact_paths.proofs.NameLaws.{name_lacks_slash}
+use Rattle.fact_paths.proofs.NameLaws.{name_lacks, name_lacks_slash}
 use Rattle.fact_paths.proofs.ReadingLaws.{IsReading, of_name_some, of_name-name, of_names_some, of_names-names}
 
 -- a member's path, and its number
@@ -61,3 +61,14 @@ complete text (slots.Member n k m) h =
 -- so reading and spelling agree
 pub slot_path_reading : IsReading SpellsSlotPath slot_path_of
 slot_path_reading = record { sound = sound; complete = complete }
+
+-- a slot's path has no blank
+pub slot_lacks_blank : (slot : SlotPath) → IsSlotPath slot → Lacks 32 (slot_path_text slot)
+slot_lacks_blank (slots.Global n) is = (omega arith, name_lacks 32 refl n is)
+slot_lacks_blank (slots.Member n k m) is = (
+  omega arith,
+  Lacks-append 32 n (codes "/#" ++ (decimal k ++ (codes "/" ++ m))) (name_lacks 32 refl n is.0) (
+    omega arith,
+    (omega arith, Lacks-append 32 (decimal k) (codes "/" ++ m) (decimal_lacks 32 refl k is.1) (omega arith, name_lacks 32 refl m is.2)),
+  ),
+)

@@ -1,5 +1,5 @@
 -- What a watch's relation says of a result and the one after it.
-use Rattle.std.specs.Prelude.{ℕ, ◌≤◌, Bool, true, false, not, ◌&&◌, ◌==◌, int_lt, if◌then◌else◌, Option, Some, None}
+use Rattle.std.specs.Prelude.{ℕ, ◌≤◌, Bool, true, false, not, ◌&&◌, ◌==◌, int_lt, if◌then◌else◌, Option, Some}
 use Rattle.fact_values.specs.declared.value.Value.{Value}
 use Rattle.fact_values.specs.declared.value.Value.TheVariants.{Int, Dollar}
 use Rattle.three_state.specs.declared.res.Res.{Res}

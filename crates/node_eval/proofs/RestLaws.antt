@@ -1,10 +1,7 @@
 -- What is left of a list of operands, of cases or of members, before and behind the next one.
-use Rattle.std.proofs.Common.{◌≡◌, subst, ℕ, suc, ◌+◌, ◌<◌, ◌≤◌, ◌++◌, Bool, true, false, if◌then◌else◌, List, [], ◌∷◌, refl, sym, ap, ◌∙◌, arith, inl, inr, map, sum_by, length, drop, drop-cons, get_or, add-one}
-use Rattle.std.specs.Prelude.{◌⊎◌, IfOk, OnOk, Result}
-use Rattle.std.proofs.lemmas.Result.{on_ok_weaker}
+use Rattle.std.proofs.Common.{◌≡◌, subst, ℕ, ◌+◌, ◌<◌, ◌++◌, Bool, true, false, if◌then◌else◌, List, [], ◌∷◌, refl, sym, ap, ◌∙◌, inl, inr, map, sum_by, length, drop, get_or, add-one}
+use Rattle.std.specs.Prelude.{◌⊎◌}
 use Rattle.std.proofs.lemmas.List.Sums.{sum_by-cons}
-use Rattle.fact_values.specs.declared.fault.ValueFault.{ValueFault}
-use Rattle.fact_values.specs.declared.memory.NoMemory.{NoMemory}
 use Rattle.fact_values.specs.declared.value.Value.TheVariants.{Item}
 use Rattle.common_lemmas.proofs.Lists.{kept_one}
 use Rattle.dict_tree.specs.Tree.{Tree}
@@ -13,16 +10,14 @@ use Rattle.evaluation.specs.Over.{Env, over, over_all, over_cases, weight, weigh
 use Rattle.evaluation.specs.SlotsRead.{after_condition, up_to_decider}
 use Rattle.operations.specs.CaseSteps.{after_case, case_step, find_from, switch_from, truth_step}
 use Rattle.operations.specs.ManyFolds.{ManySeen, many_from, saw}
-use Rattle.operations.specs.Sources.{verdict_on_source}
 use Rattle.operations.specs.declared.cases.CaseStep.{CaseStep}
 use Rattle.operations.specs.declared.cases.CaseStep.TheVariants.{Next, Take, End}
 use Rattle.operations.proofs.StepLaws.{next_member}
 use Rattle.three_state.specs.Folds.{filter_on, kept_next, verdict_next}
-use Rattle.three_state.specs.Results.{is_true, kept, members_of, truth}
+use Rattle.three_state.specs.Results.{is_true, kept, truth}
 use Rattle.three_state.specs.declared.res.Res.{Res}
 use Rattle.three_state.specs.declared.res.Res.TheVariants.{Complete, Placeholder, Incomplete, Fault}
 use Rattle.three_state.specs.declared.strict.Verdict.{Verdict}
-use Rattle.three_state.specs.declared.strict.Verdict.TheVariants as verdict
 use Rattle.node_eval.specs.Memory.{AfterCondition, Chosen, SomeOf, TakesInAll, TakesInCases, TakesMemory}
 use Rattle.node_eval.specs.View.{cases_of, trees_of}
 use Rattle.evaluation.specs.Visits.{visits, visits_after, visits_of_all, visits_of_cases}

@@ -5,7 +5,7 @@ use Rattle.three_state.specs.Folds.{down_unless, switch_on}
 use Rattle.three_state.specs.Laws.{switch_next}
 use Rattle.three_state.specs.Results.{find_cases, find_of, members_in, members_of, switch_of, truth}
 use Rattle.three_state.specs.declared.res.Res.{Res}
-use Rattle.three_state.specs.declared.res.Res.TheVariants.{Complete, Placeholder, Incomplete, Fault}
+use Rattle.three_state.specs.declared.res.Res.TheVariants.{Complete, Placeholder, Incomplete}
 use Rattle.three_state.proofs.RuleLaws.{switch_on-next}
 use Rattle.evaluation.specs.Reads.{through_item}
 use Rattle.operations.specs.CaseSteps.{after_case, case_step, find_after, find_from, switch_from, truth_step}

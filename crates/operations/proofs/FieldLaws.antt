@@ -12,7 +12,7 @@ use Rattle.three_state.specs.Folds.{verdict_on}
 use Rattle.three_state.specs.Results.{after_verdict, count_of, field_operands, fields_in, members_of, strict_over_fields, truth, values_of}
 use Rattle.three_state.specs.declared.res.Res.{Res}
 use Rattle.three_state.specs.declared.strict.Verdict.{Verdict}
-use Rattle.three_state.specs.declared.res.Res.TheVariants.{Complete, Placeholder, Incomplete, Fault}
+use Rattle.three_state.specs.declared.res.Res.TheVariants.{Complete, Placeholder}
 use Rattle.three_state.proofs.FoldLaws.{verdict_on-start}
 use Rattle.evaluation.specs.Operations.{dollar_in, int_in, sum_of_dollars, sum_of_ints, total, value_as}
 use Rattle.evaluation.specs.Reads.{sum_over}

@@ -1,5 +1,5 @@
 -- A Filter in a loop, from the verdict on its collection.
-use Rattle.std.proofs.Common.{◌≡◌, ℕ, Bool, true, false, if◌then◌else◌, List, [], ◌∷◌, map, Option, Some, None, Ok, refl, ap, ◌∙◌}
+use Rattle.std.proofs.Common.{◌≡◌, ℕ, Bool, true, false, if◌then◌else◌, List, [], ◌∷◌, map, Option, None, Ok, refl, ap, ◌∙◌}
 use Rattle.std.specs.List.{list_all, list_any}
 use Rattle.fact_values.specs.declared.fault.ValueFault.{ValueFault}
 use Rattle.fact_values.specs.declared.value.Value.{Value}
@@ -8,7 +8,7 @@ use Rattle.fact_values.specs.Members.{IsMemberList}
 use Rattle.three_state.specs.Folds.{filter_on}
 use Rattle.three_state.specs.Results.{after_verdict, down, fault_or_go, filter_of, first_fault, is_complete, is_incomplete, is_true, kept, members_in, members_of, verdict_of}
 use Rattle.three_state.specs.declared.res.Res.{Res}
-use Rattle.three_state.specs.declared.res.Res.TheVariants.{Complete, Placeholder, Incomplete, Fault}
+use Rattle.three_state.specs.declared.res.Res.TheVariants.{Placeholder, Incomplete}
 use Rattle.three_state.specs.declared.strict.Verdict.TheVariants as verdict
 use Rattle.three_state.proofs.FoldLaws.{verdict_on-start}
 use Rattle.three_state.proofs.RuleLaws.{filter_on-found}

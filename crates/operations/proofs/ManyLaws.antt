@@ -4,10 +4,10 @@ use Rattle.fact_values.specs.declared.fault.ValueFault.{ValueFault}
 use Rattle.fact_values.specs.declared.value.Value.{Value}
 use Rattle.dict_tree.specs.declared.operators.ManyOp.{ManyOp}
 use Rattle.dict_tree.specs.declared.operators.ManyOp.TheVariants as many_op
-use Rattle.three_state.specs.Folds.{junction_next, junction_on, verdict_next, verdict_on}
+use Rattle.three_state.specs.Folds.{junction_next, junction_on, verdict_on}
 use Rattle.three_state.specs.Results.{after_verdict, values_of, verdict_of}
 use Rattle.three_state.specs.declared.res.Res.{Res}
-use Rattle.three_state.specs.declared.res.Res.TheVariants.{Complete, Placeholder, Incomplete, Fault}
+use Rattle.three_state.specs.declared.res.Res.TheVariants.{Complete, Placeholder}
 use Rattle.three_state.specs.declared.strict.Verdict.{Verdict}
 use Rattle.three_state.proofs.FoldLaws.{junction_on-start, verdict_on-start}
 use Rattle.evaluation.specs.Operations.{greater, greatest, least, lesser, many_value}

@@ -1,10 +1,9 @@
 -- A final result stays.
-use Rattle.std.proofs.Common.{◌≡◌, ℕ, List, ◌||◌, IsTrue, Option, Some, None, is_some, refl, sym, ◌∙◌}
+use Rattle.std.proofs.Common.{◌≡◌, ℕ, List, ◌||◌, IsTrue, Option, Some, is_some, sym, ◌∙◌}
 use Rattle.fact_values.specs.declared.slot.Slot.{Slot}
 use Rattle.fact_values.specs.declared.value.Value.{Value}
 use Rattle.dict_tree.specs.Dictionary.{Dictionary as Tree}
-use Rattle.dict_tree.specs.Facts.{Fact}
-use Rattle.dict_tree.specs.Finding.{IsNumber, fact_at}
+use Rattle.dict_tree.specs.Finding.{IsNumber}
 use Rattle.three_state.specs.declared.res.Res.{Res}
 use Rattle.three_state.specs.declared.res.Res.TheVariants.{Complete}
 use Rattle.common_lemmas.proofs.Bools.{both_left}
@@ -12,9 +11,8 @@ use Rattle.answers.specs.Answered.{Answered, value_of}
 use Rattle.answers.specs.declared.edit.Side.TheVariants.{Override}
 use Rattle.dictionary.specs.Accepted.{Accepted, IsAccepted}
 use Rattle.dictionary.specs.Final.{is_complete_in, is_final}
-use Rattle.dictionary.specs.Homes.{home}
 use Rattle.dictionary.specs.Plain.{plain}
-use Rattle.dictionary.specs.Slots.{stands, stands_of}
+use Rattle.dictionary.specs.Slots.{stands}
 use Rattle.dictionary.specs.Steady.{steady}
 use Rattle.dictionary.proofs.FinalLaws.{complete_value, final_stays}
 use Rattle.dictionary.proofs.NumberLaws.{fact_within}

@@ -1,9 +1,6 @@
 -- What is left of a list of operands, of cases or of members, before and behind the next one.
-use Rattle.std.proofs.Common.{◌≡◌, subst, ℕ, suc, ◌+◌, ◌≤◌, ◌++◌, Bool, true, false, refl, if◌then◌else◌, List, [], ◌∷◌, sym, ap, ◌∙◌, arith, map, sum_by, ◌<◌, length, drop, drop-cons, get_or, add-one, Some}
-use Rattle.std.specs.Prelude.{IfOk, OnOk, Result}
+use Rattle.std.proofs.Common.{◌≡◌, ℕ, suc, ◌+◌, ◌++◌, Bool, true, false, refl, if◌then◌else◌, List, [], ◌∷◌, sym, ap, ◌∙◌, map, sum_by, ◌<◌, length, drop, get_or, add-one, Some}
 use Rattle.std.proofs.lemmas.List.Sums.{sum_by-cons}
-use Rattle.std.proofs.lemmas.Result.{on_ok_weaker}
-use Rattle.fact_values.specs.declared.memory.NoMemory.{NoMemory}
 use Rattle.fact_values.specs.declared.value.Value.TheVariants.{Boolean, Item}
 use Rattle.common_lemmas.proofs.Lists.{kept_one}
 use Rattle.dict_tree.specs.Tree.{Literal, Reading, Source, Use}

@@ -1,6 +1,5 @@
 -- The table is filled with plain evaluation.
-use Rattle.std.proofs.Common.{◌≡◌, ℕ, ◌&&◌, Bool, true, false, nat_eq, IsTrue, if◌then◌else◌, List, Option, Some, None, refl, sym, ap, ◌∙◌}
-use Rattle.common_lemmas.proofs.Numbers.{nat_eq-comm}
+use Rattle.std.proofs.Common.{◌≡◌, ℕ, Bool, true, false, IsTrue, if◌then◌else◌, List, Option, Some, None, refl, sym, ap, ◌∙◌}
 use Rattle.fact_values.specs.declared.slot.Slot.{Slot}
 use Rattle.dict_tree.specs.Facts.{Fact}
 use Rattle.dict_tree.specs.Finding.{fact_at}

@@ -13,7 +13,7 @@ use Rattle.dict_order.specs.Ranks.{rank_of}
 use Rattle.dict_order.proofs.ListLaws.{at_most_or_above}
 use Rattle.three_state.specs.declared.res.Res.{Res}
 use Rattle.common_lemmas.proofs.Bools.{or_false, or_left, or_right}
-use Rattle.common_lemmas.proofs.Options.{nothing, something}
+use Rattle.common_lemmas.proofs.Options.{something}
 use Rattle.answers.specs.Answered.{Answered, list_of}
 use Rattle.dictionary.specs.Accepted.{Accepted}
 use Rattle.dictionary.specs.ByRank.{AreByRank}
@@ -23,7 +23,7 @@ use Rattle.dictionary.specs.Reading.{Look}
 use Rattle.dictionary.specs.Slots.{is_member, members_of_home, stands, stands_at, stands_of}
 use Rattle.dictionary.proofs.ByRankLaws.{place_of_fact}
 use Rattle.dictionary.proofs.NumberLaws.{fact_within}
-use Rattle.dictionary.proofs.PlainLaws.{no_result, standing_have_results}
+use Rattle.dictionary.proofs.PlainLaws.{no_result}
 use Rattle.dictionary.proofs.SlotLaws.{fact_of_standing}
 use Rattle.plain_table.specs.Filling.{HasAll, HasFacts, IsFilled, is_at}
 

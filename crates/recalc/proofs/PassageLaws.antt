@@ -1,6 +1,5 @@
 -- A loop over the slots that wait gives each its new result.
-use Rattle.std.proofs.Common.{◌≡◌, ◌<◌, ◌≤◌, ℕ, Bool, true, false, not, ◌&&◌, ◌||◌, if◌then◌else◌, IsTrue, List, [], ◌∷◌, ◌++◌, Option, None, refl, sym, ap, ◌∙◌, arith}
-use Rattle.common_lemmas.proofs.Options.{nothing}
+use Rattle.std.proofs.Common.{◌≡◌, ◌<◌, ◌≤◌, ℕ, Bool, true, false, not, ◌&&◌, ◌||◌, if◌then◌else◌, IsTrue, List, [], ◌∷◌, ◌++◌, Option, refl, sym, ap, ◌∙◌, arith}
 use Rattle.fact_values.specs.declared.slot.Slot.{Slot}
 use Rattle.dict_tree.specs.Finding.{IsNumber}
 use Rattle.three_state.specs.declared.res.Res.{Res}
@@ -12,7 +11,7 @@ use Rattle.dictionary.specs.Reading.{Look}
 use Rattle.dictionary.specs.Slots.{slot_same, stands}
 use Rattle.dictionary.proofs.FeedLaws.{feeds_fall}
 use Rattle.dictionary.proofs.NumberLaws.{fact_within}
-use Rattle.dictionary.proofs.PlainLaws.{no_result, standing_have_results}
+use Rattle.dictionary.proofs.PlainLaws.{no_result}
 use Rattle.dictionary.proofs.SlotLaws.{fact_of_standing, slot_same-equal}
 use Rattle.recalc.specs.Spread.{Spread, is_in}
 use Rattle.recalc.specs.Marking.{IsLeast, IsMarked}

@@ -1,8 +1,6 @@
 -- How many steps changes take at most, by example.
-use Rattle.std.proofs.Common.{◌≡◌, ℕ, true, false, cond, List, [], ◌∷◌, Option, Some, None, pos, refl, ap, ◌∙◌}
-use Rattle.std.specs.Prelude.{codes, nat_eq, map as map_list}
-use Rattle.std.specs.FinMap as map
-use Rattle.std.specs.Ordering.{nat_cmp}
+use Rattle.std.proofs.Common.{◌≡◌, ℕ, true, false, List, [], ◌∷◌, Some, None, pos}
+use Rattle.std.specs.Prelude.{codes, map as map_list}
 use Rattle.fact_paths.specs.Paths.{fact_path_text, use_path_text}
 use Rattle.fact_paths.specs.declared.fact_path.FactPath.{FactPath}
 use Rattle.fact_paths.specs.declared.fact_path.FactPath.TheVariants as facts
@@ -18,8 +16,7 @@ use Rattle.dict_tree.specs.declared.operators.PickOp.TheVariants.{Filter}
 use Rattle.dict_tree.specs.Tree.{Source, Use, many, no_trees, pick, read, tree}
 use Rattle.dict_tree.specs.Facts.{Fact, list_of, scalar, writable_list}
 use Rattle.answers.specs.Answered.{Answered, Entry}
-use Rattle.answers.specs.Finite.{Numbered, put_at}
-use Rattle.answers.proofs.FiniteLaws.{get_put}
+use Rattle.answers.proofs.SmallMaps.{map_at, get_at}
 use Rattle.dictionary.specs.Accepted.{Accepted}
 use Rattle.dictionary.specs.Extension.{extends}
 use Rattle.dictionary.specs.Plain.{plain, table}
@@ -72,19 +69,6 @@ sums = record {
 }
 
 -- ---- answers
-
-map_at : {X : Type 0} → List (ℕ × X) → Numbered X
-map_at [] = map.empty
-map_at (x ∷ xs) = put_at (map_at xs) x.0 (Some x.1)
-
-abbrev found_at : {X : Type 0} → List (ℕ × X) → ℕ → Option X
-found_at [] k = None
-found_at (x ∷ xs) k = cond (nat_eq x.0 k) (Some x.1) (found_at xs k)
-
-get_at : {X : Type 0} (xs : List (ℕ × X)) (k : ℕ) → map.get (map_at xs) k ≡ found_at xs k
-unfolding map_at
-get_at [] k = map.get-empty nat_cmp k
-get_at (x ∷ xs) k = get_put (map_at xs) x.0 (Some x.1) k ∙ ap (cond (nat_eq x.0 k) (Some x.1)) (get_at xs k)
 
 abbrev Values : Type 0
 Values = List (ℕ × Value)

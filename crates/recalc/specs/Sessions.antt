@@ -1,5 +1,5 @@
 -- What the commands of a session take and leave, over an engine that counts.
-use Rattle.std.specs.Prelude.{◌≡◌, ℕ, ◌+◌, Bool, true, false, IsTrue, Option, Some, None, Result, Ok, Err}
+use Rattle.std.specs.Prelude.{◌≡◌, ℕ, ◌+◌, Bool, true, false, IsTrue, Some, Ok, Err}
 use Rattle.fact_values.specs.declared.slot.Slot.{Slot}
 use Rattle.script_lines.specs.declared.command.Command.{Command}
 use Rattle.script_lines.specs.declared.command.Command.TheVariants.{Set, Clear, OpenList, Add, Remove, Override, Release, Undo, Redo, Get, Final, Stamp, Touched, Missing, Watch, Unwatch, Quit}

@@ -1,5 +1,5 @@
 -- The parts of a command behind its first word: what is read of a text is what it spells.
-use Rattle.std.proofs.Common.{◌≡◌, ℕ, List, [], ◌∷◌, ◌++◌, Option, Some, None, refl, sym, ap, subst, ◌∙◌, arith, Bor}
+use Rattle.std.proofs.Common.{◌≡◌, ℕ, List, ◌∷◌, ◌++◌, Option, Some, None, refl, sym, ap, subst, ◌∙◌, arith, Bor}
 use Rattle.std.specs.Prelude.{codes, decimal, option_map, MatchOption}
 use Rattle.std.proofs.lemmas.Option.{cond_some, same_Some}
 use Rattle.std.proofs.lemmas.Str.Pattern.{IsSplitOnceResult}
@@ -9,11 +9,10 @@ use Rattle.fact_paths.specs.Names.{is_name, IsName}
 use Rattle.fact_paths.specs.Paths.{IsMemberNumber, IsSlotPath, SpellsSlotPath, slot_path_text}
 use Rattle.fact_paths.specs.Reading.{◌>>=◌, name_of, member_number_of}
 use Rattle.fact_paths.specs.declared.slot_path.SlotPath.{SlotPath}
-use Rattle.fact_paths.specs.declared.slot_path.SlotPath.TheVariants as slots
 use Rattle.fact_paths.proofs.CutLaws.{cut-append, cut_some, cut_from_split, after_some}
-use Rattle.fact_paths.proofs.MemberNumbers.{member_number_some, member_number-decimal, decimal_lacks}
+use Rattle.fact_paths.proofs.MemberNumbers.{member_number_some, member_number-decimal}
 use Rattle.fact_paths.proofs.NameLaws.{name_lacks}
-use Rattle.fact_paths.proofs.SlotPathLaws.{slot_path_reading}
+use Rattle.fact_paths.proofs.SlotPathLaws.{slot_lacks_blank, slot_path_reading}
 use Rattle.script_lines.specs.Reading.{at_blank, slot_of, slot_and_value_of, member_of, slot_and_member_of, name_and_slot_of}
 
 -- ---- blanks
@@ -28,23 +27,8 @@ cut_is text parts is = by_cases parts (cut_from_split 32 text parts (omega arith
     by_cases None e = sym e
     by_cases (Some p) e = sym e
 
-Lacks-append : (c : ℕ) (front back : List ℕ) → Lacks c front → Lacks c back → Lacks c (front ++ back)
-Lacks-append c [] back none back_none = back_none
-Lacks-append c (b ∷ front) back none back_none = (none.0, Lacks-append c front back none.1 back_none)
-
 name_lacks_blank : (n : List ℕ) → IsName n → Lacks 32 n
 name_lacks_blank n is = name_lacks 32 refl n is
-
--- a slot's path has no blank
-slot_lacks_blank : (slot : SlotPath) → IsSlotPath slot → Lacks 32 (slot_path_text slot)
-slot_lacks_blank (slots.Global n) is = (omega arith, name_lacks_blank n is)
-slot_lacks_blank (slots.Member n k m) is = (
-  omega arith,
-  Lacks-append 32 n (codes "/#" ++ (decimal k ++ (codes "/" ++ m))) (name_lacks_blank n is.0) (
-    omega arith,
-    (omega arith, Lacks-append 32 (decimal k) (codes "/" ++ m) (decimal_lacks 32 refl k is.1) (omega arith, name_lacks_blank m is.2)),
-  ),
-)
 
 -- ---- paths and names
 

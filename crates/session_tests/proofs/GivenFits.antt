@@ -1,5 +1,5 @@
 -- A given list of a Writable collection fits.
-use Rattle.std.proofs.Common.{◌≡◌, ◌<◌, ℕ, List, [], ◌∷◌, arith}
+use Rattle.std.proofs.Common.{ℕ, List, [], ◌∷◌, arith}
 use Rattle.std.specs.Prelude.{IsTrue, IfSome, Option, Some, None}
 use Rattle.std.proofs.lemmas.List.Elements.{All-cons}
 use Rattle.dict_tree.specs.Dictionary.{Dictionary as Tree}

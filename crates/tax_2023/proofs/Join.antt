@@ -25,8 +25,7 @@ use Rattle.answers.specs.Answered.{Answered}
 use Rattle.dictionary.specs.Accepted.{Accepted, IsAccepted}
 use Rattle.dictionary.specs.Plain.{HasKnown, answer_result, at_fact, body, expression, main_result, or_override, or_placeholder, plain, plain_step, rank, slot_result}
 use Rattle.dictionary.specs.Reading.{Look, Place, dependency, outermost, read_by, read_result, result_at, slot, source_result}
-use Rattle.dictionary.specs.Slots.{stands, stands_of}
-use Rattle.dictionary.specs.Homes.{home}
+use Rattle.dictionary.specs.Slots.{stands}
 use Rattle.dictionary.proofs.PlainLaws.{joined_by_rank}
 use Rattle.dictionary.proofs.SlotLaws.{fact_of_standing}
 use Rattle.tax_2023.proofs.Told.{AllHaveTold, HasBody, HasTold, Told, is_members, known, knows_by, knows_member, knows_path, knows_slot, knows_source, list_of_path, list_told, member_read, member_told, told_at, value_by, value_in, value_of_path}

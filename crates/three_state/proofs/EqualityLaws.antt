@@ -1,6 +1,5 @@
 -- The tests of values and results are equality.
-use Rattle.std.proofs.Common.{◌≡◌, ℕ, ℤ, Bool, true, false, IsTrue, ◌↔◌, ◌&&◌, ◌==◌, refl, sym, ap, ap₂}
-use Rattle.std.specs.Bool.{beq}
+use Rattle.std.proofs.Common.{◌≡◌, ℕ, ℤ, Bool, true, IsTrue, ◌↔◌, ◌&&◌, ◌==◌, refl, sym, ap, ap₂}
 use Rattle.std.specs.Ordering.{int_eq}
 use Rattle.std.specs.Cmp.{booleans_Decides, signed_Decides}
 use Rattle.std.proofs.lemmas.Bool.Decides.{same_from_decides}

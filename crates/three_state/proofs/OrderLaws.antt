@@ -1,13 +1,13 @@
 -- Each rule keeps a complete result where its operands keep theirs.
 -- A rule that needs all its operands: either all are complete, and then the operands stay as they are, or the result isn't complete.
-use Rattle.std.proofs.Common.{◌≡◌, ℕ, Bool, true, false, ◌||◌, not, if◌then◌else◌, List, [], ◌∷◌, map, Option, Some, None, Result, Ok, Err, refl}
+use Rattle.std.proofs.Common.{◌≡◌, ℕ, Bool, true, false, ◌||◌, not, if◌then◌else◌, List, [], ◌∷◌, map, Option, None, Result, Ok, refl}
 use Rattle.std.specs.List.{list_any, list_all}
 use Rattle.common_lemmas.proofs.Bools.{or_right}
 use Rattle.fact_values.specs.declared.fault.ValueFault.{ValueFault}
 use Rattle.fact_values.specs.declared.value.Value.{Value}
 use Rattle.fact_values.specs.declared.value.Value.TheVariants.{Boolean, Item}
 use Rattle.three_state.specs.declared.res.Res.{Res}
-use Rattle.three_state.specs.declared.res.Res.TheVariants.{Complete, Placeholder, Incomplete, Fault}
+use Rattle.three_state.specs.declared.res.Res.TheVariants.{Complete, Placeholder, Incomplete}
 use Rattle.three_state.specs.declared.strict.Verdict.TheVariants as verdict
 use Rattle.three_state.specs.Results.{after_verdict, down, fault_else, fault_or_go, fields_in, filter_members, filter_of, find_cases, find_member, find_of, first_fault, is_complete, is_complete_at, is_incomplete, is_placeholder, is_placeholder_at, is_truth, junction, kept, members_in, strict, strict_over_fields, switch_case, switch_of, through, truth, values_of}
 use Rattle.three_state.specs.Order.{Keeps, KeepsAll, KeepsCases}

@@ -1,5 +1,5 @@
 -- Complete operands, and the forms in which loops take Switch and Filter.
-use Rattle.std.proofs.Common.{◌≡◌, ℕ, Bool, true, false, not, if◌then◌else◌, List, [], ◌∷◌, ◌++◌, map, None, Result, Ok, IsTrue, refl, sym, ap, ◌∙◌, append_assoc}
+use Rattle.std.proofs.Common.{◌≡◌, ℕ, Bool, true, false, not, if◌then◌else◌, List, [], ◌∷◌, ◌++◌, map, None, Result, Ok, IsTrue, refl, sym, ap, ◌∙◌}
 use Rattle.std.proofs.lemmas.List.{append-nil}
 use Rattle.common_lemmas.proofs.Lists.{kept_one}
 use Rattle.std.specs.List.{list_any, list_all}

@@ -1,4 +1,4 @@
-use Rattle.std.proofs.Common.{◌+◌, ◌≤◌, ◌<◌, length, arith, ap, add-one, ◌∙◌}
+use Rattle.std.proofs.Common.{◌≤◌, ◌<◌, length, arith, ap, add-one, ◌∙◌}
 use Rattle.std.proofs.lemmas.List.{take_all}
 use Rattle.dict_tree.specs.Dictionary.{dictionary_view}
 use Rattle.dict_order.specs.MentionGraph.{mention_graph}

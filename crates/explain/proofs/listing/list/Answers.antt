@@ -1,5 +1,4 @@
-use Rattle.std.proofs.Common.{◌≡◌, ℕ, ◌≤◌, filter, length, ap, arith, sym, ◌∙◌}
-use Rattle.dict_tree.specs.Facts.{Fact}
+use Rattle.std.proofs.Common.{◌≡◌, ℕ, ◌≤◌, filter, length, ap, arith, ◌∙◌}
 use Rattle.dictionary.specs.Accepted.{Kept, accepted}
 use Rattle.explain.specs.Ground.{tree_of}
 use Rattle.explain.specs.Listing.{is_listed}

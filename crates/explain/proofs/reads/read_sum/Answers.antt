@@ -1,6 +1,4 @@
 use Rattle.std.proofs.Common.{List, ℕ, map, ap, ap₂, ◌∙◌}
-use Rattle.fact_values.specs.declared.fact_type.FactType.{FactType}
-use Rattle.three_state.specs.declared.res.Res.{Res}
 use Rattle.three_state.specs.Results.{members_of}
 use Rattle.operations.proofs.FieldLaws.{sum_from-start}
 use Rattle.operations.specs.FieldFolds.{FieldsSummed, sum_from, sum_start}

@@ -1,11 +1,10 @@
-use Rattle.std.proofs.Common.{◌≡◌, ◌+◌, ◌++◌, [], List, ℕ, flat_map, map, drop, append_assoc, refl, sym, ap, ◌∙◌, arith}
+use Rattle.std.proofs.Common.{◌≡◌, ◌+◌, ◌++◌, [], List, ℕ, flat_map, map, drop, refl, sym, ap, ◌∙◌, arith}
 use Rattle.std.proofs.lemmas.List.{append-nil, drop_all, length-map}
-use Rattle.fact_values.specs.declared.slot.Slot.{Slot}
 use Rattle.dict_tree.specs.Tree.{pick}
 use Rattle.dict_tree.specs.View.{case_view, cases_of, trees_of, use_view, view}
 use Rattle.dict_tree.proofs.Views.{view-Pick}
 use Rattle.evaluation.specs.Over.{over, over_all, over_cases}
-use Rattle.evaluation.specs.SlotsRead.{slots_read, slots_read_of_all, slots_read_of_cases, up_to_decider}
+use Rattle.evaluation.specs.SlotsRead.{slots_read, slots_read_of_all, slots_read_of_cases}
 use Rattle.operations.specs.CaseSteps.{after_case, find_after, find_from, switch_from}
 use Rattle.operations.specs.ManyFolds.{many_from}
 use Rattle.operations.specs.declared.cases.CaseStep.TheVariants.{Next, Take, End}
@@ -18,7 +17,7 @@ use Rattle.three_state.specs.declared.strict.Verdict.{Verdict}
 use Rattle.dictionary.specs.Reading.{Place}
 use Rattle.plain_table.proofs.EvalLaws.{all_next, case_at, filter_next, find_at, kept_more}
 use Rattle.explain.specs.Ground.{condition_on, condition_reads, env_of, reads_in}
-use Rattle.explain.proofs.VisitLaws.{case_read, joined, judged_read, member_read, operand_read}
+use Rattle.explain.proofs.VisitLaws.{case_read, judged_read, member_read, operand_read}
 use Rattle.explain.proofs.visit.+visit.Goals as goal
 
 -- ---- visit

@@ -1,12 +1,10 @@
-use Rattle.std.specs.Prelude.{OnOk}
-use Rattle.std.proofs.Common.{subst, refl, ◌≡◌, ◌+◌, ◌++◌, [], List, ℕ, sum_by, map, drop, sym, ap, ◌∙◌, arith}
+use Rattle.std.proofs.Common.{refl, ◌≡◌, ◌+◌, ◌++◌, [], List, ℕ, sum_by, map, drop, sym, ap, ◌∙◌, arith}
 use Rattle.std.proofs.lemmas.List.{append-nil, drop_all, length-map}
 use Rattle.dict_tree.specs.Tree.{pick}
 use Rattle.dict_tree.specs.View.{case_view, cases_of, trees_of, use_view, view}
 use Rattle.dict_tree.proofs.Views.{view-Pick}
 use Rattle.evaluation.specs.Over.{over, over_all, over_cases, weight}
-use Rattle.evaluation.specs.SlotsRead.{up_to_decider}
-use Rattle.evaluation.specs.Visits.{visits, visits_of_all, visits_of_cases}
+use Rattle.evaluation.specs.Visits.{visits}
 use Rattle.operations.specs.CaseSteps.{after_case, find_after, find_from, switch_from}
 use Rattle.operations.specs.ManyFolds.{many_from}
 use Rattle.operations.specs.declared.cases.CaseStep.TheVariants.{Next, Take, End}
@@ -16,7 +14,6 @@ use Rattle.operations.proofs.ManyLaws.{many_from-start}
 use Rattle.operations.proofs.StepLaws.{ok_more, ok_same, one_more}
 use Rattle.three_state.specs.Results.{kept, members_of}
 use Rattle.three_state.specs.declared.strict.Verdict.{Verdict}
-use Rattle.three_state.specs.declared.strict.Verdict.TheVariants as verdict
 use Rattle.dictionary.specs.Reading.{Place}
 use Rattle.plain_table.specs.Ground.{condition_on, env_of, visits_on, work_on}
 use Rattle.plain_table.proofs.EvalLaws.{all_next, all_visits, all_weigh, case_at, cases_visits, cases_weigh, filter_next, find_at, found_visits, kept_more, members_weigh}

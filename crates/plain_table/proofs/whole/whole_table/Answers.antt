@@ -1,4 +1,4 @@
-use Rattle.std.proofs.Common.{ℕ, ◌+◌, ap, arith, sum_by}
+use Rattle.std.proofs.Common.{◌+◌, ap, arith, sum_by}
 use Rattle.answers.specs.Meaning.{answered}
 use Rattle.dictionary.specs.Accepted.{accepted, names_of}
 use Rattle.dictionary.specs.Slots.{slots_of}

@@ -1,5 +1,4 @@
-use Rattle.std.proofs.Common.{◌≡◌, ◌&&◌, ◌||◌, Bool, true, false, cond, nat_eq, refl, ap, ◌∙◌}
-use Rattle.std.specs.HashSet.{contains}
+use Rattle.std.proofs.Common.{◌&&◌, ◌||◌, Bool, nat_eq, ap, ◌∙◌}
 use Rattle.common_lemmas.proofs.Numbers.{nat_eq-comm}
 use Rattle.common_lemmas.proofs.Bools.{cond_or}
 use Rattle.explain.specs.Found.{has}
