@@ -17,6 +17,7 @@ use Rattle.value_text.specs.Enums.{Listed}
 use Rattle.dict_tree.specs.declared.operators.ManyOp.TheVariants.{Add}
 use Rattle.dict_tree.specs.declared.operators.ReadOp.TheVariants.{Dependency}
 use Rattle.dict_tree.specs.Dictionary.{Dictionary, Written, dictionary_view, is_collection, number_from, too_deep, too_many, with_fact}
+use Rattle.dict_tree.proofs.SourceLaws.{not_over}
 use Rattle.dict_tree.specs.Facts.{Fact, fact_size, fact_within, scalar}
 use Rattle.dict_tree.specs.Reading.{use_of}
 use Rattle.dict_tree.specs.Tree.{Source, literal, literal_int, many, no_trees, read, tree}
@@ -91,9 +92,6 @@ none_deep (suc k) = number_none _ 1 (chain_facts k) (sum_fact k) (none_deep k) (
 
 none_passed : (a b c e : Bool) → a ≡ false → b ≡ false → c ≡ false → e ≡ false → number_from (λ (b : Bool). b) 1 (a ∷ b ∷ c ∷ false ∷ false ∷ e ∷ []) ≡ None
 none_passed a b c e h k l m = rw (h, k, l, m) refl
-
-not_over : (most n : ℕ) → n ≤ most → nat_lt most n ≡ false
-not_over most n h = grind arith
 
 none_many : (n : ℕ) → n ≤ 1000 → too_many (chain n) ≡ None
 none_many n few =

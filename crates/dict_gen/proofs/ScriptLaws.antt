@@ -14,7 +14,7 @@ use Rattle.fact_paths.proofs.MemberNumbers.{decimal_lacks}
 use Rattle.fact_paths.proofs.NameLaws.{passed_lack}
 use Rattle.script_lines.specs.Joined.{joined}
 use Rattle.script_lines.specs.Lines.{HasNoNewline, line_of, lines_of, script_lines, whole}
-use Rattle.script_lines.proofs.JoinedLaws.{lines_of-joined}
+use Rattle.script_lines.proofs.JoinedLaws.{joined-append, lines_of-joined}
 use Rattle.dict_gen.specs.Script.{get_line, lines, member_count, moves, round, rounds, script, set_line}
 
 -- ---- how many lines
@@ -39,10 +39,6 @@ line_count n =
     ∙ omega (arith, adds, answers, undone, redone)
 
 -- ---- texts of lines
-
-pub joined-append : (xs ys : List (List ℕ)) → joined (xs ++ ys) ≡ joined xs ++ joined ys
-joined-append [] ys = refl
-joined-append (line ∷ xs) ys = ap (λ t. line ++ 10 ∷ t) (joined-append xs ys) ∙ sym (append_assoc line (10 ∷ joined xs) (joined ys))
 
 -- ---- each line is short, and has no newline
 

@@ -9,26 +9,23 @@ use Rattle.dict_tree.specs.Dictionary.{Dictionary}
 use Rattle.dict_tree.specs.Facts.{Fact}
 use Rattle.dict_tree.specs.Finding.{fact_at}
 use Rattle.dict_tree.specs.Mentions.{fact_mentions, found_mentions}
-use Rattle.dict_types.specs.declared.fault.TypeFault.{TypeFault}
-use Rattle.dict_types.specs.declared.fault.TypeFault.TheVariants as types
 use Rattle.dict_types.specs.declared.limit.Limit.{Limit}
 use Rattle.dict_types.specs.declared.rules.Rule.{Rule}
 use Rattle.dict_types.specs.declared.rules.Rule.TheVariants as rules
 use Rattle.dict_types.specs.BadLimit.{fact_limits}
 use Rattle.dict_types.specs.Constants.{fact_values}
-use Rattle.dict_types.specs.DictFaults.{AreKept, AreLimits, AreTypedFacts, IsFirstFault, IsKept, IsTypedDictionary, IsTypedFact}
+use Rattle.dict_types.specs.DictFaults.{AreKept, AreLimits, AreTypedFacts, IsKept, IsTypedDictionary, IsTypedFact}
 use Rattle.dict_types.specs.FirstFact.{first_passing}
 use Rattle.dict_types.specs.Rules.{breaks, rule_order}
 use Rattle.dict_types.specs.Typed.{typed_dictionary}
 use Rattle.dict_types.specs.TypedParts.{TypedDictionary, TypedFact}
 use Rattle.dict_types.proofs.FirstLaws.{none_is_found}
-use Rattle.dict_types.proofs.FoundLaws.{first_is_named, well_typed_is_found}
+use Rattle.dict_types.proofs.FoundLaws.{well_typed_is_found}
 use Rattle.dict_order.specs.Graph.{Graph, Has, HasNoCycle, Leads, Mentions}
 use Rattle.dict_order.specs.MentionGraph.{facts_of, mention_graph}
 use Rattle.dict_order.proofs.DictionaryLaws.{mentioned_is}
-use Rattle.dictionary.specs.Faults.{IsFaultOf, Refuses}
-use Rattle.dictionary.specs.declared.fault.DictFault.{DictFault}
-use Rattle.dictionary.specs.declared.fault.DictFault.TheVariants as faults
+use Rattle.dictionary.specs.Faults.{HasNoFault}
+use Rattle.dictionary.proofs.FirstLaws.{has_no_fault}
 
 -- The fact with the number breaks no rule, where there are no checks; its expressions have the types that they are to have, its
 -- limits fit, and it mentions facts before it alone.
@@ -81,20 +78,6 @@ typed d s =
     let ls = all_limits d 1 d.facts s in
     (record { facts = ts.0; limits = ls.0 }, (all_kept d s, ts.1, ls.1))
 
-abbrev found : TypedDictionary → Result TypedDictionary TypeFault
-found t = Ok t
-
-abbrev refused : TypeFault → Result TypedDictionary TypeFault
-refused e = Err e
-
-not_both : (r : Result TypedDictionary TypeFault) (t : TypedDictionary) (e : TypeFault) → r ≡ Ok t → r ≡ Err e → ⊥
-not_both r t e h k = let same : found t ≡ refused e = sym h ∙ k in absurd cc
-
-no_type_fault : (d : Dictionary) → AreSound d 1 d.facts → (fault : TypeFault) → IsFirstFault d [] fault → ⊥
-no_type_fault d s fault h =
-    let t = typed d s in
-    not_both (typed_dictionary d []) t.0 fault (well_typed_is_found d [] t.0 t.1) (first_is_named d [] fault h)
-
 -- ---- cycles
 
 -- where facts mention facts before them alone, mentions lead back alone
@@ -138,19 +121,7 @@ mentions_back d s (suc i) other m =
 
 -- ---- the dictionary
 
-pub no_fault : (d : Dictionary) → AreSound d 1 d.facts → (fault : DictFault) → IsFaultOf d [] fault → ⊥
-no_fault d s (faults.BadPath n) h = no_type_fault d s (types.BadPath n) h
-no_fault d s (faults.DuplicatePath n) h = no_type_fault d s (types.DuplicatePath n) h
-no_fault d s (faults.NoCollection n) h = no_type_fault d s (types.NoCollection n) h
-no_fault d s (faults.UnknownPath n) h = no_type_fault d s (types.UnknownPath n) h
-no_fault d s (faults.WrongPlace n) h = no_type_fault d s (types.WrongPlace n) h
-no_fault d s (faults.UnknownCheck n) h = no_type_fault d s (types.UnknownCheck n) h
-no_fault d s (faults.IllTyped n node) h = no_type_fault d s (types.IllTyped n node) h
-no_fault d s (faults.BadLimit n) h = no_type_fault d s (types.BadLimit n) h
-no_fault d s (faults.Cycle n) h = no_cycle (mention_graph d) (mentions_back d s) n h.2.cycle
-no_fault d s _ h = h
-
--- where there is none, only memory may be wanting
-pub only_memory : (d : Dictionary) → ((fault : DictFault) → IsFaultOf d [] fault → ⊥) → (fault : DictFault) → Refuses (IsFaultOf d []) fault → fault ≡ faults.NoMemory
-only_memory d none faults.NoMemory h = refl
-only_memory d none fault h = absurd (none fault h)
+pub no_fault : (d : Dictionary) → AreSound d 1 d.facts → HasNoFault d []
+no_fault d s =
+    let types = typed d s in
+    has_no_fault d [] types.0 (well_typed_is_found d [] types.0 types.1) (no_cycle (mention_graph d) (mentions_back d s))

@@ -18,7 +18,7 @@ use Rattle.dict_tree.specs.declared.fact_source.FactSource.{FactSource}
 use Rattle.dict_tree.proofs.FindingLaws.{spelled-find_path}
 use Rattle.dict_tree.proofs.PathIndexLaws.{IsIndex-last}
 
-not_over : (most n : ℕ) → n ≤ most → nat_lt most n ≡ false
+pub not_over : (most n : ℕ) → n ≤ most → nat_lt most n ≡ false
 not_over most n h = grind arith
 
 none_over : (most : ℕ) (enums : List Listed) → All (λ (e : Listed). length e.options ≤ most) enums → list_any (λ (e : Listed). nat_lt most (length e.options)) enums ≡ false

@@ -11,13 +11,13 @@ use Rattle.dict_types.specs.declared.fault.TypeFault.TheVariants as types
 use Rattle.dict_types.specs.Typed.{typed_dictionary}
 use Rattle.dict_types.specs.TypedParts.{TypedDictionary}
 use Rattle.dict_types.proofs.FoundLaws.{first_is_named, well_typed_is_found}
-use Rattle.dict_order.specs.Graph.{Graph, IsFirstCycle}
+use Rattle.dict_order.specs.Graph.{Graph, HasNoCycle, IsFirstCycle}
 use Rattle.dict_order.specs.MentionGraph.{mention_graph}
 use Rattle.dict_order.specs.Ranks.{AreRanks}
 use Rattle.dict_order.proofs.ListLaws.{at_most_or_above}
 use Rattle.dict_order.proofs.RankLaws.{no_cycle, only_one}
 use Rattle.dictionary.specs.Accepted.{Accepted, IsAccepted}
-use Rattle.dictionary.specs.Faults.{AreAccepted, IsFault, IsFaultOf, IsFaultOfRead, of_trees, of_types}
+use Rattle.dictionary.specs.Faults.{AreAccepted, HasNoFault, IsFault, IsFaultOf, IsFaultOfRead, Refuses, of_trees, of_types}
 use Rattle.dictionary.specs.declared.fault.DictFault.{DictFault}
 use Rattle.dictionary.specs.declared.fault.DictFault.TheVariants as faults
 
@@ -91,11 +91,23 @@ one_judged d names f g h k = elim h [
   ]
 ]
 
-none_judged : (names : List (List ℕ)) (d : Accepted) (fault : DictFault) → IsAccepted names d → Judged d.tree names fault → ⊥
-none_judged names d fault is h = elim h [
-  | inl a ↦ not_both (typed_dictionary d.tree names) d.typed a.0 (well_typed_is_found d.tree names d.typed is.typed) a.1
-  | inr a ↦ no_cycle (mention_graph d.tree) d.ranks is.ranked a.1 a.3.cycle
+-- where types are found and no fact reaches itself, there is none
+unjudged : (d : Tree) (names : List (List ℕ)) (t : TypedDictionary) → typed_dictionary d names ≡ Ok t → HasNoCycle (mention_graph d) → (fault : DictFault) → Judged d names fault → ⊥
+unjudged d names t found none fault h = elim h [
+  | inl a ↦ not_both (typed_dictionary d names) t a.0 found a.1
+  | inr a ↦ none a.1 a.3.cycle
 ]
+
+pub has_no_fault : (d : Tree) (names : List (List ℕ)) (t : TypedDictionary) → typed_dictionary d names ≡ Ok t → HasNoCycle (mention_graph d) → HasNoFault d names
+has_no_fault d names t found none fault h = unjudged d names t found none fault (judged d names fault h)
+
+none_judged : (names : List (List ℕ)) (d : Accepted) (fault : DictFault) → IsAccepted names d → Judged d.tree names fault → ⊥
+none_judged names d fault is = unjudged d.tree names d.typed (well_typed_is_found d.tree names d.typed is.typed) (no_cycle (mention_graph d.tree) d.ranks is.ranked) fault
+
+-- then acceptance can only be refused for want of memory
+pub only_memory : (d : Tree) (names : List (List ℕ)) → HasNoFault d names → (fault : DictFault) → Refuses (IsFaultOf d names) fault → fault ≡ faults.NoMemory
+only_memory d names none faults.NoMemory h = refl
+only_memory d names none fault h = absurd (none fault h)
 
 -- ---- bytes have one first fault
 

@@ -31,6 +31,10 @@ IsFaultOf d names (faults.BadLimit n) = IsFirstFault d names (types.BadLimit n)
 IsFaultOf d names (faults.Cycle n) = IsTypedCycle d names n
 IsFaultOf d names fault = ⊥
 
+-- none of these is a fault of the dictionary
+abbrev pub HasNoFault : Tree → List (List ℕ) → Type 0
+HasNoFault d names = (fault : DictFault) → IsFaultOf d names fault → ⊥
+
 -- the bytes spell a dictionary, and this is its first fault
 abbrev pub IsFaultOfRead : List ℕ → List (List ℕ) → DictFault → Type 0
 IsFaultOfRead bytes names fault = (d : Tree) × BytesGive bytes (Ok d) × IsFaultOf d names fault

@@ -22,7 +22,7 @@ abbrev base_of : Tree → SlotPath → ℕ
 base_of d (Global n) = 0
 base_of d (Member c k n) = unwrap_or (find_global d c) 0
 
-fact_found : (d : Tree) (path : SlotPath) (n : ℕ) → named_fact d path ≡ Some n → HasPath d.facts (path_of path) n
+pub fact_found : (d : Tree) (path : SlotPath) (n : ℕ) → named_fact d path ≡ Some n → HasPath d.facts (path_of path) n
 fact_found d path n e = ((find_path-first d.facts (path_of path) n).0 e).here
 
 -- it is one of the facts

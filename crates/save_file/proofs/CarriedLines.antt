@@ -6,12 +6,12 @@ use Rattle.fact_paths.specs.Cuts.{Lacks}
 use Rattle.fact_paths.specs.Names.{IsName}
 use Rattle.fact_paths.specs.Paths.{IsSlotPath, SpellsSlotPath, slot_path_text}
 use Rattle.fact_paths.specs.declared.slot_path.SlotPath.{SlotPath}
-use Rattle.fact_paths.proofs.NameLaws.{name_lacks}
 use Rattle.fact_paths.proofs.ReadingLaws.{one_path_from}
 use Rattle.fact_paths.proofs.SlotPathLaws.{slot_lacks_blank, slot_path_reading}
 use Rattle.fact_paths.specs.Reading.{slot_path_of}
 use Rattle.fact_values.specs.Members.{IsMemberList}
 use Rattle.value_text.specs.MemberTexts.{printed_rest}
+use Rattle.script_lines.proofs.PartLaws.{name_lacks_blank}
 use Rattle.answers.specs.declared.edit.Side.{Side}
 use Rattle.answers.specs.declared.edit.Side.TheVariants.{Answer, Override}
 use Rattle.save_file.specs.CarriedText.{CarriedLine, HasItsForm, collection, entry, line_text}
@@ -49,9 +49,6 @@ no_end (entry Answer path text) e = let byte : 118 ≡ 101 = ap first e in omega
 no_end (entry Override path text) e = let byte : 111 ≡ 101 = ap first e in omega (arith, byte)
 
 -- ---- parts
-
-pub name_lacks_blank : (name : List ℕ) → IsName name → Lacks 32 name
-name_lacks_blank name is = name_lacks 32 refl name is
 
 pub list_parts : (n members name tail : List ℕ) → IsName n → Lacks 32 name → Tail tail → line_text (collection n members) ≡ codes "list /" ++ (name ++ tail) → (n ≡ name) × (printed_rest members ≡ tail)
 list_parts n members name tail is lacks is_tail e =

@@ -16,7 +16,6 @@ use Rattle.dict_tree.specs.Dictionary.{Dictionary as Tree}
 use Rattle.dict_tree.specs.Facts.{Fact}
 use Rattle.dict_tree.specs.Finding.{HasPath}
 use Rattle.dict_tree.specs.Targets.{find_global}
-use Rattle.dict_tree.proofs.FindingLaws.{find_path-first}
 use Rattle.answers.specs.Answered.{Answered, entry as entry_at, value_of}
 use Rattle.answers.specs.Change.{Stands, applied, sets}
 use Rattle.answers.specs.Finite.{Numbered}
@@ -36,7 +35,7 @@ use Rattle.graph_session.specs.Rules.{Rules, tree_of}
 use Rattle.graph_session.specs.Refusals.{decided, first_of, slot_found, value_refusals, when}
 use Rattle.graph_session.specs.declared.reply.Refusal.{Refusal}
 use Rattle.graph_session.specs.declared.reply.Refusal.TheVariants.{NoMember, UnknownFact}
-use Rattle.graph_session.proofs.NamingLaws.{named_stands}
+use Rattle.graph_session.proofs.NamingLaws.{fact_found, named_stands}
 use Rattle.save_file.specs.CarriedReading.{line_of_entry}
 use Rattle.save_file.specs.CarriedText.{CarriedLine, NamesOther, Pairs, entry, head_text}
 use Rattle.save_file.specs.Carrying.{IsGivenBy, keeps, kept_value, numbers_failing}
@@ -71,16 +70,13 @@ kept_named r side path text v e = at (named_fact (tree_of r) path) refl (kept_ta
     at (Some n) h may = refl
 
 -- one path at most names a slot whose fact is there
-pub fact_path : (d : Tree) (path : SlotPath) (n : ℕ) → named_fact d path ≡ Some n → HasPath d.facts (path_of path) n
-fact_path d path n e = ((find_path-first d.facts (path_of path) n).0 e).here
-
 same_fact_path : (d : Tree) (p q : FactPath) (n : ℕ) → HasPath d.facts p n → HasPath d.facts q n → p ≡ q
 same_fact_path d p q n has other =
     let one : has.fact ≡ other.fact = same_Some has.fact other.fact (sym has.is_there ∙ other.is_there) in
     same_Some p q (sym has.path_is ∙ ap (λ (f : Fact). f.path) one ∙ other.path_is)
 
 pub one_path_of : (d : Tree) (p q : SlotPath) (n m : ℕ) → named_fact d p ≡ Some n → named_fact d q ≡ Some m → slot n (member_of p) ≡ slot m (member_of q) → p ≡ q
-one_path_of d p q n m e f same = at p q (same_fact_path d (path_of p) (path_of q) n (fact_path d p n e) (subst (HasPath d.facts (path_of q)) (sym facts) (fact_path d q m f))) members
+one_path_of d p q n m e f same = at p q (same_fact_path d (path_of p) (path_of q) n (fact_found d p n e) (subst (HasPath d.facts (path_of q)) (sym facts) (fact_found d q m f))) members
   where
     facts : n ≡ m
     facts = ap (λ (s : Slot). s.fact) same

@@ -39,7 +39,8 @@ use Rattle.save_file.specs.CarriedText.{CarriedLine, HasItsForm, IsCarried, carr
 use Rattle.save_file.specs.Carrying.{IsRefusedAnswer, OwnLinesAreKept, keeps, kept_value}
 use Rattle.save_file.specs.SavedText.{end_line, entries, entry_line, entry_lines, facts, list_line, list_lines, lists, next_line, opening_line, saved, saved_lines, slots}
 use Rattle.save_file.proofs.CarriedEnds.{are_lines}
-use Rattle.save_file.proofs.CarriedLines.{entry_parts, name_lacks_blank, no_end, no_list}
+use Rattle.script_lines.proofs.PartLaws.{name_lacks_blank}
+use Rattle.save_file.proofs.CarriedLines.{entry_parts, no_end, no_list}
 use Rattle.save_file.proofs.CarriedSteps.{behind_next}
 use Rattle.save_file.proofs.EntryLaws.{entry_slot, list_slot, open_list}
 use Rattle.save_file.proofs.KeyedLines.{HasOneAtMost}

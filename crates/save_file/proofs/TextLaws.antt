@@ -7,7 +7,7 @@ use Rattle.script_lines.specs.Lines.{HasNoNewline, lines_of}
 use Rattle.save_file.specs.Loading.{Begins, IsRefusedAt, first_lines}
 use Rattle.save_file.proofs.LineLaws.{lines_before, lines_have_none}
 use Rattle.save_file.proofs.LineTexts.{IsLine}
-use Rattle.save_file.proofs.WritingLaws.{joined-append}
+use Rattle.script_lines.proofs.JoinedLaws.{joined-append}
 
 pub all-append : {X : Type 0} (P : X → Type 0) (xs ys : List X) → AllByRecursion P xs → AllByRecursion P ys → AllByRecursion P (xs ++ ys)
 all-append P [] ys left right = right

@@ -5,14 +5,10 @@ use Rattle.std.specs.List.{flat_map}
 use Rattle.fg_io.specs.Sent.{Sent}
 use Rattle.fg_io.proofs.WritingLaws.{failed_before, wrote_behind}
 use Rattle.script_lines.specs.Joined.{joined}
+use Rattle.script_lines.proofs.JoinedLaws.{joined-append}
 use Rattle.fg_io.specs.Writing.{Wrote, WroteAll, WrotePart}
 
 -- ---- joined lines
-
-pub joined-append : (xs ys : List (List ℕ)) → joined (xs ++ ys) ≡ joined xs ++ joined ys
-joined-append [] ys = refl
-joined-append (line ∷ lines) ys =
-    ap (λ (t : List ℕ). line ++ 10 ∷ t) (joined-append lines ys) ∙ sym (append_assoc line (10 ∷ joined lines) (joined ys))
 
 -- the lines of the first, and second those of the rest
 pub joined_each : {X : Type 0} (f : X → List (List ℕ)) (x : X) (xs : List X) → joined (flat_map f (x ∷ xs)) ≡ joined (f x) ++ joined (flat_map f xs)

@@ -27,7 +27,7 @@ cut_is text parts is = by_cases parts (cut_from_split 32 text parts (omega arith
     by_cases None e = sym e
     by_cases (Some p) e = sym e
 
-name_lacks_blank : (n : List ℕ) → IsName n → Lacks 32 n
+pub name_lacks_blank : (n : List ℕ) → IsName n → Lacks 32 n
 name_lacks_blank n is = name_lacks 32 refl n is
 
 -- ---- paths and names

@@ -4,18 +4,14 @@ use Rattle.std.specs.Prelude.{IfOk}
 use Rattle.fact_values.specs.declared.memory.NoMemory.{NoMemory}
 use Rattle.dict_tree.specs.Dictionary.{Dictionary as Tree, Written, dictionary_view}
 use Rattle.dict_types.specs.Typed.{typed_dictionary}
-use Rattle.dict_types.specs.DictFaults.{IsFirstFault}
 use Rattle.dict_types.specs.TypedParts.{TypedDictionary}
 use Rattle.dict_types.specs.declared.fault.TypeFault.{TypeFault}
-use Rattle.dict_types.specs.declared.fault.TypeFault.TheVariants as types
-use Rattle.dict_types.proofs.FoundLaws.{first_is_named}
 use Rattle.dict_order.specs.MentionGraph.{mention_graph}
 use Rattle.dict_order.specs.Ranks.{are_ranks}
 use Rattle.dict_order.proofs.RankLaws.{no_cycle, test_tells}
 use Rattle.dictionary.specs.Accepted.{IsAccepted, Kept, accepted}
-use Rattle.dictionary.specs.Faults.{IsFaultOf, Refuses}
-use Rattle.dictionary.specs.declared.fault.DictFault.{DictFault}
-use Rattle.dictionary.specs.declared.fault.DictFault.TheVariants as faults
+use Rattle.dictionary.specs.Faults.{HasNoFault}
+use Rattle.dictionary.proofs.FirstLaws.{has_no_fault}
 use Rattle.tax_2023.specs.Facts.{dictionary}
 use Rattle.tax_2023.specs.Figures.{figures, spelled_day, spelled_dollars}
 use Rattle.tax_2023.specs.Laws.{IsOfYear}
@@ -27,30 +23,15 @@ pub record IsSound (d : Tree) (rs : List ℕ) : Type 0 where
   pub typed : IsTrue (is_ok (typed_dictionary d []))
   pub ranked : IsTrue (are_ranks (mention_graph d) rs)
 
-not_named : (r : Result TypedDictionary TypeFault) (fault : TypeFault) → IsTrue (is_ok r) → r ≡ Err fault → ⊥
-not_named (Ok t) fault h e = absurd cc
-not_named (Err other) fault h e = absurd cc
-
-no_type_fault : (d : Tree) (rs : List ℕ) → IsSound d rs → (fault : TypeFault) → IsFirstFault d [] fault → ⊥
-no_type_fault d rs s fault h = not_named (typed_dictionary d []) fault s.typed (first_is_named d [] fault h)
+found : (r : Result TypedDictionary TypeFault) → IsTrue (is_ok r) → (t : TypedDictionary) × (r ≡ Ok t)
+found (Ok t) h = (t, refl)
+found (Err fault) h = absurd cc
 
 -- so there is no fault
-pub no_fault : (d : Tree) (rs : List ℕ) → IsSound d rs → (fault : DictFault) → IsFaultOf d [] fault → ⊥
-no_fault d rs s (faults.BadPath n) h = no_type_fault d rs s (types.BadPath n) h
-no_fault d rs s (faults.DuplicatePath n) h = no_type_fault d rs s (types.DuplicatePath n) h
-no_fault d rs s (faults.NoCollection n) h = no_type_fault d rs s (types.NoCollection n) h
-no_fault d rs s (faults.UnknownPath n) h = no_type_fault d rs s (types.UnknownPath n) h
-no_fault d rs s (faults.WrongPlace n) h = no_type_fault d rs s (types.WrongPlace n) h
-no_fault d rs s (faults.UnknownCheck n) h = no_type_fault d rs s (types.UnknownCheck n) h
-no_fault d rs s (faults.IllTyped n node) h = no_type_fault d rs s (types.IllTyped n node) h
-no_fault d rs s (faults.BadLimit n) h = no_type_fault d rs s (types.BadLimit n) h
-no_fault d rs s (faults.Cycle n) h = no_cycle (mention_graph d) rs (test_tells (mention_graph d) rs s.ranked) n h.2.cycle
-no_fault d rs s _ h = h
-
--- where there is none, only memory may be wanting
-pub only_memory : (d : Tree) → ((fault : DictFault) → IsFaultOf d [] fault → ⊥) → (fault : DictFault) → Refuses (IsFaultOf d []) fault → fault ≡ faults.NoMemory
-only_memory d none faults.NoMemory h = refl
-only_memory d none fault h = absurd (none fault h)
+pub no_fault : (d : Tree) (rs : List ℕ) → IsSound d rs → HasNoFault d []
+no_fault d rs s =
+    let types = found (typed_dictionary d []) s.typed in
+    has_no_fault d [] types.0 types.1 (no_cycle (mention_graph d) rs (test_tells (mention_graph d) rs s.ranked))
 
 -- ---- the years
 
@@ -62,10 +43,10 @@ sound_2024 : IsSound (dictionary (figures tables_2024)) ranks
 unfolding spelled_dollars spelled_day
 sound_2024 = record { typed = refl; ranked = ranks_are (figures tables_2024) }
 
-pub no_fault_2023 : (fault : DictFault) → IsFaultOf (dictionary (figures tables_2023)) [] fault → ⊥
+pub no_fault_2023 : HasNoFault (dictionary (figures tables_2023)) []
 no_fault_2023 = no_fault (dictionary (figures tables_2023)) ranks sound_2023
 
-pub no_fault_2024 : (fault : DictFault) → IsFaultOf (dictionary (figures tables_2024)) [] fault → ⊥
+pub no_fault_2024 : HasNoFault (dictionary (figures tables_2024)) []
 no_fault_2024 = no_fault (dictionary (figures tables_2024)) ranks sound_2024
 
 -- ---- the dictionary that is answered is that of the year
