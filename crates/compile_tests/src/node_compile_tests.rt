@@ -1,15 +1,11 @@
 //! The nodes of small dictionaries, each compared with a text that was worked out by hand.
-ghost use Rattle.std.specs.Prelude.{◌≡◌};
-ghost use Rattle.text_checks.specs.Checks.{check_says};
-
+use crate::dictionaries::{AMOUNTS, CASES, CHECKED, CONDITIONS, MEMBERS, SUM, SUM_OVER_A_PLACEHOLDER, accepted};
 use crate::node_texts::write_node;
-use dictionary::{Dictionary, accept};
-use fact_paths::Name;
+use dictionary::Dictionary;
 use fact_values::NoMemory;
 use node_compile::{Compiled, compile};
 use node_eval::Node;
 use std::alloc::Global;
-use text_checks::{CheckTable, nine_digits};
 
 // ---- all nodes of a dictionary, each in a line of its own
 
@@ -39,26 +35,6 @@ fn write_all(text: &mut String, all: &Compiled, count: u32) -> Result<(), NoMemo
     Ok(())
 }
 
-// A table with the check `nine-digits`; none for want of memory.
-fn checks(alloc: Global) -> Option<CheckTable> {
-    let check = Box::new(
-        alloc,
-        |text: &str| -> bool
-            ensures { result ≡ check_says 2 text.now }
-        { nine_digits(text) },
-    );
-    let mut table = CheckTable::new(alloc);
-    table
-        .add(Name::read(alloc, "nine-digits").ok()?, 2, check.ok()?)
-        .ok()?;
-    Some(table)
-}
-
-fn accepted(alloc: Global, dictionary: &str) -> Option<Dictionary> {
-    let checks = checks(alloc)?;
-    accept(alloc, dictionary.as_bytes(), &checks).ok()
-}
-
 fn text_of_nodes(alloc: Global, all: &Compiled, count: u32) -> Option<String> {
     let mut text = String::new(alloc);
     write_all(&mut text, all, count).ok()?;
@@ -84,27 +60,6 @@ fn has_nodes(alloc: Global, dictionary: &str, nodes: &str) -> bool {
 }
 
 // ---- the dictionaries, and their nodes as they were worked out by hand
-
-const SUM: &str =
-    r#"{"version":"1","facts":[{"path":"/a","writable":"Dollar"},{"path":"/b","writable":"Dollar"},{"path":"/s","derived":"Dollar","is":["Add",["Dependency","/a"],["Dependency","/b"]]}]}"#;
-
-const SUM_OVER_A_PLACEHOLDER: &str =
-    r#"{"version":"1","facts":[{"path":"/a","writable":"Dollar"},{"path":"/b","writable":"Dollar","placeholder":["Dollar","0"]},{"path":"/s","derived":"Dollar","is":["Add",["Dependency","/a"],["Dependency","/b"]]}]}"#;
-
-const CONDITIONS: &str =
-    r#"{"version":"1","facts":[{"path":"/p","writable":"Boolean"},{"path":"/q","writable":"Boolean"},{"path":"/r","derived":"Boolean","is":["All",["Dependency","/p"],["Dependency","/q"]]},{"path":"/w","derived":"Int","is":["Switch",["Case",["Dependency","/p"],["Int","1"]],["Case",["Dependency","/q"],["Int","2"]]]},{"path":"/i","derived":"Boolean","is":["IsComplete","/p"]}]}"#;
-
-const AMOUNTS: &str =
-    r#"{"version":"1","facts":[{"path":"/p","writable":"Boolean"},{"path":"/d1","derived":"Dollar","is":["Add",["Dollar","9999999999999.99"],["Dollar","0.01"],["Dollar","-0.01"]]},{"path":"/d2","derived":"Dollar","is":["Add",["Dollar","9999999999999.99"],["Dollar","0.01"]]},{"path":"/d3","derived":"Dollar","is":["Multiply",["Dollar","100.05"],["Rational","1/2"]]},{"path":"/d4","derived":"Dollar","is":["Divide",["Dollar","1"],["Int","0"]]},{"path":"/d5","derived":"Boolean","is":["Any",["Equal",["Dependency","/d4"],["Dollar","0"]],["Dependency","/p"]]}]}"#;
-
-const MEMBERS: &str =
-    r#"{"version":"1","facts":[{"path":"/c","writable":"Collection"},{"path":"/c/*/k","writable":"Boolean"},{"path":"/c/*/v","writable":"Int"},{"path":"/l","derived":"Collection(/c)","is":["Filter","/c",["Dependency","k"]]},{"path":"/f","derived":"Item(/c)","is":["Find","/c",["Dependency","k"]]},{"path":"/t","derived":"Int","is":["CollectionSum","/l/*/v"]},{"path":"/g","derived":"Int","is":["Dependency","/f/v"]}]}"#;
-
-const CHECKED: &str =
-    r#"{"version":"1","facts":[{"path":"/z","writable":"Text","limits":[["MaxLength","9"],["Check","nine-digits"]]}]}"#;
-
-const CASES: &str =
-    r#"{"version":"1","facts":[{"path":"/p","writable":"Boolean","placeholder":["False"]},{"path":"/x","derived":"Int","is":["Switch",["Case",["Dependency","/p"],["Int","1"]],["Case",["True"],["Int","2"]]]}]}"#;
 
 const CONDITIONAL: &str =
     r#"{"version":"2","facts":[{"path":"/p","writable":"Boolean"},{"path":"/a","writable":"Int"},{"path":"/x","derived":"Int","is":["Dependency","/a"],"conditional":[["Dependency","/p"],["Int","7"]]}]}"#;

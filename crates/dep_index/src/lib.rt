@@ -7,6 +7,3 @@ mod row;
 
 pub use index::{Readers, build};
 pub use row::ReaderOf;
-
-#[cfg(test)]
-mod tests;
