@@ -1,5 +1,7 @@
 //! The nodes of small dictionaries, each compared with a text that was worked out by hand.
-use crate::dictionaries::{AMOUNTS, CASES, CHECKED, CONDITIONS, MEMBERS, SUM, SUM_OVER_A_PLACEHOLDER, accepted};
+use crate::dictionaries::{
+    AMOUNTS, CASES, CHECKED, CONDITIONS, MEMBERS, SUM, SUM_OVER_A_PLACEHOLDER, accepted,
+};
 use crate::node_texts::write_node;
 use dictionary::Dictionary;
 use fact_values::NoMemory;

@@ -1,5 +1,7 @@
 //! The readers of each fact of small dictionaries.
-use crate::dictionaries::{AMOUNTS, CASES, CHECKED, CONDITIONS, MEMBERS, SUM, SUM_OVER_A_PLACEHOLDER, accepted};
+use crate::dictionaries::{
+    AMOUNTS, CASES, CHECKED, CONDITIONS, MEMBERS, SUM, SUM_OVER_A_PLACEHOLDER, accepted,
+};
 use dep_index::{ReaderOf, build};
 use dictionary::Dictionary;
 use fact_values::NoMemory;
