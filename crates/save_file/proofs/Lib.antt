@@ -5,6 +5,8 @@ pub mod CarriedReads
 pub mod CarriedSteps
 pub mod CarryLaws
 pub mod CursorLaws
+pub mod DroppedLaws
+pub mod DroppedWords
 pub mod EntriesFollow
 pub mod EntryLaws
 pub mod EntrySteps
@@ -15,8 +17,8 @@ pub mod KeyedLines
 pub mod LineCuts
 pub mod LineLaws
 pub mod LineSteps
-pub mod LineTexts
 pub mod LinesThere
+pub mod LineTexts
 pub mod ListsEnd
 pub mod ListsFollow
 pub mod ListSteps

@@ -2,6 +2,7 @@ pub mod CarriedReading
 pub mod CarriedText
 pub mod Carrying
 pub mod Cursors
+pub mod Dropped
 pub mod Following
 pub mod Heads
 pub mod Keeping

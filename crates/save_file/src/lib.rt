@@ -7,6 +7,7 @@ mod carried_stage;
 mod carried_text;
 mod carrying;
 mod cursor;
+mod dropped;
 mod entries;
 mod entry_line;
 mod fault;
@@ -24,6 +25,7 @@ mod stage;
 mod texts;
 
 pub use carrying::{Carried, carry};
+pub use dropped::put_dropped;
 pub use fault::LoadFault;
 pub use loading::load;
 pub use saving::save;

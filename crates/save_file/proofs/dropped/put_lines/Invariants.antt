@@ -1,0 +1,17 @@
+use Rattle.std.proofs.Common.{◌+◌, ◌≤◌, length}
+use Rattle.fg_io.specs.Sent.{Sent}
+use Rattle.script_lines.specs.Joined.{joined}
+use Rattle.script_lines.specs.Lines.{lines_of}
+use Rattle.save_file.specs.Dropped.{said_at}
+use Rattle.save_file.proofs.dropped.put_lines.Given as goal
+
+abbrev pub invariant-loop-rest : goal.invariant-loop-rest
+invariant-loop-rest g l = record {
+  sent : Sent (g.K.Sink.taken l.fn.out) (g.K.Sink.taken l.out) (joined (said_at 1 l.fn.dropped (lines_of l.fn.bytes)))
+      (joined (said_at l.number l.left (lines_of l.rest)));
+  later : g.K.Sink.faults l.fn.out ≤ g.K.Sink.faults l.out;
+  room : l.number + length l.rest ≤ length l.fn.bytes + 1;
+}
+
+abbrev pub decreases-loop-rest : goal.decreases-loop-rest
+decreases-loop-rest g l = length l.rest

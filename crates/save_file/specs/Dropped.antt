@@ -1,0 +1,83 @@
+-- What is said of the lines that carrying drops.
+use Rattle.std.specs.Prelude.{◌≡◌, ◌≢◌, ℕ, suc, ◌<◌, ◌==◌, Bool, false, not, nat_eq, List, [], ◌∷◌, ◌++◌, map, filter, length, take, slice_index, All, codes, refl, if◌then◌else◌}
+use Rattle.fact_paths.specs.declared.slot_path.SlotPath.TheVariants.{Global}
+use Rattle.answers.specs.declared.edit.Side.TheVariants.{Override}
+use Rattle.graph_session.specs.Rules.{Rules}
+use Rattle.script_lines.specs.Joined.{joined}
+use Rattle.save_file.specs.CarriedText.{CarriedLine, CarriedText, IsCarried, carried, collection, entry, head_text}
+use Rattle.save_file.specs.Carrying.{dropped_numbers, keeps}
+
+-- ---- their text
+
+-- the kind of a line and what it names: `dropped list /N`, `dropped value SLOT` or `dropped override SLOT`
+abbrev pub dropped_line : CarriedLine → List ℕ
+dropped_line line = codes "dropped " ++ head_text line
+
+-- one for each line that isn't kept, in order
+abbrev pub dropped_lines : Rules → List CarriedLine → List (List ℕ)
+dropped_lines r lines = map dropped_line (filter (λ line. not (keeps r line)) lines)
+
+-- each is ended by a newline
+abbrev pub dropped_text : Rules → List CarriedLine → List ℕ
+dropped_text r lines = joined (dropped_lines r lines)
+
+-- the bytes are a carried text, these are the numbers of the lines that some rules drop, and that is what is said of them
+abbrev pub IsDroppedText : List ℕ → List ℕ → List ℕ → Type 0
+IsDroppedText bytes dropped text =
+    (r : Rules) × (c : CarriedText) × IsCarried c × (bytes ≡ carried c) × (dropped ≡ dropped_numbers r c.lines) × (text ≡ dropped_text r c.lines)
+
+-- ---- where it stands in the bytes
+
+-- what stands before the first blank, and what stands behind it
+abbrev pub word_of : List ℕ → List ℕ
+word_of [] = []
+word_of (b ∷ bytes) = if b == 32 then [] else b ∷ word_of bytes
+
+abbrev pub behind_word : List ℕ → List ℕ
+behind_word [] = []
+behind_word (b ∷ bytes) = if b == 32 then bytes else behind_word bytes
+
+-- no byte is a blank
+abbrev pub HasNoBlank : List ℕ → Type 0
+HasNoBlank bytes = All (λ b. b ≢ 32) bytes
+
+-- the first blank is here
+pub record IsBlankAt (bytes : List ℕ) (at : ℕ) : Type 0 where
+  pub within : at < length bytes
+  pub here : slice_index bytes at ≡ 32
+  pub first : HasNoBlank (take at bytes)
+
+-- with the first two words of a line
+abbrev pub said_of : List ℕ → List ℕ
+said_of line = codes "dropped " ++ (word_of line ++ (codes " " ++ word_of (behind_word line)))
+
+-- this number is the next of those that rise
+abbrev pub is_next : ℕ → List ℕ → Bool
+is_next n [] = false
+is_next n (k ∷ ks) = nat_eq k n
+
+-- and those behind it
+abbrev pub past : ℕ → List ℕ → List ℕ
+past n [] = []
+past n (k ∷ ks) = if nat_eq k n then ks else k ∷ ks
+
+abbrev pub said_if : Bool → List ℕ → List (List ℕ)
+said_if b line = if b then said_of line ∷ [] else []
+
+-- of the lines that have these numbers, where the first has the number n
+abbrev pub said_at : ℕ → List ℕ → List (List ℕ) → List (List ℕ)
+said_at n ns [] = []
+said_at n ns (line ∷ lines) = said_if (is_next n ns) line ++ said_at (suc n) (past n ns) lines
+
+-- worked examples
+dropped_line-list : dropped_line (collection (codes "c") (2 ∷ [])) ≡ codes "dropped list /c"
+dropped_line-list = refl
+
+dropped_line-override : dropped_line (entry Override (Global (codes "s")) (codes "a b")) ≡ codes "dropped override /s"
+dropped_line-override = refl
+
+said_of-value : said_of (codes "value /n 7 a") ≡ codes "dropped value /n"
+said_of-value = refl
+
+said_at-second : said_at 1 (2 ∷ []) (codes "list /c" ∷ codes "list /d #1" ∷ codes "end" ∷ []) ≡ codes "dropped list /d" ∷ []
+said_at-second = refl
