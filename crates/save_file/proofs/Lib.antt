@@ -1,5 +1,6 @@
 pub mod CarriedAnswers
 pub mod CarriedEnds
+pub mod CarriedKinds
 pub mod CarriedLines
 pub mod CarriedReads
 pub mod CarriedSteps
@@ -16,6 +17,7 @@ pub mod KeptEntries
 pub mod KeyedLines
 pub mod LineCuts
 pub mod LineLaws
+pub mod LineLengths
 pub mod LineSteps
 pub mod LinesThere
 pub mod LineTexts
@@ -31,7 +33,9 @@ pub mod OpenedKept
 pub mod OwnLines
 pub mod SameAnswers
 pub mod SameTexts
+pub mod SavedCarried
 pub mod SavedLines
+pub mod ShownKeys
 pub mod SidesFollow
 pub mod SlotsOnce
 pub mod SlotsThere

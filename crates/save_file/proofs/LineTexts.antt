@@ -153,8 +153,9 @@ one_of test [] i x all e = absurd cc
 one_of test (y ∷ xs) zero x all e = let same : y ≡ x = cc in ap test (sym same) ∙ (both (test y) (list_all test xs) all).0
 one_of test (y ∷ xs) (suc i) x all e = one_of test xs i x (both (test y) (list_all test xs) all).1 e
 
-option_line : (lists : List Listed) (list place : ℕ) (text : List ℕ) → AreLists lists → option_at lists list place ≡ Some text → IsLine text
-option_line lists list place text are e =
+-- an option is a name
+pub option_name : (lists : List Listed) (list place : ℕ) (text : List ℕ) → AreLists lists → option_at lists list place ≡ Some text → IsName text
+option_name lists list place text are e =
     let options = both_some (λ (os : List (List ℕ)). slice_get os place) (options_at lists list) text e in
     let listed = mapped (λ (l : Listed). l.options) (slice_get lists list) options.0 options.1 in
     let is = one_of is_listed lists list listed.0 are.listed listed.1 in
@@ -162,7 +163,10 @@ option_line lists list place text are e =
     let some = (both (is_name listed.0.name) (are_options listed.0.options) parts.1).1 in
     let named = (both (nat_lt 0 (length listed.0.options)) (list_all is_name listed.0.options && are_distinct listed.0.options) some).1 in
     let names = (both (list_all is_name listed.0.options) (are_distinct listed.0.options) named).0 in
-    name_line text (one_of is_name listed.0.options place text names (ap (λ (os : List (List ℕ)). slice_get os place) (sym listed.2) ∙ options.2))
+    one_of is_name listed.0.options place text names (ap (λ (os : List (List ℕ)). slice_get os place) (sym listed.2) ∙ options.2)
+
+option_line : (lists : List Listed) (list place : ℕ) (text : List ℕ) → AreLists lists → option_at lists list place ≡ Some text → IsLine text
+option_line lists list place text are e = name_line text (option_name lists list place text are e)
 
 pub value_line : (lists : List Listed) → AreLists lists → (t : FactType) (text : List ℕ) (v : Value) → SpellsValue lists t text v → IsLine text
 value_line lists are types.Boolean text (values.Boolean b) h = subst IsLine (sym h) (boolean_line b)

@@ -35,7 +35,7 @@ use Rattle.graph_session.specs.Refusals.{first_of, limit_refusals, value_refusal
 use Rattle.graph_session.specs.Rules.{Rules, tree_of}
 use Rattle.graph_session.specs.declared.reply.Refusal.{Refusal}
 use Rattle.graph_session.specs.declared.reply.Refusal.TheVariants.{BadValue}
-use Rattle.save_file.specs.CarriedText.{CarriedLine, HasItsForm, IsCarried, carried, carried_lines, collection, entry, line_text}
+use Rattle.save_file.specs.CarriedText.{CarriedLine, CarriedText, HasItsForm, IsCarried, carried, carried_lines, collection, entry, line_text}
 use Rattle.save_file.specs.Carrying.{IsRefusedAnswer, OwnLinesAreKept, keeps, kept_value}
 use Rattle.save_file.specs.SavedText.{end_line, entries, entry_line, entry_lines, facts, list_line, list_lines, lists, next_line, opening_line, saved, saved_lines, slots}
 use Rattle.save_file.proofs.CarriedEnds.{are_lines}
@@ -47,6 +47,7 @@ use Rattle.save_file.proofs.KeyedLines.{HasOneAtMost}
 use Rattle.save_file.proofs.LinesThere.{first_or, mapped_there, none_there, one_of_all}
 use Rattle.save_file.proofs.ListTexts.{same_parts, tail_of}
 use Rattle.save_file.proofs.OpenedKept.{named_kept}
+use Rattle.save_file.proofs.SavedCarried.{saved_carried}
 use Rattle.save_file.proofs.SavedLines.{all_lines}
 use Rattle.save_file.proofs.SlotTexts.{found_at, path_parts, same_behind, text_lacks_blank}
 use Rattle.save_file.proofs.TextLaws.{whole_lines}
@@ -174,15 +175,21 @@ module _ (r : Rules) (is : IsAccepted (names_of r.checks) r.accepted) (enums : A
         ]
       ]
 
-pub own_lines : OwnLinesAreKept
-own_lines r is enums a fit c form same line there none =
-    own_line r is enums a fit line (one_of_all HasItsForm c.lines line form.forms there)
-    (subst (λ (ls : List (List ℕ)). Contains ls (line_text line)) behind (Contains-append_left (map line_text c.lines) (end_line ∷ []) (line_text line) (mapped_there line_text c.lines line there))) none
-  where
-    all : carried_lines c ≡ saved_lines (tree_of r) a
-    all =
-        whole_lines IsCarried carried_lines are_lines c form (carried c) refl ∙ ap lines_of same
-        ∙ sym (whole_lines (AnswersFit (tree_of r)) (saved_lines (tree_of r)) (all_lines (names_of r.checks) r.accepted is enums) a fit (saved (tree_of r) a) refl)
+module _ (r : Rules) (is : IsAccepted (names_of r.checks) r.accepted) (enums : AreLists (tree_of r).enums) (a : Answered) (fit : AnswersFit (tree_of r) a) (c : CarriedText) (form : IsCarried c) (same : saved (tree_of r) a ≡ carried c) where
+  all : carried_lines c ≡ saved_lines (tree_of r) a
+  all =
+      whole_lines IsCarried carried_lines are_lines c form (carried c) refl ∙ ap lines_of (sym same)
+      ∙ sym (whole_lines (AnswersFit (tree_of r)) (saved_lines (tree_of r)) (all_lines (names_of r.checks) r.accepted is enums) a fit (saved (tree_of r) a) refl)
 
-    behind : map line_text c.lines ++ end_line ∷ [] ≡ lists (tree_of r) a ++ (entries Answer (tree_of r) a ++ (entries Override (tree_of r) a ++ end_line ∷ []))
-    behind = (behind_next c opening_line (next_line a.next) (lists (tree_of r) a ++ (entries Answer (tree_of r) a ++ (entries Override (tree_of r) a ++ end_line ∷ []))) all).1
+  behind : map line_text c.lines ++ end_line ∷ [] ≡ lists (tree_of r) a ++ (entries Answer (tree_of r) a ++ (entries Override (tree_of r) a ++ end_line ∷ []))
+  behind = (behind_next c opening_line (next_line a.next) (lists (tree_of r) a ++ (entries Answer (tree_of r) a ++ (entries Override (tree_of r) a ++ end_line ∷ []))) all).1
+
+  of_text : (line : CarriedLine) → Contains c.lines line → keeps r line ≡ false → IsRefusedAnswer r line
+  of_text line there none =
+      own_line r is enums a fit line (one_of_all HasItsForm c.lines line form.forms there)
+      (subst (λ (ls : List (List ℕ)). Contains ls (line_text line)) behind (Contains-append_left (map line_text c.lines) (end_line ∷ []) (line_text line) (mapped_there line_text c.lines line there))) none
+
+pub own_lines : OwnLinesAreKept
+own_lines r is enums a fit =
+    let text = saved_carried (names_of r.checks) r.accepted is enums a fit in
+    (text.0, text.1, text.2, of_text r is enums a fit text.0 text.1 text.2)

@@ -44,7 +44,7 @@ given_by Answer d fact h = or_left (is_answered_by d fact) (is_overridden_by d f
 given_by Override d fact h = or_right (is_answered_by d fact) (is_overridden_by d fact) h
 
 module _ (names : List (List ℕ)) (d : Accepted) (is : IsAccepted names d) (enums : AreLists d.tree.enums) (a : Answered) (fit : AnswersFit d.tree a) (side : Side) (s : Slot) (w : Value) (has : value_of side a s ≡ Some w) where
-  of_type : (t : FactType) × (type_at d.tree s.fact ≡ Some t) × IsValueOf d.tree.enums t w
+  pub of_type : (t : FactType) × (type_at d.tree s.fact ≡ Some t) × IsValueOf d.tree.enums t w
   of_type =
       let typed = fit.typed side s w has in
       let may = both (stands d.tree a s) (takes side d.tree s.fact) (fit.placed side s (rw has refl)) in

@@ -11,7 +11,7 @@ use Rattle.answers.specs.Answered.{Answered, value_of}
 use Rattle.answers.specs.declared.edit.Side.{Side}
 use Rattle.answers.specs.declared.edit.Side.TheVariants.{Answer, Override}
 use Rattle.value_text.specs.Enums.{AreLists}
-use Rattle.dictionary.specs.Accepted.{IsAccepted, names_of}
+use Rattle.dictionary.specs.Accepted.{Accepted, IsAccepted, names_of}
 use Rattle.dictionary.specs.Fits.{AnswersFit, is_answered_by, is_list, is_overridden_by}
 use Rattle.graph_session.specs.Kinds.{value_spelled}
 use Rattle.graph_session.specs.Naming.{fact_of, slot_of}
@@ -110,9 +110,12 @@ IsRefusedAnswer r (entry Answer path text) =
     (v : Value) × (value_spelled (tree_of r) (fact_of (tree_of r) path) text ≡ Some v) × IsSome (first_of (limit_refusals r (fact_of (tree_of r) path) (Some v)))
 IsRefusedAnswer r (entry Override path text) = ⊥
 
--- where a saved text is carried to its own dictionary, nothing else is dropped
+-- the saved text of answers that fit an accepted dictionary is a carried text
+abbrev pub SavedTextsAreCarried : Type 0
+SavedTextsAreCarried = (names : List (List ℕ)) (d : Accepted) → IsAccepted names d → AreLists d.tree.enums → (a : Answered) → AnswersFit d.tree a → IsCarriedText (saved d.tree a)
+
+-- where it is carried to its own dictionary, only such answers are dropped
 abbrev pub OwnLinesAreKept : Type 0
 OwnLinesAreKept =
     (r : Rules) → IsAccepted (names_of r.checks) r.accepted → AreLists (tree_of r).enums → (a : Answered) → AnswersFit (tree_of r) a
-    → (c : CarriedText) → IsCarried c → carried c ≡ saved (tree_of r) a
-    → (line : CarriedLine) → Contains c.lines line → keeps r line ≡ false → IsRefusedAnswer r line
+    → (c : CarriedText) × IsCarried c × (saved (tree_of r) a ≡ carried c) × ((line : CarriedLine) → Contains c.lines line → keeps r line ≡ false → IsRefusedAnswer r line)

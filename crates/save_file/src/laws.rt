@@ -1,6 +1,6 @@
 // Laws of saved and carried texts. Each function's contract is its law.
 ghost use Rattle.save_file.specs.CarriedText.{CarriedTextsTellLines};
-ghost use Rattle.save_file.specs.Carrying.{CarryingGivesOne, EachLineIsKeptOrListed, OwnLinesAreKept};
+ghost use Rattle.save_file.specs.Carrying.{CarryingGivesOne, EachLineIsKeptOrListed, OwnLinesAreKept, SavedTextsAreCarried};
 ghost use Rattle.save_file.specs.Loading.{SavedTextsTellAnswers};
 
 /// Answers that fit an accepted dictionary and have one saved text are the same.
@@ -21,6 +21,12 @@ pub fn each_line_is_kept_or_listed()
 /// Carrying gives one list of answers, and one list of numbers.
 pub fn carrying_gives_one_result()
     ensures { CarryingGivesOne }
+{}
+
+/// The saved text of answers that fit an accepted dictionary is a carried text: each line has at most 4,096 bytes, and there are
+/// at most 32 lists.
+pub fn saved_texts_are_carried()
+    ensures { SavedTextsAreCarried }
 {}
 
 /// Where the saved text of answers is carried to their own dictionary, it drops nothing but answers that a limit or a check
