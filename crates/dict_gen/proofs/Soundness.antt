@@ -1,5 +1,5 @@
 -- A dictionary whose facts break no rule, each mentioning facts before it alone, has no fault.
-use Rattle.std.proofs.Common.{◌≡◌, ℕ, zero, suc, ◌+◌, ◌<◌, true, false, cond, List, [], ◌∷◌, Some, None, Result, Ok, Err, inl, inr, refl, sym, ap, ◌∙◌, subst, arith}
+use Rattle.std.proofs.Common.{◌≡◌, ℕ, zero, suc, ◌+◌, ◌<◌, true, false, cond, List, [], ◌∷◌, Some, None, inl, inr, refl, ap, ◌∙◌, subst, arith}
 use Rattle.std.specs.Prelude.{nat_lt}
 use Rattle.std.specs.List.{list_all, slice_get}
 use Rattle.std.proofs.lemmas.Bool.{ltb-true}
@@ -17,7 +17,6 @@ use Rattle.dict_types.specs.Constants.{fact_values}
 use Rattle.dict_types.specs.DictFaults.{AreKept, AreLimits, AreTypedFacts, IsKept, IsTypedDictionary, IsTypedFact}
 use Rattle.dict_types.specs.FirstFact.{first_passing}
 use Rattle.dict_types.specs.Rules.{breaks, rule_order}
-use Rattle.dict_types.specs.Typed.{typed_dictionary}
 use Rattle.dict_types.specs.TypedParts.{TypedDictionary, TypedFact}
 use Rattle.dict_types.proofs.FirstLaws.{none_is_found}
 use Rattle.dict_types.proofs.FoundLaws.{well_typed_is_found}

@@ -1,10 +1,9 @@
 -- The first words of a line.
 use Rattle.std.proofs.Common.{◌≡◌, ◌≢◌, ℕ, ◌+◌, ◌-◌, ◌<◌, Bool, true, false, List, [], ◌∷◌, ◌++◌, length, take, drop, refl, inl, inr, sym, ap, ◌∙◌, arith, length-drop, append_assoc}
-use Rattle.std.specs.Prelude.{codes, if◌then◌else◌, ◌==◌, nat_eq}
+use Rattle.std.specs.Prelude.{codes, if◌then◌else◌, ◌==◌}
 use Rattle.std.proofs.lemmas.Bool.Decides.{nat_tests}
 use Rattle.std.proofs.lemmas.List.{append-nil, drop_more, take-append-drop, take_all}
 use Rattle.std.proofs.lemmas.List.Elements.{All-head, All-tail}
-use Rattle.common_lemmas.proofs.Numbers.{same_number}
 use Rattle.fact_paths.specs.Cuts.{Lacks}
 use Rattle.fact_paths.specs.Paths.{slot_path_text}
 use Rattle.fact_paths.proofs.SlotPathLaws.{slot_lacks_blank}

@@ -1,5 +1,5 @@
 -- How long the texts of which the lines are made can be.
-use Rattle.std.proofs.Common.{◌≡◌, ℕ, ℤ, ◌+◌, ◌*◌, ◌<◌, ◌≤◌, true, false, nat_le, ◌&&◌, List, [], ◌∷◌, ◌++◌, length, Some, inl, inr, ap, arith, length-append}
+use Rattle.std.proofs.Common.{ℕ, ℤ, ◌+◌, ◌*◌, ◌≤◌, true, false, nat_le, ◌&&◌, List, [], ◌∷◌, ◌++◌, length, inl, inr, ap, arith, length-append}
 use Rattle.std.specs.Prelude.{codes, decimal}
 use Rattle.std.specs.List.{AllByRecursion, list_all}
 use Rattle.std.proofs.lemmas.Bool.{leb-true}
@@ -12,7 +12,7 @@ use Rattle.fact_values.specs.declared.fact_type.FactType.TheVariants as types
 use Rattle.fact_values.specs.declared.value.Value.{Value}
 use Rattle.fact_values.specs.declared.value.Value.TheVariants as values
 use Rattle.value_text.specs.Dollars.{SpellsSize}
-use Rattle.value_text.specs.Enums.{AreLists, Listed, option_at}
+use Rattle.value_text.specs.Enums.{AreLists, Listed}
 use Rattle.value_text.specs.Fractions.{SpellsFraction}
 use Rattle.value_text.specs.MemberTexts.{printed_item, printed_rest}
 use Rattle.value_text.specs.Values.{SpellsValue}

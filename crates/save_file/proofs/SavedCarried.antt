@@ -1,7 +1,7 @@
 -- The saved text of answers that fit an accepted dictionary is a carried text.
-use Rattle.std.proofs.Common.{◌≡◌, ℕ, suc, ◌+◌, ◌<◌, ◌≤◌, Bool, true, false, cond, ◌&&◌, ◌||◌, nat_eq, bytes_eq, if◌then◌else◌, List, [], ◌∷◌, ◌++◌, length, map, slice_get, Option, Some, None, is_some, unwrap_or, refl, sym, ap, subst, ◌∙◌, arith, append_assoc}
+use Rattle.std.proofs.Common.{◌≡◌, ℕ, suc, ◌+◌, ◌<◌, ◌≤◌, Bool, true, false, cond, nat_eq, bytes_eq, if◌then◌else◌, List, [], ◌∷◌, ◌++◌, length, map, slice_get, Option, Some, None, is_some, unwrap_or, refl, sym, ap, subst, ◌∙◌, arith, append_assoc}
 use Rattle.std.specs.Prelude.{IsTrue, codes, count_by, nat_lt, option_map, sum_by}
-use Rattle.std.specs.List.{AllByRecursion, flat_map, list_any}
+use Rattle.std.specs.List.{AllByRecursion, list_any}
 use Rattle.std.specs.FinMap as map
 use Rattle.std.proofs.lemmas.Bool.{false_from_ne_true, ltb-false}
 use Rattle.std.proofs.lemmas.List.{map-append}
@@ -32,7 +32,7 @@ use Rattle.answers.specs.declared.edit.Side.{Side}
 use Rattle.answers.specs.declared.edit.Side.TheVariants.{Answer, Override}
 use Rattle.script_lines.specs.Joined.{joined}
 use Rattle.dictionary.specs.Accepted.{Accepted, IsAccepted}
-use Rattle.dictionary.specs.Fits.{AnswersFit, is_list, opens_of, takes}
+use Rattle.dictionary.specs.Fits.{AnswersFit, opens_of, takes}
 use Rattle.dictionary.specs.Homes.{home}
 use Rattle.dictionary.specs.Reading.{slot}
 use Rattle.dictionary.specs.Slots.{is_member, slot_same, stands}
@@ -40,13 +40,13 @@ use Rattle.dictionary.specs.SlotText.{slot_path, slot_path_of, slot_text}
 use Rattle.dictionary.proofs.HomeLaws.{home_is_collection, text_spells}
 use Rattle.dictionary.proofs.SlotLaws.{fact_of_standing, slot_same-itself}
 use Rattle.dictionary.proofs.SlotTextLaws.{member_below, slot_short}
-use Rattle.save_file.specs.CarriedText.{CarriedLine, CarriedText, HasItsForm, IsBelowNext, IsCarried, IsInOrder, IsShort, NamesOther, Pairs, SharesNone, carried, carried_lines, collection, entry, has_its_member, head_text, is_collection, line_text, lists_member, lists_member_of, rank}
+use Rattle.save_file.specs.CarriedText.{CarriedLine, CarriedText, HasItsForm, IsBelowNext, IsCarried, IsInOrder, IsShort, NamesOther, Pairs, SharesNone, carried, carried_lines, collection, entry, has_its_member, line_text, lists_member, lists_member_of, rank}
 use Rattle.save_file.specs.Carrying.{SavedTextsAreCarried}
 use Rattle.save_file.specs.Following.{AreSlots}
 use Rattle.save_file.specs.SavedText.{end_line, entries, entry_line, entry_lines, entry_lines_of, facts, list_line, list_lines, list_lines_of, lists, next_line, opening_line, saved, saved_lines, side_word, slots}
 use Rattle.save_file.proofs.CarriedKinds.{few_lists, higher, in_order, names_other, shares_none}
 use Rattle.save_file.proofs.CarriedLines.{entry_pieces}
-use Rattle.save_file.proofs.EntryLaws.{entry_slot, list_slot, list_there, members_numbered, open_list, open_list_members}
+use Rattle.save_file.proofs.EntryLaws.{entry_slot, list_slot, members_numbered, open_list, open_list_members}
 use Rattle.save_file.proofs.LineLengths.{entry_short, list_short, members_few, rest_short, value_short}
 use Rattle.save_file.proofs.ListTexts.{numbers_of}
 use Rattle.save_file.proofs.ListsFollow.{list_within}
