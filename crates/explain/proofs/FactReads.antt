@@ -16,7 +16,7 @@ use Rattle.dict_tree.specs.Targets.{targets}
 use Rattle.dict_tree.specs.Tree.{Source}
 use Rattle.three_state.specs.declared.res.Res.{Res}
 use Rattle.three_state.specs.declared.res.Res.TheVariants.{Complete, Placeholder, Incomplete, Fault}
-use Rattle.three_state.specs.Results.{members_of}
+use Rattle.three_state.specs.Results.{is_incomplete, members_of}
 use Rattle.evaluation.specs.Agreement.{IsIn}
 use Rattle.evaluation.specs.Mentioned.{AllOf}
 use Rattle.evaluation.specs.SlotsRead.{item_read, member_named, member_read}
@@ -28,7 +28,8 @@ use Rattle.dictionary.proofs.FactMentions.{EachUse}
 use Rattle.dictionary.proofs.MentionedLaws.{ReadIs, SourceIs, base_under}
 use Rattle.dictionary.proofs.ReadAgreement.{first_member, listed_in, names}
 use Rattle.dictionary.proofs.FinalLaws.{all_join}
-use Rattle.explain.specs.Reads.{dependency_reads, expression_reads, fact_reads, field_reads, is_incomplete, main_reads, node_reads, placeholder_reads, reads_by, reads_of_op, source_reads, target_slot}
+use Rattle.plain_table.specs.NodeReads.{dependency_reads, field_reads, node_reads, reads_by, reads_of_op, source_reads, target_slot}
+use Rattle.explain.specs.Reads.{expression_reads, fact_reads, main_reads, placeholder_reads}
 use Rattle.explain.proofs.AllReads.{AllRead, all_flat, all_read}
 
 -- ---- one use

@@ -21,7 +21,7 @@ use Rattle.dict_tree.specs.Tree.{Source}
 use Rattle.three_state.specs.declared.res.Res.{Res}
 use Rattle.three_state.specs.declared.res.Res.TheVariants.{Complete, Placeholder, Incomplete, Fault}
 use Rattle.three_state.specs.Equality.{res_same}
-use Rattle.three_state.specs.Results.{count_of, down, members_of}
+use Rattle.three_state.specs.Results.{count_of, down, is_incomplete, members_of}
 use Rattle.three_state.proofs.EqualityLaws.{res_same-Decides}
 use Rattle.evaluation.specs.Agreement.{IsIn}
 use Rattle.evaluation.specs.Mentioned.{AllOf}
@@ -45,7 +45,8 @@ use Rattle.dictionary.proofs.FinalLaws.{standing_stays}
 use Rattle.dictionary.proofs.SlotLaws.{fact_of_standing, listed_stand}
 use Rattle.dictionary.proofs.UntouchedLaws.{step_is}
 use Rattle.explain.specs.Missing.{MissingKeep, is_missing, is_unanswered, lacks_answer, missing}
-use Rattle.explain.specs.Reads.{dependency_reads, expression_reads, fact_reads, field_reads, is_in, is_incomplete, is_read, main_reads, node_reads, placeholder_reads, reads_by, reads_of_op, slot_reads, source_reads, standing_reads, target_slot}
+use Rattle.plain_table.specs.NodeReads.{dependency_reads, field_reads, node_reads, reads_by, reads_of_op, source_reads, target_slot}
+use Rattle.explain.specs.Reads.{expression_reads, fact_reads, is_in, is_read, main_reads, placeholder_reads, slot_reads, standing_reads}
 use Rattle.explain.proofs.PlacedLaws.{Follows, reads_follow}
 use Rattle.explain.proofs.ReachLaws.{falls, is_standing, reads_by_way, reads_itself}
 use Rattle.explain.proofs.SlotLists.{all_at, all_where, in_filter, test_all, test_at}

@@ -5,5 +5,4 @@ pub mod ListingLaws
 pub mod PlacedLaws
 pub mod ReachLaws
 pub mod SlotLists
-pub mod VisitLaws
 pub mod WalkLaws

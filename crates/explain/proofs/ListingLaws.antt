@@ -10,7 +10,7 @@ use Rattle.dict_tree.specs.Dictionary.{Dictionary as Tree}
 use Rattle.answers.specs.Answered.{Answered}
 use Rattle.dictionary.specs.Reading.{slot}
 use Rattle.dictionary.specs.Slots.{slots_of, slots_up_to, standing}
-use Rattle.explain.proofs.VisitLaws.{moved_on}
+use Rattle.plain_table.proofs.ReadLaws.{moved_on}
 
 pub taken_one : (test : Slot → Bool) (s : Slot) (old new : List Slot) (wanted : Bool) → wanted ≡ test s → new ≡ (if wanted then old ++ s ∷ [] else old) → new ≡ old ++ filter test (s ∷ [])
 taken_one test s old new wanted w e =

@@ -29,7 +29,8 @@ use Rattle.dictionary.proofs.SlotLaws.{stands_where}
 use Rattle.dictionary.proofs.TargetAgreement.{IsReached, StaysBy, agree_under, at_once, at_zero}
 use Rattle.dictionary.proofs.TargetHomes.{global_there, member_home, member_there}
 use Rattle.dictionary.proofs.TypedResultLaws.{target_typed}
-use Rattle.explain.specs.Reads.{fact_reads, slot_reads, target_slot}
+use Rattle.plain_table.specs.NodeReads.{target_slot}
+use Rattle.explain.specs.Reads.{fact_reads, slot_reads}
 use Rattle.explain.proofs.FactReads.{HoldsUnder, of_fact}
 
 -- ---- what holds of every mention

@@ -17,7 +17,8 @@ use Rattle.dictionary.specs.Slots.{slot_same, stands}
 use Rattle.dictionary.proofs.RankLaws.{IsLowerMention, lower_uses}
 use Rattle.dictionary.proofs.ReadAgreement.{first_member}
 use Rattle.dictionary.proofs.SlotLaws.{slot_same-equal}
-use Rattle.explain.specs.Reads.{all_reads, fact_reads, is_in, is_read, reads_within, slot_reads, standing_reads, target_slot}
+use Rattle.plain_table.specs.NodeReads.{target_slot}
+use Rattle.explain.specs.Reads.{all_reads, fact_reads, is_in, is_read, reads_within, slot_reads, standing_reads}
 use Rattle.explain.proofs.FactReads.{HoldsOf, HoldsUnder, of_fact}
 use Rattle.explain.proofs.SlotLists.{all_at, in_filter, in_flat_map, is_head, of_flat_map}
 

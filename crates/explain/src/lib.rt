@@ -2,12 +2,11 @@
 #![tactic(auto)]
 
 mod found;
+mod ground;
 mod laws;
 mod listing;
 mod missing_answers;
-mod reads;
 mod slots;
-mod visit;
 mod walk;
 
 pub use laws::{missing_answers_keep_the_result, reads_are_recursive};

@@ -1,27 +1,27 @@
 // What one slot reads.
-ghost use Rattle.std.specs.Prelude.{◌≡◌, ◌++◌, is_none, is_some, option_map, IfOk, OnOk, Some};
+ghost use Rattle.std.specs.Prelude.{◌≡◌, ◌++◌, is_none, option_map, IfOk, OnOk};
 ghost use Rattle.answers.specs.Answered.{value_of};
 ghost use Rattle.answers.specs.Meaning.{answered};
 ghost use Rattle.answers.specs.declared.edit.Side.TheVariants.{Override};
-ghost use Rattle.dict_tree.specs.Facts.{conditional_view, fact_view, stated_view};
+ghost use Rattle.dict_tree.specs.Facts.{fact_view, stated_view};
 ghost use Rattle.dict_tree.specs.View.{view};
-ghost use Rattle.evaluation.specs.Over.{over};
-ghost use Rattle.evaluation.specs.SlotsRead.{slots_read as reads_at};
 ghost use Rattle.dictionary.specs.Accepted.{accepted};
-ghost use Rattle.dictionary.specs.Plain.{body, conditional_body, given_value, main_result};
-ghost use Rattle.dictionary.specs.Reading.{outermost};
-ghost use Rattle.explain.specs.Ground.{env_of, look_of, reads_in, tree_of};
+ghost use Rattle.dictionary.specs.Plain.{body, given_value, main_result};
+ghost use Rattle.explain.specs.Ground.{look_of, tree_of};
 ghost use Rattle.explain.specs.Missing.{is_unanswered as lacks};
-ghost use Rattle.explain.specs.Reads.{expression_reads, fact_reads, is_incomplete as incomplete, main_reads, placeholder_reads, slot_reads as reads_of};
+ghost use Rattle.explain.specs.Reads.{fact_reads, main_reads, placeholder_reads, slot_reads as reads_of};
+ghost use Rattle.three_state.specs.Results.{is_incomplete as incomplete};
 
-use crate::visit::visit;
+use crate::ground::{ReadSlots, SessionGround};
 use answers::Answers;
-use dict_tree::{Conditional, Expr, FactSource, TypeText};
+use dict_tree::{Expr, FactSource, TypeText};
 use dictionary::{FactEngine, Place};
 use fact_values::{NoMemory, Slot};
 use graph_session::Session;
-use operations::{CaseStep, case_step, taken};
+use plain_table::{eval, eval_body};
 use std::alloc::Global;
+use std::sync::ledger::Ledger;
+use steps::Steps;
 use three_state::Res;
 
 fn is_incomplete(res: &Res) -> bool
@@ -58,62 +58,17 @@ pub fn is_unanswered<E: FactEngine>(session: &Session<E>, slot: Slot) -> bool
     }
 }
 
-// The value of the conditional where its condition is true, else the main expression.
-fn visit_conditional<E: FactEngine>(
-    alloc: Global,
-    session: &Session<E>,
-    fact: u32,
-    at: Place,
-    pair: &Conditional,
-    main: &Expr,
-    reads: &mut Vec<Slot>,
-) -> Result<Res, NoMemory>
-    ensures value { IfOk result (λ r. r ≡ over (env_of session.now fact) at (conditional_body (Some (conditional_view pair.now)) (view main.now))) }
-    ensures reads { OnOk result (reads.new.items ≡ reads.old.items ++ reads_at (env_of session.now fact) (reads_in session.now fact) at (conditional_body (Some (conditional_view pair.now)) (view main.now))) }
-{
-    let condition = visit(alloc, session, fact, at, &pair.test, reads)?;
-    match case_step(true, &condition) {
-        CaseStep::Next(still) => {
-            let res = visit(alloc, session, fact, at, main, reads)?;
-            Ok(taken(still, res))
-        }
-        CaseStep::Take(still) => {
-            let res = visit(alloc, session, fact, at, &pair.value, reads)?;
-            Ok(taken(still, res))
-        }
-        CaseStep::End(res) => Ok(res),
-    }
-}
-
-// The body of a derived fact.
-fn visit_body<E: FactEngine>(
-    alloc: Global,
-    session: &Session<E>,
-    fact: u32,
-    at: Place,
-    conditional: &Option<Conditional>,
-    main: &Expr,
-    reads: &mut Vec<Slot>,
-) -> Result<Res, NoMemory>
-    ensures value { IfOk result (λ r. r ≡ over (env_of session.now fact) at (conditional_body (option_map conditional_view conditional.now) (view main.now))) }
-    ensures reads { OnOk result (reads.new.items ≡ reads.old.items ++ reads_at (env_of session.now fact) (reads_in session.now fact) at (conditional_body (option_map conditional_view conditional.now) (view main.now))) }
-{
-    match conditional {
-        None => visit(alloc, session, fact, at, main, reads),
-        Some(pair) => visit_conditional(alloc, session, fact, at, pair, main, reads),
-    }
-}
-
 // Whether the main result is incomplete. What it reads is added: nothing where it is overridden.
-fn visit_main<E: FactEngine>(
+fn visit_main<E: FactEngine, L: Ledger>(
     alloc: Global,
     session: &Session<E>,
     slot: Slot,
     fact: &FactSource,
-    reads: &mut Vec<Slot>,
+    reads: &mut ReadSlots,
+    steps: &mut Steps<L>,
 ) -> Result<bool, NoMemory>
     ensures value { IfOk result (λ b. b ≡ incomplete (main_result (tree_of session.now) session.now.timeline.now (look_of session.now) slot (fact_view fact.now).stated (body (fact_view fact.now)))) }
-    ensures reads { OnOk result (reads.new.items ≡ reads.old.items ++ main_reads (tree_of session.now) session.now.timeline.now (look_of session.now) slot (body (fact_view fact.now))) }
+    ensures reads { OnOk result (reads.new.slots.items ≡ reads.old.slots.items ++ main_reads (tree_of session.now) session.now.timeline.now (look_of session.now) slot (body (fact_view fact.now))) }
 {
     match &fact.main {
         None => Ok(lacks_value(session.answers(), slot, &fact.stated)),
@@ -122,30 +77,24 @@ fn visit_main<E: FactEngine>(
                 return Ok(false);
             }
             let at = Place::outermost(slot.member);
-            let res = visit_body(
-                alloc,
-                session,
-                slot.fact,
-                at,
-                &fact.conditional,
-                main,
-                reads,
-            )?;
+            let ground = SessionGround::new(session, slot.fact);
+            let res = eval_body(alloc, &ground, at, &fact.conditional, main, reads, steps)?;
             Ok(is_incomplete(&res))
         }
     }
 }
 
 // What the placeholder reads, where it stands for the main result.
-fn visit_placeholder<E: FactEngine>(
+fn visit_placeholder<E: FactEngine, L: Ledger>(
     alloc: Global,
     session: &Session<E>,
     slot: Slot,
     placeholder: &Option<Expr>,
     stands_in: bool,
-    reads: &mut Vec<Slot>,
+    reads: &mut ReadSlots,
+    steps: &mut Steps<L>,
 ) -> Result<(), NoMemory>
-    ensures { OnOk result (reads.new.items ≡ reads.old.items ++ placeholder_reads (tree_of session.now) (look_of session.now) slot (option_map view placeholder.now) stands_in) }
+    ensures { OnOk result (reads.new.slots.items ≡ reads.old.slots.items ++ placeholder_reads (tree_of session.now) (look_of session.now) slot (option_map view placeholder.now) stands_in) }
 {
     let Some(expr) = placeholder else {
         return Ok(());
@@ -154,38 +103,48 @@ fn visit_placeholder<E: FactEngine>(
         return Ok(());
     }
     let at = Place::outermost(slot.member);
-    visit(alloc, session, slot.fact, at, expr, reads)?;
+    let ground = SessionGround::new(session, slot.fact);
+    eval(alloc, &ground, at, expr, reads, steps)?;
     Ok(())
 }
 
 // What a slot of the fact reads.
-fn visit_fact<E: FactEngine>(
+fn visit_fact<E: FactEngine, L: Ledger>(
     alloc: Global,
     session: &Session<E>,
     slot: Slot,
     fact: &FactSource,
-    reads: &mut Vec<Slot>,
+    reads: &mut ReadSlots,
+    steps: &mut Steps<L>,
 ) -> Result<(), NoMemory>
-    ensures { OnOk result (reads.new.items ≡ reads.old.items ++ fact_reads (tree_of session.now) session.now.timeline.now (look_of session.now) slot (fact_view fact.now)) }
+    ensures { OnOk result (reads.new.slots.items ≡ reads.old.slots.items ++ fact_reads (tree_of session.now) session.now.timeline.now (look_of session.now) slot (fact_view fact.now)) }
 {
-    let stands_in = visit_main(alloc, session, slot, fact, reads)?;
-    visit_placeholder(alloc, session, slot, &fact.placeholder, stands_in, reads)
+    let stands_in = visit_main(alloc, session, slot, fact, reads, steps)?;
+    visit_placeholder(
+        alloc,
+        session,
+        slot,
+        &fact.placeholder,
+        stands_in,
+        reads,
+        steps,
+    )
 }
 
 /// The slots that the evaluation of the slot reads, in order, each as often as it reads it.
-pub fn slot_reads<E: FactEngine>(
+pub fn slot_reads<E: FactEngine, L: Ledger>(
     alloc: Global,
     session: &Session<E>,
     slot: Slot,
+    steps: &mut Steps<L>,
 ) -> Result<Vec<Slot>, NoMemory>
     ensures { IfOk result (λ reads. reads.items ≡ reads_of (accepted session.now.dict) session.now.timeline.now slot) }
 {
-    let mut reads = Vec::new(alloc);
-    match session.dict().source().fact(slot.fact) {
-        None => Ok(reads),
-        Some(fact) => {
-            visit_fact(alloc, session, slot, fact, &mut reads)?;
-            Ok(reads)
-        }
+    let mut reads = ReadSlots {
+        slots: Vec::new(alloc),
+    };
+    if let Some(fact) = session.dict().source().fact(slot.fact) {
+        visit_fact(alloc, session, slot, fact, &mut reads, steps)?;
     }
+    Ok(reads.slots)
 }

@@ -14,6 +14,8 @@ use dictionary::FactEngine;
 use fact_values::{NoMemory, Slot};
 use graph_session::Session;
 use std::alloc::Global;
+use std::sync::ledger::Ledger;
+use steps::Steps;
 
 // Finds a slot, where it stands. One that is new is to be walked.
 fn find_one<E: FactEngine>(
@@ -50,10 +52,11 @@ fn find_all<E: FactEngine>(
 }
 
 /// The slots that the evaluation of the slot reads, itself among them. Each is walked once.
-pub fn find_reads<E: FactEngine>(
+pub fn find_reads<E: FactEngine, L: Ledger>(
     alloc: Global,
     session: &Session<E>,
     slot: Slot,
+    steps: &mut Steps<L>,
 ) -> Result<Found, NoMemory>
     requires { IsTrue (stands (tree_of session.now) session.now.timeline.now slot) }
     ensures { IfOk result (λ f. (t : Slot) → has f t ≡ is_read (accepted session.now.dict) session.now.timeline.now slot t) }
@@ -64,7 +67,7 @@ pub fn find_reads<E: FactEngine>(
     let mut todo = Vec::new(alloc);
     find_one(session, slot, &mut found, &mut todo)?;
     while let Some(next) = todo.pop() {
-        let reads = slot_reads(alloc, session, next)?;
+        let reads = slot_reads(alloc, session, next, steps)?;
         find_all(session, reads.as_slice(), &mut found, &mut todo)?;
     }
     Ok(found)

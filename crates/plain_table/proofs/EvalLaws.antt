@@ -25,8 +25,7 @@ use Rattle.three_state.specs.declared.res.Res.TheVariants.{Complete, Placeholder
 use Rattle.three_state.specs.declared.strict.Verdict.{Verdict}
 use Rattle.dictionary.specs.Plain.{conditional_body}
 use Rattle.dictionary.specs.Reading.{Place}
-use Rattle.plain_table.specs.Ground.{env_of}
-use Rattle.plain_table.specs.declared.ground.Ground.{Ground}
+use Rattle.plain_table.specs.Known.{Known, env_of}
 
 -- ---- what is visited behind a condition
 
@@ -100,10 +99,10 @@ unfolding case_step
 conditional_at test value main condition step e h =
     ap (λ (s : CaseStep). after_case s value (λ still. down_unless still main)) (h ∙ ap (case_step true) e) ∙ switch_from-start ((test, value) ∷ (Complete (Boolean true), main) ∷ [])
 
-pub conditional_visits : (g : Ground) (at : Place) (test value main : Source) (condition : Res) (step : CaseStep) → condition ≡ over (env_of g) at test → step ≡ case_step true condition
-    → suc (visits (env_of g) at test + after_step step (visits (env_of g) at value) (1 + visits (env_of g) at main)) ≡ visits (env_of g) at (conditional_body (Some (test, value)) main)
-conditional_visits g at test value main condition step is taken =
-    ap (λ n. suc (visits (env_of g) at test + n)) (sym (step_visits true condition (over (env_of g) at test) step (visits (env_of g) at value) (1 + visits (env_of g) at main) is taken))
+pub conditional_visits : (k : Known) (at : Place) (test value main : Source) (condition : Res) (step : CaseStep) → condition ≡ over (env_of k) at test → step ≡ case_step true condition
+    → suc (visits (env_of k) at test + after_step step (visits (env_of k) at value) (1 + visits (env_of k) at main)) ≡ visits (env_of k) at (conditional_body (Some (test, value)) main)
+conditional_visits k at test value main condition step is taken =
+    ap (λ n. suc (visits (env_of k) at test + n)) (sym (step_visits true condition (over (env_of k) at test) step (visits (env_of k) at value) (1 + visits (env_of k) at main) is taken))
 
 -- ---- members
 

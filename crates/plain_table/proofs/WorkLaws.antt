@@ -17,23 +17,22 @@ use Rattle.dictionary.specs.Reading.{slot}
 use Rattle.dictionary.specs.Slots.{slots_of, slots_up_to, standing}
 use Rattle.dictionary.specs.Weights.{slot_weight}
 use Rattle.dictionary.proofs.WeightLaws.{fact_weight, weight_over, weight_over_lower}
-use Rattle.plain_table.specs.Ground.{look_on, option_weight, tree_of}
-use Rattle.plain_table.specs.declared.ground.Ground.{Ground}
+use Rattle.plain_table.specs.Known.{Known, option_weight}
 
 -- ---- one slot
 
-weighs_alike : (g : Ground) (m : ℕ) (t : Option Source) → option_weight g m t ≡ weight_over (tree_of g) (look_on g) (slot g.fact m) t
-weighs_alike g m None = refl
-weighs_alike g m (Some t) = refl
+weighs_alike : (k : Known) (m : ℕ) (t : Option Source) → option_weight k m t ≡ weight_over k.tree k.look (slot k.fact m) t
+weighs_alike k m None = refl
+weighs_alike k m (Some t) = refl
 
-pub slot_weighs : (names : List (List ℕ)) (d : Accepted) → IsAccepted names d → (a : Answered) (g : Ground) (m : ℕ) (f : Fact) → tree_of g ≡ d.tree → fact_at d.tree.facts g.fact ≡ Some f
-    → IsPlainBelow d a (rank d g.fact) (look_on g) → option_weight g m (body f) + option_weight g m f.placeholder ≡ slot_weight d a (slot g.fact m)
-slot_weighs names d accepted a g m f same e below =
-    ap (λ n. n + option_weight g m f.placeholder) (weighs_alike g m (body f))
-    ∙ ap (λ n. weight_over (tree_of g) (look_on g) (slot g.fact m) (body f) + n) (weighs_alike g m f.placeholder)
-    ∙ ap (λ (t : Tree). fact_weight t (look_on g) (slot g.fact m) f) same
-    ∙ sym (ap (λ (o : Option Fact). at_fact o 0 (fact_weight d.tree (look_on g) (slot g.fact m))) e)
-    ∙ weight_over_lower names d accepted a (look_on g) (slot g.fact m) below
+pub slot_weighs : (names : List (List ℕ)) (d : Accepted) → IsAccepted names d → (a : Answered) (k : Known) (m : ℕ) (f : Fact) → k.tree ≡ d.tree → fact_at d.tree.facts k.fact ≡ Some f
+    → IsPlainBelow d a (rank d k.fact) k.look → option_weight k m (body f) + option_weight k m f.placeholder ≡ slot_weight d a (slot k.fact m)
+slot_weighs names d accepted a k m f same e below =
+    ap (λ n. n + option_weight k m f.placeholder) (weighs_alike k m (body f))
+    ∙ ap (λ n. weight_over k.tree k.look (slot k.fact m) (body f) + n) (weighs_alike k m f.placeholder)
+    ∙ ap (λ (t : Tree). fact_weight t k.look (slot k.fact m) f) same
+    ∙ sym (ap (λ (o : Option Fact). at_fact o 0 (fact_weight d.tree k.look (slot k.fact m))) e)
+    ∙ weight_over_lower names d accepted a k.look (slot k.fact m) below
 
 -- ---- sums
 

@@ -1,14 +1,16 @@
-// The result of an expression as it is written.
-ghost use Rattle.std.specs.Prelude.{◌≡◌, ◌+◌, ◌≤◌, [], ◌∷◌, ◌++◌, ℕ, List, sum_by, if◌then◌else◌, IfOk, OnOk};
+// The result of an expression as it is written, and what its evaluation reads.
+ghost use Rattle.std.specs.Prelude.{◌≡◌, ◌+◌, ◌≤◌, [], ◌∷◌, ◌++◌, ℕ, List, flat_map, sum_by, if◌then◌else◌, IfOk, OnOk};
 ghost use Rattle.dict_tree.specs.View.{cases_view, trees_view, use_view, view};
 ghost use Rattle.evaluation.specs.Over.{many_of, over, over_all, over_cases, pick_of, weight, weight_of_all, weight_of_cases};
-ghost use Rattle.evaluation.specs.SlotsRead.{up_to_decider};
+ghost use Rattle.evaluation.specs.SlotsRead.{members_visited, slots_read, slots_read_of_all, slots_read_of_cases, up_to_decider};
 ghost use Rattle.evaluation.specs.Visits.{visits, visits_of_all, visits_of_cases};
 ghost use Rattle.operations.specs.CaseSteps.{find_from};
 ghost use Rattle.three_state.specs.Results.{filter_of, find_of, members_of, switch_of};
-ghost use Rattle.plain_table.specs.Ground.{condition_on, env_of, visits_on, visits_under, work_on};
+ghost use Rattle.plain_table.specs.Known.{condition_on, condition_reads, env_of, picked_at, reads_of, visits_on, visits_under, work_on};
+ghost use Rattle.plain_table.specs.Noted.{Noted};
 
 use crate::ground::Ground;
+use crate::notes::Notes;
 use crate::reads::{base_under, read, read_constant, read_source};
 use dict_tree::{Case, Expr, ManyOp, PathUse, PickOp};
 use dictionary::Place;
@@ -21,56 +23,61 @@ use std::sync::ledger::Ledger;
 use steps::Steps;
 use three_state::{Res, Verdict};
 
-/// The result of the expression. A visit of a node is a step. For want of memory fewer may be visited.
+/// The result of the expression. The slots that it reads are noted, and a visit of a node is a step; for want of memory fewer may
+/// be read and visited.
 #[cycle(eval)]
 #[tactic(auto, using(dict_tree::proofs::Views::views))]
-pub fn eval<L: Ledger>(
+pub fn eval<G: Ground, N: Notes, L: Ledger>(
     alloc: Global,
-    ground: &Ground,
+    ground: &G,
     at: Place,
     expr: &Expr,
+    notes: &mut N,
     steps: &mut Steps<L>,
 ) -> Result<Res, NoMemory>
-    ensures value { IfOk result (λ r. r ≡ over (env_of ground.now) at (view expr.now)) }
-    ensures visits { OnOk result (steps.new ≡ steps.old + visits (env_of ground.now) at (view expr.now)) }
-    ensures most { steps.new ≤ steps.old + weight (env_of ground.now) at (view expr.now) }
+    ensures value { IfOk result (λ r. r ≡ over (env_of (G.known ground.now)) at (view expr.now)) }
+    ensures reads { OnOk result (Noted N.keeps (N.noted notes.old) (slots_read (env_of (G.known ground.now)) (reads_of (G.known ground.now)) at (view expr.now)) (N.noted notes.new)) }
+    ensures visits { OnOk result (steps.new ≡ steps.old + visits (env_of (G.known ground.now)) at (view expr.now)) }
+    ensures most { steps.new ≤ steps.old + weight (env_of (G.known ground.now)) at (view expr.now) }
 {
     steps.tick();
     match expr {
         Expr::Const(constant) => read_constant(alloc, ground, constant),
-        Expr::Read(op, used) => read(alloc, ground, at, *op, used),
-        Expr::Switch(cases) => eval_cases(alloc, ground, at, cases.as_slice(), steps),
-        Expr::Many(op, operands) => eval_all(alloc, ground, at, *op, operands.as_slice(), steps),
+        Expr::Read(op, used) => read(alloc, ground, at, *op, used, notes),
+        Expr::Switch(cases) => eval_cases(alloc, ground, at, cases.as_slice(), notes, steps),
+        Expr::Many(op, operands) => eval_all(alloc, ground, at, *op, operands.as_slice(), notes, steps),
         Expr::One(op, operand) => {
-            let res = eval(alloc, ground, at, operand, steps)?;
+            let res = eval(alloc, ground, at, operand, notes, steps)?;
             Ok(one(*op, res))
         }
         Expr::Two(op, left, right) => {
-            let first = eval(alloc, ground, at, left, steps)?;
-            let second = eval(alloc, ground, at, right, steps)?;
+            let first = eval(alloc, ground, at, left, notes, steps)?;
+            let second = eval(alloc, ground, at, right, notes, steps)?;
             Ok(two(*op, &first, &second))
         }
-        Expr::Pick(op, used, test) => eval_pick(alloc, ground, at, *op, used, test, steps),
+        Expr::Pick(op, used, test) => eval_pick(alloc, ground, at, *op, used, test, notes, steps),
     }
 }
 
 // A node with a list of operands.
 #[cycle(eval)]
-fn eval_all<L: Ledger>(
+fn eval_all<G: Ground, N: Notes, L: Ledger>(
     alloc: Global,
-    ground: &Ground,
+    ground: &G,
     at: Place,
     op: ManyOp,
     operands: &[Expr],
+    notes: &mut N,
     steps: &mut Steps<L>,
 ) -> Result<Res, NoMemory>
-    ensures value { IfOk result (λ r. r ≡ many_of op (over_all (env_of ground.now) at (trees_view operands.now))) }
-    ensures visits { OnOk result (steps.new ≡ steps.old + visits_of_all (env_of ground.now) at (trees_view operands.now)) }
-    ensures most { steps.new ≤ steps.old + weight_of_all (env_of ground.now) at (trees_view operands.now) }
+    ensures value { IfOk result (λ r. r ≡ many_of op (over_all (env_of (G.known ground.now)) at (trees_view operands.now))) }
+    ensures reads { OnOk result (Noted N.keeps (N.noted notes.old) (slots_read_of_all (env_of (G.known ground.now)) (reads_of (G.known ground.now)) at (trees_view operands.now)) (N.noted notes.new)) }
+    ensures visits { OnOk result (steps.new ≡ steps.old + visits_of_all (env_of (G.known ground.now)) at (trees_view operands.now)) }
+    ensures most { steps.new ≤ steps.old + weight_of_all (env_of (G.known ground.now)) at (trees_view operands.now) }
 {
     let mut fold = ManyFold::new(op);
     for operand in operands {
-        let res = eval(alloc, ground, at, operand, steps)?;
+        let res = eval(alloc, ground, at, operand, notes, steps)?;
         fold.see(res);
     }
     Ok(fold.end())
@@ -78,24 +85,26 @@ fn eval_all<L: Ledger>(
 
 // A Switch: the cases in their order, up to the one that is taken.
 #[cycle(eval)]
-fn eval_cases<L: Ledger>(
+fn eval_cases<G: Ground, N: Notes, L: Ledger>(
     alloc: Global,
-    ground: &Ground,
+    ground: &G,
     at: Place,
     cases: &[Case],
+    notes: &mut N,
     steps: &mut Steps<L>,
 ) -> Result<Res, NoMemory>
-    ensures value { IfOk result (λ r. r ≡ switch_of (over_cases (env_of ground.now) at (cases_view cases.now))) }
-    ensures visits { OnOk result (steps.new ≡ steps.old + visits_of_cases (env_of ground.now) at (cases_view cases.now)) }
-    ensures most { steps.new ≤ steps.old + weight_of_cases (env_of ground.now) at (cases_view cases.now) }
+    ensures value { IfOk result (λ r. r ≡ switch_of (over_cases (env_of (G.known ground.now)) at (cases_view cases.now))) }
+    ensures reads { OnOk result (Noted N.keeps (N.noted notes.old) (slots_read_of_cases (env_of (G.known ground.now)) (reads_of (G.known ground.now)) at (cases_view cases.now)) (N.noted notes.new)) }
+    ensures visits { OnOk result (steps.new ≡ steps.old + visits_of_cases (env_of (G.known ground.now)) at (cases_view cases.now)) }
+    ensures most { steps.new ≤ steps.old + weight_of_cases (env_of (G.known ground.now)) at (cases_view cases.now) }
 {
     let mut complete = true;
     for case in cases {
-        let condition = eval(alloc, ground, at, &case.test, steps)?;
+        let condition = eval(alloc, ground, at, &case.test, notes, steps)?;
         match case_step(complete, &condition) {
             CaseStep::Next(still) => complete = still,
             CaseStep::Take(still) => {
-                let res = eval(alloc, ground, at, &case.outcome, steps)?;
+                let res = eval(alloc, ground, at, &case.outcome, notes, steps)?;
                 return Ok(taken(still, res));
             }
             CaseStep::End(res) => return Ok(res),
@@ -106,24 +115,28 @@ fn eval_cases<L: Ledger>(
 
 // A Filter or a Find, from its path and its condition.
 #[cycle(eval)]
-fn eval_pick<L: Ledger>(
+fn eval_pick<G: Ground, N: Notes, L: Ledger>(
     alloc: Global,
-    ground: &Ground,
+    ground: &G,
     at: Place,
     op: PickOp,
     used: &PathUse,
     test: &Expr,
+    notes: &mut N,
     steps: &mut Steps<L>,
 ) -> Result<Res, NoMemory>
-    ensures value { IfOk result (λ r. r ≡ pick_of op ((env_of ground.now).source at (use_view used.now)) (λ m. over (env_of ground.now) ((env_of ground.now).enter at (use_view used.now) m) (view test.now))) }
-    ensures visits { OnOk result (steps.new ≡ steps.old + visits_under ground.now at op (use_view used.now) (view test.now)) }
-    ensures most { steps.new ≤ steps.old + sum_by (λ m. weight (env_of ground.now) ((env_of ground.now).enter at (use_view used.now) m) (view test.now)) (members_of ((env_of ground.now).source at (use_view used.now))) }
+    ensures value { IfOk result (λ r. r ≡ pick_of op ((env_of (G.known ground.now)).source at (use_view used.now)) (λ m. over (env_of (G.known ground.now)) ((env_of (G.known ground.now)).enter at (use_view used.now) m) (view test.now))) }
+    ensures reads { OnOk result (Noted N.keeps (N.noted notes.old) ((reads_of (G.known ground.now)).source at (use_view used.now)
+        ++ flat_map (λ m. slots_read (env_of (G.known ground.now)) (reads_of (G.known ground.now)) ((env_of (G.known ground.now)).enter at (use_view used.now) m) (view test.now))
+        (members_visited op (picked_at (G.known ground.now) at (use_view used.now) (view test.now)) ((env_of (G.known ground.now)).source at (use_view used.now)))) (N.noted notes.new)) }
+    ensures visits { OnOk result (steps.new ≡ steps.old + visits_under (G.known ground.now) at op (use_view used.now) (view test.now)) }
+    ensures most { steps.new ≤ steps.old + sum_by (λ m. weight (env_of (G.known ground.now)) ((env_of (G.known ground.now)).enter at (use_view used.now) m) (view test.now)) (members_of ((env_of (G.known ground.now)).source at (use_view used.now))) }
 {
-    let source = read_source(ground, at, used);
+    let source = read_source(ground, at, used, notes)?;
     let under = at.under(base_under(ground, at, used));
     match op {
-        PickOp::Filter => eval_filter(alloc, ground, under, source, test, steps),
-        PickOp::Find => eval_find(alloc, ground, under, source, test, steps),
+        PickOp::Filter => eval_filter(alloc, ground, under, source, test, notes, steps),
+        PickOp::Find => eval_find(alloc, ground, under, source, test, notes, steps),
     }
 }
 
@@ -139,22 +152,24 @@ fn keep(kept: &mut Vec<u32>, is_kept: bool, member: u32) -> Result<(), NoMemory>
 
 // The members of the collection at which the condition is true.
 #[cycle(eval)]
-fn eval_filter<L: Ledger>(
+fn eval_filter<G: Ground, N: Notes, L: Ledger>(
     alloc: Global,
-    ground: &Ground,
+    ground: &G,
     under: Place,
     source: &Res,
     test: &Expr,
+    notes: &mut N,
     steps: &mut Steps<L>,
 ) -> Result<Res, NoMemory>
-    ensures value { IfOk result (λ r. r ≡ filter_of source.now (condition_on ground.now under (view test.now))) }
-    ensures visits { OnOk result (steps.new ≡ steps.old + sum_by (visits_on ground.now under (view test.now)) (members_of source.now)) }
-    ensures most { steps.new ≤ steps.old + sum_by (work_on ground.now under (view test.now)) (members_of source.now) }
+    ensures value { IfOk result (λ r. r ≡ filter_of source.now (condition_on (G.known ground.now) under (view test.now))) }
+    ensures reads { OnOk result (Noted N.keeps (N.noted notes.old) (flat_map (condition_reads (G.known ground.now) under (view test.now)) (members_of source.now)) (N.noted notes.new)) }
+    ensures visits { OnOk result (steps.new ≡ steps.old + sum_by (visits_on (G.known ground.now) under (view test.now)) (members_of source.now)) }
+    ensures most { steps.new ≤ steps.old + sum_by (work_on (G.known ground.now) under (view test.now)) (members_of source.now) }
 {
     let mut fold = FilterFold::new(source);
     let mut kept = Vec::new(alloc);
     for member in members(source) {
-        let condition = eval(alloc, ground, under.at(*member), test, steps)?;
+        let condition = eval(alloc, ground, under.at(*member), test, notes, steps)?;
         let is_kept = fold.see(&condition);
         keep(&mut kept, is_kept, *member)?;
     }
@@ -163,21 +178,23 @@ fn eval_filter<L: Ledger>(
 
 // The first member of the collection at which the condition is true.
 #[cycle(eval)]
-fn eval_find<L: Ledger>(
+fn eval_find<G: Ground, N: Notes, L: Ledger>(
     alloc: Global,
-    ground: &Ground,
+    ground: &G,
     under: Place,
     source: &Res,
     test: &Expr,
+    notes: &mut N,
     steps: &mut Steps<L>,
 ) -> Result<Res, NoMemory>
-    ensures value { IfOk result (λ r. r ≡ find_of source.now (condition_on ground.now under (view test.now))) }
-    ensures visits { OnOk result (steps.new ≡ steps.old + sum_by (visits_on ground.now under (view test.now)) (up_to_decider (condition_on ground.now under (view test.now)) (members_of source.now))) }
-    ensures most { steps.new ≤ steps.old + sum_by (work_on ground.now under (view test.now)) (members_of source.now) }
+    ensures value { IfOk result (λ r. r ≡ find_of source.now (condition_on (G.known ground.now) under (view test.now))) }
+    ensures reads { OnOk result (Noted N.keeps (N.noted notes.old) (flat_map (condition_reads (G.known ground.now) under (view test.now)) (up_to_decider (condition_on (G.known ground.now) under (view test.now)) (members_of source.now))) (N.noted notes.new)) }
+    ensures visits { OnOk result (steps.new ≡ steps.old + sum_by (visits_on (G.known ground.now) under (view test.now)) (up_to_decider (condition_on (G.known ground.now) under (view test.now)) (members_of source.now))) }
+    ensures most { steps.new ≤ steps.old + sum_by (work_on (G.known ground.now) under (view test.now)) (members_of source.now) }
 {
     match source_verdict(source) {
         Verdict::Go(complete) => {
-            find_among(alloc, ground, under, complete, members(source), test, steps)
+            find_among(alloc, ground, under, complete, members(source), test, notes, steps)
         }
         Verdict::Incomplete => Ok(Res::Incomplete),
         Verdict::Fault(fault) => Ok(Res::Fault(fault)),
@@ -186,22 +203,24 @@ fn eval_find<L: Ledger>(
 
 // The same of these members. The flag says that the collection is complete.
 #[cycle(eval)]
-fn find_among<L: Ledger>(
+fn find_among<G: Ground, N: Notes, L: Ledger>(
     alloc: Global,
-    ground: &Ground,
+    ground: &G,
     under: Place,
     complete: bool,
     members: &[u32],
     test: &Expr,
+    notes: &mut N,
     steps: &mut Steps<L>,
 ) -> Result<Res, NoMemory>
-    ensures value { IfOk result (λ r. r ≡ find_from (condition_on ground.now under (view test.now)) complete members.now) }
-    ensures visits { OnOk result (steps.new ≡ steps.old + sum_by (visits_on ground.now under (view test.now)) (up_to_decider (condition_on ground.now under (view test.now)) members.now)) }
-    ensures most { steps.new ≤ steps.old + sum_by (work_on ground.now under (view test.now)) members.now }
+    ensures value { IfOk result (λ r. r ≡ find_from (condition_on (G.known ground.now) under (view test.now)) complete members.now) }
+    ensures reads { OnOk result (Noted N.keeps (N.noted notes.old) (flat_map (condition_reads (G.known ground.now) under (view test.now)) (up_to_decider (condition_on (G.known ground.now) under (view test.now)) members.now)) (N.noted notes.new)) }
+    ensures visits { OnOk result (steps.new ≡ steps.old + sum_by (visits_on (G.known ground.now) under (view test.now)) (up_to_decider (condition_on (G.known ground.now) under (view test.now)) members.now)) }
+    ensures most { steps.new ≤ steps.old + sum_by (work_on (G.known ground.now) under (view test.now)) members.now }
 {
     let mut complete = complete;
     for member in members {
-        let condition = eval(alloc, ground, under.at(*member), test, steps)?;
+        let condition = eval(alloc, ground, under.at(*member), test, notes, steps)?;
         match case_step(complete, &condition) {
             CaseStep::Next(still) => complete = still,
             CaseStep::Take(still) => return Ok(found(still, *member)),

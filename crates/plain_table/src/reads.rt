@@ -1,76 +1,122 @@
-// What a node that reads gives, from the facts that its path names.
-ghost use Rattle.std.specs.Prelude.{◌≡◌, IfOk, option_and_then};
+// What a node that reads gives, and which slots it reads, from the facts that its path names.
+ghost use Rattle.std.specs.Prelude.{◌≡◌, ◌∷◌, [], flat_map, IfOk, OnOk, option_and_then};
 ghost use Rattle.dict_tree.specs.Dictionary.{dictionary_view};
 ghost use Rattle.dict_tree.specs.Mentions.{condition_base};
 ghost use Rattle.dict_tree.specs.View.{literal_of};
 ghost use Rattle.dict_types.specs.StatedTypes.{type_at as type_of_fact};
 ghost use Rattle.evaluation.specs.Reads.{sum_over, through_item};
-ghost use Rattle.three_state.specs.Results.{count_of};
+ghost use Rattle.evaluation.specs.SlotsRead.{fields_read, item_read};
+ghost use Rattle.three_state.specs.Results.{count_of, members_of};
 ghost use Rattle.three_state.specs.declared.res.Res.TheVariants.{Complete};
 ghost use Rattle.dictionary.specs.Reading.{collection, constant_value as value_of_constant, dependency, field_type as type_of_field, read_by, read_result, result_at, source_result};
-ghost use Rattle.plain_table.specs.Ground.{look_on, tree_of};
-ghost use Rattle.plain_table.specs.Table.{look_of};
+ghost use Rattle.plain_table.specs.NodeReads.{dependency_reads, node_reads, reads_of_op, source_reads, target_slot};
+ghost use Rattle.plain_table.specs.Noted.{Noted};
 
 use crate::ground::Ground;
-use crate::table::Table;
+use crate::notes::Notes;
 use dict_tree::{Constant, DictSource, PathUse, ReadOp, Targets};
 use dict_types::{constant_value, type_at};
 use dictionary::Place;
 use fact_paths::UsePath;
-use fact_values::{FactType, NoMemory, Value};
+use fact_values::{FactType, NoMemory, Slot, Value};
 use operations::{CountFold, ItemStep, SumFold, complete_test, item_step, members, size, taken};
 use std::alloc::Global;
 use three_state::Res;
 
 /// The result of a constant. A text that spells no value counts as false.
-pub fn read_constant(alloc: Global, ground: &Ground, constant: &Constant) -> Result<Res, NoMemory>
-    ensures { IfOk result (λ r. r ≡ Complete (value_of_constant (tree_of ground.now).enums (literal_of constant.now))) }
+pub fn read_constant<G: Ground>(
+    alloc: Global,
+    ground: &G,
+    constant: &Constant,
+) -> Result<Res, NoMemory>
+    ensures { IfOk result (λ r. r ≡ Complete (value_of_constant (G.known ground.now).tree.enums (literal_of constant.now))) }
 {
-    match constant_value(alloc, ground.source.enums(), constant)? {
+    match constant_value(alloc, ground.source().enums(), constant)? {
         Some(value) => Ok(Res::Complete(value)),
         None => Ok(Res::Complete(Value::Boolean(false))),
     }
 }
 
-// The field of the member that an item names.
-fn read_through(
+// Notes the slot of a target.
+fn note<N: Notes>(notes: &mut N, fact: Option<u32>, member: u32) -> Result<(), NoMemory>
+    ensures { OnOk result (Noted N.keeps (N.noted notes.old) (target_slot fact member) (N.noted notes.new)) }
+{
+    match fact {
+        None => Ok(()),
+        Some(fact) => notes.note(Slot { fact, member }),
+    }
+}
+
+// Reads the slot of a target.
+fn read_at<G: Ground, N: Notes>(
     alloc: Global,
-    table: &Table,
+    ground: &G,
+    fact: Option<u32>,
+    member: u32,
+    notes: &mut N,
+) -> Result<Res, NoMemory>
+    ensures value { IfOk result (λ r. r ≡ result_at (G.known ground.now).look fact member) }
+    ensures reads { OnOk result (Noted N.keeps (N.noted notes.old) (target_slot fact member) (N.noted notes.new)) }
+{
+    note(notes, fact, member)?;
+    ground.result_at(fact, member).copy(alloc)
+}
+
+// Reads the field of the member that an item names.
+fn read_field<G: Ground, N: Notes>(
+    alloc: Global,
+    ground: &G,
     item: &Res,
     field: Option<u32>,
+    notes: &mut N,
 ) -> Result<Res, NoMemory>
-    ensures { IfOk result (λ r. r ≡ through_item item.now (result_at (look_of table.now) field)) }
+    ensures value { IfOk result (λ r. r ≡ through_item item.now (result_at (G.known ground.now).look field)) }
+    ensures reads { OnOk result (Noted N.keeps (N.noted notes.old) (item_read item.now [] (target_slot field)) (N.noted notes.new)) }
 {
     match item_step(item) {
         ItemStep::Member(member, complete) => {
-            let res = table.result_at(field, member).copy(alloc)?;
+            let res = read_at(alloc, ground, field, member, notes)?;
             Ok(taken(complete, res))
         }
         ItemStep::End(res) => Ok(res),
     }
 }
 
-// The result that a path reads, where these are its targets.
-fn read_dependency(
+// Reads an item, and the field of the member that it names.
+fn read_through<G: Ground, N: Notes>(
     alloc: Global,
-    table: &Table,
+    ground: &G,
+    targets: Targets,
+    member: u32,
+    notes: &mut N,
+) -> Result<Res, NoMemory>
+    ensures value { IfOk result (λ r. r ≡ through_item (result_at (G.known ground.now).look targets.first member) (result_at (G.known ground.now).look targets.second)) }
+    ensures reads { OnOk result (Noted N.keeps (N.noted notes.old) (item_read (result_at (G.known ground.now).look targets.first member) (target_slot targets.first member) (target_slot targets.second)) (N.noted notes.new)) }
+{
+    note(notes, targets.first, member)?;
+    let item = ground.result_at(targets.first, member);
+    read_field(alloc, ground, item, targets.second, notes)
+}
+
+// The result that a path reads, where these are its targets.
+fn read_dependency<G: Ground, N: Notes>(
+    alloc: Global,
+    ground: &G,
     targets: Targets,
     at: Place,
     path: &UsePath,
+    notes: &mut N,
 ) -> Result<Res, NoMemory>
-    ensures { IfOk result (λ r. r ≡ dependency (look_of table.now) targets at path.now) }
+    ensures value { IfOk result (λ r. r ≡ dependency (G.known ground.now).look targets at path.now) }
+    ensures reads { OnOk result (Noted N.keeps (N.noted notes.old) (dependency_reads (G.known ground.now).look targets at path.now) (N.noted notes.new)) }
 {
-    let first = targets.first;
-    let second = targets.second;
     match path {
-        UsePath::Global(_) => table.result_at(first, 0).copy(alloc),
-        UsePath::Sibling(_) => table.result_at(first, at.own()).copy(alloc),
-        UsePath::Inner(_) => table.result_at(first, at.inner()).copy(alloc),
+        UsePath::Global(_) => read_at(alloc, ground, targets.first, 0, notes),
+        UsePath::Sibling(_) => read_at(alloc, ground, targets.first, at.own(), notes),
+        UsePath::Inner(_) => read_at(alloc, ground, targets.first, at.inner(), notes),
         UsePath::Each(..) => Ok(Res::Incomplete),
-        UsePath::Through(..) => read_through(alloc, table, table.result_at(first, 0), second),
-        UsePath::SiblingThrough(..) => {
-            read_through(alloc, table, table.result_at(first, at.own()), second)
-        }
+        UsePath::Through(..) => read_through(alloc, ground, targets, 0, notes),
+        UsePath::SiblingThrough(..) => read_through(alloc, ground, targets, at.own(), notes),
     }
 }
 
@@ -80,92 +126,141 @@ fn field_type(source: &DictSource, field: Option<u32>) -> Option<FactType>
     type_at(source, field?)
 }
 
-// The sum of the field over the members, which are whole numbers where the field has no type.
-fn read_sum(ground: &Ground, targets: Targets) -> Res
-    ensures { result ≡ sum_over (type_of_field (tree_of ground.now) targets) (collection (look_on ground.now) targets) (result_at (look_on ground.now) targets.second) }
+// The type of a CollectionSum's fields, which are whole numbers where the field has no type.
+fn summed_type<G: Ground>(ground: &G, targets: Targets) -> FactType
+    ensures { result ≡ type_of_field (G.known ground.now).tree targets }
 {
-    let source = ground.table.result_at(targets.first, 0);
-    let of = field_type(ground.source, targets.second).unwrap_or(FactType::Int);
-    let mut fold = SumFold::new(of, source);
+    field_type(ground.source(), targets.second).unwrap_or(FactType::Int)
+}
+
+// The sum of the field over the members.
+fn read_sum<G: Ground>(ground: &G, targets: Targets) -> Res
+    ensures { result ≡ sum_over (type_of_field (G.known ground.now).tree targets) (collection (G.known ground.now).look targets) (result_at (G.known ground.now).look targets.second) }
+{
+    let source = ground.result_at(targets.first, 0);
+    let mut fold = SumFold::new(summed_type(ground, targets), source);
     for member in members(source) {
-        fold.see(ground.table.result_at(targets.second, *member));
+        fold.see(ground.result_at(targets.second, *member));
     }
     fold.end()
 }
 
 // The number of members of which the field is true.
-fn read_count(table: &Table, targets: Targets) -> Res
-    ensures { result ≡ count_of (collection (look_of table.now) targets) (result_at (look_of table.now) targets.second) }
+fn read_count<G: Ground>(ground: &G, targets: Targets) -> Res
+    ensures { result ≡ count_of (collection (G.known ground.now).look targets) (result_at (G.known ground.now).look targets.second) }
 {
-    let source = table.result_at(targets.first, 0);
+    let source = ground.result_at(targets.first, 0);
     let mut fold = CountFold::new(source);
     for member in members(source) {
-        fold.see(table.result_at(targets.second, *member));
+        fold.see(ground.result_at(targets.second, *member));
     }
     fold.end()
 }
 
-fn read_path(
+// Notes the field of each member.
+fn note_fields<N: Notes>(notes: &mut N, source: &Res, field: Option<u32>) -> Result<(), NoMemory>
+    ensures { OnOk result (Noted N.keeps (N.noted notes.old) (flat_map (target_slot field) (members_of source.now)) (N.noted notes.new)) }
+{
+    for member in members(source) {
+        note(notes, field, *member)?;
+    }
+    Ok(())
+}
+
+// Notes the collection and the field of each of its members.
+fn note_collection<G: Ground, N: Notes>(
+    ground: &G,
+    targets: Targets,
+    notes: &mut N,
+) -> Result<(), NoMemory>
+    ensures { OnOk result (Noted N.keeps (N.noted notes.old) (fields_read (collection (G.known ground.now).look targets) (target_slot targets.first 0) (target_slot targets.second)) (N.noted notes.new)) }
+{
+    note(notes, targets.first, 0)?;
+    note_fields(notes, ground.result_at(targets.first, 0), targets.second)
+}
+
+fn read_path<G: Ground, N: Notes>(
     alloc: Global,
-    ground: &Ground,
+    ground: &G,
     op: ReadOp,
     targets: Targets,
     at: Place,
     path: &UsePath,
+    notes: &mut N,
 ) -> Result<Res, NoMemory>
-    ensures { IfOk result (λ r. r ≡ read_by op (tree_of ground.now) (look_on ground.now) targets at path.now) }
+    ensures value { IfOk result (λ r. r ≡ read_by op (G.known ground.now).tree (G.known ground.now).look targets at path.now) }
+    ensures reads { OnOk result (Noted N.keeps (N.noted notes.old) (reads_of_op op (G.known ground.now).look targets at path.now) (N.noted notes.new)) }
 {
-    let table = ground.table;
     match op {
-        ReadOp::Dependency => read_dependency(alloc, table, targets, at, path),
+        ReadOp::Dependency => read_dependency(alloc, ground, targets, at, path, notes),
         ReadOp::IsComplete => {
-            let res = read_dependency(alloc, table, targets, at, path)?;
+            let res = read_dependency(alloc, ground, targets, at, path, notes)?;
             Ok(complete_test(&res))
         }
-        ReadOp::CollectionSize => Ok(size(table.result_at(targets.first, 0))),
-        ReadOp::CollectionSum => Ok(read_sum(ground, targets)),
-        ReadOp::Count => Ok(read_count(table, targets)),
+        ReadOp::CollectionSize => {
+            note(notes, targets.first, 0)?;
+            Ok(size(ground.result_at(targets.first, 0)))
+        }
+        ReadOp::CollectionSum => {
+            note_collection(ground, targets, notes)?;
+            Ok(read_sum(ground, targets))
+        }
+        ReadOp::Count => {
+            note_collection(ground, targets, notes)?;
+            Ok(read_count(ground, targets))
+        }
     }
 }
 
-/// The result of a node that reads a path.
-pub fn read(
+/// The result of a node that reads a path. The slots that it reads are noted.
+pub fn read<G: Ground, N: Notes>(
     alloc: Global,
-    ground: &Ground,
+    ground: &G,
     at: Place,
     op: ReadOp,
     used: &PathUse,
+    notes: &mut N,
 ) -> Result<Res, NoMemory>
-    ensures { IfOk result (λ r. r ≡ read_result (tree_of ground.now) (look_on ground.now) ground.now.fact at op used.now.path) }
+    ensures value { IfOk result (λ r. r ≡ read_result (G.known ground.now).tree (G.known ground.now).look (G.known ground.now).fact at op used.now.path) }
+    ensures reads { OnOk result (Noted N.keeps (N.noted notes.old) (node_reads (G.known ground.now).tree (G.known ground.now).look (G.known ground.now).fact at op used.now.path) (N.noted notes.new)) }
 {
     match &used.path {
         None => Ok(Res::Incomplete),
         Some(path) => {
-            let targets = ground.source.targets(ground.fact, at.base(), path);
-            read_path(alloc, ground, op, targets, at, path)
+            let targets = ground.source().targets(ground.fact(), at.base(), path);
+            read_path(alloc, ground, op, targets, at, path, notes)
         }
     }
 }
 
-/// The collection of a Filter or a Find.
-pub fn read_source<'a>(ground: &Ground<'a>, at: Place, used: &PathUse) -> &'a Res
-    ensures { result.now ≡ source_result (tree_of ground.now) (look_on ground.now) ground.now.fact at used.now.path }
+/// The collection of a Filter or a Find. Its slot is noted.
+pub fn read_source<'a, G: Ground, N: Notes>(
+    ground: &'a G,
+    at: Place,
+    used: &PathUse,
+    notes: &mut N,
+) -> Result<&'a Res, NoMemory>
+    ensures value { IfOk result (λ r. r.now ≡ source_result (G.known ground.now).tree (G.known ground.now).look (G.known ground.now).fact at used.now.path) }
+    ensures reads { OnOk result (Noted N.keeps (N.noted notes.old) (source_reads (G.known ground.now).tree (G.known ground.now).fact at used.now.path) (N.noted notes.new)) }
 {
     match &used.path {
-        None => ground.table.result_at(None, 0),
+        None => Ok(ground.result_at(None, 0)),
         Some(path) => {
-            let targets = ground.source.targets(ground.fact, at.base(), path);
-            ground.table.result_at(targets.first, 0)
+            let targets = ground.source().targets(ground.fact(), at.base(), path);
+            note(notes, targets.first, 0)?;
+            Ok(ground.result_at(targets.first, 0))
         }
     }
 }
 
 /// The base of the condition of a Filter or a Find.
-pub fn base_under(ground: &Ground, at: Place, used: &PathUse) -> u32
-    ensures { result ≡ condition_base (tree_of ground.now) ground.now.fact at.base used.now.path }
+pub fn base_under<G: Ground>(ground: &G, at: Place, used: &PathUse) -> u32
+    ensures { result ≡ condition_base (G.known ground.now).tree (G.known ground.now).fact at.base used.now.path }
 {
     match &used.path {
         None => 0,
-        Some(path) => ground.source.condition_base(ground.fact, at.base(), path),
+        Some(path) => ground
+            .source()
+            .condition_base(ground.fact(), at.base(), path),
     }
 }

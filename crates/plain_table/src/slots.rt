@@ -1,93 +1,45 @@
 // The result of one slot.
-ghost use Rattle.std.specs.Prelude.{◌≡◌, ◌+◌, ◌≤◌, option_map, IfOk, OnOk, Some};
+ghost use Rattle.std.specs.Prelude.{◌≡◌, ◌+◌, ◌≤◌, IfOk, OnOk, Some};
 ghost use Rattle.std.specs.FinMap as map;
 ghost use Rattle.answers.specs.Answered.{value_of};
 ghost use Rattle.answers.specs.Meaning.{answered};
 ghost use Rattle.answers.specs.WellFormed.{FromOne, WellFormed};
 ghost use Rattle.answers.specs.declared.edit.Side.TheVariants.{Override};
-ghost use Rattle.dict_tree.specs.Facts.{conditional_view, fact_view, stated_view};
+ghost use Rattle.dict_tree.specs.Facts.{fact_view, stated_view};
 ghost use Rattle.dict_tree.specs.View.{view};
 ghost use Rattle.evaluation.specs.Over.{over, weight};
-ghost use Rattle.evaluation.specs.Visits.{visits};
 ghost use Rattle.dictionary.specs.Plain.{body, conditional_body, main_result, or_override, or_placeholder, slot_result};
 ghost use Rattle.dictionary.specs.Reading.{outermost, slot};
-ghost use Rattle.plain_table.specs.Ground.{env_of, look_on, option_weight, tree_of};
+ghost use Rattle.plain_table.specs.Ground.{known_on};
+ghost use Rattle.plain_table.specs.Known.{env_of, option_weight};
 ghost use Rattle.plain_table.specs.SlotVisits.{body_visits, placeholder_visits, visits_over};
 
+use crate::body::eval_body;
 use crate::eval::eval;
-use crate::ground::Ground;
+use crate::ground::TableGround;
+use crate::notes::Unnoted;
 use answers::Answers;
-use dict_tree::{Conditional, Expr, FactSource};
+use dict_tree::{Expr, FactSource};
 use dictionary::{Place, given_result};
 use fact_values::{NoMemory, Slot};
-use operations::{CaseStep, case_step, taken};
 use std::alloc::Global;
 use std::sync::ledger::Ledger;
 use steps::Steps;
 use three_state::{Res, down};
 
-// The value of the conditional where its condition is true, else the main expression. It is a Switch
-// of two cases, and the second condition is a constant, true: both count as nodes.
-fn eval_conditional<L: Ledger>(
-    alloc: Global,
-    ground: &Ground,
-    at: Place,
-    pair: &Conditional,
-    main: &Expr,
-    steps: &mut Steps<L>,
-) -> Result<Res, NoMemory>
-    ensures value { IfOk result (λ r. r ≡ over (env_of ground.now) at (conditional_body (Some (conditional_view pair.now)) (view main.now))) }
-    ensures visits { OnOk result (steps.new ≡ steps.old + visits (env_of ground.now) at (conditional_body (Some (conditional_view pair.now)) (view main.now))) }
-    ensures most { steps.new ≤ steps.old + weight (env_of ground.now) at (conditional_body (Some (conditional_view pair.now)) (view main.now)) }
-{
-    steps.tick();
-    let condition = eval(alloc, ground, at, &pair.test, steps)?;
-    match case_step(true, &condition) {
-        CaseStep::Next(still) => {
-            steps.tick();
-            let res = eval(alloc, ground, at, main, steps)?;
-            Ok(taken(still, res))
-        }
-        CaseStep::Take(still) => {
-            let res = eval(alloc, ground, at, &pair.value, steps)?;
-            Ok(taken(still, res))
-        }
-        CaseStep::End(res) => Ok(res),
-    }
-}
-
-// The body of a derived fact.
-fn eval_body<L: Ledger>(
-    alloc: Global,
-    ground: &Ground,
-    at: Place,
-    conditional: &Option<Conditional>,
-    main: &Expr,
-    steps: &mut Steps<L>,
-) -> Result<Res, NoMemory>
-    ensures value { IfOk result (λ r. r ≡ over (env_of ground.now) at (conditional_body (option_map conditional_view conditional.now) (view main.now))) }
-    ensures visits { OnOk result (steps.new ≡ steps.old + visits (env_of ground.now) at (conditional_body (option_map conditional_view conditional.now) (view main.now))) }
-    ensures most { steps.new ≤ steps.old + weight (env_of ground.now) at (conditional_body (option_map conditional_view conditional.now) (view main.now)) }
-{
-    match conditional {
-        None => eval(alloc, ground, at, main, steps),
-        Some(pair) => eval_conditional(alloc, ground, at, pair, main, steps),
-    }
-}
-
 // The body of a derived fact, or the override that stands in its place.
 fn derived_result<L: Ledger>(
     alloc: Global,
-    ground: &Ground,
+    ground: &TableGround,
     answers: &Answers,
     member: u32,
     fact: &FactSource,
     main: &Expr,
     steps: &mut Steps<L>,
 ) -> Result<Res, NoMemory>
-    ensures value { IfOk result (λ r. r ≡ or_override (value_of Override (answered answers.now) (slot ground.now.fact member)) (over (env_of ground.now) (outermost member) (conditional_body (fact_view fact.now).conditional (view main.now)))) }
-    ensures visits { OnOk result (steps.new ≡ steps.old + body_visits (tree_of ground.now) (answered answers.now) (look_on ground.now) (slot ground.now.fact member) (Some (conditional_body (fact_view fact.now).conditional (view main.now)))) }
-    ensures most { steps.new ≤ steps.old + weight (env_of ground.now) (outermost member) (conditional_body (fact_view fact.now).conditional (view main.now)) }
+    ensures value { IfOk result (λ r. r ≡ or_override (value_of Override (answered answers.now) (slot ground.now.fact member)) (over (env_of (known_on ground.now)) (outermost member) (conditional_body (fact_view fact.now).conditional (view main.now)))) }
+    ensures visits { OnOk result (steps.new ≡ steps.old + body_visits (known_on ground.now).tree (answered answers.now) (known_on ground.now).look (slot ground.now.fact member) (Some (conditional_body (fact_view fact.now).conditional (view main.now)))) }
+    ensures most { steps.new ≤ steps.old + weight (env_of (known_on ground.now)) (outermost member) (conditional_body (fact_view fact.now).conditional (view main.now)) }
 {
     let slot = Slot {
         fact: ground.fact,
@@ -97,7 +49,7 @@ fn derived_result<L: Ledger>(
         Some(value) => Ok(Res::Complete(value.copy(alloc)?)),
         None => {
             let at = Place::outermost(member);
-            eval_body(alloc, ground, at, &fact.conditional, main, steps)
+            eval_body(alloc, ground, at, &fact.conditional, main, &mut Unnoted, steps)
         }
     }
 }
@@ -105,7 +57,7 @@ fn derived_result<L: Ledger>(
 // The result of a slot before its placeholder.
 fn main_result<L: Ledger>(
     alloc: Global,
-    ground: &Ground,
+    ground: &TableGround,
     answers: &Answers,
     member: u32,
     fact: &FactSource,
@@ -113,9 +65,9 @@ fn main_result<L: Ledger>(
 ) -> Result<Res, NoMemory>
     requires well { WellFormed (answered answers.now) }
     requires from_one { FromOne (answered answers.now) }
-    ensures value { IfOk result (λ r. r ≡ main_result (tree_of ground.now) (answered answers.now) (look_on ground.now) (slot ground.now.fact member) (stated_view fact.now.stated) (body (fact_view fact.now))) }
-    ensures visits { OnOk result (steps.new ≡ steps.old + body_visits (tree_of ground.now) (answered answers.now) (look_on ground.now) (slot ground.now.fact member) (body (fact_view fact.now))) }
-    ensures most { steps.new ≤ steps.old + option_weight ground.now member (body (fact_view fact.now)) }
+    ensures value { IfOk result (λ r. r ≡ main_result (known_on ground.now).tree (answered answers.now) (known_on ground.now).look (slot ground.now.fact member) (stated_view fact.now.stated) (body (fact_view fact.now))) }
+    ensures visits { OnOk result (steps.new ≡ steps.old + body_visits (known_on ground.now).tree (answered answers.now) (known_on ground.now).look (slot ground.now.fact member) (body (fact_view fact.now))) }
+    ensures most { steps.new ≤ steps.old + option_weight (known_on ground.now) member (body (fact_view fact.now)) }
 {
     match &fact.main {
         Some(main) => derived_result(alloc, ground, answers, member, fact, main, steps),
@@ -132,20 +84,20 @@ fn main_result<L: Ledger>(
 // An incomplete result gives way to the placeholder.
 fn with_placeholder<L: Ledger>(
     alloc: Global,
-    ground: &Ground,
+    ground: &TableGround,
     member: u32,
     placeholder: &Expr,
     res: Res,
     steps: &mut Steps<L>,
 ) -> Result<Res, NoMemory>
-    ensures value { IfOk result (λ r. r ≡ or_placeholder (tree_of ground.now) (look_on ground.now) (slot ground.now.fact member) (Some (view placeholder.now)) res) }
-    ensures visits { OnOk result (steps.new ≡ steps.old + placeholder_visits (tree_of ground.now) (look_on ground.now) (slot ground.now.fact member) (Some (view placeholder.now)) res) }
-    ensures most { steps.new ≤ steps.old + weight (env_of ground.now) (outermost member) (view placeholder.now) }
+    ensures value { IfOk result (λ r. r ≡ or_placeholder (known_on ground.now).tree (known_on ground.now).look (slot ground.now.fact member) (Some (view placeholder.now)) res) }
+    ensures visits { OnOk result (steps.new ≡ steps.old + placeholder_visits (known_on ground.now).tree (known_on ground.now).look (slot ground.now.fact member) (Some (view placeholder.now)) res) }
+    ensures most { steps.new ≤ steps.old + weight (env_of (known_on ground.now)) (outermost member) (view placeholder.now) }
 {
     match res {
         Res::Incomplete => {
             let at = Place::outermost(member);
-            let stand_in = eval(alloc, ground, at, placeholder, steps)?;
+            let stand_in = eval(alloc, ground, at, placeholder, &mut Unnoted, steps)?;
             Ok(down(stand_in))
         }
         Res::Complete(value) => Ok(Res::Complete(value)),
@@ -157,7 +109,7 @@ fn with_placeholder<L: Ledger>(
 /// The result of the fact's slot at a member, from the results that stand on the ground.
 pub fn slot_result<L: Ledger>(
     alloc: Global,
-    ground: &Ground,
+    ground: &TableGround,
     answers: &Answers,
     member: u32,
     fact: &FactSource,
@@ -165,9 +117,9 @@ pub fn slot_result<L: Ledger>(
 ) -> Result<Res, NoMemory>
     requires well { WellFormed (answered answers.now) }
     requires from_one { FromOne (answered answers.now) }
-    ensures value { IfOk result (λ r. r ≡ slot_result (tree_of ground.now) (answered answers.now) (look_on ground.now) (slot ground.now.fact member) (fact_view fact.now)) }
-    ensures visits { OnOk result (steps.new ≡ steps.old + visits_over (tree_of ground.now) (answered answers.now) (look_on ground.now) (slot ground.now.fact member) (fact_view fact.now)) }
-    ensures most { steps.new ≤ steps.old + (option_weight ground.now member (body (fact_view fact.now)) + option_weight ground.now member (fact_view fact.now).placeholder) }
+    ensures value { IfOk result (λ r. r ≡ slot_result (known_on ground.now).tree (answered answers.now) (known_on ground.now).look (slot ground.now.fact member) (fact_view fact.now)) }
+    ensures visits { OnOk result (steps.new ≡ steps.old + visits_over (known_on ground.now).tree (answered answers.now) (known_on ground.now).look (slot ground.now.fact member) (fact_view fact.now)) }
+    ensures most { steps.new ≤ steps.old + (option_weight (known_on ground.now) member (body (fact_view fact.now)) + option_weight (known_on ground.now) member (fact_view fact.now).placeholder) }
 {
     let res = main_result(alloc, ground, answers, member, fact, steps)?;
     match &fact.placeholder {

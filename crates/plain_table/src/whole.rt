@@ -14,7 +14,7 @@ ghost use Rattle.plain_table.specs.Filling.{HasAll, IsFilled, is_at};
 ghost use Rattle.plain_table.specs.SlotVisits.{slot_visits, whole_visits};
 ghost use Rattle.plain_table.specs.Table.{look_of};
 
-use crate::ground::Ground;
+use crate::ground::TableGround;
 use crate::slots::slot_result;
 use crate::table::Table;
 use answers::Answers;
@@ -45,7 +45,7 @@ fn put_slot<L: Ledger>(
     let Some(fact) = source.fact(slot.fact) else {
         return Ok(());
     };
-    let ground = Ground {
+    let ground = TableGround {
         source,
         fact: slot.fact,
         table,

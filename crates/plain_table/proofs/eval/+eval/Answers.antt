@@ -1,9 +1,10 @@
-use Rattle.std.proofs.Common.{refl, ◌≡◌, ◌+◌, ◌++◌, [], List, ℕ, sum_by, map, drop, sym, ap, ◌∙◌, arith}
+use Rattle.std.proofs.Common.{refl, ◌≡◌, ◌+◌, ◌++◌, [], List, ℕ, flat_map, sum_by, map, drop, sym, ap, ◌∙◌, arith}
 use Rattle.std.proofs.lemmas.List.{append-nil, drop_all, length-map}
 use Rattle.dict_tree.specs.Tree.{pick}
 use Rattle.dict_tree.specs.View.{case_view, cases_of, trees_of, use_view, view}
 use Rattle.dict_tree.proofs.Views.{view-Pick}
 use Rattle.evaluation.specs.Over.{over, over_all, over_cases, weight}
+use Rattle.evaluation.specs.SlotsRead.{slots_read, slots_read_of_all, slots_read_of_cases}
 use Rattle.evaluation.specs.Visits.{visits}
 use Rattle.operations.specs.CaseSteps.{after_case, find_after, find_from, switch_from}
 use Rattle.operations.specs.ManyFolds.{many_from}
@@ -15,8 +16,9 @@ use Rattle.operations.proofs.StepLaws.{ok_more, ok_same, one_more}
 use Rattle.three_state.specs.Results.{kept, members_of}
 use Rattle.three_state.specs.declared.strict.Verdict.{Verdict}
 use Rattle.dictionary.specs.Reading.{Place}
-use Rattle.plain_table.specs.Ground.{condition_on, env_of, visits_on, work_on}
+use Rattle.plain_table.specs.Known.{condition_on, condition_reads, env_of, reads_of, visits_on, work_on}
 use Rattle.plain_table.proofs.EvalLaws.{all_next, all_visits, all_weigh, case_at, cases_visits, cases_weigh, filter_next, find_at, found_visits, kept_more, members_weigh}
+use Rattle.plain_table.proofs.ReadLaws.{case_read, judged_read, member_read, operand_read}
 use Rattle.plain_table.proofs.eval.+eval.Goals as goal
 
 -- ---- eval
@@ -36,16 +38,21 @@ eval-returns-in-Pick-clause-visits g t c =
     let shape : view c.args.expr.now ≡ pick c.in-Pick.op (use_view c.in-Pick.used) (view c.in-Pick.test.value) = ap view c.in-Pick.is ∙ view-Pick _ _ _ in
     rw (shape, ← c.deref-in-Pick.ensures) (ok_more c.eval_pick.result _ _ _ _ c.tick.ensures c.eval_pick.ensures.visits)
 
+pub eval-returns-in-Pick-clause-reads : goal.eval-returns-in-Pick-clause-reads
+eval-returns-in-Pick-clause-reads g t c =
+    let shape : view c.args.expr.now ≡ pick c.in-Pick.op (use_view c.in-Pick.used) (view c.in-Pick.test.value) = ap view c.in-Pick.is ∙ view-Pick _ _ _ in
+    rw (shape, ← c.deref-in-Pick.ensures) c.eval_pick.ensures.reads
+
 -- ---- a list of operands
 
 pub eval_all-returns-in_err-res-clause-most : goal.eval_all-returns-in_err-res-clause-most
 eval_all-returns-in_err-res-clause-most g t c =
-    let weigh = all_weigh (env_of c.args.ground.now) c.args.at c.args.operands.now c.loop-operand.operand-index c.operand-item.result c.loop-operand-test.true c.operand-item.is in
+    let weigh = all_weigh (env_of (g.G.Ground.known c.args.ground.now)) c.args.at c.args.operands.now c.loop-operand.operand-index c.operand-item.result c.loop-operand-test.true c.operand-item.is in
     omega (arith, weigh, c.in_err-res.ensures.most, c.loop-operand.invariant.most)
 
 pub eval_all-loop-operand-preserved : goal.eval_all-loop-operand-preserved
 eval_all-loop-operand-preserved g t c =
-    let env = env_of c.args.ground.now in
+    let env = env_of (g.G.Ground.known c.args.ground.now) in
     let i = c.loop-operand.operand-index in
     let weigh = all_weigh env c.args.at c.args.operands.now i c.operand-item.result c.loop-operand-test.true c.operand-item.is in
     let visited = all_visits env c.args.at c.args.operands.now i c.operand-item.result c.loop-operand-test.true c.operand-item.is in
@@ -54,6 +61,9 @@ eval_all-loop-operand-preserved g t c =
           all_next env c.args.at c.args.operands.now i c.operand-item.result c.loop-operand-test.true c.operand-item.is c.loop-operand.fold c.see.new.self c.in_ok-res.res c.in_ok-res.ensures.value c.see.ensures.next
           ∙ c.loop-operand.invariant.value;
       count = ap (λ s. s.count) c.see.ensures.next ∙ ap (λ n. n + 1) c.loop-operand.invariant.count;
+      reads = λ keeps.
+          operand_read env (reads_of (g.G.Ground.known c.args.ground.now)) c.args.at c.args.operands.now i c.operand-item.result c.loop-operand-test.true c.operand-item.is _ _ (c.in_ok-res.ensures.reads keeps)
+          ∙ c.loop-operand.invariant.reads keeps;
       visits = omega (arith, visited, c.in_ok-res.ensures.visits, c.loop-operand.invariant.visits);
       most = omega (arith, weigh, c.in_ok-res.ensures.most, c.loop-operand.invariant.most);
     }
@@ -63,32 +73,43 @@ eval_all-returns-clause-value g t c =
     let views = map view c.args.operands.now in
     let none : drop c.loop-operand.operand-index views ≡ [] = drop_all c.loop-operand.operand-index views (omega (arith, length-map c.args.operands.now view, c.loop-operand-test.false)) in
     c.end.ensures.value
-    ∙ sym (ap (λ l. many_from c.loop-operand.fold (over_all (env_of c.args.ground.now) c.args.at (trees_of l))) none)
+    ∙ sym (ap (λ l. many_from c.loop-operand.fold (over_all (env_of (g.G.Ground.known c.args.ground.now)) c.args.at (trees_of l))) none)
     ∙ c.loop-operand.invariant.value
-    ∙ many_from-start c.args.op (over_all (env_of c.args.ground.now) c.args.at (trees_of views))
+    ∙ many_from-start c.args.op (over_all (env_of (g.G.Ground.known c.args.ground.now)) c.args.at (trees_of views))
+
+pub eval_all-returns-clause-reads : goal.eval_all-returns-clause-reads
+eval_all-returns-clause-reads g t c = λ keeps.
+    let known = g.G.Ground.known c.args.ground.now in
+    let views = map view c.args.operands.now in
+    let now = g.N.Notes.noted c.loop-operand.notes in
+    let none : drop c.loop-operand.operand-index views ≡ [] = drop_all c.loop-operand.operand-index views (omega (arith, length-map c.args.operands.now view, c.loop-operand-test.false)) in
+    sym (append-nil now)
+    ∙ sym (ap (λ l. now ++ slots_read_of_all (env_of known) (reads_of known) c.args.at (trees_of l)) none)
+    ∙ c.loop-operand.invariant.reads keeps
 
 -- ---- a Switch
 
 pub eval_cases-loop-case-init : goal.eval_cases-loop-case-init
 eval_cases-loop-case-init g t c = record {
-  value = switch_from-start (over_cases (env_of c.args.ground.now) c.args.at (cases_of (map case_view c.args.cases.now)));
+  value = switch_from-start (over_cases (env_of (g.G.Ground.known c.args.ground.now)) c.args.at (cases_of (map case_view c.args.cases.now)));
+  reads = λ keeps. refl;
   visits = refl;
   most = omega arith;
 }
 
 pub eval_cases-returns-in_err-condition-clause-most : goal.eval_cases-returns-in_err-condition-clause-most
 eval_cases-returns-in_err-condition-clause-most g t c =
-    let weigh = cases_weigh (env_of c.args.ground.now) c.args.at c.args.cases.now c.loop-case.case-index c.case-item.result c.loop-case-test.true c.case-item.is in
+    let weigh = cases_weigh (env_of (g.G.Ground.known c.args.ground.now)) c.args.at c.args.cases.now c.loop-case.case-index c.case-item.result c.loop-case-test.true c.case-item.is in
     omega (arith, weigh, c.in_err-condition.ensures.most, c.loop-case.invariant.most)
 
 pub eval_cases-returns-in_err-res-in-Take-clause-most : goal.eval_cases-returns-in_err-res-in-Take-clause-most
 eval_cases-returns-in_err-res-in-Take-clause-most g t c =
-    let weigh = cases_weigh (env_of c.args.ground.now) c.args.at c.args.cases.now c.loop-case.case-index c.case-item.result c.loop-case-test.true c.case-item.is in
+    let weigh = cases_weigh (env_of (g.G.Ground.known c.args.ground.now)) c.args.at c.args.cases.now c.loop-case.case-index c.case-item.result c.loop-case-test.true c.case-item.is in
     omega (arith, weigh, c.in_ok-condition.ensures.most, c.in_err-res-in-Take.ensures.most, c.loop-case.invariant.most)
 
 pub eval_cases-returns-in-Take-clause-value : goal.eval_cases-returns-in-Take-clause-value
 eval_cases-returns-in-Take-clause-value g t c =
-    let env = env_of c.args.ground.now in
+    let env = env_of (g.G.Ground.known c.args.ground.now) in
     let i = c.loop-case.case-index in
     c.taken.ensures
     ∙ ap (λ r. after_case (Take c.in-Take.still) r (λ still. switch_from still (over_cases env c.args.at (cases_of (drop (i + 1) (map case_view c.args.cases.now)))))) c.in_ok-res-in-Take.ensures.value
@@ -98,33 +119,51 @@ eval_cases-returns-in-Take-clause-value g t c =
 pub eval_cases-returns-in-Take-clause-visits : goal.eval_cases-returns-in-Take-clause-visits
 eval_cases-returns-in-Take-clause-visits g t c =
     let visited =
-    cases_visits (env_of c.args.ground.now) c.args.at c.args.cases.now c.loop-case.case-index c.case-item.result c.loop-case-test.true c.case-item.is c.loop-case.complete c.in_ok-condition.condition (Take c.in-Take.still) c.in_ok-condition.ensures.value (sym c.in-Take.is ∙ c.case_step.ensures) in
+    cases_visits (env_of (g.G.Ground.known c.args.ground.now)) c.args.at c.args.cases.now c.loop-case.case-index c.case-item.result c.loop-case-test.true c.case-item.is c.loop-case.complete c.in_ok-condition.condition (Take c.in-Take.still) c.in_ok-condition.ensures.value (sym c.in-Take.is ∙ c.case_step.ensures) in
     omega (arith, visited, c.in_ok-condition.ensures.visits, c.in_ok-res-in-Take.ensures.visits, c.loop-case.invariant.visits)
 
 pub eval_cases-returns-in-Take-clause-most : goal.eval_cases-returns-in-Take-clause-most
 eval_cases-returns-in-Take-clause-most g t c =
-    let weigh = cases_weigh (env_of c.args.ground.now) c.args.at c.args.cases.now c.loop-case.case-index c.case-item.result c.loop-case-test.true c.case-item.is in
+    let weigh = cases_weigh (env_of (g.G.Ground.known c.args.ground.now)) c.args.at c.args.cases.now c.loop-case.case-index c.case-item.result c.loop-case-test.true c.case-item.is in
     omega (arith, weigh, c.in_ok-condition.ensures.most, c.in_ok-res-in-Take.ensures.most, c.loop-case.invariant.most)
+
+pub eval_cases-returns-in-Take-clause-reads : goal.eval_cases-returns-in-Take-clause-reads
+eval_cases-returns-in-Take-clause-reads g t c = λ keeps.
+    let known = g.G.Ground.known c.args.ground.now in
+    let env = env_of known in
+    let by = reads_of known in
+    c.in_ok-res-in-Take.ensures.reads keeps
+    ∙ case_read env by c.args.at c.args.cases.now c.loop-case.case-index c.case-item.result c.loop-case-test.true c.case-item.is c.loop-case.complete c.in_ok-condition.condition (Take c.in-Take.still) c.in_ok-condition.ensures.value (sym c.in-Take.is ∙ c.case_step.ensures) _ _ c.in_ok-condition.ensures.reads keeps
+    ∙ c.loop-case.invariant.reads keeps
 
 pub eval_cases-returns-in-End-clause-value : goal.eval_cases-returns-in-End-clause-value
 eval_cases-returns-in-End-clause-value g t c =
-    case_at (env_of c.args.ground.now) c.args.at c.args.cases.now c.loop-case.case-index c.case-item.result c.loop-case-test.true c.case-item.is c.loop-case.complete c.in_ok-condition.condition (End c.in-End.res) c.in_ok-condition.ensures.value (sym c.in-End.is ∙ c.case_step.ensures)
+    case_at (env_of (g.G.Ground.known c.args.ground.now)) c.args.at c.args.cases.now c.loop-case.case-index c.case-item.result c.loop-case-test.true c.case-item.is c.loop-case.complete c.in_ok-condition.condition (End c.in-End.res) c.in_ok-condition.ensures.value (sym c.in-End.is ∙ c.case_step.ensures)
     ∙ c.loop-case.invariant.value
 
 pub eval_cases-returns-in-End-clause-visits : goal.eval_cases-returns-in-End-clause-visits
 eval_cases-returns-in-End-clause-visits g t c =
     let visited =
-    cases_visits (env_of c.args.ground.now) c.args.at c.args.cases.now c.loop-case.case-index c.case-item.result c.loop-case-test.true c.case-item.is c.loop-case.complete c.in_ok-condition.condition (End c.in-End.res) c.in_ok-condition.ensures.value (sym c.in-End.is ∙ c.case_step.ensures) in
+    cases_visits (env_of (g.G.Ground.known c.args.ground.now)) c.args.at c.args.cases.now c.loop-case.case-index c.case-item.result c.loop-case-test.true c.case-item.is c.loop-case.complete c.in_ok-condition.condition (End c.in-End.res) c.in_ok-condition.ensures.value (sym c.in-End.is ∙ c.case_step.ensures) in
     omega (arith, visited, c.in_ok-condition.ensures.visits, c.loop-case.invariant.visits)
 
 pub eval_cases-returns-in-End-clause-most : goal.eval_cases-returns-in-End-clause-most
 eval_cases-returns-in-End-clause-most g t c =
-    let weigh = cases_weigh (env_of c.args.ground.now) c.args.at c.args.cases.now c.loop-case.case-index c.case-item.result c.loop-case-test.true c.case-item.is in
+    let weigh = cases_weigh (env_of (g.G.Ground.known c.args.ground.now)) c.args.at c.args.cases.now c.loop-case.case-index c.case-item.result c.loop-case-test.true c.case-item.is in
     omega (arith, weigh, c.in_ok-condition.ensures.most, c.loop-case.invariant.most)
+
+pub eval_cases-returns-in-End-clause-reads : goal.eval_cases-returns-in-End-clause-reads
+eval_cases-returns-in-End-clause-reads g t c = λ keeps.
+    let known = g.G.Ground.known c.args.ground.now in
+    let env = env_of known in
+    let by = reads_of known in
+    sym (append-nil _)
+    ∙ case_read env by c.args.at c.args.cases.now c.loop-case.case-index c.case-item.result c.loop-case-test.true c.case-item.is c.loop-case.complete c.in_ok-condition.condition (End c.in-End.res) c.in_ok-condition.ensures.value (sym c.in-End.is ∙ c.case_step.ensures) _ _ c.in_ok-condition.ensures.reads keeps
+    ∙ c.loop-case.invariant.reads keeps
 
 pub eval_cases-loop-case-preserved : goal.eval_cases-loop-case-preserved
 eval_cases-loop-case-preserved g t c =
-    let env = env_of c.args.ground.now in
+    let env = env_of (g.G.Ground.known c.args.ground.now) in
     let i = c.loop-case.case-index in
     let weigh = cases_weigh env c.args.at c.args.cases.now i c.case-item.result c.loop-case-test.true c.case-item.is in
     let visited =
@@ -133,42 +172,56 @@ eval_cases-loop-case-preserved g t c =
       value =
           case_at env c.args.at c.args.cases.now i c.case-item.result c.loop-case-test.true c.case-item.is c.loop-case.complete c.in_ok-condition.condition (Next c.in-Next.still) c.in_ok-condition.ensures.value (sym c.in-Next.is ∙ c.case_step.ensures)
           ∙ c.loop-case.invariant.value;
+      reads = λ keeps.
+          case_read env (reads_of (g.G.Ground.known c.args.ground.now)) c.args.at c.args.cases.now i c.case-item.result c.loop-case-test.true c.case-item.is c.loop-case.complete c.in_ok-condition.condition (Next c.in-Next.still) c.in_ok-condition.ensures.value (sym c.in-Next.is ∙ c.case_step.ensures) _ _ (c.in_ok-condition.ensures.reads keeps)
+          ∙ c.loop-case.invariant.reads keeps;
       visits = omega (arith, visited, c.in_ok-condition.ensures.visits, c.loop-case.invariant.visits);
       most = omega (arith, weigh, c.in_ok-condition.ensures.most, c.loop-case.invariant.most);
     }
+
+pub eval_cases-returns-clause-reads : goal.eval_cases-returns-clause-reads
+eval_cases-returns-clause-reads g t c = λ keeps.
+    let known = g.G.Ground.known c.args.ground.now in
+    let views = map case_view c.args.cases.now in
+    let now = g.N.Notes.noted c.loop-case.notes in
+    let none : drop c.loop-case.case-index views ≡ [] = drop_all c.loop-case.case-index views (omega (arith, length-map c.args.cases.now case_view, c.loop-case-test.false)) in
+    sym (append-nil now)
+    ∙ sym (ap (λ l. now ++ slots_read_of_cases (env_of known) (reads_of known) c.args.at (cases_of l)) none)
+    ∙ c.loop-case.invariant.reads keeps
 
 -- ---- a Filter and a Find
 
 pub eval_pick-returns-in-Filter-clause-value : goal.eval_pick-returns-in-Filter-clause-value
 eval_pick-returns-in-Filter-clause-value g t c =
-    rw c.in-Filter.is (rw (c.read_source-source.ensures, c.under-under.ensures, c.base_under.ensures) at c.eval_filter.ensures.value)
+    rw c.in-Filter.is (rw (c.in_ok-source.ensures.value, c.under-under.ensures, c.base_under.ensures) at c.eval_filter.ensures.value)
 
 pub eval_pick-returns-in-Find-clause-value : goal.eval_pick-returns-in-Find-clause-value
 eval_pick-returns-in-Find-clause-value g t c =
-    rw c.in-Find.is (rw (c.read_source-source.ensures, c.under-under.ensures, c.base_under.ensures) at c.eval_find.ensures.value)
+    rw c.in-Find.is (rw (c.in_ok-source.ensures.value, c.under-under.ensures, c.base_under.ensures) at c.eval_find.ensures.value)
 
 pub eval_filter-loop-member-init : goal.eval_filter-loop-member-init
 eval_filter-loop-member-init g t c =
-    let condition = condition_on c.args.ground.now c.args.under (view c.args.test.now) in
+    let condition = condition_on (g.G.Ground.known c.args.ground.now) c.args.under (view c.args.test.now) in
     let law = filter_on-source c.args.source.now condition in
     let same = c.members-member-items.ensures.value in
     record {
       value = rw (c.new-kept.ensures.items, c.new-fold.ensures, same) law;
       kept = ap (λ (l : List ℕ). l ++ kept condition c.members-member-items.result.now) c.new-kept.ensures.items ∙ ap (kept condition) same;
-      visits = ap (λ (l : List ℕ). c.args.steps.now + sum_by (visits_on c.args.ground.now c.args.under (view c.args.test.now)) l) same;
-      most = omega (arith, ap (sum_by (work_on c.args.ground.now c.args.under (view c.args.test.now))) same);
+      reads = λ keeps. ap (λ (l : List ℕ). g.N.Notes.noted c.args.notes.now ++ flat_map (condition_reads (g.G.Ground.known c.args.ground.now) c.args.under (view c.args.test.now)) l) same;
+      visits = ap (λ (l : List ℕ). c.args.steps.now + sum_by (visits_on (g.G.Ground.known c.args.ground.now) c.args.under (view c.args.test.now)) l) same;
+      most = omega (arith, ap (sum_by (work_on (g.G.Ground.known c.args.ground.now) c.args.under (view c.args.test.now))) same);
     }
 
 pub eval_filter-loop-member-preserved : goal.eval_filter-loop-member-preserved
 eval_filter-loop-member-preserved g t c =
     let i = c.loop-member.member-index in
     let ms = c.members-member-items.result.now in
-    let env = env_of c.args.ground.now in
+    let env = env_of (g.G.Ground.known c.args.ground.now) in
     let test = view c.args.test.now in
-    let condition = condition_on c.args.ground.now c.args.under test in
+    let condition = condition_on (g.G.Ground.known c.args.ground.now) c.args.under test in
     let is = c.in_ok-condition.ensures.value ∙ ap (λ (p : Place). over env p test) c.at.ensures in
-    let weigh = members_weigh ms i c.loop-member-test.true (work_on c.args.ground.now c.args.under test) in
-    let visited = members_weigh ms i c.loop-member-test.true (visits_on c.args.ground.now c.args.under test) in
+    let weigh = members_weigh ms i c.loop-member-test.true (work_on (g.G.Ground.known c.args.ground.now) c.args.under test) in
+    let visited = members_weigh ms i c.loop-member-test.true (visits_on (g.G.Ground.known c.args.ground.now) c.args.under test) in
     record {
       value =
           filter_next ms i c.loop-member-test.true condition c.in_ok-condition.condition is c.loop-member.kept.items c.keep.new.kept.items c.see-is_kept.result c.see-is_kept.ensures.kept c.in_ok-keep.ensures c.loop-member.fold c.see-is_kept.new.self c.see-is_kept.ensures.next
@@ -176,6 +229,9 @@ eval_filter-loop-member-preserved g t c =
       kept =
           kept_more ms i c.loop-member-test.true condition c.in_ok-condition.condition is c.loop-member.kept.items c.keep.new.kept.items c.see-is_kept.result c.see-is_kept.ensures.kept c.in_ok-keep.ensures
           ∙ c.loop-member.invariant.kept;
+      reads = λ keeps.
+          member_read (condition_reads (g.G.Ground.known c.args.ground.now) c.args.under test) ms i c.loop-member-test.true _ _ (c.in_ok-condition.ensures.reads keeps ∙ ap (λ (p : Place). g.N.Notes.noted c.loop-member.notes ++ slots_read env (reads_of (g.G.Ground.known c.args.ground.now)) p test) c.at.ensures)
+          ∙ c.loop-member.invariant.reads keeps;
       visits = omega (arith, visited, ap (λ (p : Place). visits env p test) c.at.ensures, c.in_ok-condition.ensures.visits, c.loop-member.invariant.visits);
       most = omega (arith, weigh, ap (λ (p : Place). weight env p test) c.at.ensures, c.in_ok-condition.ensures.most, c.loop-member.invariant.most);
     }
@@ -184,14 +240,23 @@ pub eval_filter-end-requires : goal.eval_filter-end-requires
 eval_filter-end-requires g t c =
     let ms = c.members-member-items.result.now in
     let found = c.loop-member.kept.items in
-    let condition = condition_on c.args.ground.now c.args.under (view c.args.test.now) in
+    let condition = condition_on (g.G.Ground.known c.args.ground.now) c.args.under (view c.args.test.now) in
     let none : drop c.loop-member.member-index ms ≡ [] = drop_all c.loop-member.member-index ms c.loop-member-test.false in
     let all : found ≡ kept condition (members_of c.args.source.now) = sym (append-nil found) ∙ sym (ap (λ l. found ++ kept condition l) none) ∙ c.loop-member.invariant.kept in
     rw all (kept-member_list condition (members_of c.args.source.now) (rw c.members-member-items.ensures.value at c.members-member-items.ensures.members))
 
+pub eval_filter-returns-clause-reads : goal.eval_filter-returns-clause-reads
+eval_filter-returns-clause-reads g t c = λ keeps.
+    let known = g.G.Ground.known c.args.ground.now in
+    let now = g.N.Notes.noted c.loop-member.notes in
+    let none : drop c.loop-member.member-index c.members-member-items.result.now ≡ [] = drop_all c.loop-member.member-index c.members-member-items.result.now c.loop-member-test.false in
+    sym (append-nil now)
+    ∙ sym (ap (λ (l : List ℕ). now ++ flat_map (condition_reads known c.args.under (view c.args.test.now)) l) none)
+    ∙ c.loop-member.invariant.reads keeps
+
 pub eval_find-returns-in-Go-clause-value : goal.eval_find-returns-in-Go-clause-value
 eval_find-returns-in-Go-clause-value g t c =
-    let condition = condition_on c.args.ground.now c.args.under (view c.args.test.now) in
+    let condition = condition_on (g.G.Ground.known c.args.ground.now) c.args.under (view c.args.test.now) in
     ok_same c.find_among.result _ _
     (ap (find_from condition c.in-Go.complete) c.members.ensures.value
     ∙ ap (λ (v : Verdict). find_after v condition (members_of c.args.source.now)) (sym c.in-Go.is ∙ c.source_verdict.ensures)
@@ -201,34 +266,62 @@ eval_find-returns-in-Go-clause-value g t c =
 pub find_among-loop-member-preserved : goal.find_among-loop-member-preserved
 find_among-loop-member-preserved g t c =
     let i = c.loop-member.member-index in
-    let env = env_of c.args.ground.now in
+    let env = env_of (g.G.Ground.known c.args.ground.now) in
     let test = view c.args.test.now in
     let is = c.in_ok-condition.ensures.value ∙ ap (λ (p : Place). over env p test) c.at.ensures in
-    let weigh = members_weigh c.args.members.now i c.loop-member-test.true (work_on c.args.ground.now c.args.under test) in
+    let weigh = members_weigh c.args.members.now i c.loop-member-test.true (work_on (g.G.Ground.known c.args.ground.now) c.args.under test) in
     let visited =
-    found_visits c.args.members.now i c.loop-member-test.true (condition_on c.args.ground.now c.args.under test) c.in_ok-condition.condition is (visits_on c.args.ground.now c.args.under test) c.loop-member.complete (Next c.in-Next.still) (sym c.in-Next.is ∙ c.case_step.ensures) in
+    found_visits c.args.members.now i c.loop-member-test.true (condition_on (g.G.Ground.known c.args.ground.now) c.args.under test) c.in_ok-condition.condition is (visits_on (g.G.Ground.known c.args.ground.now) c.args.under test) c.loop-member.complete (Next c.in-Next.still) (sym c.in-Next.is ∙ c.case_step.ensures) in
     record {
       value =
-          find_at c.args.members.now i c.loop-member-test.true (condition_on c.args.ground.now c.args.under test) c.in_ok-condition.condition is c.loop-member.complete (Next c.in-Next.still) (sym c.in-Next.is ∙ c.case_step.ensures)
+          find_at c.args.members.now i c.loop-member-test.true (condition_on (g.G.Ground.known c.args.ground.now) c.args.under test) c.in_ok-condition.condition is c.loop-member.complete (Next c.in-Next.still) (sym c.in-Next.is ∙ c.case_step.ensures)
           ∙ c.loop-member.invariant.value;
+      reads = λ keeps.
+          judged_read (condition_reads (g.G.Ground.known c.args.ground.now) c.args.under test) c.args.members.now i c.loop-member-test.true _ _ (c.in_ok-condition.ensures.reads keeps ∙ ap (λ (p : Place). g.N.Notes.noted c.loop-member.notes ++ slots_read env (reads_of (g.G.Ground.known c.args.ground.now)) p test) c.at.ensures)
+          (condition_on (g.G.Ground.known c.args.ground.now) c.args.under test) c.loop-member.complete c.in_ok-condition.condition (Next c.in-Next.still) is (sym c.in-Next.is ∙ c.case_step.ensures)
+          ∙ c.loop-member.invariant.reads keeps;
       visits = omega (arith, visited, ap (λ (p : Place). visits env p test) c.at.ensures, c.in_ok-condition.ensures.visits, c.loop-member.invariant.visits);
       most = omega (arith, weigh, ap (λ (p : Place). weight env p test) c.at.ensures, c.in_ok-condition.ensures.most, c.loop-member.invariant.most);
     }
 
 pub find_among-returns-in-Take-clause-visits : goal.find_among-returns-in-Take-clause-visits
 find_among-returns-in-Take-clause-visits g t c =
-    let env = env_of c.args.ground.now in
+    let env = env_of (g.G.Ground.known c.args.ground.now) in
     let test = view c.args.test.now in
     let is = c.in_ok-condition.ensures.value ∙ ap (λ (p : Place). over env p test) c.at.ensures in
     let visited =
-    found_visits c.args.members.now c.loop-member.member-index c.loop-member-test.true (condition_on c.args.ground.now c.args.under test) c.in_ok-condition.condition is (visits_on c.args.ground.now c.args.under test) c.loop-member.complete (Take c.in-Take.still) (sym c.in-Take.is ∙ c.case_step.ensures) in
+    found_visits c.args.members.now c.loop-member.member-index c.loop-member-test.true (condition_on (g.G.Ground.known c.args.ground.now) c.args.under test) c.in_ok-condition.condition is (visits_on (g.G.Ground.known c.args.ground.now) c.args.under test) c.loop-member.complete (Take c.in-Take.still) (sym c.in-Take.is ∙ c.case_step.ensures) in
     omega (arith, visited, ap (λ (p : Place). visits env p test) c.at.ensures, c.in_ok-condition.ensures.visits, c.loop-member.invariant.visits)
+
+pub find_among-returns-in-Take-clause-reads : goal.find_among-returns-in-Take-clause-reads
+find_among-returns-in-Take-clause-reads g t c = λ keeps.
+    let known = g.G.Ground.known c.args.ground.now in
+    let env = env_of known in
+    let by = reads_of known in
+    let test = view c.args.test.now in
+    let is = c.in_ok-condition.ensures.value ∙ ap (λ (p : Place). over env p test) c.at.ensures in
+    sym (append-nil _)
+    ∙ judged_read (condition_reads known c.args.under test) c.args.members.now c.loop-member.member-index c.loop-member-test.true _ _ (c.in_ok-condition.ensures.reads keeps ∙ ap (λ (p : Place). g.N.Notes.noted c.loop-member.notes ++ slots_read env by p test) c.at.ensures)
+    (condition_on known c.args.under test) c.loop-member.complete c.in_ok-condition.condition (Take c.in-Take.still) is (sym c.in-Take.is ∙ c.case_step.ensures)
+    ∙ c.loop-member.invariant.reads keeps
 
 pub find_among-returns-in-End-clause-visits : goal.find_among-returns-in-End-clause-visits
 find_among-returns-in-End-clause-visits g t c =
-    let env = env_of c.args.ground.now in
+    let env = env_of (g.G.Ground.known c.args.ground.now) in
     let test = view c.args.test.now in
     let is = c.in_ok-condition.ensures.value ∙ ap (λ (p : Place). over env p test) c.at.ensures in
     let visited =
-    found_visits c.args.members.now c.loop-member.member-index c.loop-member-test.true (condition_on c.args.ground.now c.args.under test) c.in_ok-condition.condition is (visits_on c.args.ground.now c.args.under test) c.loop-member.complete (End c.in-End.none) (sym c.in-End.is ∙ c.case_step.ensures) in
+    found_visits c.args.members.now c.loop-member.member-index c.loop-member-test.true (condition_on (g.G.Ground.known c.args.ground.now) c.args.under test) c.in_ok-condition.condition is (visits_on (g.G.Ground.known c.args.ground.now) c.args.under test) c.loop-member.complete (End c.in-End.none) (sym c.in-End.is ∙ c.case_step.ensures) in
     omega (arith, visited, ap (λ (p : Place). visits env p test) c.at.ensures, c.in_ok-condition.ensures.visits, c.loop-member.invariant.visits)
+
+pub find_among-returns-in-End-clause-reads : goal.find_among-returns-in-End-clause-reads
+find_among-returns-in-End-clause-reads g t c = λ keeps.
+    let known = g.G.Ground.known c.args.ground.now in
+    let env = env_of known in
+    let by = reads_of known in
+    let test = view c.args.test.now in
+    let is = c.in_ok-condition.ensures.value ∙ ap (λ (p : Place). over env p test) c.at.ensures in
+    sym (append-nil _)
+    ∙ judged_read (condition_reads known c.args.under test) c.args.members.now c.loop-member.member-index c.loop-member-test.true _ _ (c.in_ok-condition.ensures.reads keeps ∙ ap (λ (p : Place). g.N.Notes.noted c.loop-member.notes ++ slots_read env by p test) c.at.ensures)
+    (condition_on known c.args.under test) c.loop-member.complete c.in_ok-condition.condition (End c.in-End.none) is (sym c.in-End.is ∙ c.case_step.ensures)
+    ∙ c.loop-member.invariant.reads keeps

@@ -7,9 +7,9 @@ use Rattle.three_state.specs.declared.res.Res.{Res}
 use Rattle.answers.specs.Meaning.{answered}
 use Rattle.dictionary.specs.Accepted.{accepted, names_of}
 use Rattle.dictionary.specs.Plain.{slot_result}
+use Rattle.plain_table.specs.Known.{Known}
 use Rattle.plain_table.specs.SlotVisits.{slot_visits, visits_over}
 use Rattle.plain_table.specs.Table.{look_of}
-use Rattle.plain_table.specs.declared.ground.Ground.{Ground}
 use Rattle.plain_table.proofs.FillingLaws.{put_is_filled, result_is_plain}
 use Rattle.plain_table.proofs.SlotVisitLaws.{slot_visited}
 use Rattle.plain_table.proofs.WorkLaws.{slot_weighs}
@@ -18,10 +18,10 @@ use Rattle.plain_table.proofs.whole.put_slot.Goals as goal
 pub returns-in_err-res-clause-most : goal.returns-in_err-res-clause-most
 returns-in_err-res-clause-most g c =
     let d = accepted c.args.dict.now in
-    let ground : Ground = record { source = c.source-source.result; fact = c.args.slot.fact; table = record { ref_ptr = c.args.table.ref_ptr; now = c.args.table.now } } in
+    let known : Known = record { tree = dictionary_view c.source-source.result.now; look = look_of c.args.table.now; fact = c.args.slot.fact } in
     let here = sym (c.in-Some.ensures ∙ ap (λ (w : Written). fact_at (dictionary_view w).facts c.args.slot.fact) c.source-source.ensures.value) in
     subst (λ (n : ℕ). c.slot_result.new.steps ≤ c.args.steps.now + n)
-    (slot_weighs (names_of c.args.dict.now.checks) d c.source-source.ensures.is_accepted (answered c.args.answers.now) ground c.args.slot.member (fact_view c.in-Some.fact.now) (ap dictionary_view c.source-source.ensures.value) here c.requires.below)
+    (slot_weighs (names_of c.args.dict.now.checks) d c.source-source.ensures.is_accepted (answered c.args.answers.now) known c.args.slot.member (fact_view c.in-Some.fact.now) (ap dictionary_view c.source-source.ensures.value) here c.requires.below)
     c.slot_result.ensures.most
 
 pub returns-clause-filled : goal.returns-clause-filled
@@ -39,10 +39,10 @@ returns-clause-filled g c =
 pub returns-clause-most : goal.returns-clause-most
 returns-clause-most g c =
     let d = accepted c.args.dict.now in
-    let ground : Ground = record { source = c.source-source.result; fact = c.args.slot.fact; table = record { ref_ptr = c.args.table.ref_ptr; now = c.args.table.now } } in
+    let known : Known = record { tree = dictionary_view c.source-source.result.now; look = look_of c.args.table.now; fact = c.args.slot.fact } in
     let here = sym (c.in-Some.ensures ∙ ap (λ (w : Written). fact_at (dictionary_view w).facts c.args.slot.fact) c.source-source.ensures.value) in
     subst (λ (n : ℕ). c.slot_result.new.steps ≤ c.args.steps.now + n)
-    (slot_weighs (names_of c.args.dict.now.checks) d c.source-source.ensures.is_accepted (answered c.args.answers.now) ground c.args.slot.member (fact_view c.in-Some.fact.now) (ap dictionary_view c.source-source.ensures.value) here c.requires.below)
+    (slot_weighs (names_of c.args.dict.now.checks) d c.source-source.ensures.is_accepted (answered c.args.answers.now) known c.args.slot.member (fact_view c.in-Some.fact.now) (ap dictionary_view c.source-source.ensures.value) here c.requires.below)
     c.slot_result.ensures.most
 
 pub returns-clause-visits : goal.returns-clause-visits

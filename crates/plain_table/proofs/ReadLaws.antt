@@ -3,7 +3,6 @@ use Rattle.std.proofs.Common.{◌≡◌, ℕ, ◌+◌, ◌<◌, Bool, true, fals
 use Rattle.fact_values.specs.declared.slot.Slot.{Slot}
 use Rattle.fact_values.specs.declared.value.Value.{Value}
 use Rattle.fact_values.specs.declared.value.Value.TheVariants.{Item}
-use Rattle.dict_tree.specs.Dictionary.{Dictionary as Tree}
 use Rattle.dict_tree.specs.Tree.{Literal, Reading, Source, Use}
 use Rattle.dict_tree.specs.View.{case_view, cases_of, trees_of, view}
 use Rattle.dict_tree.specs.declared.expr.Expr.{Expr}
@@ -22,7 +21,8 @@ use Rattle.three_state.specs.Results.{truth}
 use Rattle.three_state.specs.declared.res.Res.{Res}
 use Rattle.three_state.specs.declared.res.Res.TheVariants.{Complete, Placeholder, Incomplete, Fault}
 use Rattle.dictionary.specs.Plain.{conditional_body}
-use Rattle.dictionary.specs.Reading.{Look, Place, source_env}
+use Rattle.dictionary.specs.Reading.{Place}
+use Rattle.plain_table.specs.Known.{Known, env_of, reads_of}
 
 -- one more part is read: what is left was that part and what is left now
 pub moved_on : {X : Type 0} (old new part rest left : List X) → new ≡ old ++ part → left ≡ part ++ rest → new ++ rest ≡ old ++ left
@@ -91,16 +91,15 @@ pub joined : {X : Type 0} (old mid new a b : List X) → new ≡ mid ++ b → mi
 joined old mid new a b e f = e ∙ ap (λ l. l ++ b) f ∙ append_assoc old a b
 
 -- its value is read where the condition is true, else the main expression
-pub conditional_read : (d : Tree) (look : Look) (fact : ℕ) (by : ReadBy Reading Use Place Slot) (at : Place) (test value main : Source) (r : Res) (step : CaseStep) → r ≡ over (source_env d look fact) at test → step ≡ case_step true r
-    → (old new : List Slot) → new ≡ old ++ slots_read (source_env d look fact) by at test
-    → new ++ reads_after step (slots_read (source_env d look fact) by at value) (slots_read (source_env d look fact) by at main)
-    ≡ old ++ slots_read (source_env d look fact) by at (conditional_body (Some (test, value)) main)
-conditional_read d look fact by at test value main r step f h old new e =
-    let env = source_env d look fact in
+pub conditional_read : (k : Known) (at : Place) (test value main : Source) (r : Res) (step : CaseStep) → r ≡ over (env_of k) at test → step ≡ case_step true r
+    → (old new : List Slot) → new ≡ old ++ slots_read (env_of k) (reads_of k) at test
+    → new ++ reads_after step (slots_read (env_of k) (reads_of k) at value) (slots_read (env_of k) (reads_of k) at main)
+    ≡ old ++ slots_read (env_of k) (reads_of k) at (conditional_body (Some (test, value)) main)
+conditional_read k at test value main r step f h old new e =
+    let env = env_of k in
+    let by = reads_of k in
     moved_on old new (slots_read env by at test) (reads_after step (slots_read env by at value) (slots_read env by at main)) (slots_read env by at (conditional_body (Some (test, value)) main)) e
     (ap (λ l. slots_read env by at test ++ l) (after_this_step true r (over env at test) step (slots_read env by at value) (slots_read env by at main) f h))
-
--- ---- a collection without members to go through
 
 -- ---- the field of the member that an item names
 

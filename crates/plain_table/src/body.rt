@@ -1,0 +1,75 @@
+// The result of a derived fact's body.
+ghost use Rattle.std.specs.Prelude.{◌≡◌, ◌+◌, ◌≤◌, option_map, IfOk, OnOk, Some};
+ghost use Rattle.dict_tree.specs.Facts.{conditional_view};
+ghost use Rattle.dict_tree.specs.View.{view};
+ghost use Rattle.evaluation.specs.Over.{over, weight};
+ghost use Rattle.evaluation.specs.SlotsRead.{slots_read};
+ghost use Rattle.evaluation.specs.Visits.{visits};
+ghost use Rattle.dictionary.specs.Plain.{conditional_body};
+ghost use Rattle.plain_table.specs.Known.{env_of, reads_of};
+ghost use Rattle.plain_table.specs.Noted.{Noted};
+
+use crate::eval::eval;
+use crate::ground::Ground;
+use crate::notes::Notes;
+use dict_tree::{Conditional, Expr};
+use dictionary::Place;
+use fact_values::NoMemory;
+use operations::{CaseStep, case_step, taken};
+use std::alloc::Global;
+use std::sync::ledger::Ledger;
+use steps::Steps;
+use three_state::Res;
+
+// The value of the conditional where its condition is true, else the main expression. It is a Switch
+// of two cases, and the second condition is a constant, true: both count as nodes.
+fn eval_conditional<G: Ground, N: Notes, L: Ledger>(
+    alloc: Global,
+    ground: &G,
+    at: Place,
+    pair: &Conditional,
+    main: &Expr,
+    notes: &mut N,
+    steps: &mut Steps<L>,
+) -> Result<Res, NoMemory>
+    ensures value { IfOk result (λ r. r ≡ over (env_of (G.known ground.now)) at (conditional_body (Some (conditional_view pair.now)) (view main.now))) }
+    ensures reads { OnOk result (Noted N.keeps (N.noted notes.old) (slots_read (env_of (G.known ground.now)) (reads_of (G.known ground.now)) at (conditional_body (Some (conditional_view pair.now)) (view main.now))) (N.noted notes.new)) }
+    ensures visits { OnOk result (steps.new ≡ steps.old + visits (env_of (G.known ground.now)) at (conditional_body (Some (conditional_view pair.now)) (view main.now))) }
+    ensures most { steps.new ≤ steps.old + weight (env_of (G.known ground.now)) at (conditional_body (Some (conditional_view pair.now)) (view main.now)) }
+{
+    steps.tick();
+    let condition = eval(alloc, ground, at, &pair.test, notes, steps)?;
+    match case_step(true, &condition) {
+        CaseStep::Next(still) => {
+            steps.tick();
+            let res = eval(alloc, ground, at, main, notes, steps)?;
+            Ok(taken(still, res))
+        }
+        CaseStep::Take(still) => {
+            let res = eval(alloc, ground, at, &pair.value, notes, steps)?;
+            Ok(taken(still, res))
+        }
+        CaseStep::End(res) => Ok(res),
+    }
+}
+
+/// The result of the body of a derived fact, as [`eval`] gives it.
+pub fn eval_body<G: Ground, N: Notes, L: Ledger>(
+    alloc: Global,
+    ground: &G,
+    at: Place,
+    conditional: &Option<Conditional>,
+    main: &Expr,
+    notes: &mut N,
+    steps: &mut Steps<L>,
+) -> Result<Res, NoMemory>
+    ensures value { IfOk result (λ r. r ≡ over (env_of (G.known ground.now)) at (conditional_body (option_map conditional_view conditional.now) (view main.now))) }
+    ensures reads { OnOk result (Noted N.keeps (N.noted notes.old) (slots_read (env_of (G.known ground.now)) (reads_of (G.known ground.now)) at (conditional_body (option_map conditional_view conditional.now) (view main.now))) (N.noted notes.new)) }
+    ensures visits { OnOk result (steps.new ≡ steps.old + visits (env_of (G.known ground.now)) at (conditional_body (option_map conditional_view conditional.now) (view main.now))) }
+    ensures most { steps.new ≤ steps.old + weight (env_of (G.known ground.now)) at (conditional_body (option_map conditional_view conditional.now) (view main.now)) }
+{
+    match conditional {
+        None => eval(alloc, ground, at, main, notes, steps),
+        Some(pair) => eval_conditional(alloc, ground, at, pair, main, notes, steps),
+    }
+}
