@@ -12,6 +12,7 @@ use plain_table::{Ground, Notes};
 use three_state::Res;
 
 /// The results of a session, for the expressions of a fact.
+#[derive(Drop)]
 pub struct SessionGround<'a, E: FactEngine> {
     session: &'a Session<E>,
     fact: u32,

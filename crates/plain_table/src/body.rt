@@ -9,7 +9,7 @@ ghost use Rattle.dictionary.specs.Plain.{conditional_body};
 ghost use Rattle.plain_table.specs.Known.{env_of, reads_of};
 ghost use Rattle.plain_table.specs.Noted.{Noted};
 
-use crate::eval::eval;
+use crate::evaluating::eval;
 use crate::ground::Ground;
 use crate::notes::Notes;
 use dict_tree::{Conditional, Expr};

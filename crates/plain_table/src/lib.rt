@@ -2,7 +2,7 @@
 #![tactic(auto)]
 
 mod body;
-mod eval;
+mod evaluating;
 mod ground;
 mod notes;
 mod plain_table;
@@ -12,7 +12,7 @@ mod table;
 mod whole;
 
 pub use body::eval_body;
-pub use eval::eval;
+pub use evaluating::eval;
 pub use ground::Ground;
 pub use notes::Notes;
 pub use plain_table::PlainTable;

@@ -19,6 +19,7 @@ pub trait Notes {
 }
 
 /// Keeps none.
+#[derive(Drop)]
 pub struct Unnoted;
 
 impl Notes for Unnoted {

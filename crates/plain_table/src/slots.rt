@@ -15,7 +15,7 @@ ghost use Rattle.plain_table.specs.Known.{env_of, option_weight};
 ghost use Rattle.plain_table.specs.SlotVisits.{body_visits, placeholder_visits, visits_over};
 
 use crate::body::eval_body;
-use crate::eval::eval;
+use crate::evaluating::eval;
 use crate::ground::TableGround;
 use crate::notes::Unnoted;
 use answers::Answers;
@@ -49,7 +49,15 @@ fn derived_result<L: Ledger>(
         Some(value) => Ok(Res::Complete(value.copy(alloc)?)),
         None => {
             let at = Place::outermost(member);
-            eval_body(alloc, ground, at, &fact.conditional, main, &mut Unnoted, steps)
+            eval_body(
+                alloc,
+                ground,
+                at,
+                &fact.conditional,
+                main,
+                &mut Unnoted,
+                steps,
+            )
         }
     }
 }

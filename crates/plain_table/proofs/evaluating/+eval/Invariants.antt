@@ -9,7 +9,7 @@ use Rattle.operations.specs.ManyFolds.{many_from, many_start}
 use Rattle.three_state.specs.Folds.{filter_on}
 use Rattle.three_state.specs.Results.{filter_of, kept, members_of, switch_of}
 use Rattle.plain_table.specs.Known.{condition_on, condition_reads, env_of, reads_of, visits_on, work_on}
-use Rattle.plain_table.proofs.eval.+eval.Given as goal
+use Rattle.plain_table.proofs.evaluating.+eval.Given as goal
 
 abbrev pub invariant-eval_all-loop-operand : goal.invariant-eval_all-loop-operand
 invariant-eval_all-loop-operand g l = record {

@@ -1,5 +1,6 @@
 use Rattle.std.proofs.Common.{refl, ◌≡◌, ◌+◌, ◌++◌, [], List, ℕ, flat_map, sum_by, map, drop, sym, ap, ◌∙◌, arith}
 use Rattle.std.proofs.lemmas.List.{append-nil, drop_all, length-map}
+use Rattle.std.proofs.lemmas.Result.{on_ok_weaker}
 use Rattle.dict_tree.specs.Tree.{pick}
 use Rattle.dict_tree.specs.View.{case_view, cases_of, trees_of, use_view, view}
 use Rattle.dict_tree.proofs.Views.{view-Pick}
@@ -18,8 +19,8 @@ use Rattle.three_state.specs.declared.strict.Verdict.{Verdict}
 use Rattle.dictionary.specs.Reading.{Place}
 use Rattle.plain_table.specs.Known.{condition_on, condition_reads, env_of, reads_of, visits_on, work_on}
 use Rattle.plain_table.proofs.EvalLaws.{all_next, all_visits, all_weigh, case_at, cases_visits, cases_weigh, filter_next, find_at, found_visits, kept_more, members_weigh}
-use Rattle.plain_table.proofs.ReadLaws.{case_read, judged_read, member_read, operand_read}
-use Rattle.plain_table.proofs.eval.+eval.Goals as goal
+use Rattle.plain_table.proofs.ReadLaws.{case_read, joined, judged_read, member_read, operand_read}
+use Rattle.plain_table.proofs.evaluating.+eval.Goals as goal
 
 -- ---- eval
 
@@ -133,7 +134,7 @@ eval_cases-returns-in-Take-clause-reads g t c = λ keeps.
     let env = env_of known in
     let by = reads_of known in
     c.in_ok-res-in-Take.ensures.reads keeps
-    ∙ case_read env by c.args.at c.args.cases.now c.loop-case.case-index c.case-item.result c.loop-case-test.true c.case-item.is c.loop-case.complete c.in_ok-condition.condition (Take c.in-Take.still) c.in_ok-condition.ensures.value (sym c.in-Take.is ∙ c.case_step.ensures) _ _ c.in_ok-condition.ensures.reads keeps
+    ∙ case_read env by c.args.at c.args.cases.now c.loop-case.case-index c.case-item.result c.loop-case-test.true c.case-item.is c.loop-case.complete c.in_ok-condition.condition (Take c.in-Take.still) c.in_ok-condition.ensures.value (sym c.in-Take.is ∙ c.case_step.ensures) _ _ (c.in_ok-condition.ensures.reads keeps)
     ∙ c.loop-case.invariant.reads keeps
 
 pub eval_cases-returns-in-End-clause-value : goal.eval_cases-returns-in-End-clause-value
@@ -158,7 +159,7 @@ eval_cases-returns-in-End-clause-reads g t c = λ keeps.
     let env = env_of known in
     let by = reads_of known in
     sym (append-nil _)
-    ∙ case_read env by c.args.at c.args.cases.now c.loop-case.case-index c.case-item.result c.loop-case-test.true c.case-item.is c.loop-case.complete c.in_ok-condition.condition (End c.in-End.res) c.in_ok-condition.ensures.value (sym c.in-End.is ∙ c.case_step.ensures) _ _ c.in_ok-condition.ensures.reads keeps
+    ∙ case_read env by c.args.at c.args.cases.now c.loop-case.case-index c.case-item.result c.loop-case-test.true c.case-item.is c.loop-case.complete c.in_ok-condition.condition (End c.in-End.res) c.in_ok-condition.ensures.value (sym c.in-End.is ∙ c.case_step.ensures) _ _ (c.in_ok-condition.ensures.reads keeps)
     ∙ c.loop-case.invariant.reads keeps
 
 pub eval_cases-loop-case-preserved : goal.eval_cases-loop-case-preserved
@@ -198,6 +199,12 @@ eval_pick-returns-in-Filter-clause-value g t c =
 pub eval_pick-returns-in-Find-clause-value : goal.eval_pick-returns-in-Find-clause-value
 eval_pick-returns-in-Find-clause-value g t c =
     rw c.in-Find.is (rw (c.in_ok-source.ensures.value, c.under-under.ensures, c.base_under.ensures) at c.eval_find.ensures.value)
+
+pub eval_pick-returns-in-Find-clause-reads : goal.eval_pick-returns-in-Find-clause-reads
+eval_pick-returns-in-Find-clause-reads g t c =
+    rw c.in-Find.is
+    (on_ok_weaker c.eval_find.result (λ read keeps. joined _ _ _ _ _ (read keeps) (c.in_ok-source.ensures.reads keeps))
+    (rw (c.in_ok-source.ensures.value, c.under-under.ensures, c.base_under.ensures) at c.eval_find.ensures.reads))
 
 pub eval_filter-loop-member-init : goal.eval_filter-loop-member-init
 eval_filter-loop-member-init g t c =

@@ -45,7 +45,15 @@ pub fn eval<G: Ground, N: Notes, L: Ledger>(
         Expr::Const(constant) => read_constant(alloc, ground, constant),
         Expr::Read(op, used) => read(alloc, ground, at, *op, used, notes),
         Expr::Switch(cases) => eval_cases(alloc, ground, at, cases.as_slice(), notes, steps),
-        Expr::Many(op, operands) => eval_all(alloc, ground, at, *op, operands.as_slice(), notes, steps),
+        Expr::Many(op, operands) => eval_all(
+            alloc,
+            ground,
+            at,
+            *op,
+            operands.as_slice(),
+            notes,
+            steps,
+        ),
         Expr::One(op, operand) => {
             let res = eval(alloc, ground, at, operand, notes, steps)?;
             Ok(one(*op, res))
@@ -194,7 +202,16 @@ fn eval_find<G: Ground, N: Notes, L: Ledger>(
 {
     match source_verdict(source) {
         Verdict::Go(complete) => {
-            find_among(alloc, ground, under, complete, members(source), test, notes, steps)
+            find_among(
+                alloc,
+                ground,
+                under,
+                complete,
+                members(source),
+                test,
+                notes,
+                steps,
+            )
         }
         Verdict::Incomplete => Ok(Res::Incomplete),
         Verdict::Fault(fault) => Ok(Res::Fault(fault)),
