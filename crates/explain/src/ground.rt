@@ -2,7 +2,7 @@
 ghost use Rattle.std.specs.Prelude.{◌≡◌, true};
 ghost use Rattle.dictionary.specs.Reading.{result_at};
 ghost use Rattle.three_state.specs.declared.res.Res.TheVariants.{Incomplete};
-ghost use Rattle.explain.specs.Ground.{known_at, look_of};
+ghost use Rattle.explain.specs.Ground.{known_at};
 
 use dict_tree::DictSource;
 use dictionary::FactEngine;

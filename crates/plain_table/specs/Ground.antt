@@ -1,5 +1,4 @@
 -- What is known on the ground of a table.
-use Rattle.std.specs.Prelude.{ℕ}
 use Rattle.dict_tree.specs.Dictionary.{dictionary_view}
 use Rattle.plain_table.specs.Known.{Known}
 use Rattle.plain_table.specs.Table.{look_of}

@@ -1,5 +1,5 @@
 // What a node that reads gives, and which slots it reads, from the facts that its path names.
-ghost use Rattle.std.specs.Prelude.{◌≡◌, ◌∷◌, [], flat_map, IfOk, OnOk, option_and_then};
+ghost use Rattle.std.specs.Prelude.{◌≡◌, [], flat_map, IfOk, OnOk, option_and_then};
 ghost use Rattle.dict_tree.specs.Dictionary.{dictionary_view};
 ghost use Rattle.dict_tree.specs.Mentions.{condition_base};
 ghost use Rattle.dict_tree.specs.View.{literal_of};
