@@ -20,7 +20,7 @@ use Rattle.session_lines.specs.declared.progress.Progress.{Progress}
 use Rattle.session_lines.specs.declared.progress.Progress.TheVariants.{More, Over, Unwritten, OutOfMemory}
 use Rattle.session_lines.specs.Answering.{AnsweredAs, EndsOrWrites, RefusedAs, RepliedLines, SteppedAs, ToldAs, WrittenAs}
 use Rattle.session_lines.specs.Replies.{line_with, refusal_text, reply_text}
-use Rattle.session_lines.specs.Stepping.{Standing, State, Step, fired, is_change, is_known, open_at, replies, said, state_after, step, step_answered, step_command, step_known, step_writing}
+use Rattle.session_lines.specs.Stepping.{Standing, State, Step, is_known, open_at, replies, said, state_after, step, step_answered, step_command, step_known, step_writing}
 
 -- ---- one command
 
@@ -31,13 +31,6 @@ known_step r s (commands.Watch name path) known = absurd cc
 known_step r s (commands.Unwatch name path) known = absurd cc
 known_step r s commands.Quit known = absurd cc
 known_step r s asked known = refl
-
--- what is said behind a change, and behind what is none
-pub said_of_change : (r : Rules) (s : Standing) (asked : Command) (text : List ℕ) (after : Course) → is_change asked ≡ true → said r s asked text after ≡ line_with text ++ fired r s after
-said_of_change r s asked text after change = ap (λ b. if b then line_with text ++ fired r s after else line_with text) change
-
-pub said_of_question : (r : Rules) (s : Standing) (asked : Command) (text : List ℕ) (after : Course) → is_change asked ≡ false → said r s asked text after ≡ line_with text
-said_of_question r s asked text after none = ap (λ b. if b then line_with text ++ fired r s after else line_with text) none
 
 module _ (taken taken_now : Option (List ℕ)) (faults faults_now : ℕ) where
   -- a text that was written is a step

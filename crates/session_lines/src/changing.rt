@@ -1,5 +1,5 @@
 // Answers the commands of the session, and tells the watches that fire behind a change.
-ghost use Rattle.std.specs.Prelude.{◌≡◌, ◌≤◌, ◌<◌, ◌+◌, ◌^◌, ◌++◌, ℕ, List, true, false, map};
+ghost use Rattle.std.specs.Prelude.{◌≡◌, ◌≤◌, ◌<◌, ◌+◌, ◌^◌, ◌++◌, ℕ, List, true, if◌then◌else◌, map};
 ghost use Rattle.script_lines.specs.Joined.{joined};
 ghost use Rattle.dictionary.specs.Accepted.{accepted};
 ghost use Rattle.dictionary.specs.Plain.{plain};
@@ -74,7 +74,32 @@ fn write_change<E: FactEngine, K: Sink>(
     }
 }
 
-// Answers a change before which what is watched was noted.
+// Writes the reply of a command, and behind that of a change the watches that fire.
+fn write_said<E: FactEngine, K: Sink>(
+    session: &Session<E>,
+    watches: &Watches,
+    table: &WatchTable,
+    command: &Command,
+    reply: Reply,
+    out: &mut K,
+) -> Progress
+    requires noted { changes command.now ≡ true → (before : Look) × (watches.now ≡ noted watches.now.pairs before) }
+    ensures written { (before : Look) → (changes command.now ≡ true → watches.now ≡ noted watches.now.pairs before)
+        → WrittenAs (K.taken out.old) (K.taken out.new) (K.faults out.old) (K.faults out.new)
+        (if changes command.now then line_with (reply_text (rules session.now.dict) (course session.now) reply)
+        ++ joined (firing_lines (accepted session.now.dict).tree (map {B = List ℕ × ℕ} (λ r. (r.name, r.code)) table.now.relations.items) before
+        (plain (accepted session.now.dict) session.now.timeline.now) watches.now.pairs)
+        else line_with (reply_text (rules session.now.dict) (course session.now) reply)) result }
+    ensures later { K.faults out.old ≤ K.faults out.new }
+{
+    if is_change(command) {
+        write_change(session, watches, table, reply, out)
+    } else {
+        write_reply(session, reply, out)
+    }
+}
+
+// Answers a command. Before a change what is watched was noted.
 fn answer_noted<E: FactEngine, L: Ledger, K: Sink>(
     session: &mut Session<E>,
     watches: &Watches,
@@ -84,8 +109,8 @@ fn answer_noted<E: FactEngine, L: Ledger, K: Sink>(
     out: &mut K,
     steps: &mut Steps<L>,
 ) -> Progress
-    requires is_change { changes command.now ≡ true }
-    requires noted { watches.now ≡ noted watches.now.pairs (plain (accepted session.old.dict) session.old.timeline.now) }
+    requires noted { changes command.now ≡ true
+        → watches.now ≡ noted watches.now.pairs (plain (accepted session.old.dict) session.old.timeline.now) }
     requires same_checks { SameChecks (rules session.old.dict)
         (map {B = List ℕ × ℕ} (λ c. (c.name, c.code)) checks.now.checks.items) }
     requires few { session.old.changes < 2 ^ 63 }
@@ -99,7 +124,7 @@ fn answer_noted<E: FactEngine, L: Ledger, K: Sink>(
         + steps_of_command E.most (rules session.old.dict) (standing_of session.old (map {B = List ℕ × ℕ} (λ r. (r.name, r.code)) table.now.relations.items) watches.now) command.now }
 {
     match session.command(command, checks, steps) {
-        Ok(reply) => write_change(session, watches, table, reply, out),
+        Ok(reply) => write_said(session, watches, table, command, reply, out),
         Err(refusal) => write_refusal(refusal, out),
     }
 }
@@ -133,35 +158,6 @@ fn answer_change<E: FactEngine, L: Ledger, K: Sink>(
     }
 }
 
-// Answers a command that changes nothing.
-fn answer_question<E: FactEngine, L: Ledger, K: Sink>(
-    session: &mut Session<E>,
-    watches: &Watches,
-    table: &WatchTable,
-    command: &Command,
-    checks: &CheckTable,
-    out: &mut K,
-    steps: &mut Steps<L>,
-) -> Progress
-    requires is_none { changes command.now ≡ false }
-    requires same_checks { SameChecks (rules session.old.dict)
-        (map {B = List ℕ × ℕ} (λ c. (c.name, c.code)) checks.now.checks.items) }
-    requires few { session.old.changes < 2 ^ 63 }
-    ensures stepped { SteppedAs (K.taken out.old) (K.taken out.new) (K.faults out.old) (K.faults out.new)
-        (step_known (rules session.old.dict) (standing_of session.old (map {B = List ℕ × ℕ} (λ r. (r.name, r.code)) table.now.relations.items) watches.now) command.now)
-        (standing_of session.new (map {B = List ℕ × ℕ} (λ r. (r.name, r.code)) table.now.relations.items) watches.now) result }
-    ensures dict { session.new.dict ≡ session.old.dict }
-    ensures few { session.new.changes ≤ session.old.changes + 1 }
-    ensures later { K.faults out.old ≤ K.faults out.new }
-    ensures steps { steps.new ≤ steps.old
-        + steps_of_command E.most (rules session.old.dict) (standing_of session.old (map {B = List ℕ × ℕ} (λ r. (r.name, r.code)) table.now.relations.items) watches.now) command.now }
-{
-    match session.command(command, checks, steps) {
-        Ok(reply) => write_reply(session, reply, out),
-        Err(refusal) => write_refusal(refusal, out),
-    }
-}
-
 /// Answers a command of the session.
 pub fn answer_known<E: FactEngine, L: Ledger, K: Sink>(
     session: &mut Session<E>,
@@ -187,6 +183,6 @@ pub fn answer_known<E: FactEngine, L: Ledger, K: Sink>(
     if is_change(command) {
         answer_change(session, watches, table, command, checks, out, steps)
     } else {
-        answer_question(session, watches, table, command, checks, out, steps)
+        answer_noted(session, watches, table, command, checks, out, steps)
     }
 }

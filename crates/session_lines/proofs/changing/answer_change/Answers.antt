@@ -9,7 +9,7 @@ use Rattle.session_lines.specs.Stepping.{step_known}
 use Rattle.session_lines.proofs.changing.answer_change.Goals as goal
 
 pub answer_noted-requires-clause-noted : goal.answer_noted-requires-clause-noted
-answer_noted-requires-clause-noted g c =
+answer_noted-requires-clause-noted g c = λ change.
     let look = plain (accepted c.args.session.now.dict) c.args.session.now.timeline.now in
     c.in-Ok.ensures.noted ∙ ap (λ (ps : List Pair). noted ps look) (sym (ap (λ (w : Watching). w.pairs) c.in-Ok.ensures.noted))
 

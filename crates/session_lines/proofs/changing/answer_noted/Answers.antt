@@ -1,26 +1,26 @@
-use Rattle.std.proofs.Common.{ℕ, List, ◌++◌, map, ap}
+use Rattle.std.proofs.Common.{ℕ, List, map, ap, refl}
 use Rattle.graph_session.specs.Rules.{rules}
 use Rattle.graph_session.specs.SessionView.{course}
 use Rattle.graph_session.proofs.RunLaws.{step_count}
 use Rattle.session_lines.specs.Answering.{standing_of}
-use Rattle.session_lines.specs.Replies.{line_with, reply_text}
-use Rattle.session_lines.specs.Stepping.{fired}
-use Rattle.session_lines.proofs.AnsweringLaws.{refusal_steps, reply_steps, said_of_change}
+use Rattle.session_lines.specs.Replies.{reply_text}
+use Rattle.session_lines.specs.Stepping.{said}
+use Rattle.session_lines.proofs.AnsweringLaws.{refusal_steps, reply_steps}
 use Rattle.dictionary.specs.Accepted.{accepted}
 use Rattle.dictionary.specs.Plain.{plain}
 use Rattle.session_lines.proofs.changing.answer_noted.Goals as goal
 
-pub write_change-requires : goal.write_change-requires
-write_change-requires g c = record { noted = (plain (accepted c.args.session.now.dict) c.args.session.now.timeline.now, c.requires.noted) }
+pub write_said-requires : goal.write_said-requires
+write_said-requires g c = record { noted = λ change. (plain (accepted c.args.session.now.dict) c.args.session.now.timeline.now, c.requires.noted change) }
 
 pub returns-in-Ok-clause-stepped : goal.returns-in-Ok-clause-stepped
 returns-in-Ok-clause-stepped g c =
     let r = rules c.args.session.now.dict in
     let here = standing_of c.args.session.now (map {B = List ℕ × ℕ} (λ r. (r.name, r.code)) c.args.table.now.relations.items) c.args.watches.now in
     let after = course c.command.new.self in
-    reply_steps _ _ _ _ r here after c.args.command.now c.in-Ok.reply (line_with (reply_text r after c.in-Ok.reply) ++ fired r here after) c.write_change.result
-    c.in-Ok.ensures.ok (said_of_change r here c.args.command.now (reply_text r after c.in-Ok.reply) after c.requires.is_change)
-    (rw c.command.ensures.dict at (c.write_change.ensures.written (plain (accepted c.args.session.now.dict) c.args.session.now.timeline.now) c.requires.noted))
+    reply_steps _ _ _ _ r here after c.args.command.now c.in-Ok.reply (said r here c.args.command.now (reply_text r after c.in-Ok.reply) after) c.write_said.result
+    c.in-Ok.ensures.ok refl
+    (rw c.command.ensures.dict at (c.write_said.ensures.written (plain (accepted c.args.session.now.dict) c.args.session.now.timeline.now) c.requires.noted))
 
 pub returns-in-Ok-clause-few : goal.returns-in-Ok-clause-few
 returns-in-Ok-clause-few g c = step_count (rules c.args.session.now.dict) (course c.args.session.now) c.args.command.now c.in-Ok.reply (course c.command.new.self) c.in-Ok.ensures.ok
