@@ -10,6 +10,7 @@ use Rattle.fact_values.specs.declared.fact_type.FactType.TheVariants as types
 use Rattle.fact_values.specs.declared.slot.Slot.{Slot}
 use Rattle.fact_values.specs.declared.value.Value.{Value}
 use Rattle.fact_values.specs.declared.value.Value.TheVariants.{Boolean, Day, Dollar}
+use Rattle.dict_tree.specs.Facts.{Fact}
 use Rattle.dict_tree.specs.Dictionary.{Dictionary as Tree}
 use Rattle.dict_types.specs.StatedTypes.{type_at}
 use Rattle.three_state.specs.Results.{truth}
@@ -20,6 +21,7 @@ use Rattle.answers.specs.declared.edit.Side.TheVariants.{Answer}
 use Rattle.dictionary.specs.Fits.{AnswersFit, domains}
 use Rattle.dictionary.specs.Reading.{slot}
 use Rattle.dictionary.specs.Slots.{is_member}
+use Rattle.written_facts.specs.Taking.{with_facts}
 use Rattle.tax_2023.specs.Household.{Household}
 use Rattle.tax_2023.specs.Years.{Year}
 use Rattle.tax_2023.specs.Figures.{figures}
@@ -32,7 +34,7 @@ use Rattle.tax_2023.proofs.Values.{given, person}
 
 -- ---- a value of a type is what it holds
 
-truth_value : (d : Domains) (v : Value) → IsOfType d v types.Boolean → v ≡ Boolean (truth v)
+pub truth_value : (d : Domains) (v : Value) → IsOfType d v types.Boolean → v ≡ Boolean (truth v)
 truth_value d (Boolean b) h = refl
 truth_value d _ h = absurd h
 
@@ -45,7 +47,7 @@ dollar_value d (Dollar n) h = refl
 dollar_value d _ h = absurd h
 
 -- an answer of a type
-answer_is : (d : Tree) (a : Answered) → AnswersFit d a → (t : FactType) (f : Value → Value) → ((v : Value) → IsOfType (domains d a) v t → v ≡ f v) → (s : Slot) → type_at d s.fact ≡ Some t → IsSome (value_of Answer a s)
+pub answer_is : (d : Tree) (a : Answered) → AnswersFit d a → (t : FactType) (f : Value → Value) → ((v : Value) → IsOfType (domains d a) v t → v ≡ f v) → (s : Slot) → type_at d s.fact ≡ Some t → IsSome (value_of Answer a s)
     → value_of Answer a s ≡ Some (f (unwrap_or (value_of Answer a s) (Boolean false)))
 answer_is d a fit t f is s stated some =
     let v = something (value_of Answer a s) some in
@@ -55,7 +57,7 @@ answer_is d a fit t f is s stated some =
 
 -- ---- the household
 
-abbrev household : Answered → Household
+abbrev pub household : Answered → Household
 household a = record {
   date_of_birth = day_in (given a 0 1);
   blind = truth (given a 0 2);
@@ -84,9 +86,10 @@ open_with : (o : Option (List ℕ)) → IsSome o → o ≡ Some (unwrap_or o [])
 open_with None h = absurd cc
 open_with (Some ms) h = refl
 
-module _ (y : Year) (a : Answered) (fit : AnswersFit (dictionary (figures y)) a) (complete : AreComplete (dictionary (figures y)) a) where
+-- in a dictionary of a year with further facts behind
+module _ (y : Year) (more : List Fact) (a : Answered) (fit : AnswersFit (with_facts (dictionary (figures y)) more) a) (complete : AreComplete (with_facts (dictionary (figures y)) more) a) where
   abbrev d : Tree
-  d = dictionary (figures y)
+  d = with_facts (dictionary (figures y)) more
 
   as_truth : (s : Slot) → type_at d s.fact ≡ Some types.Boolean → IsSome (value_of Answer a s) → value_of Answer a s ≡ Some (Boolean (truth (unwrap_or (value_of Answer a s) (Boolean false))))
   as_truth = answer_is d a fit types.Boolean (λ v. Boolean (truth v)) (truth_value (domains d a))
@@ -117,7 +120,7 @@ module _ (y : Year) (a : Answered) (fit : AnswersFit (dictionary (figures y)) a)
   on_persons [] h = tt
   on_persons (m ∷ ms) h = (on_person m (both_left (is_member a 26 m) (list_all (λ m. is_member a 26 m) ms) h), on_persons ms (both_right (is_member a 26 m) (list_all (λ m. is_member a 26 m) ms) h))
 
-  of_household : AreOfHousehold d a (household a)
+  pub of_household : AreOfHousehold d a (household a)
   of_household =
       let all = complete.on_return in
       record {
@@ -145,5 +148,5 @@ module _ (y : Year) (a : Answered) (fit : AnswersFit (dictionary (figures y)) a)
 pub household_is_there : (y : Year) → HouseholdIsThere y
 household_is_there y d o a fit complete =
     let same = o.facts in
-    let there : AreOfHousehold (dictionary (figures y)) a (household a) = of_household y a (subst (λ (t : Tree). AnswersFit t a) same fit) (subst (λ (t : Tree). AreComplete t a) same complete) in
+    let there : AreOfHousehold (dictionary (figures y)) a (household a) = of_household y [] a (subst (λ (t : Tree). AnswersFit t a) same fit) (subst (λ (t : Tree). AreComplete t a) same complete) in
     (household a, subst (λ (t : Tree). AreOfHousehold t a (household a)) (sym same) there)

@@ -1,7 +1,8 @@
 -- Where each fact has what is told of it, over values of lower rank, plain evaluation has all of it.
-use Rattle.std.proofs.Common.{◌≡◌, ℕ, zero, suc, ◌+◌, ◌<◌, Bool, true, false, ◌&&◌, IsTrue, nat_lt, pos, List, [], ◌∷◌, map, Option, Some, None, Ok, slice_get, refl, sym, ap, ◌∙◌, subst, arith}
+use Rattle.std.proofs.Common.{◌≡◌, ◌⊎◌, inl, inr, ℕ, zero, suc, ◌+◌, ◌<◌, Bool, true, false, ◌&&◌, IsTrue, nat_lt, pos, List, [], ◌∷◌, ◌++◌, length, map, Option, Some, None, Ok, slice_get, refl, sym, ap, ◌∙◌, subst, arith}
 use Rattle.std.specs.Prelude.{count_by, is_some, unwrap_or, if◌then◌else◌}
 use Rattle.std.specs.List.{list_all}
+use Rattle.std.specs.Option.{option_or}
 use Rattle.std.proofs.lemmas.Bool.Decides.{nat_tests}
 use Rattle.common_lemmas.proofs.Bools.{both}
 use Rattle.fact_paths.specs.declared.use_path.UsePath.{UsePath}
@@ -28,7 +29,7 @@ use Rattle.dictionary.specs.Reading.{Look, Place, dependency, outermost, read_by
 use Rattle.dictionary.specs.Slots.{stands}
 use Rattle.dictionary.proofs.PlainLaws.{joined_by_rank}
 use Rattle.dictionary.proofs.SlotLaws.{fact_of_standing}
-use Rattle.tax_2023.proofs.Told.{AllHaveTold, HasBody, HasTold, Told, is_members, known, knows_by, knows_member, knows_path, knows_slot, knows_source, list_of_path, list_told, member_read, member_told, told_at, value_by, value_in, value_of_path}
+use Rattle.tax_2023.proofs.Told.{AllHaveTold, HasBody, HasTold, Told, both_told, is_members, known, knows_by, knows_member, knows_path, knows_slot, knows_source, list_of_path, list_told, member_read, member_told, told_at, value_by, value_in, value_of_path}
 
 -- ---- the slots of which something is told
 
@@ -114,17 +115,17 @@ step d a told s f v look has (Some t) h =
     ap (λ o. or_override o (expression d.tree look s t)) h.0 ∙ (sure (known d a told look s.fact) (all_known d a told s.fact look has) t (outermost s.member) w.0 ∙ ap Complete w.1)
 
 -- the lemma of a fact, by its number
-found : (d : Accepted) (a : Answered) (told : Told) (n : ℕ) (fs : List Fact) → AllHaveTold d a told n fs → (i j : ℕ) → j ≡ n + i → (f : Fact) → slice_get fs i ≡ Some f → HasTold d a told j f (told j)
-found d a told n [] h i j e f is = absurd cc
-found d a told n (g ∷ fs) h zero j e f is =
+found : (d : Accepted) (a : Answered) (told own : Told) (n : ℕ) (fs : List Fact) → AllHaveTold d a told own n fs → (i j : ℕ) → j ≡ n + i → (f : Fact) → slice_get fs i ≡ Some f → HasTold d a told j f (own j)
+found d a told own n [] h i j e f is = absurd cc
+found d a told own n (g ∷ fs) h zero j e f is =
     let same : j ≡ n = omega arith in
     let one : g ≡ f = cc in
-    subst (λ k. HasTold d a told k f (told k)) (sym same) (subst (λ x. HasTold d a told n x (told n)) one h.0)
-found d a told n (g ∷ fs) h (suc i) j e f is = found d a told (suc n) fs h.1 i j (omega arith) f is
+    subst (λ k. HasTold d a told k f (own k)) (sym same) (subst (λ x. HasTold d a told n x (own n)) one h.0)
+found d a told own n (g ∷ fs) h (suc i) j e f is = found d a told own (suc n) fs h.1 i j (omega arith) f is
 
-found_at : (d : Accepted) (a : Answered) (told : Told) (fs : List Fact) → AllHaveTold d a told 1 fs → (j : ℕ) (f : Fact) → fact_at fs j ≡ Some f → HasTold d a told j f (told j)
-found_at d a told fs h zero f is = absurd cc
-found_at d a told fs h (suc i) f is = found d a told 1 fs h i (suc i) (omega arith) f is
+found_at : (d : Accepted) (a : Answered) (told own : Told) (fs : List Fact) → AllHaveTold d a told own 1 fs → (j : ℕ) (f : Fact) → fact_at fs j ≡ Some f → HasTold d a told j f (own j)
+found_at d a told own fs h zero f is = absurd cc
+found_at d a told own fs h (suc i) f is = found d a told own 1 fs h i (suc i) (omega arith) f is
 
 value_told : (o : Option (ℕ → Value)) (b : Bool) (m : ℕ) (v : Value) → value_if b o m ≡ Some v → IsTrue b × ((f : ℕ → Value) × (o ≡ Some f) × (f m ≡ v))
 value_told None true m v e = absurd cc
@@ -134,14 +135,45 @@ value_told o false m v e = absurd cc
 in_step : (o : Option Fact) (f : Fact) (b : Bool) (result : Fact → Res) (r : Res) → o ≡ Some f → IsTrue b → result f ≡ r → at_fact o None (λ g. if b then Some (result g) else None) ≡ Some r
 in_step o f b result r e h k = rw (e, h, k) refl
 
-pub joined : (names : List (List ℕ)) (d : Accepted) → IsAccepted names d → (a : Answered) (told : Told) → AllHaveTold d a told 1 d.tree.facts → (s : Slot) (v : Value) → told_slot d a told s ≡ Some v → plain d a s ≡ Some (Complete v)
-joined names d accepted a told all = joined_by_rank names d accepted a (told_slot d a told) one
+pub append_told : (d : Accepted) (a : Answered) (told own : Told) (n : ℕ) (fs : List Fact) (j : ℕ) (gs : List Fact) → j ≡ n + length fs → AllHaveTold d a told own n fs → AllHaveTold d a told own j gs → AllHaveTold d a told own n (fs ++ gs)
+append_told d a told own n [] j gs e p q = let same : j ≡ n = omega arith in subst (λ k. AllHaveTold d a told own k gs) same q
+append_told d a told own n (f ∷ fs) j gs e p q = (p.0, append_told d a told own (suc n) fs j gs (omega arith) p.1 q)
+
+-- a slot has its own value over what is told of those of lower rank
+one_step : (d : Accepted) (a : Answered) (told own : Told) → AllHaveTold d a told own 1 d.tree.facts → (s : Slot) (v : Value) → told_slot d a own s ≡ Some v → (look : Look) → HasKnown d (told_slot d a told) (rank d s.fact) look → plain_step d a look s ≡ Some (Complete v)
+one_step d a told own all s v e look has =
+    let t = value_told (own s.fact) (stands d.tree a s) s.member v e in
+    let there = fact_of_standing d.tree a s t.0 in
+    let f = there.0 in
+    let its = subst (HasTold d a told s.fact f) t.1.1 (found_at d a told own d.tree.facts all s.fact f there.1) in
+    in_step (fact_at d.tree.facts s.fact) f (stands d.tree a s) (slot_result d.tree a look s) (Complete v) there.1 t.0
+    (with_none d look s f.placeholder (main_result d.tree a look s f.stated (body f)) its.0 ∙ (step d a told s f (t.1.0 s.member) look has (body f) (its.1 s.member t.0) ∙ ap Complete t.1.2))
+
+pub joined : (names : List (List ℕ)) (d : Accepted) → IsAccepted names d → (a : Answered) (told : Told) → AllHaveTold d a told told 1 d.tree.facts → (s : Slot) (v : Value) → told_slot d a told s ≡ Some v → plain d a s ≡ Some (Complete v)
+joined names d accepted a told all = joined_by_rank names d accepted a (told_slot d a told) (one_step d a told told all)
+
+-- ---- more is told, of other facts
+
+still_told : (b : Bool) (o p : Option (ℕ → Value)) (m : ℕ) (v : Value) → value_if b o m ≡ Some v → value_if b (option_or o p) m ≡ Some v
+still_told true None p m v e = absurd cc
+still_told true (Some f) p m v e = e
+still_told false o p m v e = absurd cc
+
+is_either : (b : Bool) (o p : Option (ℕ → Value)) (m : ℕ) (v : Value) → value_if b (option_or o p) m ≡ Some v → (value_if b o m ≡ Some v) ⊎ (value_if b p m ≡ Some v)
+is_either b None p m v e = inr e
+is_either true (Some f) p m v e = inl e
+is_either false (Some f) p m v e = absurd cc
+
+pub joined_both : (names : List (List ℕ)) (d : Accepted) → IsAccepted names d → (a : Answered) (first more : Told) → AllHaveTold d a first first 1 d.tree.facts → AllHaveTold d a (both_told first more) more 1 d.tree.facts
+    → (s : Slot) (v : Value) → told_slot d a (both_told first more) s ≡ Some v → plain d a s ≡ Some (Complete v)
+joined_both names d accepted a first more all all_more = joined_by_rank names d accepted a (told_slot d a (both_told first more)) one
   where
-    one : (s : Slot) (v : Value) → told_slot d a told s ≡ Some v → (look : Look) → HasKnown d (told_slot d a told) (rank d s.fact) look → plain_step d a look s ≡ Some (Complete v)
+    of_first : (look : Look) (n : ℕ) → HasKnown d (told_slot d a (both_told first more)) n look → HasKnown d (told_slot d a first) n look
+    of_first look n has s v e low = has s v (still_told (stands d.tree a s) (first s.fact) (more s.fact) s.member v e) low
+
+    one : (s : Slot) (v : Value) → told_slot d a (both_told first more) s ≡ Some v → (look : Look) → HasKnown d (told_slot d a (both_told first more)) (rank d s.fact) look → plain_step d a look s ≡ Some (Complete v)
     one s v e look has =
-        let t = value_told (told s.fact) (stands d.tree a s) s.member v e in
-        let there = fact_of_standing d.tree a s t.0 in
-        let f = there.0 in
-        let its = subst (HasTold d a told s.fact f) t.1.1 (found_at d a told d.tree.facts all s.fact f there.1) in
-        in_step (fact_at d.tree.facts s.fact) f (stands d.tree a s) (slot_result d.tree a look s) (Complete v) there.1 t.0
-        (with_none d look s f.placeholder (main_result d.tree a look s f.stated (body f)) its.0 ∙ (step d a told s f (t.1.0 s.member) look has (body f) (its.1 s.member t.0) ∙ ap Complete t.1.2))
+        elim (is_either (stands d.tree a s) (first s.fact) (more s.fact) s.member v e) [
+          | inl f ↦ one_step d a first first all s v f look (of_first look (rank d s.fact) has)
+          | inr f ↦ one_step d a (both_told first more) more all_more s v f look has
+        ]

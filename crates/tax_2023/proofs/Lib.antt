@@ -1,4 +1,5 @@
 pub mod Ages
+pub mod Behind
 pub mod Complete
 pub mod Facts
 mod HouseholdExamples

@@ -11,7 +11,6 @@ use Rattle.dict_tree.specs.declared.operators.ManyOp.TheVariants.{Add, GreaterOf
 use Rattle.dict_tree.specs.declared.operators.TwoOp.TheVariants.{Multiply}
 use Rattle.value_text.specs.Dollars.{dollar_at}
 use Rattle.dict_tree.specs.Tree.{literal_dollar}
-use Rattle.dict_types.specs.TypedParts.{TypedDictionary}
 use Rattle.evaluation.specs.Operations.{many_value, two_value}
 use Rattle.evaluation.specs.Sure.{value_of}
 use Rattle.answers.specs.Answered.{Answered}
@@ -24,7 +23,7 @@ use Rattle.tax_2023.specs.Facts as facts
 use Rattle.tax_2023.specs.Laws.{IsModest, status_place}
 use Rattle.tax_2023.proofs.Ages.{is_gt-int_lt, is_lt-int_lt, under_is}
 use Rattle.tax_2023.proofs.Spells.{IsSmall, IsWritten, Shares}
-use Rattle.tax_2023.proofs.YearDictionary.{Worth}
+use Rattle.tax_2023.proofs.YearDictionary.{Rest, Worth}
 
 -- ---- bounds
 
@@ -33,14 +32,14 @@ pub record Between (a n b : ℤ) : Type 0 where
   pub low : a ≤ℤ n
   pub high : n ≤ℤ b
 
-in_range_of : (n : ℤ) → Between (negsuc 999999999999998) n (pos 999999999999999) → IsTrue (is_in_range n)
+pub in_range_of : (n : ℤ) → Between (negsuc 999999999999998) n (pos 999999999999999) → IsTrue (is_in_range n)
 in_range_of (pos n) h = lt-ltb n 1000000000000000 (omega (arith, ints, h.high))
 in_range_of (negsuc n) h = lt-ltb (suc n) 1000000000000000 (omega (arith, ints, h.low))
 
-abbrev IsBetweenModest : ℤ → Type 0
+abbrev pub IsBetweenModest : ℤ → Type 0
 IsBetweenModest n = Between (negsuc 99999999999999) n (pos 100000000000000)
 
-modest : (n : ℤ) → IsModest n → IsBetweenModest n
+pub modest : (n : ℤ) → IsModest n → IsBetweenModest n
 modest (pos n) h = record { low = omega (arith, ints, h); high = omega (arith, ints, h) }
 modest (negsuc n) h = record { low = omega (arith, ints, h); high = omega (arith, ints, h) }
 
@@ -137,7 +136,7 @@ chosen_between : (c : Bool) (a b l u : ℤ) → Between l a u → Between l b u 
 chosen_between true a b l u h k = h
 chosen_between false a b l u h k = k
 
-deduction_small : (y : Year) → IsWritten y → (h : Household) → Between (pos 0) (deduction y h) (pos 50000000)
+pub deduction_small : (y : Year) → IsWritten y → (h : Household) → Between (pos 0) (deduction y h) (pos 50000000)
 unfolding deduction
 deduction_small y w h =
     let b = box_total_small y w h in
@@ -151,28 +150,28 @@ deduction_small y w h =
 plus_none : (a : ℤ) → (a +ℤ pos 0) ≡ a
 plus_none a = omega (arith, ints)
 
-sum_is : (v w : Value) (a b : ℤ) → v ≡ Dollar a → w ≡ Dollar b → IsTrue (is_in_range (a +ℤ b)) → many_value Add (v ∷ w ∷ []) ≡ Ok (Dollar (a +ℤ b))
+pub sum_is : (v w : Value) (a b : ℤ) → v ≡ Dollar a → w ≡ Dollar b → IsTrue (is_in_range (a +ℤ b)) → many_value Add (v ∷ w ∷ []) ≡ Ok (Dollar (a +ℤ b))
 sum_is v w a b p q r = rw (p, q, plus_none b, r) refl
 
-difference_is : (v w : Value) (a b : ℤ) → v ≡ Dollar a → w ≡ Dollar b → IsTrue (is_in_range (a -ℤ b)) → many_value Subtract (v ∷ w ∷ []) ≡ Ok (Dollar (a -ℤ b))
+pub difference_is : (v w : Value) (a b : ℤ) → v ≡ Dollar a → w ≡ Dollar b → IsTrue (is_in_range (a -ℤ b)) → many_value Subtract (v ∷ w ∷ []) ≡ Ok (Dollar (a -ℤ b))
 difference_is v w a b p q r = rw (p, q, plus_none b, r) refl
 
-product_is : (v w : Value) (a b : ℤ) → v ≡ Dollar a → w ≡ Int b → IsTrue (is_in_range (a *ℤ b)) → two_value Multiply v w ≡ Ok (Dollar (a *ℤ b))
+pub product_is : (v w : Value) (a b : ℤ) → v ≡ Dollar a → w ≡ Int b → IsTrue (is_in_range (a *ℤ b)) → two_value Multiply v w ≡ Ok (Dollar (a *ℤ b))
 product_is v w a b p q r = rw (p, q, r) refl
 
 one_dollar : (c : Bool) (a b : ℤ) → (if c then Dollar a else Dollar b) ≡ Dollar (if c then a else b)
 one_dollar true a b = refl
 one_dollar false a b = refl
 
-greater_is : (v w : Value) (a b : ℤ) → v ≡ Dollar a → w ≡ Dollar b → value_of (many_value GreaterOf (v ∷ w ∷ [])) ≡ Dollar (greater_of a b)
+pub greater_is : (v w : Value) (a b : ℤ) → v ≡ Dollar a → w ≡ Dollar b → value_of (many_value GreaterOf (v ∷ w ∷ [])) ≡ Dollar (greater_of a b)
 greater_is v w a b p q = rw (p, q, is_lt-int_lt a b) (one_dollar (int_lt a b) b a)
 
-lesser_is : (v w : Value) (a b : ℤ) → v ≡ Dollar a → w ≡ Dollar b → value_of (many_value LesserOf (v ∷ w ∷ [])) ≡ Dollar (lesser_of a b)
+pub lesser_is : (v w : Value) (a b : ℤ) → v ≡ Dollar a → w ≡ Dollar b → value_of (many_value LesserOf (v ∷ w ∷ [])) ≡ Dollar (lesser_of a b)
 lesser_is v w a b p q = rw (p, q, is_gt-int_lt a b) (one_dollar (int_lt b a) b a)
 
 -- ---- the facts
 
-pub total_told : (y : Year) (t : TypedDictionary) (a : Answered) (h : Household) → IsModest h.earned_income → IsModest h.other_income → Worth y t a h 24 0 (Dollar (h.earned_income +ℤ h.other_income)) facts.total_income
+pub total_told : (y : Year) (t : Rest) (a : Answered) (h : Household) → IsModest h.earned_income → IsModest h.other_income → Worth y t a h 24 0 (Dollar (h.earned_income +ℤ h.other_income)) facts.total_income
 total_told y t a h e o =
     let i = modest h.earned_income e in
     let j = modest h.other_income o in
@@ -207,7 +206,7 @@ deduction_sure : (a m c f claimed separate : Bool) → a ≡ true → m ≡ true
     → ((((((((a && true) && true) && true) && true) && (m && true)) && c) && ((((m && true) && f) && true) || claimed)) || separate) ≡ true
 deduction_sure a m c f claimed separate p q r s = rw (p, q, r, s) refl
 
-pub deduction_told : (y : Year) (t : TypedDictionary) (a : Answered) (h : Household) → IsWritten y → IsModest h.earned_income → Worth y t a h 23 0 (Dollar (deduction y h)) (facts.standard_deduction (figures y))
+pub deduction_told : (y : Year) (t : Rest) (a : Answered) (h : Household) → IsWritten y → IsModest h.earned_income → Worth y t a h 23 0 (Dollar (deduction y h)) (facts.standard_deduction (figures y))
 unfolding deduction
 deduction_told y t a h w e =
     let r = sums y w h e in
@@ -236,7 +235,7 @@ deduction_told y t a h w e =
           ∙ ap (λ s. Dollar (if s && h.spouse_itemizes then pos 0 else (if h.can_be_claimed then claimed_amount y h else b) +ℤ z)) (is_separate-place (status h)),
     )
 
-pub taxable_told : (y : Year) (t : TypedDictionary) (a : Answered) (h : Household) → IsWritten y → IsModest h.earned_income → IsModest h.other_income → Worth y t a h 25 0 (Dollar (taxable_income y h)) facts.taxable_income
+pub taxable_told : (y : Year) (t : Rest) (a : Answered) (h : Household) → IsWritten y → IsModest h.earned_income → IsModest h.other_income → Worth y t a h 25 0 (Dollar (taxable_income y h)) facts.taxable_income
 unfolding taxable_income
 taxable_told y t a h w e o =
     let i = modest h.earned_income e in

@@ -8,7 +8,6 @@ use Rattle.common_lemmas.proofs.Bools.{both_left, both_right, or_right}
 use Rattle.common_lemmas.proofs.Numbers.{equal_number}
 use Rattle.fact_values.specs.declared.value.Value.{Value}
 use Rattle.fact_values.specs.declared.value.Value.TheVariants.{Boolean, Int, Members}
-use Rattle.dict_types.specs.TypedParts.{TypedDictionary}
 use Rattle.three_state.specs.Results.{truth}
 use Rattle.answers.specs.Answered.{Answered}
 use Rattle.tax_2023.specs.Household.{Dependent, Household}
@@ -16,7 +15,7 @@ use Rattle.tax_2023.specs.Years.{Year}
 use Rattle.tax_2023.specs.Tables.{dependents, is_dependent, is_qualifying_child, members, qualifying_children}
 use Rattle.tax_2023.specs.Facts as facts
 use Rattle.tax_2023.proofs.Values.{person}
-use Rattle.tax_2023.proofs.YearDictionary.{Worth}
+use Rattle.tax_2023.proofs.YearDictionary.{Rest, Worth}
 
 -- each person is the one whom the answers give for the number
 abbrev pub AreGiven : Answered → List Dependent → Type 0
@@ -69,11 +68,11 @@ counted a test ps o = sym (is_count_by count_true truth refl (λ x xs. refl) (ma
 abbrev pub IsOpen : Answered → Household → Type 0
 IsOpen a h = map_of.get a.lists 26 ≡ Some (members h.persons)
 
-pub list_told : (y : Year) (t : TypedDictionary) (a : Answered) (h : Household) → IsOpen a h → AreGiven a h.persons → Worth y t a h 42 0 (Members (members (dependents y h))) facts.dependent_list
+pub list_told : (y : Year) (t : Rest) (a : Answered) (h : Household) → IsOpen a h → AreGiven a h.persons → Worth y t a h 42 0 (Members (members (dependents y h))) facts.dependent_list
 list_told y t a h opened o = λ look. (rw (opened, all_members (members h.persons)) refl, ap Members (kept_members a (is_dependent y h) h.persons o))
 
-pub count_told : (y : Year) (t : TypedDictionary) (a : Answered) (h : Household) → IsOpen a h → AreGiven a h.persons → Worth y t a h 43 0 (Int (pos (length (dependents y h)))) facts.dependent_count
+pub count_told : (y : Year) (t : Rest) (a : Answered) (h : Household) → IsOpen a h → AreGiven a h.persons → Worth y t a h 43 0 (Int (pos (length (dependents y h)))) facts.dependent_count
 count_told y t a h opened o = λ look. (rw (opened, all_members (members h.persons)) refl, ap (λ n. Int (pos n)) (counted a (is_dependent y h) h.persons o))
 
-pub child_count_told : (y : Year) (t : TypedDictionary) (a : Answered) (h : Household) → IsOpen a h → AreGiven a h.persons → Worth y t a h 44 0 (Int (pos (length (qualifying_children y h)))) facts.qualifying_child_count
+pub child_count_told : (y : Year) (t : Rest) (a : Answered) (h : Household) → IsOpen a h → AreGiven a h.persons → Worth y t a h 44 0 (Int (pos (length (qualifying_children y h)))) facts.qualifying_child_count
 child_count_told y t a h opened o = λ look. (rw (opened, all_members (members h.persons)) refl, ap (λ n. Int (pos n)) (counted a (is_qualifying_child y h) h.persons o))

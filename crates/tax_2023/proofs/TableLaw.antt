@@ -1,4 +1,4 @@
--- The law of the tables, of the dictionary of a year.
+-- The law of the tables, of the facts of a year.
 use Rattle.std.proofs.Common.{◌≡◌, ℕ, IsTrue, nat_eq, pos, List, [], ◌∷◌, length, Some, Result, Ok, refl, sym, ap, ◌∙◌, subst}
 use Rattle.std.specs.List.{list_all, list_any}
 use Rattle.common_lemmas.proofs.Bools.{both}
@@ -35,10 +35,10 @@ use Rattle.tax_2023.proofs.Persons.{all_members, kept_members}
 use Rattle.tax_2023.proofs.Spells.{IsWritten, written_2023, written_2024}
 use Rattle.tax_2023.proofs.Told.{Told, known}
 use Rattle.tax_2023.proofs.Values.{person, told}
-use Rattle.tax_2023.proofs.YearDictionary.{of_year, parts, ranks, ranks_are}
+use Rattle.tax_2023.proofs.YearDictionary.{Rest, no_rest, of_year, parts, ranks, ranks_are}
 use Rattle.tax_2023.proofs.YearLaw.{all_told, are_given, given_is}
 
-module _ (y : Year) (written : IsWritten y) (t : TypedDictionary) (accepted : IsAccepted [] (of_year y t)) (a : Answered) (h : Household) (i : AreOfHousehold (dictionary (figures y)) a h) (earned : IsModest h.earned_income) (other : IsModest h.other_income) where
+module _ (y : Year) (written : IsWritten y) (t : Rest) (accepted : IsAccepted [] (of_year y t)) (a : Answered) (h : Household) (i : AreOfHousehold (dictionary (figures y)) a h) (earned : IsModest h.earned_income) (other : IsModest h.other_income) where
   abbrev d : Accepted
   d = of_year y t
 
@@ -80,7 +80,7 @@ module _ (y : Year) (written : IsWritten y) (t : TypedDictionary) (accepted : Is
       ∙ ap (λ o. Some (or_override o (expression d.tree (plain d a) (slot 45 0) facts.first_dependent))) (i.no_override (slot 45 0))
       ∙ ap (λ r. Some r) (found ∙ ap first_found (kept_members a (is_dependent y h) h.persons (are_given y a h.persons i.persons)))
 
-  tables : HasTables d y a h
+  pub tables : HasTables d y a h
   tables = record {
     filing_status = has (slot 19 0) (status_value (status h)) refl;
     basic_amount = has (slot 20 0) (Dollar (basic_amount y h)) refl;
@@ -95,13 +95,16 @@ module _ (y : Year) (written : IsWritten y) (t : TypedDictionary) (accepted : Is
     first_dependent = first;
   }
 
--- ---- any dictionary of the year has these facts and ranks
+-- ---- any dictionary with these facts has these ranks
 
-is_of_year : (y : Year) (d : Accepted) → IsOfYear y d → of_year y d.typed ≡ d
-is_of_year y d o =
-    let tested = subst (λ (x : Tree). IsTrue (are_ranks (mention_graph x) ranks)) (sym o.facts) (ranks_are (figures y)) in
-    let one : ranks ≡ d.ranks = only_one (mention_graph d.tree) ranks d.ranks (test_tells (mention_graph d.tree) ranks tested) o.is_accepted.ranked in
-    ap (λ (x : Tree). parts x d.typed ranks) (sym o.facts) ∙ ap (parts d.tree d.typed) one
+pub is_made_of : (d : Accepted) → IsAccepted [] d → (facts : Tree) → d.tree ≡ facts → (rs : List ℕ) → IsTrue (are_ranks (mention_graph facts) rs) → parts facts d.typed rs ≡ d
+is_made_of d i facts same rs are =
+    let tested = subst (λ (x : Tree). IsTrue (are_ranks (mention_graph x) rs)) (sym same) are in
+    let one : rs ≡ d.ranks = only_one (mention_graph d.tree) rs d.ranks (test_tells (mention_graph d.tree) rs tested) i.ranked in
+    ap (λ (x : Tree). parts x d.typed rs) (sym same) ∙ ap (parts d.tree d.typed) one
+
+is_of_year : (y : Year) (d : Accepted) → IsOfYear y d → of_year y (no_rest d.typed) ≡ d
+is_of_year y d o = is_made_of d o.is_accepted (dictionary (figures y)) o.facts ranks (ranks_are (figures y))
 
 -- ---- there is one
 
@@ -114,16 +117,16 @@ same_types d t u h k = let same : found t ≡ found u = sym (well_typed_is_found
 pub one_of_year : (y : Year) (d e : Accepted) → IsOfYear y d → IsOfYear y e → d ≡ e
 one_of_year y d e o p =
     let typed = subst (λ (x : Tree). IsTypedDictionary x [] d.typed) (o.facts ∙ sym p.facts) o.is_accepted.typed in
-    sym (is_of_year y d o) ∙ ap (of_year y) (same_types e.tree d.typed e.typed typed p.is_accepted.typed) ∙ is_of_year y e p
+    sym (is_of_year y d o) ∙ ap (λ (t : TypedDictionary). of_year y (no_rest t)) (same_types e.tree d.typed e.typed typed p.is_accepted.typed) ∙ is_of_year y e p
 
 -- ---- the law
 
 tables_hold : (y : Year) → IsWritten y → TablesHold y
 tables_hold y w d o a h i earned other =
     let same = is_of_year y d o in
-    let accepted : IsAccepted [] (of_year y d.typed) = subst (IsAccepted []) (sym same) o.is_accepted in
+    let accepted : IsAccepted [] (of_year y (no_rest d.typed)) = subst (IsAccepted []) (sym same) o.is_accepted in
     let household : AreOfHousehold (dictionary (figures y)) a h = subst (λ (t : Tree). AreOfHousehold t a h) o.facts i in
-    subst (λ (e : Accepted). HasTables e y a h) same (tables y w d.typed accepted a h household earned other)
+    subst (λ (e : Accepted). HasTables e y a h) same (tables y w (no_rest d.typed) accepted a h household earned other)
 
 pub tables_hold_2023 : TablesHold tables_2023
 tables_hold_2023 = tables_hold tables_2023 written_2023

@@ -2,6 +2,7 @@
 use Rattle.std.proofs.Common.{◌≡◌, ℕ, suc, Bool, true, false, ◌&&◌, IsTrue, nat_lt, pos, List, [], ◌∷◌, map, Option, Some, None}
 use Rattle.std.specs.Prelude.{count_by, is_some}
 use Rattle.std.specs.List.{list_all}
+use Rattle.std.specs.Option.{option_or}
 use Rattle.fact_paths.specs.declared.use_path.UsePath.{UsePath}
 use Rattle.fact_paths.specs.declared.use_path.UsePath.TheVariants.{Global, Sibling, Inner, Each, Through, SiblingThrough}
 use Rattle.fact_values.specs.declared.slot.Slot.{Slot}
@@ -121,7 +122,11 @@ abbrev pub HasTold : Accepted → Answered → Told → ℕ → Fact → Option 
 HasTold d a told n f None = Unit {0}
 HasTold d a told n f (Some value) = (f.placeholder ≡ None) × ((m : ℕ) → IsTrue (stands d.tree a (slot n m)) → HasBody d a told f (slot n m) (value m) (body f))
 
--- of facts that are counted from n
-abbrev pub AllHaveTold : Accepted → Answered → Told → ℕ → List Fact → Type 0
-AllHaveTold d a told n [] = Unit {0}
-AllHaveTold d a told n (f ∷ fs) = HasTold d a told n f (told n) × AllHaveTold d a told (suc n) fs
+-- of facts that are counted from n: they have these values, where all that is told is so of lower ones
+abbrev pub AllHaveTold : Accepted → Answered → Told → Told → ℕ → List Fact → Type 0
+AllHaveTold d a told own n [] = Unit {0}
+AllHaveTold d a told own n (f ∷ fs) = HasTold d a told n f (own n) × AllHaveTold d a told own (suc n) fs
+
+-- what is told first, and of other facts what is told besides
+abbrev pub both_told : Told → Told → Told
+both_told first more n = option_or (first n) (more n)

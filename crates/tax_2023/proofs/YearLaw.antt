@@ -1,14 +1,14 @@
--- Every fact of the dictionary of a year has the value of the tables.
-use Rattle.std.proofs.Common.{◌≡◌, ℕ, zero, suc, ◌+◌, ◌||◌, ◌+ℤ◌, pos, ◌++◌, length, Bool, true, false, IsTrue, nat_eq, List, [], ◌∷◌, Some, None, refl, sym, ap, ◌∙◌, subst, arith}
+-- Every fact of a year has the value of the tables, also in a dictionary with further facts behind them.
+use Rattle.std.proofs.Common.{◌≡◌, ℕ, zero, suc, ◌+◌, ◌≤◌, ◌||◌, ◌+ℤ◌, pos, ◌++◌, length, Bool, true, false, IsTrue, nat_eq, List, [], ◌∷◌, Option, Some, None, option_map, refl, sym, ap, ◌∙◌, subst, arith}
 use Rattle.std.specs.FinMap as map
 use Rattle.std.specs.List.{list_any}
+use Rattle.std.proofs.lemmas.Option.{slice_get_past}
 use Rattle.common_lemmas.proofs.Numbers.{same_number}
 use Rattle.fact_values.specs.declared.slot.Slot.{Slot}
 use Rattle.fact_values.specs.declared.value.Value.{Value}
 use Rattle.fact_values.specs.declared.value.Value.TheVariants.{Boolean, Day, Dollar, Int, Members}
 use Rattle.dict_tree.specs.Tree.{Source}
 use Rattle.dict_tree.specs.Facts.{Fact}
-use Rattle.dict_types.specs.TypedParts.{TypedDictionary}
 use Rattle.answers.specs.Answered.{Answered, value_of}
 use Rattle.answers.specs.declared.edit.Side.TheVariants.{Answer, Override}
 use Rattle.dictionary.specs.Plain.{open_list}
@@ -23,12 +23,13 @@ use Rattle.tax_2023.specs.Answers.{AreOfHousehold, AreOnPerson, AreOnPersons}
 use Rattle.tax_2023.specs.Laws.{IsModest, status_value}
 use Rattle.tax_2023.specs.Tables.{basic_amount, box_amount, boxes, deduction, dependents, is_joint, is_unmarried, members, qualifying_children, status, taxable_income}
 use Rattle.tax_2023.proofs.Facts.{additional_told, basic_told, boxes_told, child_told, dependent_told, filing_status_told, joint_told, relative_told, under_age_told, unmarried_told, younger_told}
+use Rattle.tax_2023.proofs.Join.{append_told}
 use Rattle.tax_2023.proofs.Money.{deduction_told, taxable_told, total_told}
 use Rattle.tax_2023.proofs.Persons.{AreGiven, child_count_told, count_told, list_told}
 use Rattle.tax_2023.proofs.Spells.{IsWritten}
-use Rattle.tax_2023.proofs.Told.{AllHaveTold}
-use Rattle.tax_2023.proofs.Values.{person, told}
-use Rattle.tax_2023.proofs.YearDictionary.{Worth, of_year}
+use Rattle.tax_2023.proofs.Told.{AllHaveTold, HasTold}
+use Rattle.tax_2023.proofs.Values.{entries, entry_value, person, told}
+use Rattle.tax_2023.proofs.YearDictionary.{Rest, Worth, of_year}
 
 -- ---- the persons whom the answers give
 
@@ -55,7 +56,7 @@ on_member y a (p ∷ ps) i m st = on_first y a p m (list_any (nat_eq m) (members
 
 -- ---- facts that stand once
 
-at_zero : (P : ℕ → Type 0) → P 0 → (m : ℕ) → IsTrue (nat_eq m 0) → P m
+pub at_zero : (P : ℕ → Type 0) → P 0 → (m : ℕ) → IsTrue (nat_eq m 0) → P m
 at_zero P p zero st = p
 at_zero P p (suc m) st = let none = same_number (suc m) 0 st in absurd (omega arith)
 
@@ -66,23 +67,22 @@ asked_once a n v e = at_zero (λ m. value_of Answer a (slot n m) ≡ Some v) e
 abbrev IsFree : Answered → Type 0
 IsFree a = (s : Slot) → value_of Override a s ≡ None
 
-derived_once : (y : Year) (t : TypedDictionary) (a : Answered) (h : Household) → IsFree a → (n : ℕ) (v : Value) (e : Source) → Worth y t a h n 0 v e
+derived_once : (y : Year) (t : Rest) (a : Answered) (h : Household) → IsFree a → (n : ℕ) (v : Value) (e : Source) → Worth y t a h n 0 v e
     → (m : ℕ) → IsTrue (nat_eq m 0) → (value_of Override a (slot n m) ≡ None) × Worth y t a h n m v e
 derived_once y t a h free n v e w m st = (free (slot n m), at_zero (λ m. Worth y t a h n m v e) w m st)
 
 -- ---- all facts
 
-module _ (y : Year) (t : TypedDictionary) (a : Answered) (h : Household) (i : AreOfHousehold (dictionary (figures y)) a h) where
+module _ (y : Year) (t : Rest) (a : Answered) (h : Household) (i : AreOfHousehold (dictionary (figures y)) a h) where
   opened : map.get a.lists 26 ≡ Some (members h.persons)
   opened = i.opened
 
   -- the facts from n on have what is told
   abbrev Told_from : ℕ → List Fact → Type 0
-  Told_from n fs = AllHaveTold (of_year y t) a (told y h (person a)) n fs
+  Told_from n fs = AllHaveTold (of_year y t) a (told y h (person a)) (told y h (person a)) n fs
 
-  append_told : (n : ℕ) (fs : List Fact) (j : ℕ) (gs : List Fact) → j ≡ n + length fs → Told_from n fs → Told_from j gs → Told_from n (fs ++ gs)
-  append_told n [] j gs e p q = let same : j ≡ n = omega arith in subst (λ k. Told_from k gs) same q
-  append_told n (f ∷ fs) j gs e p q = (p.0, append_told (suc n) fs j gs (omega arith) p.1 q)
+  append : (n : ℕ) (fs : List Fact) (j : ℕ) (gs : List Fact) → j ≡ n + length fs → Told_from n fs → Told_from j gs → Told_from n (fs ++ gs)
+  append = append_told (of_year y t) a (told y h (person a)) (told y h (person a))
 
   on : (m : ℕ) → IsTrue (is_member a 26 m) → AreOnPerson (dictionary (figures y)) a (person a m)
   on m st = on_member y a h.persons i.persons m (rw opened at st)
@@ -108,12 +108,27 @@ module _ (y : Year) (t : TypedDictionary) (a : Answered) (h : Household) (i : Ar
       let given = are_given y a h.persons i.persons in
       ((refl, derived_once y t a h i.no_override 42 (Members (members (dependents y h))) facts.dependent_list (list_told y t a h opened given)), ((refl, derived_once y t a h i.no_override 43 (Int (pos (length (dependents y h)))) facts.dependent_count (count_told y t a h opened given)), ((refl, derived_once y t a h i.no_override 44 (Int (pos (length (qualifying_children y h)))) facts.qualifying_child_count (child_count_told y t a h opened given)), (tt, tt))))
 
-  pub all_told : IsWritten y → IsModest h.earned_income → IsModest h.other_income → Told_from 1 (facts.facts (figures y))
+  -- nothing is told of what stands behind the facts of the year
+  rest_told : (n : ℕ) (fs : List Fact) → 45 ≤ n → Told_from n fs
+  rest_told n [] le = tt
+  rest_told n (f ∷ fs) le = (untold n f le, rest_told (suc n) fs (omega arith))
+    where
+      none : (o : Option (ℕ → Value)) (n : ℕ) (f : Fact) → o ≡ None → HasTold (of_year y t) a (told y h (person a)) n f o
+      none None n f e = tt
+      none (Some v) n f e = absurd cc
+
+      untold : (n : ℕ) (f : Fact) → 45 ≤ n → HasTold (of_year y t) a (told y h (person a)) n f (told y h (person a) n)
+      untold zero f le = absurd (omega arith)
+      untold (suc i) f le = none (told y h (person a) (suc i)) (suc i) f (ap (option_map (entry_value h (person a))) (slice_get_past (entries y) i (omega arith)))
+
+  pub all_told : IsWritten y → IsModest h.earned_income → IsModest h.other_income → Told_from 1 (facts.facts (figures y) ++ t.facts)
   all_told w e o =
       let fourth = facts.tests (figures y) ++ facts.counts in
       let third = facts.persons ++ fourth in
       let second = facts.filed (figures y) ++ third in
-      append_told 1 facts.filer 17 second refl filer_told
-      (append_told 17 (facts.filed (figures y)) 26 third refl (filed_told w e o)
-      (append_told 26 facts.persons 37 fourth refl persons_told
-      (append_told 37 (facts.tests (figures y)) 42 facts.counts refl (tests_told w) counts_told)))
+      append 1 (facts.facts (figures y)) 46 t.facts refl
+      (append 1 facts.filer 17 second refl filer_told
+      (append 17 (facts.filed (figures y)) 26 third refl (filed_told w e o)
+      (append 26 facts.persons 37 fourth refl persons_told
+      (append 37 (facts.tests (figures y)) 42 facts.counts refl (tests_told w) counts_told))))
+      (rest_told 46 t.facts (omega arith))
