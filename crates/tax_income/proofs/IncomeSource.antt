@@ -1,0 +1,18 @@
+-- The source takes the facts behind those of the year, group by group.
+use Rattle.std.proofs.Common.{IsTrue, List, refl}
+use Rattle.written_facts.specs.Figures.{Named}
+use Rattle.written_facts.specs.Taking.{takes_all}
+use Rattle.tax_2023.specs.Facts.{dictionary}
+use Rattle.tax_income.specs.Facts.{children, credit, ends, taxes, with_children, with_ends, with_taxes}
+
+pub ends_taken : (fs : List Named) → IsTrue (takes_all (dictionary fs) ends)
+ends_taken fs = refl
+
+pub taxes_taken : (fs : List Named) → IsTrue (takes_all (with_ends fs) taxes)
+taxes_taken fs = refl
+
+pub children_taken : (fs : List Named) → IsTrue (takes_all (with_taxes fs) children)
+children_taken fs = refl
+
+pub credit_taken : (fs : List Named) → IsTrue (takes_all (with_children fs) credit)
+credit_taken fs = refl

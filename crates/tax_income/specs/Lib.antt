@@ -1,0 +1,5 @@
+pub mod Answers
+pub mod Bands
+pub mod Facts
+pub mod Laws
+pub mod Tables

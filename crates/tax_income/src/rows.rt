@@ -1,0 +1,290 @@
+// The facts behind those of the year.
+use crate::reads::*;
+use dict_tree::ManyOp::{Add, All, GreaterOf, LesserOf, Subtract};
+use dict_tree::OneOp::{Not, Round};
+use dict_tree::ReadOp::Count;
+use dict_tree::TwoOp::{Divide, GreaterThan, Multiply};
+use written_facts::Fixed::Dollar;
+use written_facts::Form::{Const, Many, One, Read, Switch, Two};
+use written_facts::Row::{Asked, Derived};
+use written_facts::{Form, Kind, Row, When};
+
+/// The upper ends of the bands of the 2023 tax rate schedules.
+pub const ENDS: &'static [Row<'static>] = &[
+    Derived(
+        "/end10",
+        Kind::Dollar,
+        Switch(&[
+            When(IS_COUPLE, Const(Dollar("22000.00"))),
+            When(IS_HEAD, Const(Dollar("15700.00"))),
+            When(IS_SEPARATE, Const(Dollar("11000.00"))),
+            When(OTHERWISE, Const(Dollar("11000.00"))),
+        ]),
+    ),
+    Derived(
+        "/end12",
+        Kind::Dollar,
+        Switch(&[
+            When(IS_COUPLE, Const(Dollar("89450.00"))),
+            When(IS_HEAD, Const(Dollar("59850.00"))),
+            When(IS_SEPARATE, Const(Dollar("44725.00"))),
+            When(OTHERWISE, Const(Dollar("44725.00"))),
+        ]),
+    ),
+    Derived(
+        "/end22",
+        Kind::Dollar,
+        Switch(&[
+            When(IS_COUPLE, Const(Dollar("190750.00"))),
+            When(IS_HEAD, Const(Dollar("95350.00"))),
+            When(IS_SEPARATE, Const(Dollar("95375.00"))),
+            When(OTHERWISE, Const(Dollar("95375.00"))),
+        ]),
+    ),
+    Derived(
+        "/end24",
+        Kind::Dollar,
+        Switch(&[
+            When(IS_COUPLE, Const(Dollar("364200.00"))),
+            When(IS_HEAD, Const(Dollar("182100.00"))),
+            When(IS_SEPARATE, Const(Dollar("182100.00"))),
+            When(OTHERWISE, Const(Dollar("182100.00"))),
+        ]),
+    ),
+    Derived(
+        "/end32",
+        Kind::Dollar,
+        Switch(&[
+            When(IS_COUPLE, Const(Dollar("462500.00"))),
+            When(IS_HEAD, Const(Dollar("231250.00"))),
+            When(IS_SEPARATE, Const(Dollar("231250.00"))),
+            When(OTHERWISE, Const(Dollar("231250.00"))),
+        ]),
+    ),
+    Derived(
+        "/end35",
+        Kind::Dollar,
+        Switch(&[
+            When(IS_COUPLE, Const(Dollar("693750.00"))),
+            When(IS_HEAD, Const(Dollar("578100.00"))),
+            When(IS_SEPARATE, Const(Dollar("346875.00"))),
+            When(OTHERWISE, Const(Dollar("578125.00"))),
+        ]),
+    ),
+];
+
+/// The tax of each band, and of all.
+pub const TAXES: &'static [Row<'static>] = &[
+    Derived(
+        "/tax10",
+        Kind::Dollar,
+        Two(
+            Multiply,
+            &Many(LesserOf, &[TAXABLE_INCOME, END_10]),
+            &RATE_10,
+        ),
+    ),
+    Derived(
+        "/tax12",
+        Kind::Dollar,
+        Two(
+            Multiply,
+            &Many(
+                GreaterOf,
+                &[
+                    ZERO_DOLLARS,
+                    Many(
+                        Subtract,
+                        &[Many(LesserOf, &[TAXABLE_INCOME, END_12]), END_10],
+                    ),
+                ],
+            ),
+            &RATE_12,
+        ),
+    ),
+    Derived(
+        "/tax22",
+        Kind::Dollar,
+        Two(
+            Multiply,
+            &Many(
+                GreaterOf,
+                &[
+                    ZERO_DOLLARS,
+                    Many(
+                        Subtract,
+                        &[Many(LesserOf, &[TAXABLE_INCOME, END_22]), END_12],
+                    ),
+                ],
+            ),
+            &RATE_22,
+        ),
+    ),
+    Derived(
+        "/tax24",
+        Kind::Dollar,
+        Two(
+            Multiply,
+            &Many(
+                GreaterOf,
+                &[
+                    ZERO_DOLLARS,
+                    Many(
+                        Subtract,
+                        &[Many(LesserOf, &[TAXABLE_INCOME, END_24]), END_22],
+                    ),
+                ],
+            ),
+            &RATE_24,
+        ),
+    ),
+    Derived(
+        "/tax32",
+        Kind::Dollar,
+        Two(
+            Multiply,
+            &Many(
+                GreaterOf,
+                &[
+                    ZERO_DOLLARS,
+                    Many(
+                        Subtract,
+                        &[Many(LesserOf, &[TAXABLE_INCOME, END_32]), END_24],
+                    ),
+                ],
+            ),
+            &RATE_32,
+        ),
+    ),
+    Derived(
+        "/tax35",
+        Kind::Dollar,
+        Two(
+            Multiply,
+            &Many(
+                GreaterOf,
+                &[
+                    ZERO_DOLLARS,
+                    Many(
+                        Subtract,
+                        &[Many(LesserOf, &[TAXABLE_INCOME, END_35]), END_32],
+                    ),
+                ],
+            ),
+            &RATE_35,
+        ),
+    ),
+    Derived(
+        "/tax37",
+        Kind::Dollar,
+        Two(
+            Multiply,
+            &Many(
+                GreaterOf,
+                &[ZERO_DOLLARS, Many(Subtract, &[TAXABLE_INCOME, END_35])],
+            ),
+            &RATE_37,
+        ),
+    ),
+    Derived(
+        "/scheduleTax",
+        Kind::Dollar,
+        Many(
+            Add,
+            &[TAX_10, TAX_12, TAX_22, TAX_24, TAX_32, TAX_35, TAX_37],
+        ),
+    ),
+];
+
+/// For whom there is a credit.
+pub const CHILDREN: &'static [Row<'static>] = &[
+    // as the credit needs it
+    Asked("/dependents/*/hasNumber", Kind::Boolean),
+    Derived(
+        "/dependents/*/creditChild",
+        Kind::Boolean,
+        Many(
+            All,
+            &[
+                THEIR_QUALIFYING_CHILD,
+                Two(GreaterThan, &THEIR_DATE_OF_BIRTH, &UNDER_17_AFTER),
+                THEIR_HAS_NUMBER,
+            ],
+        ),
+    ),
+    Derived(
+        "/dependents/*/otherDependent",
+        Kind::Boolean,
+        Many(All, &[THEY_DEPEND, One(Not, &THEIR_CREDIT_CHILD)]),
+    ),
+];
+
+// The credit as far as it isn't reduced away.
+const REDUCED: Form<'static> = Many(
+    GreaterOf,
+    &[ZERO_DOLLARS, Many(Subtract, &[CREDIT_BASE, REDUCTION])],
+);
+
+/// The credit, and what is left of the tax.
+pub const CREDIT: &'static [Row<'static>] = &[
+    Derived(
+        "/creditChildCount",
+        Kind::Int,
+        Read(Count, "/dependents/*/creditChild"),
+    ),
+    Derived(
+        "/otherDependentCount",
+        Kind::Int,
+        Read(Count, "/dependents/*/otherDependent"),
+    ),
+    Derived(
+        "/creditBase",
+        Kind::Dollar,
+        Many(
+            Add,
+            &[
+                Two(Multiply, &FOR_A_CHILD, &CREDIT_CHILD_COUNT),
+                Two(Multiply, &FOR_ANOTHER, &OTHER_DEPENDENT_COUNT),
+            ],
+        ),
+    ),
+    Derived(
+        "/excess",
+        Kind::Dollar,
+        Many(
+            GreaterOf,
+            &[
+                ZERO_DOLLARS,
+                Many(
+                    Subtract,
+                    &[
+                        TOTAL_INCOME,
+                        Switch(&[When(IS_JOINT, LIMIT_JOINTLY), When(OTHERWISE, LIMIT_OTHERS)]),
+                    ],
+                ),
+            ],
+        ),
+    ),
+    Derived(
+        "/reduction",
+        Kind::Dollar,
+        Two(
+            Multiply,
+            &One(
+                Round,
+                &Two(Divide, &Many(Add, &[EXCESS, BELOW_HALF]), &THOUSAND),
+            ),
+            &FOR_A_THOUSAND,
+        ),
+    ),
+    Derived(
+        "/childCredit",
+        Kind::Dollar,
+        Many(LesserOf, &[SCHEDULE_TAX, REDUCED]),
+    ),
+    Derived(
+        "/taxAfterCredits",
+        Kind::Dollar,
+        Many(Subtract, &[SCHEDULE_TAX, CHILD_CREDIT]),
+    ),
+];
