@@ -1,6 +1,6 @@
 -- A script on its way: steps, lines, and pieces of bytes one behind another.
 use Rattle.std.proofs.Common.{◌≡◌, ℕ, ◌-◌, ◌≤◌, Bool, true, false, List, [], ◌∷◌, ◌++◌, length, take, drop, Option, refl, sym, ap, subst, ◌∙◌, arith, append_assoc, length-drop}
-use Rattle.std.specs.Prelude.{Ok, if◌then◌else◌}
+use Rattle.std.specs.Prelude.{Ok}
 use Rattle.std.proofs.lemmas.List.{append-nil, take_all}
 use Rattle.fg_io.specs.Sent.{Sent}
 use Rattle.fg_io.proofs.SentLaws.{sent_none, sent_on}
