@@ -1,0 +1,11 @@
+pub mod AfterLaws
+pub mod Changers
+pub mod FitLaws
+pub mod KeptLaws
+pub mod LookLaws
+pub mod OrderLaws
+pub mod PartyLaws
+pub mod SeenLaws
+pub mod StampLaws
+pub mod StandLaws
+pub mod StepLaws

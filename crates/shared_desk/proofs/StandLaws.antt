@@ -1,0 +1,163 @@
+-- What is kept of a desk goes on to stand for it.
+use Rattle.std.proofs.Common.{◌≡◌, ℕ, suc, ◌+◌, ◌≤◌, Bool, true, false, ◌&&◌, ◌||◌, nat_eq, nat_le, if◌then◌else◌, [], ◌∷◌, ◌++◌, Option, Some, None, refl, sym, ap, ◌∙◌, subst, arith}
+use Rattle.std.specs.Prelude.{Ok, IfErr, IfOk, OnOk, Result, Err, option_map}
+use Rattle.fact_paths.specs.declared.slot_path.SlotPath.{SlotPath}
+use Rattle.fact_values.specs.declared.slot.Slot.{Slot}
+use Rattle.script_lines.specs.declared.command.Command.{Command}
+use Rattle.script_lines.specs.declared.command.Command.TheVariants as commands
+use Rattle.session_undo.specs.Timeline.{Timeline}
+use Rattle.graph_session.specs.Counts.{stamp_of}
+use Rattle.graph_session.specs.Naming.{slot_of}
+use Rattle.graph_session.specs.Rules.{tree_of}
+use Rattle.graph_session.specs.SessionView.{Course, course, moved}
+use Rattle.graph_session.specs.Step.{refusal, step}
+use Rattle.graph_session.specs.declared.reply.Reply.{Reply}
+use Rattle.shared_desk.specs.Desk.{Desk, absent_refusals, changer, course_after, desk_after, desk_refusal, desk_step, early, edited, entrant, entries_after, first_early, is_change, is_party, is_shown, is_touched, other, owner, place_of, shown, stale, stale_named, stale_since}
+use Rattle.shared_desk.specs.DeskView.{DeskView, IsOrderly, Keeps, StandsFor, kept_desk, rules_of}
+use Rattle.shared_desk.specs.Looks.{look_in}
+use Rattle.shared_desk.specs.Refusals.{Refused}
+use Rattle.shared_desk.specs.declared.refusal.DeskRefusal.{DeskRefusal}
+use Rattle.shared_desk.specs.declared.refusal.DeskRefusal.TheVariants.{Session}
+use Rattle.shared_desk.proofs.AfterLaws.{after_by, after_change, after_question}
+use Rattle.shared_desk.proofs.LookLaws.{and_false, kept_asked, kept_changed, looked_low}
+use Rattle.shared_desk.proofs.OrderLaws.{order_stays, touch_at}
+use Rattle.shared_desk.proofs.StepLaws.{accepted_step, early_refusal, late_refusal, late_step, refused_self}
+
+-- ---- the same refusals
+
+or_again : (a b : Bool) → ((a || b) || b) ≡ (a || b)
+or_again true b = refl
+or_again false true = refl
+or_again false false = refl
+
+module _ (v : DeskView) (d : Desk) (p : ℕ) (f : StandsFor v d) where
+  stale_same : (s : Slot) → stale (kept_desk v) p s ≡ stale d p s
+  stale_same s =
+      (λ i. stale_since p (look_in v.asked p s) (stamp_of (f.course i).counts s) (changer (f.changers i) (stamp_of (f.course i).counts s)))
+      ∙ ap (λ (b : Bool). if b then None else Some (stamp_of d.course.counts s)) (sym (ap (λ (b : Bool). b || own) (f.looks p s) ∙ or_again (nat_le (stamp_of d.course.counts s) (look_in v.asked p s)) own))
+    where
+      own : Bool
+      own = is_party p (changer d.changers (stamp_of d.course.counts s))
+
+  stale_named_same : (o : Option SlotPath) → stale_named (tree_of (rules_of v)) (kept_desk v) p o ≡ stale_named (tree_of (rules_of v)) d p o
+  stale_named_same None = refl
+  stale_named_same (Some path) = stale_same (slot_of (tree_of (rules_of v)) path)
+
+  owner_same : (c : Command) → owner (kept_desk v) p c ≡ owner d p c
+  owner_same commands.Undo = λ i. other p (entrant (f.entries i) (place_of (f.course i)))
+  owner_same commands.Redo = λ i. other p (entrant (f.entries i) (suc (place_of (f.course i))))
+  owner_same c = refl
+
+  pub early_same : (c : Command) → early (rules_of v) (kept_desk v) p c ≡ early (rules_of v) d p c
+  early_same c = λ i. first_early (absent_refusals (rules_of v) (f.course i).timeline.now c) (stale_named_same (edited c) i) (owner_same c i)
+
+-- ---- after an accepted line
+
+-- a change shows no slot
+shows_none : (c : Command) → is_change c ≡ true → shown c ≡ None
+shows_none (commands.Get path) e = absurd cc
+shows_none (commands.Final path) e = absurd cc
+shows_none (commands.Stamp path) e = absurd cc
+shows_none c e = refl
+
+module _ (v w : DeskView) (d : Desk) (p : ℕ) (c : Command) (said : Reply) (f : StandsFor v d) (ok : step (rules_of v) (course v.session) c ≡ Ok (said, course w.session)) (k : Keeps v p c w) where
+  leads : course w.session ≡ course_after (rules_of v) d.course c
+  leads = (accepted_step (rules_of v) (course v.session) (course w.session) c said ok).1.1 ∙ ap (λ (s : Course). course_after (rules_of v) s c) f.course
+
+  changes_same : v.session.changes ≡ d.course.changes
+  changes_same = ap (λ (s : Course). s.changes) f.course
+
+  entries_same : w.entries ≡ entries_after d.entries (place_of d.course) p c
+  entries_same = k.entries ∙ (λ i. entries_after (f.entries i) (place_of (f.course i)) p c)
+
+  -- the looks that are kept
+  kept_after : (b : Bool) (q : ℕ) (s : Slot) → (nat_eq q p && is_shown (tree_of (rules_of v)) (shown c) s) ≡ b → look_in w.asked q s ≡ if b then d.course.changes else look_in v.asked q s
+  kept_after b q s e = k.looks q s ∙ (λ i. if e i then changes_same i else look_in v.asked q s)
+
+  kept_low : (q : ℕ) (s : Slot) → look_in w.asked q s ≤ d.course.changes
+  kept_low q s =
+      let b = nat_eq q p && is_shown (tree_of (rules_of v)) (shown c) s in
+      subst (λ (n : ℕ). n ≤ d.course.changes) (sym (kept_after b q s refl)) (looked_low b d.course.changes (look_in v.asked q s) d.course.changes (omega arith) (f.kept q s))
+
+  stand_changed : (to : Timeline) → is_change c ≡ true → course w.session ≡ moved (rules_of v).accepted d.course to → IsOrderly (after_by (rules_of v) d p c true (moved (rules_of v).accepted d.course to))
+      → StandsFor w (after_by (rules_of v) d p c true (moved (rules_of v).accepted d.course to))
+  stand_changed to is there orderly = record {
+    orderly = orderly;
+    course = there;
+    changers = k.changers ∙ (λ i. if is i then f.changers i ++ p ∷ [] else f.changers i);
+    entries = entries_same;
+    kept = λ q s. let low = kept_low q s in omega (arith, low);
+    looks = looks_same;
+  }
+    where
+      kept_is : (q : ℕ) (s : Slot) → look_in w.asked q s ≡ look_in v.asked q s
+      kept_is q s = kept_after false q s (ap (λ (o : Option SlotPath). nat_eq q p && is_shown (tree_of (rules_of v)) o s) (shows_none c is) ∙ and_false (nat_eq q p))
+
+      looks_same : (q : ℕ) (s : Slot) → nat_le (stamp_of (moved (rules_of v).accepted d.course to).counts s) (if nat_eq q p && is_touched (rules_of v).accepted d.course.timeline.now to.now s then d.course.changes + 1 else d.looks q s)
+          ≡ (nat_le (stamp_of (moved (rules_of v).accepted d.course to).counts s) (look_in w.asked q s) || is_party q (changer (d.changers ++ p ∷ []) (stamp_of (moved (rules_of v).accepted d.course to).counts s)))
+      looks_same q s =
+          kept_changed d.course.changes p d.changers f.orderly.numbered q (stamp_of d.course.counts s) (stamp_of (moved (rules_of v).accepted d.course to).counts s) (d.looks q s) (look_in v.asked q s)
+          (is_touched (rules_of v).accepted d.course.timeline.now to.now s) (f.orderly.stamps s) (f.orderly.looks q s) (f.kept q s) (f.looks q s) (touch_at (rules_of v) d p c f.orderly to s)
+          ∙ ap (λ (n : ℕ). nat_le (stamp_of (moved (rules_of v).accepted d.course to).counts s) n || is_party q (changer (d.changers ++ p ∷ []) (stamp_of (moved (rules_of v).accepted d.course to).counts s))) (sym (kept_is q s))
+
+  stand_asked : is_change c ≡ false → course w.session ≡ d.course → IsOrderly (after_by (rules_of v) d p c false d.course) → StandsFor w (after_by (rules_of v) d p c false d.course)
+  stand_asked is there orderly = record {
+    orderly = orderly;
+    course = there;
+    changers = k.changers ∙ (λ i. if is i then f.changers i ++ p ∷ [] else f.changers i);
+    entries = entries_same;
+    kept = kept_low;
+    looks = λ q s.
+        let b = nat_eq q p && is_shown (tree_of (rules_of v)) (shown c) s in
+        kept_asked (stamp_of d.course.counts s) d.course.changes (d.looks q s) (look_in v.asked q s) b (is_party q (changer d.changers (stamp_of d.course.counts s))) (f.orderly.stamps s) (f.looks q s)
+        ∙ ap (λ (n : ℕ). nat_le (stamp_of d.course.counts s) n || is_party q (changer d.changers (stamp_of d.course.counts s))) (sym (kept_after b q s refl));
+  }
+
+  pub stands_after : StandsFor w (desk_after (rules_of v) d p c)
+  stands_after = at (is_change c) refl
+    where
+      orderly : IsOrderly (desk_after (rules_of v) d p c)
+      orderly = order_stays (rules_of v) d p c f.orderly
+
+      at : (b : Bool) → is_change c ≡ b → StandsFor w (desk_after (rules_of v) d p c)
+      at true e =
+          let to = after_change (rules_of v) d p c e in
+          subst (StandsFor w) (sym to.1) (stand_changed to.0 e (leads ∙ ap (λ (x : Desk). x.course) to.1) (subst IsOrderly to.1 orderly))
+      at false e =
+          let same = after_question (rules_of v) d p c e in
+          subst (StandsFor w) (sym same) (stand_asked e (leads ∙ ap (λ (x : Desk). x.course) same) (subst IsOrderly same orderly))
+
+-- ---- a line
+
+-- what a line answers and keeps is the step's
+module _ (v w : DeskView) (d : Desk) (p : ℕ) (c : Command) (f : StandsFor v d) (answer : Result Reply DeskRefusal) (allowed : early (rules_of v) (kept_desk v) p c ≡ None) where
+  none_early : early (rules_of v) d p c ≡ None
+  none_early = sym (early_same v d p f c) ∙ allowed
+
+  pub line_replies : IfOk answer (λ said. step (rules_of v) (course v.session) c ≡ Ok (said, course w.session)) → IfOk answer (λ said. desk_step (rules_of v) d p c ≡ Ok (said, desk_after (rules_of v) d p c))
+  line_replies ok = by answer ok
+    where
+      by : (x : Result Reply DeskRefusal) → IfOk x (λ said. step (rules_of v) (course v.session) c ≡ Ok (said, course w.session)) → IfOk x (λ said. desk_step (rules_of v) d p c ≡ Ok (said, desk_after (rules_of v) d p c))
+      by (Ok said) ok = late_step (rules_of v) d p c said (course w.session) none_early (subst (λ (s : Course). step (rules_of v) s c ≡ Ok (said, course w.session)) f.course ok)
+      by (Err q) ok = tt
+
+  pub line_leaves : IfOk answer (λ said. step (rules_of v) (course v.session) c ≡ Ok (said, course w.session)) → OnOk answer (Keeps v p c w) → OnOk answer (StandsFor w (desk_after (rules_of v) d p c))
+  line_leaves ok k = by answer ok k
+    where
+      by : (x : Result Reply DeskRefusal) → IfOk x (λ said. step (rules_of v) (course v.session) c ≡ Ok (said, course w.session)) → OnOk x (Keeps v p c w) → OnOk x (StandsFor w (desk_after (rules_of v) d p c))
+      by (Ok said) ok k = stands_after v w d p c said f ok k
+      by (Err q) ok k = tt
+
+  pub line_refuses : IfErr answer (λ q. Refused q (option_map Session (refusal (rules_of v) (course v.session) c))) → IfErr answer (λ q. Refused q (desk_refusal (rules_of v) d p c))
+  line_refuses err = by answer err
+    where
+      same : option_map Session (refusal (rules_of v) (course v.session) c) ≡ desk_refusal (rules_of v) d p c
+      same = ap (λ (s : Course). option_map Session (refusal (rules_of v) s c)) f.course ∙ sym (late_refusal (rules_of v) d p c none_early)
+
+      by : (x : Result Reply DeskRefusal) → IfErr x (λ q. Refused q (option_map Session (refusal (rules_of v) (course v.session) c))) → IfErr x (λ q. Refused q (desk_refusal (rules_of v) d p c))
+      by (Ok said) err = tt
+      by (Err q) err = subst (λ (o : Option DeskRefusal). Refused q o) same err
+
+-- or it is refused early
+pub line_refused_early : (v : DeskView) (d : Desk) (p : ℕ) (c : Command) (q : DeskRefusal) → StandsFor v d → early (rules_of v) (kept_desk v) p c ≡ Some q → Refused q (desk_refusal (rules_of v) d p c)
+line_refused_early v d p c q f e = refused_self q (desk_refusal (rules_of v) d p c) (early_refusal (rules_of v) d p c q (sym (early_same v d p f c) ∙ e))

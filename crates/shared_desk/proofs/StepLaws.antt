@@ -1,0 +1,187 @@
+-- What a step of a desk does to the session.
+use Rattle.std.proofs.Common.{◌≡◌, ℕ, ◌+◌, ◌≤◌, Bool, true, false, not, List, [], ◌∷◌, ◌++◌, Option, Some, None, is_none, is_some, refl, sym, ap, ◌∙◌, subst, arith}
+use Rattle.std.specs.Prelude.{IfOk, OnErr, Result, Ok, Err, option_map}
+use Rattle.std.specs.FinMap as map
+use Rattle.fact_paths.specs.declared.slot_path.SlotPath.{SlotPath}
+use Rattle.fact_values.specs.declared.slot.Slot.{Slot}
+use Rattle.script_lines.specs.declared.command.Command.{Command}
+use Rattle.script_lines.specs.declared.command.Command.TheVariants as commands
+use Rattle.dict_tree.specs.Dictionary.{Dictionary as Tree}
+use Rattle.answers.specs.Answered.{Answered, value_of}
+use Rattle.answers.specs.declared.edit.Side.TheVariants.{Answer, Override}
+use Rattle.dictionary.specs.Fits.{is_answered_by, is_list, is_overridden_by}
+use Rattle.session_undo.specs.Timeline.{Timeline}
+use Rattle.graph_session.specs.Kinds.{value_spelled}
+use Rattle.graph_session.specs.Refusals.{Refused as SessionRefused, first_of as first_session, slot_found, slot_refusals, value_refusals, when}
+use Rattle.graph_session.specs.Naming.{fact_of, slot_of}
+use Rattle.graph_session.specs.Rules.{Rules, tree_of}
+use Rattle.graph_session.specs.SessionView.{Course, SessionView, course, moved, view_at}
+use Rattle.graph_session.specs.Step.{moved_by, refusal, reply, step, timeline_by}
+use Rattle.graph_session.specs.declared.reply.Refusal.{Refusal}
+use Rattle.graph_session.specs.declared.reply.Refusal.TheVariants.{AlreadyOpen, BadValue, NoMemory, NoOverride, NoStamps, NotAnswered, WrongKind}
+use Rattle.graph_session.specs.declared.reply.Reply.{Reply}
+use Rattle.graph_session.proofs.StepLaws.{decided_err, decided_ok}
+use Rattle.shared_desk.specs.Desk.{Desk, absent_refusals, appends, course_after, desk_after, desk_refusal, desk_step, early, is_change, place_of, shown}
+use Rattle.shared_desk.specs.Refusals.{Refused, RefusedBut, decided, first_of, wants_memory}
+use Rattle.shared_desk.specs.declared.refusal.DeskRefusal.{DeskRefusal}
+use Rattle.shared_desk.specs.declared.refusal.DeskRefusal.TheVariants.{Session}
+
+-- ---- where an accepted command leads
+
+-- it isn't refused, and leads to its reply and course
+-- move down
+pub accepted_step : (r : Rules) (s t : Course) (c : Command) (said : Reply) → step r s c ≡ Ok (said, t)
+    → (refusal r s c ≡ None) × ((said ≡ reply r s c) × (t ≡ course_after r s c))
+accepted_step r s t c said e =
+    let parts = decided_ok (refusal r s c) (reply r s c, moved_by r s (timeline_by (tree_of r) s.timeline c)) (said, t) (sym e) in
+    (parts.0, (ap (λ (p : Reply × Course). p.0) parts.1, ap (λ (p : Reply × Course). p.1) parts.1))
+
+-- a change leads along the timeline
+-- move down
+changes_move : (d : Tree) (t : Timeline) (c : Command) → is_change c ≡ true → (to : Timeline) × (timeline_by d t c ≡ Some to)
+changes_move d t (commands.Get path) e = absurd cc
+changes_move d t (commands.Final path) e = absurd cc
+changes_move d t (commands.Stamp path) e = absurd cc
+changes_move d t commands.Touched e = absurd cc
+changes_move d t (commands.Missing path) e = absurd cc
+changes_move d t (commands.Watch name path) e = absurd cc
+changes_move d t (commands.Unwatch name path) e = absurd cc
+changes_move d t commands.Quit e = absurd cc
+changes_move d t c e = (_, refl)
+
+-- move down
+questions_stay : (d : Tree) (t : Timeline) (c : Command) → is_change c ≡ false → timeline_by d t c ≡ None
+questions_stay d t (commands.Set path text) e = absurd cc
+questions_stay d t (commands.Clear path) e = absurd cc
+questions_stay d t (commands.OpenList path) e = absurd cc
+questions_stay d t (commands.Add path) e = absurd cc
+questions_stay d t (commands.Remove path member) e = absurd cc
+questions_stay d t (commands.Override path text) e = absurd cc
+questions_stay d t (commands.Release path) e = absurd cc
+questions_stay d t commands.Undo e = absurd cc
+questions_stay d t commands.Redo e = absurd cc
+questions_stay d t c e = refl
+
+pub change_leads : (r : Rules) (s : Course) (c : Command) → is_change c ≡ true → (to : Timeline) × (course_after r s c ≡ moved r.accepted s to)
+change_leads r s c e = let to = changes_move (tree_of r) s.timeline c e in (to.0, ap (moved_by r s) to.1)
+
+pub question_leads : (r : Rules) (s : Course) (c : Command) → is_change c ≡ false → course_after r s c ≡ s
+question_leads r s c e = ap (moved_by r s) (questions_stay (tree_of r) s.timeline c e)
+
+-- ---- the place
+
+append_leads : (d : Tree) (t : Timeline) (c : Command) → appends c ≡ true → (a : Answered) × (timeline_by d t c ≡ Some (record { before = t.now ∷ t.before; now = a; after = [] }))
+append_leads d t commands.Undo e = absurd cc
+append_leads d t commands.Redo e = absurd cc
+append_leads d t (commands.Get path) e = absurd cc
+append_leads d t (commands.Final path) e = absurd cc
+append_leads d t (commands.Stamp path) e = absurd cc
+append_leads d t commands.Touched e = absurd cc
+append_leads d t (commands.Missing path) e = absurd cc
+append_leads d t (commands.Watch name path) e = absurd cc
+append_leads d t (commands.Unwatch name path) e = absurd cc
+append_leads d t commands.Quit e = absurd cc
+append_leads d t c e = (_, refl)
+
+-- after an entry was appended
+pub place_appended : (r : Rules) (s t : Course) (c : Command) (said : Reply) → appends c ≡ true → step r s c ≡ Ok (said, t)
+    → (place_of t ≡ place_of s + 1) × (t.changes ≡ s.changes + 1)
+place_appended r s t c said is e =
+    let to = append_leads (tree_of r) s.timeline c is in
+    let leads = (accepted_step r s t c said e).1.1 ∙ ap (moved_by r s) to.1 in
+    (ap place_of leads ∙ (omega arith), ap (λ (u : Course). u.changes) leads)
+
+-- what shows a slot, or changes nothing otherwise, leaves the course
+pub asked_course : (r : Rules) (v w : SessionView) (c : Command) (answer : Result Reply Refusal) → is_change c ≡ false → IfOk answer (λ said. step r (course v) c ≡ Ok (said, course w)) → OnErr answer (w ≡ v) → course w ≡ course v
+asked_course r v w c (Ok said) is ok same = (accepted_step r (course v) (course w) c said ok).1.1 ∙ question_leads r (course v) c is
+asked_course r v w c (Err q) is ok same = ap course same
+
+pub asked_place : (v w : SessionView) (n : ℕ) → course w ≡ course v → (n ≡ place_of (course v)) × (n ≤ v.changes) → (n ≡ place_of (course w)) × (n ≤ w.changes)
+asked_place v w n same h = subst (λ (s : Course). (n ≡ place_of s) × (n ≤ s.changes)) (sym same) h
+
+pub shows_no_change : (c : Command) (path : SlotPath) → shown c ≡ Some path → is_change c ≡ false
+shows_no_change (commands.Get x) path e = refl
+shows_no_change (commands.Final x) path e = refl
+shows_no_change (commands.Stamp x) path e = refl
+shows_no_change c path e = absurd cc
+
+-- a question leaves the session as it was
+pub question_stays : (r : Rules) (v w : SessionView) (c : Command) (said : Reply) → is_change c ≡ false → step r (course v) c ≡ Ok (said, course w) → w.dict ≡ v.dict → w ≡ v
+question_stays r v w c said is e f =
+    let same : course w ≡ course v = (accepted_step r (course v) (course w) c said e).1.1 ∙ question_leads r (course v) c is in
+    λ i. view_at (f i) (same i)
+
+-- ---- refusals
+
+pub first_one : (o : Option DeskRefusal) → first_of (o ∷ []) ≡ o
+first_one None = refl
+first_one (Some q) = refl
+
+refused_but : (b : Bool) (q : DeskRefusal) (o : Option DeskRefusal) → o ≡ Some q → RefusedBut b q o
+refused_but true q o e = tt
+refused_but false q o e = e
+
+pub refused_self : (q : DeskRefusal) (o : Option DeskRefusal) → o ≡ Some q → Refused q o
+refused_self q o e = refused_but (wants_memory q) q o e
+
+-- a session's refusal, as a desk gives it
+pub refused_session : (q : Refusal) (o : Option Refusal) → SessionRefused q o → Refused (Session q) (option_map Session o)
+refused_session NoMemory o h = tt
+refused_session q o h = ap (option_map Session) h
+
+-- where no early refusal holds, it is the session's
+pub late_refusal : (r : Rules) (d : Desk) (p : ℕ) (c : Command) → early r d p c ≡ None → desk_refusal r d p c ≡ option_map Session (refusal r d.course c)
+late_refusal r d p c e = ap (λ (o : Option DeskRefusal). first_of (o ∷ option_map Session (refusal r d.course c) ∷ [])) e ∙ first_one (option_map Session (refusal r d.course c))
+
+pub early_refusal : (r : Rules) (d : Desk) (p : ℕ) (c : Command) (q : DeskRefusal) → early r d p c ≡ Some q → desk_refusal r d p c ≡ Some q
+early_refusal r d p c q e = ap (λ (o : Option DeskRefusal). first_of (o ∷ option_map Session (refusal r d.course c) ∷ [])) e
+
+-- and so the step is the session's
+pub late_step : (r : Rules) (d : Desk) (p : ℕ) (c : Command) (said : Reply) (t : Course) → early r d p c ≡ None → step r d.course c ≡ Ok (said, t) → desk_step r d p c ≡ Ok (said, desk_after r d p c)
+late_step r d p c said t e f =
+    let parts = accepted_step r d.course t c said f in
+    ap (λ (o : Option DeskRefusal). decided o (reply r d.course c, desk_after r d p c)) (late_refusal r d p c e ∙ ap (option_map Session) parts.0)
+    ∙ ap told (sym parts.1.0)
+  where
+    told : Reply → Result (Reply × Desk) DeskRefusal
+    told x = Ok (x, desk_after r d p c)
+
+first_after : (xs ys : List (Option Refusal)) (q : Refusal) → first_session xs ≡ Some q → first_session (xs ++ ys) ≡ Some q
+first_after [] ys q e = absurd cc
+first_after (None ∷ xs) ys q e = first_after xs ys q e
+first_after (Some x ∷ xs) ys q e = e
+
+-- what shows a slot is refused where the slot isn't there
+pub shown_absent : (r : Rules) (s : Course) (c : Command) (path : SlotPath) (q : Refusal) → shown c ≡ Some path → ◌≡◌ {A = Result Slot Refusal} (Err q) (slot_found r s.timeline.now path) → refusal r s c ≡ Some q
+shown_absent r s c path q is e = by c is
+  where
+    absent : first_session (slot_refusals r s.timeline.now path) ≡ Some q
+    absent = decided_err (first_session (slot_refusals r s.timeline.now path)) (slot_of (tree_of r) path) q e
+
+    named : (x : SlotPath) → x ≡ path → first_session (slot_refusals r s.timeline.now x) ≡ Some q
+    named x same = ap (λ (y : SlotPath). first_session (slot_refusals r s.timeline.now y)) same ∙ absent
+
+    by : (c : Command) → shown c ≡ Some path → refusal r s c ≡ Some q
+    by (commands.Get x) is = named x cc
+    by (commands.Final x) is = named x cc
+    by (commands.Stamp x) is = first_after (slot_refusals r s.timeline.now x) (when (is_none s.counts) NoStamps ∷ []) q (named x cc)
+    by c is = absurd cc
+
+-- an edit of a slot or a member that isn't there is refused for that by the session too
+pub absent_first : (r : Rules) (s : Course) (c : Command) (q : Refusal) → first_session (absent_refusals r s.timeline.now c) ≡ Some q → refusal r s c ≡ Some q
+absent_first r s (commands.Set path text) q e =
+    let fact = fact_of (tree_of r) path in
+    first_after (slot_refusals r s.timeline.now path) (when (not (is_answered_by (tree_of r) fact)) WrongKind ∷ value_refusals r fact text) q e
+absent_first r s (commands.Clear path) q e =
+    first_after (slot_refusals r s.timeline.now path) (when (not (is_answered_by (tree_of r) (fact_of (tree_of r) path))) WrongKind ∷ when (is_none (value_of Answer s.timeline.now (slot_of (tree_of r) path))) NotAnswered ∷ []) q e
+absent_first r s (commands.OpenList path) q e =
+    let fact = fact_of (tree_of r) path in
+    first_after (slot_refusals r s.timeline.now path) (when (not (is_list (tree_of r) fact)) WrongKind ∷ when (is_some (map.get s.timeline.now.lists fact)) AlreadyOpen ∷ []) q e
+absent_first r s (commands.Remove path member) q e =
+    first_after (absent_refusals r s.timeline.now (commands.Remove path member)) (when (not (is_list (tree_of r) (fact_of (tree_of r) path))) WrongKind ∷ []) q e
+absent_first r s (commands.Override path text) q e =
+    let fact = fact_of (tree_of r) path in
+    first_after (slot_refusals r s.timeline.now path) (when (not (is_overridden_by (tree_of r) fact)) WrongKind ∷ when (is_none (value_spelled (tree_of r) fact text)) BadValue ∷ []) q e
+absent_first r s (commands.Release path) q e =
+    first_after (slot_refusals r s.timeline.now path) (when (not (is_overridden_by (tree_of r) (fact_of (tree_of r) path))) WrongKind ∷ when (is_none (value_of Override s.timeline.now (slot_of (tree_of r) path))) NoOverride ∷ []) q e
+absent_first r s c q e = absurd cc

@@ -1,0 +1,37 @@
+use Rattle.std.proofs.Common.{ap, ◌∙◌, subst}
+use Rattle.graph_session.specs.Rules.{rules}
+use Rattle.graph_session.specs.SessionView.{SessionView, course}
+use Rattle.shared_desk.specs.DeskView.{DeskView, Keeps}
+use Rattle.shared_desk.proofs.KeptLaws.{show_keeps}
+use Rattle.shared_desk.proofs.StepLaws.{asked_place, question_stays, shows_no_change}
+use Rattle.shared_desk.proofs.desk.Desk.show.Goals as goal
+use Rattle.shared_desk.proofs.desk.Desk.show.Goals.{in-Err-put, in-Ok-put}
+
+pub invariant_of-self-in-Ok-command : goal.invariant_of-self-in-Ok-command
+invariant_of-self-in-Ok-command g c =
+    let v = c.self.inside.session in
+    let none = shows_no_change c.args.command.now c.args.path.now c.requires.shown in
+    asked_place v c.command.new.self c.self.inside.place (ap course (question_stays (rules v.dict) v c.command.new.self c.args.command.now c.in-Ok-command.reply none c.in-Ok-command.ensures.ok c.in-Ok-command.ensures.dict)) c.self.invariant
+
+pub returns-after-put-clause-kept : goal.returns-after-put-clause-kept
+returns-after-put-clause-kept g c =
+    let v = c.self.inside.session in
+    let view : DeskView = record { session = v; changers = c.self.inside.changers.items; entries = c.self.inside.entries.items; asked = c.self.inside.looks } in
+    let none = shows_no_change c.args.command.now c.args.path.now c.requires.shown in
+    let same = question_stays (rules v.dict) v c.command.new.self c.args.command.now c.in-Ok-command.reply none c.in-Ok-command.ensures.ok c.in-Ok-command.ensures.dict in
+    elim c.match-put.branch [
+      | in-Err-put w ↦ rw w.result-is tt
+      | in-Ok-put w ↦ rw w.result-is (subst (λ (x : DeskView). Keeps x c.args.party c.args.command.now (record { session = c.command.new.self; changers = c.self.inside.changers.items; entries = c.self.inside.entries.items; asked = c.put.new.self })) c.self.view_is
+          (show_keeps view c.command.new.self c.args.party c.args.command.now c.args.path.now c.in-Ok.slot c.put.new.self c.changes.result c.requires.shown c.in-Ok.ensures.found
+          (c.changes.ensures ∙ ap (λ (s : SessionView). s.changes) same) w.in-Ok-put.ensures.put))
+    ]
+
+pub returns-after-put-clause-unchanged : goal.returns-after-put-clause-unchanged
+returns-after-put-clause-unchanged g c =
+    let v = c.self.inside.session in
+    let none = shows_no_change c.args.command.now c.args.path.now c.requires.shown in
+    let same = question_stays (rules v.dict) v c.command.new.self c.args.command.now c.in-Ok-command.reply none c.in-Ok-command.ensures.ok c.in-Ok-command.ensures.dict in
+    elim c.match-put.branch [
+      | in-Err-put w ↦ rw w.result-is ((λ i. record { session = same i; changers = c.self.inside.changers.items; entries = c.self.inside.entries.items; asked = w.in-Err-put.ensures.unchanged i }) ∙ c.self.view_is)
+      | in-Ok-put w ↦ rw w.result-is tt
+    ]

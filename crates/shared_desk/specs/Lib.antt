@@ -1,0 +1,5 @@
+pub mod Desk
+pub mod DeskView
+pub mod Looks
+pub mod Parties
+pub mod Refusals

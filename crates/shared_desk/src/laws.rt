@@ -1,0 +1,19 @@
+// What holds of every list of lines. Each function's contract is its laws.
+ghost use Rattle.shared_desk.specs.Parties.{AcceptedAreAnswered, EditsFindWhatWasSeen, OnePartyIsAlone, SessionIsOverAccepted};
+
+/// The session of a desk is a session over the accepted commands in order, and gives each of them the same reply.
+pub fn the_session_is_over_accepted_commands()
+    ensures course { SessionIsOverAccepted }
+    ensures replies { AcceptedAreAnswered }
+{}
+
+/// A party that is alone has the replies and refusals of a session: no line is refused for another's change.
+pub fn a_party_alone_has_a_session()
+    ensures { OnePartyIsAlone }
+{}
+
+/// An accepted edit that names a slot, other than `add`, finds the slot's entry and its result as they were when the party last
+/// looked at it, or as they were at the start where it never looked.
+pub fn edits_find_what_their_party_saw()
+    ensures { EditsFindWhatWasSeen }
+{}
