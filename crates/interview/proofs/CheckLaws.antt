@@ -17,7 +17,8 @@ use Rattle.interview.specs.FaultLines.{is_memory}
 use Rattle.interview.specs.Interview.{Defined, defined_accepted, defined_fault, OneEndOfCheck}
 use Rattle.interview.specs.Devices.{SentWhole}
 use Rattle.interview.specs.StepEnds.{CheckDid, CheckEnds, EndedBy, FetchedAs, JudgedAs, NotFetched, defined_fetched}
-use Rattle.interview.specs.Ends.{Given, Did, Check, Ends, Unread}
+use Rattle.interview.specs.Given.{Did, Given, Unread}
+use Rattle.interview.specs.Ends.{Check, Ends}
 
 -- ---- what they come to
 

@@ -1,6 +1,6 @@
 -- The dictionary of a run: where it comes from, and what it comes to.
 use Rattle.std.proofs.Common.{◌≡◌, ℕ, false, List, [], ◌∷◌, Result, Ok, Err, inl, inr, refl, sym, ap, subst, ◌∙◌, arith}
-use Rattle.std.specs.Prelude.{codes, IfOk}
+use Rattle.std.specs.Prelude.{codes, decimal, IfOk}
 use Rattle.fact_values.specs.declared.memory.NoMemory.{NoMemory}
 use Rattle.dictionary.specs.declared.fault.DictFault.{DictFault}
 use Rattle.dictionary.specs.Accepted.{IsAccepted, Kept, Named, accepted, names_of}
@@ -22,7 +22,7 @@ use Rattle.interview.specs.declared.built_in.BuiltIn.TheVariants.{Year2023, Year
 use Rattle.fg_io.specs.Outside.{MayHold, Told, missing}
 use Rattle.interview.specs.declared.words.Engine.{Engine}
 use Rattle.interview.specs.declared.words.Engine.TheVariants.{Incremental, Plain}
-use Rattle.interview.specs.Words.{Fetches, HasNoForm, IsCheck, IsRun, IsRunOver, Origin, file, program, words_for}
+use Rattle.interview.specs.Words.{Fetches, HasNoForm, IsCheck, IsGen, IsRun, IsRunOver, Origin, file, program, words_for}
 use Rattle.interview.specs.Dictionaries.{Content, Gives, HasFault, IsAcceptedAs, MayGive, brought, facts_of, spelled, tables_of}
 use Rattle.interview.specs.Interview.{OneEndOfRun, defined_fault, defined_script}
 use Rattle.interview.specs.StepEnds.{FetchedAs, ObtainedAs}
@@ -120,9 +120,12 @@ no_run_of_year year a b (program c) Plain asked = asked
 no_check_of_year : (year name : List ℕ) → IsCheck (codes "year" ∷ year ∷ []) name → ⊥
 no_check_of_year year name asked = let both : codes "year" ∷ year ∷ [] ≡ codes "check" ∷ name ∷ [] = asked in cc
 
+no_gen_of_year : (year : List ℕ) (n : ℕ) → IsGen (codes "year" ∷ year ∷ []) n → ⊥
+no_gen_of_year year n asked = let both : codes "year" ∷ year ∷ [] ≡ codes "gen" ∷ decimal n ∷ [] = asked.spelled in cc
+
 -- behind `year` stands no year
 pub no_year : (year : List ℕ) → (year ≡ codes "2023" → ⊥) → (year ≡ codes "2024" → ⊥) → HasNoForm (codes "year" ∷ year ∷ [])
-no_year year a b = (λ o asked. no_run_of_year year a b o asked.engine asked.over, no_check_of_year year)
+no_year year a b = (λ o asked. no_run_of_year year a b o asked.engine asked.over, no_check_of_year year, no_gen_of_year year)
 
 no_run : (words : List (List ℕ)) → ((name : List ℕ) → words ≡ codes "run" ∷ name ∷ [] → ⊥) → ((name : List ℕ) → words ≡ codes "run-plain" ∷ name ∷ [] → ⊥) → ((year : List ℕ) → words ≡ codes "year" ∷ year ∷ [] → ⊥)
     → (o : Origin) (engine : Engine) → IsRunOver words o engine → ⊥
@@ -134,8 +137,8 @@ no_run words run plain year (program b) Plain asked = asked
 
 -- no first word of a form is followed by one word
 pub no_form : (words : List (List ℕ)) → ((name : List ℕ) → words ≡ codes "run" ∷ name ∷ [] → ⊥) → ((name : List ℕ) → words ≡ codes "run-plain" ∷ name ∷ [] → ⊥) → ((year : List ℕ) → words ≡ codes "year" ∷ year ∷ [] → ⊥)
-    → ((name : List ℕ) → words ≡ codes "check" ∷ name ∷ [] → ⊥) → HasNoForm words
-no_form words run plain year check = (λ o asked. no_run words run plain year o asked.engine asked.over, check)
+    → ((name : List ℕ) → words ≡ codes "check" ∷ name ∷ [] → ⊥) → ((number : List ℕ) → words ≡ codes "gen" ∷ number ∷ [] → ⊥) → HasNoForm words
+no_form words run plain year check gen = (λ o asked. no_run words run plain year o asked.engine asked.over, check, λ n asked. gen (decimal n) asked.spelled)
 
 -- ---- what comes from there
 

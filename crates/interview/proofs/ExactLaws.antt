@@ -1,12 +1,10 @@
 -- What follows from the table of ends where the outside tells its contents.
 use Rattle.std.proofs.Common.{◌≡◌, ℕ, List, [], ◌∷◌, ◌++◌, take, drop, Option, inl, inr, refl, sym, ap, subst, ◌∙◌, take-append-drop}
 use Rattle.std.specs.Prelude.{◌⊎◌}
-use Rattle.std.proofs.KnownBytes.{Appends-kept}
 use Rattle.std.proofs.lemmas.List.{append-nil}
 use Rattle.fg_io.specs.Outside.{MayBe, MayHold, Told, missing, holds}
 use Rattle.dictionary.specs.declared.fault.DictFault.{DictFault}
 use Rattle.fg_io.proofs.ConsumedLaws.{consumes_none, may_go_on}
-use Rattle.fg_io.proofs.SentLaws.{appends_none}
 use Rattle.script_lines.specs.Lines.{ScriptLine, ended_lines}
 use Rattle.dictionary.specs.Accepted.{names_of}
 use Rattle.dictionary.specs.Faults.{IsFault}
@@ -18,13 +16,16 @@ use Rattle.interview.specs.Words.{IsRun, IsCheck, Fetches, HasNoForm, Origin, fi
 use Rattle.interview.specs.Dictionaries.{Content, Gives, HasFault, IsAcceptedAs, MayGive}
 use Rattle.interview.specs.Interview.{run_terms, Defined, answered_lines, defined_fault, defined_script, ChecksTo, RunsTo, TablesHoldIn}
 use Rattle.interview.specs.Devices.{Rises, SentNothing, SentPart, SentWhole}
+use Rattle.interview.specs.GenEnds.{GenInterviewed}
 use Rattle.interview.specs.ScriptEnds.{ReadThrough, ScriptEndsAs}
-use Rattle.interview.specs.Ends.{Given, Did, AcceptedRun, RefusedRun, Check, CheckEndsAs, ComesTo, KnownRun, KnownCheck, Ends, EndedAs, EndedByCheck, EndedByRun, FetchFailed, Interviewed, IsOneOf, Unread}
+use Rattle.interview.specs.Given.{Did, EndedAs, Given, IsOneOf, Unread}
+use Rattle.interview.specs.Ends.{AcceptedRun, RefusedRun, Check, CheckEndsAs, ComesTo, KnownRun, KnownCheck, Ends, EndedByCheck, EndedByRun, FetchFailed, Interviewed}
+use Rattle.session_lines.specs.Laws.{FinalsHold}
 use Rattle.session_lines.specs.Stepping.{at_start, state_after}
 use Rattle.interview.proofs.CheckLaws.{one_end}
 use Rattle.interview.proofs.DictionaryLaws.{accepted_is_faultless, brought_is_faultless, brought_is_of_year, brought_unfetched, known_content, none_fetched, not_both, nothing_missing, one_run, rules_are_accepted, same_check, same_engine, same_origin, tables_hold}
 use Rattle.session_lines.proofs.FinalLineLaws.{final_lines_stay}
-use Rattle.interview.proofs.ScriptLaws.{ended_are_answered, part_by_lines, part_of}
+use Rattle.interview.proofs.ScriptLaws.{ended_are_answered, nothing_part, part_by_lines, part_of}
 
 module _ (given : Given) where
   -- a run that it may have been given, and what it comes to: where contents are told, it was given it
@@ -226,13 +227,7 @@ module _ (given : Given) where
 
     -- ---- what was written of a run that is told
 
-    -- nothing is a part of every text
-    nothing_part : (text : List ℕ) → SentNothing did.script.taken → SentPart did.script.taken text
-    nothing_part text kept =
-        let before = did.script.taken.before in
-        part_of did.script.taken [] text text refl (Appends-kept before before did.script.taken.after [] (appends_none before) kept)
-
-    -- and so is all of it
+    -- all of a text is a part of it
     whole_part : (text whole : List ℕ) → text ≡ whole → SentWhole did.script.taken text → SentPart did.script.taken whole
     whole_part text whole same wrote = part_of did.script.taken text [] whole (sym same ∙ sym (append-nil text)) wrote
 
@@ -245,7 +240,7 @@ module _ (given : Given) where
     prefix : (status : Status) → Ends given did status → (k : KnownRun given) (d : Defined) → ComesTo given k d → SentPart did.script.taken d.text
     prefix Done ends k d runs = ended_part Done (done_ended ends) k d runs
     prefix Usage ends k d runs = absurd (ends.0.0 k.origin k.asked)
-    prefix FetchFault ends k d runs = nothing_part d.text ends.2
+    prefix FetchFault ends k d runs = nothing_part did.script.taken d.text ends.2
     prefix ReadFault ends k d runs =
         let read = ends.1.1 in
         let r = ends.0.rules in
@@ -257,7 +252,7 @@ module _ (given : Given) where
     prefix WriteFault (inr (rose, inr (inl part))) k d runs = run_part k d runs (refused_run part.0) part.1
     prefix WriteFault (inr (rose, inr (inr part))) k d runs = absurd (not_both given.words k.origin part.0.name k.asked part.0.asked)
     prefix ScriptTooLong ends k d runs = ended_part ScriptTooLong (too_long_ended ends) k d runs
-    prefix NoMemory (inl ends) k d runs = nothing_part d.text ends.0
+    prefix NoMemory (inl ends) k d runs = nothing_part did.script.taken d.text ends.0
     prefix NoMemory (inr ends) k d runs =
         let first = ends.1 in
         let r = ends.0.rules in
@@ -291,7 +286,7 @@ module _ (given : Given) where
         absurd (brought_is_faultless given.told given.checks b run.content run.fault (subst (λ q. MayGive given.told q run.content) (same_origin given.words run.origin (program b) run.asked asked) run.gave) run.is_fault)
     built_in DictionaryRefused (inr ends) b asked = absurd (not_both given.words (program b) ends.0.name asked ends.0.asked)
 
-    tables : (b : BuiltIn) → IsRun given.words (program b) → (over : AcceptedRun given) (lines : List ScriptLine) → TablesHoldIn b over.rules (state_after over.rules (at_start over.rules (run_terms over.asked.engine given.relations)) lines).standing
+    pub tables : (b : BuiltIn) → IsRun given.words (program b) → (over : AcceptedRun given) (lines : List ScriptLine) → TablesHoldIn b over.rules (state_after over.rules (at_start over.rules (run_terms over.asked.engine given.relations)) lines).standing
     tables b asked over lines h is earned other =
         let gave = subst (λ q. MayGive given.told q over.content) (same_origin given.words over.origin (program b) over.asked asked) over.gave in
         let of_year = brought_is_of_year given.told given.checks b over.content over.rules gave over.is_accepted in
@@ -349,14 +344,14 @@ module _ (given : Given) where
     check_prefix : (status : Status) → Ends given did status → (k : KnownCheck given) (d : Defined) → ChecksTo k.bytes given.checks d → SentPart did.script.taken d.text
     check_prefix Done ends k d comes = check_ended_part Done (done_ended ends) k d comes
     check_prefix Usage ends k d comes = absurd (ends.0.1 k.name k.asked)
-    check_prefix FetchFault ends k d comes = nothing_part d.text ends.2
+    check_prefix FetchFault ends k d comes = nothing_part did.script.taken d.text ends.2
     check_prefix ReadFault ends k d comes = absurd (not_both given.words ends.0.origin k.name ends.0.asked k.asked)
     check_prefix WriteFault (inl ends) k d comes = absurd (not_both given.words ends.0.origin k.name ends.0.asked k.asked)
     check_prefix WriteFault (inr (rose, inl part)) k d comes = absurd (part.0.1 k.name k.asked)
     check_prefix WriteFault (inr (rose, inr (inl part))) k d comes = absurd (not_both given.words part.0.origin k.name part.0.asked k.asked)
     check_prefix WriteFault (inr (rose, inr (inr part))) k d comes = check_part k d comes part.0.outcome (known_check k part.0) part.1
     check_prefix ScriptTooLong ends k d comes = check_ended_part ScriptTooLong (too_long_ended ends) k d comes
-    check_prefix NoMemory (inl ends) k d comes = nothing_part d.text ends.0
+    check_prefix NoMemory (inl ends) k d comes = nothing_part did.script.taken d.text ends.0
     check_prefix NoMemory (inr ends) k d comes = absurd (not_both given.words ends.0.origin k.name ends.0.asked k.asked)
     check_prefix DictionaryRefused ends k d comes = check_ended_part DictionaryRefused (refused_ended ends) k d comes
 
@@ -371,9 +366,12 @@ module _ (given : Given) where
           | inr fails ↦ inr fails
         ]
 
-    pub interviewed : (status : Status) → Ends given did status → Interviewed given did status
-    interviewed status ends = record {
-      ends = ends;
+    pub finals : (over : AcceptedRun given) (lines : List ScriptLine) → FinalsHold over.rules (state_after over.rules (at_start over.rules (run_terms over.asked.engine given.relations)) lines).standing
+    finals over lines = let accepted = rules_are_accepted given.checks over.content over.rules over.is_accepted in final_lines_stay accepted.0 over.rules accepted.1 (state_after over.rules (at_start over.rules (run_terms over.asked.engine given.relations)) lines).standing
+
+    pub interviewed : (status : Status) → Ends given did status → GenInterviewed given did status → Interviewed given did status
+    interviewed status ends gen = record {
+      ends = inl ends;
       no_form = no_form status ends;
       missing = gone status ends;
       refused = refused status ends;
@@ -383,11 +381,12 @@ module _ (given : Given) where
       complete = complete status ends;
       prefix = prefix status ends;
       read_through = read_through status ends;
-      finals = λ over lines. let accepted = rules_are_accepted given.checks over.content over.rules over.is_accepted in final_lines_stay accepted.0 over.rules accepted.1 (state_after over.rules (at_start over.rules (run_terms over.asked.engine given.relations)) lines).standing;
+      finals = finals;
       tables = tables;
       check_unread = check_unread status ends;
       check_refused = check_refused status ends;
       check_exact = check_exact status ends;
       check_prefix = check_prefix status ends;
       check_complete = check_complete status ends;
+      gen = gen;
     }

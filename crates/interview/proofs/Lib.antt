@@ -1,8 +1,11 @@
 pub mod CheckLaws
+pub mod CountLaws
 pub mod DictionaryLaws
 pub mod EndLaws
 pub mod EngineLaws
 pub mod ExactLaws
+pub mod GenLaws
+pub mod LoadLaws
 pub mod ScriptLaws
 pub mod StepLaws
 pub mod TopLaws

@@ -7,7 +7,8 @@ use Rattle.std.proofs.Math.Seq.{take-append-add, take-append_seam}
 use Rattle.std.specs.Io.KnownBytes.{Appends, Consumes}
 use Rattle.fg_io.specs.Outside.{MayBe}
 use Rattle.fg_io.specs.Sent.{Sent}
-use Rattle.fg_io.proofs.SentLaws.{sent_whole}
+use Rattle.std.proofs.KnownBytes.{Appends-kept}
+use Rattle.fg_io.proofs.SentLaws.{appends_none, sent_whole}
 use Rattle.fg_io.proofs.ConsumedLaws.{consumes_more, consumes_none}
 use Rattle.script_lines.specs.Lines.{ScriptLine, script_lines, ended_lines, HasNoNewline}
 use Rattle.script_lines.proofs.EndedLaws.{ended_follows, ended_goes_on, lines_go_on}
@@ -18,7 +19,7 @@ use Rattle.graph_session.specs.SessionView.{SessionView}
 use Rattle.session_lines.specs.Stepping.{Standing, Terms, State, Step, at_start, beginning, open_at, step, step_line, replies, state_after}
 use Rattle.session_lines.specs.Answering.{RepliedLines, standing_of}
 use Rattle.interview.specs.SoFar.{AnsweredSoFar}
-use Rattle.interview.specs.Devices.{Stream, SentWhole, SentPart}
+use Rattle.interview.specs.Devices.{Stream, SentNothing, SentWhole, SentPart}
 use Rattle.interview.specs.ScriptEnds.{ScriptDid, RepliedFirst}
 use Rattle.interview.specs.Interview.{script_limit, answered_lines, defined_script}
 use Rattle.session_lines.proofs.AnsweringLaws.{replies-append, state_after-append, replied_line, replied_none}
@@ -140,6 +141,10 @@ more_so_far r terms a b c left left_now left_next count n session session_next w
 -- a text was written whole, and what is defined goes on behind it
 pub part_of : (taken : Stream) (text more defined : List ℕ) → defined ≡ text ++ more → SentWhole taken text → SentPart taken defined
 part_of taken text more defined split wrote = (more, record { front = text; took = wrote; split = split })
+
+-- nothing is a part of every text
+pub nothing_part : (taken : Stream) (text : List ℕ) → SentNothing taken → SentPart taken text
+nothing_part taken text kept = part_of taken [] text text refl (Appends-kept taken.before taken.before taken.after [] (appends_none taken.before) kept)
 
 -- the replies to the first lines that are answered are a part of what is defined
 module _ (r : Rules) (terms : Terms) (script : List ℕ) (lines others : List ScriptLine) (answers : answered_lines script ≡ lines ++ others) where

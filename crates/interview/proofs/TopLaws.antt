@@ -16,7 +16,8 @@ use Rattle.interview.specs.Dictionaries.{Content, HasFault, IsAcceptedAs, MayGiv
 use Rattle.interview.specs.Interview.{run_terms, defined_fault}
 use Rattle.interview.specs.ScriptEnds.{ScriptDid, ScriptEnds}
 use Rattle.interview.specs.StepEnds.{EndedBy, NotFetched, NotObtained}
-use Rattle.interview.specs.Ends.{Given, Did, AcceptedRun, RefusedRun, Ends, Unread}
+use Rattle.interview.specs.Given.{Did, Given, Unread}
+use Rattle.interview.specs.Ends.{AcceptedRun, RefusedRun, Ends}
 
 -- ---- words
 

@@ -15,39 +15,10 @@ use Rattle.interview.specs.Dictionaries.{Content, Gives, HasFault, IsAcceptedAs,
 use Rattle.session_lines.specs.Laws.{FinalsHold}
 use Rattle.interview.specs.Interview.{ChecksTo, Defined, RunsTo, TablesHoldIn, defined_fault, run_terms, usage}
 use Rattle.session_lines.specs.Stepping.{at_start, state_after}
-use Rattle.interview.specs.ScriptEnds.{ReadThrough, ScriptDid, ScriptEnds}
+use Rattle.interview.specs.GenEnds.{GenEnds, GenInterviewed}
+use Rattle.interview.specs.Given.{Did, EndedAs, Given, IsOneOf, Unread}
+use Rattle.interview.specs.ScriptEnds.{ReadThrough, ScriptEnds}
 use Rattle.interview.specs.Words.{Fetches, HasNoForm, IsCheck, IsRun, Origin, program, texts}
-
--- what an interview is given
-pub record Given : Type 0 where
-  pub words : List (List ℕ)
-  -- the checks that a dictionary may name
-  pub checks : List Named
-  -- the relations by which slots may be watched
-  pub relations : List Named
-  pub told : List ℕ → Told
-  pub left : Option (List ℕ)
-
--- what an interview did to the outside
-pub record Did : Type 0 where
-  pub shelf : Counted
-  pub failed_name : List ℕ
-  pub script : ScriptDid
-
-abbrev pub given_by : List (String Global) → List Named → List Named → (List ℕ → Told) → Option (List ℕ) → Given
-given_by words checks relations told left = record { words = texts words; checks = checks; relations = relations; told = told; left = left }
-
--- by the faults of the shelf, before and after, and the name of the last
-abbrev pub did_by : (unfetched unfetched_now : ℕ) → List ℕ → ScriptDid → Did
-did_by unfetched unfetched_now failed_name script = record {
-  shelf = record { before = unfetched; after = unfetched_now };
-  failed_name = failed_name;
-  script = script;
-}
-
--- nothing was read of the script
-abbrev pub Unread : Did → Type 0
-Unread did = (did.script.left.after ≡ did.script.left.before) × (did.script.source.after ≡ did.script.source.before)
 
 -- a dictionary that it may have been given to run, wherever it came from, and that is accepted
 pub record AcceptedRun (given : Given) : Type 0 where
@@ -107,11 +78,11 @@ Ends given did WriteFault = AcceptedEnds given did WriteFault ⊎ (Rises did.scr
 Ends given did ScriptTooLong = AcceptedEnds given did ScriptTooLong
 Ends given did NoMemory = (SentNothing did.script.taken × Unread did) ⊎ AcceptedEnds given did NoMemory
 
--- ---- what is known of an interview when it ends
+-- the same, and the tables of the words that read no dictionary
+abbrev pub EndsByWord : Given → Did → Status → Type 0
+EndsByWord given did status = Ends given did status ⊎ GenEnds given did status
 
-abbrev pub IsOneOf : Status → List Status → Type 0
-IsOneOf status [] = ⊥
-IsOneOf status (s ∷ ss) = (status ≡ s) ⊎ IsOneOf status ss
+-- ---- what is known of an interview when it ends
 
 -- a run whose dictionary and script are told
 pub record KnownRun (given : Given) : Type 0 where
@@ -128,10 +99,6 @@ pub record KnownCheck (given : Given) : Type 0 where
   pub bytes : List ℕ
   pub asked : IsCheck given.words name
   pub held : given.told name ≡ holds bytes
-
--- it ended as defined, with the text whole
-abbrev pub EndedAs : Did → Status → Defined → Type 0
-EndedAs did status d = (status ≡ d.status) × SentWhole did.script.taken d.text
 
 -- it ended as a check of the bytes comes to, with the text whole
 abbrev pub EndedByCheck : Given → Did → Status → List ℕ → Type 0
@@ -151,7 +118,7 @@ FetchFailed given did = Rises did.shelf × Fetches given.words did.failed_name
 
 pub record Interviewed (given : Given) (did : Did) (status : Status) : Type 0 where
   -- each status with its text and its cause
-  pub ends : Ends given did status
+  pub ends : EndsByWord given did status
   -- words without a form get the line of usage
   pub no_form : HasNoForm given.words → IsOneOf status (Usage ∷ WriteFault ∷ NoMemory ∷ [])
   -- a name that isn't there is a failed fetch
@@ -187,3 +154,5 @@ pub record Interviewed (given : Given) (did : Did) (status : Status) : Type 0 wh
   pub check_prefix : (check : KnownCheck given) (d : Defined) → ChecksTo check.bytes given.checks d → SentPart did.script.taken d.text
   -- and where the outside doesn't fail, it ends as defined, or for want of memory
   pub check_complete : (check : KnownCheck given) → (FetchFailed given did → ⊥) → (Rises did.script.sink → ⊥) → EndedByCheck given did status check.bytes ⊎ (status ≡ NoMemory)
+  -- what is known of `gen`
+  pub gen : GenInterviewed given did status

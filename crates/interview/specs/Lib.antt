@@ -11,3 +11,7 @@ pub mod ScriptEnds
 pub mod StepsOfScript
 pub mod StepEnds
 pub mod Ends
+pub mod GenEnds
+pub mod Given
+pub mod Load
+pub mod Summary

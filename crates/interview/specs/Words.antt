@@ -1,5 +1,5 @@
 -- The words of the command line, and the forms that they may have.
-use Rattle.std.specs.Prelude.{◌≡◌, ◌⊎◌, ℕ, Bool, true, false, List, [], ◌∷◌, map, codes, String, string_bytes}
+use Rattle.std.specs.Prelude.{◌≡◌, ◌⊎◌, ℕ, ◌≤◌, Bool, true, false, List, [], ◌∷◌, map, codes, decimal, String, string_bytes}
 use Rattle.std.specs.declared.alloc.Global.{Global}
 use Rattle.interview.specs.declared.built_in.BuiltIn.{BuiltIn}
 use Rattle.interview.specs.declared.built_in.BuiltIn.TheVariants.{Year2023, Year2024}
@@ -8,7 +8,7 @@ use Rattle.interview.specs.declared.words.Engine.TheVariants.{Incremental, Plain
 use Rattle.interview.specs.declared.words.Origin.{Origin as Asked}
 use Rattle.interview.specs.declared.words.Origin.TheVariants as asked
 use Rattle.interview.specs.declared.words.Form.{Form}
-use Rattle.interview.specs.declared.words.Form.TheVariants.{Run, Check, Unknown}
+use Rattle.interview.specs.declared.words.Form.TheVariants.{Run, Check, Gen, Unknown}
 
 -- ---- a run
 
@@ -46,6 +46,14 @@ keeps_stamps Plain = false
 abbrev pub IsCheck : List (List ℕ) → List ℕ → Type 0
 IsCheck words name = words ≡ codes "check" ∷ name ∷ []
 
+-- ---- a load
+
+-- the words are `gen` and this number of sums, from 1 to 1,000, in decimal
+pub record IsGen (words : List (List ℕ)) (n : ℕ) : Type 0 where
+  pub some : 1 ≤ n
+  pub most : n ≤ 1000
+  pub spelled : words ≡ codes "gen" ∷ decimal n ∷ []
+
 -- ---- all words
 
 -- a dictionary is fetched for the words, by this name
@@ -54,7 +62,7 @@ Fetches words name = IsRun words (file name) ⊎ IsCheck words name
 
 -- the words are no others than these
 abbrev pub HasNoForm : List (List ℕ) → Type 0
-HasNoForm words = ((origin : Origin) → IsRun words origin → ⊥) × ((name : List ℕ) → IsCheck words name → ⊥)
+HasNoForm words = ((origin : Origin) → IsRun words origin → ⊥) × ((name : List ℕ) → IsCheck words name → ⊥) × ((n : ℕ) → IsGen words n → ⊥)
 
 abbrev pub origin_of : Asked → Origin
 origin_of (asked.File name) = file name.now
@@ -63,6 +71,7 @@ origin_of (asked.BuiltIn b) = program b
 abbrev pub IsForm : List (List ℕ) → Form → Type 0
 IsForm words (Run engine origin) = IsRunOver words (origin_of origin) engine
 IsForm words (Check name) = IsCheck words name.now
+IsForm words (Gen n) = IsGen words n
 IsForm words Unknown = HasNoForm words
 
 abbrev pub texts : List (String Global) → List (List ℕ)

@@ -1,6 +1,7 @@
 // Laws of the definitions, each the contract of a function that does nothing.
 ghost use Rattle.interview.specs.Engines.{EnginesAgree};
 ghost use Rattle.interview.specs.Interview.{OneEndOfCheck, OneEndOfRun};
+ghost use Rattle.interview.specs.Load.{OneEndOfGen};
 
 /// A check of the bytes of a dictionary comes to one text and one status at most.
 pub fn a_check_has_one_end()
@@ -16,4 +17,9 @@ pub fn a_run_has_one_end()
 #[tactic(auto, using(crate::proofs::EngineLaws::engines_agree))]
 pub fn engines_agree()
     ensures { EnginesAgree }
+{}
+
+/// A load of so many sums comes to one text at most.
+pub fn a_load_has_one_end()
+    ensures { OneEndOfGen }
 {}

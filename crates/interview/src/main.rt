@@ -10,13 +10,16 @@ ghost use Rattle.interview.specs.Codes.{code_of};
 
 mod built_in;
 mod checking;
+mod counting;
 mod ending;
 mod fault_line;
 mod fetching;
 mod laws;
+mod load_run;
 mod obtaining;
 mod script;
 mod status;
+mod summary;
 mod top;
 mod words;
 

@@ -3,16 +3,18 @@ ghost use Rattle.std.specs.Prelude.{◌≡◌, ◌<◌, ℕ, List, map};
 ghost use Rattle.graph_session.specs.Refusals.{SameChecks};
 ghost use Rattle.graph_session.specs.Rules.{rules};
 ghost use Rattle.interview.specs.ScriptEnds.{ScriptEnds, script_did};
-ghost use Rattle.interview.specs.Ends.{Ends, Interviewed, did_by, given_by};
+ghost use Rattle.interview.specs.Ends.{EndsByWord, Interviewed};
+ghost use Rattle.interview.specs.Given.{did_by, given_by};
 ghost use Rattle.answers.specs.Answered.{start};
 ghost use Rattle.interview.specs.Interview.{run_terms};
-ghost use Rattle.interview.specs.Words.{IsRun, program, texts};
+ghost use Rattle.interview.specs.Words.{IsGen, IsRun, program, texts};
 ghost use Rattle.interview.specs.declared.built_in.BuiltIn.{BuiltIn};
 
 use crate::Status;
 use crate::checking::check;
 use crate::ending::{end_by, end_by_fault};
 use crate::fetching::Fetched;
+use crate::load_run::run_load;
 use crate::obtaining::obtain;
 use crate::script::run;
 use crate::words::{Engine, Form, form_of};
@@ -109,7 +111,7 @@ fn attempt<H: Shelf, S: Source, K: Sink>(
     script: &mut S,
     out: &mut K,
 ) -> Status
-    ensures ends { Ends
+    ensures ends { EndsByWord
         (given_by words.now (map {B = List ℕ × ℕ} (λ c. (c.name, c.code)) checks.now.checks.items)
         (map {B = List ℕ × ℕ} (λ r. (r.name, r.code)) table.now.relations.items)
         (H.told shelf.old) (S.left script.old))
@@ -118,6 +120,7 @@ fn attempt<H: Shelf, S: Source, K: Sink>(
         (S.faults script.old) (S.faults script.new) (K.faults out.old) (K.faults out.new)))
         result }
     ensures unfetched { (b : BuiltIn) → IsRun (texts words.now) (program b) → shelf.new ≡ shelf.old }
+    ensures gen_unfetched { (n : ℕ) → IsGen (texts words.now) n → shelf.new ≡ shelf.old }
 {
     match form_of(words) {
         Form::Run(engine, origin) => match obtain(alloc, origin, checks, shelf) {
@@ -128,6 +131,7 @@ fn attempt<H: Shelf, S: Source, K: Sink>(
             Err(status) => status,
         },
         Form::Check(name) => check(alloc, name, checks, shelf, out),
+        Form::Gen(n) => run_load(alloc, n, table, out),
         Form::Unknown => end_by(out, b"usage: interview COMMAND ARGUMENTS\n", Status::Usage),
     }
 }
@@ -135,8 +139,8 @@ fn attempt<H: Shelf, S: Source, K: Sink>(
 /// Does all that the program does, over the words of its command line, without the program's name. The checks are those
 /// that a dictionary may name, and the relations of the table those by which a slot may be watched.
 ///
-/// A dictionary has at most 8,388,608 bytes, a script at most 67,108,864. For a dictionary of the program's own nothing is
-/// fetched: the shelf is as it was.
+/// A dictionary has at most 8,388,608 bytes, a script at most 67,108,864. For a dictionary of the program's own, and for a
+/// load, nothing is fetched: the shelf is as it was.
 pub fn interview<H: Shelf, S: Source, K: Sink>(
     alloc: Global,
     words: &[String],
@@ -155,6 +159,7 @@ pub fn interview<H: Shelf, S: Source, K: Sink>(
         (S.faults script.old) (S.faults script.new) (K.faults out.old) (K.faults out.new)))
         result }
     ensures unfetched { (b : BuiltIn) → IsRun (texts words.now) (program b) → shelf.new ≡ shelf.old }
+    ensures gen_unfetched { (n : ℕ) → IsGen (texts words.now) n → shelf.new ≡ shelf.old }
 {
     attempt(alloc, words, checks, table, shelf, script, out)
 }

@@ -2,6 +2,7 @@ ghost use Rattle.std.specs.Prelude.{[], ◌∷◌, codes};
 ghost use Rattle.interview.specs.Words.{IsForm, texts};
 
 use crate::built_in::BuiltIn;
+use fact_paths::read_member_number;
 
 /// Where the dictionary of a run comes from.
 #[derive(Clone, Copy)]
@@ -28,6 +29,8 @@ pub enum Form<'a> {
     Run(Engine, Origin<'a>),
     /// `check NAME`: to say whether the dictionary of this name is accepted.
     Check(&'a str),
+    /// `gen N`: to run the script of the load with so many sums over its dictionary.
+    Gen(u32),
     /// Nothing, since the words have no form.
     Unknown,
 }
@@ -40,6 +43,22 @@ fn form_of_year<'a>(year: &str) -> Form<'a>
         "2023" => Form::Run(Engine::Incremental, Origin::BuiltIn(BuiltIn::Year2023)),
         "2024" => Form::Run(Engine::Incremental, Origin::BuiltIn(BuiltIn::Year2024)),
         _ => Form::Unknown,
+    }
+}
+
+// What `gen` and this word ask for.
+fn form_of_gen<'a>(number: &str) -> Form<'a>
+    ensures { IsForm (codes "gen" ∷ number.now ∷ []) result }
+{
+    match read_member_number(number) {
+        Some(n) => {
+            if n <= 1000 {
+                Form::Gen(n)
+            } else {
+                Form::Unknown
+            }
+        }
+        None => Form::Unknown,
     }
 }
 
@@ -56,6 +75,7 @@ pub fn form_of(words: &[String]) -> Form<'_>
         }
         [command, name] if command.as_str() == "check" => Form::Check(name.as_str()),
         [command, year] if command.as_str() == "year" => form_of_year(year.as_str()),
+        [command, number] if command.as_str() == "gen" => form_of_gen(number.as_str()),
         _ => Form::Unknown,
     }
 }

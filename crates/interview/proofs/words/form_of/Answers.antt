@@ -27,10 +27,17 @@ returns-in-len2-4 c =
     let words = two_words c.args.words.now c.command-item-then-words-lt3-3.result c.year-item.result _ (omega arith) (omega arith) c.command-item-then-words-lt3-3.is c.year-item.is (sym c.as_str-then-words-lt3-3.ensures.value ∙ same) in
     subst (λ w. IsForm w c.form_of_year.result) (sym (words ∙ ap (λ (l : List ℕ). codes "year" ∷ l ∷ []) (sym c.as_str-in-len2-4.ensures.value))) c.form_of_year.ensures
 
+pub returns-in-len2-5 : goal.returns-in-len2-5
+returns-in-len2-5 c =
+    let same : c.as_str-then-words-lt3-4.result.now ≡ codes "gen" = search rules in
+    let words = two_words c.args.words.now c.command-item-then-words-lt3-4.result c.number-item.result _ (omega arith) (omega arith) c.command-item-then-words-lt3-4.is c.number-item.is (sym c.as_str-then-words-lt3-4.ensures.value ∙ same) in
+    subst (λ w. IsForm w c.form_of_gen.result) (sym (words ∙ ap (λ (l : List ℕ). codes "gen" ∷ l ∷ []) (sym c.as_str-in-len2-5.ensures.value))) c.form_of_gen.ensures
+
 pub returns-in_default : goal.returns-in_default
 returns-in_default c =
     let run : (name : List ℕ) → texts c.args.words.now ≡ codes "run" ∷ name ∷ [] → ⊥ = λ name same. grind (arith, common_steps) in
     let plain : (name : List ℕ) → texts c.args.words.now ≡ codes "run-plain" ∷ name ∷ [] → ⊥ = λ name same. grind (arith, common_steps) in
     let year : (name : List ℕ) → texts c.args.words.now ≡ codes "year" ∷ name ∷ [] → ⊥ = λ name same. grind (arith, common_steps) in
     let check : (name : List ℕ) → texts c.args.words.now ≡ codes "check" ∷ name ∷ [] → ⊥ = λ name same. grind (arith, common_steps) in
-    no_form (texts c.args.words.now) run plain year check
+    let gen : (number : List ℕ) → texts c.args.words.now ≡ codes "gen" ∷ number ∷ [] → ⊥ = λ number same. grind (arith, common_steps) in
+    no_form (texts c.args.words.now) run plain year check gen

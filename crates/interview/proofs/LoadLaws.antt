@@ -1,0 +1,148 @@
+-- The words of a load, its rules, and what it comes to.
+use Rattle.std.proofs.Common.{◌≡◌, ℕ, ◌<◌, ◌≤◌, ◌^◌, List, [], ◌∷◌, ◌++◌, length, Option, Some, Result, Ok, Err, inl, inr, refl, sym, ap, subst, ◌∙◌, arith}
+use Rattle.std.specs.Prelude.{codes, decimal, IfOk, Vec}
+use Rattle.std.specs.declared.alloc.Global.{Global}
+use Rattle.fact_values.specs.declared.memory.NoMemory.{NoMemory}
+use Rattle.std.specs.Io.KnownBytes.{Appends}
+use Rattle.std.proofs.lemmas.Fmt.{decimal_injective}
+use Rattle.fact_paths.specs.Paths.{SpellsMemberNumber}
+use Rattle.fg_io.specs.Outside.{MayBe}
+use Rattle.fg_io.specs.Sent.{Sent}
+use Rattle.script_lines.specs.Lines.{lines_of}
+use Rattle.dict_tree.specs.Dictionary.{Dictionary as Tree}
+use Rattle.dict_types.specs.Typed.{typed_dictionary}
+use Rattle.dict_types.specs.TypedParts.{TypedDictionary}
+use Rattle.dict_types.specs.declared.fault.TypeFault.{TypeFault}
+use Rattle.dict_types.proofs.FoundLaws.{well_typed_is_found}
+use Rattle.dict_order.specs.MentionGraph.{mention_graph}
+use Rattle.dict_order.specs.Ranks.{AreRanks}
+use Rattle.dict_order.proofs.RankLaws.{only_one}
+use Rattle.dictionary.specs.Accepted.{Accepted, IsAccepted, Named}
+use Rattle.dictionary.specs.Keeping.{node_count}
+use Rattle.dict_gen.specs.Script.{script}
+use Rattle.graph_session.specs.Rules.{Rules, tree_of}
+use Rattle.session_lines.specs.Stepping.{Terms}
+use Rattle.interview.specs.declared.built_in.BuiltIn.TheVariants.{Year2023, Year2024}
+use Rattle.interview.specs.declared.status.Status.{Status}
+use Rattle.interview.specs.declared.status.Status.TheVariants.{Done}
+use Rattle.interview.specs.declared.words.Engine.{Engine}
+use Rattle.interview.specs.declared.words.Engine.TheVariants.{Incremental, Plain}
+use Rattle.interview.specs.Words.{Fetches, HasNoForm, IsCheck, IsGen, IsRun, IsRunOver, Origin, file, program}
+use Rattle.interview.specs.Devices.{Counted, Stream}
+use Rattle.interview.specs.Interview.{Defined, defined_script, run_terms}
+use Rattle.interview.specs.StepEnds.{EndedBy}
+use Rattle.interview.specs.ScriptEnds.{ScriptDid, ScriptEndsAs}
+use Rattle.interview.specs.Summary.{summary}
+use Rattle.interview.specs.Load.{GeneratedAs, GensTo, IsOfLoad, OneEndOfGen, defined_gen}
+
+-- ---- words
+
+no_run_of_gen : (number : List ℕ) (origin : Origin) (engine : Engine) → IsRunOver (codes "gen" ∷ number ∷ []) origin engine → ⊥
+no_run_of_gen number (file name) Incremental asked = let both : codes "gen" ∷ number ∷ [] ≡ codes "run" ∷ name ∷ [] = asked in cc
+no_run_of_gen number (file name) Plain asked = let both : codes "gen" ∷ number ∷ [] ≡ codes "run-plain" ∷ name ∷ [] = asked in cc
+no_run_of_gen number (program Year2023) Incremental asked = let both : codes "gen" ∷ number ∷ [] ≡ codes "year" ∷ codes "2023" ∷ [] = asked in cc
+no_run_of_gen number (program Year2024) Incremental asked = let both : codes "gen" ∷ number ∷ [] ≡ codes "year" ∷ codes "2024" ∷ [] = asked in cc
+no_run_of_gen number (program b) Plain asked = asked
+
+no_check_of_gen : (number name : List ℕ) → IsCheck (codes "gen" ∷ number ∷ []) name → ⊥
+no_check_of_gen number name asked = let both : codes "gen" ∷ number ∷ [] ≡ codes "check" ∷ name ∷ [] = asked in cc
+
+pub gen_is_no_run : (words : List (List ℕ)) (n : ℕ) (origin : Origin) → IsGen words n → IsRun words origin → ⊥
+gen_is_no_run words n origin gen run = no_run_of_gen (decimal n) origin run.engine (subst (λ w. IsRunOver w origin run.engine) gen.spelled run.over)
+
+pub gen_is_no_check : (words : List (List ℕ)) (n : ℕ) (name : List ℕ) → IsGen words n → IsCheck words name → ⊥
+gen_is_no_check words n name gen check = no_check_of_gen (decimal n) name (subst (λ w. IsCheck w name) gen.spelled check)
+
+-- nothing is fetched for a load
+pub gen_fetches_nothing : (words : List (List ℕ)) (n : ℕ) (name : List ℕ) → IsGen words n → Fetches words name → ⊥
+gen_fetches_nothing words n name gen (inl run) = gen_is_no_run words n (file name) gen run
+gen_fetches_nothing words n name gen (inr check) = gen_is_no_check words n name gen check
+
+same_second : (a b : List ℕ) → codes "gen" ∷ a ∷ [] ≡ codes "gen" ∷ b ∷ [] → a ≡ b
+same_second a b both = cc
+
+same_number : (n m : ℕ) → n ≤ 1000000 → m ≤ 1000000 → decimal n ≡ decimal m → n ≡ m
+same_number n m few low same = decimal_injective n m (omega (arith, few)) (omega (arith, low)) same
+
+pub same_gen : (words : List (List ℕ)) (n m : ℕ) → IsGen words n → IsGen words m → n ≡ m
+same_gen words n m g h = same_number n m (let few = g.most in omega (arith, few)) (let few = h.most in omega (arith, few)) (same_second (decimal n) (decimal m) (sym g.spelled ∙ h.spelled))
+
+-- behind `gen` stands no such number
+pub no_number : (number : List ℕ) → ((n : ℕ) → 1 ≤ n → n ≤ 1000 → number ≡ decimal n → ⊥) → HasNoForm (codes "gen" ∷ number ∷ [])
+no_number number none = (λ o asked. no_run_of_gen number o asked.engine asked.over, no_check_of_gen number, λ n asked. none n asked.some asked.most (same_second number (decimal n) asked.spelled))
+
+pub beyond : (number : List ℕ) (k : ℕ) → 1000 < k → k ≤ 1000000 → number ≡ decimal k → (n : ℕ) → 1 ≤ n → n ≤ 1000 → number ≡ decimal n → ⊥
+beyond number k high low spelled n some most other = let same = same_number n k (omega (arith, most)) low (sym other ∙ spelled) in absurd (omega (arith, same, most, high))
+
+-- what the word behind `gen` spells, or doesn't
+pub is_number : (number : List ℕ) (n : ℕ) → SpellsMemberNumber number n → n ≤ 1000 → IsGen (codes "gen" ∷ number ∷ []) n
+is_number number n spelled most = record { some = spelled.0.0; most = most; spelled = ap (λ (l : List ℕ). codes "gen" ∷ l ∷ []) spelled.1 }
+
+pub too_many : (number : List ℕ) (n : ℕ) → SpellsMemberNumber number n → 1000 < n → HasNoForm (codes "gen" ∷ number ∷ [])
+too_many number n spelled high = no_number number (beyond number n high spelled.0.1 spelled.1)
+
+pub not_spelled : (number : List ℕ) → ((k : ℕ) → SpellsMemberNumber number k → ⊥) → HasNoForm (codes "gen" ∷ number ∷ [])
+not_spelled number none = no_number number (λ n some most same. none n ((some, omega (arith, most)), same))
+
+-- ---- one dictionary
+
+abbrev made : Tree → TypedDictionary → List ℕ → Accepted
+made d t ranks = record { tree = d; typed = t; ranks = ranks }
+
+abbrev typed : TypedDictionary → Result TypedDictionary TypeFault
+typed t = Ok t
+
+one_typed : (r : Result TypedDictionary TypeFault) (t u : TypedDictionary) → r ≡ Ok t → r ≡ Ok u → t ≡ u
+one_typed r t u h k = let same : typed t ≡ typed u = sym h ∙ k in cc
+
+-- what is accepted of one tree is one
+-- -- move down
+one_accepted : (names : List (List ℕ)) (d e : Accepted) → d.tree ≡ e.tree → IsAccepted names d → IsAccepted names e → d ≡ e
+one_accepted names d e same h k =
+    let found : typed_dictionary e.tree names ≡ typed d.typed = ap (λ (x : Tree). typed_dictionary x names) (sym same) ∙ well_typed_is_found d.tree names d.typed h.typed in
+    let ranked = subst (λ (x : Tree). AreRanks (mention_graph x) d.ranks) same h.ranked in
+    let types = one_typed (typed_dictionary e.tree names) d.typed e.typed found (well_typed_is_found e.tree names e.typed k.typed) in
+    let ranks = only_one (mention_graph e.tree) d.ranks e.ranks ranked k.ranked in
+    ap (λ (x : Tree). made x d.typed d.ranks) same ∙ ap (λ (x : TypedDictionary). made e.tree x d.ranks) types ∙ ap (made e.tree e.typed) ranks
+
+pub one_of_load : (n : ℕ) (r s : Rules) → IsOfLoad n r → IsOfLoad n s → r ≡ s
+one_of_load n r s h k =
+    let same = one_accepted [] r.accepted s.accepted (h.facts ∙ sym k.facts) h.is_accepted k.is_accepted in
+    let checks = h.checks ∙ sym k.checks in
+    λ i. record { accepted = same i; checks = checks i }
+
+pub one_gen : OneEndOfGen
+one_gen relations n d e (r, is, to) (s, is_other, to_other) = to ∙ ap (λ q. defined_gen q relations n) (one_of_load n r s is is_other) ∙ sym to_other
+
+-- ---- what it comes to
+
+-- a script that is told was answered whole into a sink that is told
+pub told_replies : (r : Rules) (terms : Terms) (did : ScriptDid) (script taken : List ℕ) → did.left.before ≡ Some script → did.taken.before ≡ Some [] → did.taken.after ≡ Some taken → ScriptEndsAs r terms did Done
+    → taken ≡ (defined_script r terms script).text
+told_replies r terms did script taken left before after ends =
+    let text = (defined_script r terms ends.0).text in
+    let same : script ≡ ends.0 = subst (λ (o : Option (List ℕ)). MayBe o ends.0) left ends.1 in
+    let took : taken ≡ text = subst (λ (o : Option (List ℕ)). Appends (Some []) o text) after (subst (λ (o : Option (List ℕ)). Appends o did.taken.after text) before ends.3) in
+    took ∙ ap (λ s. (defined_script r terms s).text) (sym same)
+
+pub summed : (r : Rules) (relations : List Named) (n facts nodes lines : ℕ) (made_script replies text : List ℕ)
+    → facts ≡ length (tree_of r).facts → nodes ≡ node_count (tree_of r) → lines ≡ length (lines_of made_script) → made_script ≡ script n → replies ≡ (defined_script r (run_terms Incremental relations) made_script).text
+    → text ≡ summary n facts nodes lines (lines_of replies) → text ≡ (defined_gen r relations n).text
+summed r relations n facts nodes lines made_script replies text a b c same replied is =
+    let count = c ∙ ap (λ (s : List ℕ). length (lines_of s)) same in
+    let told = replied ∙ ap (λ (s : List ℕ). (defined_script r (run_terms Incremental relations) s).text) same in
+    is ∙ (λ i. summary n (a i) (b i) (count i) (lines_of (told i)))
+
+pub summed_of_load : (r : Rules) (relations : List Named) (n facts nodes lines : ℕ) (made_script replies : List ℕ) → IsOfLoad n r
+    → facts ≡ length (tree_of r).facts → nodes ≡ node_count (tree_of r) → lines ≡ length (lines_of made_script) → made_script ≡ script n → replies ≡ (defined_script r (run_terms Incremental relations) made_script).text
+    → (result : Result (Vec ℕ Global) NoMemory) → IfOk result (λ text. text.items ≡ summary n facts nodes lines (lines_of replies))
+    → IfOk result (λ text. (q : Rules) × IsOfLoad n q × (text.items ≡ (defined_gen q relations n).text))
+summed_of_load r relations n facts nodes lines made_script replies is a b c same replied (Ok text) sum = (r, is, summed r relations n facts nodes lines made_script replies text.items a b c same replied sum)
+summed_of_load r relations n facts nodes lines made_script replies is a b c same replied (Err fault) sum = tt
+
+pub generated_by : (relations : List Named) (n : ℕ) (taken : Stream) (sink : Counted) (r : Rules) (text : List ℕ) → IsOfLoad n r → text ≡ (defined_gen r relations n).text
+    → (status : Status) → EndedBy taken.before taken.after sink.before sink.after text Done status → GeneratedAs relations n taken sink status
+generated_by relations n taken sink r text is same status (inl (ended, wrote)) =
+    subst (GeneratedAs relations n taken sink) (sym ended) (defined_gen r relations n, (r, is, refl), subst (Appends taken.before taken.after) same wrote)
+generated_by relations n taken sink r text is same status (inr (ended, rose, part)) =
+    subst (GeneratedAs relations n taken sink) (sym ended) (rose, (defined_gen r relations n, (r, is, refl), subst (λ t. (rest : List ℕ) × Sent taken.before taken.after t rest) same part))

@@ -1,0 +1,50 @@
+-- What `gen` comes to, and how it ends.
+use Rattle.std.specs.Prelude.{◌≡◌, ◌⊎◌, ℕ, List, [], ◌∷◌, length}
+use Rattle.script_lines.specs.Lines.{lines_of}
+use Rattle.dictionary.specs.Accepted.{IsAccepted, Named}
+use Rattle.dictionary.specs.Keeping.{node_count}
+use Rattle.dict_gen.specs.Chain.{chain}
+use Rattle.dict_gen.specs.Script.{script}
+use Rattle.graph_session.specs.Rules.{Rules, tree_of}
+use Rattle.interview.specs.declared.status.Status.{Status}
+use Rattle.interview.specs.declared.status.Status.TheVariants.{Done, WriteFault, NoMemory}
+use Rattle.interview.specs.declared.words.Engine.TheVariants.{Incremental}
+use Rattle.interview.specs.Devices.{Counted, Rises, SentNothing, SentPart, SentWhole, Stream}
+use Rattle.interview.specs.Interview.{Defined, defined_script, run_terms}
+use Rattle.interview.specs.Summary.{summary}
+
+-- ---- what it comes to
+
+-- what a session over the dictionary of the load with so many sums goes by: it is accepted, and names no check
+pub record IsOfLoad (n : ℕ) (r : Rules) : Type 0 where
+  pub facts : tree_of r ≡ chain n
+  pub is_accepted : IsAccepted [] r.accepted
+  pub checks : r.checks ≡ []
+
+-- what a run of the script of the load is to write over these rules
+abbrev pub replies_to_load : Rules → List Named → ℕ → List ℕ
+replies_to_load r relations n = (defined_script r (run_terms Incremental relations) (script n)).text
+
+-- the summary of these replies
+abbrev pub defined_gen : Rules → List Named → ℕ → Defined
+defined_gen r relations n = record {
+  text = summary n (length (tree_of r).facts) (node_count (tree_of r)) (length (lines_of (script n))) (lines_of (replies_to_load r relations n));
+  status = Done;
+}
+
+-- what `gen` is to give with so many sums
+abbrev pub GensTo : List Named → ℕ → Defined → Type 0
+GensTo relations n d = (r : Rules) × IsOfLoad n r × (d ≡ defined_gen r relations n)
+
+-- it comes to one text at most
+abbrev pub OneEndOfGen : Type 0
+OneEndOfGen = (relations : List Named) (n : ℕ) (d e : Defined) → GensTo relations n d → GensTo relations n e → d ≡ e
+
+-- ---- how it ends
+
+-- by its status: what its sink took, and why
+abbrev pub GeneratedAs : List Named → ℕ → Stream → Counted → Status → Type 0
+GeneratedAs relations n taken sink Done = (d : Defined) × GensTo relations n d × SentWhole taken d.text
+GeneratedAs relations n taken sink WriteFault = Rises sink × ((d : Defined) × GensTo relations n d × SentPart taken d.text)
+GeneratedAs relations n taken sink NoMemory = SentNothing taken
+GeneratedAs relations n taken sink other = ⊥

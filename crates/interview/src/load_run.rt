@@ -1,0 +1,109 @@
+// Makes a load, runs its script over its dictionary, and says what was replied.
+ghost use Rattle.std.specs.Prelude.{◌≡◌, ◌≤◌, ◌<◌, ℕ, List, [], Some, map, IfOk};
+ghost use Rattle.dictionary.specs.Accepted.{accepted};
+ghost use Rattle.graph_session.specs.Rules.{Rules, rules};
+ghost use Rattle.interview.specs.Interview.{defined_script, run_terms};
+ghost use Rattle.interview.specs.Load.{GeneratedAs, IsOfLoad, defined_gen};
+ghost use Rattle.interview.specs.ScriptEnds.{ScriptEnds, script_did};
+ghost use Rattle.interview.specs.declared.words.Engine.TheVariants.{Incremental};
+
+use crate::Status;
+use crate::counting::line_count;
+use crate::ending::end_by;
+use crate::script::run;
+use crate::summary::summary;
+use dict_gen::make;
+use dictionary::Dictionary;
+use fact_values::NoMemory;
+use fact_watch::WatchTable;
+use fg_io::{MemSink, MemSource, Sink};
+use graph_session::Session;
+use recalc::Recalc;
+use std::alloc::Global;
+use std::marker::Brand;
+use std::sync::ledger::{Blank, Ledger};
+use steps::Steps;
+use text_checks::CheckTable;
+
+// Runs the script over the dictionary, which names no check. Its steps are counted for nobody else.
+fn run_made<L: Ledger>(
+    alloc: Global,
+    dictionary: Dictionary,
+    table: &WatchTable,
+    script: &mut MemSource,
+    out: &mut MemSink,
+    blank: Blank,
+) -> Status
+    requires name { blank.name ≡ L.name }
+    requires parts { blank.parts ≡ L.parts }
+    requires some { 0 < blank.parts }
+    requires no_checks { dictionary.checks ≡ [] }
+    ensures ends { ScriptEnds (rules dictionary)
+        (run_terms Incremental (map {B = List ℕ × ℕ} (λ r. (r.name, r.code)) table.now.relations.items))
+        (script_did (Some script.old.left) (Some script.new.left) (Some out.old.taken) (Some out.new.taken)
+        script.old.faults script.new.faults out.old.faults out.new.faults)
+        result }
+{
+    let checks = CheckTable::new(alloc);
+    let mut steps = Steps::<L>::new(blank);
+    match Session::<Recalc>::new(alloc, dictionary) {
+        Ok(mut session) => run(alloc, &mut session, table, &checks, script, out, &mut steps),
+        Err(NoMemory) => Status::NoMemory,
+    }
+}
+
+// What is replied to the script over the dictionary, which names no check. Where there is no room for it, memory is wanting.
+fn replies_to(
+    alloc: Global,
+    dictionary: Dictionary,
+    script: Vec<u8>,
+    table: &WatchTable,
+) -> Result<MemSink, NoMemory>
+    requires { dictionary.checks ≡ [] }
+    ensures replies { IfOk result (λ sink. sink.taken ≡ (defined_script (rules dictionary)
+        (run_terms Incremental (map {B = List ℕ × ℕ} (λ r. (r.name, r.code)) table.now.relations.items)) script.items).text) }
+{
+    let mut source = MemSource::new(script, u32::MAX, Vec::new(alloc));
+    let mut sink = MemSink::new(alloc, u32::MAX, Vec::new(alloc))?;
+    match run_made::<Brand>(
+        alloc,
+        dictionary,
+        table,
+        &mut source,
+        &mut sink,
+        Blank::new(1),
+    ) {
+        Status::Done => Ok(sink),
+        _ => Err(NoMemory),
+    }
+}
+
+// The summary of the load with `n` sums.
+fn summary_of_load(alloc: Global, n: u32, table: &WatchTable) -> Result<Vec<u8>, NoMemory>
+    requires some { 1 ≤ n }
+    requires most { n ≤ 1000 }
+    ensures summary { IfOk result (λ text. (r : Rules) × IsOfLoad n r × (text.items
+        ≡ (defined_gen r (map {B = List ℕ × ℕ} (λ r. (r.name, r.code)) table.now.relations.items) n).text)) }
+{
+    let made = make(alloc, n)?;
+    let facts = made.dict.fact_count();
+    let nodes = made.dict.node_count();
+    let lines = line_count(&made.script);
+    let replies = replies_to(alloc, made.dict, made.script, table)?;
+    summary(alloc, n, facts, nodes, lines, replies.bytes())
+}
+
+/// Makes the load with `n` sums, runs its script over its dictionary, and writes the summary of what was replied.
+pub fn run_load<K: Sink>(alloc: Global, n: u32, table: &WatchTable, out: &mut K) -> Status
+    requires some { 1 ≤ n }
+    requires most { n ≤ 1000 }
+    ensures generated { GeneratedAs (map {B = List ℕ × ℕ} (λ r. (r.name, r.code)) table.now.relations.items) n
+        (record { before = K.taken out.old; after = K.taken out.new })
+        (record { before = K.faults out.old; after = K.faults out.new })
+        result }
+{
+    match summary_of_load(alloc, n, table) {
+        Ok(text) => end_by(out, &text, Status::Done),
+        Err(NoMemory) => Status::NoMemory,
+    }
+}
