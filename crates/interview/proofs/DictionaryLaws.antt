@@ -3,7 +3,7 @@ use Rattle.std.proofs.Common.{◌≡◌, ℕ, false, List, [], ◌∷◌, Result
 use Rattle.std.specs.Prelude.{codes, decimal, IfOk}
 use Rattle.fact_values.specs.declared.memory.NoMemory.{NoMemory}
 use Rattle.dictionary.specs.declared.fault.DictFault.{DictFault}
-use Rattle.dictionary.specs.Accepted.{IsAccepted, Kept, Named, accepted, names_of}
+use Rattle.dictionary.specs.Accepted.{Accepted, IsAccepted, Kept, Named, accepted, names_of}
 use Rattle.dictionary.specs.Checks.{has_check}
 use Rattle.dictionary.specs.Faults.{IsFaultOf}
 use Rattle.dictionary.proofs.FirstLaws.{accepted_has_none, one_dictionary, one_fault}
@@ -12,19 +12,25 @@ use Rattle.tax_2023.proofs.NoFault.{no_fault_2023, no_fault_2024}
 use Rattle.tax_2023.proofs.TableLaw.{one_of_year, tables_hold_2023, tables_hold_2024}
 use Rattle.tax_2023.specs.Facts.{dictionary}
 use Rattle.tax_2023.specs.Figures.{figures}
-use Rattle.tax_2023.specs.Laws.{IsOfYear, TablesHold}
-use Rattle.tax_2023.specs.Years.{Year}
+use Rattle.tax_2023.specs.Laws.{IsOfYear}
+use Rattle.tax_2023.specs.Years.{Year, tables_2023, tables_2024}
+use Rattle.tax_income.specs.Facts.{income_dictionary}
+use Rattle.tax_income.specs.Laws.{IsOfIncome}
+use Rattle.tax_income.proofs.IncomeDictionary.{no_fault_of_income}
+use Rattle.tax_income.proofs.IncomeLaw.{income_tables_hold}
 use Rattle.interview.specs.declared.fetching.Fetched.{Fetched}
 use Rattle.interview.specs.declared.fetching.Fetched.TheVariants as fetches
 use Rattle.interview.specs.declared.status.Status.{Status}
 use Rattle.interview.specs.declared.built_in.BuiltIn.{BuiltIn}
-use Rattle.interview.specs.declared.built_in.BuiltIn.TheVariants.{Year2023, Year2024}
+use Rattle.interview.specs.declared.built_in.BuiltIn.TheVariants.{Year2023, Year2024, Income2023}
 use Rattle.fg_io.specs.Outside.{MayHold, Told, missing}
 use Rattle.interview.specs.declared.words.Engine.{Engine}
 use Rattle.interview.specs.declared.words.Engine.TheVariants.{Incremental, Plain}
 use Rattle.interview.specs.Words.{Fetches, HasNoForm, IsCheck, IsGen, IsRun, IsRunOver, Origin, file, program, words_for}
-use Rattle.interview.specs.Dictionaries.{Content, Gives, HasFault, IsAcceptedAs, MayGive, brought, facts_of, spelled, tables_of}
-use Rattle.interview.specs.Interview.{OneEndOfRun, defined_fault, defined_script}
+use Rattle.interview.specs.Dictionaries.{Content, Gives, HasFault, IsAcceptedAs, IsBrought, MayGive, brought, facts_of, spelled}
+use Rattle.session_lines.specs.Stepping.{Standing}
+use Rattle.interview.specs.Interview.{OneEndOfRun, TablesHoldIn, defined_fault, defined_script}
+use Rattle.interview.proofs.AcceptedLaws.{one_accepted}
 use Rattle.interview.specs.StepEnds.{FetchedAs, ObtainedAs}
 
 -- ---- words
@@ -39,6 +45,7 @@ apart_over words (file a) Incremental b p q = let both : codes "run" ∷ a ∷ [
 apart_over words (file a) Plain b p q = let both : codes "run-plain" ∷ a ∷ [] ≡ codes "check" ∷ b ∷ [] = sym p ∙ q in cc
 apart_over words (program Year2023) Incremental b p q = let both : codes "year" ∷ codes "2023" ∷ [] ≡ codes "check" ∷ b ∷ [] = sym p ∙ q in cc
 apart_over words (program Year2024) Incremental b p q = let both : codes "year" ∷ codes "2024" ∷ [] ≡ codes "check" ∷ b ∷ [] = sym p ∙ q in cc
+apart_over words (program Income2023) Incremental b p q = let both : codes "income" ∷ codes "2023" ∷ [] ≡ codes "check" ∷ b ∷ [] = sym p ∙ q in cc
 apart_over words (program c) Plain b p q = absurd p
 
 pub not_both : (words : List (List ℕ)) (origin : Origin) (name : List ℕ) → IsRun words origin → IsCheck words name → ⊥
@@ -58,6 +65,8 @@ not_brought words Year2023 a Incremental Incremental p q = let both : codes "yea
 not_brought words Year2023 a Incremental Plain p q = let both : codes "year" ∷ codes "2023" ∷ [] ≡ codes "run-plain" ∷ a ∷ [] = sym p ∙ q in cc
 not_brought words Year2024 a Incremental Incremental p q = let both : codes "year" ∷ codes "2024" ∷ [] ≡ codes "run" ∷ a ∷ [] = sym p ∙ q in cc
 not_brought words Year2024 a Incremental Plain p q = let both : codes "year" ∷ codes "2024" ∷ [] ≡ codes "run-plain" ∷ a ∷ [] = sym p ∙ q in cc
+not_brought words Income2023 a Incremental Incremental p q = let both : codes "income" ∷ codes "2023" ∷ [] ≡ codes "run" ∷ a ∷ [] = sym p ∙ q in cc
+not_brought words Income2023 a Incremental Plain p q = let both : codes "income" ∷ codes "2023" ∷ [] ≡ codes "run-plain" ∷ a ∷ [] = sym p ∙ q in cc
 not_brought words b a Plain other p q = absurd p
 
 -- each year has words of its own: the fourth digit differs
@@ -65,11 +74,20 @@ abbrev fourth_digit : List (List ℕ) → ℕ
 fourth_digit (first ∷ (a ∷ b ∷ c ∷ d ∷ rest) ∷ more) = d
 fourth_digit words = 0
 
+abbrev first_letter : List (List ℕ) → ℕ
+first_letter ((a ∷ rest) ∷ more) = a
+first_letter words = 0
+
 one_year : (words : List (List ℕ)) (b c : BuiltIn) → words ≡ words_for b → words ≡ words_for c → b ≡ c
 one_year words Year2023 Year2023 p q = refl
 one_year words Year2024 Year2024 p q = refl
 one_year words Year2023 Year2024 p q = absurd (omega (arith, ap fourth_digit (sym p ∙ q)))
 one_year words Year2024 Year2023 p q = absurd (omega (arith, ap fourth_digit (sym p ∙ q)))
+one_year words Income2023 Income2023 p q = refl
+one_year words Income2023 Year2023 p q = absurd (omega (arith, ap first_letter (sym p ∙ q)))
+one_year words Income2023 Year2024 p q = absurd (omega (arith, ap first_letter (sym p ∙ q)))
+one_year words Year2023 Income2023 p q = absurd (omega (arith, ap first_letter (sym p ∙ q)))
+one_year words Year2024 Income2023 p q = absurd (omega (arith, ap first_letter (sym p ∙ q)))
 
 -- words run over one dictionary, and over one engine
 one_origin : (words : List (List ℕ)) (o p : Origin) (e f : Engine) → IsRunOver words o e → IsRunOver words p f → o ≡ p
@@ -115,6 +133,7 @@ no_run_of_year year a b (file name) Incremental asked = let both : codes "year" 
 no_run_of_year year a b (file name) Plain asked = let both : codes "year" ∷ year ∷ [] ≡ codes "run-plain" ∷ name ∷ [] = asked in cc
 no_run_of_year year a b (program Year2023) Incremental asked = a (same_second (codes "year") (codes "year") year (codes "2023") asked)
 no_run_of_year year a b (program Year2024) Incremental asked = b (same_second (codes "year") (codes "year") year (codes "2024") asked)
+no_run_of_year year a b (program Income2023) Incremental asked = let both : codes "year" ∷ year ∷ [] ≡ codes "income" ∷ codes "2023" ∷ [] = asked in cc
 no_run_of_year year a b (program c) Plain asked = asked
 
 no_check_of_year : (year name : List ℕ) → IsCheck (codes "year" ∷ year ∷ []) name → ⊥
@@ -127,18 +146,37 @@ no_gen_of_year year n asked = let both : codes "year" ∷ year ∷ [] ≡ codes 
 pub no_year : (year : List ℕ) → (year ≡ codes "2023" → ⊥) → (year ≡ codes "2024" → ⊥) → HasNoForm (codes "year" ∷ year ∷ [])
 no_year year a b = (λ o asked. no_run_of_year year a b o asked.engine asked.over, no_check_of_year year, no_gen_of_year year)
 
+no_run_of_income : (year : List ℕ) → (year ≡ codes "2023" → ⊥) → (o : Origin) (engine : Engine) → IsRunOver (codes "income" ∷ year ∷ []) o engine → ⊥
+no_run_of_income year a (file name) Incremental asked = let both : codes "income" ∷ year ∷ [] ≡ codes "run" ∷ name ∷ [] = asked in cc
+no_run_of_income year a (file name) Plain asked = let both : codes "income" ∷ year ∷ [] ≡ codes "run-plain" ∷ name ∷ [] = asked in cc
+no_run_of_income year a (program Year2023) Incremental asked = let both : codes "income" ∷ year ∷ [] ≡ codes "year" ∷ codes "2023" ∷ [] = asked in cc
+no_run_of_income year a (program Year2024) Incremental asked = let both : codes "income" ∷ year ∷ [] ≡ codes "year" ∷ codes "2024" ∷ [] = asked in cc
+no_run_of_income year a (program Income2023) Incremental asked = a (same_second (codes "income") (codes "income") year (codes "2023") asked)
+no_run_of_income year a (program c) Plain asked = asked
+
+no_check_of_income : (year name : List ℕ) → IsCheck (codes "income" ∷ year ∷ []) name → ⊥
+no_check_of_income year name asked = let both : codes "income" ∷ year ∷ [] ≡ codes "check" ∷ name ∷ [] = asked in cc
+
+no_gen_of_income : (year : List ℕ) (n : ℕ) → IsGen (codes "income" ∷ year ∷ []) n → ⊥
+no_gen_of_income year n asked = let both : codes "income" ∷ year ∷ [] ≡ codes "gen" ∷ decimal n ∷ [] = asked.spelled in cc
+
+-- behind `income` stands no year
+pub no_income : (year : List ℕ) → (year ≡ codes "2023" → ⊥) → HasNoForm (codes "income" ∷ year ∷ [])
+no_income year a = (λ o asked. no_run_of_income year a o asked.engine asked.over, no_check_of_income year, no_gen_of_income year)
+
 no_run : (words : List (List ℕ)) → ((name : List ℕ) → words ≡ codes "run" ∷ name ∷ [] → ⊥) → ((name : List ℕ) → words ≡ codes "run-plain" ∷ name ∷ [] → ⊥) → ((year : List ℕ) → words ≡ codes "year" ∷ year ∷ [] → ⊥)
-    → (o : Origin) (engine : Engine) → IsRunOver words o engine → ⊥
-no_run words run plain year (file name) Incremental asked = run name asked
-no_run words run plain year (file name) Plain asked = plain name asked
-no_run words run plain year (program Year2023) Incremental asked = year (codes "2023") asked
-no_run words run plain year (program Year2024) Incremental asked = year (codes "2024") asked
-no_run words run plain year (program b) Plain asked = asked
+    → ((year : List ℕ) → words ≡ codes "income" ∷ year ∷ [] → ⊥) → (o : Origin) (engine : Engine) → IsRunOver words o engine → ⊥
+no_run words run plain year income (file name) Incremental asked = run name asked
+no_run words run plain year income (file name) Plain asked = plain name asked
+no_run words run plain year income (program Year2023) Incremental asked = year (codes "2023") asked
+no_run words run plain year income (program Year2024) Incremental asked = year (codes "2024") asked
+no_run words run plain year income (program Income2023) Incremental asked = income (codes "2023") asked
+no_run words run plain year income (program b) Plain asked = asked
 
 -- no first word of a form is followed by one word
 pub no_form : (words : List (List ℕ)) → ((name : List ℕ) → words ≡ codes "run" ∷ name ∷ [] → ⊥) → ((name : List ℕ) → words ≡ codes "run-plain" ∷ name ∷ [] → ⊥) → ((year : List ℕ) → words ≡ codes "year" ∷ year ∷ [] → ⊥)
-    → ((name : List ℕ) → words ≡ codes "check" ∷ name ∷ [] → ⊥) → ((number : List ℕ) → words ≡ codes "gen" ∷ number ∷ [] → ⊥) → HasNoForm words
-no_form words run plain year check gen = (λ o asked. no_run words run plain year o asked.engine asked.over, check, λ n asked. gen (decimal n) asked.spelled)
+    → ((name : List ℕ) → words ≡ codes "check" ∷ name ∷ [] → ⊥) → ((number : List ℕ) → words ≡ codes "gen" ∷ number ∷ [] → ⊥) → ((year : List ℕ) → words ≡ codes "income" ∷ year ∷ [] → ⊥) → HasNoForm words
+no_form words run plain year check gen income = (λ o asked. no_run words run plain year income o asked.engine asked.over, check, λ n asked. gen (decimal n) asked.spelled)
 
 -- ---- what comes from there
 
@@ -160,18 +198,27 @@ pub brought_has_none : (b : BuiltIn) (fault : DictFault) → IsFaultOf (facts_of
 unfolding facts_of
 brought_has_none Year2023 = no_fault_2023
 brought_has_none Year2024 = no_fault_2024
+brought_has_none Income2023 = no_fault_of_income
 
-names_no_check : (y : Year) → has_check (dictionary (figures y)) ≡ false
-names_no_check y = refl
+-- what the program brings is accepted as this
+pub brings : (IsThis : Accepted → Type 0) (r : Result Kept NoMemory) → IfOk r (λ d. IsThis (accepted d)) → IfOk r (λ d. d.checks ≡ []) → IfOk r (λ d. IsThis (accepted d) × (d.checks ≡ []))
+brings IsThis (Ok d) h k = (h, k)
+brings IsThis (Err fault) h k = tt
 
--- what the program brings is accepted as this, and names no check
-pub brings : (y : Year) (r : Result Kept NoMemory) → IfOk r (λ d. IsOfYear y (accepted d)) → IfOk r (λ d. d.checks ≡ []) → IfOk r (λ d. IsOfYear y (accepted d) × (d.checks ≡ []))
-brings y (Ok d) h k = (h, k)
-brings y (Err fault) h k = tt
+-- and names no check
+year_names_none : (y : Year) → has_check (dictionary (figures y)) ≡ false
+year_names_none y = refl
 
-pub brings_no_check : (y : Year) (r : Result Kept NoMemory) → IfOk r (λ d. IsOfYear y (accepted d)) → IfOk r (λ d. has_check (accepted d).tree ≡ false)
-brings_no_check y (Ok d) h = ap has_check h.facts ∙ names_no_check y
-brings_no_check y (Err fault) h = tt
+income_names_none : (y : Year) → has_check (income_dictionary (figures y)) ≡ false
+income_names_none y = refl
+
+pub year_brings_no_check : (y : Year) (r : Result Kept NoMemory) → IfOk r (λ d. IsOfYear y (accepted d)) → IfOk r (λ d. has_check (accepted d).tree ≡ false)
+year_brings_no_check y (Ok d) h = ap has_check h.facts ∙ year_names_none y
+year_brings_no_check y (Err fault) h = tt
+
+pub income_brings_no_check : (r : Result Kept NoMemory) → IfOk r (λ d. IsOfIncome (accepted d)) → IfOk r (λ d. has_check (accepted d).tree ≡ false)
+income_brings_no_check (Ok d) h = ap has_check h.facts ∙ income_names_none tables_2023
+income_brings_no_check (Err fault) h = tt
 
 -- what is fetched comes from a file
 pub obtains_file : (told : List ℕ → Told) (name : List ℕ) (checks : List Named) (r : Result Fetched Status) → IfOk r (FetchedAs (told name) checks) → IfOk r (ObtainedAs told (file name) checks)
@@ -179,26 +226,33 @@ obtains_file told name checks (Ok (fetches.Accepted dict)) (bytes, held, is) = (
 obtains_file told name checks (Ok (fetches.Refused fault)) (bytes, held, is) = (spelled bytes, held, is)
 obtains_file told name checks (Err status) h = tt
 
-pub tables_hold : (b : BuiltIn) → TablesHold (tables_of b)
-tables_hold Year2023 = tables_hold_2023
-tables_hold Year2024 = tables_hold_2024
+-- the tables hold of what it brings
+pub tables_hold : (b : BuiltIn) (r : Rules) (s : Standing) → IsBrought b r.accepted → TablesHoldIn b r s
+tables_hold Year2023 r s is h answered = tables_hold_2023 r.accepted is s.course.timeline.now h answered.answers answered.earned answered.other
+tables_hold Year2024 r s is h answered = tables_hold_2024 r.accepted is s.course.timeline.now h answered.answers answered.earned answered.other
+tables_hold Income2023 r s is h numbered answered told fit = income_tables_hold r.accepted is s.course.timeline.now h numbered fit answered.answers told answered.earned answered.other
 
 pub brought_is_faultless : (told : List ℕ → Told) (checks : List Named) (b : BuiltIn) (content : Content) (fault : DictFault) → MayGive told (program b) content → HasFault checks content fault → ⊥
 brought_is_faultless told checks b (spelled bytes) fault gave is = gave
 brought_is_faultless told checks b (brought c) fault gave is = brought_has_none c fault is
 
-pub brought_is_of_year : (told : List ℕ → Told) (checks : List Named) (b : BuiltIn) (content : Content) (r : Rules) → MayGive told (program b) content → IsAcceptedAs checks content r → IsOfYear (tables_of b) r.accepted
-brought_is_of_year told checks b (spelled bytes) r gave is = absurd gave
-brought_is_of_year told checks b (brought c) r gave is = subst (λ x. IsOfYear (tables_of x) r.accepted) (sym gave) is.0
+pub brought_is_this : (told : List ℕ → Told) (checks : List Named) (b : BuiltIn) (content : Content) (r : Rules) → MayGive told (program b) content → IsAcceptedAs checks content r → IsBrought b r.accepted
+brought_is_this told checks b (spelled bytes) r gave is = absurd gave
+brought_is_this told checks b (brought c) r gave is = subst (λ x. IsBrought x r.accepted) (sym gave) is.0
 
 -- ---- a dictionary comes to one end
 
 same_rules : (r s : Rules) → r.accepted ≡ s.accepted → r.checks ≡ s.checks → r ≡ s
 same_rules r s a b = λ i. record { accepted = a i; checks = b i }
 
+one_brought : (b : BuiltIn) (d e : Accepted) → IsBrought b d → IsBrought b e → d ≡ e
+one_brought Year2023 d e h k = one_of_year tables_2023 d e h k
+one_brought Year2024 d e h k = one_of_year tables_2024 d e h k
+one_brought Income2023 d e h k = one_accepted [] d e (h.facts ∙ sym k.facts) h.is_accepted k.is_accepted
+
 one_set_of_rules : (checks : List Named) (content : Content) (r s : Rules) → IsAcceptedAs checks content r → IsAcceptedAs checks content s → r ≡ s
 one_set_of_rules checks (spelled bytes) r s h k = same_rules r s (one_dictionary bytes (names_of checks) r.accepted s.accepted h.0 k.0) (h.1 ∙ sym k.1)
-one_set_of_rules checks (brought b) r s h k = same_rules r s (one_of_year (tables_of b) r.accepted s.accepted h.0 k.0) (h.1 ∙ sym k.1)
+one_set_of_rules checks (brought b) r s h k = same_rules r s (one_brought b r.accepted s.accepted h.0 k.0) (h.1 ∙ sym k.1)
 
 pub accepted_is_faultless : (checks : List Named) (content : Content) (r : Rules) (fault : DictFault) → IsAcceptedAs checks content r → HasFault checks content fault → ⊥
 accepted_is_faultless checks (spelled bytes) r fault h is = accepted_has_none bytes (names_of checks) r.accepted fault h.0 is

@@ -23,7 +23,7 @@ use Rattle.interview.specs.Ends.{AcceptedRun, RefusedRun, Check, CheckEndsAs, Co
 use Rattle.session_lines.specs.Laws.{FinalsHold}
 use Rattle.session_lines.specs.Stepping.{at_start, state_after}
 use Rattle.interview.proofs.CheckLaws.{one_end}
-use Rattle.interview.proofs.DictionaryLaws.{accepted_is_faultless, brought_is_faultless, brought_is_of_year, brought_unfetched, known_content, none_fetched, not_both, nothing_missing, one_run, rules_are_accepted, same_check, same_engine, same_origin, tables_hold}
+use Rattle.interview.proofs.DictionaryLaws.{accepted_is_faultless, brought_is_faultless, brought_is_this, brought_unfetched, known_content, none_fetched, not_both, nothing_missing, one_run, rules_are_accepted, same_check, same_engine, same_origin, tables_hold}
 use Rattle.session_lines.proofs.FinalLineLaws.{final_lines_stay}
 use Rattle.interview.proofs.ScriptLaws.{ended_are_answered, nothing_part, part_by_lines, part_of}
 
@@ -287,10 +287,10 @@ module _ (given : Given) where
     built_in DictionaryRefused (inr ends) b asked = absurd (not_both given.words (program b) ends.0.name asked ends.0.asked)
 
     pub tables : (b : BuiltIn) → IsRun given.words (program b) → (over : AcceptedRun given) (lines : List ScriptLine) → TablesHoldIn b over.rules (state_after over.rules (at_start over.rules (run_terms over.asked.engine given.relations)) lines).standing
-    tables b asked over lines h is earned other =
+    tables b asked over lines =
         let gave = subst (λ q. MayGive given.told q over.content) (same_origin given.words over.origin (program b) over.asked asked) over.gave in
-        let of_year = brought_is_of_year given.told given.checks b over.content over.rules gave over.is_accepted in
-        tables_hold b over.rules.accepted of_year (state_after over.rules (at_start over.rules (run_terms over.asked.engine given.relations)) lines).standing.course.timeline.now h is earned other
+        tables_hold b over.rules (state_after over.rules (at_start over.rules (run_terms over.asked.engine given.relations)) lines).standing
+        (brought_is_this given.told given.checks b over.content over.rules gave over.is_accepted)
 
     -- ---- checks
 

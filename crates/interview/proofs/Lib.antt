@@ -1,3 +1,4 @@
+pub mod AcceptedLaws
 pub mod CheckLaws
 pub mod CountLaws
 pub mod DictionaryLaws

@@ -1,5 +1,5 @@
 -- The words of a load, its rules, and what it comes to.
-use Rattle.std.proofs.Common.{◌≡◌, ℕ, ◌<◌, ◌≤◌, ◌^◌, List, [], ◌∷◌, ◌++◌, length, Option, Some, Result, Ok, Err, inl, inr, refl, sym, ap, subst, ◌∙◌, arith}
+use Rattle.std.proofs.Common.{◌≡◌, ℕ, ◌<◌, ◌≤◌, List, [], ◌∷◌, length, Option, Some, Result, Ok, Err, inl, inr, refl, sym, ap, subst, ◌∙◌, arith}
 use Rattle.std.specs.Prelude.{codes, decimal, IfOk, Vec}
 use Rattle.std.specs.declared.alloc.Global.{Global}
 use Rattle.fact_values.specs.declared.memory.NoMemory.{NoMemory}
@@ -9,31 +9,24 @@ use Rattle.fact_paths.specs.Paths.{SpellsMemberNumber}
 use Rattle.fg_io.specs.Outside.{MayBe}
 use Rattle.fg_io.specs.Sent.{Sent}
 use Rattle.script_lines.specs.Lines.{lines_of}
-use Rattle.dict_tree.specs.Dictionary.{Dictionary as Tree}
-use Rattle.dict_types.specs.Typed.{typed_dictionary}
-use Rattle.dict_types.specs.TypedParts.{TypedDictionary}
-use Rattle.dict_types.specs.declared.fault.TypeFault.{TypeFault}
-use Rattle.dict_types.proofs.FoundLaws.{well_typed_is_found}
-use Rattle.dict_order.specs.MentionGraph.{mention_graph}
-use Rattle.dict_order.specs.Ranks.{AreRanks}
-use Rattle.dict_order.proofs.RankLaws.{only_one}
-use Rattle.dictionary.specs.Accepted.{Accepted, IsAccepted, Named}
+use Rattle.dictionary.specs.Accepted.{Named}
 use Rattle.dictionary.specs.Keeping.{node_count}
 use Rattle.dict_gen.specs.Script.{script}
 use Rattle.graph_session.specs.Rules.{Rules, tree_of}
 use Rattle.session_lines.specs.Stepping.{Terms}
-use Rattle.interview.specs.declared.built_in.BuiltIn.TheVariants.{Year2023, Year2024}
+use Rattle.interview.specs.declared.built_in.BuiltIn.TheVariants.{Year2023, Year2024, Income2023}
 use Rattle.interview.specs.declared.status.Status.{Status}
 use Rattle.interview.specs.declared.status.Status.TheVariants.{Done}
 use Rattle.interview.specs.declared.words.Engine.{Engine}
 use Rattle.interview.specs.declared.words.Engine.TheVariants.{Incremental, Plain}
 use Rattle.interview.specs.Words.{Fetches, HasNoForm, IsCheck, IsGen, IsRun, IsRunOver, Origin, file, program}
 use Rattle.interview.specs.Devices.{Counted, Stream}
-use Rattle.interview.specs.Interview.{Defined, defined_script, run_terms}
+use Rattle.interview.specs.Interview.{defined_script, run_terms}
 use Rattle.interview.specs.StepEnds.{EndedBy}
 use Rattle.interview.specs.ScriptEnds.{ScriptDid, ScriptEndsAs}
 use Rattle.interview.specs.Summary.{summary}
-use Rattle.interview.specs.Load.{GeneratedAs, GensTo, IsOfLoad, OneEndOfGen, defined_gen}
+use Rattle.interview.proofs.AcceptedLaws.{one_accepted}
+use Rattle.interview.specs.Load.{GeneratedAs, IsOfLoad, OneEndOfGen, defined_gen}
 
 -- ---- words
 
@@ -41,6 +34,7 @@ no_run_of_gen : (number : List ℕ) (origin : Origin) (engine : Engine) → IsRu
 no_run_of_gen number (file name) Incremental asked = let both : codes "gen" ∷ number ∷ [] ≡ codes "run" ∷ name ∷ [] = asked in cc
 no_run_of_gen number (file name) Plain asked = let both : codes "gen" ∷ number ∷ [] ≡ codes "run-plain" ∷ name ∷ [] = asked in cc
 no_run_of_gen number (program Year2023) Incremental asked = let both : codes "gen" ∷ number ∷ [] ≡ codes "year" ∷ codes "2023" ∷ [] = asked in cc
+no_run_of_gen number (program Income2023) Incremental asked = let both : codes "gen" ∷ number ∷ [] ≡ codes "income" ∷ codes "2023" ∷ [] = asked in cc
 no_run_of_gen number (program Year2024) Incremental asked = let both : codes "gen" ∷ number ∷ [] ≡ codes "year" ∷ codes "2024" ∷ [] = asked in cc
 no_run_of_gen number (program b) Plain asked = asked
 
@@ -85,25 +79,6 @@ pub not_spelled : (number : List ℕ) → ((k : ℕ) → SpellsMemberNumber numb
 not_spelled number none = no_number number (λ n some most same. none n ((some, omega (arith, most)), same))
 
 -- ---- one dictionary
-
-abbrev made : Tree → TypedDictionary → List ℕ → Accepted
-made d t ranks = record { tree = d; typed = t; ranks = ranks }
-
-abbrev typed : TypedDictionary → Result TypedDictionary TypeFault
-typed t = Ok t
-
-one_typed : (r : Result TypedDictionary TypeFault) (t u : TypedDictionary) → r ≡ Ok t → r ≡ Ok u → t ≡ u
-one_typed r t u h k = let same : typed t ≡ typed u = sym h ∙ k in cc
-
--- what is accepted of one tree is one
--- -- move down
-one_accepted : (names : List (List ℕ)) (d e : Accepted) → d.tree ≡ e.tree → IsAccepted names d → IsAccepted names e → d ≡ e
-one_accepted names d e same h k =
-    let found : typed_dictionary e.tree names ≡ typed d.typed = ap (λ (x : Tree). typed_dictionary x names) (sym same) ∙ well_typed_is_found d.tree names d.typed h.typed in
-    let ranked = subst (λ (x : Tree). AreRanks (mention_graph x) d.ranks) same h.ranked in
-    let types = one_typed (typed_dictionary e.tree names) d.typed e.typed found (well_typed_is_found e.tree names e.typed k.typed) in
-    let ranks = only_one (mention_graph e.tree) d.ranks e.ranks ranked k.ranked in
-    ap (λ (x : Tree). made x d.typed d.ranks) same ∙ ap (λ (x : TypedDictionary). made e.tree x d.ranks) types ∙ ap (made e.tree e.typed) ranks
 
 pub one_of_load : (n : ℕ) (r s : Rules) → IsOfLoad n r → IsOfLoad n s → r ≡ s
 one_of_load n r s h k =

@@ -3,15 +3,17 @@ use Rattle.std.specs.Prelude.{◌≡◌, ℕ, List, []}
 use Rattle.fg_io.specs.Outside.{MayHold, Told, holds}
 use Rattle.dict_tree.specs.Dictionary.{Dictionary as Tree}
 use Rattle.dictionary.specs.declared.fault.DictFault.{DictFault}
-use Rattle.dictionary.specs.Accepted.{Named, names_of}
+use Rattle.dictionary.specs.Accepted.{Accepted, Named, names_of}
 use Rattle.dictionary.specs.Faults.{AreAccepted, IsFault, IsFaultOf}
 use Rattle.graph_session.specs.Rules.{Rules}
 use Rattle.tax_2023.specs.Facts.{dictionary}
 use Rattle.tax_2023.specs.Figures.{figures}
 use Rattle.tax_2023.specs.Laws.{IsOfYear}
 use Rattle.tax_2023.specs.Years.{Year, tables_2023, tables_2024}
+use Rattle.tax_income.specs.Facts.{income_dictionary}
+use Rattle.tax_income.specs.Laws.{IsOfIncome}
 use Rattle.interview.specs.declared.built_in.BuiltIn.{BuiltIn}
-use Rattle.interview.specs.declared.built_in.BuiltIn.TheVariants.{Year2023, Year2024}
+use Rattle.interview.specs.declared.built_in.BuiltIn.TheVariants.{Year2023, Year2024, Income2023}
 use Rattle.interview.specs.Words.{Origin, file, program}
 
 -- ---- dictionaries that the program brings with it
@@ -20,10 +22,17 @@ use Rattle.interview.specs.Words.{Origin, file, program}
 abbrev pub tables_of : BuiltIn → Year
 tables_of Year2023 = tables_2023
 tables_of Year2024 = tables_2024
+tables_of Income2023 = tables_2023
 
 -- its facts
 unfoldable pub facts_of : BuiltIn → Tree
+facts_of Income2023 = income_dictionary (figures tables_2023)
 facts_of b = dictionary (figures (tables_of b))
+
+-- it is accepted with these facts
+abbrev pub IsBrought : BuiltIn → Accepted → Type 0
+IsBrought Income2023 d = IsOfIncome d
+IsBrought b d = IsOfYear (tables_of b) d
 
 -- ---- what a dictionary is judged by
 
@@ -50,7 +59,7 @@ Gives told origin content = ⊥
 -- brings names none.
 abbrev pub IsAcceptedAs : List Named → Content → Rules → Type 0
 IsAcceptedAs checks (spelled bytes) r = AreAccepted bytes (names_of checks) r.accepted × (r.checks ≡ checks)
-IsAcceptedAs checks (brought b) r = IsOfYear (tables_of b) r.accepted × (r.checks ≡ [])
+IsAcceptedAs checks (brought b) r = IsBrought b r.accepted × (r.checks ≡ [])
 
 -- its first fault
 abbrev pub HasFault : List Named → Content → DictFault → Type 0

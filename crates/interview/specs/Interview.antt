@@ -3,6 +3,7 @@ use Rattle.std.specs.Prelude.{◌≡◌, ◌⊎◌, ℕ, List, length, take, cod
 use Rattle.dictionary.specs.declared.fault.DictFault.{DictFault}
 use Rattle.dictionary.specs.Accepted.{Accepted, Named, names_of}
 use Rattle.dictionary.specs.Faults.{AreAccepted, IsFault}
+use Rattle.dictionary.specs.Fits.{AnswersFit}
 use Rattle.dictionary.specs.Keeping.{node_count}
 use Rattle.script_lines.specs.Lines.{ScriptLine, script_lines, ended_lines}
 use Rattle.graph_session.specs.Rules.{Rules, tree_of}
@@ -14,8 +15,12 @@ use Rattle.interview.specs.FaultLines.{fault_line, accepted_line}
 use Rattle.tax_2023.specs.Household.{Household}
 use Rattle.tax_2023.specs.Answers.{AreOfHousehold}
 use Rattle.tax_2023.specs.Laws.{HasTables, IsModest}
+use Rattle.tax_income.specs.Answers.{AreNumbered}
+use Rattle.tax_income.specs.Laws.{HasIncomeTables}
+use Rattle.tax_income.specs.Tables.{Numbered}
 use Rattle.answers.specs.Answered.{start}
 use Rattle.interview.specs.declared.built_in.BuiltIn.{BuiltIn}
+use Rattle.interview.specs.declared.built_in.BuiltIn.TheVariants.{Income2023}
 use Rattle.interview.specs.declared.words.Engine.{Engine}
 use Rattle.interview.specs.Words.{keeps_stamps}
 use Rattle.interview.specs.Dictionaries.{Content, HasFault, IsAcceptedAs, tables_of}
@@ -84,9 +89,16 @@ OneEndOfRun = (content : Content) (checks : List Named) (terms : Terms) (script 
 
 -- ---- the tables of a year
 
--- Where the answers are those of a household whose two incomes are modest, so that no sum overflows, the facts of the dictionary
--- have the values of the written tables.
+-- where these are the answers of a household whose two incomes are modest, so that no sum overflows
+pub record IsAnsweredBy (r : Rules) (s : Standing) (h : Household) : Type 0 where
+  pub answers : AreOfHousehold (tree_of r) s.course.timeline.now h
+  pub earned : IsModest h.earned_income
+  pub other : IsModest h.other_income
+
+-- then the facts of the dictionary have the values of the written tables, and those of the rates and the credit theirs, where it is
+-- said of each person whether it has a number, and the answers fit the dictionary
 abbrev pub TablesHoldIn : BuiltIn → Rules → Standing → Type 0
-TablesHoldIn b r s =
-    (h : Household) → AreOfHousehold (tree_of r) s.course.timeline.now h → IsModest h.earned_income → IsModest h.other_income
-    → HasTables r.accepted (tables_of b) s.course.timeline.now h
+TablesHoldIn Income2023 r s =
+    (h : Household) (numbered : Numbered) → IsAnsweredBy r s h → AreNumbered (tree_of r) s.course.timeline.now numbered h.persons
+    → AnswersFit (tree_of r) s.course.timeline.now → HasIncomeTables r.accepted s.course.timeline.now h numbered
+TablesHoldIn b r s = (h : Household) → IsAnsweredBy r s h → HasTables r.accepted (tables_of b) s.course.timeline.now h

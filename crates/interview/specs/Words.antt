@@ -2,7 +2,7 @@
 use Rattle.std.specs.Prelude.{◌≡◌, ◌⊎◌, ℕ, ◌≤◌, Bool, true, false, List, [], ◌∷◌, map, codes, decimal, String, string_bytes}
 use Rattle.std.specs.declared.alloc.Global.{Global}
 use Rattle.interview.specs.declared.built_in.BuiltIn.{BuiltIn}
-use Rattle.interview.specs.declared.built_in.BuiltIn.TheVariants.{Year2023, Year2024}
+use Rattle.interview.specs.declared.built_in.BuiltIn.TheVariants.{Year2023, Year2024, Income2023}
 use Rattle.interview.specs.declared.words.Engine.{Engine}
 use Rattle.interview.specs.declared.words.Engine.TheVariants.{Incremental, Plain}
 use Rattle.interview.specs.declared.words.Origin.{Origin as Asked}
@@ -21,6 +21,7 @@ pub data Origin : Type 0 where
 abbrev pub words_for : BuiltIn → List (List ℕ)
 words_for Year2023 = codes "year" ∷ codes "2023" ∷ []
 words_for Year2024 = codes "year" ∷ codes "2024" ∷ []
+words_for Income2023 = codes "income" ∷ codes "2023" ∷ []
 
 -- The words run a script over the dictionary from there, with the results kept so: for a file `run` or `run-plain` and its name.
 -- Over what the program brings runs the incremental engine alone.

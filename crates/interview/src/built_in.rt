@@ -9,6 +9,7 @@ use dictionary::Dictionary;
 use fact_values::NoMemory;
 use std::alloc::Global;
 use tax_2023::{year_2023, year_2024};
+use tax_income::income_2023;
 
 /// A dictionary that the program brings with it.
 #[derive(Clone, Copy)]
@@ -17,6 +18,8 @@ pub enum BuiltIn {
     Year2023,
     /// The same of 2024.
     Year2024,
+    /// What there is of 2023, and the rate schedule and the child tax credit behind it.
+    Income2023,
 }
 
 /// The dictionary that the program brings with it. It has no fault, and names no check.
@@ -27,5 +30,6 @@ pub fn bring(alloc: Global, built_in: BuiltIn) -> Result<Dictionary, NoMemory>
     match built_in {
         BuiltIn::Year2023 => year_2023(alloc),
         BuiltIn::Year2024 => year_2024(alloc),
+        BuiltIn::Income2023 => income_2023(alloc),
     }
 }

@@ -25,7 +25,7 @@ pub enum Engine {
 /// What the words of the command line ask for.
 #[derive(Clone, Copy)]
 pub enum Form<'a> {
-    /// `run NAME`, `run-plain NAME` or `year Y`: to run a script over this dictionary, with the results kept so.
+    /// `run NAME`, `run-plain NAME`, `year Y` or `income 2023`: to run a script over this dictionary, with the results kept so.
     Run(Engine, Origin<'a>),
     /// `check NAME`: to say whether the dictionary of this name is accepted.
     Check(&'a str),
@@ -42,6 +42,16 @@ fn form_of_year<'a>(year: &str) -> Form<'a>
     match year {
         "2023" => Form::Run(Engine::Incremental, Origin::BuiltIn(BuiltIn::Year2023)),
         "2024" => Form::Run(Engine::Incremental, Origin::BuiltIn(BuiltIn::Year2024)),
+        _ => Form::Unknown,
+    }
+}
+
+// What `income` and this word ask for.
+fn form_of_income<'a>(year: &str) -> Form<'a>
+    ensures { IsForm (codes "income" ∷ year.now ∷ []) result }
+{
+    match year {
+        "2023" => Form::Run(Engine::Incremental, Origin::BuiltIn(BuiltIn::Income2023)),
         _ => Form::Unknown,
     }
 }
@@ -76,6 +86,7 @@ pub fn form_of(words: &[String]) -> Form<'_>
         [command, name] if command.as_str() == "check" => Form::Check(name.as_str()),
         [command, year] if command.as_str() == "year" => form_of_year(year.as_str()),
         [command, number] if command.as_str() == "gen" => form_of_gen(number.as_str()),
+        [command, year] if command.as_str() == "income" => form_of_income(year.as_str()),
         _ => Form::Unknown,
     }
 }

@@ -33,6 +33,12 @@ returns-in-len2-5 c =
     let words = two_words c.args.words.now c.command-item-then-words-lt3-4.result c.number-item.result _ (omega arith) (omega arith) c.command-item-then-words-lt3-4.is c.number-item.is (sym c.as_str-then-words-lt3-4.ensures.value ∙ same) in
     subst (λ w. IsForm w c.form_of_gen.result) (sym (words ∙ ap (λ (l : List ℕ). codes "gen" ∷ l ∷ []) (sym c.as_str-in-len2-5.ensures.value))) c.form_of_gen.ensures
 
+pub returns-in-len2-6 : goal.returns-in-len2-6
+returns-in-len2-6 c =
+    let same : c.as_str-then-words-lt3-5.result.now ≡ codes "income" = search rules in
+    let words = two_words c.args.words.now c.command-item-then-words-lt3-5.result c.year-item-then-words-lt3.result _ (omega arith) (omega arith) c.command-item-then-words-lt3-5.is c.year-item-then-words-lt3.is (sym c.as_str-then-words-lt3-5.ensures.value ∙ same) in
+    subst (λ w. IsForm w c.form_of_income.result) (sym (words ∙ ap (λ (l : List ℕ). codes "income" ∷ l ∷ []) (sym c.as_str-in-len2-6.ensures.value))) c.form_of_income.ensures
+
 pub returns-in_default : goal.returns-in_default
 returns-in_default c =
     let run : (name : List ℕ) → texts c.args.words.now ≡ codes "run" ∷ name ∷ [] → ⊥ = λ name same. grind (arith, common_steps) in
@@ -40,4 +46,5 @@ returns-in_default c =
     let year : (name : List ℕ) → texts c.args.words.now ≡ codes "year" ∷ name ∷ [] → ⊥ = λ name same. grind (arith, common_steps) in
     let check : (name : List ℕ) → texts c.args.words.now ≡ codes "check" ∷ name ∷ [] → ⊥ = λ name same. grind (arith, common_steps) in
     let gen : (number : List ℕ) → texts c.args.words.now ≡ codes "gen" ∷ number ∷ [] → ⊥ = λ number same. grind (arith, common_steps) in
-    no_form (texts c.args.words.now) run plain year check gen
+    let income : (name : List ℕ) → texts c.args.words.now ≡ codes "income" ∷ name ∷ [] → ⊥ = λ name same. grind (arith, common_steps) in
+    no_form (texts c.args.words.now) run plain year check gen income
