@@ -74,7 +74,7 @@ abbrev fourth_digit : List (List ℕ) → ℕ
 fourth_digit (first ∷ (a ∷ b ∷ c ∷ d ∷ rest) ∷ more) = d
 fourth_digit words = 0
 
-abbrev first_letter : List (List ℕ) → ℕ
+abbrev pub first_letter : List (List ℕ) → ℕ
 first_letter ((a ∷ rest) ∷ more) = a
 first_letter words = 0
 
@@ -228,9 +228,9 @@ obtains_file told name checks (Err status) h = tt
 
 -- the tables hold of what it brings
 pub tables_hold : (b : BuiltIn) (r : Rules) (s : Standing) → IsBrought b r.accepted → TablesHoldIn b r s
-tables_hold Year2023 r s is h answered = tables_hold_2023 r.accepted is s.course.timeline.now h answered.answers answered.earned answered.other
-tables_hold Year2024 r s is h answered = tables_hold_2024 r.accepted is s.course.timeline.now h answered.answers answered.earned answered.other
-tables_hold Income2023 r s is h numbered answered told fit = income_tables_hold r.accepted is s.course.timeline.now h numbered fit answered.answers told answered.earned answered.other
+tables_hold Year2023 r s is = λ h answered. tables_hold_2023 r.accepted is s.course.timeline.now h answered.answers answered.earned answered.other
+tables_hold Year2024 r s is = λ h answered. tables_hold_2024 r.accepted is s.course.timeline.now h answered.answers answered.earned answered.other
+tables_hold Income2023 r s is = λ h numbered answered told fit. income_tables_hold r.accepted is s.course.timeline.now h numbered fit answered.answers told answered.earned answered.other
 
 pub brought_is_faultless : (told : List ℕ → Told) (checks : List Named) (b : BuiltIn) (content : Content) (fault : DictFault) → MayGive told (program b) content → HasFault checks content fault → ⊥
 brought_is_faultless told checks b (spelled bytes) fault gave is = gave
@@ -268,7 +268,12 @@ one_run content checks terms script d e (inl (r, is, to)) (inr (fault, is_fault,
 one_run content checks terms script d e (inr (fault, is_fault, to_fault)) (inl (r, is, to)) = absurd (accepted_is_faultless checks content r fault is is_fault)
 one_run content checks terms script d e (inr (fault, is, to)) (inr (other, is_other, to_other)) = to ∙ ap defined_fault (one_first_fault checks content fault other is is_other) ∙ sym to_other
 
+brought_is_accepted : (b : BuiltIn) (d : Accepted) → IsBrought b d → IsAccepted [] d
+brought_is_accepted Year2023 d h = h.is_accepted
+brought_is_accepted Year2024 d h = h.is_accepted
+brought_is_accepted Income2023 d h = h.is_accepted
+
 -- what a session goes by is an accepted dictionary
 pub rules_are_accepted : (checks : List Named) (content : Content) (r : Rules) → IsAcceptedAs checks content r → (names : List (List ℕ)) × IsAccepted names r.accepted
 rules_are_accepted checks (spelled bytes) r h = (names_of checks, h.0.1)
-rules_are_accepted checks (brought b) r h = ([], h.0.is_accepted)
+rules_are_accepted checks (brought b) r h = ([], brought_is_accepted b r.accepted h.0)

@@ -15,7 +15,7 @@ use Rattle.interview.specs.declared.status.Status.TheVariants.{Done, DictionaryR
 use Rattle.interview.specs.Words.{IsRun, IsCheck, Fetches, HasNoForm, Origin, file, program}
 use Rattle.interview.specs.Dictionaries.{Content, Gives, HasFault, IsAcceptedAs, MayGive}
 use Rattle.interview.specs.Interview.{run_terms, Defined, answered_lines, defined_fault, defined_script, ChecksTo, RunsTo, TablesHoldIn}
-use Rattle.interview.specs.Devices.{Rises, SentNothing, SentPart, SentWhole}
+use Rattle.interview.specs.Devices.{Rises, SentPart, SentWhole}
 use Rattle.interview.specs.GenEnds.{GenInterviewed}
 use Rattle.interview.specs.ScriptEnds.{ReadThrough, ScriptEndsAs}
 use Rattle.interview.specs.Given.{Did, EndedAs, Given, IsOneOf, Unread}

@@ -20,26 +20,26 @@ use Rattle.interview.specs.declared.status.Status.TheVariants.{Done}
 use Rattle.interview.specs.declared.words.Engine.{Engine}
 use Rattle.interview.specs.declared.words.Engine.TheVariants.{Incremental, Plain}
 use Rattle.interview.specs.Words.{Fetches, HasNoForm, IsCheck, IsGen, IsRun, IsRunOver, Origin, file, program}
-use Rattle.interview.specs.Devices.{Counted, Stream}
+use Rattle.interview.specs.Devices.{Counted, SentWhole, Stream}
 use Rattle.interview.specs.Interview.{defined_script, run_terms}
 use Rattle.interview.specs.StepEnds.{EndedBy}
-use Rattle.interview.specs.ScriptEnds.{ScriptDid, ScriptEndsAs}
 use Rattle.interview.specs.Summary.{summary}
 use Rattle.interview.proofs.AcceptedLaws.{one_accepted}
+use Rattle.interview.proofs.DictionaryLaws.{first_letter}
 use Rattle.interview.specs.Load.{GeneratedAs, IsOfLoad, OneEndOfGen, defined_gen}
 
 -- ---- words
 
 no_run_of_gen : (number : List ℕ) (origin : Origin) (engine : Engine) → IsRunOver (codes "gen" ∷ number ∷ []) origin engine → ⊥
-no_run_of_gen number (file name) Incremental asked = let both : codes "gen" ∷ number ∷ [] ≡ codes "run" ∷ name ∷ [] = asked in cc
-no_run_of_gen number (file name) Plain asked = let both : codes "gen" ∷ number ∷ [] ≡ codes "run-plain" ∷ name ∷ [] = asked in cc
-no_run_of_gen number (program Year2023) Incremental asked = let both : codes "gen" ∷ number ∷ [] ≡ codes "year" ∷ codes "2023" ∷ [] = asked in cc
-no_run_of_gen number (program Income2023) Incremental asked = let both : codes "gen" ∷ number ∷ [] ≡ codes "income" ∷ codes "2023" ∷ [] = asked in cc
-no_run_of_gen number (program Year2024) Incremental asked = let both : codes "gen" ∷ number ∷ [] ≡ codes "year" ∷ codes "2024" ∷ [] = asked in cc
+no_run_of_gen number (file name) Incremental asked = omega (arith, ap first_letter asked)
+no_run_of_gen number (file name) Plain asked = omega (arith, ap first_letter asked)
+no_run_of_gen number (program Year2023) Incremental asked = omega (arith, ap first_letter asked)
+no_run_of_gen number (program Year2024) Incremental asked = omega (arith, ap first_letter asked)
+no_run_of_gen number (program Income2023) Incremental asked = omega (arith, ap first_letter asked)
 no_run_of_gen number (program b) Plain asked = asked
 
 no_check_of_gen : (number name : List ℕ) → IsCheck (codes "gen" ∷ number ∷ []) name → ⊥
-no_check_of_gen number name asked = let both : codes "gen" ∷ number ∷ [] ≡ codes "check" ∷ name ∷ [] = asked in cc
+no_check_of_gen number name asked = omega (arith, ap first_letter asked)
 
 pub gen_is_no_run : (words : List (List ℕ)) (n : ℕ) (origin : Origin) → IsGen words n → IsRun words origin → ⊥
 gen_is_no_run words n origin gen run = no_run_of_gen (decimal n) origin run.engine (subst (λ w. IsRunOver w origin run.engine) gen.spelled run.over)
@@ -92,13 +92,13 @@ one_gen relations n d e (r, is, to) (s, is_other, to_other) = to ∙ ap (λ q. d
 -- ---- what it comes to
 
 -- a script that is told was answered whole into a sink that is told
-pub told_replies : (r : Rules) (terms : Terms) (did : ScriptDid) (script taken : List ℕ) → did.left.before ≡ Some script → did.taken.before ≡ Some [] → did.taken.after ≡ Some taken → ScriptEndsAs r terms did Done
-    → taken ≡ (defined_script r terms script).text
-told_replies r terms did script taken left before after ends =
+pub told_replies : (r : Rules) (terms : Terms) (left : Option (List ℕ)) (took : Stream) (script taken : List ℕ) → left ≡ Some script → took.before ≡ Some [] → took.after ≡ Some taken
+    → (given : List ℕ) × MayBe left given × ((defined_script r terms given).status ≡ Done) × SentWhole took (defined_script r terms given).text → taken ≡ (defined_script r terms script).text
+told_replies r terms left took script taken told before after ends =
     let text = (defined_script r terms ends.0).text in
-    let same : script ≡ ends.0 = subst (λ (o : Option (List ℕ)). MayBe o ends.0) left ends.1 in
-    let took : taken ≡ text = subst (λ (o : Option (List ℕ)). Appends (Some []) o text) after (subst (λ (o : Option (List ℕ)). Appends o did.taken.after text) before ends.3) in
-    took ∙ ap (λ s. (defined_script r terms s).text) (sym same)
+    let same : script ≡ ends.0 = subst (λ (o : Option (List ℕ)). MayBe o ends.0) told ends.1 in
+    let wrote : taken ≡ text = subst (λ (o : Option (List ℕ)). Appends (Some []) o text) after (subst (λ (o : Option (List ℕ)). Appends o took.after text) before ends.3) in
+    wrote ∙ ap (λ s. (defined_script r terms s).text) (sym same)
 
 pub summed : (r : Rules) (relations : List Named) (n facts nodes lines : ℕ) (made_script replies text : List ℕ)
     → facts ≡ length (tree_of r).facts → nodes ≡ node_count (tree_of r) → lines ≡ length (lines_of made_script) → made_script ≡ script n → replies ≡ (defined_script r (run_terms Incremental relations) made_script).text

@@ -1,15 +1,14 @@
 -- How an interview ends: for each status, what was written and why it came.
-use Rattle.std.specs.Prelude.{◌≡◌, ◌⊎◌, ℕ, List, [], ◌∷◌, Option, Some, String}
-use Rattle.std.specs.declared.alloc.Global.{Global}
-use Rattle.fg_io.specs.Outside.{MayHold, Told, holds, missing}
+use Rattle.std.specs.Prelude.{◌≡◌, ◌⊎◌, ℕ, List, [], ◌∷◌, Some}
+use Rattle.fg_io.specs.Outside.{MayHold, holds, missing}
 use Rattle.script_lines.specs.Lines.{ScriptLine}
 use Rattle.dictionary.specs.declared.fault.DictFault.{DictFault}
-use Rattle.dictionary.specs.Accepted.{Named, names_of}
+use Rattle.dictionary.specs.Accepted.{names_of}
 use Rattle.dictionary.specs.Faults.{IsFault}
 use Rattle.graph_session.specs.Rules.{Rules}
 use Rattle.interview.specs.declared.status.Status.{Status}
 use Rattle.interview.specs.declared.status.Status.TheVariants.{Done, DictionaryRefused, Usage, FetchFault, ReadFault, WriteFault, ScriptTooLong, NoMemory}
-use Rattle.interview.specs.Devices.{Counted, Rises, SentNothing, SentPart, SentWhole}
+use Rattle.interview.specs.Devices.{Rises, SentNothing, SentPart, SentWhole}
 use Rattle.interview.specs.declared.built_in.BuiltIn.{BuiltIn}
 use Rattle.interview.specs.Dictionaries.{Content, Gives, HasFault, IsAcceptedAs, MayGive}
 use Rattle.session_lines.specs.Laws.{FinalsHold}
@@ -18,7 +17,7 @@ use Rattle.session_lines.specs.Stepping.{at_start, state_after}
 use Rattle.interview.specs.GenEnds.{GenEnds, GenInterviewed}
 use Rattle.interview.specs.Given.{Did, EndedAs, Given, IsOneOf, Unread}
 use Rattle.interview.specs.ScriptEnds.{ReadThrough, ScriptEnds}
-use Rattle.interview.specs.Words.{Fetches, HasNoForm, IsCheck, IsRun, Origin, program, texts}
+use Rattle.interview.specs.Words.{Fetches, HasNoForm, IsCheck, IsRun, Origin, program}
 
 -- a dictionary that it may have been given to run, wherever it came from, and that is accepted
 pub record AcceptedRun (given : Given) : Type 0 where

@@ -1,5 +1,5 @@
 -- How an interview ends for the word `gen`, and what is known of it when it ends.
-use Rattle.std.specs.Prelude.{◌≡◌, ◌⊎◌, ℕ, List, [], ◌∷◌}
+use Rattle.std.specs.Prelude.{◌≡◌, ◌⊎◌, ℕ, [], ◌∷◌}
 use Rattle.interview.specs.declared.status.Status.{Status}
 use Rattle.interview.specs.declared.status.Status.TheVariants.{WriteFault, NoMemory}
 use Rattle.interview.specs.Devices.{Rises, SentPart}

@@ -1,5 +1,5 @@
 -- What `gen` comes to, and how it ends.
-use Rattle.std.specs.Prelude.{◌≡◌, ◌⊎◌, ℕ, List, [], ◌∷◌, length}
+use Rattle.std.specs.Prelude.{◌≡◌, ℕ, List, [], length}
 use Rattle.script_lines.specs.Lines.{lines_of}
 use Rattle.dictionary.specs.Accepted.{IsAccepted, Named}
 use Rattle.dictionary.specs.Keeping.{node_count}

@@ -88,7 +88,7 @@ fn summary_of_load(alloc: Global, n: u32, table: &WatchTable) -> Result<Vec<u8>,
     let made = make(alloc, n)?;
     let facts = made.dict.fact_count();
     let nodes = made.dict.node_count();
-    let lines = line_count(&made.script);
+    let lines = line_count(made.script.as_slice());
     let replies = replies_to(alloc, made.dict, made.script, table)?;
     summary(alloc, n, facts, nodes, lines, replies.bytes())
 }
@@ -103,7 +103,7 @@ pub fn run_load<K: Sink>(alloc: Global, n: u32, table: &WatchTable, out: &mut K)
         result }
 {
     match summary_of_load(alloc, n, table) {
-        Ok(text) => end_by(out, &text, Status::Done),
+        Ok(text) => end_by(out, text.as_slice(), Status::Done),
         Err(NoMemory) => Status::NoMemory,
     }
 }

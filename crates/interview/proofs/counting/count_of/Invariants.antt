@@ -1,4 +1,4 @@
-use Rattle.std.proofs.Common.{◌≡◌, ℕ, ◌+◌, ◌≤◌, length}
+use Rattle.std.proofs.Common.{◌≡◌, ◌+◌, ◌≤◌, length}
 use Rattle.script_lines.specs.Lines.{lines_of}
 use Rattle.interview.specs.Summary.{count_of}
 use Rattle.interview.proofs.counting.count_of.Given as goal

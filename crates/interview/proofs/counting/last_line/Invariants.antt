@@ -1,4 +1,4 @@
-use Rattle.std.proofs.Common.{◌≡◌, List, [], length}
+use Rattle.std.proofs.Common.{◌≡◌, [], length}
 use Rattle.script_lines.specs.Lines.{lines_of}
 use Rattle.interview.specs.Summary.{last_of}
 use Rattle.interview.proofs.counting.last_line.Given as goal

@@ -7,4 +7,4 @@ use Rattle.interview.proofs.load_run.replies_to.Goals as goal
 pub returns-in-Done : goal.returns-in-Done
 returns-in-Done g c =
     let ended = rw c.in-Done.is at c.run_made.ensures.ends in
-    record { replies = told_replies _ _ _ _ _ (ap (λ (s : SourceState). Some s.left) c.new-source.ensures) (ap (λ (s : SinkState). Some s.taken) c.in_ok-sink.ensures) refl ended.0 }
+    record { replies = told_replies _ _ _ _ _ _ (ap (λ (s : SourceState). Some s.left) c.new-source.ensures) (ap (λ (s : SinkState). Some s.taken) c.in_ok-sink.ensures) refl ended.0 }
