@@ -1,3 +1,4 @@
+pub mod AcceptedLaws
 pub mod BodyGraph
 pub mod BodyLaws
 pub mod ByRankLaws

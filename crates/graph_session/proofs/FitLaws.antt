@@ -23,7 +23,7 @@ use Rattle.graph_session.proofs.SoundLaws.{fit_change, fit_start, fit_stepped}
 use Rattle.graph_session.proofs.StepLaws.{refusal_of_change}
 
 module _ (r : Rules) (is : IsAccepted (names_of r.checks) r.accepted) where
-  timeline_fits : (s : Course) (c : Command) (t : Timeline) → AllFit (tree_of r) s.timeline → refusal r s c ≡ None → timeline_by (tree_of r) s.timeline c ≡ Some t → AllFit (tree_of r) t
+  pub timeline_fits : (s : Course) (c : Command) (t : Timeline) → AllFit (tree_of r) s.timeline → refusal r s c ≡ None → timeline_by (tree_of r) s.timeline c ≡ Some t → AllFit (tree_of r) t
   timeline_fits s commands.Undo t all h e = let same : timeline_stepped false s.timeline ≡ t = cc in subst (AllFit (tree_of r)) same (fit_stepped (tree_of r) false s.timeline all)
   timeline_fits s commands.Redo t all h e = let same : timeline_stepped true s.timeline ≡ t = cc in subst (AllFit (tree_of r)) same (fit_stepped (tree_of r) true s.timeline all)
   timeline_fits s c t all h e =
@@ -32,7 +32,7 @@ module _ (r : Rules) (is : IsAccepted (names_of r.checks) r.accepted) where
       let fit = allowed_changes_fit (names_of r.checks) r.accepted is s.timeline.now made.0 all.now can.0 can.1 in
       subst (AllFit (tree_of r)) (sym made.2) (fit_change (tree_of r) s.timeline (applied made.0 s.timeline.now) all fit)
 
-  step_fits : (s : Course) (c : Command) → AllFit (tree_of r) s.timeline → AllFit (tree_of r) (next s (step r s c)).timeline
+  pub step_fits : (s : Course) (c : Command) → AllFit (tree_of r) s.timeline → AllFit (tree_of r) (next s (step r s c)).timeline
   step_fits s c all = at (refusal r s c) refl
     where
       by : (o : Option Timeline) → refusal r s c ≡ None → timeline_by (tree_of r) s.timeline c ≡ o → AllFit (tree_of r) (moved_by r s o).timeline

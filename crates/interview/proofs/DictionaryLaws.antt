@@ -30,7 +30,7 @@ use Rattle.interview.specs.Words.{Fetches, HasNoForm, IsCheck, IsGen, IsRun, IsR
 use Rattle.interview.specs.Dictionaries.{Content, Gives, HasFault, IsAcceptedAs, IsBrought, MayGive, brought, facts_of, spelled}
 use Rattle.session_lines.specs.Stepping.{Standing}
 use Rattle.interview.specs.Interview.{OneEndOfRun, TablesHoldIn, defined_fault, defined_script}
-use Rattle.interview.proofs.AcceptedLaws.{one_accepted}
+use Rattle.dictionary.proofs.AcceptedLaws.{one_accepted}
 use Rattle.interview.specs.StepEnds.{FetchedAs, ObtainedAs}
 
 -- ---- words

@@ -1,4 +1,3 @@
-pub mod AcceptedLaws
 pub mod CheckLaws
 pub mod CountLaws
 pub mod DictionaryLaws

@@ -24,7 +24,7 @@ use Rattle.interview.specs.Devices.{Counted, SentWhole, Stream}
 use Rattle.interview.specs.Interview.{defined_script, run_terms}
 use Rattle.interview.specs.StepEnds.{EndedBy}
 use Rattle.interview.specs.Summary.{summary}
-use Rattle.interview.proofs.AcceptedLaws.{one_accepted}
+use Rattle.dictionary.proofs.AcceptedLaws.{one_accepted}
 use Rattle.interview.proofs.DictionaryLaws.{first_letter}
 use Rattle.interview.specs.Load.{GeneratedAs, IsOfLoad, OneEndOfGen, defined_gen}
 

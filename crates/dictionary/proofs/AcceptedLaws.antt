@@ -19,7 +19,6 @@ typed t = Ok t
 one_typed : (r : Result TypedDictionary TypeFault) (t u : TypedDictionary) → r ≡ Ok t → r ≡ Ok u → t ≡ u
 one_typed r t u h k = let same : typed t ≡ typed u = sym h ∙ k in cc
 
--- move down
 pub one_accepted : (names : List (List ℕ)) (d e : Accepted) → d.tree ≡ e.tree → IsAccepted names d → IsAccepted names e → d ≡ e
 one_accepted names d e same h k =
     let found : typed_dictionary e.tree names ≡ typed d.typed = ap (λ (x : Tree). typed_dictionary x names) (sym same) ∙ well_typed_is_found d.tree names d.typed h.typed in
