@@ -8,5 +8,3 @@ mod store;
 pub use cell::Cell;
 pub use store::Store;
 
-#[cfg(test)]
-mod tests;

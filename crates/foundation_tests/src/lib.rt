@@ -2,6 +2,8 @@
 #![tactic(auto)]
 
 #[cfg(test)]
+mod cell_store_tests;
+#[cfg(test)]
 mod fact_paths_tests;
 #[cfg(test)]
 mod fact_values_tests;

@@ -7,8 +7,6 @@ pub mod laws;
 mod node;
 mod place;
 mod reads;
-#[cfg(test)]
-mod tests;
 
 pub use cells::Cells;
 pub use evaluating::eval;

@@ -12,5 +12,3 @@ pub use laws::{tables_of_2023, tables_of_2024};
 pub use source::{source_2023, source_2024};
 pub use year::{year_2023, year_2024};
 
-#[cfg(test)]
-mod tests;

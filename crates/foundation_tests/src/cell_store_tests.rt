@@ -1,8 +1,8 @@
-//! A store with room for two slots: filled, emptied and filled again.
+//! Tests of `cell_store`: a store with room for two slots, filled, emptied and filled again.
 ghost use Rattle.std.specs.Prelude.{◌≡◌, ◌<◌, IsTrue, None};
 ghost use Rattle.std.specs.FinMap as map;
 
-use crate::Store;
+use cell_store::Store;
 use fact_values::Slot;
 use three_state::Res;
 

@@ -1,9 +1,9 @@
-// Nodes over hand-made cells.
+//! Tests of `node_eval`: nodes over hand-made cells.
 ghost use Rattle.std.specs.Prelude.{◌≡◌, ◌<◌};
 
-use crate::{Cells, Node, NodeRead, Reader, eval};
 use dict_tree::{ManyOp, PickOp};
 use fact_values::{Members, NoMemory, Slot, Value, Whole};
+use node_eval::{Cells, Node, NodeRead, Reader, eval};
 use std::alloc::Global;
 use std::marker::Brand;
 use std::sync::ledger::{Blank, Ledger};
