@@ -6,6 +6,7 @@ pub mod LookLaws
 pub mod OrderLaws
 pub mod PartyLaws
 pub mod SeenLaws
+pub mod StaleLaws
 pub mod StampLaws
 pub mod StandLaws
 pub mod StepLaws

@@ -57,7 +57,7 @@ same_itself d a s = record { answer = refl; overriding = refl; list = refl; resu
 same_on : (d : Accepted) (a b c : Answered) (s : Slot) → SameAt d a b s → SameAt d b c s → SameAt d a c s
 same_on d a b c s x y = record { answer = x.answer ∙ y.answer; overriding = x.overriding ∙ y.overriding; list = x.list ∙ y.list; result = x.result ∙ y.result }
 
-untouched_stood : (d : Accepted) (a b : Answered) (s : Slot) → touches d a b s ≡ false → IsTrue (stands d.tree a s) × IsTrue (same_entry a b s)
+pub untouched_stood : (d : Accepted) (a b : Answered) (s : Slot) → touches d a b s ≡ false → IsTrue (stands d.tree a s) × IsTrue (same_entry a b s)
 untouched_stood d a b s h =
     let new = not (stands d.tree a s) in
     let entry = not (same_entry a b s) in
@@ -194,6 +194,10 @@ module _ (r : Rules) (is : IsAccepted (names_of r.checks) r.accepted) where
       at (Ok x) e rest = subst (IsTold (desk_ended r x.1 ls)) (append_assoc all (led_to l.1 (Ok x)) (passed r x.1 ls)) (rest x.1 (all ++ led_to l.1 (Ok x)) (told_on d all l.0 l.1 told x e))
       at (Err q) e rest = rest d all told
 
+-- the answers at the desk fit
+pub desk_fits : (r : Rules) → IsAccepted (names_of r.checks) r.accepted → (a : Answered) → AnswersFit (tree_of r) a → (ls : List Line) → AnswersFit (tree_of r) (desk_ended r (desk_begun r a) ls).course.timeline.now
+desk_fits r is a fit ls = (told_all r is (desk_begun r a) (a ∷ []) ls (told_begun r is a fit)).fit.now
+
 -- ---- an accepted edit
 
 abbrev first_early_of : Option Refusal → Option ℕ → Option ℕ → Option DeskRefusal
@@ -226,7 +230,7 @@ module _ (r : Rules) (a : Answered) (path : SlotPath) (fit : AnswersFit (tree_of
   named_stands : (x : SlotPath) → x ≡ path → first_session (slot_refusals r a x) ≡ None → IsTrue (stands (tree_of r) a (slot_of (tree_of r) path))
   named_stands x same e = slot_stands (ap (λ (y : SlotPath). first_session (slot_refusals r a y)) (sym same) ∙ e)
 
-  edited_stands : (c : Command) → edited c ≡ Some path → first_session (absent_refusals r a c) ≡ None → IsTrue (stands (tree_of r) a (slot_of (tree_of r) path))
+  pub edited_stands : (c : Command) → edited c ≡ Some path → first_session (absent_refusals r a c) ≡ None → IsTrue (stands (tree_of r) a (slot_of (tree_of r) path))
   edited_stands (commands.Set x text) is e = named_stands x (cc) e
   edited_stands (commands.Clear x) is e = named_stands x (cc) e
   edited_stands (commands.OpenList x) is e = named_stands x (cc) e

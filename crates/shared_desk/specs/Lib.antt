@@ -3,3 +3,4 @@ pub mod DeskView
 pub mod Looks
 pub mod Parties
 pub mod Refusals
+pub mod StaleRule

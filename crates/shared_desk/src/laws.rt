@@ -1,5 +1,6 @@
 // What holds of every list of lines. Each function's contract is its laws.
 ghost use Rattle.shared_desk.specs.Parties.{AcceptedAreAnswered, EditsFindWhatWasSeen, OnePartyIsAlone, SessionIsOverAccepted};
+ghost use Rattle.shared_desk.specs.StaleRule.{AnothersChangeIsStale, StaleIsAnothersChange};
 
 /// The session of a desk is a session over the accepted commands in order, and gives each of them the same reply.
 pub fn the_session_is_over_accepted_commands()
@@ -16,4 +17,11 @@ pub fn a_party_alone_has_a_session()
 /// looked at it, or as they were at the start where it never looked.
 pub fn edits_find_what_their_party_saw()
     ensures { EditsFindWhatWasSeen }
+{}
+
+/// An edit is refused as stale exactly where another party's change touched the slot after the party's last look at it, with the
+/// number of the last such change.
+pub fn an_edit_over_anothers_change_is_stale()
+    ensures stale { StaleIsAnothersChange }
+    ensures others { AnothersChangeIsStale }
 {}
