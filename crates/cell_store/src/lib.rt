@@ -7,4 +7,3 @@ mod store;
 
 pub use cell::Cell;
 pub use store::Store;
-

@@ -9,4 +9,3 @@ mod source;
 
 pub use laws::{the_load_has_its_size, the_script_is_read_line_by_line};
 pub use made::{Made, make};
-

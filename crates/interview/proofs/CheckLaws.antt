@@ -77,7 +77,7 @@ module _ (given : Given) (did : Did) (name : List ℕ) (asked : IsCheck given.wo
   pub ends_check : (status : Status) → CheckEnds (given.told name) given.checks name check_did status → Ends given did status
   ends_check Done ends = inr (of_judged ends.0 Done ends.1, refl, ends.2, unread)
   ends_check DictionaryRefused ends = inr (of_judged ends.0 DictionaryRefused ends.1, refl, ends.2, unread)
-  ends_check FetchFault ends = (ends.0, inr (subst (IsCheck given.words) (sym ends.1) asked), ends.2, unread)
-  ends_check WriteFault ends = inr (ends.0, inr (inr (of_judged ends.1.0 ends.1.1.0 ends.1.1.1.0, ends.1.1.1.1, unread)))
+  ends_check FetchFault ends = (ends.0, inl (inr (subst (IsCheck given.words) (sym ends.1) asked)), ends.2, unread)
+  ends_check WriteFault ends = inr (ends.0, inr (inr (inl (of_judged ends.1.0 ends.1.1.0 ends.1.1.1.0, ends.1.1.1.1, unread))))
   ends_check NoMemory ends = inl (ends, unread)
   ends_check status ends = absurd ends

@@ -1,13 +1,14 @@
--- The dictionary of a run: where it comes from, and what it comes to.
-use Rattle.std.proofs.Common.{◌≡◌, ℕ, false, List, [], ◌∷◌, Result, Ok, Err, inl, inr, refl, sym, ap, subst, ◌∙◌, arith}
-use Rattle.std.specs.Prelude.{codes, decimal, IfOk}
+-- The dictionary of a run: where it comes from, and as what it is accepted.
+use Rattle.std.proofs.Common.{◌≡◌, ℕ, false, List, [], Result, Ok, Err, inl, inr, refl, sym, ap, subst, ◌∙◌}
+use Rattle.std.specs.Prelude.{IfOk}
 use Rattle.fact_values.specs.declared.memory.NoMemory.{NoMemory}
 use Rattle.dictionary.specs.declared.fault.DictFault.{DictFault}
 use Rattle.dictionary.specs.Accepted.{Accepted, IsAccepted, Kept, Named, accepted, names_of}
 use Rattle.dictionary.specs.Checks.{has_check}
 use Rattle.dictionary.specs.Faults.{IsFaultOf}
 use Rattle.dictionary.proofs.FirstLaws.{accepted_has_none, one_dictionary, one_fault}
-use Rattle.graph_session.specs.Rules.{Rules}
+use Rattle.dictionary.specs.Fits.{AnswersFit}
+use Rattle.graph_session.specs.Rules.{Rules, tree_of}
 use Rattle.tax_2023.proofs.NoFault.{no_fault_2023, no_fault_2024}
 use Rattle.tax_2023.proofs.TableLaw.{one_of_year, tables_hold_2023, tables_hold_2024}
 use Rattle.tax_2023.specs.Facts.{dictionary}
@@ -24,159 +25,12 @@ use Rattle.interview.specs.declared.status.Status.{Status}
 use Rattle.interview.specs.declared.built_in.BuiltIn.{BuiltIn}
 use Rattle.interview.specs.declared.built_in.BuiltIn.TheVariants.{Year2023, Year2024, Income2023}
 use Rattle.fg_io.specs.Outside.{MayHold, Told, missing}
-use Rattle.interview.specs.declared.words.Engine.{Engine}
-use Rattle.interview.specs.declared.words.Engine.TheVariants.{Incremental, Plain}
-use Rattle.interview.specs.Words.{Fetches, HasNoForm, IsCheck, IsGen, IsRun, IsRunOver, Origin, file, program, words_for}
+use Rattle.interview.specs.Words.{Origin, file, program}
 use Rattle.interview.specs.Dictionaries.{Content, Gives, HasFault, IsAcceptedAs, IsBrought, MayGive, brought, facts_of, spelled}
 use Rattle.session_lines.specs.Stepping.{Standing}
-use Rattle.interview.specs.Interview.{OneEndOfRun, TablesHoldIn, defined_fault, defined_script}
+use Rattle.interview.specs.Interview.{TablesHoldIn}
 use Rattle.dictionary.proofs.AcceptedLaws.{one_accepted}
 use Rattle.interview.specs.StepEnds.{FetchedAs, ObtainedAs}
-
--- ---- words
-
--- two words have one second word
-same_second : (first other a b : List ℕ) → first ∷ a ∷ [] ≡ other ∷ b ∷ [] → a ≡ b
-same_second first other a b both = cc
-
--- no words of a run are those of a check
-apart_over : (words : List (List ℕ)) (origin : Origin) (engine : Engine) (name : List ℕ) → IsRunOver words origin engine → IsCheck words name → ⊥
-apart_over words (file a) Incremental b p q = let both : codes "run" ∷ a ∷ [] ≡ codes "check" ∷ b ∷ [] = sym p ∙ q in cc
-apart_over words (file a) Plain b p q = let both : codes "run-plain" ∷ a ∷ [] ≡ codes "check" ∷ b ∷ [] = sym p ∙ q in cc
-apart_over words (program Year2023) Incremental b p q = let both : codes "year" ∷ codes "2023" ∷ [] ≡ codes "check" ∷ b ∷ [] = sym p ∙ q in cc
-apart_over words (program Year2024) Incremental b p q = let both : codes "year" ∷ codes "2024" ∷ [] ≡ codes "check" ∷ b ∷ [] = sym p ∙ q in cc
-apart_over words (program Income2023) Incremental b p q = let both : codes "income" ∷ codes "2023" ∷ [] ≡ codes "check" ∷ b ∷ [] = sym p ∙ q in cc
-apart_over words (program c) Plain b p q = absurd p
-
-pub not_both : (words : List (List ℕ)) (origin : Origin) (name : List ℕ) → IsRun words origin → IsCheck words name → ⊥
-not_both words origin name run check = apart_over words origin run.engine name run.over check
-
--- the words of a run name one dictionary
-abbrev first_word : Engine → List ℕ
-first_word Incremental = codes "run"
-first_word Plain = codes "run-plain"
-
-named : (words : List (List ℕ)) (a : List ℕ) (engine : Engine) → IsRunOver words (file a) engine → words ≡ first_word engine ∷ a ∷ []
-named words a Incremental is = is
-named words a Plain is = is
-
-not_brought : (words : List (List ℕ)) (b : BuiltIn) (name : List ℕ) (engine other : Engine) → IsRunOver words (program b) engine → IsRunOver words (file name) other → ⊥
-not_brought words Year2023 a Incremental Incremental p q = let both : codes "year" ∷ codes "2023" ∷ [] ≡ codes "run" ∷ a ∷ [] = sym p ∙ q in cc
-not_brought words Year2023 a Incremental Plain p q = let both : codes "year" ∷ codes "2023" ∷ [] ≡ codes "run-plain" ∷ a ∷ [] = sym p ∙ q in cc
-not_brought words Year2024 a Incremental Incremental p q = let both : codes "year" ∷ codes "2024" ∷ [] ≡ codes "run" ∷ a ∷ [] = sym p ∙ q in cc
-not_brought words Year2024 a Incremental Plain p q = let both : codes "year" ∷ codes "2024" ∷ [] ≡ codes "run-plain" ∷ a ∷ [] = sym p ∙ q in cc
-not_brought words Income2023 a Incremental Incremental p q = let both : codes "income" ∷ codes "2023" ∷ [] ≡ codes "run" ∷ a ∷ [] = sym p ∙ q in cc
-not_brought words Income2023 a Incremental Plain p q = let both : codes "income" ∷ codes "2023" ∷ [] ≡ codes "run-plain" ∷ a ∷ [] = sym p ∙ q in cc
-not_brought words b a Plain other p q = absurd p
-
--- each year has words of its own: the fourth digit differs
-abbrev fourth_digit : List (List ℕ) → ℕ
-fourth_digit (first ∷ (a ∷ b ∷ c ∷ d ∷ rest) ∷ more) = d
-fourth_digit words = 0
-
-abbrev pub first_letter : List (List ℕ) → ℕ
-first_letter ((a ∷ rest) ∷ more) = a
-first_letter words = 0
-
-one_year : (words : List (List ℕ)) (b c : BuiltIn) → words ≡ words_for b → words ≡ words_for c → b ≡ c
-one_year words Year2023 Year2023 p q = refl
-one_year words Year2024 Year2024 p q = refl
-one_year words Year2023 Year2024 p q = absurd (omega (arith, ap fourth_digit (sym p ∙ q)))
-one_year words Year2024 Year2023 p q = absurd (omega (arith, ap fourth_digit (sym p ∙ q)))
-one_year words Income2023 Income2023 p q = refl
-one_year words Income2023 Year2023 p q = absurd (omega (arith, ap first_letter (sym p ∙ q)))
-one_year words Income2023 Year2024 p q = absurd (omega (arith, ap first_letter (sym p ∙ q)))
-one_year words Year2023 Income2023 p q = absurd (omega (arith, ap first_letter (sym p ∙ q)))
-one_year words Year2024 Income2023 p q = absurd (omega (arith, ap first_letter (sym p ∙ q)))
-
--- words run over one dictionary, and over one engine
-one_origin : (words : List (List ℕ)) (o p : Origin) (e f : Engine) → IsRunOver words o e → IsRunOver words p f → o ≡ p
-one_origin words (file a) (file b) e f h k = ap file (same_second (first_word e) (first_word f) a b (sym (named words a e h) ∙ named words b f k))
-one_origin words (program b) (program c) Incremental Incremental h k = ap program (one_year words b c h k)
-one_origin words (program b) (program c) Plain f h k = absurd h
-one_origin words (program b) (program c) Incremental Plain h k = absurd k
-one_origin words (file a) (program b) e f h k = absurd (not_brought words b a f e k h)
-one_origin words (program b) (file a) e f h k = absurd (not_brought words b a e f h k)
-
-pub same_origin : (words : List (List ℕ)) (o p : Origin) → IsRun words o → IsRun words p → o ≡ p
-same_origin words o p h k = one_origin words o p h.engine k.engine h.over k.over
-
-one_engine : (words : List (List ℕ)) (o p : Origin) (e f : Engine) → IsRunOver words o e → IsRunOver words p f → e ≡ f
-one_engine words o p Incremental Incremental h k = refl
-one_engine words o p Plain Plain h k = refl
-one_engine words (file a) (file b) Incremental Plain h k = let both : codes "run" ∷ a ∷ [] ≡ codes "run-plain" ∷ b ∷ [] = sym h ∙ k in cc
-one_engine words (file a) (file b) Plain Incremental h k = let both : codes "run-plain" ∷ a ∷ [] ≡ codes "run" ∷ b ∷ [] = sym h ∙ k in cc
-one_engine words (program b) (file a) Incremental Plain h k = absurd (not_brought words b a Incremental Plain h k)
-one_engine words (file a) (program b) Plain Incremental h k = absurd (not_brought words b a Incremental Plain k h)
-one_engine words (program b) p Plain Incremental h k = absurd h
-one_engine words o (program b) Incremental Plain h k = absurd k
-
-pub same_engine : (words : List (List ℕ)) (o p : Origin) (h : IsRun words o) (k : IsRun words p) → h.engine ≡ k.engine
-same_engine words o p h k = one_engine words o p h.engine k.engine h.over k.over
-
-pub same_check : (words : List (List ℕ)) (a b : List ℕ) → IsCheck words a → IsCheck words b → a ≡ b
-same_check words a b h k = same_second (codes "check") (codes "check") a b (sym h ∙ k)
-
-pub none_fetched : (words : List (List ℕ)) (name : List ℕ) → HasNoForm words → Fetches words name → ⊥
-none_fetched words name none (inl asked) = none.0 (file name) asked
-none_fetched words name none (inr asked) = none.1 name asked
-
--- nothing is fetched for the words of a year
-pub brought_unfetched : (words : List (List ℕ)) (b : BuiltIn) (name : List ℕ) → IsRun words (program b) → Fetches words name → ⊥
-brought_unfetched words b name asked (inl fetched) = not_brought words b name asked.engine fetched.engine asked.over fetched.over
-brought_unfetched words b name asked (inr checked) = not_both words (program b) name asked checked
-
--- ---- words without a form
-
-no_run_of_year : (year : List ℕ) → (year ≡ codes "2023" → ⊥) → (year ≡ codes "2024" → ⊥) → (o : Origin) (engine : Engine) → IsRunOver (codes "year" ∷ year ∷ []) o engine → ⊥
-no_run_of_year year a b (file name) Incremental asked = let both : codes "year" ∷ year ∷ [] ≡ codes "run" ∷ name ∷ [] = asked in cc
-no_run_of_year year a b (file name) Plain asked = let both : codes "year" ∷ year ∷ [] ≡ codes "run-plain" ∷ name ∷ [] = asked in cc
-no_run_of_year year a b (program Year2023) Incremental asked = a (same_second (codes "year") (codes "year") year (codes "2023") asked)
-no_run_of_year year a b (program Year2024) Incremental asked = b (same_second (codes "year") (codes "year") year (codes "2024") asked)
-no_run_of_year year a b (program Income2023) Incremental asked = let both : codes "year" ∷ year ∷ [] ≡ codes "income" ∷ codes "2023" ∷ [] = asked in cc
-no_run_of_year year a b (program c) Plain asked = asked
-
-no_check_of_year : (year name : List ℕ) → IsCheck (codes "year" ∷ year ∷ []) name → ⊥
-no_check_of_year year name asked = let both : codes "year" ∷ year ∷ [] ≡ codes "check" ∷ name ∷ [] = asked in cc
-
-no_gen_of_year : (year : List ℕ) (n : ℕ) → IsGen (codes "year" ∷ year ∷ []) n → ⊥
-no_gen_of_year year n asked = let both : codes "year" ∷ year ∷ [] ≡ codes "gen" ∷ decimal n ∷ [] = asked.spelled in cc
-
--- behind `year` stands no year
-pub no_year : (year : List ℕ) → (year ≡ codes "2023" → ⊥) → (year ≡ codes "2024" → ⊥) → HasNoForm (codes "year" ∷ year ∷ [])
-no_year year a b = (λ o asked. no_run_of_year year a b o asked.engine asked.over, no_check_of_year year, no_gen_of_year year)
-
-no_run_of_income : (year : List ℕ) → (year ≡ codes "2023" → ⊥) → (o : Origin) (engine : Engine) → IsRunOver (codes "income" ∷ year ∷ []) o engine → ⊥
-no_run_of_income year a (file name) Incremental asked = let both : codes "income" ∷ year ∷ [] ≡ codes "run" ∷ name ∷ [] = asked in cc
-no_run_of_income year a (file name) Plain asked = let both : codes "income" ∷ year ∷ [] ≡ codes "run-plain" ∷ name ∷ [] = asked in cc
-no_run_of_income year a (program Year2023) Incremental asked = let both : codes "income" ∷ year ∷ [] ≡ codes "year" ∷ codes "2023" ∷ [] = asked in cc
-no_run_of_income year a (program Year2024) Incremental asked = let both : codes "income" ∷ year ∷ [] ≡ codes "year" ∷ codes "2024" ∷ [] = asked in cc
-no_run_of_income year a (program Income2023) Incremental asked = a (same_second (codes "income") (codes "income") year (codes "2023") asked)
-no_run_of_income year a (program c) Plain asked = asked
-
-no_check_of_income : (year name : List ℕ) → IsCheck (codes "income" ∷ year ∷ []) name → ⊥
-no_check_of_income year name asked = let both : codes "income" ∷ year ∷ [] ≡ codes "check" ∷ name ∷ [] = asked in cc
-
-no_gen_of_income : (year : List ℕ) (n : ℕ) → IsGen (codes "income" ∷ year ∷ []) n → ⊥
-no_gen_of_income year n asked = let both : codes "income" ∷ year ∷ [] ≡ codes "gen" ∷ decimal n ∷ [] = asked.spelled in cc
-
--- behind `income` stands no year
-pub no_income : (year : List ℕ) → (year ≡ codes "2023" → ⊥) → HasNoForm (codes "income" ∷ year ∷ [])
-no_income year a = (λ o asked. no_run_of_income year a o asked.engine asked.over, no_check_of_income year, no_gen_of_income year)
-
-no_run : (words : List (List ℕ)) → ((name : List ℕ) → words ≡ codes "run" ∷ name ∷ [] → ⊥) → ((name : List ℕ) → words ≡ codes "run-plain" ∷ name ∷ [] → ⊥) → ((year : List ℕ) → words ≡ codes "year" ∷ year ∷ [] → ⊥)
-    → ((year : List ℕ) → words ≡ codes "income" ∷ year ∷ [] → ⊥) → (o : Origin) (engine : Engine) → IsRunOver words o engine → ⊥
-no_run words run plain year income (file name) Incremental asked = run name asked
-no_run words run plain year income (file name) Plain asked = plain name asked
-no_run words run plain year income (program Year2023) Incremental asked = year (codes "2023") asked
-no_run words run plain year income (program Year2024) Incremental asked = year (codes "2024") asked
-no_run words run plain year income (program Income2023) Incremental asked = income (codes "2023") asked
-no_run words run plain year income (program b) Plain asked = asked
-
--- no first word of a form is followed by one word
-pub no_form : (words : List (List ℕ)) → ((name : List ℕ) → words ≡ codes "run" ∷ name ∷ [] → ⊥) → ((name : List ℕ) → words ≡ codes "run-plain" ∷ name ∷ [] → ⊥) → ((year : List ℕ) → words ≡ codes "year" ∷ year ∷ [] → ⊥)
-    → ((name : List ℕ) → words ≡ codes "check" ∷ name ∷ [] → ⊥) → ((number : List ℕ) → words ≡ codes "gen" ∷ number ∷ [] → ⊥) → ((year : List ℕ) → words ≡ codes "income" ∷ year ∷ [] → ⊥) → HasNoForm words
-no_form words run plain year check gen income = (λ o asked. no_run words run plain year income o asked.engine asked.over, check, λ n asked. gen (decimal n) asked.spelled)
 
 -- ---- what comes from there
 
@@ -226,11 +80,11 @@ obtains_file told name checks (Ok (fetches.Accepted dict)) (bytes, held, is) = (
 obtains_file told name checks (Ok (fetches.Refused fault)) (bytes, held, is) = (spelled bytes, held, is)
 obtains_file told name checks (Err status) h = tt
 
--- the tables hold of what it brings
-pub tables_hold : (b : BuiltIn) (r : Rules) (s : Standing) → IsBrought b r.accepted → TablesHoldIn b r s
-tables_hold Year2023 r s is = λ h answered. tables_hold_2023 r.accepted is s.course.timeline.now h answered.answers answered.earned answered.other
-tables_hold Year2024 r s is = λ h answered. tables_hold_2024 r.accepted is s.course.timeline.now h answered.answers answered.earned answered.other
-tables_hold Income2023 r s is = λ h numbered answered told fit. income_tables_hold r.accepted is s.course.timeline.now h numbered fit answered.answers told answered.earned answered.other
+-- the tables hold of what it brings, where the answers fit
+pub tables_hold : (b : BuiltIn) (r : Rules) (s : Standing) → IsBrought b r.accepted → AnswersFit (tree_of r) s.course.timeline.now → TablesHoldIn b r s
+tables_hold Year2023 r s is fit = λ h answered. tables_hold_2023 r.accepted is s.course.timeline.now h answered.answers answered.earned answered.other
+tables_hold Year2024 r s is fit = λ h answered. tables_hold_2024 r.accepted is s.course.timeline.now h answered.answers answered.earned answered.other
+tables_hold Income2023 r s is fit = λ h numbered answered told. income_tables_hold r.accepted is s.course.timeline.now h numbered fit answered.answers told answered.earned answered.other
 
 pub brought_is_faultless : (told : List ℕ → Told) (checks : List Named) (b : BuiltIn) (content : Content) (fault : DictFault) → MayGive told (program b) content → HasFault checks content fault → ⊥
 brought_is_faultless told checks b (spelled bytes) fault gave is = gave
@@ -250,7 +104,7 @@ one_brought Year2023 d e h k = one_of_year tables_2023 d e h k
 one_brought Year2024 d e h k = one_of_year tables_2024 d e h k
 one_brought Income2023 d e h k = one_accepted [] d e (h.facts ∙ sym k.facts) h.is_accepted k.is_accepted
 
-one_set_of_rules : (checks : List Named) (content : Content) (r s : Rules) → IsAcceptedAs checks content r → IsAcceptedAs checks content s → r ≡ s
+pub one_set_of_rules : (checks : List Named) (content : Content) (r s : Rules) → IsAcceptedAs checks content r → IsAcceptedAs checks content s → r ≡ s
 one_set_of_rules checks (spelled bytes) r s h k = same_rules r s (one_dictionary bytes (names_of checks) r.accepted s.accepted h.0 k.0) (h.1 ∙ sym k.1)
 one_set_of_rules checks (brought b) r s h k = same_rules r s (one_brought b r.accepted s.accepted h.0 k.0) (h.1 ∙ sym k.1)
 
@@ -258,15 +112,9 @@ pub accepted_is_faultless : (checks : List Named) (content : Content) (r : Rules
 accepted_is_faultless checks (spelled bytes) r fault h is = accepted_has_none bytes (names_of checks) r.accepted fault h.0 is
 accepted_is_faultless checks (brought b) r fault h is = brought_has_none b fault is
 
-one_first_fault : (checks : List Named) (content : Content) (fault other : DictFault) → HasFault checks content fault → HasFault checks content other → fault ≡ other
+pub one_first_fault : (checks : List Named) (content : Content) (fault other : DictFault) → HasFault checks content fault → HasFault checks content other → fault ≡ other
 one_first_fault checks (spelled bytes) fault other h k = one_fault bytes (names_of checks) fault other h k
 one_first_fault checks (brought b) fault other h k = absurd (brought_has_none b fault h)
-
-pub one_run : OneEndOfRun
-one_run content checks terms script d e (inl (r, is, to)) (inl (s, is_other, to_other)) = to ∙ ap (λ q. defined_script q terms script) (one_set_of_rules checks content r s is is_other) ∙ sym to_other
-one_run content checks terms script d e (inl (r, is, to)) (inr (fault, is_fault, to_fault)) = absurd (accepted_is_faultless checks content r fault is is_fault)
-one_run content checks terms script d e (inr (fault, is_fault, to_fault)) (inl (r, is, to)) = absurd (accepted_is_faultless checks content r fault is is_fault)
-one_run content checks terms script d e (inr (fault, is, to)) (inr (other, is_other, to_other)) = to ∙ ap defined_fault (one_first_fault checks content fault other is is_other) ∙ sym to_other
 
 brought_is_accepted : (b : BuiltIn) (d : Accepted) → IsBrought b d → IsAccepted [] d
 brought_is_accepted Year2023 d h = h.is_accepted
@@ -277,3 +125,8 @@ brought_is_accepted Income2023 d h = h.is_accepted
 pub rules_are_accepted : (checks : List Named) (content : Content) (r : Rules) → IsAcceptedAs checks content r → (names : List (List ℕ)) × IsAccepted names r.accepted
 rules_are_accepted checks (spelled bytes) r h = (names_of checks, h.0.1)
 rules_are_accepted checks (brought b) r h = ([], brought_is_accepted b r.accepted h.0)
+
+-- with the checks that the session goes by
+pub rules_are_accepted_so : (checks : List Named) (content : Content) (r : Rules) → IsAcceptedAs checks content r → IsAccepted (names_of r.checks) r.accepted
+rules_are_accepted_so checks (spelled bytes) r h = subst (λ (c : List Named). IsAccepted (names_of c) r.accepted) (sym h.1) h.0.1
+rules_are_accepted_so checks (brought b) r h = subst (λ (c : List Named). IsAccepted (names_of c) r.accepted) (sym h.1) (brought_is_accepted b r.accepted h.0)

@@ -37,13 +37,13 @@ module _ (r : Rules) (terms : Terms) (did : ScriptDid) (left_now taken_now : Opt
   all_read read =
       subst (Consumes did.left.before did.left.after) (append-nil so_far.bytes) (consumes_more did.left.before left_now did.left.after so_far.bytes [] so_far.read read)
 
-  script_read : Consumes left_now did.left.after [] → IsAtEnd did.left.after → MayBe did.left.before so_far.bytes
+  pub script_read : Consumes left_now did.left.after [] → IsAtEnd did.left.after → MayBe did.left.before so_far.bytes
   script_read read end = may_be_whole did.left.before did.left.after so_far.bytes (all_read read) end
 
-  short_bytes : count ≤ script_limit → length so_far.bytes ≤ script_limit
+  pub short_bytes : count ≤ script_limit → length so_far.bytes ≤ script_limit
   short_bytes short = omega (arith, so_far.counted)
 
-  all_lines : count ≤ script_limit → answered_lines so_far.bytes ≡ lines_so_far ++ script_lines held
+  pub all_lines : count ≤ script_limit → answered_lines so_far.bytes ≡ lines_so_far ++ script_lines held
   all_lines short =
       short_lines so_far.bytes (short_bytes short)
       ∙ ap script_lines (sym (append-nil so_far.bytes))
@@ -92,13 +92,13 @@ module _ (r : Rules) (terms : Terms) (did : ScriptDid) (left_now taken_now : Opt
   -- ---- in a piece
 
   module _ (chunk chunk_now : List ℕ) (n : ℕ) (read : Consumes left_now did.left.after chunk) (long : n ≡ length chunk) (same_chunk : chunk_now ≡ chunk) (short : count + n ≤ script_limit) where
-    read_so_far : Consumes did.left.before did.left.after (so_far.bytes ++ chunk)
+    pub read_so_far : Consumes did.left.before did.left.after (so_far.bytes ++ chunk)
     read_so_far = consumes_more did.left.before left_now did.left.after so_far.bytes chunk so_far.read read
 
-    short_so_far : length (so_far.bytes ++ chunk) ≤ script_limit
+    pub short_so_far : length (so_far.bytes ++ chunk) ≤ script_limit
     short_so_far = omega (arith, so_far.counted, length-append so_far.bytes chunk)
 
-    joined : (rest : List ℕ) (part : RepliedSome (rules session.dict) taken_now did.taken.after (standing_of session terms.relations watches) held chunk_now rest)
+    pub joined : (rest : List ℕ) (part : RepliedSome (rules session.dict) taken_now did.taken.after (standing_of session terms.relations watches) held chunk_now rest)
         → RepliedLines r did.taken.before did.taken.after (beginning r terms) [] (so_far.bytes ++ chunk) part.state_now part.held_now part.behind rest
     joined rest part =
         replied_then r (rules session.dict) did.taken.before taken_now did.taken.after (beginning r terms) (standing_of session terms.relations watches) so_far.bytes held chunk chunk_now part.held_now part.behind rest part.state_now so_far.replied so_far.same_rules same_chunk part.replied

@@ -9,6 +9,7 @@ use Rattle.script_lines.specs.declared.command.Command.{Command}
 use Rattle.script_lines.specs.declared.command.Command.TheVariants.{Set, Clear, OpenList, Add, Remove, Override, Release, Undo, Redo, Get, Final, Stamp, Touched, Missing, Watch, Unwatch, Quit}
 use Rattle.script_lines.proofs.EndedLaws.{lines_go_on}
 use Rattle.session_undo.specs.Timeline.{Timeline}
+use Rattle.answers.specs.Answered.{Answered}
 use Rattle.dictionary.specs.Accepted.{Named}
 use Rattle.graph_session.specs.Refusals.{decided, slot_found}
 use Rattle.graph_session.specs.Rules.{Rules, tree_of}
@@ -18,9 +19,11 @@ use Rattle.graph_session.specs.declared.reply.Refusal.{Refusal}
 use Rattle.graph_session.specs.declared.reply.Reply.{Reply}
 use Rattle.graph_session.specs.declared.reply.Reply.TheVariants as replied
 use Rattle.interview.specs.declared.status.Status.TheVariants.{Done, ScriptTooLong}
+use Rattle.interview.specs.Beginnings.{Basis}
 use Rattle.interview.specs.Dictionaries.{Content}
 use Rattle.interview.specs.Engines.{AsksNoCounts, EnginesAgree, asks_counts, is_of_counts, line_asks_counts}
-use Rattle.interview.specs.Interview.{Defined, RunsTo, answered_lines, defined_script, run_terms, script_limit}
+use Rattle.interview.specs.Interview.{Defined, GoesOnTo, RunsTo, answered_lines, defined_script, run_terms, script_limit}
+use Rattle.interview.specs.declared.words.Engine.{Engine}
 use Rattle.interview.specs.declared.words.Engine.TheVariants.{Incremental, Plain}
 use Rattle.session_lines.specs.Replies.{reply_text}
 use Rattle.session_lines.specs.Stepping.{Standing, State, Step, Terms, at_start, cut_watch, missing_answer, open_at, place_in, put_watch, replies, said, state_after, step, step_answered, step_command, step_heard, step_line, watch_decided}
@@ -151,24 +154,33 @@ answered_ask_none script none =
           first_ask_none (ended_lines (take script_limit script)) go_on.0 (subst (All (λ l. line_asks_counts l ≡ false)) all none)
     ]
 
-script_same : (r : Rules) (relations : List Named) (script : List ℕ) → AsksNoCounts script → defined_script r (run_terms Incremental relations) script ≡ defined_script r (run_terms Plain relations) script
+script_same : (r : Rules) (relations : List Named) (a : Answered) (script : List ℕ) → AsksNoCounts script → defined_script r (run_terms Incremental relations a) script ≡ defined_script r (run_terms Plain relations a) script
 unfolding defined_script
-script_same r relations script none =
-    let same = lines_same r (at_start r (run_terms Incremental relations)) (answered_lines script) (answered_ask_none script none) in
-    let over : (state_after r (at_start r (run_terms Plain relations)) (answered_lines script)).over ≡ (state_after r (at_start r (run_terms Incremental relations)) (answered_lines script)).over = ap (λ (s : State). s.over) same.1 in
+script_same r relations a script none =
+    let same = lines_same r (at_start r (run_terms Incremental relations a)) (answered_lines script) (answered_ask_none script none) in
+    let over : (state_after r (at_start r (run_terms Plain relations a)) (answered_lines script)).over ≡ (state_after r (at_start r (run_terms Incremental relations a)) (answered_lines script)).over = ap (λ (s : State). s.over) same.1 in
     λ i. record {
       text = sym same.0 i;
       status = if nat_le (length script) script_limit then Done else if sym over i then Done else ScriptTooLong;
     }
 
-to_other : (a b : Terms) (script : List ℕ) → ((r : Rules) → defined_script r a script ≡ defined_script r b script) → (content : Content) (checks : List Named) (d : Defined)
-    → RunsTo content checks a script d → RunsTo content checks b script d
-to_other a b script same content checks d (inl (r, is, to)) = inl (r, is, to ∙ same r)
-to_other a b script same content checks d (inr refused) = inr refused
+-- behind what is written before the replies
+abbrev behind : List ℕ → Defined → Defined
+behind front given = record { text = front ++ given.text; status = given.status }
+
+goes_on : (e f : Engine) (relations : List Named) (script : List ℕ) → ((r : Rules) (a : Answered) → defined_script r (run_terms e relations a) script ≡ defined_script r (run_terms f relations a) script) → (r : Rules) (basis : Basis) (d : Defined)
+    → GoesOnTo r basis e relations script d → GoesOnTo r basis f relations script d
+goes_on e f relations script same r basis d (inl (s, begins, to)) = inl (s, begins, to ∙ ap (behind s.front) (same r s.answers))
+goes_on e f relations script same r basis d (inr refused) = inr refused
+
+to_other : (e f : Engine) (relations : List Named) (script : List ℕ) → ((r : Rules) (a : Answered) → defined_script r (run_terms e relations a) script ≡ defined_script r (run_terms f relations a) script)
+    → (content : Content) (checks : List Named) (basis : Basis) (d : Defined) → RunsTo content checks basis e relations script d → RunsTo content checks basis f relations script d
+to_other e f relations script same content checks basis d (inl (r, is, goes)) = inl (r, is, goes_on e f relations script same r basis d goes)
+to_other e f relations script same content checks basis d (inr refused) = inr refused
 
 pub engines_agree : EnginesAgree
 engines_agree relations script none = record {
-  defined = λ r. script_same r relations script none;
-  there = to_other (run_terms Incremental relations) (run_terms Plain relations) script (λ r. script_same r relations script none);
-  back = to_other (run_terms Plain relations) (run_terms Incremental relations) script (λ r. sym (script_same r relations script none));
+  defined = λ r a. script_same r relations a script none;
+  there = to_other Incremental Plain relations script (λ r a. script_same r relations a script none);
+  back = to_other Plain Incremental relations script (λ r a. sym (script_same r relations a script none));
 }

@@ -1,19 +1,21 @@
 -- How an interview ends for the word `gen`.
-use Rattle.std.proofs.Common.{◌≡◌, ℕ, [], ◌∷◌, inl, inr, refl, sym, ap, subst}
+use Rattle.std.proofs.Common.{◌≡◌, ℕ, List, [], ◌∷◌, inl, inr, refl, sym, ap, subst}
 use Rattle.std.specs.Prelude.{◌⊎◌}
 use Rattle.std.proofs.lemmas.List.{append-nil}
 use Rattle.interview.specs.declared.status.Status.{Status}
-use Rattle.interview.specs.declared.status.Status.TheVariants.{Done, DictionaryRefused, Usage, FetchFault, ReadFault, WriteFault, ScriptTooLong, NoMemory}
-use Rattle.interview.specs.Words.{IsGen}
+use Rattle.interview.specs.declared.status.Status.TheVariants.{Done, DictionaryRefused, Usage, FetchFault, ReadFault, WriteFault, ScriptTooLong, NoMemory, SavedRefused}
+use Rattle.interview.specs.Words.{IsCheck, IsGen, IsRun, Origin}
 use Rattle.interview.specs.Devices.{Rises, SentPart}
 use Rattle.interview.specs.Given.{Did, Given, IsOneOf, Unread}
-use Rattle.interview.specs.Ends.{Ends, EndsByWord, Interviewed}
+use Rattle.interview.specs.Ends.{Ends, EndsByWord, Interviewed, IsFetched, LinePart}
 use Rattle.interview.specs.GenEnds.{EndedByGen, GenEnds, GenInterviewed}
 use Rattle.interview.specs.Interview.{Defined}
 use Rattle.interview.specs.Load.{GeneratedAs, GensTo}
 use Rattle.interview.proofs.ExactLaws.{finals, interviewed, tables}
-use Rattle.interview.proofs.LoadLaws.{gen_fetches_nothing, gen_is_no_check, gen_is_no_run, one_gen, same_gen}
+use Rattle.interview.proofs.LoadLaws.{one_gen, same_gen}
+use Rattle.interview.proofs.SaveEndLaws.{known_saving, of_save, to_save}
 use Rattle.interview.proofs.ScriptLaws.{nothing_part, part_of}
+use Rattle.interview.proofs.WordLaws.{gen_fetches_nothing, gen_is_no_check, gen_is_no_run, gen_is_no_save}
 
 -- ---- what is known of it
 
@@ -54,25 +56,43 @@ module _ (given : Given) (did : Did) where
     abbrev Generated : Status → Type 0
     Generated status = Generates given n did status × Unread did
 
+    -- its words are those of no run
+    no_run : (o : Origin) → IsRun given.words o → ⊥
+    no_run o run = gen_is_no_run given.words n o asked run
+
+    no_check : (name : List ℕ) → IsCheck given.words name → ⊥
+    no_check name check = gen_is_no_check given.words n name asked check
+
+    no_fetch : (name : List ℕ) → IsFetched given name → ⊥
+    no_fetch name (inl fetched) = gen_fetches_nothing given.words n name asked fetched
+    no_fetch name (inr (over, from)) = no_run over.origin over.asked
+
+    no_part : LinePart given did → ⊥
+    no_part (inl part) = part.0.2 n asked
+    no_part (inr (inl part)) = no_run part.0.origin part.0.asked
+    no_part (inr (inr (inl part))) = no_check part.0.name part.0.asked
+    no_part (inr (inr (inr (inl part)))) = no_run part.0.over.origin part.0.over.asked
+    no_part (inr (inr (inr (inr part)))) = no_run part.0.over.origin part.0.over.asked
+
     ended : (status : Status) → Ends given did status → Generated status
-    ended Done (inl ends) = absurd (gen_is_no_run given.words n ends.0.origin asked ends.0.asked)
-    ended Done (inr ends) = absurd (gen_is_no_check given.words n ends.0.name asked ends.0.asked)
-    ended DictionaryRefused (inl ends) = absurd (gen_is_no_run given.words n ends.0.origin asked ends.0.asked)
-    ended DictionaryRefused (inr ends) = absurd (gen_is_no_check given.words n ends.0.name asked ends.0.asked)
+    ended Done (inl ends) = absurd (no_run ends.0.over.origin ends.0.over.asked)
+    ended Done (inr ends) = absurd (no_check ends.0.name ends.0.asked)
+    ended DictionaryRefused (inl ends) = absurd (no_run ends.0.origin ends.0.asked)
+    ended DictionaryRefused (inr ends) = absurd (no_check ends.0.name ends.0.asked)
     ended Usage ends = absurd (ends.0.2 n asked)
-    ended FetchFault ends = absurd (gen_fetches_nothing given.words n did.failed_name asked ends.1)
-    ended ReadFault ends = absurd (gen_is_no_run given.words n ends.0.origin asked ends.0.asked)
-    ended WriteFault (inl ends) = absurd (gen_is_no_run given.words n ends.0.origin asked ends.0.asked)
-    ended WriteFault (inr (rose, inl part)) = absurd (part.0.2 n asked)
-    ended WriteFault (inr (rose, inr (inl part))) = absurd (gen_is_no_run given.words n part.0.origin asked part.0.asked)
-    ended WriteFault (inr (rose, inr (inr part))) = absurd (gen_is_no_check given.words n part.0.name asked part.0.asked)
-    ended ScriptTooLong ends = absurd (gen_is_no_run given.words n ends.0.origin asked ends.0.asked)
+    ended FetchFault ends = absurd (no_fetch did.failed_name ends.1)
+    ended ReadFault ends = absurd (no_run ends.0.over.origin ends.0.over.asked)
+    ended WriteFault (inl ends) = absurd (no_run ends.0.over.origin ends.0.over.asked)
+    ended WriteFault (inr (rose, part)) = absurd (no_part part)
+    ended ScriptTooLong ends = absurd (no_run ends.0.over.origin ends.0.over.asked)
     ended NoMemory (inl ends) = ends
-    ended NoMemory (inr ends) = absurd (gen_is_no_run given.words n ends.0.origin asked ends.0.asked)
+    ended NoMemory (inr ends) = absurd (no_run ends.0.over.origin ends.0.over.asked)
+    ended SavedRefused ends = absurd (no_run ends.0.over.origin ends.0.over.asked)
 
     generated : (status : Status) → EndsByWord given did status → Generated status
     generated status (inl ends) = ended status ends
-    generated status (inr (m, other, ends, unread)) = (subst (λ k. GeneratedAs given.relations k did.script.taken did.script.sink status) (same_gen given.words m n other asked) ends, unread)
+    generated status (inr (inr ends)) = absurd (gen_is_no_save given.words n (to_save given did status ends).0 asked (to_save given did status ends).1)
+    generated status (inr (inl (m, other, ends, unread))) = (subst (λ k. GeneratedAs given.relations k did.script.taken did.script.sink status) (same_gen given.words m n other asked) ends, unread)
 
   known : (status : Status) → EndsByWord given did status → GenInterviewed given did status
   known status ends = record {
@@ -89,12 +109,16 @@ module _ (given : Given) (did : Did) where
         let n = ends.0 in
         let asked = ends.1 in
         record {
-          ends = inr ends;
+          ends = inr (inl ends);
           no_form = λ none. absurd (none.2 n asked);
           missing = λ name fetches is. absurd (gen_fetches_nothing given.words n name asked fetches);
           refused = λ o content fault run gives is. absurd (gen_is_no_run given.words n o asked run);
           refused_unread = λ o content fault run gives is. ends.3;
-          built_in = λ b run. absurd (gen_is_no_run given.words n _ asked run);
+          saved_missing = λ dict name from is. absurd (gen_is_no_run given.words n dict.origin asked dict.asked);
+          saved_refused = λ dict basis line brings is. absurd (gen_is_no_run given.words n dict.origin asked dict.asked);
+          saved_refused_unread = λ dict basis line brings is. ends.3;
+          built_in = λ b run none. absurd (gen_is_no_run given.words n _ asked run);
+          built_in_carried = λ b run. absurd (gen_is_no_run given.words n _ asked run);
           exact = λ run. absurd (gen_is_no_run given.words n run.origin asked run.asked);
           complete = λ run fetch read write. absurd (gen_is_no_run given.words n run.origin asked run.asked);
           prefix = λ run d comes. absurd (gen_is_no_run given.words n run.origin asked run.asked);
@@ -106,9 +130,11 @@ module _ (given : Given) (did : Did) where
           check_exact = λ check. absurd (gen_is_no_check given.words n check.name asked check.asked);
           check_prefix = λ check d comes. absurd (gen_is_no_check given.words n check.name asked check.asked);
           check_complete = λ check fetch write. absurd (gen_is_no_check given.words n check.name asked check.asked);
-          gen = known status (inr ends);
+          gen = known status (inr (inl ends));
+          saving = known_saving given did same_left status (inr (inl ends));
         }
 
     pub interviewed_by_word : (status : Status) → EndsByWord given did status → Interviewed given did status
-    interviewed_by_word status (inl ends) = interviewed given did same_left status ends (known status (inl ends))
-    interviewed_by_word status (inr ends) = of_gen status ends
+    interviewed_by_word status (inl ends) = interviewed given did same_left status ends (known status (inl ends)) (known_saving given did same_left status (inl ends))
+    interviewed_by_word status (inr (inl ends)) = of_gen status ends
+    interviewed_by_word status (inr (inr ends)) = of_save given did same_left status ends (known status (inr (inr ends)))

@@ -9,64 +9,34 @@ use Rattle.fact_paths.specs.Paths.{SpellsMemberNumber}
 use Rattle.fg_io.specs.Outside.{MayBe}
 use Rattle.fg_io.specs.Sent.{Sent}
 use Rattle.script_lines.specs.Lines.{lines_of}
+use Rattle.answers.specs.Answered.{start}
 use Rattle.dictionary.specs.Accepted.{Named}
 use Rattle.dictionary.specs.Keeping.{node_count}
 use Rattle.dict_gen.specs.Script.{script}
 use Rattle.graph_session.specs.Rules.{Rules, tree_of}
 use Rattle.session_lines.specs.Stepping.{Terms}
-use Rattle.interview.specs.declared.built_in.BuiltIn.TheVariants.{Year2023, Year2024, Income2023}
 use Rattle.interview.specs.declared.status.Status.{Status}
 use Rattle.interview.specs.declared.status.Status.TheVariants.{Done}
-use Rattle.interview.specs.declared.words.Engine.{Engine}
-use Rattle.interview.specs.declared.words.Engine.TheVariants.{Incremental, Plain}
-use Rattle.interview.specs.Words.{Fetches, HasNoForm, IsCheck, IsGen, IsRun, IsRunOver, Origin, file, program}
+use Rattle.interview.specs.declared.words.Engine.TheVariants.{Incremental}
+use Rattle.interview.specs.Words.{HasNoForm, IsGen}
 use Rattle.interview.specs.Devices.{Counted, SentWhole, Stream}
 use Rattle.interview.specs.Interview.{defined_script, run_terms}
 use Rattle.interview.specs.StepEnds.{EndedBy}
 use Rattle.interview.specs.Summary.{summary}
 use Rattle.dictionary.proofs.AcceptedLaws.{one_accepted}
-use Rattle.interview.proofs.DictionaryLaws.{first_letter}
+use Rattle.interview.proofs.WordLaws.{no_number, same_number}
 use Rattle.interview.specs.Load.{GeneratedAs, IsOfLoad, OneEndOfGen, defined_gen}
 
 -- ---- words
 
-no_run_of_gen : (number : List ℕ) (origin : Origin) (engine : Engine) → IsRunOver (codes "gen" ∷ number ∷ []) origin engine → ⊥
-no_run_of_gen number (file name) Incremental asked = omega (arith, ap first_letter asked)
-no_run_of_gen number (file name) Plain asked = omega (arith, ap first_letter asked)
-no_run_of_gen number (program Year2023) Incremental asked = omega (arith, ap first_letter asked)
-no_run_of_gen number (program Year2024) Incremental asked = omega (arith, ap first_letter asked)
-no_run_of_gen number (program Income2023) Incremental asked = omega (arith, ap first_letter asked)
-no_run_of_gen number (program b) Plain asked = asked
-
-no_check_of_gen : (number name : List ℕ) → IsCheck (codes "gen" ∷ number ∷ []) name → ⊥
-no_check_of_gen number name asked = omega (arith, ap first_letter asked)
-
-pub gen_is_no_run : (words : List (List ℕ)) (n : ℕ) (origin : Origin) → IsGen words n → IsRun words origin → ⊥
-gen_is_no_run words n origin gen run = no_run_of_gen (decimal n) origin run.engine (subst (λ w. IsRunOver w origin run.engine) gen.spelled run.over)
-
-pub gen_is_no_check : (words : List (List ℕ)) (n : ℕ) (name : List ℕ) → IsGen words n → IsCheck words name → ⊥
-gen_is_no_check words n name gen check = no_check_of_gen (decimal n) name (subst (λ w. IsCheck w name) gen.spelled check)
-
--- nothing is fetched for a load
-pub gen_fetches_nothing : (words : List (List ℕ)) (n : ℕ) (name : List ℕ) → IsGen words n → Fetches words name → ⊥
-gen_fetches_nothing words n name gen (inl run) = gen_is_no_run words n (file name) gen run
-gen_fetches_nothing words n name gen (inr check) = gen_is_no_check words n name gen check
-
-same_second : (a b : List ℕ) → codes "gen" ∷ a ∷ [] ≡ codes "gen" ∷ b ∷ [] → a ≡ b
-same_second a b both = cc
-
-same_number : (n m : ℕ) → n ≤ 1000000 → m ≤ 1000000 → decimal n ≡ decimal m → n ≡ m
-same_number n m few low same = decimal_injective n m (omega (arith, few)) (omega (arith, low)) same
+same_decimal : (n m : ℕ) → n ≤ 1000000 → m ≤ 1000000 → decimal n ≡ decimal m → n ≡ m
+same_decimal n m few low same = decimal_injective n m (omega (arith, few)) (omega (arith, low)) same
 
 pub same_gen : (words : List (List ℕ)) (n m : ℕ) → IsGen words n → IsGen words m → n ≡ m
-same_gen words n m g h = same_number n m (let few = g.most in omega (arith, few)) (let few = h.most in omega (arith, few)) (same_second (decimal n) (decimal m) (sym g.spelled ∙ h.spelled))
-
--- behind `gen` stands no such number
-pub no_number : (number : List ℕ) → ((n : ℕ) → 1 ≤ n → n ≤ 1000 → number ≡ decimal n → ⊥) → HasNoForm (codes "gen" ∷ number ∷ [])
-no_number number none = (λ o asked. no_run_of_gen number o asked.engine asked.over, no_check_of_gen number, λ n asked. none n asked.some asked.most (same_second number (decimal n) asked.spelled))
+same_gen words n m g h = same_decimal n m (let few = g.most in omega (arith, few)) (let few = h.most in omega (arith, few)) (same_number words n m g h)
 
 pub beyond : (number : List ℕ) (k : ℕ) → 1000 < k → k ≤ 1000000 → number ≡ decimal k → (n : ℕ) → 1 ≤ n → n ≤ 1000 → number ≡ decimal n → ⊥
-beyond number k high low spelled n some most other = let same = same_number n k (omega (arith, most)) low (sym other ∙ spelled) in absurd (omega (arith, same, most, high))
+beyond number k high low spelled n some most other = let same = same_decimal n k (omega (arith, most)) low (sym other ∙ spelled) in absurd (omega (arith, same, most, high))
 
 -- what the word behind `gen` spells, or doesn't
 pub is_number : (number : List ℕ) (n : ℕ) → SpellsMemberNumber number n → n ≤ 1000 → IsGen (codes "gen" ∷ number ∷ []) n
@@ -101,15 +71,15 @@ told_replies r terms left took script taken told before after ends =
     wrote ∙ ap (λ s. (defined_script r terms s).text) (sym same)
 
 pub summed : (r : Rules) (relations : List Named) (n facts nodes lines : ℕ) (made_script replies text : List ℕ)
-    → facts ≡ length (tree_of r).facts → nodes ≡ node_count (tree_of r) → lines ≡ length (lines_of made_script) → made_script ≡ script n → replies ≡ (defined_script r (run_terms Incremental relations) made_script).text
+    → facts ≡ length (tree_of r).facts → nodes ≡ node_count (tree_of r) → lines ≡ length (lines_of made_script) → made_script ≡ script n → replies ≡ (defined_script r (run_terms Incremental relations start) made_script).text
     → text ≡ summary n facts nodes lines (lines_of replies) → text ≡ (defined_gen r relations n).text
 summed r relations n facts nodes lines made_script replies text a b c same replied is =
     let count = c ∙ ap (λ (s : List ℕ). length (lines_of s)) same in
-    let told = replied ∙ ap (λ (s : List ℕ). (defined_script r (run_terms Incremental relations) s).text) same in
+    let told = replied ∙ ap (λ (s : List ℕ). (defined_script r (run_terms Incremental relations start) s).text) same in
     is ∙ (λ i. summary n (a i) (b i) (count i) (lines_of (told i)))
 
 pub summed_of_load : (r : Rules) (relations : List Named) (n facts nodes lines : ℕ) (made_script replies : List ℕ) → IsOfLoad n r
-    → facts ≡ length (tree_of r).facts → nodes ≡ node_count (tree_of r) → lines ≡ length (lines_of made_script) → made_script ≡ script n → replies ≡ (defined_script r (run_terms Incremental relations) made_script).text
+    → facts ≡ length (tree_of r).facts → nodes ≡ node_count (tree_of r) → lines ≡ length (lines_of made_script) → made_script ≡ script n → replies ≡ (defined_script r (run_terms Incremental relations start) made_script).text
     → (result : Result (Vec ℕ Global) NoMemory) → IfOk result (λ text. text.items ≡ summary n facts nodes lines (lines_of replies))
     → IfOk result (λ text. (q : Rules) × IsOfLoad n q × (text.items ≡ (defined_gen q relations n).text))
 summed_of_load r relations n facts nodes lines made_script replies is a b c same replied (Ok text) sum = (r, is, summed r relations n facts nodes lines made_script replies text.items a b c same replied sum)

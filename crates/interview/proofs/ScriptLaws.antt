@@ -9,10 +9,10 @@ use Rattle.fg_io.specs.Outside.{MayBe}
 use Rattle.fg_io.specs.Sent.{Sent}
 use Rattle.std.proofs.KnownBytes.{Appends-kept}
 use Rattle.fg_io.proofs.SentLaws.{appends_none, sent_whole}
-use Rattle.fg_io.proofs.ConsumedLaws.{consumes_more, consumes_none}
+use Rattle.fg_io.proofs.ConsumedLaws.{consumes_more, consumes_none, may_go_on}
 use Rattle.script_lines.specs.Lines.{ScriptLine, script_lines, ended_lines, HasNoNewline}
 use Rattle.script_lines.proofs.EndedLaws.{ended_follows, ended_goes_on, lines_go_on}
-use Rattle.interview.specs.declared.status.Status.TheVariants.{Done, ScriptTooLong}
+use Rattle.interview.specs.declared.status.Status.TheVariants.{Done, ScriptTooLong, NoMemory}
 use Rattle.graph_session.specs.Rules.{Rules, rules}
 use Rattle.fact_watch.specs.Watching.{Watching}
 use Rattle.graph_session.specs.SessionView.{SessionView}
@@ -20,7 +20,7 @@ use Rattle.session_lines.specs.Stepping.{Standing, Terms, State, Step, at_start,
 use Rattle.session_lines.specs.Answering.{RepliedLines, standing_of}
 use Rattle.interview.specs.SoFar.{AnsweredSoFar}
 use Rattle.interview.specs.Devices.{Stream, SentNothing, SentWhole, SentPart}
-use Rattle.interview.specs.ScriptEnds.{ScriptDid, RepliedFirst}
+use Rattle.interview.specs.ScriptEnds.{ScriptDid, RepliedFirst, ScriptEnds}
 use Rattle.interview.specs.Interview.{script_limit, answered_lines, defined_script}
 use Rattle.session_lines.proofs.AnsweringLaws.{replies-append, state_after-append, replied_line, replied_none}
 
@@ -176,7 +176,7 @@ module _ (r : Rules) (terms : Terms) (did : ScriptDid) (front rest : List ℕ) (
   front_ended = ended_follows front (held_now ++ behind) replied.lines (λ l. replied.cut l ∙ ap (λ k. replied.lines ++ script_lines k) (sym (append_assoc held_now behind l)))
 
   -- they are answered, and then others
-  front_answered : (more : List ℕ) → (others : List ScriptLine) × (answered_lines (front ++ more) ≡ replied.lines ++ others)
+  pub front_answered : (more : List ℕ) → (others : List ScriptLine) × (answered_lines (front ++ more) ≡ replied.lines ++ others)
   front_answered more =
       let ended = ended_are_answered front more short in
       (ended_lines (held_now ++ behind) ++ ended.0, ended.1 ∙ ap (λ l. l ++ ended.0) front_ended ∙ append_assoc replied.lines (ended_lines (held_now ++ behind)) ended.0)
@@ -205,6 +205,20 @@ module _ (r : Rules) (terms : Terms) (did : ScriptDid) (front rest : List ℕ) (
         ∙ ap (λ (s : State). s.over) (state_after-append r (at_start r terms) replied.lines others ∙ stays_over r (state_after r (at_start r terms) replied.lines) others over_now)
         ∙ over_now
 
+    -- where it left the session
+    pub state_behind : (more : List ℕ) → state_after r (at_start r terms) (answered_lines (front ++ more)) ≡ state_now
+    state_behind more =
+        let answered = front_answered more in
+        ap (state_after r (at_start r terms)) answered.1
+        ∙ state_after-append r (at_start r terms) replied.lines answered.0
+        ∙ stays_over r (state_after r (at_start r terms) replied.lines) answered.0 over_now
+        ∙ replied.left
+
+    pub done_behind : (more : List ℕ) → (defined_script r terms (front ++ more)).status ≡ Done
+    done_behind more =
+        let answered = front_answered more in
+        over_is_done r terms (front ++ more) (over_behind (answered_lines (front ++ more)) answered.0 answered.1)
+
     -- it ended in the front
     pub over_in_front : (state_after r (at_start r terms) (ended_lines front)).over ≡ true
     over_in_front = over_behind (ended_lines front) (ended_lines (held_now ++ behind)) front_ended
@@ -220,3 +234,10 @@ module _ (r : Rules) (terms : Terms) (did : ScriptDid) (front rest : List ℕ) (
   first_written more read none =
       let answered = front_answered more in
       replied_first r terms did (front ++ more) replied.lines answered.0 read answered.1 (whole none)
+
+-- ---- a script that isn't begun
+
+pub not_begun : (r : Rules) (terms : Terms) (did : ScriptDid) → did.taken.before ≡ did.taken.after → ScriptEnds r terms did NoMemory
+not_begun r terms did still =
+    let some = may_go_on did.left.before did.left.before [] (consumes_none did.left.before) in
+    record { script = some.0; read = some.1; count = 0; replied = subst (λ now. Appends did.taken.before now []) still (appends_none did.taken.before) }

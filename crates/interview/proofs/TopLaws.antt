@@ -1,85 +1,123 @@
--- Words, the dictionary, and the ends of an interview from those of its steps.
-use Rattle.std.proofs.Common.{◌≡◌, ℕ, ◌<◌, ◌≤◌, List, [], ◌∷◌, length, get_or, Option, String, string_bytes, inl, inr, sym, ap, subst, ◌∙◌, arith}
+-- The ends of an interview from those of its steps.
+use Rattle.std.proofs.Common.{◌≡◌, ℕ, ◌<◌, ◌≤◌, List, [], ◌∷◌, length, get_or, String, string_bytes, inl, inr, refl, sym, subst, arith}
+use Rattle.fg_io.specs.Outside.{Told}
 use Rattle.std.specs.declared.alloc.Global.{Global}
-use Rattle.std.specs.Io.KnownBytes.{Appends, Keeps}
+use Rattle.std.specs.Io.KnownBytes.{Keeps}
 use Rattle.std.proofs.KnownBytes.{Keeps-refl}
-use Rattle.fg_io.specs.Outside.{MayBe}
-use Rattle.fg_io.proofs.SentLaws.{appends_none}
-use Rattle.fg_io.proofs.ConsumedLaws.{consumes_none, may_go_on}
+use Rattle.fg_io.proofs.SentLaws.{rose_before}
 use Rattle.dictionary.specs.declared.fault.DictFault.{DictFault}
 use Rattle.graph_session.specs.Rules.{Rules}
-use Rattle.session_lines.specs.Stepping.{Terms}
 use Rattle.interview.specs.declared.status.Status.{Status}
-use Rattle.interview.specs.declared.status.Status.TheVariants.{Done, DictionaryRefused, FetchFault, ReadFault, WriteFault, ScriptTooLong, NoMemory}
-use Rattle.interview.specs.Words.{IsRun, Origin, file, program, texts}
+use Rattle.interview.specs.declared.status.Status.TheVariants.{Done, DictionaryRefused, FetchFault, ReadFault, WriteFault, ScriptTooLong, NoMemory, SavedRefused}
+use Rattle.interview.specs.Words.{Beginning, IsFrom, IsRun, Origin, by_carry, by_load, file, program, texts, unanswered}
+use Rattle.interview.specs.Beginnings.{Basis, IsRefusedStart, IsStart, MayBring, Start}
 use Rattle.interview.specs.Dictionaries.{Content, HasFault, IsAcceptedAs, MayGive}
-use Rattle.interview.specs.Interview.{run_terms, defined_fault}
-use Rattle.interview.specs.ScriptEnds.{ScriptDid, ScriptEnds}
-use Rattle.interview.specs.StepEnds.{EndedBy, NotFetched, NotObtained}
+use Rattle.interview.specs.Interview.{defined_fault, defined_saved_refused}
+use Rattle.interview.specs.ScriptEnds.{EndsBefore, EndsBehind}
+use Rattle.interview.specs.StepEnds.{EndedBy, NotFetched, NotObtained, NotResumed, RunDid, RunEnds, StartEnds}
 use Rattle.interview.specs.Given.{Did, Given, Unread}
-use Rattle.interview.specs.Ends.{AcceptedRun, RefusedRun, Ends}
+use Rattle.interview.specs.Ends.{AcceptedRun, BegunRun, Ends, RefusedRun, SavedRefusedRun, terms_of}
 
 -- ---- words
 
-pub two_words : (words : List (String Global)) (a b : String Global) (first : List ℕ) → 2 ≤ length words → length words < 3 → a ≡ get_or words 0 a → b ≡ get_or words 1 b → string_bytes a ≡ first
-    → texts words ≡ first ∷ string_bytes b ∷ []
-two_words [] a b first low high is_a is_b same = absurd (omega arith)
-two_words (x ∷ []) a b first low high is_a is_b same = absurd (omega arith)
-two_words (x ∷ y ∷ []) a b first low high is_a is_b same = λ i. (ap string_bytes (sym is_a) ∙ same) i ∷ string_bytes (sym is_b i) ∷ []
-two_words (x ∷ y ∷ z ∷ words) a b first low high is_a is_b same = absurd (omega arith)
+pub two_words : (words : List (String Global)) (a b : String Global) → 2 ≤ length words → length words < 3 → a ≡ get_or words 0 a → b ≡ get_or words 1 b
+    → texts words ≡ string_bytes a ∷ string_bytes b ∷ []
+two_words [] a b low high is_a is_b = absurd (omega arith)
+two_words (x ∷ []) a b low high is_a is_b = absurd (omega arith)
+two_words (x ∷ y ∷ []) a b low high is_a is_b = λ i. string_bytes (sym is_a i) ∷ string_bytes (sym is_b i) ∷ []
+two_words (x ∷ y ∷ z ∷ words) a b low high is_a is_b = absurd (omega arith)
 
--- ---- a script that isn't begun
-
--- some script that may have been given
-some_script : (left : Option (List ℕ)) → (script : List ℕ) × MayBe left script
-some_script left = may_go_on left left [] (consumes_none left)
-
-pub not_begun : (r : Rules) (terms : Terms) (did : ScriptDid) → did.taken.before ≡ did.taken.after → ScriptEnds r terms did NoMemory
-not_begun r terms did still = record {
-  script = (some_script did.left.before).0;
-  read = (some_script did.left.before).1;
-  count = 0;
-  replied = subst (λ now. Appends did.taken.before now []) still (appends_none did.taken.before);
-}
+pub three_words : (words : List (String Global)) (a b c : String Global) → 3 ≤ length words → length words < 4 → a ≡ get_or words 0 a → b ≡ get_or words 1 b → c ≡ get_or words 2 c
+    → texts words ≡ string_bytes a ∷ string_bytes b ∷ string_bytes c ∷ []
+three_words [] a b c low high is_a is_b is_c = absurd (omega arith)
+three_words (x ∷ []) a b c low high is_a is_b is_c = absurd (omega arith)
+three_words (x ∷ y ∷ []) a b c low high is_a is_b is_c = absurd (omega arith)
+three_words (x ∷ y ∷ z ∷ []) a b c low high is_a is_b is_c = λ i. string_bytes (sym is_a i) ∷ string_bytes (sym is_b i) ∷ string_bytes (sym is_c i) ∷ []
+three_words (x ∷ y ∷ z ∷ u ∷ words) a b c low high is_a is_b is_c = absurd (omega arith)
 
 -- ---- ends
+
+abbrev pub accepted_run : (given : Given) (origin : Origin) (content : Content) (r : Rules) → IsRun given.words origin → MayGive given.told origin content → IsAcceptedAs given.checks content r → AcceptedRun given
+accepted_run given origin content r asked gave is = record { origin = origin; content = content; rules = r; asked = asked; gave = gave; is_accepted = is }
+
+abbrev pub faulty_run : (given : Given) (origin : Origin) (content : Content) (fault : DictFault) → IsRun given.words origin → MayGive given.told origin content → HasFault given.checks content fault → RefusedRun given
+faulty_run given origin content fault asked gave is = record { origin = origin; content = content; fault = fault; asked = asked; gave = gave; is_fault = is }
 
 -- a text that ends an interview, whole or in part
 abbrev Ended : Did → List ℕ → Status → Status → Type 0
 Ended did text whole status = EndedBy did.script.taken.before did.script.taken.after did.script.sink.before did.script.sink.after text whole status
 
-module _ (given : Given) (did : Did) (origin : Origin) (asked : IsRun given.words origin) where
+module _ (given : Given) (did : Did) where
+  ends_kept : did.script.taken.before ≡ did.script.taken.after → Keeps did.script.taken.before did.script.taken.after
+  ends_kept still = subst (Keeps did.script.taken.before) still (Keeps-refl did.script.taken.before)
+
+  -- ---- behind an accepted dictionary
+
+  module _ (over : AcceptedRun given) where
+    module _ (basis : Basis) (brought : MayBring given.told over.asked.beginning basis) where
+      abbrev begun : (s : Start) → IsStart over.rules basis s → BegunRun given
+      begun s is = record { over = over; basis = basis; start = s; brought = brought; is_start = is }
+
+      ends_script : (s : Start) (is : IsStart over.rules basis s) (status : Status) → EndsBehind over.rules (terms_of given (begun s is)) s.front did.script status → Ends given did status
+      ends_script s is Done ends = inl (begun s is, ends)
+      ends_script s is ReadFault ends = (begun s is, ends)
+      ends_script s is WriteFault ends = inl (begun s is, ends)
+      ends_script s is ScriptTooLong ends = (begun s is, ends)
+      ends_script s is NoMemory ends = inr (begun s is, ends)
+      ends_script s is status ends = absurd ends.1.1
+
+      ends_front : (s : Start) (is : IsStart over.rules basis s) (status : Status) → EndsBefore s.front did.script status → Ends given did status
+      ends_front s is WriteFault ends = inr (ends.0, inr (inr (inr (inr (begun s is, ends.1, ends.2)))))
+      ends_front s is NoMemory ends = inl ends
+      ends_front s is status ends = absurd ends
+
+      ends_begun : (s : Start) (is : IsStart over.rules basis s) (status : Status) → StartEnds over.rules (terms_of given (begun s is)) s.front did.script status → Ends given did status
+      ends_begun s is status (inl ends) = ends_script s is status ends
+      ends_begun s is status (inr ends) = ends_front s is status ends
+
+      ends_saved_refused : (n : ℕ) (is : IsRefusedStart over.rules basis n) → Unread did → (status : Status) → Ended did (defined_saved_refused n).text SavedRefused status → Ends given did status
+      ends_saved_refused n is unread status ended =
+          let run : SavedRefusedRun given = record { over = over; basis = basis; line = n; brought = brought; is_refused = is } in
+          by_end run unread status ended
+        where
+          by_end : (run : SavedRefusedRun given) → Unread did → (status : Status) → Ended did (defined_saved_refused run.line).text SavedRefused status → Ends given did status
+          by_end run unread status (inl (same, wrote)) = subst (Ends given did) (sym same) (run, wrote, unread)
+          by_end run unread status (inr (same, rose, part)) = subst (Ends given did) (sym same) (inr (rose, inr (inr (inr (inl (run, part, unread))))))
+
+    -- no saved text was had
+    module _ (now : ℕ) (later : did.shelf.before ≤ now) (still : did.script.taken.before ≡ did.script.taken.after) (unread : Unread did) where
+      ends_unfetched_text : (name : List ℕ) (status : Status) → IsFrom over.asked.beginning name → NotFetched name now did.shelf.after did.failed_name status → Ends given did status
+      ends_unfetched_text name FetchFault from not = (rose_before did.shelf.before now did.shelf.after later not.0, inr (over, subst (IsFrom over.asked.beginning) (sym not.1) from), ends_kept still, unread)
+      ends_unfetched_text name NoMemory from not = inl (ends_kept still, unread)
+      ends_unfetched_text name status from not = absurd not
+
+      ends_unresumed : (b : Beginning) → over.asked.beginning ≡ b → (status : Status) → NotResumed b now did.shelf.after did.failed_name status → Ends given did status
+      ends_unresumed unanswered is status not = absurd not
+      ends_unresumed (by_load name) is status not = ends_unfetched_text name status (subst (λ b. IsFrom b name) (sym is) refl) not
+      ends_unresumed (by_carry name) is status not = ends_unfetched_text name status (subst (λ b. IsFrom b name) (sym is) refl) not
+
+  abbrev of_run : ℕ → RunDid
+  of_run now = record { shelf = record { before = now; after = did.shelf.after }; failed_name = did.failed_name; script = did.script }
+
+  -- with what the shelf tells and how often it had failed before the saved text was fetched
+  pub ends_run : (over : AcceptedRun given) (now : ℕ) (told : List ℕ → Told) (status : Status) → did.shelf.before ≤ now → told ≡ given.told → RunEnds told over.asked.beginning over.rules over.asked.engine given.relations (of_run now) status → Ends given did status
+  ends_run over now told status later same (inl (basis, brought, (s, is, ends))) = ends_begun over basis (subst (λ (t : List ℕ → Told). MayBring t over.asked.beginning basis) same brought) s is status ends
+  ends_run over now told status later same (inr (inl (basis, brought, (n, is, ended, unread)))) = ends_saved_refused over basis (subst (λ (t : List ℕ → Told). MayBring t over.asked.beginning basis) same brought) n is unread status ended
+  ends_run over now told status later same (inr (inr (not, still, unread))) = ends_unresumed over now later still unread over.asked.beginning refl status not
+
+  -- ---- a dictionary with a fault
+
+  pub ends_refused : (run : RefusedRun given) → Unread did → (status : Status) → Ended did (defined_fault run.fault).text DictionaryRefused status → Ends given did status
+  ends_refused run unread status (inl (same, wrote)) = subst (Ends given did) (sym same) (inl (run, wrote, unread))
+  ends_refused run unread status (inr (same, rose, part)) = subst (Ends given did) (sym same) (inr (rose, inr (inl (run, part, unread))))
+
+  -- ---- no dictionary was had
+
   ends_unfetched : (name : List ℕ) → IsRun given.words (file name) → (status : Status) → did.script.taken.before ≡ did.script.taken.after → Unread did → NotFetched name did.shelf.before did.shelf.after did.failed_name status → Ends given did status
-  ends_unfetched name named FetchFault still unread not = (not.0, inl (subst (λ n. IsRun given.words (file n)) (sym not.1) named), subst (Keeps did.script.taken.before) still (Keeps-refl did.script.taken.before), unread)
-  ends_unfetched name named NoMemory still unread not = inl (subst (Keeps did.script.taken.before) still (Keeps-refl did.script.taken.before), unread)
+  ends_unfetched name named FetchFault still unread not = (not.0, inl (inl (subst (λ n. IsRun given.words (file n)) (sym not.1) named)), ends_kept still, unread)
+  ends_unfetched name named NoMemory still unread not = inl (ends_kept still, unread)
   ends_unfetched name named status still unread not = absurd not
 
-  module _ (content : Content) (gave : MayGive given.told origin content) where
-    -- ---- a dictionary with a fault
-
-    module _ (fault : DictFault) (is : HasFault given.checks content fault) where
-      abbrev refused_run : RefusedRun given
-      refused_run = record { origin = origin; content = content; fault = fault; asked = asked; gave = gave; is_fault = is }
-
-      pub ends_refused : Unread did → (status : Status) → Ended did (defined_fault fault).text DictionaryRefused status → Ends given did status
-      ends_refused unread status (inl (same, wrote)) = subst (Ends given did) (sym same) (inl (refused_run, wrote, unread))
-      ends_refused unread status (inr (same, rose, part)) = subst (Ends given did) (sym same) (inr (rose, inr (inl (refused_run, part, unread))))
-
-    -- ---- an accepted one
-
-    module _ (r : Rules) (is : IsAcceptedAs given.checks content r) where
-      abbrev over : AcceptedRun given
-      over = record { origin = origin; content = content; rules = r; asked = asked; gave = gave; is_accepted = is }
-
-      pub ends_run : (status : Status) → ScriptEnds r (run_terms asked.engine given.relations) did.script status → Ends given did status
-      ends_run Done ends = inl (over, ends)
-      ends_run ReadFault ends = (over, ends)
-      ends_run WriteFault ends = inl (over, ends)
-      ends_run ScriptTooLong ends = (over, ends)
-      ends_run NoMemory ends = inr (over, ends)
-      ends_run status ends = absurd ends
-
--- no dictionary was had
-pub ends_unobtained : (given : Given) (did : Did) (origin : Origin) → IsRun given.words origin → (status : Status) → did.script.taken.before ≡ did.script.taken.after → Unread did → NotObtained origin did.shelf.before did.shelf.after did.failed_name status → Ends given did status
-ends_unobtained given did (file name) asked status still unread not = ends_unfetched given did (file name) asked name asked status still unread not
-ends_unobtained given did (program b) asked status still unread not = subst (Ends given did) (sym not) (inl (subst (Keeps did.script.taken.before) still (Keeps-refl did.script.taken.before), unread))
+  pub ends_unobtained : (origin : Origin) → IsRun given.words origin → (status : Status) → did.script.taken.before ≡ did.script.taken.after → Unread did → NotObtained origin did.shelf.before did.shelf.after did.failed_name status → Ends given did status
+  ends_unobtained (file name) asked status still unread not = ends_unfetched name asked status still unread not
+  ends_unobtained (program b) asked status still unread not = subst (Ends given did) (sym not) (inl (ends_kept still, unread))

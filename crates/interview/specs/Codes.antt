@@ -1,7 +1,7 @@
 -- The exit status of each ending, and its name.
 use Rattle.std.specs.Prelude.{ℕ, List, codes}
 use Rattle.interview.specs.declared.status.Status.{Status}
-use Rattle.interview.specs.declared.status.Status.TheVariants.{Done, DictionaryRefused, Usage, FetchFault, ReadFault, WriteFault, ScriptTooLong, NoMemory}
+use Rattle.interview.specs.declared.status.Status.TheVariants.{Done, DictionaryRefused, Usage, FetchFault, ReadFault, WriteFault, ScriptTooLong, NoMemory, SavedRefused}
 
 abbrev pub code_of : Status → ℕ
 code_of Done = 0
@@ -12,6 +12,7 @@ code_of ReadFault = 4
 code_of WriteFault = 5
 code_of ScriptTooLong = 6
 code_of NoMemory = 7
+code_of SavedRefused = 8
 
 abbrev pub name_of : Status → List ℕ
 name_of Done = codes "Done"
@@ -22,3 +23,4 @@ name_of ReadFault = codes "ReadFault"
 name_of WriteFault = codes "WriteFault"
 name_of ScriptTooLong = codes "ScriptTooLong"
 name_of NoMemory = codes "NoMemory"
+name_of SavedRefused = codes "SavedRefused"

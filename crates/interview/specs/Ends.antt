@@ -1,23 +1,25 @@
 -- How an interview ends: for each status, what was written and why it came.
 use Rattle.std.specs.Prelude.{◌≡◌, ◌⊎◌, ℕ, List, [], ◌∷◌, Some}
-use Rattle.fg_io.specs.Outside.{MayHold, holds, missing}
+use Rattle.fg_io.specs.Outside.{MayHold, holds, missing as not_there}
 use Rattle.script_lines.specs.Lines.{ScriptLine}
 use Rattle.dictionary.specs.declared.fault.DictFault.{DictFault}
 use Rattle.dictionary.specs.Accepted.{names_of}
 use Rattle.dictionary.specs.Faults.{IsFault}
 use Rattle.graph_session.specs.Rules.{Rules}
 use Rattle.interview.specs.declared.status.Status.{Status}
-use Rattle.interview.specs.declared.status.Status.TheVariants.{Done, DictionaryRefused, Usage, FetchFault, ReadFault, WriteFault, ScriptTooLong, NoMemory}
+use Rattle.interview.specs.declared.status.Status.TheVariants.{Done, DictionaryRefused, Usage, FetchFault, ReadFault, WriteFault, ScriptTooLong, NoMemory, SavedRefused}
 use Rattle.interview.specs.Devices.{Rises, SentNothing, SentPart, SentWhole}
 use Rattle.interview.specs.declared.built_in.BuiltIn.{BuiltIn}
+use Rattle.interview.specs.Beginnings.{Basis, Brings, IsRefusedStart, IsStart, MayBring, Start}
 use Rattle.interview.specs.Dictionaries.{Content, Gives, HasFault, IsAcceptedAs, MayGive}
 use Rattle.session_lines.specs.Laws.{FinalsHold}
-use Rattle.interview.specs.Interview.{ChecksTo, Defined, RunsTo, TablesHoldIn, defined_fault, run_terms, usage}
-use Rattle.session_lines.specs.Stepping.{at_start, state_after}
+use Rattle.interview.specs.Interview.{ChecksTo, Defined, RunsTo, TablesHoldIn, defined_fault, defined_saved_refused, run_terms, usage}
+use Rattle.session_lines.specs.Stepping.{Terms, at_start, state_after}
 use Rattle.interview.specs.GenEnds.{GenEnds, GenInterviewed}
+use Rattle.interview.specs.SaveEnds.{SaveEnds, SaveInterviewed}
 use Rattle.interview.specs.Given.{Did, EndedAs, Given, IsOneOf, Unread}
-use Rattle.interview.specs.ScriptEnds.{ReadThrough, ScriptEnds}
-use Rattle.interview.specs.Words.{Fetches, HasNoForm, IsCheck, IsRun, Origin, program}
+use Rattle.interview.specs.ScriptEnds.{EndsBehind, ReadThrough}
+use Rattle.interview.specs.Words.{Fetches, HasNoForm, IsCheck, IsFrom, IsRun, Origin, program, unanswered}
 
 -- a dictionary that it may have been given to run, wherever it came from, and that is accepted
 pub record AcceptedRun (given : Given) : Type 0 where
@@ -29,9 +31,20 @@ pub record AcceptedRun (given : Given) : Type 0 where
   pub gave : MayGive given.told origin content
   pub is_accepted : IsAcceptedAs given.checks content rules
 
--- its script ended with this status
-abbrev pub AcceptedEnds : Given → Did → Status → Type 0
-AcceptedEnds given did status = (over : AcceptedRun given) × ScriptEnds over.rules (run_terms over.asked.engine given.relations) did.script status
+-- over such a dictionary, how it begins
+pub record BegunRun (given : Given) : Type 0 where
+  pub over : AcceptedRun given
+  pub basis : Basis
+  pub start : Start
+  pub brought : MayBring given.told over.asked.beginning basis
+  pub is_start : IsStart over.rules basis start
+
+abbrev pub terms_of : (given : Given) → BegunRun given → Terms
+terms_of given run = run_terms run.over.asked.engine given.relations run.start.answers
+
+-- its script ended with this status, behind what is written before the replies
+abbrev pub BegunEnds : Given → Did → Status → Type 0
+BegunEnds given did status = (run : BegunRun given) × EndsBehind run.over.rules (terms_of given run) run.start.front did.script status
 
 -- a dictionary that it may have been given to run, with its fault
 pub record RefusedRun (given : Given) : Type 0 where
@@ -46,6 +59,18 @@ pub record RefusedRun (given : Given) : Type 0 where
 abbrev pub RefusedEnds : Given → Did → Type 0
 RefusedEnds given did = (run : RefusedRun given) × SentWhole did.script.taken (defined_fault run.fault).text × Unread did
 
+-- over an accepted dictionary, a saved text that it may have been given, and the line at which that is refused
+pub record SavedRefusedRun (given : Given) : Type 0 where
+  pub over : AcceptedRun given
+  pub basis : Basis
+  pub line : ℕ
+  pub brought : MayBring given.told over.asked.beginning basis
+  pub is_refused : IsRefusedStart over.rules basis line
+
+-- this was written whole, without the script
+abbrev pub SavedRefusedEnds : Given → Did → Type 0
+SavedRefusedEnds given did = (run : SavedRefusedRun given) × SentWhole did.script.taken (defined_saved_refused run.line).text × Unread did
+
 -- a check that it may have been given, and what it comes to
 pub record Check (given : Given) : Type 0 where
   pub name : List ℕ
@@ -59,37 +84,55 @@ pub record Check (given : Given) : Type 0 where
 abbrev pub CheckEndsAs : Given → Did → Status → Type 0
 CheckEndsAs given did status = (check : Check given) × (check.outcome.status ≡ status) × SentWhole did.script.taken check.outcome.text × Unread did
 
--- a prefix of a line that ends an interview was written, without the script
+-- a prefix of a line that ends an interview was written, or of those before the replies, without the script
 abbrev pub LinePart : Given → Did → Type 0
 LinePart given did =
     (HasNoForm given.words × SentPart did.script.taken usage.text × Unread did)
     ⊎ (((run : RefusedRun given) × SentPart did.script.taken (defined_fault run.fault).text × Unread did)
-    ⊎ ((check : Check given) × SentPart did.script.taken check.outcome.text × Unread did))
+    ⊎ (((check : Check given) × SentPart did.script.taken check.outcome.text × Unread did)
+    ⊎ (((run : SavedRefusedRun given) × SentPart did.script.taken (defined_saved_refused run.line).text × Unread did)
+    ⊎ ((run : BegunRun given) × SentPart did.script.taken run.start.front × Unread did))))
+
+-- a name that is fetched: that of a dictionary, or over an accepted one that of the saved text
+abbrev pub IsFetched : Given → List ℕ → Type 0
+IsFetched given name = Fetches given.words name ⊎ ((over : AcceptedRun given) × IsFrom over.asked.beginning name)
 
 -- The table of ends: the text of each status, and its cause.
 abbrev pub Ends : Given → Did → Status → Type 0
-Ends given did Done = AcceptedEnds given did Done ⊎ CheckEndsAs given did Done
+Ends given did Done = BegunEnds given did Done ⊎ CheckEndsAs given did Done
 Ends given did DictionaryRefused = RefusedEnds given did ⊎ CheckEndsAs given did DictionaryRefused
 Ends given did Usage = HasNoForm given.words × SentWhole did.script.taken usage.text × Unread did
-Ends given did FetchFault = Rises did.shelf × Fetches given.words did.failed_name × SentNothing did.script.taken × Unread did
-Ends given did ReadFault = AcceptedEnds given did ReadFault
-Ends given did WriteFault = AcceptedEnds given did WriteFault ⊎ (Rises did.script.sink × LinePart given did)
-Ends given did ScriptTooLong = AcceptedEnds given did ScriptTooLong
-Ends given did NoMemory = (SentNothing did.script.taken × Unread did) ⊎ AcceptedEnds given did NoMemory
+Ends given did FetchFault = Rises did.shelf × IsFetched given did.failed_name × SentNothing did.script.taken × Unread did
+Ends given did ReadFault = BegunEnds given did ReadFault
+Ends given did WriteFault = BegunEnds given did WriteFault ⊎ (Rises did.script.sink × LinePart given did)
+Ends given did ScriptTooLong = BegunEnds given did ScriptTooLong
+Ends given did NoMemory = (SentNothing did.script.taken × Unread did) ⊎ BegunEnds given did NoMemory
+Ends given did SavedRefused = SavedRefusedEnds given did
 
--- the same, and the tables of the words that read no dictionary
+-- the same, or the table of `gen` or of `save`
 abbrev pub EndsByWord : Given → Did → Status → Type 0
-EndsByWord given did status = Ends given did status ⊎ GenEnds given did status
+EndsByWord given did status = Ends given did status ⊎ (GenEnds given did status ⊎ SaveEnds given did status)
 
 -- ---- what is known of an interview when it ends
 
--- a run whose dictionary and script are told
+-- a dictionary of a run that is told, and accepted
+pub record KnownDictionary (given : Given) : Type 0 where
+  pub origin : Origin
+  pub content : Content
+  pub rules : Rules
+  pub asked : IsRun given.words origin
+  pub gives : Gives given.told origin content
+  pub is_accepted : IsAcceptedAs given.checks content rules
+
+-- a run whose dictionary, saved text and script are told
 pub record KnownRun (given : Given) : Type 0 where
   pub origin : Origin
   pub content : Content
+  pub basis : Basis
   pub script : List ℕ
   pub asked : IsRun given.words origin
   pub gives : Gives given.told origin content
+  pub brings : Brings given.told asked.beginning basis
   pub read : given.left ≡ Some script
 
 -- a check whose dictionary is told
@@ -105,7 +148,7 @@ EndedByCheck given did status bytes = (d : Defined) × ChecksTo bytes given.chec
 
 -- what a run that is told comes to
 abbrev pub ComesTo : (given : Given) → KnownRun given → Defined → Type 0
-ComesTo given run d = RunsTo run.content given.checks (run_terms run.asked.engine given.relations) run.script d
+ComesTo given run d = RunsTo run.content given.checks run.basis run.asked.engine given.relations run.script d
 
 -- it ended as a run that is told comes to, with the text whole
 abbrev pub EndedByRun : (given : Given) → KnownRun given → Did → Status → Type 0
@@ -113,7 +156,7 @@ EndedByRun given run did status = (d : Defined) × ComesTo given run d × EndedA
 
 -- a fetch of a name of the words failed
 abbrev pub FetchFailed : Given → Did → Type 0
-FetchFailed given did = Rises did.shelf × Fetches given.words did.failed_name
+FetchFailed given did = Rises did.shelf × IsFetched given did.failed_name
 
 pub record Interviewed (given : Given) (did : Did) (status : Status) : Type 0 where
   -- each status with its text and its cause
@@ -121,14 +164,22 @@ pub record Interviewed (given : Given) (did : Did) (status : Status) : Type 0 wh
   -- words without a form get the line of usage
   pub no_form : HasNoForm given.words → IsOneOf status (Usage ∷ WriteFault ∷ NoMemory ∷ [])
   -- a name that isn't there is a failed fetch
-  pub missing : (name : List ℕ) → Fetches given.words name → given.told name ≡ missing → IsOneOf status (FetchFault ∷ NoMemory ∷ [])
+  pub missing : (name : List ℕ) → Fetches given.words name → given.told name ≡ not_there → IsOneOf status (FetchFault ∷ NoMemory ∷ [])
   -- a run over a dictionary that is told and has this fault ends with its line, whatever the script
   pub refused : (origin : Origin) (content : Content) (fault : DictFault) → IsRun given.words origin → Gives given.told origin content → HasFault given.checks content fault
       → EndedAs did status (defined_fault fault) ⊎ IsOneOf status (FetchFault ∷ WriteFault ∷ NoMemory ∷ [])
   -- and reads nothing of the script
   pub refused_unread : (origin : Origin) (content : Content) (fault : DictFault) → IsRun given.words origin → Gives given.told origin content → HasFault given.checks content fault → Unread did
-  -- a run over a dictionary that the program brings with it ends by no fault of it, and by no fetch
-  pub built_in : (b : BuiltIn) → IsRun given.words (program b) → IsOneOf status (Done ∷ ReadFault ∷ WriteFault ∷ ScriptTooLong ∷ NoMemory ∷ [])
+  -- over a dictionary that is told and accepted, a saved text that isn't there is a failed fetch
+  pub saved_missing : (dict : KnownDictionary given) (name : List ℕ) → IsFrom dict.asked.beginning name → given.told name ≡ not_there → IsOneOf status (FetchFault ∷ NoMemory ∷ [])
+  -- over such a dictionary, a saved text that is told and refused ends it with the line of this, whatever the script
+  pub saved_refused : (dict : KnownDictionary given) (basis : Basis) (n : ℕ) → Brings given.told dict.asked.beginning basis → IsRefusedStart dict.rules basis n
+      → EndedAs did status (defined_saved_refused n) ⊎ IsOneOf status (FetchFault ∷ WriteFault ∷ NoMemory ∷ [])
+  -- and nothing is read of the script
+  pub saved_refused_unread : (dict : KnownDictionary given) (basis : Basis) (n : ℕ) → Brings given.told dict.asked.beginning basis → IsRefusedStart dict.rules basis n → Unread did
+  -- a run over a dictionary that the program brings with it ends by no fault of it, and where it names no saved text by no fetch
+  pub built_in : (b : BuiltIn) (asked : IsRun given.words (program b)) → asked.beginning ≡ unanswered → IsOneOf status (Done ∷ ReadFault ∷ WriteFault ∷ ScriptTooLong ∷ NoMemory ∷ [])
+  pub built_in_carried : (b : BuiltIn) → IsRun given.words (program b) → IsOneOf status (Done ∷ FetchFault ∷ ReadFault ∷ WriteFault ∷ ScriptTooLong ∷ NoMemory ∷ SavedRefused ∷ [])
   -- a run that is told ends as defined, or by a fault of the outside, or for want of memory
   pub exact : (run : KnownRun given) → EndedByRun given run did status ⊎ IsOneOf status (FetchFault ∷ ReadFault ∷ WriteFault ∷ NoMemory ∷ [])
   -- and where the outside doesn't fail, it ends as defined, or for want of memory
@@ -136,13 +187,14 @@ pub record Interviewed (given : Given) (did : Did) (status : Status) : Type 0 wh
   -- whatever the status: what a run that is told wrote is a prefix of the defined text
   pub prefix : (run : KnownRun given) (d : Defined) → ComesTo given run d → SentPart did.script.taken d.text
   -- with status 0 the dictionary is accepted, and the script was read to its end, or to that of the piece in which `quit` ended
-  pub read_through : (run : KnownRun given) → status ≡ Done → (r : Rules) × IsAcceptedAs given.checks run.content r × ReadThrough r (run_terms run.asked.engine given.relations) did.script
+  pub read_through : (run : KnownRun given) → status ≡ Done
+      → (r : Rules) × (s : Start) × IsAcceptedAs given.checks run.content r × IsStart r run.basis s × ReadThrough r (run_terms run.asked.engine given.relations s.answers) did.script
   -- over a dictionary that is accepted, wherever the lines of a script lead: what is printed as final there is complete, and stays
   -- so under every extension of the answers
-  pub finals : (over : AcceptedRun given) (lines : List ScriptLine) → FinalsHold over.rules (state_after over.rules (at_start over.rules (run_terms over.asked.engine given.relations)) lines).standing
+  pub finals : (run : BegunRun given) (lines : List ScriptLine) → FinalsHold run.over.rules (state_after run.over.rules (at_start run.over.rules (terms_of given run)) lines).standing
   -- over the dictionary of a year, wherever the lines of a script lead: what its facts are worth there is what the written tables
   -- of the year give
-  pub tables : (b : BuiltIn) → IsRun given.words (program b) → (over : AcceptedRun given) (lines : List ScriptLine) → TablesHoldIn b over.rules (state_after over.rules (at_start over.rules (run_terms over.asked.engine given.relations)) lines).standing
+  pub tables : (b : BuiltIn) → IsRun given.words (program b) → (run : BegunRun given) (lines : List ScriptLine) → TablesHoldIn b run.over.rules (state_after run.over.rules (at_start run.over.rules (terms_of given run)) lines).standing
   -- a check reads nothing of the script
   pub check_unread : (name : List ℕ) → IsCheck given.words name → Unread did
   -- a check of a dictionary that is told and has this fault ends with its line
@@ -155,3 +207,5 @@ pub record Interviewed (given : Given) (did : Did) (status : Status) : Type 0 wh
   pub check_complete : (check : KnownCheck given) → (FetchFailed given did → ⊥) → (Rises did.script.sink → ⊥) → EndedByCheck given did status check.bytes ⊎ (status ≡ NoMemory)
   -- what is known of `gen`
   pub gen : GenInterviewed given did status
+  -- and of `save` and `save-year`
+  pub saving : SaveInterviewed given did status

@@ -4,8 +4,10 @@ use Rattle.script_lines.specs.Lines.{ScriptLine, whole, long, script_lines}
 use Rattle.script_lines.specs.Reading.{Heard, nothing, bad_line, command, heard_in}
 use Rattle.script_lines.specs.declared.command.Command.{Command}
 use Rattle.script_lines.specs.declared.command.Command.TheVariants as commands
+use Rattle.answers.specs.Answered.{Answered}
 use Rattle.dictionary.specs.Accepted.{Named}
 use Rattle.graph_session.specs.Rules.{Rules}
+use Rattle.interview.specs.Beginnings.{Basis}
 use Rattle.interview.specs.Dictionaries.{Content}
 use Rattle.interview.specs.Interview.{Defined, RunsTo, defined_script, run_terms}
 use Rattle.interview.specs.declared.words.Engine.TheVariants.{Incremental, Plain}
@@ -32,12 +34,12 @@ AsksNoCounts script = All (λ l. line_asks_counts l ≡ false) (script_lines scr
 
 -- ---- a law
 
--- What such a script comes to is the same with stamps and without, whatever may be watched: `run` and `run-plain` have one defined
--- interview.
+-- What such a script comes to is the same with stamps and without, with whatever answers it begins, and whatever may be watched:
+-- `run` and `run-plain` have one defined interview.
 pub record AgreeOn (relations : List Named) (script : List ℕ) : Type 0 where
-  pub defined : (r : Rules) → defined_script r (run_terms Incremental relations) script ≡ defined_script r (run_terms Plain relations) script
-  pub there : (content : Content) (checks : List Named) (d : Defined) → RunsTo content checks (run_terms Incremental relations) script d → RunsTo content checks (run_terms Plain relations) script d
-  pub back : (content : Content) (checks : List Named) (d : Defined) → RunsTo content checks (run_terms Plain relations) script d → RunsTo content checks (run_terms Incremental relations) script d
+  pub defined : (r : Rules) (a : Answered) → defined_script r (run_terms Incremental relations a) script ≡ defined_script r (run_terms Plain relations a) script
+  pub there : (content : Content) (checks : List Named) (basis : Basis) (d : Defined) → RunsTo content checks basis Incremental relations script d → RunsTo content checks basis Plain relations script d
+  pub back : (content : Content) (checks : List Named) (basis : Basis) (d : Defined) → RunsTo content checks basis Plain relations script d → RunsTo content checks basis Incremental relations script d
 
 abbrev pub EnginesAgree : Type 0
 EnginesAgree = (relations : List Named) (script : List ℕ) → AsksNoCounts script → AgreeOn relations script

@@ -1,4 +1,4 @@
--- The line that says what a dictionary came to.
+-- The lines that say what a dictionary and a saved text came to.
 use Rattle.std.specs.Prelude.{ℕ, Bool, true, false, List, [], ◌++◌, codes}
 use Rattle.dictionary.specs.declared.fault.DictFault.{DictFault}
 use Rattle.dictionary.specs.declared.fault.DictFault.TheVariants.{TooLong, NotJson, Shape, TooMany, TooDeep, BadPath, DuplicatePath, NoCollection, UnknownPath, WrongPlace, UnknownCheck, IllTyped, BadLimit, Cycle, NoMemory}
@@ -54,3 +54,7 @@ fault_line fault = line_with (codes "dictionary refused " ++ fault_name fault ++
 -- so many facts and nodes
 abbrev pub accepted_line : ℕ → ℕ → List ℕ
 accepted_line facts nodes = line_with (numbered (codes "dictionary accepted ") facts ++ numbered (codes " facts ") nodes ++ codes " nodes")
+
+-- a saved text is refused at this line
+abbrev pub saved_refused_line : ℕ → List ℕ
+saved_refused_line n = line_with (numbered (codes "saved refused line ") n)

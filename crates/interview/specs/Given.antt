@@ -6,7 +6,7 @@ use Rattle.dictionary.specs.Accepted.{Named}
 use Rattle.interview.specs.declared.status.Status.{Status}
 use Rattle.interview.specs.Devices.{Counted, SentWhole}
 use Rattle.interview.specs.Interview.{Defined}
-use Rattle.interview.specs.ScriptEnds.{ScriptDid}
+use Rattle.interview.specs.ScriptEnds.{ScriptDid, UnreadScript}
 use Rattle.interview.specs.Words.{texts}
 
 -- what an interview is given
@@ -38,7 +38,7 @@ did_by unfetched unfetched_now failed_name script = record {
 
 -- nothing was read of the script
 abbrev pub Unread : Did → Type 0
-Unread did = (did.script.left.after ≡ did.script.left.before) × (did.script.source.after ≡ did.script.source.before)
+Unread did = UnreadScript did.script
 
 abbrev pub IsOneOf : Status → List Status → Type 0
 IsOneOf status [] = ⊥

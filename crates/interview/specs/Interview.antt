@@ -1,28 +1,28 @@
 -- The defined interview: what words, a dictionary and a script are to write, and the status at the end.
-use Rattle.std.specs.Prelude.{◌≡◌, ◌⊎◌, ℕ, List, length, take, codes, nat_le, if◌then◌else◌}
+use Rattle.std.specs.Prelude.{◌≡◌, ◌⊎◌, ℕ, List, ◌++◌, length, take, codes, nat_le, if◌then◌else◌}
 use Rattle.dictionary.specs.declared.fault.DictFault.{DictFault}
 use Rattle.dictionary.specs.Accepted.{Accepted, Named, names_of}
 use Rattle.dictionary.specs.Faults.{AreAccepted, IsFault}
-use Rattle.dictionary.specs.Fits.{AnswersFit}
 use Rattle.dictionary.specs.Keeping.{node_count}
 use Rattle.script_lines.specs.Lines.{ScriptLine, script_lines, ended_lines}
 use Rattle.graph_session.specs.Rules.{Rules, tree_of}
 use Rattle.interview.specs.declared.status.Status.{Status}
-use Rattle.interview.specs.declared.status.Status.TheVariants.{Done, DictionaryRefused, Usage, ScriptTooLong}
+use Rattle.interview.specs.declared.status.Status.TheVariants.{Done, DictionaryRefused, Usage, ScriptTooLong, SavedRefused}
 use Rattle.session_lines.specs.Replies.{line_with}
 use Rattle.session_lines.specs.Stepping.{Standing, Terms, at_start, replies, state_after}
-use Rattle.interview.specs.FaultLines.{fault_line, accepted_line}
+use Rattle.interview.specs.FaultLines.{accepted_line, fault_line, saved_refused_line}
 use Rattle.tax_2023.specs.Household.{Household}
 use Rattle.tax_2023.specs.Answers.{AreOfHousehold}
 use Rattle.tax_2023.specs.Laws.{HasTables, IsModest}
 use Rattle.tax_income.specs.Answers.{AreNumbered}
 use Rattle.tax_income.specs.Laws.{HasIncomeTables}
 use Rattle.tax_income.specs.Tables.{Numbered}
-use Rattle.answers.specs.Answered.{start}
+use Rattle.answers.specs.Answered.{Answered}
 use Rattle.interview.specs.declared.built_in.BuiltIn.{BuiltIn}
 use Rattle.interview.specs.declared.built_in.BuiltIn.TheVariants.{Income2023}
 use Rattle.interview.specs.declared.words.Engine.{Engine}
 use Rattle.interview.specs.Words.{keeps_stamps}
+use Rattle.interview.specs.Beginnings.{Basis, IsRefusedStart, IsStart, Start}
 use Rattle.interview.specs.Dictionaries.{Content, HasFault, IsAcceptedAs, tables_of}
 
 -- a text, and the status that comes with it
@@ -54,17 +54,34 @@ defined_script r terms script = record {
   status = if nat_le (length script) script_limit then Done else if (state_after r (at_start r terms) (answered_lines script)).over then Done else ScriptTooLong;
 }
 
--- ---- `run`, `run-plain` and `year`
+-- ---- runs
 
--- the terms of a run: no answers, stamps where the engine keeps them, and the relations of the table
-abbrev pub run_terms : Engine → List Named → Terms
-run_terms engine relations = record { answers = start; stamps = keeps_stamps engine; relations = relations }
+-- the terms of a run: these answers, stamps where the engine keeps them, and the relations of the table
+abbrev pub run_terms : Engine → List Named → Answered → Terms
+run_terms engine relations answers = record { answers = answers; stamps = keeps_stamps engine; relations = relations }
 
--- What a run is to give over a dictionary and the bytes of a script, with these checks, with stamps or without: the replies, or
--- the first fault. Wherever the dictionary comes from, what comes behind its acceptance is the same.
-abbrev pub RunsTo : Content → List Named → Terms → List ℕ → Defined → Type 0
-RunsTo content checks terms script d =
-    ((r : Rules) × IsAcceptedAs checks content r × (d ≡ defined_script r terms script))
+-- what a script gives that begins so: what is written before the replies, and then these
+abbrev pub defined_run : Rules → Engine → List Named → Start → List ℕ → Defined
+defined_run r engine relations s script =
+    let given = defined_script r (run_terms engine relations s.answers) script in
+    record { text = s.front ++ given.text; status = given.status }
+
+-- the line of a saved text that is refused
+abbrev pub defined_saved_refused : ℕ → Defined
+defined_saved_refused n = record { text = saved_refused_line n; status = SavedRefused }
+
+-- what is given over an accepted dictionary: a script that begins as the saved text says, or the line at which that is refused
+abbrev pub GoesOnTo : Rules → Basis → Engine → List Named → List ℕ → Defined → Type 0
+GoesOnTo r basis engine relations script d =
+    ((s : Start) × IsStart r basis s × (d ≡ defined_run r engine relations s script))
+    ⊎ ((n : ℕ) × IsRefusedStart r basis n × (d ≡ defined_saved_refused n))
+
+-- What a run is to give over a dictionary, a saved text where one is named, and the bytes of a script, with these checks, with
+-- stamps or without. A saved text is judged where the dictionary is accepted. Wherever the dictionary comes from, what comes
+-- behind its acceptance is the same.
+abbrev pub RunsTo : Content → List Named → Basis → Engine → List Named → List ℕ → Defined → Type 0
+RunsTo content checks basis engine relations script d =
+    ((r : Rules) × IsAcceptedAs checks content r × GoesOnTo r basis engine relations script d)
     ⊎ ((fault : DictFault) × HasFault checks content fault × (d ≡ defined_fault fault))
 
 -- ---- `check`
@@ -85,7 +102,9 @@ abbrev pub OneEndOfCheck : Type 0
 OneEndOfCheck = (bytes : List ℕ) (checks : List Named) (d e : Defined) → ChecksTo bytes checks d → ChecksTo bytes checks e → d ≡ e
 
 abbrev pub OneEndOfRun : Type 0
-OneEndOfRun = (content : Content) (checks : List Named) (terms : Terms) (script : List ℕ) (d e : Defined) → RunsTo content checks terms script d → RunsTo content checks terms script e → d ≡ e
+OneEndOfRun =
+    (content : Content) (checks : List Named) (basis : Basis) (engine : Engine) (relations : List Named) (script : List ℕ) (d e : Defined)
+    → RunsTo content checks basis engine relations script d → RunsTo content checks basis engine relations script e → d ≡ e
 
 -- ---- the tables of a year
 
@@ -96,9 +115,9 @@ pub record IsAnsweredBy (r : Rules) (s : Standing) (h : Household) : Type 0 wher
   pub other : IsModest h.other_income
 
 -- then the facts of the dictionary have the values of the written tables, and those of the rates and the credit theirs, where it is
--- said of each person whether it has a number, and the answers fit the dictionary
+-- said of each person whether it has a number
 abbrev pub TablesHoldIn : BuiltIn → Rules → Standing → Type 0
 TablesHoldIn Income2023 r s =
     (h : Household) (numbered : Numbered) → IsAnsweredBy r s h → AreNumbered (tree_of r) s.course.timeline.now numbered h.persons
-    → AnswersFit (tree_of r) s.course.timeline.now → HasIncomeTables r.accepted s.course.timeline.now h numbered
+    → HasIncomeTables r.accepted s.course.timeline.now h numbered
 TablesHoldIn b r s = (h : Household) → IsAnsweredBy r s h → HasTables r.accepted (tables_of b) s.course.timeline.now h

@@ -1,6 +1,7 @@
 pub mod Tables
 pub mod Codes
 pub mod Words
+pub mod Beginnings
 pub mod Dictionaries
 pub mod FaultLines
 pub mod Interview
@@ -14,4 +15,6 @@ pub mod Ends
 pub mod GenEnds
 pub mod Given
 pub mod Load
+pub mod Save
+pub mod SaveEnds
 pub mod Summary

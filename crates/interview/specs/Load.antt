@@ -1,6 +1,7 @@
 -- What `gen` comes to, and how it ends.
 use Rattle.std.specs.Prelude.{◌≡◌, ℕ, List, [], length}
 use Rattle.script_lines.specs.Lines.{lines_of}
+use Rattle.answers.specs.Answered.{start}
 use Rattle.dictionary.specs.Accepted.{IsAccepted, Named}
 use Rattle.dictionary.specs.Keeping.{node_count}
 use Rattle.dict_gen.specs.Chain.{chain}
@@ -23,7 +24,7 @@ pub record IsOfLoad (n : ℕ) (r : Rules) : Type 0 where
 
 -- what a run of the script of the load is to write over these rules
 abbrev pub replies_to_load : Rules → List Named → ℕ → List ℕ
-replies_to_load r relations n = (defined_script r (run_terms Incremental relations) (script n)).text
+replies_to_load r relations n = (defined_script r (run_terms Incremental relations start) (script n)).text
 
 -- the summary of these replies
 abbrev pub defined_gen : Rules → List Named → ℕ → Defined

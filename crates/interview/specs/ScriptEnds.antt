@@ -1,7 +1,7 @@
 -- How a script over an accepted dictionary ends, on the terms on which it began: for each status, what was written, what was read,
 -- and why it came.
 use Rattle.std.specs.Prelude.{◌≡◌, ◌⊎◌, ℕ, ◌≤◌, true, false, List, ◌++◌, length, take, Option}
-use Rattle.std.specs.Io.KnownBytes.{Consumes, IsAtEnd}
+use Rattle.std.specs.Io.KnownBytes.{Appends, Consumes, IsAtEnd}
 use Rattle.fg_io.specs.Outside.{MayBe}
 use Rattle.script_lines.specs.Lines.{ended_lines}
 use Rattle.graph_session.specs.Rules.{Rules}
@@ -9,7 +9,7 @@ use Rattle.session_lines.specs.declared.progress.Progress.{Progress}
 use Rattle.session_lines.specs.declared.progress.Progress.TheVariants.{More, Over, Unwritten, OutOfMemory}
 use Rattle.interview.specs.declared.status.Status.{Status}
 use Rattle.interview.specs.declared.status.Status.TheVariants.{Done, ReadFault, WriteFault, ScriptTooLong, NoMemory}
-use Rattle.interview.specs.Devices.{Counted, Rises, Stream, SentPart, SentWhole}
+use Rattle.interview.specs.Devices.{Counted, Rises, Stream, SentNothing, SentPart, SentWhole}
 use Rattle.interview.specs.Interview.{answered_lines, defined_script, script_limit}
 use Rattle.session_lines.specs.Stepping.{Terms, at_start, replies, state_after}
 
@@ -80,6 +80,26 @@ ScriptEnds r terms did ReadFault = Rises did.source × ReadSoFar r terms did
 ScriptEnds r terms did WriteFault = Rises did.sink × ((script : List ℕ) × MayBe did.left.before script × SentPart did.taken (defined_script r terms script).text)
 ScriptEnds r terms did NoMemory = RepliedFirst r terms did
 ScriptEnds r terms did other = ⊥
+
+-- ---- a script that a text stands before
+
+-- what it did from there on, where the sink had taken this
+abbrev pub did_behind : ScriptDid → Option (List ℕ) → ScriptDid
+did_behind did taken = record { left = did.left; taken = record { before = taken; after = did.taken.after }; source = did.source; sink = did.sink }
+
+-- nothing of it was read
+abbrev pub UnreadScript : ScriptDid → Type 0
+UnreadScript did = (did.left.after ≡ did.left.before) × (did.source.after ≡ did.source.before)
+
+-- the text was written whole, and then it ended so
+abbrev pub EndsBehind : Rules → Terms → List ℕ → ScriptDid → Status → Type 0
+EndsBehind r terms front did status = (taken : Option (List ℕ)) × (Appends did.taken.before taken front × ScriptEnds r terms (did_behind did taken) status)
+
+-- it wasn't begun: the text wasn't written whole, or for want of memory nothing was
+abbrev pub EndsBefore : List ℕ → ScriptDid → Status → Type 0
+EndsBefore front did WriteFault = Rises did.sink × SentPart did.taken front × UnreadScript did
+EndsBefore front did NoMemory = SentNothing did.taken × UnreadScript did
+EndsBefore front did other = ⊥
 
 -- the status of a script that ends behind its last line
 abbrev pub ending_of : Progress → Status

@@ -1,5 +1,6 @@
 -- How the single steps of an interview end: a fetch, a text that ends it, a check.
-use Rattle.std.specs.Prelude.{◌≡◌, ◌⊎◌, ℕ, List, Option}
+use Rattle.std.specs.Prelude.{◌≡◌, ◌⊎◌, ℕ, ◌<◌, ◌≤◌, List, [], length, Option, Some, None, Result, Ok, Err, Vec}
+use Rattle.std.specs.declared.alloc.Global.{Global}
 use Rattle.std.specs.Io.KnownBytes.{Appends}
 use Rattle.fg_io.specs.Outside.{MayHold, Rose, Told}
 use Rattle.fg_io.specs.Sent.{Sent}
@@ -8,13 +9,35 @@ use Rattle.dictionary.specs.Faults.{AreAccepted, IsFault}
 use Rattle.interview.specs.declared.fetching.Fetched.{Fetched}
 use Rattle.interview.specs.declared.fetching.Fetched.TheVariants as fetches
 use Rattle.interview.specs.declared.status.Status.{Status}
-use Rattle.interview.specs.declared.status.Status.TheVariants.{Done, DictionaryRefused, FetchFault, WriteFault, NoMemory}
+use Rattle.interview.specs.declared.status.Status.TheVariants.{Done, DictionaryRefused, FetchFault, WriteFault, NoMemory, SavedRefused}
 use Rattle.interview.specs.Devices.{Counted, Rises, Stream, SentNothing, SentPart, SentWhole}
 use Rattle.graph_session.specs.Refusals.{SameChecks}
-use Rattle.graph_session.specs.Rules.{rules}
-use Rattle.interview.specs.Words.{Origin, file, program}
+use Rattle.graph_session.specs.Rules.{Rules, rules, tree_of}
+use Rattle.answers.specs.Meaning.{answered}
+use Rattle.dictionary.specs.Fits.{AnswersFit}
+use Rattle.save_file.specs.Dropped.{IsDroppedText}
+use Rattle.save_file.specs.declared.fault.LoadFault.{LoadFault}
+use Rattle.save_file.specs.declared.fault.LoadFault.TheVariants as loads
+use Rattle.session_lines.specs.Stepping.{Terms}
+use Rattle.interview.specs.declared.resuming.Dropped.{Dropped}
+use Rattle.interview.specs.declared.resuming.Dropped.TheVariants as dropped
+use Rattle.interview.specs.declared.resuming.Ready.{Ready}
+use Rattle.interview.specs.declared.resuming.Resumed.{Resumed}
+use Rattle.interview.specs.declared.resuming.Resumed.TheVariants as resumed
+use Rattle.interview.specs.declared.words.Engine.{Engine}
+use Rattle.interview.specs.Words.{Beginning, Origin, by_carry, by_load, file, program, unanswered}
+use Rattle.interview.specs.Beginnings.{Basis, IsRefusedStart, IsStart, MayBring, Start, saved_limit}
+use Rattle.interview.specs.ScriptEnds.{EndsBefore, EndsBehind, ScriptDid, UnreadScript}
 use Rattle.interview.specs.Dictionaries.{Content, HasFault, IsAcceptedAs, MayGive}
-use Rattle.interview.specs.Interview.{ChecksTo, Defined, defined_accepted, defined_fault}
+use Rattle.interview.specs.Interview.{ChecksTo, Defined, defined_accepted, defined_fault, defined_saved_refused, run_terms}
+
+-- ---- a text
+
+-- a text was written whole, with this status, or in part after a fault
+abbrev pub EndedBy : Option (List ℕ) → Option (List ℕ) → ℕ → ℕ → List ℕ → Status → Status → Type 0
+EndedBy taken taken_now faults faults_now text whole status =
+    ((status ≡ whole) × Appends taken taken_now text)
+    ⊎ ((status ≡ WriteFault) × Rose faults faults_now × ((rest : List ℕ) × Sent taken taken_now text rest))
 
 -- ---- a fetch
 
@@ -46,13 +69,80 @@ abbrev pub NotObtained : Origin → ℕ → ℕ → List ℕ → Status → Type
 NotObtained (file name) faults faults_now failed_name status = NotFetched name faults faults_now failed_name status
 NotObtained (program b) faults faults_now failed_name status = status ≡ NoMemory
 
--- ---- a text
+-- ---- the answers at its start
 
--- a text was written whole, with this status, or in part after a fault
-abbrev pub EndedBy : Option (List ℕ) → Option (List ℕ) → ℕ → ℕ → List ℕ → Status → Status → Type 0
-EndedBy taken taken_now faults faults_now text whole status =
-    ((status ≡ whole) × Appends taken taken_now text)
-    ⊎ ((status ≡ WriteFault) × Rose faults faults_now × ((rest : List ℕ) × Sent taken taken_now text rest))
+-- what was fetched may be a saved text, or some text that is too long
+abbrev pub FetchedText : Told → Option (Vec ℕ Global) → Type 0
+FetchedText told (Some v) = MayHold told v.items × (length v.items ≤ saved_limit)
+FetchedText told None = (bytes : List ℕ) × MayHold told bytes × (saved_limit < length bytes)
+
+-- what is kept of a saved text gives this text before the replies
+abbrev pub Gives : Dropped → List ℕ → Type 0
+Gives dropped.Nothing text = text ≡ []
+Gives (dropped.Lines bytes numbers) text = IsDroppedText bytes.items numbers.items text × (length bytes.items < 4294967295)
+
+-- a script over these rules begins with these answers and this text
+pub record IsReady (r : Rules) (ready : Ready) (s : Start) : Type 0 where
+  pub fit : AnswersFit (tree_of r) (answered ready.answers)
+  pub answers : answered ready.answers ≡ s.answers
+  pub front : Gives ready.dropped s.front
+
+-- over these rules, what it is judged by gives answers to begin with, or is refused at this line
+abbrev pub ResumesAs : Rules → Basis → Resumed → Type 0
+ResumesAs r basis (resumed.Begins ready) = (s : Start) × IsStart r basis s × IsReady r ready s
+ResumesAs r basis (resumed.Refused n) = IsRefusedStart r basis n
+
+abbrev pub ResumedAs : (List ℕ → Told) → Beginning → Rules → Resumed → Type 0
+ResumedAs told beginning r found = (basis : Basis) × MayBring told beginning basis × ResumesAs r basis found
+
+-- a fault of a saved text, or want of memory
+abbrev pub RefusedFor : LoadFault → Result Resumed Status → Type 0
+RefusedFor (loads.BadSaved n) result = result ≡ Ok (resumed.Refused n)
+RefusedFor loads.NoMemory result = result ≡ Err NoMemory
+
+-- there was none: the shelf failed to give the name of the saved text, or there was no memory
+abbrev pub NotResumed : Beginning → ℕ → ℕ → List ℕ → Status → Type 0
+NotResumed unanswered before now failed_name status = ⊥
+NotResumed (by_load name) before now failed_name status = NotFetched name before now failed_name status
+NotResumed (by_carry name) before now failed_name status = NotFetched name before now failed_name status
+
+-- ---- a run over an accepted dictionary
+
+-- how a script ends that this text stands before
+abbrev pub StartEnds : Rules → Terms → List ℕ → ScriptDid → Status → Type 0
+StartEnds r terms front did status = EndsBehind r terms front did status ⊎ EndsBefore front did status
+
+-- what a run did to the shelf, and to the rest
+pub record RunDid : Type 0 where
+  pub shelf : Counted
+  pub failed_name : List ℕ
+  pub script : ScriptDid
+
+-- by the faults of the shelf, before and after, and the name of the last
+abbrev pub run_did : (unfetched unfetched_now : ℕ) → List ℕ → ScriptDid → RunDid
+run_did unfetched unfetched_now failed_name script = record {
+  shelf = record { before = unfetched; after = unfetched_now };
+  failed_name = failed_name;
+  script = script;
+}
+
+-- it began, and its script ended so
+abbrev pub BeginsAndEnds : (List ℕ → Told) → Beginning → Rules → Engine → List Named → RunDid → Status → Type 0
+BeginsAndEnds told beginning r engine relations did status =
+    (basis : Basis) × MayBring told beginning basis × ((s : Start) × IsStart r basis s × StartEnds r (run_terms engine relations s.answers) s.front did.script status)
+
+-- the saved text was refused
+abbrev pub SavedTextEnds : (List ℕ → Told) → Beginning → Rules → RunDid → Status → Type 0
+SavedTextEnds told beginning r did status =
+    (basis : Basis) × MayBring told beginning basis × ((n : ℕ) × IsRefusedStart r basis n
+    × EndedBy did.script.taken.before did.script.taken.after did.script.sink.before did.script.sink.after (defined_saved_refused n).text SavedRefused status × UnreadScript did.script)
+
+-- or there was none
+abbrev pub RunEnds : (List ℕ → Told) → Beginning → Rules → Engine → List Named → RunDid → Status → Type 0
+RunEnds told beginning r engine relations did status =
+    BeginsAndEnds told beginning r engine relations did status
+    ⊎ (SavedTextEnds told beginning r did status
+    ⊎ (NotResumed beginning did.shelf.before did.shelf.after did.failed_name status × (did.script.taken.before ≡ did.script.taken.after) × UnreadScript did.script))
 
 -- ---- a check
 

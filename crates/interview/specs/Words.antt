@@ -7,8 +7,10 @@ use Rattle.interview.specs.declared.words.Engine.{Engine}
 use Rattle.interview.specs.declared.words.Engine.TheVariants.{Incremental, Plain}
 use Rattle.interview.specs.declared.words.Origin.{Origin as Asked}
 use Rattle.interview.specs.declared.words.Origin.TheVariants as asked
+use Rattle.interview.specs.declared.words.Beginning.{Beginning as AskedBeginning}
+use Rattle.interview.specs.declared.words.Beginning.TheVariants as beginnings
 use Rattle.interview.specs.declared.words.Form.{Form}
-use Rattle.interview.specs.declared.words.Form.TheVariants.{Run, Check, Gen, Unknown}
+use Rattle.interview.specs.declared.words.Form.TheVariants.{Run, Check, Gen, Save, Unknown}
 
 -- ---- a run
 
@@ -23,18 +25,42 @@ words_for Year2023 = codes "year" ∷ codes "2023" ∷ []
 words_for Year2024 = codes "year" ∷ codes "2024" ∷ []
 words_for Income2023 = codes "income" ∷ codes "2023" ∷ []
 
--- The words run a script over the dictionary from there, with the results kept so: for a file `run` or `run-plain` and its name.
--- Over what the program brings runs the incremental engine alone.
-abbrev pub IsRunOver : List (List ℕ) → Origin → Engine → Type 0
-IsRunOver words (file name) Incremental = words ≡ codes "run" ∷ name ∷ []
-IsRunOver words (file name) Plain = words ≡ codes "run-plain" ∷ name ∷ []
-IsRunOver words (program b) Incremental = words ≡ words_for b
-IsRunOver words (program b) Plain = ⊥
+-- where the answers at the start of a run come from: there are none, or they are those of the saved text of this name, which is
+-- loaded, or carried
+pub data Beginning : Type 0 where
+  unanswered : Beginning
+  by_load : List ℕ → Beginning
+  by_carry : List ℕ → Beginning
+
+-- the words carry the saved text to a dictionary that the program brings: to that of a year alone
+abbrev pub AreCarriedTo : List (List ℕ) → BuiltIn → List ℕ → Type 0
+AreCarriedTo words Year2023 saved = words ≡ codes "carry-year" ∷ codes "2023" ∷ saved ∷ []
+AreCarriedTo words Year2024 saved = words ≡ codes "carry-year" ∷ codes "2024" ∷ saved ∷ []
+AreCarriedTo words other saved = ⊥
+
+-- The words run a script over the dictionary from there, from these answers, with the results kept so: for a file `run`,
+-- `run-plain`, `load` or `carry` and its name. Over what the program brings, and from a saved text, runs the incremental engine
+-- alone.
+abbrev pub IsRunOver : List (List ℕ) → Origin → Beginning → Engine → Type 0
+IsRunOver words (file name) unanswered Incremental = words ≡ codes "run" ∷ name ∷ []
+IsRunOver words (file name) unanswered Plain = words ≡ codes "run-plain" ∷ name ∷ []
+IsRunOver words (file name) (by_load saved) Incremental = words ≡ codes "load" ∷ name ∷ saved ∷ []
+IsRunOver words (file name) (by_carry saved) Incremental = words ≡ codes "carry" ∷ name ∷ saved ∷ []
+IsRunOver words (program b) unanswered Incremental = words ≡ words_for b
+IsRunOver words (program b) (by_carry saved) Incremental = AreCarriedTo words b saved
+IsRunOver words origin beginning engine = ⊥
 
 -- the words run a script over the dictionary from there
 pub record IsRun (words : List (List ℕ)) (origin : Origin) : Type 0 where
+  pub beginning : Beginning
   pub engine : Engine
-  pub over : IsRunOver words origin engine
+  pub over : IsRunOver words origin beginning engine
+
+-- the saved text has this name
+abbrev pub IsFrom : Beginning → List ℕ → Type 0
+IsFrom unanswered name = ⊥
+IsFrom (by_load saved) name = saved ≡ name
+IsFrom (by_carry saved) name = saved ≡ name
 
 -- changes are numbered, and each slot keeps the number of the last that touched it
 abbrev pub keeps_stamps : Engine → Bool
@@ -55,24 +81,40 @@ pub record IsGen (words : List (List ℕ)) (n : ℕ) : Type 0 where
   pub most : n ≤ 1000
   pub spelled : words ≡ codes "gen" ∷ decimal n ∷ []
 
+-- ---- a save
+
+-- The words run a script over the dictionary from there, and save the answers that stand at its end. Of what the program brings,
+-- the dictionaries of the years alone have words of a save.
+abbrev pub IsSave : List (List ℕ) → Origin → Type 0
+IsSave words (file name) = words ≡ codes "save" ∷ name ∷ []
+IsSave words (program Year2023) = words ≡ codes "save-year" ∷ codes "2023" ∷ []
+IsSave words (program Year2024) = words ≡ codes "save-year" ∷ codes "2024" ∷ []
+IsSave words (program Income2023) = ⊥
+
 -- ---- all words
 
--- a dictionary is fetched for the words, by this name
+-- a dictionary is fetched for the words of a run or of a check, by this name
 abbrev pub Fetches : List (List ℕ) → List ℕ → Type 0
 Fetches words name = IsRun words (file name) ⊎ IsCheck words name
 
 -- the words are no others than these
 abbrev pub HasNoForm : List (List ℕ) → Type 0
-HasNoForm words = ((origin : Origin) → IsRun words origin → ⊥) × ((name : List ℕ) → IsCheck words name → ⊥) × ((n : ℕ) → IsGen words n → ⊥)
+HasNoForm words = ((origin : Origin) → IsRun words origin → ⊥) × ((name : List ℕ) → IsCheck words name → ⊥) × ((n : ℕ) → IsGen words n → ⊥) × ((origin : Origin) → IsSave words origin → ⊥)
 
 abbrev pub origin_of : Asked → Origin
 origin_of (asked.File name) = file name.now
 origin_of (asked.BuiltIn b) = program b
 
+abbrev pub beginning_of : AskedBeginning → Beginning
+beginning_of beginnings.Unanswered = unanswered
+beginning_of (beginnings.Load name) = by_load name.now
+beginning_of (beginnings.Carry name) = by_carry name.now
+
 abbrev pub IsForm : List (List ℕ) → Form → Type 0
-IsForm words (Run engine origin) = IsRunOver words (origin_of origin) engine
+IsForm words (Run engine origin beginning) = IsRunOver words (origin_of origin) (beginning_of beginning) engine
 IsForm words (Check name) = IsCheck words name.now
 IsForm words (Gen n) = IsGen words n
+IsForm words (Save origin) = IsSave words (origin_of origin)
 IsForm words Unknown = HasNoForm words
 
 abbrev pub texts : List (String Global) → List (List ℕ)

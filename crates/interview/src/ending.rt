@@ -1,10 +1,10 @@
 // Texts that end an interview.
 ghost use Rattle.interview.specs.StepEnds.{EndedBy};
-ghost use Rattle.interview.specs.FaultLines.{fault_line};
-ghost use Rattle.interview.specs.declared.status.Status.TheVariants.{DictionaryRefused};
+ghost use Rattle.interview.specs.FaultLines.{fault_line, saved_refused_line};
+ghost use Rattle.interview.specs.declared.status.Status.TheVariants.{DictionaryRefused, SavedRefused};
 
 use crate::Status;
-use crate::fault_line::print_fault;
+use crate::fault_line::{print_fault, print_saved_refused};
 use dictionary::DictFault;
 use fg_io::{Failed, Sink, put_all};
 use value_text::Line;
@@ -30,4 +30,15 @@ pub fn end_by_fault<K: Sink>(out: &mut K, fault: DictFault) -> Status
     let mut line = Line::new();
     print_fault(fault, &mut line);
     end_by(out, line.bytes(), Status::DictionaryRefused)
+}
+
+/// Writes the line at which a saved text is refused, which ends the interview.
+pub fn end_by_refused_line<K: Sink>(out: &mut K, number: u32) -> Status
+    ensures { EndedBy
+        (K.taken out.old) (K.taken out.new) (K.faults out.old) (K.faults out.new)
+        (saved_refused_line number) SavedRefused result }
+{
+    let mut line = Line::new();
+    print_saved_refused(number, &mut line);
+    end_by(out, line.bytes(), Status::SavedRefused)
 }

@@ -1,6 +1,6 @@
-// The line that says what a dictionary came to. Nothing here takes memory.
+// The lines that say what a dictionary and a saved text came to. Nothing here takes memory.
 ghost use Rattle.std.specs.Prelude.{◌≡◌, ◌+◌, ◌≤◌, [], ◌++◌, length, codes};
-ghost use Rattle.interview.specs.FaultLines.{accepted_line, at_fact, fault_line, fault_name as name_of_fault, fault_place};
+ghost use Rattle.interview.specs.FaultLines.{accepted_line, at_fact, fault_line, fault_name as name_of_fault, fault_place, saved_refused_line};
 ghost use Rattle.session_lines.specs.Replies.{numbered};
 
 use dictionary::DictFault;
@@ -91,5 +91,14 @@ pub fn print_accepted(facts: u32, nodes: u32, line: &mut Line)
     print_numbered("dictionary accepted ", facts as u64, line);
     print_numbered(" facts ", nodes as u64, line);
     line.push(" nodes".as_bytes());
+    line.push(b"\n");
+}
+
+/// Prints into an empty line that a saved text is refused at the line of this number.
+pub fn print_saved_refused(number: u32, line: &mut Line)
+    requires { line.old ≡ [] }
+    ensures { line.new ≡ saved_refused_line number }
+{
+    print_numbered("saved refused line ", number as u64, line);
     line.push(b"\n");
 }

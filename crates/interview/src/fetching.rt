@@ -1,5 +1,5 @@
 // Fetches a dictionary.
-ghost use Rattle.std.specs.Prelude.{◌≡◌, ℕ, List, map, IfErr, IfOk};
+ghost use Rattle.std.specs.Prelude.{◌≡◌, ◌≤◌, ℕ, List, map, IfErr, IfOk};
 ghost use Rattle.dictionary.specs.Accepted.{accepted, names_of};
 ghost use Rattle.dictionary.specs.Faults.{AreAccepted, IsFault, Refuses};
 ghost use Rattle.interview.specs.StepEnds.{FetchedAs, NotFetched};
@@ -68,6 +68,8 @@ pub fn fetch<H: Shelf>(
         (map {B = List ℕ × ℕ} (λ c. (c.name, c.code)) checks.now.checks.items)) }
     ensures not_fetched { IfErr result
         (NotFetched name.now (H.faults shelf.old) (H.faults shelf.new) (H.failed_name shelf.new)) }
+    ensures kept { H.told shelf.new ≡ H.told shelf.old }
+    ensures later { H.faults shelf.old ≤ H.faults shelf.new }
 {
     let bytes = match shelf.fetch(name, LIMIT) {
         Ok(bytes) => bytes,

@@ -2,6 +2,7 @@
 ghost use Rattle.interview.specs.Engines.{EnginesAgree};
 ghost use Rattle.interview.specs.Interview.{OneEndOfCheck, OneEndOfRun};
 ghost use Rattle.interview.specs.Load.{OneEndOfGen};
+ghost use Rattle.interview.specs.Save.{OneEndOfSave};
 
 /// A check of the bytes of a dictionary comes to one text and one status at most.
 pub fn a_check_has_one_end()
@@ -22,4 +23,9 @@ pub fn engines_agree()
 /// A load of so many sums comes to one text at most.
 pub fn a_load_has_one_end()
     ensures { OneEndOfGen }
+{}
+
+/// A save over the bytes of a dictionary and of a script comes to one text and one status at most.
+pub fn a_save_has_one_end()
+    ensures { OneEndOfSave }
 {}

@@ -1,5 +1,6 @@
 // Makes a load, runs its script over its dictionary, and says what was replied.
 ghost use Rattle.std.specs.Prelude.{◌≡◌, ◌≤◌, ◌<◌, ℕ, List, [], Some, map, IfOk};
+ghost use Rattle.answers.specs.Answered.{start};
 ghost use Rattle.dictionary.specs.Accepted.{accepted};
 ghost use Rattle.graph_session.specs.Rules.{Rules, rules};
 ghost use Rattle.interview.specs.Interview.{defined_script, run_terms};
@@ -39,7 +40,7 @@ fn run_made<L: Ledger>(
     requires some { 0 < blank.parts }
     requires no_checks { dictionary.checks ≡ [] }
     ensures ends { ScriptEnds (rules dictionary)
-        (run_terms Incremental (map {B = List ℕ × ℕ} (λ r. (r.name, r.code)) table.now.relations.items))
+        (run_terms Incremental (map {B = List ℕ × ℕ} (λ r. (r.name, r.code)) table.now.relations.items) start)
         (script_did (Some script.old.left) (Some script.new.left) (Some out.old.taken) (Some out.new.taken)
         script.old.faults script.new.faults out.old.faults out.new.faults)
         result }
@@ -61,7 +62,7 @@ fn replies_to(
 ) -> Result<MemSink, NoMemory>
     requires { dictionary.checks ≡ [] }
     ensures replies { IfOk result (λ sink. sink.taken ≡ (defined_script (rules dictionary)
-        (run_terms Incremental (map {B = List ℕ × ℕ} (λ r. (r.name, r.code)) table.now.relations.items)) script.items).text) }
+        (run_terms Incremental (map {B = List ℕ × ℕ} (λ r. (r.name, r.code)) table.now.relations.items) start) script.items).text) }
 {
     let mut source = MemSource::new(script, u32::MAX, Vec::new(alloc));
     let mut sink = MemSink::new(alloc, u32::MAX, Vec::new(alloc))?;

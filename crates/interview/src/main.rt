@@ -17,7 +17,10 @@ mod fetching;
 mod laws;
 mod load_run;
 mod obtaining;
+mod resuming;
+mod save_run;
 mod script;
+mod silent;
 mod status;
 mod summary;
 mod top;
@@ -34,9 +37,6 @@ use std::{env, io};
 use text_checks::{CheckTable, Test, digits, nine_digits, printable_ascii, trimmed};
 use three_state::Res;
 pub use top::interview;
-
-#[cfg(test)]
-mod tests;
 
 /// The exit status where the words of the command line can't be had.
 const WORDS_FAULT: u8 = 9;
@@ -214,12 +214,12 @@ fn run(rt: HostRuntime) -> io::Result<Status> {
     Ok(run_checked(rt, alloc, &words, &checks)?)
 }
 
-// Ends with the exit status of this ending. Standard error names it from 3 on.
+// Ends with the exit status of this ending. Standard error names it where no line of the text does, from 3 to 7.
 fn end_with(rt: HostRuntime, status: Status) -> ExitCode
     ensures { exit_status result ≡ code_of status }
 {
     let code = status.code();
-    if code > 2 {
+    if (3..8).contains(&code) {
         let name = status.name();
         let _ = eprintln!(rt; "interview: {code} {name}");
     }

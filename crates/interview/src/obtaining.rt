@@ -1,5 +1,5 @@
 // Has the dictionary of a run.
-ghost use Rattle.std.specs.Prelude.{◌≡◌, ℕ, List, map, IfErr, IfOk};
+ghost use Rattle.std.specs.Prelude.{◌≡◌, ◌≤◌, ℕ, List, map, IfErr, IfOk};
 ghost use Rattle.interview.specs.StepEnds.{NotObtained, ObtainedAs};
 ghost use Rattle.interview.specs.Words.{origin_of, program};
 ghost use Rattle.interview.specs.declared.built_in.BuiltIn.{BuiltIn};
@@ -24,6 +24,8 @@ pub fn obtain<H: Shelf>(
         (map {B = List ℕ × ℕ} (λ c. (c.name, c.code)) checks.now.checks.items)) }
     ensures not_obtained { IfErr result (NotObtained (origin_of origin.entry)
         (H.faults shelf.old) (H.faults shelf.new) (H.failed_name shelf.new)) }
+    ensures kept { H.told shelf.new ≡ H.told shelf.old }
+    ensures later { H.faults shelf.old ≤ H.faults shelf.new }
     ensures unfetched { (b : BuiltIn) → origin_of origin.entry ≡ program b → shelf.new ≡ shelf.old }
 {
     match origin {

@@ -10,6 +10,7 @@ ghost use Rattle.session_lines.specs.Answering.{AnsweredAs, standing_of};
 ghost use Rattle.session_lines.specs.Stepping.{open_at};
 ghost use Rattle.session_lines.specs.Steps.{steps_of_lines};
 ghost use Rattle.interview.specs.StepsOfScript.{StepsWithin};
+ghost use Rattle.interview.specs.Save.{StandsAt};
 ghost use Rattle.interview.specs.ScriptEnds.{ScriptEnds, ending_of, script_did};
 
 use crate::Status;
@@ -47,6 +48,7 @@ fn finish<E: FactEngine, L: Ledger, K: Sink>(
         (K.taken out.old) (K.taken out.new) (K.faults out.old) (K.faults out.new)
         (standing_of session.old (map {B = List ℕ × ℕ} (λ r. (r.name, r.code)) table.now.relations.items) watches.old)
         (standing_of session.new (map {B = List ℕ × ℕ} (λ r. (r.name, r.code)) table.now.relations.items) watches.new) (script_lines lines.old.so_far) result }
+    ensures dict { session.new.dict ≡ session.old.dict }
     ensures later { K.faults out.old ≤ K.faults out.new }
     ensures steps { steps.new ≤ steps.old + steps_of_lines E.most (rules session.old.dict)
         (open_at (standing_of session.old (map {B = List ℕ × ℕ} (λ r. (r.name, r.code)) table.now.relations.items) watches.old)) (script_lines lines.old.so_far) }
@@ -96,6 +98,9 @@ fn run_watched<E: FactEngine, L: Ledger, S: Source, K: Sink>(
         (script_did (S.left script.old) (S.left script.new) (K.taken out.old) (K.taken out.new)
         (S.faults script.old) (S.faults script.new) (K.faults out.old) (K.faults out.new))
         result }
+    ensures stands { StandsAt (rules session.old.dict)
+        (record { answers = session.old.timeline.now; stamps = E.STAMPS; relations = (map {B = List ℕ × ℕ} (λ r. (r.name, r.code)) table.now.relations.items) })
+        (S.left script.old) session.new result }
     ensures steps { StepsWithin E.most (rules session.old.dict)
         (record { answers = session.old.timeline.now; stamps = E.STAMPS; relations = (map {B = List ℕ × ℕ} (λ r. (r.name, r.code)) table.now.relations.items) })
         (record { before = S.left script.old; after = S.left script.new })
@@ -159,6 +164,9 @@ pub fn run<E: FactEngine, L: Ledger, S: Source, K: Sink>(
         (script_did (S.left script.old) (S.left script.new) (K.taken out.old) (K.taken out.new)
         (S.faults script.old) (S.faults script.new) (K.faults out.old) (K.faults out.new))
         result }
+    ensures stands { StandsAt (rules session.old.dict)
+        (record { answers = session.old.timeline.now; stamps = E.STAMPS; relations = (map {B = List ℕ × ℕ} (λ r. (r.name, r.code)) table.now.relations.items) })
+        (S.left script.old) session.new result }
     ensures steps { StepsWithin E.most (rules session.old.dict)
         (record { answers = session.old.timeline.now; stamps = E.STAMPS; relations = (map {B = List ℕ × ℕ} (λ r. (r.name, r.code)) table.now.relations.items) })
         (record { before = S.left script.old; after = S.left script.new })

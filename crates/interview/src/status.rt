@@ -20,10 +20,12 @@ pub enum Status {
     ScriptTooLong,
     /// There was no memory left.
     NoMemory,
+    /// The dictionary is accepted, but the saved text is none, or none of the dictionary's own; the line was printed.
+    SavedRefused,
 }
 
 impl Status {
-    /// The exit status, from 0 to 7.
+    /// The exit status, from 0 to 8.
     pub fn code(self) -> u8
         ensures { result ≡ code_of self }
     {
@@ -36,6 +38,7 @@ impl Status {
             Status::WriteFault => 5,
             Status::ScriptTooLong => 6,
             Status::NoMemory => 7,
+            Status::SavedRefused => 8,
         }
     }
 
@@ -52,6 +55,7 @@ impl Status {
             Status::WriteFault => "WriteFault",
             Status::ScriptTooLong => "ScriptTooLong",
             Status::NoMemory => "NoMemory",
+            Status::SavedRefused => "SavedRefused",
         }
     }
 }

@@ -1,27 +1,32 @@
 // The top call: all that the program does, over the words of its command line and what it sees of the outside.
 ghost use Rattle.std.specs.Prelude.{◌≡◌, ◌<◌, ℕ, List, map};
+ghost use Rattle.answers.specs.Meaning.{answered};
+ghost use Rattle.dictionary.specs.Accepted.{accepted};
+ghost use Rattle.dictionary.specs.Fits.{AnswersFit};
 ghost use Rattle.graph_session.specs.Refusals.{SameChecks};
 ghost use Rattle.graph_session.specs.Rules.{rules};
-ghost use Rattle.interview.specs.ScriptEnds.{ScriptEnds, script_did};
+ghost use Rattle.interview.specs.ScriptEnds.{script_did};
+ghost use Rattle.interview.specs.StepEnds.{Gives, RunEnds, StartEnds, run_did};
 ghost use Rattle.interview.specs.Ends.{EndsByWord, Interviewed};
 ghost use Rattle.interview.specs.Given.{did_by, given_by};
-ghost use Rattle.answers.specs.Answered.{start};
 ghost use Rattle.interview.specs.Interview.{run_terms};
-ghost use Rattle.interview.specs.Words.{IsGen, IsRun, program, texts};
+ghost use Rattle.interview.specs.Words.{IsGen, IsRun, IsSave, beginning_of, program, texts, unanswered};
 ghost use Rattle.interview.specs.declared.built_in.BuiltIn.{BuiltIn};
 
 use crate::Status;
 use crate::checking::check;
-use crate::ending::{end_by, end_by_fault};
+use crate::ending::{end_by, end_by_fault, end_by_refused_line};
 use crate::fetching::Fetched;
 use crate::load_run::run_load;
 use crate::obtaining::obtain;
+use crate::resuming::{Ready, Resumed, put_front, resume};
+use crate::save_run::run_and_save;
 use crate::script::run;
-use crate::words::{Engine, Form, form_of};
+use crate::words::{Beginning, Engine, Form, form_of};
 use dictionary::{Dictionary, FactEngine};
 use fact_values::NoMemory;
 use fact_watch::WatchTable;
-use fg_io::{Shelf, Sink, Source};
+use fg_io::{Failed, Shelf, Sink, Source};
 use graph_session::Session;
 use plain_table::PlainTable;
 use recalc::Recalc;
@@ -31,10 +36,12 @@ use std::sync::ledger::{Blank, Ledger};
 use steps::Steps;
 use text_checks::CheckTable;
 
-// Runs the script over the dictionary, with the results kept by this engine. Its steps are counted for nobody else.
+// Runs the script over the dictionary, with the results kept by this engine. Its steps are counted for nobody else. The session
+// stands before anything is written.
 fn run_over<E: FactEngine, L: Ledger, S: Source, K: Sink>(
     alloc: Global,
     dictionary: Dictionary,
+    ready: Ready,
     checks: &CheckTable,
     table: &WatchTable,
     script: &mut S,
@@ -46,15 +53,20 @@ fn run_over<E: FactEngine, L: Ledger, S: Source, K: Sink>(
     requires some { 0 < blank.parts }
     requires same_checks { SameChecks (rules dictionary)
         (map {B = List ℕ × ℕ} (λ c. (c.name, c.code)) checks.now.checks.items) }
-    ensures ends { ScriptEnds (rules dictionary)
-        (record { answers = start; stamps = E.STAMPS; relations = (map {B = List ℕ × ℕ} (λ r. (r.name, r.code)) table.now.relations.items) })
+    requires fit { AnswersFit (accepted dictionary).tree (answered ready.answers) }
+    requires given { (front : List ℕ) × Gives ready.dropped front }
+    ensures ends { (front : List ℕ) → Gives ready.dropped front → StartEnds (rules dictionary)
+        (record { answers = answered ready.answers; stamps = E.STAMPS; relations = (map {B = List ℕ × ℕ} (λ r. (r.name, r.code)) table.now.relations.items) }) front
         (script_did (S.left script.old) (S.left script.new) (K.taken out.old) (K.taken out.new)
         (S.faults script.old) (S.faults script.new) (K.faults out.old) (K.faults out.new))
         result }
 {
     let mut steps = Steps::<L>::new(blank);
-    match Session::<E>::new(alloc, dictionary) {
-        Ok(mut session) => run(alloc, &mut session, table, checks, script, out, &mut steps),
+    match Session::<E>::resume(alloc, dictionary, ready.answers) {
+        Ok(mut session) => match put_front(&ready.dropped, out) {
+            Ok(()) => run(alloc, &mut session, table, checks, script, out, &mut steps),
+            Err(Failed) => Status::WriteFault,
+        },
         Err(NoMemory) => Status::NoMemory,
     }
 }
@@ -64,14 +76,18 @@ fn run_by<S: Source, K: Sink>(
     alloc: Global,
     engine: Engine,
     dictionary: Dictionary,
+    ready: Ready,
     checks: &CheckTable,
     table: &WatchTable,
     script: &mut S,
     out: &mut K,
 ) -> Status
-    requires { SameChecks (rules dictionary)
+    requires same_checks { SameChecks (rules dictionary)
         (map {B = List ℕ × ℕ} (λ c. (c.name, c.code)) checks.now.checks.items) }
-    ensures ends { ScriptEnds (rules dictionary) (run_terms engine (map {B = List ℕ × ℕ} (λ r. (r.name, r.code)) table.now.relations.items))
+    requires fit { AnswersFit (accepted dictionary).tree (answered ready.answers) }
+    requires given { (front : List ℕ) × Gives ready.dropped front }
+    ensures ends { (front : List ℕ) → Gives ready.dropped front → StartEnds (rules dictionary)
+        (run_terms engine (map {B = List ℕ × ℕ} (λ r. (r.name, r.code)) table.now.relations.items) (answered ready.answers)) front
         (script_did (S.left script.old) (S.left script.new) (K.taken out.old) (K.taken out.new)
         (S.faults script.old) (S.faults script.new) (K.faults out.old) (K.faults out.new))
         result }
@@ -81,6 +97,7 @@ fn run_by<S: Source, K: Sink>(
             run_over::<Recalc, Brand, S, K>(
                 alloc,
                 dictionary,
+                ready,
                 checks,
                 table,
                 script,
@@ -92,6 +109,7 @@ fn run_by<S: Source, K: Sink>(
             run_over::<PlainTable, Brand, S, K>(
                 alloc,
                 dictionary,
+                ready,
                 checks,
                 table,
                 script,
@@ -99,6 +117,37 @@ fn run_by<S: Source, K: Sink>(
                 Blank::new(1),
             )
         }
+    }
+}
+
+// Runs the script over an accepted dictionary, from the answers that the words ask for.
+fn run_from<H: Shelf, S: Source, K: Sink>(
+    alloc: Global,
+    engine: Engine,
+    beginning: Beginning<'_>,
+    dictionary: Dictionary,
+    checks: &CheckTable,
+    table: &WatchTable,
+    shelf: &mut H,
+    script: &mut S,
+    out: &mut K,
+) -> Status
+    requires { SameChecks (rules dictionary)
+        (map {B = List ℕ × ℕ} (λ c. (c.name, c.code)) checks.now.checks.items) }
+    ensures ends { RunEnds (H.told shelf.old) (beginning_of beginning.entry) (rules dictionary) engine
+        (map {B = List ℕ × ℕ} (λ r. (r.name, r.code)) table.now.relations.items)
+        (run_did (H.faults shelf.old) (H.faults shelf.new) (H.failed_name shelf.new)
+        (script_did (S.left script.old) (S.left script.new) (K.taken out.old) (K.taken out.new)
+        (S.faults script.old) (S.faults script.new) (K.faults out.old) (K.faults out.new)))
+        result }
+    ensures unfetched { beginning_of beginning.entry ≡ unanswered → shelf.new ≡ shelf.old }
+{
+    match resume(alloc, beginning, &dictionary, checks, shelf) {
+        Ok(Resumed::Begins(ready)) => {
+            run_by(alloc, engine, dictionary, ready, checks, table, script, out)
+        }
+        Ok(Resumed::Refused(line)) => end_by_refused_line(out, line),
+        Err(status) => status,
     }
 }
 
@@ -119,19 +168,21 @@ fn attempt<H: Shelf, S: Source, K: Sink>(
         (script_did (S.left script.old) (S.left script.new) (K.taken out.old) (K.taken out.new)
         (S.faults script.old) (S.faults script.new) (K.faults out.old) (K.faults out.new)))
         result }
-    ensures unfetched { (b : BuiltIn) → IsRun (texts words.now) (program b) → shelf.new ≡ shelf.old }
+    ensures unfetched { (b : BuiltIn) (asked : IsRun (texts words.now) (program b)) → asked.beginning ≡ unanswered → shelf.new ≡ shelf.old }
     ensures gen_unfetched { (n : ℕ) → IsGen (texts words.now) n → shelf.new ≡ shelf.old }
+    ensures save_unfetched { (b : BuiltIn) → IsSave (texts words.now) (program b) → shelf.new ≡ shelf.old }
 {
     match form_of(words) {
-        Form::Run(engine, origin) => match obtain(alloc, origin, checks, shelf) {
-            Ok(Fetched::Accepted(dictionary)) => {
-                run_by(alloc, engine, dictionary, checks, table, script, out)
-            }
+        Form::Run(engine, origin, beginning) => match obtain(alloc, origin, checks, shelf) {
+            Ok(Fetched::Accepted(dictionary)) => run_from(
+                alloc, engine, beginning, dictionary, checks, table, shelf, script, out,
+            ),
             Ok(Fetched::Refused(fault)) => end_by_fault(out, fault),
             Err(status) => status,
         },
         Form::Check(name) => check(alloc, name, checks, shelf, out),
         Form::Gen(n) => run_load(alloc, n, table, out),
+        Form::Save(origin) => run_and_save(alloc, origin, checks, table, shelf, script, out),
         Form::Unknown => end_by(out, b"usage: interview COMMAND ARGUMENTS\n", Status::Usage),
     }
 }
@@ -139,8 +190,8 @@ fn attempt<H: Shelf, S: Source, K: Sink>(
 /// Does all that the program does, over the words of its command line, without the program's name. The checks are those
 /// that a dictionary may name, and the relations of the table those by which a slot may be watched.
 ///
-/// A dictionary has at most 8,388,608 bytes, a script at most 67,108,864. For a dictionary of the program's own, and for a
-/// load, nothing is fetched: the shelf is as it was.
+/// A dictionary has at most 8,388,608 bytes, a saved text and a script at most 67,108,864 each. For a dictionary of the program's
+/// own without a saved text, and for a load, nothing is fetched: the shelf is as it was.
 pub fn interview<H: Shelf, S: Source, K: Sink>(
     alloc: Global,
     words: &[String],
@@ -158,8 +209,9 @@ pub fn interview<H: Shelf, S: Source, K: Sink>(
         (script_did (S.left script.old) (S.left script.new) (K.taken out.old) (K.taken out.new)
         (S.faults script.old) (S.faults script.new) (K.faults out.old) (K.faults out.new)))
         result }
-    ensures unfetched { (b : BuiltIn) → IsRun (texts words.now) (program b) → shelf.new ≡ shelf.old }
+    ensures unfetched { (b : BuiltIn) (asked : IsRun (texts words.now) (program b)) → asked.beginning ≡ unanswered → shelf.new ≡ shelf.old }
     ensures gen_unfetched { (n : ℕ) → IsGen (texts words.now) n → shelf.new ≡ shelf.old }
+    ensures save_unfetched { (b : BuiltIn) → IsSave (texts words.now) (program b) → shelf.new ≡ shelf.old }
 {
     attempt(alloc, words, checks, table, shelf, script, out)
 }

@@ -1,4 +1,4 @@
-ghost use Rattle.std.specs.Prelude.{[], ◌∷◌, codes};
+ghost use Rattle.std.specs.Prelude.{◌≡◌, [], ◌∷◌, codes};
 ghost use Rattle.interview.specs.Words.{IsForm, texts};
 
 use crate::built_in::BuiltIn;
@@ -13,6 +13,17 @@ pub enum Origin<'a> {
     BuiltIn(BuiltIn),
 }
 
+/// Where the answers at the start of a run come from.
+#[derive(Clone, Copy)]
+pub enum Beginning<'a> {
+    /// Nothing is answered.
+    Unanswered,
+    /// The saved text of this name, which is one of the dictionary's own.
+    Load(&'a str),
+    /// What may stand of the saved text of this name.
+    Carry(&'a str),
+}
+
 /// What keeps the results of a run.
 #[derive(Clone, Copy)]
 pub enum Engine {
@@ -25,12 +36,15 @@ pub enum Engine {
 /// What the words of the command line ask for.
 #[derive(Clone, Copy)]
 pub enum Form<'a> {
-    /// `run NAME`, `run-plain NAME`, `year Y` or `income 2023`: to run a script over this dictionary, with the results kept so.
-    Run(Engine, Origin<'a>),
+    /// `run NAME`, `run-plain NAME`, `load NAME SAVED`, `carry NAME SAVED`, `year Y`, `carry-year Y SAVED` or `income 2023`: to run
+    /// a script over this dictionary, from these answers, with the results kept so.
+    Run(Engine, Origin<'a>, Beginning<'a>),
     /// `check NAME`: to say whether the dictionary of this name is accepted.
     Check(&'a str),
     /// `gen N`: to run the script of the load with so many sums over its dictionary.
     Gen(u32),
+    /// `save NAME` or `save-year Y`: to run a script over this dictionary without its replies, and to save the answers.
+    Save(Origin<'a>),
     /// Nothing, since the words have no form.
     Unknown,
 }
@@ -40,8 +54,16 @@ fn form_of_year<'a>(year: &str) -> Form<'a>
     ensures { IsForm (codes "year" ∷ year.now ∷ []) result }
 {
     match year {
-        "2023" => Form::Run(Engine::Incremental, Origin::BuiltIn(BuiltIn::Year2023)),
-        "2024" => Form::Run(Engine::Incremental, Origin::BuiltIn(BuiltIn::Year2024)),
+        "2023" => Form::Run(
+            Engine::Incremental,
+            Origin::BuiltIn(BuiltIn::Year2023),
+            Beginning::Unanswered,
+        ),
+        "2024" => Form::Run(
+            Engine::Incremental,
+            Origin::BuiltIn(BuiltIn::Year2024),
+            Beginning::Unanswered,
+        ),
         _ => Form::Unknown,
     }
 }
@@ -51,7 +73,11 @@ fn form_of_income<'a>(year: &str) -> Form<'a>
     ensures { IsForm (codes "income" ∷ year.now ∷ []) result }
 {
     match year {
-        "2023" => Form::Run(Engine::Incremental, Origin::BuiltIn(BuiltIn::Income2023)),
+        "2023" => Form::Run(
+            Engine::Incremental,
+            Origin::BuiltIn(BuiltIn::Income2023),
+            Beginning::Unanswered,
+        ),
         _ => Form::Unknown,
     }
 }
@@ -72,21 +98,85 @@ fn form_of_gen<'a>(number: &str) -> Form<'a>
     }
 }
 
+// What `save-year` and this word ask for.
+fn form_of_save_year<'a>(year: &str) -> Form<'a>
+    ensures { IsForm (codes "save-year" ∷ year.now ∷ []) result }
+{
+    match year {
+        "2023" => Form::Save(Origin::BuiltIn(BuiltIn::Year2023)),
+        "2024" => Form::Save(Origin::BuiltIn(BuiltIn::Year2024)),
+        _ => Form::Unknown,
+    }
+}
+
+// What two words ask for.
+fn form_of_two<'a>(command: &str, word: &'a str) -> Form<'a>
+    ensures { IsForm (command.now ∷ word.now ∷ []) result }
+{
+    match command {
+        "run" => Form::Run(
+            Engine::Incremental,
+            Origin::File(word),
+            Beginning::Unanswered,
+        ),
+        "run-plain" => Form::Run(Engine::Plain, Origin::File(word), Beginning::Unanswered),
+        "check" => Form::Check(word),
+        "year" => form_of_year(word),
+        "gen" => form_of_gen(word),
+        "income" => form_of_income(word),
+        "save" => Form::Save(Origin::File(word)),
+        "save-year" => form_of_save_year(word),
+        _ => Form::Unknown,
+    }
+}
+
+// What `carry-year` and these words ask for.
+fn form_of_carried_year<'a>(year: &str, saved: &'a str) -> Form<'a>
+    ensures { IsForm (codes "carry-year" ∷ year.now ∷ saved.now ∷ []) result }
+{
+    match year {
+        "2023" => Form::Run(
+            Engine::Incremental,
+            Origin::BuiltIn(BuiltIn::Year2023),
+            Beginning::Carry(saved),
+        ),
+        "2024" => Form::Run(
+            Engine::Incremental,
+            Origin::BuiltIn(BuiltIn::Year2024),
+            Beginning::Carry(saved),
+        ),
+        _ => Form::Unknown,
+    }
+}
+
+// What three words ask for.
+#[tactic(auto, using(crate::proofs::WordLaws::others_of_three))]
+fn form_of_three<'a>(command: &str, word: &'a str, saved: &'a str) -> Form<'a>
+    ensures { IsForm (command.now ∷ word.now ∷ saved.now ∷ []) result }
+{
+    match command {
+        "load" => Form::Run(
+            Engine::Incremental,
+            Origin::File(word),
+            Beginning::Load(saved),
+        ),
+        "carry" => Form::Run(
+            Engine::Incremental,
+            Origin::File(word),
+            Beginning::Carry(saved),
+        ),
+        "carry-year" => form_of_carried_year(word, saved),
+        _ => Form::Unknown,
+    }
+}
+
 /// What the words ask for.
 pub fn form_of(words: &[String]) -> Form<'_>
     ensures { IsForm (texts words.now) result }
 {
     match words {
-        [command, name] if command.as_str() == "run" => {
-            Form::Run(Engine::Incremental, Origin::File(name.as_str()))
-        }
-        [command, name] if command.as_str() == "run-plain" => {
-            Form::Run(Engine::Plain, Origin::File(name.as_str()))
-        }
-        [command, name] if command.as_str() == "check" => Form::Check(name.as_str()),
-        [command, year] if command.as_str() == "year" => form_of_year(year.as_str()),
-        [command, number] if command.as_str() == "gen" => form_of_gen(number.as_str()),
-        [command, year] if command.as_str() == "income" => form_of_income(year.as_str()),
+        [command, word] => form_of_two(command.as_str(), word.as_str()),
+        [command, word, saved] => form_of_three(command.as_str(), word.as_str(), saved.as_str()),
         _ => Form::Unknown,
     }
 }

@@ -11,4 +11,3 @@ mod year;
 pub use laws::{tables_of_2023, tables_of_2024};
 pub use source::{source_2023, source_2024};
 pub use year::{year_2023, year_2024};
-

@@ -11,4 +11,6 @@ returns g c =
     record {
       fetched = (c.in-Ok.bytes.items, c.in-Ok.ensures.content.content, refused_for c.in-Ok.bytes.items _ c.in-Err.fault (sym c.is_memory.ensures ∙ c.if-is_memory.false) refused);
       not_fetched = tt;
+      kept = c.fetch.ensures.kept;
+      later = c.fetch.ensures.cause.later;
     }

@@ -1,6 +1,6 @@
 use Rattle.std.proofs.Common.{refl, ap}
 use Rattle.graph_session.specs.SessionView.{SessionView}
-use Rattle.interview.proofs.TopLaws.{not_begun}
+use Rattle.interview.proofs.ScriptLaws.{not_begun}
 use Rattle.interview.proofs.load_run.run_made.Goals as goal
 
 pub returns : goal.returns

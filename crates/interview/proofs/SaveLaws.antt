@@ -1,0 +1,100 @@
+-- What a save comes to, and how its steps end.
+use Rattle.std.proofs.Common.{◌≡◌, ℕ, ◌≤◌, List, [], ◌++◌, Option, None, inl, inr, refl, sym, ap, subst, ◌∙◌, arith}
+use Rattle.std.specs.Io.KnownBytes.{Appends, Keeps}
+use Rattle.std.proofs.KnownBytes.{Keeps-refl}
+use Rattle.fg_io.specs.Sent.{Sent}
+use Rattle.dictionary.specs.declared.fault.DictFault.{DictFault}
+use Rattle.dictionary.specs.Accepted.{accepted}
+use Rattle.graph_session.specs.Rules.{Rules, rules, tree_of}
+use Rattle.graph_session.specs.SessionView.{Course, SessionView}
+use Rattle.session_lines.specs.Stepping.{Terms}
+use Rattle.save_file.specs.SavedText.{saved}
+use Rattle.interview.specs.declared.status.Status.{Status}
+use Rattle.interview.specs.declared.status.Status.TheVariants.{Done, DictionaryRefused, FetchFault, ReadFault, WriteFault, ScriptTooLong, NoMemory}
+use Rattle.interview.specs.Words.{IsSave, Origin, file, program}
+use Rattle.interview.specs.Devices.{SentNothing}
+use Rattle.interview.specs.Dictionaries.{Content, HasFault, IsAcceptedAs, MayGive}
+use Rattle.interview.specs.Given.{Did, Given, Unread}
+use Rattle.interview.specs.Interview.{defined_fault, defined_script}
+use Rattle.interview.specs.Save.{OneEndOfSave, ScriptSaves, StandsAt, defined_save, save_terms, saved_after}
+use Rattle.interview.specs.SaveEnds.{AcceptedSave, RefusedSave, SaveEnds}
+use Rattle.interview.specs.ScriptEnds.{ReadThrough, ScriptDid, ScriptEnds, script_did}
+use Rattle.interview.specs.StepEnds.{EndedBy, NotFetched, NotObtained}
+use Rattle.interview.proofs.DictionaryLaws.{accepted_is_faultless, one_first_fault, one_set_of_rules}
+
+-- ---- it comes to one end
+
+pub one_save : OneEndOfSave
+one_save content checks relations script d e (inl (r, is, to)) (inl (s, is_other, to_other)) = to ∙ ap (λ q. defined_save q (save_terms relations) script) (one_set_of_rules checks content r s is is_other) ∙ sym to_other
+one_save content checks relations script d e (inl (r, is, to)) (inr (fault, is_fault, to_fault)) = absurd (accepted_is_faultless checks content r fault is is_fault)
+one_save content checks relations script d e (inr (fault, is_fault, to_fault)) (inl (r, is, to)) = absurd (accepted_is_faultless checks content r fault is is_fault)
+one_save content checks relations script d e (inr (fault, is, to)) (inr (other, is_other, to_other)) = to ∙ ap defined_fault (one_first_fault checks content fault other is is_other) ∙ sym to_other
+
+-- ---- what was written before the end: nothing
+
+pub nothing : (before now : Option (List ℕ)) → before ≡ now → Keeps before now
+nothing before now still = subst (Keeps before) still (Keeps-refl before)
+
+-- ---- a script that was run silently
+
+module _ (r : Rules) (terms : Terms) (left left_now taken taken_now : Option (List ℕ)) (unread unread_now unwritten unwritten_now : ℕ) where
+  abbrev did : ScriptDid
+  did = script_did left left_now taken taken_now unread unread_now unwritten unwritten_now
+
+  -- what the run itself did
+  abbrev silently : ScriptDid
+  silently = script_did left left_now None None unread unread_now 0 0
+
+  read_so : ReadThrough r terms silently → ReadThrough r terms did
+  read_so (inl end) = inl end
+  read_so (inr quit) = inr (record { earlier = quit.earlier; piece = quit.piece; read = quit.read; short = quit.short; unquit = quit.unquit; quit = quit.quit })
+
+  -- it was done, and the answers that stand were written, whole or in part
+  pub saves_done : (session : SessionView) → ScriptEnds r terms silently Done → StandsAt r terms left session Done → (status : Status)
+      → EndedBy taken taken_now unwritten unwritten_now (saved (accepted session.dict).tree session.timeline.now) Done status → ScriptSaves r terms did status
+  saves_done session ends stands status ended =
+      let text : saved (accepted session.dict).tree session.timeline.now ≡ saved_after r terms stands.0 =
+      ap (λ q. saved (tree_of q) session.timeline.now) stands.3 ∙ ap (λ (c : Course). saved (tree_of r) c.timeline.now) (sym stands.4) in
+      elim ended as (λ _. ScriptSaves r terms did status) [
+        | inl wrote ↦ subst (ScriptSaves r terms did) (sym wrote.0) ((stands.0, (stands.1, stands.2), subst (Appends taken taken_now) text wrote.1), read_so ends.1)
+        | inr part ↦ subst (ScriptSaves r terms did) (sym part.0) (part.1, (stands.0, (stands.1, stands.2), subst (λ t. (rest : List ℕ) × Sent taken taken_now t rest) text part.2))
+      ]
+
+  -- it wasn't done, and nothing was written
+  pub saves_nothing : (status : Status) → (status ≡ Done → ⊥) → taken ≡ taken_now → ScriptEnds r terms silently status → ScriptSaves r terms did status
+  saves_nothing Done not still ends = absurd (not refl)
+  saves_nothing ReadFault not still (rose, so_far) = (rose, record { bytes = so_far.bytes; read = so_far.read; within = so_far.within; unquit = so_far.unquit }, nothing _ _ still)
+  saves_nothing WriteFault not still (rose, part) = absurd (omega (arith, rose))
+  saves_nothing ScriptTooLong not still (script, may, status, wrote) = (script, may, status, nothing _ _ still)
+  saves_nothing NoMemory not still ends = nothing _ _ still
+  saves_nothing other not still ends = absurd ends
+
+-- ---- the whole
+
+module _ (given : Given) (did : Did) (origin : Origin) (asked : IsSave given.words origin) where
+  module _ (content : Content) (gave : MayGive given.told origin content) where
+    pub save_ends_refused : (fault : DictFault) → HasFault given.checks content fault → Unread did → (status : Status)
+        → EndedBy did.script.taken.before did.script.taken.after did.script.sink.before did.script.sink.after (defined_fault fault).text DictionaryRefused status → SaveEnds given did status
+    save_ends_refused fault is unread status (inl (same, wrote)) = subst (SaveEnds given did) (sym same) (record { origin = origin; content = content; fault = fault; asked = asked; gave = gave; is_fault = is }, wrote, unread)
+    save_ends_refused fault is unread status (inr (same, rose, part)) = subst (SaveEnds given did) (sym same) (inr (rose, (record { origin = origin; content = content; fault = fault; asked = asked; gave = gave; is_fault = is }, part, unread)))
+
+    module _ (r : Rules) (is : IsAcceptedAs given.checks content r) where
+      abbrev over : AcceptedSave given
+      over = record { origin = origin; content = content; rules = r; asked = asked; gave = gave; is_accepted = is }
+
+      pub save_ends_run : (status : Status) → ScriptSaves r (save_terms given.relations) did.script status → SaveEnds given did status
+      save_ends_run Done ends = (over, ends)
+      save_ends_run ReadFault ends = (over, ends)
+      save_ends_run WriteFault ends = inl (over, ends)
+      save_ends_run ScriptTooLong ends = (over, ends)
+      save_ends_run NoMemory ends = inr (over, ends)
+      save_ends_run status ends = absurd ends
+
+  save_ends_unfetched : (name : List ℕ) → IsSave given.words (file name) → (status : Status) → did.script.taken.before ≡ did.script.taken.after → Unread did → NotFetched name did.shelf.before did.shelf.after did.failed_name status → SaveEnds given did status
+  save_ends_unfetched name named FetchFault still unread not = (not.0, subst (λ n. IsSave given.words (file n)) (sym not.1) named, nothing _ _ still, unread)
+  save_ends_unfetched name named NoMemory still unread not = inl ((origin, asked), nothing _ _ still, unread)
+  save_ends_unfetched name named status still unread not = absurd not
+
+pub save_ends_unobtained : (given : Given) (did : Did) (origin : Origin) → IsSave given.words origin → (status : Status) → did.script.taken.before ≡ did.script.taken.after → Unread did → NotObtained origin did.shelf.before did.shelf.after did.failed_name status → SaveEnds given did status
+save_ends_unobtained given did (file name) asked status still unread not = save_ends_unfetched given did (file name) asked name asked status still unread not
+save_ends_unobtained given did (program b) asked status still unread not = subst (SaveEnds given did) (sym not) (inl ((program b, asked), nothing _ _ still, unread))

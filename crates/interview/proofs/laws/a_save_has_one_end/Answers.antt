@@ -1,0 +1,5 @@
+use Rattle.interview.proofs.SaveLaws.{one_save}
+use Rattle.interview.proofs.laws.a_save_has_one_end.Goals as goal
+
+pub returns : goal.returns
+returns c = one_save

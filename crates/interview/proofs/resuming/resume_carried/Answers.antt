@@ -1,0 +1,19 @@
+use Rattle.std.proofs.Common.{inl, refl}
+use Rattle.interview.specs.Beginnings.{to_carry}
+use Rattle.interview.specs.StepEnds.{NotResumed}
+use Rattle.interview.specs.Words.{by_carry}
+use Rattle.interview.proofs.ResumeLaws.{resumed_by, wants_memory}
+use Rattle.interview.proofs.resuming.resume_carried.Goals as goal
+
+pub returns-in-Ok-Some : goal.returns-in-Ok-Some
+returns-in-Ok-Some g c =
+    let had = rw c.in-Ok-Some.field-0-is at c.in-Ok-Some.ensures.fetched in
+    record {
+      resumed = resumed_by (g.H.Shelf.told c.args.shelf.now) (by_carry c.args.name.now) _ (to_carry c.in-Ok-Some.bytes.items) had.0 c.carry_ready.result c.carry_ready.ensures.resumed;
+      not_resumed = wants_memory (λ s. NotResumed (by_carry c.args.name.now) _ _ _ s) tt c.carry_ready.result c.carry_ready.ensures.memory;
+    }
+
+pub returns-in-Ok-None : goal.returns-in-Ok-None
+returns-in-Ok-None g c =
+    let had = rw c.in-Ok-None.field-0-is at c.in-Ok-None.ensures.fetched in
+    record { resumed = (to_carry had.0, had.1, inl (had.2, refl)); not_resumed = tt }

@@ -1,0 +1,19 @@
+use Rattle.std.proofs.Common.{inl, refl}
+use Rattle.interview.specs.Beginnings.{to_load}
+use Rattle.interview.specs.StepEnds.{NotResumed}
+use Rattle.interview.specs.Words.{by_load}
+use Rattle.interview.proofs.ResumeLaws.{resumed_by, wants_memory}
+use Rattle.interview.proofs.resuming.resume_loaded.Goals as goal
+
+pub returns-in-Ok-Some : goal.returns-in-Ok-Some
+returns-in-Ok-Some g c =
+    let had = rw c.in-Ok-Some.field-0-is at c.in-Ok-Some.ensures.fetched in
+    record {
+      resumed = resumed_by (g.H.Shelf.told c.args.shelf.now) (by_load c.args.name.now) _ (to_load c.in-Ok-Some.bytes.items) had.0 c.load_ready.result (rw c.as_slice.ensures.value at c.load_ready.ensures.resumed);
+      not_resumed = wants_memory (λ s. NotResumed (by_load c.args.name.now) _ _ _ s) tt c.load_ready.result c.load_ready.ensures.memory;
+    }
+
+pub returns-in-Ok-None : goal.returns-in-Ok-None
+returns-in-Ok-None g c =
+    let had = rw c.in-Ok-None.field-0-is at c.in-Ok-None.ensures.fetched in
+    record { resumed = (to_load had.0, had.1, inl (had.2, refl)); not_resumed = tt }

@@ -1,0 +1,22 @@
+use Rattle.std.proofs.Common.{inl, inr, refl}
+use Rattle.interview.proofs.StartLaws.{begins_and_ends}
+use Rattle.interview.proofs.top.run_from.Goals as goal
+
+pub run_by-requires-clause-fit : goal.run_by-requires-clause-fit
+run_by-requires-clause-fit g c = let had = rw c.in-Ok-Begins.field-0-is at c.in-Ok-Begins.ensures.resumed in had.2.2.fit
+
+pub run_by-requires-clause-given : goal.run_by-requires-clause-given
+run_by-requires-clause-given g c = let had = rw c.in-Ok-Begins.field-0-is at c.in-Ok-Begins.ensures.resumed in (had.2.0.front, had.2.2.front)
+
+pub returns-in-Ok-Begins : goal.returns-in-Ok-Begins
+returns-in-Ok-Begins g c =
+    let had = rw c.in-Ok-Begins.field-0-is at c.in-Ok-Begins.ensures.resumed in
+    record { ends = begins_and_ends _ _ _ c.args.engine _ _ c.in-Ok-Begins.ready c.run_by.result had c.run_by.ensures.ends; unfetched = c.resume.ensures.unfetched }
+
+pub returns-in-Ok-Refused : goal.returns-in-Ok-Refused
+returns-in-Ok-Refused g c =
+    let had = rw c.in-Ok-Refused.field-0-is at c.in-Ok-Refused.ensures.resumed in
+    record { ends = inr (inl (had.0, had.1, (c.in-Ok-Refused.line, had.2, c.end_by_refused_line.ensures, (refl, refl)))); unfetched = c.resume.ensures.unfetched }
+
+pub returns-in-Err : goal.returns-in-Err
+returns-in-Err g c = record { ends = inr (inr (c.in-Err.ensures.not_resumed, refl, (refl, refl))); unfetched = c.resume.ensures.unfetched }

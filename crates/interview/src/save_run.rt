@@ -1,0 +1,143 @@
+// Runs a script without its replies, and saves the answers that stand at its end.
+ghost use Rattle.std.specs.Prelude.{◌≡◌, ◌<◌, ℕ, List, map};
+ghost use Rattle.dictionary.specs.Accepted.{accepted};
+ghost use Rattle.graph_session.specs.Refusals.{SameChecks};
+ghost use Rattle.graph_session.specs.Rules.{rules};
+ghost use Rattle.graph_session.specs.SessionView.{begun, course};
+ghost use Rattle.save_file.specs.SavedText.{saved};
+ghost use Rattle.interview.specs.Given.{did_by};
+ghost use Rattle.interview.specs.Save.{ScriptSaves, save_terms};
+ghost use Rattle.interview.specs.SaveEnds.{SaveEnds};
+ghost use Rattle.interview.specs.ScriptEnds.{script_did};
+ghost use Rattle.interview.specs.StepEnds.{EndedBy};
+ghost use Rattle.interview.specs.Words.{IsSave, origin_of, program};
+ghost use Rattle.interview.specs.declared.built_in.BuiltIn.{BuiltIn};
+ghost use Rattle.interview.specs.declared.status.Status.TheVariants.{Done};
+
+use crate::Status;
+use crate::ending::end_by_fault;
+use crate::fetching::Fetched;
+use crate::obtaining::obtain;
+use crate::script::run;
+use crate::silent::Silent;
+use crate::words::Origin;
+use dictionary::{Dictionary, FactEngine};
+use fact_values::NoMemory;
+use fact_watch::WatchTable;
+use fg_io::{Failed, Shelf, Sink, Source};
+use graph_session::Session;
+use recalc::Recalc;
+use save_file::save;
+use std::alloc::Global;
+use std::marker::Brand;
+use std::sync::ledger::{Blank, Ledger};
+use steps::Steps;
+use text_checks::CheckTable;
+
+// Writes the answers that stand.
+fn save_answers<E: FactEngine, K: Sink>(session: &Session<E>, out: &mut K) -> Status
+    ensures { EndedBy
+        (K.taken out.old) (K.taken out.new) (K.faults out.old) (K.faults out.new)
+        (saved (accepted session.now.dict).tree session.now.timeline.now) Done result }
+{
+    match save(session.dict(), session.answers(), out) {
+        Ok(()) => Status::Done,
+        Err(Failed) => Status::WriteFault,
+    }
+}
+
+// Runs the script over a session at its start without its replies, and writes the answers that stand at its end.
+fn save_session<E: FactEngine, L: Ledger, S: Source, K: Sink>(
+    alloc: Global,
+    session: &mut Session<E>,
+    checks: &CheckTable,
+    table: &WatchTable,
+    script: &mut S,
+    out: &mut K,
+    steps: &mut Steps<L>,
+) -> Status
+    requires same_checks { SameChecks (rules session.old.dict)
+        (map {B = List ℕ × ℕ} (λ c. (c.name, c.code)) checks.now.checks.items) }
+    requires begun { course session.old ≡ begun (accepted session.old.dict) session.old.timeline.now E.STAMPS }
+    ensures saves { ScriptSaves (rules session.old.dict)
+        (record { answers = session.old.timeline.now; stamps = E.STAMPS; relations = (map {B = List ℕ × ℕ} (λ r. (r.name, r.code)) table.now.relations.items) })
+        (script_did (S.left script.old) (S.left script.new) (K.taken out.old) (K.taken out.new)
+        (S.faults script.old) (S.faults script.new) (K.faults out.old) (K.faults out.new))
+        result }
+{
+    let mut silent = Silent;
+    match run(alloc, session, table, checks, script, &mut silent, steps) {
+        Status::Done => save_answers(session, out),
+        Status::DictionaryRefused => Status::DictionaryRefused,
+        Status::Usage => Status::Usage,
+        Status::FetchFault => Status::FetchFault,
+        Status::ReadFault => Status::ReadFault,
+        Status::WriteFault => Status::WriteFault,
+        Status::ScriptTooLong => Status::ScriptTooLong,
+        Status::NoMemory => Status::NoMemory,
+        Status::SavedRefused => Status::SavedRefused,
+    }
+}
+
+// The same over the dictionary, from no answers. Its steps are counted for nobody else.
+fn save_over<L: Ledger, S: Source, K: Sink>(
+    alloc: Global,
+    dictionary: Dictionary,
+    checks: &CheckTable,
+    table: &WatchTable,
+    script: &mut S,
+    out: &mut K,
+    blank: Blank,
+) -> Status
+    requires name { blank.name ≡ L.name }
+    requires parts { blank.parts ≡ L.parts }
+    requires some { 0 < blank.parts }
+    requires same_checks { SameChecks (rules dictionary)
+        (map {B = List ℕ × ℕ} (λ c. (c.name, c.code)) checks.now.checks.items) }
+    ensures saves { ScriptSaves (rules dictionary)
+        (save_terms (map {B = List ℕ × ℕ} (λ r. (r.name, r.code)) table.now.relations.items))
+        (script_did (S.left script.old) (S.left script.new) (K.taken out.old) (K.taken out.new)
+        (S.faults script.old) (S.faults script.new) (K.faults out.old) (K.faults out.new))
+        result }
+{
+    let mut steps = Steps::<L>::new(blank);
+    match Session::<Recalc>::new(alloc, dictionary) {
+        Ok(mut session) => {
+            save_session(alloc, &mut session, checks, table, script, out, &mut steps)
+        }
+        Err(NoMemory) => Status::NoMemory,
+    }
+}
+
+/// Runs a script over a dictionary without its replies, and writes the answers that stand at its end.
+pub fn run_and_save<H: Shelf, S: Source, K: Sink>(
+    alloc: Global,
+    origin: Origin<'_>,
+    checks: &CheckTable,
+    table: &WatchTable,
+    shelf: &mut H,
+    script: &mut S,
+    out: &mut K,
+) -> Status
+    ensures ends { (words : List (List ℕ)) → IsSave words (origin_of origin.entry) → SaveEnds
+        (record {
+          words = words;
+          checks = map {B = List ℕ × ℕ} (λ c. (c.name, c.code)) checks.now.checks.items;
+          relations = map {B = List ℕ × ℕ} (λ r. (r.name, r.code)) table.now.relations.items;
+          told = H.told shelf.old;
+          left = S.left script.old;
+        })
+        (did_by (H.faults shelf.old) (H.faults shelf.new) (H.failed_name shelf.new)
+        (script_did (S.left script.old) (S.left script.new) (K.taken out.old) (K.taken out.new)
+        (S.faults script.old) (S.faults script.new) (K.faults out.old) (K.faults out.new)))
+        result }
+    ensures unfetched { (b : BuiltIn) → origin_of origin.entry ≡ program b → shelf.new ≡ shelf.old }
+{
+    match obtain(alloc, origin, checks, shelf) {
+        Ok(Fetched::Accepted(dictionary)) => {
+            save_over::<Brand, S, K>(alloc, dictionary, checks, table, script, out, Blank::new(1))
+        }
+        Ok(Fetched::Refused(fault)) => end_by_fault(out, fault),
+        Err(status) => status,
+    }
+}

@@ -1,0 +1,18 @@
+// A sink for replies that nobody reads.
+ghost use Rattle.std.specs.Prelude.{None};
+
+use fg_io::{Failed, Sink};
+
+/// Takes every piece, and keeps nothing.
+#[derive(Drop)]
+pub struct Silent;
+
+impl Sink for Silent {
+    ghost taken = { λ sink. None };
+
+    ghost faults = { λ sink. 0 };
+
+    fn put(&mut self, piece: &[u8]) -> Result<usize, Failed> {
+        Ok(piece.len())
+    }
+}
