@@ -49,6 +49,20 @@ def chain():
     return dictionary([*facts, '{"path":"/f2000","derived":"Int","is":["Int","1"]}'])
 
 
+def crowd():
+    """Two thousand facts, each a sum of nineteen of those behind it, the next one again behind the last."""
+    def behind(k):
+        return ",".join('["Dependency","/f%d"]' % (k + 1 + j % (2000 - k)) for j in range(19))
+
+    facts = ['{"path":"/f%d","derived":"Int","is":["Add",%s]}' % (k, behind(k)) for k in range(1, 2000)]
+    return dictionary([*facts, '{"path":"/f2000","derived":"Int","is":["Int","1"]}'])
+
+
+def chain_to_itself():
+    """Two thousand facts, each the next one, and the last itself."""
+    return dictionary('{"path":"/f%d","derived":"Int","is":["Dependency","/f%d"]}' % (k, min(k + 1, 2000)) for k in range(1, 2001))
+
+
 def accepted(name, of, facts, nodes):
     return name, "check d", of, b"", b"dictionary accepted %d facts %d nodes\n" % (facts, nodes), 0
 
@@ -77,3 +91,5 @@ def cases():
     yield refused("an empty file", b"", b"2 NotJson")
     yield accepted("2,000 facts in a row", chain(), 2000, 5998)
     yield "2,000 facts in a row, run", "run d", chain(), b"get /f1\n", b"complete 2000\n", 0
+    yield accepted("2,000 facts that each mention nineteen", crowd(), 2000, 1999 * 20 + 1)
+    yield refused("2,000 facts in a row, of which the last mentions itself", chain_to_itself(), b"14 Cycle fact 2000")
