@@ -6,7 +6,7 @@ use Rattle.fact_values.specs.declared.slot.Slot.{Slot}
 use Rattle.script_lines.specs.declared.command.Command.{Command}
 use Rattle.common_lemmas.proofs.Bools.{or_neither}
 use Rattle.common_lemmas.proofs.Numbers.{nat_eq-comm}
-use Rattle.answers.specs.Answered.{start}
+use Rattle.answers.specs.Answered.{Answered}
 use Rattle.dictionary.specs.Accepted.{Kept, accepted}
 use Rattle.dictionary.specs.Slots.{slot_same}
 use Rattle.graph_session.specs.Naming.{slot_of}
@@ -23,14 +23,14 @@ use Rattle.shared_desk.proofs.OrderLaws.{order_begun}
 use Rattle.shared_desk.proofs.StampLaws.{stamp_begun}
 use Rattle.shared_desk.proofs.StepLaws.{shows_no_change}
 
-pub stands_begun : (k : Kept) (v : DeskView) (stamps : Bool) → v.session ≡ start_at k start stamps → stamps ≡ true → v.changers ≡ [] → v.entries ≡ [] → v.asked ≡ [] → StandsFor v (desk_begun (rules k) start)
-stands_begun k v stamps e kept_stamps no_changers no_entries no_looks = record {
-  orderly = order_begun (rules k) start;
-  course = ap course e ∙ ap (begun (accepted k) start) kept_stamps;
+pub stands_begun : (k : Kept) (a : Answered) (v : DeskView) (stamps : Bool) → v.session ≡ start_at k a stamps → stamps ≡ true → v.changers ≡ [] → v.entries ≡ [] → v.asked ≡ [] → StandsFor v (desk_begun (rules k) a)
+stands_begun k a v stamps e kept_stamps no_changers no_entries no_looks = record {
+  orderly = order_begun (rules k) a;
+  course = ap course e ∙ ap (begun (accepted k) a) kept_stamps;
   changers = no_changers;
   entries = no_entries;
   kept = λ p s. let none = no_look p s in omega (arith, none);
-  looks = λ p s. zero_first _ 0 (look_in v.asked p s) _ (stamp_begun (accepted k) start s);
+  looks = λ p s. zero_first _ 0 (look_in v.asked p s) _ (stamp_begun (accepted k) a s);
 }
   where
     no_look : (p : ℕ) (s : Slot) → look_in v.asked p s ≡ 0

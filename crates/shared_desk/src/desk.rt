@@ -1,7 +1,7 @@
 // A session that several parties use.
 ghost use Rattle.std.specs.Prelude.{◌≡◌, ◌+◌, ◌<◌, ◌≤◌, ◌^◌, ◌&&◌, ℕ, not, List, [], map, IfErr, IfOk, IsTrue, OnErr, OnOk, option_map, None, Some, Ok, true, false};
 ghost use Rattle.dictionary.specs.Accepted.{accepted};
-ghost use Rattle.dictionary.specs.Fits.{is_list as is_list_of};
+ghost use Rattle.dictionary.specs.Fits.{AnswersFit, is_list as is_list_of};
 ghost use Rattle.dictionary.specs.Slots.{is_member, stands};
 ghost use Rattle.answers.specs.Answered.{start};
 ghost use Rattle.answers.specs.Meaning.{answered};
@@ -72,7 +72,18 @@ impl<E: FactEngine> Desk<E> {
         ensures begun { IfOk result (λ d. StandsFor d (desk_begun (rules dict) start)) }
         ensures dict { IfOk result (λ d. d.session.dict ≡ dict) }
     {
-        let session = Session::new(alloc, dict)?;
+        Desk::resume(alloc, dict, Answers::new(alloc))
+    }
+
+    /// These answers stand, and nobody has done anything. The engine keeps stamps.
+    pub fn resume(alloc: Global, dict: Dictionary, answers: Answers) -> Result<Desk<E>, NoMemory>
+        requires stamped { E.STAMPS ≡ true }
+        requires fit { AnswersFit (accepted dict).tree (answered answers) }
+        ensures begun { IfOk result (λ d. StandsFor d (desk_begun (rules dict) (answered answers))) }
+        ensures dict { IfOk result (λ d. d.session.dict ≡ dict) }
+        ensures unchanged { IfOk result (λ d. d.session.changes ≡ 0) }
+    {
+        let session = Session::resume(alloc, dict, answers)?;
         Ok(Desk {
             session,
             changers: Vec::new(alloc),

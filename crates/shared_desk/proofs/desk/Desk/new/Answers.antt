@@ -1,5 +1,5 @@
-use Rattle.shared_desk.proofs.KeptLaws.{stands_begun}
+use Rattle.dictionary.proofs.FitStart.{start_fits}
 use Rattle.shared_desk.proofs.desk.Desk.new.Goals as goal
 
-pub returns-clause-begun : goal.returns-clause-begun
-returns-clause-begun g c = stands_begun c.args.dict _ g.E.FactEngine.STAMPS c.in_ok-session.ensures c.requires c.new-2.ensures.items c.new-3.ensures.items c.new-4.ensures
+pub resume-requires-clause-fit : goal.resume-requires-clause-fit
+resume-requires-clause-fit g c = rw c.new.ensures (start_fits _)
