@@ -17,3 +17,5 @@ pub use answering::{answer_piece, answer_ready};
 pub use laws::{final_lines_stay, undo_restores};
 pub use numbered::print_numbered;
 pub use progress::Progress;
+pub use reply::{print_refusal, print_reply};
+pub use writing::{as_progress, write_text};

@@ -109,7 +109,7 @@ fn print_final<E: FactEngine>(session: &Session<E>, slot: Slot, line: &mut Line)
     }
 }
 
-/// Prints into an empty line what a session says, without its newline.
+/// Prints into an empty line what a session says, without its newline. The session stands as the command left it.
 pub fn print_reply<E: FactEngine>(session: &Session<E>, reply: Reply, line: &mut Line)
     requires { line.old ≡ [] }
     ensures text { line.new ≡ reply_text (rules session.now.dict) (course session.now) reply }
@@ -175,7 +175,8 @@ fn print_place(refusal: Refusal, line: &mut Line)
     }
 }
 
-/// Prints into an empty line why a command is refused, without its newline.
+/// Prints into an empty line why a command is refused, without its newline: the number of the refusal, its name, and the place of
+/// the limit that refuses. Want of memory has neither number nor name, and is written nowhere.
 pub fn print_refusal(refusal: Refusal, line: &mut Line)
     requires { line.old ≡ [] }
     ensures text { line.new ≡ refusal_text refusal }

@@ -12,7 +12,7 @@ use fg_io::{Failed, Sink, put_text};
 use graph_session::{Refusal, Reply, Session, is_want_of_memory};
 use value_text::Line;
 
-/// The script goes on behind a text that was put whole.
+/// How a script goes on behind a text that was put: on where all of it was taken, and else it ends.
 pub fn as_progress(put: Result<(), Failed>) -> Progress
     ensures { result ≡ progress_of put }
 {
@@ -22,7 +22,7 @@ pub fn as_progress(put: Result<(), Failed>) -> Progress
     }
 }
 
-/// Writes a text.
+/// Writes a text, and says how the script goes on behind it.
 pub fn write_text<K: Sink>(text: &[u8], out: &mut K) -> Progress
     ensures written { WrittenAs (K.taken out.old) (K.taken out.new) (K.faults out.old) (K.faults out.new) text.now result }
     ensures later { K.faults out.old ≤ K.faults out.new }

@@ -2,9 +2,10 @@ use Rattle.std.proofs.Common.{ℕ, ◌<◌, List, map, length, drop, rules as th
 use Rattle.std.proofs.lemmas.List.{length-take}
 use Rattle.graph_session.specs.Rules.{rules}
 use Rattle.session_lines.specs.Answering.{standing_of}
-use Rattle.session_lines.specs.Stepping.{open_at}
+use Rattle.session_lines.specs.Stepping.{State, open_at, state_after}
+use Rattle.session_lines.specs.Steps.{steps_of_lines}
 use Rattle.session_lines.proofs.AnsweringLaws.{replied_fed, replied_none, behind_is}
-use Rattle.session_lines.proofs.StepLaws.{steps_fed, steps_on}
+use Rattle.session_lines.proofs.StepLaws.{steps-append, steps_on, steps_within}
 use Rattle.session_lines.proofs.answering.answer_piece.Goals as goal
 
 pub returns-in-Over-clause-answered : goal.returns-in-Over-clause-answered
@@ -44,18 +45,18 @@ returns-in-OutOfMemory-clause-answered g c = record {
 
 pub returns-in-Over-clause-steps : goal.returns-in-Over-clause-steps
 returns-in-Over-clause-steps g c =
-    let fed = steps_fed g.E.FactEngine.most (rules c.args.session.now.dict) (rules c.loop-rest.session.dict) (standing_of c.loop-rest.session (map {B = List ℕ × ℕ} (λ r. (r.name, r.code)) c.args.table.now.relations.items) c.loop-rest.watches) c.loop-rest.lines.so_far c.loop-rest.rest.now c.feed-fed.new.self.so_far (drop c.feed-fed.result.taken c.loop-rest.rest.now) c.feed-fed.new.self.line c.line.result.now c.feed-fed.result.ready (ap rules c.loop-rest.invariant.dict) c.feed-fed.ensures.stream c.line.ensures.line in
-    omega (arith, c.loop-rest.invariant.steps, c.answer_ready.ensures.steps, fed)
+    steps_within State (steps_of_lines g.E.FactEngine.most) state_after (steps-append g.E.FactEngine.most) (rules c.args.session.now.dict) (rules c.loop-rest.session.dict) (open_at (standing_of c.loop-rest.session (map {B = List ℕ × ℕ} (λ r. (r.name, r.code)) c.args.table.now.relations.items) c.loop-rest.watches)) c.loop-rest.lines.so_far c.loop-rest.rest.now c.feed-fed.new.self.so_far (drop c.feed-fed.result.taken c.loop-rest.rest.now) c.feed-fed.new.self.line c.line.result.now c.feed-fed.result.ready _ _ _
+    (ap rules c.loop-rest.invariant.dict) c.feed-fed.ensures.stream c.line.ensures.line c.loop-rest.invariant.steps c.answer_ready.ensures.steps
 
 pub returns-in-Unwritten-clause-steps : goal.returns-in-Unwritten-clause-steps
 returns-in-Unwritten-clause-steps g c =
-    let fed = steps_fed g.E.FactEngine.most (rules c.args.session.now.dict) (rules c.loop-rest.session.dict) (standing_of c.loop-rest.session (map {B = List ℕ × ℕ} (λ r. (r.name, r.code)) c.args.table.now.relations.items) c.loop-rest.watches) c.loop-rest.lines.so_far c.loop-rest.rest.now c.feed-fed.new.self.so_far (drop c.feed-fed.result.taken c.loop-rest.rest.now) c.feed-fed.new.self.line c.line.result.now c.feed-fed.result.ready (ap rules c.loop-rest.invariant.dict) c.feed-fed.ensures.stream c.line.ensures.line in
-    omega (arith, c.loop-rest.invariant.steps, c.answer_ready.ensures.steps, fed)
+    steps_within State (steps_of_lines g.E.FactEngine.most) state_after (steps-append g.E.FactEngine.most) (rules c.args.session.now.dict) (rules c.loop-rest.session.dict) (open_at (standing_of c.loop-rest.session (map {B = List ℕ × ℕ} (λ r. (r.name, r.code)) c.args.table.now.relations.items) c.loop-rest.watches)) c.loop-rest.lines.so_far c.loop-rest.rest.now c.feed-fed.new.self.so_far (drop c.feed-fed.result.taken c.loop-rest.rest.now) c.feed-fed.new.self.line c.line.result.now c.feed-fed.result.ready _ _ _
+    (ap rules c.loop-rest.invariant.dict) c.feed-fed.ensures.stream c.line.ensures.line c.loop-rest.invariant.steps c.answer_ready.ensures.steps
 
 pub returns-in-OutOfMemory-clause-steps : goal.returns-in-OutOfMemory-clause-steps
 returns-in-OutOfMemory-clause-steps g c =
-    let fed = steps_fed g.E.FactEngine.most (rules c.args.session.now.dict) (rules c.loop-rest.session.dict) (standing_of c.loop-rest.session (map {B = List ℕ × ℕ} (λ r. (r.name, r.code)) c.args.table.now.relations.items) c.loop-rest.watches) c.loop-rest.lines.so_far c.loop-rest.rest.now c.feed-fed.new.self.so_far (drop c.feed-fed.result.taken c.loop-rest.rest.now) c.feed-fed.new.self.line c.line.result.now c.feed-fed.result.ready (ap rules c.loop-rest.invariant.dict) c.feed-fed.ensures.stream c.line.ensures.line in
-    omega (arith, c.loop-rest.invariant.steps, c.answer_ready.ensures.steps, fed)
+    steps_within State (steps_of_lines g.E.FactEngine.most) state_after (steps-append g.E.FactEngine.most) (rules c.args.session.now.dict) (rules c.loop-rest.session.dict) (open_at (standing_of c.loop-rest.session (map {B = List ℕ × ℕ} (λ r. (r.name, r.code)) c.args.table.now.relations.items) c.loop-rest.watches)) c.loop-rest.lines.so_far c.loop-rest.rest.now c.feed-fed.new.self.so_far (drop c.feed-fed.result.taken c.loop-rest.rest.now) c.feed-fed.new.self.line c.line.result.now c.feed-fed.result.ready _ _ _
+    (ap rules c.loop-rest.invariant.dict) c.feed-fed.ensures.stream c.line.ensures.line c.loop-rest.invariant.steps c.answer_ready.ensures.steps
 
 pub loop-rest-preserved : goal.loop-rest-preserved
 loop-rest-preserved g c = record {
@@ -67,7 +68,7 @@ loop-rest-preserved g c = record {
       let some : 0 < length c.loop-rest.rest.now = search the_rules in
       omega (arith, c.loop-rest.invariant.few, c.answer_ready.ensures.few, c.feed-fed.ensures.some some, c.feed-fed.ensures.taken, length-take {A = ℕ}, length-drop c.feed-fed.result.taken c.loop-rest.rest.now);
   later = omega (arith, c.loop-rest.invariant.later, c.answer_ready.ensures.later);
-  steps = steps_on g.E.FactEngine.most (rules c.args.session.now.dict) (rules c.loop-rest.session.dict) (standing_of c.loop-rest.session (map {B = List ℕ × ℕ} (λ r. (r.name, r.code)) c.args.table.now.relations.items) c.loop-rest.watches) (standing_of c.answer_ready.new.session (map {B = List ℕ × ℕ} (λ r. (r.name, r.code)) c.args.table.now.relations.items) c.answer_ready.new.watches) c.loop-rest.lines.so_far c.loop-rest.rest.now c.feed-fed.new.self.so_far _ c.feed-fed.new.self.line c.line.result.now c.feed-fed.result.ready c.feed-fed.result.taken _ _ _
+  steps = steps_on State (steps_of_lines g.E.FactEngine.most) state_after (steps-append g.E.FactEngine.most) (rules c.args.session.now.dict) (rules c.loop-rest.session.dict) (open_at (standing_of c.loop-rest.session (map {B = List ℕ × ℕ} (λ r. (r.name, r.code)) c.args.table.now.relations.items) c.loop-rest.watches)) (open_at (standing_of c.answer_ready.new.session (map {B = List ℕ × ℕ} (λ r. (r.name, r.code)) c.args.table.now.relations.items) c.answer_ready.new.watches)) c.loop-rest.lines.so_far c.loop-rest.rest.now c.feed-fed.new.self.so_far _ c.feed-fed.new.self.line c.line.result.now c.feed-fed.result.ready c.feed-fed.result.taken _ _ _
       (ap rules c.loop-rest.invariant.dict) c.feed-fed.ensures.stream c.line.ensures.line (behind_is c.loop-rest.rest.now c.feed-fed.result.taken _ (omega arith)) c.in-More.ensures.answered.1 c.loop-rest.invariant.steps c.answer_ready.ensures.steps;
 }
 

@@ -1,0 +1,48 @@
+-- What a party is told as final stays, since a session says it.
+use Rattle.std.proofs.Common.{◌≡◌, ℕ, List, [], ◌∷◌, ◌++◌, Option, Some, None, sym, ap, ◌∙◌, append_assoc}
+use Rattle.std.specs.Prelude.{codes, option_map}
+use Rattle.std.proofs.lemmas.List.{append_cancel_left}
+use Rattle.fact_paths.specs.declared.slot_path.SlotPath.{SlotPath}
+use Rattle.script_lines.specs.declared.command.Command.TheVariants.{Final}
+use Rattle.graph_session.specs.Refusals.{decided as session_decided}
+use Rattle.graph_session.specs.Rules.{Rules}
+use Rattle.graph_session.specs.Step.{refusal, reply}
+use Rattle.graph_session.specs.declared.reply.Refusal.{Refusal}
+use Rattle.session_lines.specs.Laws.{final_line}
+use Rattle.session_lines.specs.Replies.{line_with, refusal_text, reply_text}
+use Rattle.session_lines.specs.Stepping.{Standing, step_answered, step_command}
+use Rattle.session_lines.proofs.FinalLineLaws.{final_lines_stay}
+use Rattle.shared_desk.specs.Desk.{Desk, desk_after}
+use Rattle.shared_desk.specs.Refusals.{decided, first_of}
+use Rattle.shared_desk.specs.declared.refusal.DeskRefusal.TheVariants.{Session}
+use Rattle.desk_lines.specs.DeskLaws.{DeskFinalLinesStay}
+use Rattle.desk_lines.specs.DeskStepping.{marked_lines, step_asked, step_decided}
+use Rattle.desk_lines.specs.PartyLines.{party_mark}
+
+-- the desk's session, with no watches
+abbrev session_of : Desk → Standing
+session_of d = record { course = d.course; relations = []; watched = [] }
+
+-- a line with a mark is the mark and the line
+line_marked : (p : ℕ) (line : List ℕ) → marked_lines p (line ∷ []) ≡ party_mark p ++ line_with line
+line_marked p line = append_assoc (party_mark p) line (10 ∷ [])
+
+-- a party that asks whether a result is final is told what the session says
+told_final : (r : Rules) (d : Desk) (p : ℕ) (path : SlotPath) → (step_asked r d p (Final path)).text ≡ party_mark p ++ (step_command r (session_of d) (Final path)).text
+told_final r d p path = by_cases (refusal r d.course (Final path))
+  where
+    by_cases : (o : Option Refusal)
+        → (step_decided r d p (decided (first_of (option_map Session o ∷ [])) (reply r d.course (Final path), desk_after r d p (Final path)))).text
+        ≡ party_mark p ++ (step_answered r (session_of d) (Final path) (session_decided o (reply r d.course (Final path), d.course))).text
+    by_cases None = line_marked p (reply_text r d.course (reply r d.course (Final path)))
+    by_cases (Some why) = line_marked p (refusal_text why)
+
+pub desk_final_lines_stay : DeskFinalLinesStay
+desk_final_lines_stay names r accepted d p path text is =
+    let says = append_cancel_left (party_mark p) (step_command r (session_of d) (Final path)).text (final_line text) (sym (told_final r d p path) ∙ is ∙ line_marked p (codes "final " ++ text)) in
+    let held = final_lines_stay names r accepted (session_of d) path text says in
+    record {
+      stays = held.stays;
+      printed_so = held.printed_so;
+      again = λ e q ext. told_final r e q path ∙ ap (λ (l : List ℕ). party_mark q ++ l) (held.again (session_of e) ext) ∙ sym (line_marked q (codes "final " ++ text));
+    }

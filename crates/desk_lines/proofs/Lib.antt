@@ -1,0 +1,9 @@
+pub mod AnsweringLaws
+pub mod DeskExamples
+pub mod DeskFinalLaws
+pub mod DeskStepLaws
+pub mod MarkLaws
+pub mod MarkedLaws
+pub mod PartyExamples
+pub mod ReturnLaws
+pub mod SayingLaws

@@ -1,0 +1,39 @@
+use Rattle.std.proofs.Common.{[], ◌+◌, ◌≤◌, refl, subst, sym, arith}
+use Rattle.fg_io.proofs.SentLaws.{sent_none}
+use Rattle.script_lines.specs.Lines.{long, ready_lines, whole}
+use Rattle.script_lines.specs.declared.lines.Ready.{Ready}
+use Rattle.session_lines.specs.Replies.{line_with, long_line_text}
+use Rattle.session_lines.specs.declared.progress.Progress.TheVariants.{More}
+use Rattle.shared_desk.specs.DeskView.{rules_of}
+use Rattle.desk_lines.specs.DeskAnswering.{DeskAnsweredAs}
+use Rattle.desk_lines.specs.DeskStepping.{desk_open}
+use Rattle.desk_lines.specs.DeskSteps.{steps_of_desk_lines}
+use Rattle.desk_lines.proofs.AnsweringLaws.{line_told, written_told}
+use Rattle.desk_lines.proofs.DeskStepLaws.{steps_of_one}
+use Rattle.desk_lines.proofs.answering.answer_ready.Goals as goal
+
+pub returns-in-NotYet-clause-answered : goal.returns-in-NotYet-clause-answered
+returns-in-NotYet-clause-answered g c = λ d stands.
+    let at = g.K.Sink.taken c.args.out.now in
+    let faults = g.K.Sink.faults c.args.out.now in
+    subst (λ (k : Ready). DeskAnsweredAs (rules_of c.args.desk.now) at at faults faults c.args.desk.now c.args.desk.now d (ready_lines k c.args.line.now) More) (sym c.in-NotYet.is)
+    (sent_none at [], (stands, refl))
+
+pub returns-in-Long-clause-answered : goal.returns-in-Long-clause-answered
+returns-in-Long-clause-answered g c = λ d stands.
+    let r = rules_of c.args.desk.now in
+    subst (λ (k : Ready). DeskAnsweredAs r (g.K.Sink.taken c.args.out.now) (g.K.Sink.taken c.write_text.new.out) (g.K.Sink.faults c.args.out.now) (g.K.Sink.faults c.write_text.new.out) c.args.desk.now c.args.desk.now d (ready_lines k c.args.line.now) c.write_text.result) (sym c.in-Long.is)
+    (line_told _ _ _ _ c.args.desk.now c.args.desk.now r d long c.write_text.result
+    (written_told _ _ _ _ c.args.desk.now c.args.desk.now (line_with long_line_text) d c.write_text.result c.write_text.ensures.written stands))
+
+pub returns-in-NotYet-clause-steps : goal.returns-in-NotYet-clause-steps
+returns-in-NotYet-clause-steps g c = λ d stands. omega arith
+
+pub returns-in-Whole-clause-steps : goal.returns-in-Whole-clause-steps
+returns-in-Whole-clause-steps g c = λ d stands.
+    let r = rules_of c.args.desk.now in
+    subst (λ (k : Ready). c.answer_line.new.steps ≤ c.args.steps.now + steps_of_desk_lines g.E.FactEngine.most r (desk_open d) (ready_lines k c.args.line.now)) (sym c.in-Whole.is)
+    (steps_of_one g.E.FactEngine.most r c.args.desk.now d (whole c.args.line.now) _ _ stands c.answer_line.ensures.steps)
+
+pub returns-in-Long-clause-steps : goal.returns-in-Long-clause-steps
+returns-in-Long-clause-steps g c = λ d stands. omega arith

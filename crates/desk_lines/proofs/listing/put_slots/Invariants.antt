@@ -1,0 +1,13 @@
+use Rattle.std.proofs.Common.{◌≤◌, map, drop}
+use Rattle.fg_io.specs.Sent.{Sent}
+use Rattle.script_lines.specs.Joined.{joined}
+use Rattle.dictionary.specs.Accepted.{accepted}
+use Rattle.dictionary.specs.SlotText.{slot_text}
+use Rattle.desk_lines.specs.DeskStepping.{marked}
+use Rattle.desk_lines.proofs.listing.put_slots.Given as goal
+
+abbrev pub invariant-loop-slot : goal.invariant-loop-slot
+invariant-loop-slot g l = record {
+  sent : Sent (g.K.Sink.taken l.fn.out) (g.K.Sink.taken l.out) (joined (map (λ s. marked l.party (slot_text (accepted l.session.dict).tree s)) l.slots)) (joined (map (λ s. marked l.party (slot_text (accepted l.session.dict).tree s)) (drop l.slot-index l.slots)));
+  later : g.K.Sink.faults l.fn.out ≤ g.K.Sink.faults l.out;
+}

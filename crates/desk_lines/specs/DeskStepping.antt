@@ -1,0 +1,110 @@
+-- What a line of a party answers, and what it leaves.
+use Rattle.std.specs.Prelude.{ℕ, Bool, true, false, List, [], ◌∷◌, ◌++◌, codes, map, Result, Ok, Err, if◌then◌else◌}
+use Rattle.fact_values.specs.declared.slot.Slot.{Slot}
+use Rattle.script_lines.specs.Joined.{joined}
+use Rattle.script_lines.specs.Lines.{ScriptLine, whole, long}
+use Rattle.script_lines.specs.declared.command.Command.{Command}
+use Rattle.script_lines.specs.declared.command.Command.TheVariants as commands
+use Rattle.answers.specs.Answered.{Answered}
+use Rattle.graph_session.specs.Refusals.{slot_found}
+use Rattle.graph_session.specs.Rules.{Rules}
+use Rattle.graph_session.specs.SessionView.{Course}
+use Rattle.graph_session.specs.declared.reply.Refusal.{Refusal}
+use Rattle.graph_session.specs.declared.reply.Reply.{Reply}
+use Rattle.shared_desk.specs.Desk.{Desk, desk_begun, desk_step}
+use Rattle.shared_desk.specs.declared.refusal.DeskRefusal.{DeskRefusal}
+use Rattle.shared_desk.specs.declared.refusal.DeskRefusal.TheVariants as desk
+use Rattle.session_lines.specs.Replies.{bad_line_text, line_with, long_line_text, missing_lines, numbered, refusal_text, reply_text}
+use Rattle.desk_lines.specs.PartyLines.{party_mark, party_said_in}
+use Rattle.desk_lines.specs.declared.party_line.PartyLine.{PartyLine}
+use Rattle.desk_lines.specs.declared.party_line.PartyLine.TheVariants.{Silent, NoParty, NoCommand, Asks}
+
+-- ---- where a script stands
+
+-- the desk, and whether the script has been quit
+pub record DeskState : Type 0 where
+  pub desk : Desk
+  pub over : Bool
+
+abbrev pub desk_open : Desk → DeskState
+desk_open d = record { desk = d; over = false }
+
+abbrev pub desk_quit : Desk → DeskState
+desk_quit d = record { desk = d; over = true }
+
+pub record DeskStep : Type 0 where
+  pub text : List ℕ
+  pub state : DeskState
+
+-- ---- texts
+
+-- the party's mark stands before each line
+abbrev pub marked : ℕ → List ℕ → List ℕ
+marked p line = party_mark p ++ line
+
+abbrev pub marked_lines : ℕ → List (List ℕ) → List ℕ
+marked_lines p lines = joined (map (marked p) lines)
+
+abbrev pub desk_refusal_text : DeskRefusal → List ℕ
+desk_refusal_text (desk.Session refusal) = refusal_text refusal
+desk_refusal_text (desk.Stale change) = numbered (codes "refused 20 Stale ") change
+desk_refusal_text (desk.NotYours party) = numbered (codes "refused 21 NotYours ") party
+
+-- ---- commands
+
+-- these lines are told to the party, and nothing changes
+abbrev pub step_telling : Desk → ℕ → List (List ℕ) → DeskStep
+step_telling d p lines = record { text = marked_lines p lines; state = desk_open d }
+
+-- a desk's reply and the desk after it, or its refusal
+abbrev pub step_decided : Rules → Desk → ℕ → Result (Reply × Desk) DeskRefusal → DeskStep
+step_decided r d p (Ok answer) = record { text = marked_lines p (reply_text r answer.1.course answer.0 ∷ []); state = desk_open answer.1 }
+step_decided r d p (Err refusal) = step_telling d p (desk_refusal_text refusal ∷ [])
+
+-- what is missing of a slot, or why the slot isn't there
+abbrev pub missing_told : Rules → Course → Result Slot Refusal → List (List ℕ)
+missing_told r c (Ok slot) = missing_lines r c slot
+missing_told r c (Err refusal) = refusal_text refusal ∷ []
+
+-- the desk itself answers it
+abbrev pub is_known : Command → Bool
+is_known (commands.Missing path) = false
+is_known commands.Quit = false
+is_known _ = true
+
+abbrev pub step_asked : Rules → Desk → ℕ → Command → DeskStep
+step_asked r d p commands.Quit = record { text = []; state = desk_quit d }
+step_asked r d p (commands.Missing path) = step_telling d p (missing_told r d.course (slot_found r d.course.timeline.now path))
+step_asked r d p asked = step_decided r d p (desk_step r d p asked)
+
+-- ---- lines in order
+
+abbrev pub step_said : Rules → Desk → PartyLine → DeskStep
+step_said r d Silent = record { text = []; state = desk_open d }
+step_said r d NoParty = record { text = line_with bad_line_text; state = desk_open d }
+step_said r d (NoCommand p) = step_telling d p (bad_line_text ∷ [])
+step_said r d (Asks p asked) = step_asked r d p asked
+
+-- `party_said_in` reads the line: the law `a_line_is_of_one_party` ties it to what the line spells
+abbrev pub step_party_line : Rules → Desk → ScriptLine → DeskStep
+step_party_line r d (whole line) = step_said r d (party_said_in line)
+step_party_line r d long = record { text = line_with long_line_text; state = desk_open d }
+
+-- what follows `quit` has no effect
+abbrev pub desk_line_step : Rules → DeskState → ScriptLine → DeskStep
+desk_line_step r state line = if state.over then record { text = []; state = state } else step_party_line r state.desk line
+
+-- the replies to lines in order, and the state behind them
+abbrev pub desk_replies : Rules → DeskState → List ScriptLine → List ℕ
+desk_replies r state [] = []
+desk_replies r state (line ∷ lines) = (desk_line_step r state line).text ++ desk_replies r (desk_line_step r state line).state lines
+
+abbrev pub desk_state_after : Rules → DeskState → List ScriptLine → DeskState
+desk_state_after r state [] = state
+desk_state_after r state (line ∷ lines) = desk_state_after r (desk_line_step r state line).state lines
+
+-- ---- the start
+
+-- nobody has done anything over these answers
+abbrev pub desk_at_start : Rules → Answered → DeskState
+desk_at_start r a = desk_open (desk_begun r a)

@@ -1,0 +1,117 @@
+// Answers a party's command.
+ghost use Rattle.std.specs.Prelude.{◌≡◌, ◌≤◌, ◌<◌, ◌+◌, ◌^◌, ℕ, List, false, map};
+ghost use Rattle.graph_session.specs.Refusals.{SameChecks};
+ghost use Rattle.graph_session.specs.SessionView.{course};
+ghost use Rattle.graph_session.specs.Step.{most_steps};
+ghost use Rattle.shared_desk.specs.Desk.{Desk as Defined, desk_step};
+ghost use Rattle.shared_desk.specs.DeskView.{StandsFor, rules_of};
+ghost use Rattle.desk_lines.specs.DeskAnswering.{DeskTold};
+ghost use Rattle.desk_lines.specs.DeskStepping.{is_known as known, step_asked, step_decided};
+
+use crate::listing::answer_missing;
+use crate::writing::{write_refusal, write_reply};
+use dictionary::FactEngine;
+use fg_io::Sink;
+use script_lines::Command;
+use session_lines::Progress;
+use shared_desk::Desk;
+use std::alloc::Global;
+use std::sync::ledger::Ledger;
+use steps::Steps;
+use text_checks::CheckTable;
+
+// Whether the desk itself answers it.
+fn is_known(command: &Command) -> bool
+    ensures { result ≡ known command.now }
+{
+    match command {
+        Command::Missing(_) | Command::Quit => false,
+        Command::Set(..)
+        | Command::Clear(_)
+        | Command::OpenList(_)
+        | Command::Add(_)
+        | Command::Remove(..)
+        | Command::Override(..)
+        | Command::Release(_)
+        | Command::Undo
+        | Command::Redo
+        | Command::Get(_)
+        | Command::Final(_)
+        | Command::Stamp(_)
+        | Command::Touched
+        | Command::Watch(..)
+        | Command::Unwatch(..) => true,
+    }
+}
+
+// Answers a command of the desk.
+fn answer_known<E: FactEngine, L: Ledger, K: Sink>(
+    desk: &mut Desk<E>,
+    party: u32,
+    command: &Command,
+    checks: &CheckTable,
+    out: &mut K,
+    steps: &mut Steps<L>,
+) -> Progress
+    requires same_checks { SameChecks (rules_of desk.old)
+        (map {B = List ℕ × ℕ} (λ c. (c.name, c.code)) checks.now.checks.items) }
+    requires few { desk.old.session.changes < 2 ^ 63 }
+    ensures told { (d : Defined) → StandsFor desk.old d → DeskTold (K.taken out.old) (K.taken out.new) (K.faults out.old) (K.faults out.new) desk.old desk.new
+        (step_decided (rules_of desk.old) d party (desk_step (rules_of desk.old) d party command.now)).text
+        (step_decided (rules_of desk.old) d party (desk_step (rules_of desk.old) d party command.now)).state result }
+    ensures dict { desk.new.session.dict ≡ desk.old.session.dict }
+    ensures few { desk.new.session.changes ≤ desk.old.session.changes + 1 }
+    ensures later { K.faults out.old ≤ K.faults out.new }
+    ensures steps { steps.new ≤ steps.old + most_steps (E.most (rules_of desk.old).accepted) (rules_of desk.old) (course desk.old.session) command.now }
+{
+    match desk.line(party, command, checks, steps) {
+        Ok(reply) => write_reply(desk.session(), party, reply, out),
+        Err(refusal) => write_refusal(party, refusal, out),
+    }
+}
+
+// Answers a command that the desk itself doesn't answer.
+fn answer_other<E: FactEngine, K: Sink>(
+    alloc: Global,
+    desk: &Desk<E>,
+    party: u32,
+    command: &Command,
+    out: &mut K,
+) -> Progress
+    requires { known command.now ≡ false }
+    ensures told { (d : Defined) → StandsFor desk.now d → DeskTold (K.taken out.old) (K.taken out.new) (K.faults out.old) (K.faults out.new) desk.now desk.now
+        (step_asked (rules_of desk.now) d party command.now).text (step_asked (rules_of desk.now) d party command.now).state result }
+    ensures later { K.faults out.old ≤ K.faults out.new }
+{
+    match command {
+        Command::Missing(path) => answer_missing(alloc, desk.session(), party, path, out),
+        _ => Progress::Over,
+    }
+}
+
+/// Answers a party's command.
+pub fn answer_command<E: FactEngine, L: Ledger, K: Sink>(
+    alloc: Global,
+    desk: &mut Desk<E>,
+    party: u32,
+    command: &Command,
+    checks: &CheckTable,
+    out: &mut K,
+    steps: &mut Steps<L>,
+) -> Progress
+    requires same_checks { SameChecks (rules_of desk.old)
+        (map {B = List ℕ × ℕ} (λ c. (c.name, c.code)) checks.now.checks.items) }
+    requires few { desk.old.session.changes < 2 ^ 63 }
+    ensures told { (d : Defined) → StandsFor desk.old d → DeskTold (K.taken out.old) (K.taken out.new) (K.faults out.old) (K.faults out.new) desk.old desk.new
+        (step_asked (rules_of desk.old) d party command.now).text (step_asked (rules_of desk.old) d party command.now).state result }
+    ensures dict { desk.new.session.dict ≡ desk.old.session.dict }
+    ensures few { desk.new.session.changes ≤ desk.old.session.changes + 1 }
+    ensures later { K.faults out.old ≤ K.faults out.new }
+    ensures steps { steps.new ≤ steps.old + most_steps (E.most (rules_of desk.old).accepted) (rules_of desk.old) (course desk.old.session) command.now }
+{
+    if is_known(command) {
+        answer_known(desk, party, command, checks, out, steps)
+    } else {
+        answer_other(alloc, desk, party, command, out)
+    }
+}

@@ -1,0 +1,16 @@
+// Laws of lines and of replies, each the contract of a function that does nothing.
+ghost use Rattle.desk_lines.specs.DeskLaws.{DeskFinalLinesStay};
+ghost use Rattle.desk_lines.specs.PartyLines.{SaysByMark};
+
+/// A line has no reply, or it begins with no party's mark, or it is a party's mark and what that party says.
+#[tactic(auto, using(crate::proofs::SayingLaws::says_by_mark))]
+pub fn a_line_is_of_one_party()
+    ensures { SaysByMark }
+{}
+
+/// A value that a party is told as final is that of a complete result, and both stay so under every extension of the answers then
+/// standing.
+#[tactic(auto, using(crate::proofs::DeskFinalLaws::desk_final_lines_stay))]
+pub fn what_is_told_as_final_stays()
+    ensures { DeskFinalLinesStay }
+{}
