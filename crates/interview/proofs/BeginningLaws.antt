@@ -1,15 +1,12 @@
 -- The answers at the start of a run: what they come from, and that they come to one end.
-use Rattle.std.proofs.Common.{◌≡◌, ℕ, suc, ◌+◌, ◌<◌, ◌≤◌, Bool, true, false, IsTrue, List, [], ◌∷◌, length, Some, None, inl, inr, refl, sym, ap, subst, ◌∙◌, arith, le_of_suc-le-suc, lt_of_not-le}
-use Rattle.script_lines.specs.Lines.{lines_of}
-use Rattle.fg_io.specs.Outside.{MayHold, Told, holds, missing}
+use Rattle.std.proofs.Common.{◌≡◌, ℕ, suc, ◌≤◌, List, length, inl, inr, refl, sym, ap, subst, ◌∙◌, arith, le_of_suc-le-suc, lt_of_not-le}
+use Rattle.fg_io.specs.Outside.{MayHold, Told, missing}
 use Rattle.value_text.specs.Enums.{AreLists}
-use Rattle.dict_tree.specs.Dictionary.{Dictionary as Tree}
-use Rattle.answers.specs.Answered.{Answered}
 use Rattle.dictionary.specs.Accepted.{IsAccepted}
 use Rattle.dictionary.specs.Fits.{AnswersFit}
 use Rattle.dictionary.proofs.FitStart.{start_fits}
 use Rattle.graph_session.specs.Rules.{Rules, tree_of}
-use Rattle.save_file.specs.CarriedText.{CarriedText, IsCarried, IsCarriedText}
+use Rattle.save_file.specs.CarriedText.{CarriedText, IsCarriedText}
 use Rattle.save_file.specs.Carrying.{IsCarryOf, dropped_numbers}
 use Rattle.save_file.specs.Dropped.{dropped_text}
 use Rattle.save_file.specs.Loading.{IsRefusedAt, IsSavedText}

@@ -1,5 +1,5 @@
 -- The dictionary of a run: where it comes from, and as what it is accepted.
-use Rattle.std.proofs.Common.{◌≡◌, ℕ, false, List, [], Result, Ok, Err, inl, inr, refl, sym, ap, subst, ◌∙◌}
+use Rattle.std.proofs.Common.{◌≡◌, ℕ, false, List, [], Result, Ok, Err, inl, refl, sym, ap, subst, ◌∙◌}
 use Rattle.std.specs.Prelude.{IfOk}
 use Rattle.fact_values.specs.declared.memory.NoMemory.{NoMemory}
 use Rattle.dictionary.specs.declared.fault.DictFault.{DictFault}
@@ -27,7 +27,7 @@ use Rattle.interview.specs.declared.built_in.BuiltIn.TheVariants.{Year2023, Year
 use Rattle.fg_io.specs.Outside.{MayHold, Told, missing}
 use Rattle.interview.specs.Words.{Origin, file, program}
 use Rattle.interview.specs.Dictionaries.{Content, Gives, HasFault, IsAcceptedAs, IsBrought, MayGive, brought, facts_of, spelled}
-use Rattle.session_lines.specs.Stepping.{Standing}
+use Rattle.answers.specs.Answered.{Answered}
 use Rattle.interview.specs.Interview.{TablesHoldIn}
 use Rattle.dictionary.proofs.AcceptedLaws.{one_accepted}
 use Rattle.interview.specs.StepEnds.{FetchedAs, ObtainedAs}
@@ -81,10 +81,10 @@ obtains_file told name checks (Ok (fetches.Refused fault)) (bytes, held, is) = (
 obtains_file told name checks (Err status) h = tt
 
 -- the tables hold of what it brings, where the answers fit
-pub tables_hold : (b : BuiltIn) (r : Rules) (s : Standing) → IsBrought b r.accepted → AnswersFit (tree_of r) s.course.timeline.now → TablesHoldIn b r s
-tables_hold Year2023 r s is fit = λ h answered. tables_hold_2023 r.accepted is s.course.timeline.now h answered.answers answered.earned answered.other
-tables_hold Year2024 r s is fit = λ h answered. tables_hold_2024 r.accepted is s.course.timeline.now h answered.answers answered.earned answered.other
-tables_hold Income2023 r s is fit = λ h numbered answered told. income_tables_hold r.accepted is s.course.timeline.now h numbered fit answered.answers told answered.earned answered.other
+pub tables_hold : (b : BuiltIn) (r : Rules) (a : Answered) → IsBrought b r.accepted → AnswersFit (tree_of r) a → TablesHoldIn b r a
+tables_hold Year2023 r a is fit = λ h answered. tables_hold_2023 r.accepted is a h answered.answers answered.earned answered.other
+tables_hold Year2024 r a is fit = λ h answered. tables_hold_2024 r.accepted is a h answered.answers answered.earned answered.other
+tables_hold Income2023 r a is fit = λ h numbered answered told. income_tables_hold r.accepted is a h numbered fit answered.answers told answered.earned answered.other
 
 pub brought_is_faultless : (told : List ℕ → Told) (checks : List Named) (b : BuiltIn) (content : Content) (fault : DictFault) → MayGive told (program b) content → HasFault checks content fault → ⊥
 brought_is_faultless told checks b (spelled bytes) fault gave is = gave

@@ -22,11 +22,12 @@ use Rattle.interview.specs.declared.status.Status.TheVariants.{Done, ScriptTooLo
 use Rattle.interview.specs.Beginnings.{Basis}
 use Rattle.interview.specs.Dictionaries.{Content}
 use Rattle.interview.specs.Engines.{AsksNoCounts, EnginesAgree, asks_counts, is_of_counts, line_asks_counts}
-use Rattle.interview.specs.Interview.{Defined, GoesOnTo, RunsTo, answered_lines, defined_script, run_terms, script_limit}
-use Rattle.interview.specs.declared.words.Engine.{Engine}
-use Rattle.interview.specs.declared.words.Engine.TheVariants.{Incremental, Plain}
+use Rattle.interview.specs.Interview.{Defined, GoesOnTo, RunsTo, answered_lines, defined_script, script_limit}
+use Rattle.interview.specs.Meanings.{meaning_of}
+use Rattle.interview.specs.declared.words.Mode.{Mode}
+use Rattle.interview.specs.declared.words.Mode.TheVariants.{Incremental, Plain}
 use Rattle.session_lines.specs.Replies.{reply_text}
-use Rattle.session_lines.specs.Stepping.{Standing, State, Step, Terms, at_start, cut_watch, missing_answer, open_at, place_in, put_watch, replies, said, state_after, step, step_answered, step_command, step_heard, step_line, watch_decided}
+use Rattle.session_lines.specs.Stepping.{Standing, State, Step, at_start, cut_watch, missing_answer, open_at, place_in, put_watch, replies, said, state_after, step, step_answered, step_command, step_heard, step_line, watch_decided}
 use Rattle.fact_watch.specs.Refusals.{unwatch_refusal, watch_refusal}
 use Rattle.fact_watch.specs.Watching.{Pair}
 use Rattle.fact_watch.specs.declared.commands.WatchRefusal.{WatchRefusal}
@@ -154,11 +155,11 @@ answered_ask_none script none =
           first_ask_none (ended_lines (take script_limit script)) go_on.0 (subst (All (λ l. line_asks_counts l ≡ false)) all none)
     ]
 
-script_same : (r : Rules) (relations : List Named) (a : Answered) (script : List ℕ) → AsksNoCounts script → defined_script r (run_terms Incremental relations a) script ≡ defined_script r (run_terms Plain relations a) script
+script_same : (r : Rules) (relations : List Named) (a : Answered) (script : List ℕ) → AsksNoCounts script → defined_script (meaning_of r Incremental relations a) script ≡ defined_script (meaning_of r Plain relations a) script
 unfolding defined_script
 script_same r relations a script none =
-    let same = lines_same r (at_start r (run_terms Incremental relations a)) (answered_lines script) (answered_ask_none script none) in
-    let over : (state_after r (at_start r (run_terms Plain relations a)) (answered_lines script)).over ≡ (state_after r (at_start r (run_terms Incremental relations a)) (answered_lines script)).over = ap (λ (s : State). s.over) same.1 in
+    let same = lines_same r (at_start r (record { answers = a; stamps = true; relations = relations })) (answered_lines script) (answered_ask_none script none) in
+    let over : (meaning_of r Plain relations a).over (answered_lines script) ≡ (meaning_of r Incremental relations a).over (answered_lines script) = ap (λ (s : State). s.over) same.1 in
     λ i. record {
       text = sym same.0 i;
       status = if nat_le (length script) script_limit then Done else if sym over i then Done else ScriptTooLong;
@@ -168,12 +169,12 @@ script_same r relations a script none =
 abbrev behind : List ℕ → Defined → Defined
 behind front given = record { text = front ++ given.text; status = given.status }
 
-goes_on : (e f : Engine) (relations : List Named) (script : List ℕ) → ((r : Rules) (a : Answered) → defined_script r (run_terms e relations a) script ≡ defined_script r (run_terms f relations a) script) → (r : Rules) (basis : Basis) (d : Defined)
+goes_on : (e f : Mode) (relations : List Named) (script : List ℕ) → ((r : Rules) (a : Answered) → defined_script (meaning_of r e relations a) script ≡ defined_script (meaning_of r f relations a) script) → (r : Rules) (basis : Basis) (d : Defined)
     → GoesOnTo r basis e relations script d → GoesOnTo r basis f relations script d
 goes_on e f relations script same r basis d (inl (s, begins, to)) = inl (s, begins, to ∙ ap (behind s.front) (same r s.answers))
 goes_on e f relations script same r basis d (inr refused) = inr refused
 
-to_other : (e f : Engine) (relations : List Named) (script : List ℕ) → ((r : Rules) (a : Answered) → defined_script r (run_terms e relations a) script ≡ defined_script r (run_terms f relations a) script)
+to_other : (e f : Mode) (relations : List Named) (script : List ℕ) → ((r : Rules) (a : Answered) → defined_script (meaning_of r e relations a) script ≡ defined_script (meaning_of r f relations a) script)
     → (content : Content) (checks : List Named) (basis : Basis) (d : Defined) → RunsTo content checks basis e relations script d → RunsTo content checks basis f relations script d
 to_other e f relations script same content checks basis d (inl (r, is, goes)) = inl (r, is, goes_on e f relations script same r basis d goes)
 to_other e f relations script same content checks basis d (inr refused) = inr refused

@@ -1,12 +1,12 @@
 -- The enums of an accepted dictionary are lists of options, each under a name of its own. -- move down
-use Rattle.std.proofs.Common.{◌≡◌, ◌≢◌, ℕ, suc, ◌+◌, ◌<◌, ◌≤◌, Bool, true, false, ◌||◌, IsTrue, List, [], ◌∷◌, length, Option, Some, None, refl, sym, ap, subst, arith, ltb-false, lt-ltb}
+use Rattle.std.proofs.Common.{◌≡◌, ℕ, suc, ◌≤◌, Bool, true, false, IsTrue, List, [], ◌∷◌, length, Option, Some, None, refl, sym, subst, arith, ltb-false, lt-ltb}
 use Rattle.std.specs.Prelude.{count_by, nat_lt, sum_by}
 use Rattle.std.specs.List.{list_all, list_any}
 use Rattle.serde_json.specs.Data.{Data, Items, no_items, item}
 use Rattle.serde_json.specs.Find.{get}
 use Rattle.std.specs.Prelude.{codes}
 use Rattle.common_lemmas.proofs.Bools.{and_intro, or_neither}
-use Rattle.value_text.specs.Enums.{AreLists, Listed, are_distinct, is_listed, names_of}
+use Rattle.value_text.specs.Enums.{AreLists, Listed, is_listed}
 use Rattle.dict_tree.specs.DictJson.{AreSpelled, SpellEnums, SpellsDictionary, SpellsEnum}
 use Rattle.dict_tree.specs.Dictionary.{Dictionary, IsWithinLimits, is_collection, number_from}
 use Rattle.dict_tree.specs.Facts.{fact_size}

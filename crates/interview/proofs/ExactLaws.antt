@@ -1,8 +1,7 @@
 -- What follows from the table of ends where the outside tells its contents.
-use Rattle.std.proofs.Common.{◌≡◌, ℕ, List, [], ◌∷◌, ◌++◌, take, drop, Option, inl, inr, refl, sym, ap, subst, ◌∙◌, append_assoc, take-append-drop}
+use Rattle.std.proofs.Common.{◌≡◌, ℕ, true, List, [], ◌∷◌, ◌++◌, take, drop, Option, inl, inr, refl, sym, ap, subst, ◌∙◌, append_assoc, take-append-drop}
 use Rattle.std.specs.Prelude.{◌⊎◌}
 use Rattle.std.specs.Io.KnownBytes.{Appends}
-use Rattle.std.proofs.KnownBytes.{Appends-kept}
 use Rattle.std.proofs.lemmas.List.{append-nil}
 use Rattle.fg_io.specs.Outside.{MayBe, MayHold, Told, missing, holds}
 use Rattle.dictionary.specs.declared.fault.DictFault.{DictFault}
@@ -14,43 +13,45 @@ use Rattle.graph_session.specs.Rules.{Rules}
 use Rattle.interview.specs.declared.built_in.BuiltIn.{BuiltIn}
 use Rattle.interview.specs.declared.status.Status.{Status}
 use Rattle.interview.specs.declared.status.Status.TheVariants.{Done, DictionaryRefused, Usage, FetchFault, ReadFault, WriteFault, ScriptTooLong, NoMemory, SavedRefused}
-use Rattle.interview.specs.declared.words.Engine.{Engine}
+use Rattle.interview.specs.declared.words.Mode.{Mode}
+use Rattle.interview.specs.declared.words.Mode.TheVariants.{Incremental}
 use Rattle.interview.specs.Words.{Beginning, IsRun, IsCheck, Fetches, HasNoForm, IsFrom, Origin, file, program, unanswered}
 use Rattle.interview.specs.Beginnings.{Basis, Brings, IsRefusedStart, IsStart, MayBring, Start}
 use Rattle.interview.specs.Dictionaries.{Content, Gives, HasFault, IsAcceptedAs, MayGive}
-use Rattle.interview.specs.Interview.{ChecksTo, Defined, GoesOnTo, RunsTo, TablesHoldIn, answered_lines, defined_fault, defined_run, defined_saved_refused, defined_script, run_terms}
-use Rattle.interview.specs.Devices.{Rises, SentNothing, SentPart, SentWhole}
+use Rattle.interview.specs.Interview.{ChecksTo, Defined, GoesOnTo, RunsTo, TablesHoldIn, answered_lines, defined_fault, defined_run, defined_saved_refused, defined_script}
+use Rattle.interview.specs.Finals.{AreFinalsKept}
+use Rattle.interview.specs.Meanings.{meaning_of}
+use Rattle.interview.specs.Devices.{Rises, SentPart, SentWhole, Stream}
 use Rattle.interview.specs.GenEnds.{GenInterviewed}
 use Rattle.interview.specs.SaveEnds.{SaveInterviewed}
 use Rattle.interview.specs.ScriptEnds.{ReadThrough, ScriptEndsAs, did_behind}
 use Rattle.interview.specs.Given.{Did, EndedAs, Given, IsOneOf, Unread}
-use Rattle.interview.specs.Ends.{AcceptedRun, BegunRun, RefusedRun, SavedRefusedRun, Check, CheckEndsAs, ComesTo, KnownDictionary, KnownRun, KnownCheck, LinePart, Ends, EndedByCheck, EndedByRun, FetchFailed, Interviewed, IsFetched, RefusedEnds, terms_of}
-use Rattle.session_lines.specs.Laws.{FinalsHold}
-use Rattle.session_lines.specs.Stepping.{at_start, state_after}
+use Rattle.interview.specs.Ends.{AcceptedRun, BegunRun, RefusedRun, SavedRefusedRun, Check, CheckEndsAs, ComesTo, KnownDictionary, KnownRun, KnownCheck, LinePart, Ends, EndedByCheck, EndedByRun, FetchFailed, Interviewed, IsFetched, RefusedEnds, meaning_in}
 use Rattle.interview.proofs.BeginningLaws.{fits_at_start, known_basis, none_refused, nothing_brought, one_refusal, start_is_not_refused}
 use Rattle.interview.proofs.CheckLaws.{one_end}
 use Rattle.interview.proofs.DictionaryLaws.{accepted_is_faultless, brought_is_faultless, brought_is_this, known_content, nothing_missing, one_first_fault, one_set_of_rules, rules_are_accepted, rules_are_accepted_so, tables_hold}
 use Rattle.interview.proofs.LeadLaws.{lines_lead_to_fit}
 use Rattle.interview.proofs.RunLaws.{one_run}
 use Rattle.interview.proofs.StartLaws.{part_behind, read_behind, taken_from, whole_behind}
-use Rattle.interview.proofs.WordLaws.{brought_unfetched, from_none, none_fetched, not_both, same_beginning, same_check, same_engine, same_origin}
-use Rattle.session_lines.proofs.FinalLineLaws.{final_lines_stay}
+use Rattle.interview.proofs.WordLaws.{brought_unfetched, from_none, none_fetched, not_both, program_mode, same_beginning, same_check, same_mode, same_origin}
+use Rattle.interview.proofs.FinalLaws.{finals_are_kept}
+use Rattle.interview.proofs.MeaningLaws.{meaning_begins}
 use Rattle.interview.proofs.ScriptLaws.{ended_are_answered, nothing_part, part_by_lines, part_of}
 
 module _ (given : Given) where
   -- an accepted dictionary, a saved text where one is named, and a script that it may have been given, and what they come to
-  record WentOn (content : Content) (beginning : Beginning) (engine : Engine) (outcome : Defined) : Type 0 where
+  record WentOn (content : Content) (beginning : Beginning) (mode : Mode) (outcome : Defined) : Type 0 where
     pub rules : Rules
     pub basis : Basis
     pub script : List ℕ
     pub is_accepted : IsAcceptedAs given.checks content rules
     pub brought : MayBring given.told beginning basis
     pub read : MayBe given.left script
-    pub goes : GoesOnTo rules basis engine given.relations script outcome
+    pub goes : GoesOnTo rules basis mode given.relations script outcome
 
   -- or a dictionary with a fault
-  abbrev CameTo : Content → Beginning → Engine → Defined → Type 0
-  CameTo content beginning engine outcome = WentOn content beginning engine outcome ⊎ ((fault : DictFault) × HasFault given.checks content fault × (outcome ≡ defined_fault fault))
+  abbrev CameTo : Content → Beginning → Mode → Defined → Type 0
+  CameTo content beginning mode outcome = WentOn content beginning mode outcome ⊎ ((fault : DictFault) × HasFault given.checks content fault × (outcome ≡ defined_fault fault))
 
   -- a run that it may have been given, and what it comes to: where contents are told, it was given it
   record Run : Type 0 where
@@ -59,7 +60,7 @@ module _ (given : Given) where
     pub outcome : Defined
     pub asked : IsRun given.words origin
     pub gave : MayGive given.told origin content
-    pub came : CameTo content asked.beginning asked.engine outcome
+    pub came : CameTo content asked.beginning asked.mode outcome
 
   -- ---- what is told
 
@@ -72,24 +73,24 @@ module _ (given : Given) where
   basis_is o asked known brings p asked_other may brought = known_basis given.told asked.beginning known may brings (subst (λ b. MayBring given.told b may) (same_beginning given.words p o asked_other asked) brought)
 
   -- a run that may have been given is the one that is told
-  known_came : (k : KnownRun given) (run : Run) → CameTo run.content run.asked.beginning run.asked.engine run.outcome → RunsTo run.content given.checks k.basis k.asked.engine given.relations k.script run.outcome
+  known_came : (k : KnownRun given) (run : Run) → CameTo run.content run.asked.beginning run.asked.mode run.outcome → RunsTo run.content given.checks k.basis k.asked.mode given.relations k.script run.outcome
   known_came k run (inl went) =
       let basis = basis_is k.origin k.asked k.basis k.brings run.origin run.asked went.basis went.brought in
-      let engine = same_engine given.words run.origin k.origin run.asked k.asked in
+      let mode = same_mode given.words run.origin k.origin run.asked k.asked in
       let script = subst (λ (o : Option (List ℕ)). MayBe o went.script) k.read went.read in
       inl (
         went.rules,
         went.is_accepted,
-        subst (λ b. GoesOnTo went.rules b k.asked.engine given.relations k.script run.outcome) basis
-            (subst (λ e. GoesOnTo went.rules went.basis e given.relations k.script run.outcome) engine
-            (subst (λ l. GoesOnTo went.rules went.basis run.asked.engine given.relations l run.outcome) (sym script) went.goes)),
+        subst (λ b. GoesOnTo went.rules b k.asked.mode given.relations k.script run.outcome) basis
+            (subst (λ e. GoesOnTo went.rules went.basis e given.relations k.script run.outcome) mode
+            (subst (λ l. GoesOnTo went.rules went.basis run.asked.mode given.relations l run.outcome) (sym script) went.goes)),
       )
   known_came k run (inr refused) = inr refused
 
   known_run : (k : KnownRun given) (run : Run) → ComesTo given k run.outcome
   known_run k run =
       let content = content_is k.origin k.content k.asked k.gives run.origin run.content run.asked run.gave in
-      subst (λ c. RunsTo c given.checks k.basis k.asked.engine given.relations k.script run.outcome) content (known_came k run run.came)
+      subst (λ c. RunsTo c given.checks k.basis k.asked.mode given.relations k.script run.outcome) content (known_came k run run.came)
 
   -- what the name of a check may hold is what is told of it
   check_holds : (name other may : List ℕ) (told : Told) → IsCheck given.words name → given.told name ≡ told → IsCheck given.words other → MayHold (given.told other) may → MayHold told may
@@ -163,7 +164,7 @@ module _ (given : Given) where
     begun_run run script read = record {
       origin = run.over.origin;
       content = run.over.content;
-      outcome = defined_run run.over.rules run.over.asked.engine given.relations run.start script;
+      outcome = defined_run run.over.rules run.over.asked.mode given.relations run.start script;
       asked = run.over.asked;
       gave = run.over.gave;
       came = inl (record {
@@ -201,11 +202,11 @@ module _ (given : Given) where
     abbrev refused_run : RefusedRun given → Run
     refused_run run = record { origin = run.origin; content = run.content; outcome = defined_fault run.fault; asked = run.asked; gave = run.gave; came = inr (run.fault, run.is_fault, refl) }
 
-    run_ended : (run : BegunRun given) (taken : Option (List ℕ)) → Appends did.script.taken.before taken run.start.front → (status : Status) → ScriptEndsAs run.over.rules (terms_of given run) (did_behind did.script taken) status → RunEndsAs status
+    run_ended : (run : BegunRun given) (taken : Option (List ℕ)) → Appends did.script.taken.before taken run.start.front → (status : Status) → ScriptEndsAs (meaning_in given run) (did_behind did.script taken) status → RunEndsAs status
     run_ended run taken front status ends = (
       begun_run run ends.0 ends.1,
       ends.2,
-      whole_behind did.script.taken taken run.start.front (defined_script run.over.rules (terms_of given run) ends.0).text front ends.3,
+      whole_behind did.script.taken taken run.start.front (defined_script (meaning_in given run) ends.0).text front ends.3,
     )
 
     done_ended : Ends given did Done → EndsAs Done
@@ -427,16 +428,16 @@ module _ (given : Given) where
     front_part front more (rest, sent) = (rest ++ more, record { front = sent.front; took = sent.took; split = ap (λ l. l ++ more) sent.split ∙ append_assoc sent.front rest more })
 
     run_part : (k : KnownRun given) (d : Defined) → ComesTo given k d → (run : Run) → SentPart did.script.taken run.outcome.text → SentPart did.script.taken d.text
-    run_part k d runs run part = subst (λ (e : Defined). SentPart did.script.taken e.text) (one_run k.content given.checks k.basis k.asked.engine given.relations k.script run.outcome d (known_run k run) runs) part
+    run_part k d runs run part = subst (λ (e : Defined). SentPart did.script.taken e.text) (one_run k.content given.checks k.basis k.asked.mode given.relations k.script run.outcome d (known_run k run) runs) part
 
     ended_part : (status : Status) → EndsAs status → (k : KnownRun given) (d : Defined) → ComesTo given k d → SentPart did.script.taken d.text
     ended_part status ends k d runs = let run = ran status ends k.origin k.asked in run_part k d runs run.0 (whole_part run.0.outcome.text run.0.outcome.text refl run.2)
 
     -- the front of a script that begins so, and a part of the replies
     replies_part : (k : KnownRun given) (d : Defined) → ComesTo given k d → (run : BegunRun given) (taken : Option (List ℕ)) → Appends did.script.taken.before taken run.start.front
-        → (script : List ℕ) → MayBe did.script.left.before script → SentPart (taken_from did.script.taken taken) (defined_script run.over.rules (terms_of given run) script).text → SentPart did.script.taken d.text
+        → (script : List ℕ) → MayBe did.script.left.before script → SentPart (taken_from did.script.taken taken) (defined_script (meaning_in given run) script).text → SentPart did.script.taken d.text
     replies_part k d runs run taken front script read part =
-        run_part k d runs (begun_run run script read) (part_behind did.script.taken taken run.start.front (defined_script run.over.rules (terms_of given run) script).text front part)
+        run_part k d runs (begun_run run script read) (part_behind did.script.taken taken run.start.front (defined_script (meaning_in given run) script).text front part)
 
     line_part : LinePart given did → (k : KnownRun given) (d : Defined) → ComesTo given k d → SentPart did.script.taken d.text
     line_part (inl part) k d runs = absurd (part.0.0 k.origin k.asked)
@@ -446,7 +447,15 @@ module _ (given : Given) where
     line_part (inr (inr (inr (inr part)))) k d runs =
         let some = may_go_on did.script.left.before did.script.left.before [] (consumes_none did.script.left.before) in
         let run = part.0 in
-        run_part k d runs (begun_run run some.0 some.1) (front_part run.start.front (defined_script run.over.rules (terms_of given run) some.0).text part.1)
+        run_part k d runs (begun_run run some.0 some.1) (front_part run.start.front (defined_script (meaning_in given run) some.0).text part.1)
+
+    -- the replies to the first lines
+    part_by_first : (run : BegunRun given) (script : List ℕ) (lines others : List ScriptLine) → answered_lines script ≡ lines ++ others → (taken : Stream) → SentWhole taken ((meaning_in given run).texts lines)
+        → SentPart taken (defined_script (meaning_in given run) script).text
+    part_by_first run script lines others answers taken wrote =
+        let begins = meaning_begins run.over.rules run.over.asked.mode given.relations run.start.answers in
+        let rest = begins.goes_on lines in
+        part_by_lines (meaning_in given run) script lines others rest.0 rest.1 answers taken wrote
 
     prefix : (status : Status) → Ends given did status → (k : KnownRun given) (d : Defined) → ComesTo given k d → SentPart did.script.taken d.text
     prefix Done ends k d runs = ended_part Done (done_ended ends) k d runs
@@ -457,7 +466,7 @@ module _ (given : Given) where
         let more = may_go_on did.script.left.before did.script.left.after read.bytes read.read in
         let answers = ended_are_answered read.bytes more.0 read.within in
         replies_part k d runs run taken front (read.bytes ++ more.0) more.1
-        (part_by_lines run.over.rules (terms_of given run) (read.bytes ++ more.0) (ended_lines read.bytes) answers.0 answers.1 (taken_from did.script.taken taken) read.replied)
+        (part_by_first run (read.bytes ++ more.0) (ended_lines read.bytes) answers.0 answers.1 (taken_from did.script.taken taken) read.replied)
     prefix WriteFault (inl (run, (taken, (front, ends)))) k d runs = replies_part k d runs run taken front ends.1.0 ends.1.1 ends.1.2
     prefix WriteFault (inr (rose, part)) k d runs = line_part part k d runs
     prefix ScriptTooLong ends k d runs = ended_part ScriptTooLong (too_long_ended ends) k d runs
@@ -465,24 +474,24 @@ module _ (given : Given) where
     prefix NoMemory (inr (run, (taken, (front, first)))) k d runs =
         let lines = answered_lines first.script in
         replies_part k d runs run taken front first.script first.read
-        (part_by_lines run.over.rules (terms_of given run) first.script (take first.count lines) (drop first.count lines) (sym (take-append-drop first.count lines)) (taken_from did.script.taken taken) first.replied)
+        (part_by_first run first.script (take first.count lines) (drop first.count lines) (sym (take-append-drop first.count lines)) (taken_from did.script.taken taken) first.replied)
     prefix DictionaryRefused ends k d runs = ended_part DictionaryRefused (refused_ended ends) k d runs
     prefix SavedRefused ends k d runs = ended_part SavedRefused (saved_ended ends) k d runs
 
     -- ---- how far a script was read
 
     read_through : (status : Status) → Ends given did status → (k : KnownRun given) → status ≡ Done
-        → (r : Rules) × (s : Start) × IsAcceptedAs given.checks k.content r × IsStart r k.basis s × ReadThrough r (run_terms k.asked.engine given.relations s.answers) did.script
+        → (r : Rules) × (s : Start) × IsAcceptedAs given.checks k.content r × IsStart r k.basis s × ReadThrough (meaning_of r k.asked.mode given.relations s.answers) did.script
     read_through Done (inl (run, (taken, (front, ends)))) k is =
         let over = run.over in
         let content = content_is k.origin k.content k.asked k.gives over.origin over.content over.asked over.gave in
         let basis = basis_is k.origin k.asked k.basis k.brings over.origin over.asked run.basis run.brought in
-        let engine = same_engine given.words over.origin k.origin over.asked k.asked in (
+        let mode = same_mode given.words over.origin k.origin over.asked k.asked in (
           over.rules,
           run.start,
           subst (λ c. IsAcceptedAs given.checks c over.rules) content over.is_accepted,
           subst (λ b. IsStart over.rules b run.start) basis run.is_start,
-          subst (λ e. ReadThrough over.rules (run_terms e given.relations run.start.answers) did.script) engine (read_behind over.rules (terms_of given run) did.script taken ends.1),
+          subst (λ e. ReadThrough (meaning_of over.rules e given.relations run.start.answers) did.script) mode (read_behind (meaning_in given run) did.script taken ends.1),
         )
     read_through Done (inr ends) k is = absurd (not_both given.words k.origin ends.0.name k.asked ends.0.asked)
     read_through status ends k is = absurd cc
@@ -525,13 +534,14 @@ module _ (given : Given) where
     built_in_carried b asked DictionaryRefused (inl ends) = absurd (brought_fault b asked ends.0)
     built_in_carried b asked DictionaryRefused (inr ends) = absurd (not_both given.words (program b) ends.0.name asked ends.0.asked)
 
-    pub tables : (b : BuiltIn) → IsRun given.words (program b) → (run : BegunRun given) (lines : List ScriptLine) → TablesHoldIn b run.over.rules (state_after run.over.rules (at_start run.over.rules (terms_of given run)) lines).standing
+    pub tables : (b : BuiltIn) → IsRun given.words (program b) → (run : BegunRun given) (lines : List ScriptLine) → TablesHoldIn b run.over.rules ((meaning_in given run).answers lines)
     tables b asked run lines =
         let over = run.over in
         let gave = subst (λ q. MayGive given.told q over.content) (same_origin given.words over.origin (program b) over.asked asked) over.gave in
-        tables_hold b over.rules (state_after over.rules (at_start over.rules (terms_of given run)) lines).standing
+        subst (λ e. TablesHoldIn b over.rules ((meaning_of over.rules e given.relations run.start.answers).answers lines)) (sym (program_mode given.words over.origin b asked over.asked))
+        (tables_hold b over.rules ((meaning_of over.rules Incremental given.relations run.start.answers).answers lines)
         (brought_is_this given.told given.checks b over.content over.rules gave over.is_accepted)
-        (lines_lead_to_fit over.rules (rules_are_accepted_so given.checks over.content over.rules over.is_accepted) (terms_of given run) (fits_at_start over.rules run.basis run.start run.is_start) lines)
+        (lines_lead_to_fit over.rules (rules_are_accepted_so given.checks over.content over.rules over.is_accepted) (record { answers = run.start.answers; stamps = true; relations = given.relations }) (fits_at_start over.rules run.basis run.start run.is_start) lines))
 
     -- ---- checks
 
@@ -618,11 +628,11 @@ module _ (given : Given) where
           | inr fails ↦ inr fails
         ]
 
-    pub finals : (run : BegunRun given) (lines : List ScriptLine) → FinalsHold run.over.rules (state_after run.over.rules (at_start run.over.rules (terms_of given run)) lines).standing
+    pub finals : (run : BegunRun given) (lines : List ScriptLine) → AreFinalsKept run.over.rules run.over.asked.mode given.relations run.start.answers lines
     finals run lines =
         let over = run.over in
         let accepted = rules_are_accepted given.checks over.content over.rules over.is_accepted in
-        final_lines_stay accepted.0 over.rules accepted.1 (state_after over.rules (at_start over.rules (terms_of given run)) lines).standing
+        finals_are_kept accepted.0 over.rules accepted.1 over.asked.mode given.relations run.start.answers lines
 
     pub interviewed : (status : Status) → Ends given did status → GenInterviewed given did status → SaveInterviewed given did status → Interviewed given did status
     interviewed status ends gen saving = record {

@@ -21,6 +21,7 @@ use Rattle.graph_session.specs.declared.reply.Refusal.{Refusal}
 use Rattle.graph_session.specs.declared.reply.Reply.{Reply}
 use Rattle.graph_session.proofs.FitLaws.{step_fits}
 use Rattle.graph_session.proofs.SoundLaws.{fit_start}
+use Rattle.interview.specs.Meanings.{of_session}
 use Rattle.session_lines.specs.Stepping.{Standing, State, Terms, at_start, cut_watch, place_in, put_watch, state_after, step, step_answered, step_command, step_heard, step_line, watch_decided}
 
 module _ (r : Rules) where
@@ -81,5 +82,5 @@ module _ (r : Rules) where
     lines_fit state [] all = all
     lines_fit state (line ∷ lines) all = lines_fit (step r state line).state lines (state_fits state line all)
 
-    pub lines_lead_to_fit : (terms : Terms) → AnswersFit (tree_of r) terms.answers → (lines : List ScriptLine) → AnswersFit (tree_of r) (state_after r (at_start r terms) lines).standing.course.timeline.now
+    pub lines_lead_to_fit : (terms : Terms) → AnswersFit (tree_of r) terms.answers → (lines : List ScriptLine) → AnswersFit (tree_of r) ((of_session r (at_start r terms)).answers lines)
     lines_lead_to_fit terms fit lines = (lines_fit (at_start r terms) lines (fit_start (tree_of r) terms.answers fit)).now

@@ -14,13 +14,13 @@ use Rattle.dictionary.specs.Accepted.{Named}
 use Rattle.dictionary.specs.Keeping.{node_count}
 use Rattle.dict_gen.specs.Script.{script}
 use Rattle.graph_session.specs.Rules.{Rules, tree_of}
-use Rattle.session_lines.specs.Stepping.{Terms}
 use Rattle.interview.specs.declared.status.Status.{Status}
 use Rattle.interview.specs.declared.status.Status.TheVariants.{Done}
-use Rattle.interview.specs.declared.words.Engine.TheVariants.{Incremental}
+use Rattle.interview.specs.declared.words.Mode.TheVariants.{Incremental}
 use Rattle.interview.specs.Words.{HasNoForm, IsGen}
 use Rattle.interview.specs.Devices.{Counted, SentWhole, Stream}
-use Rattle.interview.specs.Interview.{defined_script, run_terms}
+use Rattle.interview.specs.Interview.{defined_script}
+use Rattle.interview.specs.Meanings.{Meaning, meaning_of}
 use Rattle.interview.specs.StepEnds.{EndedBy}
 use Rattle.interview.specs.Summary.{summary}
 use Rattle.dictionary.proofs.AcceptedLaws.{one_accepted}
@@ -62,24 +62,24 @@ one_gen relations n d e (r, is, to) (s, is_other, to_other) = to ∙ ap (λ q. d
 -- ---- what it comes to
 
 -- a script that is told was answered whole into a sink that is told
-pub told_replies : (r : Rules) (terms : Terms) (left : Option (List ℕ)) (took : Stream) (script taken : List ℕ) → left ≡ Some script → took.before ≡ Some [] → took.after ≡ Some taken
-    → (given : List ℕ) × MayBe left given × ((defined_script r terms given).status ≡ Done) × SentWhole took (defined_script r terms given).text → taken ≡ (defined_script r terms script).text
-told_replies r terms left took script taken told before after ends =
-    let text = (defined_script r terms ends.0).text in
+pub told_replies : (m : Meaning) (left : Option (List ℕ)) (took : Stream) (script taken : List ℕ) → left ≡ Some script → took.before ≡ Some [] → took.after ≡ Some taken
+    → (given : List ℕ) × MayBe left given × ((defined_script m given).status ≡ Done) × SentWhole took (defined_script m given).text → taken ≡ (defined_script m script).text
+told_replies m left took script taken told before after ends =
+    let text = (defined_script m ends.0).text in
     let same : script ≡ ends.0 = subst (λ (o : Option (List ℕ)). MayBe o ends.0) told ends.1 in
     let wrote : taken ≡ text = subst (λ (o : Option (List ℕ)). Appends (Some []) o text) after (subst (λ (o : Option (List ℕ)). Appends o took.after text) before ends.3) in
-    wrote ∙ ap (λ s. (defined_script r terms s).text) (sym same)
+    wrote ∙ ap (λ s. (defined_script m s).text) (sym same)
 
 pub summed : (r : Rules) (relations : List Named) (n facts nodes lines : ℕ) (made_script replies text : List ℕ)
-    → facts ≡ length (tree_of r).facts → nodes ≡ node_count (tree_of r) → lines ≡ length (lines_of made_script) → made_script ≡ script n → replies ≡ (defined_script r (run_terms Incremental relations start) made_script).text
+    → facts ≡ length (tree_of r).facts → nodes ≡ node_count (tree_of r) → lines ≡ length (lines_of made_script) → made_script ≡ script n → replies ≡ (defined_script (meaning_of r Incremental relations start) made_script).text
     → text ≡ summary n facts nodes lines (lines_of replies) → text ≡ (defined_gen r relations n).text
 summed r relations n facts nodes lines made_script replies text a b c same replied is =
     let count = c ∙ ap (λ (s : List ℕ). length (lines_of s)) same in
-    let told = replied ∙ ap (λ (s : List ℕ). (defined_script r (run_terms Incremental relations start) s).text) same in
+    let told = replied ∙ ap (λ (s : List ℕ). (defined_script (meaning_of r Incremental relations start) s).text) same in
     is ∙ (λ i. summary n (a i) (b i) (count i) (lines_of (told i)))
 
 pub summed_of_load : (r : Rules) (relations : List Named) (n facts nodes lines : ℕ) (made_script replies : List ℕ) → IsOfLoad n r
-    → facts ≡ length (tree_of r).facts → nodes ≡ node_count (tree_of r) → lines ≡ length (lines_of made_script) → made_script ≡ script n → replies ≡ (defined_script r (run_terms Incremental relations start) made_script).text
+    → facts ≡ length (tree_of r).facts → nodes ≡ node_count (tree_of r) → lines ≡ length (lines_of made_script) → made_script ≡ script n → replies ≡ (defined_script (meaning_of r Incremental relations start) made_script).text
     → (result : Result (Vec ℕ Global) NoMemory) → IfOk result (λ text. text.items ≡ summary n facts nodes lines (lines_of replies))
     → IfOk result (λ text. (q : Rules) × IsOfLoad n q × (text.items ≡ (defined_gen q relations n).text))
 summed_of_load r relations n facts nodes lines made_script replies is a b c same replied (Ok text) sum = (r, is, summed r relations n facts nodes lines made_script replies text.items a b c same replied sum)

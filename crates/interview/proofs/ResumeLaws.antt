@@ -11,7 +11,6 @@ use Rattle.answers.specs.declared.parts.Parts.{Parts}
 use Rattle.dictionary.specs.Fits.{AnswersFit}
 use Rattle.dictionary.proofs.FitStart.{start_fits}
 use Rattle.graph_session.specs.Rules.{Rules, tree_of}
-use Rattle.session_lines.specs.Stepping.{Terms}
 use Rattle.save_file.specs.Carrying.{IsCarry, RefusesCarried}
 use Rattle.save_file.specs.Dropped.{dropped_text}
 use Rattle.save_file.specs.Loading.{RefusesText}
@@ -20,7 +19,6 @@ use Rattle.save_file.proofs.DroppedLaws.{dropped_of_carry}
 use Rattle.save_file.specs.declared.fault.LoadFault.{LoadFault}
 use Rattle.save_file.specs.declared.fault.LoadFault.TheVariants as loads
 use Rattle.interview.specs.declared.resuming.Dropped.TheVariants as dropped
-use Rattle.interview.specs.declared.resuming.Ready.{Ready}
 use Rattle.interview.specs.declared.resuming.Resumed.{Resumed}
 use Rattle.interview.specs.declared.resuming.Resumed.TheVariants as resumed
 use Rattle.interview.specs.declared.status.Status.{Status}

@@ -1,5 +1,5 @@
 -- How an interview ends for the words that save.
-use Rattle.std.proofs.Common.{◌≡◌, ℕ, List, [], ◌∷◌, Option, inl, inr, refl, sym, ap, subst, ◌∙◌}
+use Rattle.std.proofs.Common.{◌≡◌, ℕ, List, [], ◌∷◌, Option, inl, inr, refl, sym, ap, subst}
 use Rattle.std.specs.Prelude.{◌⊎◌}
 use Rattle.std.proofs.KnownBytes.{Appends-kept}
 use Rattle.std.proofs.lemmas.List.{append-nil}
@@ -16,8 +16,8 @@ use Rattle.interview.specs.Dictionaries.{Content, Gives, HasFault, IsAcceptedAs,
 use Rattle.interview.specs.Given.{Did, EndedAs, Given, IsOneOf, Unread}
 use Rattle.interview.specs.Ends.{Ends, EndsByWord, Interviewed, IsFetched, LinePart}
 use Rattle.interview.specs.GenEnds.{GenInterviewed}
-use Rattle.interview.specs.Interview.{Defined, defined_fault, defined_script}
-use Rattle.interview.specs.Save.{DoneWith, SavesTo, defined_save, save_terms, saved_after, text_with}
+use Rattle.interview.specs.Interview.{Defined, defined_fault}
+use Rattle.interview.specs.Save.{DoneWith, defined_save, save_meaning, saved_after, text_with}
 use Rattle.interview.specs.SaveEnds.{AcceptedSave, AreToSave, EndedBySave, KnownSave, RefusedSave, SaveComesTo, SaveEnds, SaveFetchFailed, SaveInterviewed}
 use Rattle.interview.specs.ScriptEnds.{ReadThrough}
 use Rattle.interview.proofs.DictionaryLaws.{accepted_is_faultless, brought_is_faultless, known_content, nothing_missing}
@@ -76,11 +76,11 @@ module _ (given : Given) where
   gone name asked none p may asked_other gave = nothing_missing given.told name may none (subst (λ q. MayGive given.told q may) (same_save given.words p (file name) asked_other asked) gave)
 
   -- over an accepted dictionary it comes to what is defined of a script that is told
-  accepted_comes : (k : KnownSave given) (over : AcceptedSave given) (script : List ℕ) → MayBe given.left script → SaveComesTo given k (defined_save over.rules (save_terms given.relations) script)
+  accepted_comes : (k : KnownSave given) (over : AcceptedSave given) (script : List ℕ) → MayBe given.left script → SaveComesTo given k (defined_save over.rules (save_meaning over.rules given.relations) script)
   accepted_comes k over script may =
       let content = content_is k.origin k.content k.asked k.gives over.origin over.content over.asked over.gave in
       let same : k.script ≡ script = subst (λ (o : Option (List ℕ)). MayBe o script) k.read may in
-      subst (λ l. SaveComesTo given k (defined_save over.rules (save_terms given.relations) l)) same (inl (over.rules, subst (λ c. IsAcceptedAs given.checks c over.rules) content over.is_accepted, refl))
+      subst (λ l. SaveComesTo given k (defined_save over.rules (save_meaning over.rules given.relations) l)) same (inl (over.rules, subst (λ c. IsAcceptedAs given.checks c over.rules) content over.is_accepted, refl))
 
   refused_comes : (k : KnownSave given) (save : RefusedSave given) → SaveComesTo given k (defined_fault save.fault)
   refused_comes k save =
@@ -106,18 +106,18 @@ module _ (given : Given) where
     -- ---- ends that are defined
 
     -- where the script is done its text is what is saved
-    text_done : (r : Rules) (script : List ℕ) → DoneWith r (save_terms given.relations) did.script script → saved_after r (save_terms given.relations) script ≡ (defined_save r (save_terms given.relations) script).text
-    text_done r script done = ap (λ s. text_with s (saved_after r (save_terms given.relations) script)) (sym done.1)
+    text_done : (r : Rules) (script : List ℕ) → DoneWith (save_meaning r given.relations) did.script script → saved_after r (save_meaning r given.relations) script ≡ (defined_save r (save_meaning r given.relations) script).text
+    text_done r script done = ap (λ s. text_with s (saved_after r (save_meaning r given.relations) script)) (sym done.1)
 
     ended_done : SaveEnds given did Done → (k : KnownSave given) → EndedBySave given k did Done
     ended_done (over, ((script, done, wrote), read)) k =
-        (defined_save over.rules (save_terms given.relations) script, accepted_comes k over script (may_be_given script done.0), (sym done.1, subst (SentWhole did.script.taken) (text_done over.rules script done) wrote))
+        (defined_save over.rules (save_meaning over.rules given.relations) script, accepted_comes k over script (may_be_given script done.0), (sym done.1, subst (SentWhole did.script.taken) (text_done over.rules script done) wrote))
 
     -- nothing is written of a script that is too long
     ended_too_long : SaveEnds given did ScriptTooLong → (k : KnownSave given) → EndedBySave given k did ScriptTooLong
     ended_too_long (over, (script, may, is, kept)) k =
-        let none : [] ≡ (defined_save over.rules (save_terms given.relations) script).text = ap (λ s. text_with s (saved_after over.rules (save_terms given.relations) script)) (sym is) in
-        (defined_save over.rules (save_terms given.relations) script, accepted_comes k over script (may_be_given script may), (sym is, subst (SentWhole did.script.taken) none (nothing_whole did.script.taken kept)))
+        let none : [] ≡ (defined_save over.rules (save_meaning over.rules given.relations) script).text = ap (λ s. text_with s (saved_after over.rules (save_meaning over.rules given.relations) script)) (sym is) in
+        (defined_save over.rules (save_meaning over.rules given.relations) script, accepted_comes k over script (may_be_given script may), (sym is, subst (SentWhole did.script.taken) none (nothing_whole did.script.taken kept)))
 
     ended_refused : SaveEnds given did DictionaryRefused → (k : KnownSave given) → EndedBySave given k did DictionaryRefused
     ended_refused (save, wrote, unread) k = (defined_fault save.fault, refused_comes k save, (refl, wrote))
@@ -215,7 +215,7 @@ module _ (given : Given) where
     prefix FetchFault ends k d comes = nothing_part did.script.taken d.text ends.2
     prefix ReadFault (over, (rose, so_far, kept)) k d comes = nothing_part did.script.taken d.text kept
     prefix WriteFault (inl (over, (rose, (script, done, part)))) k d comes =
-        same_part k d (defined_save over.rules (save_terms given.relations) script) comes (accepted_comes k over script (may_be_given script done.0)) (subst (SentPart did.script.taken) (text_done over.rules script done) part)
+        same_part k d (defined_save over.rules (save_meaning over.rules given.relations) script) comes (accepted_comes k over script (may_be_given script done.0)) (subst (SentPart did.script.taken) (text_done over.rules script done) part)
     prefix WriteFault (inr (rose, (save, part, unread))) k d comes = same_part k d (defined_fault save.fault) comes (refused_comes k save) part
     prefix ScriptTooLong ends k d comes = ended_part ScriptTooLong k d comes (ended_too_long ends k)
     prefix NoMemory (inl ends) k d comes = nothing_part did.script.taken d.text ends.1
@@ -235,7 +235,7 @@ module _ (given : Given) where
     unsaved Usage ends is = absurd ends
     unsaved SavedRefused ends is = absurd ends
 
-    read_through : (status : Status) → SaveEnds given did status → (k : KnownSave given) → status ≡ Done → (r : Rules) × IsAcceptedAs given.checks k.content r × ReadThrough r (save_terms given.relations) did.script
+    read_through : (status : Status) → SaveEnds given did status → (k : KnownSave given) → status ≡ Done → (r : Rules) × IsAcceptedAs given.checks k.content r × ReadThrough (save_meaning r given.relations) did.script
     read_through Done (over, ends) k is =
         let same = content_is k.origin k.content k.asked k.gives over.origin over.content over.asked over.gave in
         (over.rules, subst (λ c. IsAcceptedAs given.checks c over.rules) same over.is_accepted, ends.1)

@@ -1,23 +1,21 @@
 -- What a save comes to, and how its steps end.
-use Rattle.std.proofs.Common.{◌≡◌, ℕ, ◌≤◌, List, [], ◌++◌, Option, None, inl, inr, refl, sym, ap, subst, ◌∙◌, arith}
+use Rattle.std.proofs.Common.{◌≡◌, ℕ, List, Option, None, inl, inr, refl, sym, ap, subst, ◌∙◌, arith}
 use Rattle.std.specs.Io.KnownBytes.{Appends, Keeps}
 use Rattle.std.proofs.KnownBytes.{Keeps-refl}
 use Rattle.fg_io.specs.Sent.{Sent}
 use Rattle.dictionary.specs.declared.fault.DictFault.{DictFault}
-use Rattle.dictionary.specs.Accepted.{accepted}
-use Rattle.graph_session.specs.Rules.{Rules, rules, tree_of}
-use Rattle.graph_session.specs.SessionView.{Course, SessionView}
-use Rattle.session_lines.specs.Stepping.{Terms}
+use Rattle.answers.specs.Answered.{Answered}
+use Rattle.graph_session.specs.Rules.{Rules, tree_of}
+use Rattle.interview.specs.Meanings.{Meaning}
 use Rattle.save_file.specs.SavedText.{saved}
 use Rattle.interview.specs.declared.status.Status.{Status}
 use Rattle.interview.specs.declared.status.Status.TheVariants.{Done, DictionaryRefused, FetchFault, ReadFault, WriteFault, ScriptTooLong, NoMemory}
 use Rattle.interview.specs.Words.{IsSave, Origin, file, program}
-use Rattle.interview.specs.Devices.{SentNothing}
 use Rattle.interview.specs.Dictionaries.{Content, HasFault, IsAcceptedAs, MayGive}
 use Rattle.interview.specs.Given.{Did, Given, Unread}
-use Rattle.interview.specs.Interview.{defined_fault, defined_script}
-use Rattle.interview.specs.Save.{OneEndOfSave, ScriptSaves, StandsAt, defined_save, save_terms, saved_after}
-use Rattle.interview.specs.SaveEnds.{AcceptedSave, RefusedSave, SaveEnds}
+use Rattle.interview.specs.Interview.{defined_fault}
+use Rattle.interview.specs.Save.{OneEndOfSave, ScriptSaves, LeavesAnswers, defined_save, save_meaning, saved_after}
+use Rattle.interview.specs.SaveEnds.{AcceptedSave, SaveEnds}
 use Rattle.interview.specs.ScriptEnds.{ReadThrough, ScriptDid, ScriptEnds, script_did}
 use Rattle.interview.specs.StepEnds.{EndedBy, NotFetched, NotObtained}
 use Rattle.interview.proofs.DictionaryLaws.{accepted_is_faultless, one_first_fault, one_set_of_rules}
@@ -25,7 +23,7 @@ use Rattle.interview.proofs.DictionaryLaws.{accepted_is_faultless, one_first_fau
 -- ---- it comes to one end
 
 pub one_save : OneEndOfSave
-one_save content checks relations script d e (inl (r, is, to)) (inl (s, is_other, to_other)) = to ∙ ap (λ q. defined_save q (save_terms relations) script) (one_set_of_rules checks content r s is is_other) ∙ sym to_other
+one_save content checks relations script d e (inl (r, is, to)) (inl (s, is_other, to_other)) = to ∙ ap (λ q. defined_save q (save_meaning q relations) script) (one_set_of_rules checks content r s is is_other) ∙ sym to_other
 one_save content checks relations script d e (inl (r, is, to)) (inr (fault, is_fault, to_fault)) = absurd (accepted_is_faultless checks content r fault is is_fault)
 one_save content checks relations script d e (inr (fault, is_fault, to_fault)) (inl (r, is, to)) = absurd (accepted_is_faultless checks content r fault is is_fault)
 one_save content checks relations script d e (inr (fault, is, to)) (inr (other, is_other, to_other)) = to ∙ ap defined_fault (one_first_fault checks content fault other is is_other) ∙ sym to_other
@@ -37,7 +35,7 @@ nothing before now still = subst (Keeps before) still (Keeps-refl before)
 
 -- ---- a script that was run silently
 
-module _ (r : Rules) (terms : Terms) (left left_now taken taken_now : Option (List ℕ)) (unread unread_now unwritten unwritten_now : ℕ) where
+module _ (r : Rules) (m : Meaning) (left left_now taken taken_now : Option (List ℕ)) (unread unread_now unwritten unwritten_now : ℕ) where
   abbrev did : ScriptDid
   did = script_did left left_now taken taken_now unread unread_now unwritten unwritten_now
 
@@ -45,23 +43,22 @@ module _ (r : Rules) (terms : Terms) (left left_now taken taken_now : Option (Li
   abbrev silently : ScriptDid
   silently = script_did left left_now None None unread unread_now 0 0
 
-  read_so : ReadThrough r terms silently → ReadThrough r terms did
+  read_so : ReadThrough m silently → ReadThrough m did
   read_so (inl end) = inl end
   read_so (inr quit) = inr (record { earlier = quit.earlier; piece = quit.piece; read = quit.read; short = quit.short; unquit = quit.unquit; quit = quit.quit })
 
   -- it was done, and the answers that stand were written, whole or in part
-  pub saves_done : (session : SessionView) → ScriptEnds r terms silently Done → StandsAt r terms left session Done → (status : Status)
-      → EndedBy taken taken_now unwritten unwritten_now (saved (accepted session.dict).tree session.timeline.now) Done status → ScriptSaves r terms did status
-  saves_done session ends stands status ended =
-      let text : saved (accepted session.dict).tree session.timeline.now ≡ saved_after r terms stands.0 =
-      ap (λ q. saved (tree_of q) session.timeline.now) stands.3 ∙ ap (λ (c : Course). saved (tree_of r) c.timeline.now) (sym stands.4) in
-      elim ended as (λ _. ScriptSaves r terms did status) [
-        | inl wrote ↦ subst (ScriptSaves r terms did) (sym wrote.0) ((stands.0, (stands.1, stands.2), subst (Appends taken taken_now) text wrote.1), read_so ends.1)
-        | inr part ↦ subst (ScriptSaves r terms did) (sym part.0) (part.1, (stands.0, (stands.1, stands.2), subst (λ t. (rest : List ℕ) × Sent taken taken_now t rest) text part.2))
+  pub saves_done : (k : Rules) (answers : Answered) → k ≡ r → ScriptEnds m silently Done → LeavesAnswers m left answers Done → (status : Status)
+      → EndedBy taken taken_now unwritten unwritten_now (saved (tree_of k) answers) Done status → ScriptSaves r m did status
+  saves_done k answers same_rules ends leaves status ended =
+      let text : saved (tree_of k) answers ≡ saved_after r m leaves.0 = ap (λ q. saved (tree_of q) answers) same_rules ∙ ap (saved (tree_of r)) (sym leaves.3) in
+      elim ended as (λ _. ScriptSaves r m did status) [
+        | inl wrote ↦ subst (ScriptSaves r m did) (sym wrote.0) ((leaves.0, (leaves.1, leaves.2), subst (Appends taken taken_now) text wrote.1), read_so ends.1)
+        | inr part ↦ subst (ScriptSaves r m did) (sym part.0) (part.1, (leaves.0, (leaves.1, leaves.2), subst (λ t. (rest : List ℕ) × Sent taken taken_now t rest) text part.2))
       ]
 
   -- it wasn't done, and nothing was written
-  pub saves_nothing : (status : Status) → (status ≡ Done → ⊥) → taken ≡ taken_now → ScriptEnds r terms silently status → ScriptSaves r terms did status
+  pub saves_nothing : (status : Status) → (status ≡ Done → ⊥) → taken ≡ taken_now → ScriptEnds m silently status → ScriptSaves r m did status
   saves_nothing Done not still ends = absurd (not refl)
   saves_nothing ReadFault not still (rose, so_far) = (rose, record { bytes = so_far.bytes; read = so_far.read; within = so_far.within; unquit = so_far.unquit }, nothing _ _ still)
   saves_nothing WriteFault not still (rose, part) = absurd (omega (arith, rose))
@@ -82,7 +79,7 @@ module _ (given : Given) (did : Did) (origin : Origin) (asked : IsSave given.wor
       abbrev over : AcceptedSave given
       over = record { origin = origin; content = content; rules = r; asked = asked; gave = gave; is_accepted = is }
 
-      pub save_ends_run : (status : Status) → ScriptSaves r (save_terms given.relations) did.script status → SaveEnds given did status
+      pub save_ends_run : (status : Status) → ScriptSaves r (save_meaning r given.relations) did.script status → SaveEnds given did status
       save_ends_run Done ends = (over, ends)
       save_ends_run ReadFault ends = (over, ends)
       save_ends_run WriteFault ends = inl (over, ends)

@@ -1,5 +1,5 @@
 -- A script at its end: what was written is what is defined.
-use Rattle.std.proofs.Common.{◌≡◌, ℕ, ◌+◌, ◌-◌, ◌<◌, ◌≤◌, true, false, List, [], ◌∷◌, ◌++◌, length, take, Option, refl, sym, ap, subst, ◌∙◌, arith, append_assoc, length-append}
+use Rattle.std.proofs.Common.{◌≡◌, ℕ, ◌+◌, ◌-◌, ◌<◌, ◌≤◌, true, false, List, [], ◌++◌, length, take, Option, refl, sym, ap, subst, ◌∙◌, arith, append_assoc, length-append}
 use Rattle.std.specs.Prelude.{nat_le, if◌then◌else◌}
 use Rattle.std.proofs.lemmas.Bool.{le-leb, lt-leb}
 use Rattle.std.proofs.lemmas.List.{append-nil}
@@ -8,35 +8,18 @@ use Rattle.std.specs.Io.KnownBytes.{Appends, Consumes}
 use Rattle.fg_io.specs.Outside.{MayBe}
 use Rattle.fg_io.specs.Sent.{Sent}
 use Rattle.std.proofs.KnownBytes.{Appends-kept}
-use Rattle.fg_io.proofs.SentLaws.{appends_none, sent_whole}
+use Rattle.fg_io.proofs.SentLaws.{appends_none, sent_none, sent_on, sent_whole}
 use Rattle.fg_io.proofs.ConsumedLaws.{consumes_more, consumes_none, may_go_on}
 use Rattle.script_lines.specs.Lines.{ScriptLine, script_lines, ended_lines, HasNoNewline}
 use Rattle.script_lines.proofs.EndedLaws.{ended_follows, ended_goes_on, lines_go_on}
 use Rattle.interview.specs.declared.status.Status.TheVariants.{Done, ScriptTooLong, NoMemory}
-use Rattle.graph_session.specs.Rules.{Rules, rules}
-use Rattle.fact_watch.specs.Watching.{Watching}
-use Rattle.graph_session.specs.SessionView.{SessionView}
-use Rattle.session_lines.specs.Stepping.{Standing, Terms, State, Step, at_start, beginning, open_at, step, step_line, replies, state_after}
-use Rattle.session_lines.specs.Answering.{RepliedLines, standing_of}
+use Rattle.interview.specs.Meanings.{Behind, IsBeginning, IsQuit, Meaning}
+use Rattle.interview.specs.Telling.{LinesTold}
 use Rattle.interview.specs.SoFar.{AnsweredSoFar}
 use Rattle.interview.specs.Devices.{Stream, SentNothing, SentWhole, SentPart}
 use Rattle.interview.specs.ScriptEnds.{ScriptDid, RepliedFirst, ScriptEnds}
 use Rattle.interview.specs.Interview.{script_limit, answered_lines, defined_script}
-use Rattle.session_lines.proofs.AnsweringLaws.{replies-append, state_after-append, replied_line, replied_none}
-
--- ---- behind `quit`
-
-pub stays_over : (r : Rules) (state : State) (lines : List ScriptLine) → state.over ≡ true → state_after r state lines ≡ state
-stays_over r state [] over = refl
-stays_over r state (line ∷ lines) over =
-    let still : (step r state line).state ≡ state = ap (λ b. (if b then record { text = []; state = state } else step_line r state.standing line).state) over in
-    ap (λ s. state_after r s lines) still ∙ stays_over r state lines over
-
-pub silent : (r : Rules) (state : State) (lines : List ScriptLine) → state.over ≡ true → replies r state lines ≡ []
-silent r state [] over = refl
-silent r state (line ∷ lines) over =
-    let still : step r state line ≡ record { text = []; state = state } = ap (λ b. if b then record { text = []; state = state } else step_line r state.standing line) over in
-    ap (λ (s : Step). s.text ++ replies r s.state lines) still ∙ silent r state lines over
+use Rattle.interview.proofs.MeaningLaws.{behind_none, behind_on}
 
 -- ---- a script by the lines of its front
 
@@ -65,72 +48,73 @@ long_lines front more full long =
     ap (λ b. if b then script_lines (front ++ more) else ended_lines (take script_limit (front ++ more))) (lt-leb (length (front ++ more)) script_limit long)
     ∙ ap ended_lines (ap (λ n. take n (front ++ more)) (sym full) ∙ take-append_seam front more)
 
-module _ (r : Rules) (terms : Terms) (script : List ℕ) where
-  pub defined_text : (defined_script r terms script).text ≡ replies r (at_start r terms) (answered_lines script)
+module _ (m : Meaning) (script : List ℕ) where
+  pub defined_text : (defined_script m script).text ≡ m.texts (answered_lines script)
   unfolding defined_script
   defined_text = refl
 
   -- it is done within the limit, and where `quit` is among the lines
-  pub short_is_done : length script ≤ script_limit → (defined_script r terms script).status ≡ Done
+  pub short_is_done : length script ≤ script_limit → (defined_script m script).status ≡ Done
   unfolding defined_script
-  short_is_done short = ap (λ b. if b then Done else if (state_after r (at_start r terms) (answered_lines script)).over then Done else ScriptTooLong) (le-leb (length script) script_limit short)
+  short_is_done short = ap (λ b. if b then Done else if m.over (answered_lines script) then Done else ScriptTooLong) (le-leb (length script) script_limit short)
 
-  pub over_is_done : (state_after r (at_start r terms) (answered_lines script)).over ≡ true → (defined_script r terms script).status ≡ Done
+  pub over_is_done : m.over (answered_lines script) ≡ true → (defined_script m script).status ≡ Done
   unfolding defined_script
   over_is_done over =
-      elim (nat_le (length script) script_limit) as (λ b. (if b then Done else if (state_after r (at_start r terms) (answered_lines script)).over then Done else ScriptTooLong) ≡ Done) [
+      elim (nat_le (length script) script_limit) as (λ b. (if b then Done else if m.over (answered_lines script) then Done else ScriptTooLong) ≡ Done) [
         | true ↦ refl
         | false ↦ ap (λ b. if b then Done else ScriptTooLong) over
       ]
 
   -- and else too long
-  pub long_is_too_long : script_limit < length script → (state_after r (at_start r terms) (answered_lines script)).over ≡ false → (defined_script r terms script).status ≡ ScriptTooLong
+  pub long_is_too_long : script_limit < length script → m.over (answered_lines script) ≡ false → (defined_script m script).status ≡ ScriptTooLong
   unfolding defined_script
   long_is_too_long long open_still =
-      ap (λ b. if b then Done else if (state_after r (at_start r terms) (answered_lines script)).over then Done else ScriptTooLong) (lt-leb (length script) script_limit long)
+      ap (λ b. if b then Done else if m.over (answered_lines script) then Done else ScriptTooLong) (lt-leb (length script) script_limit long)
       ∙ ap (λ b. if b then Done else ScriptTooLong) open_still
 
 -- ---- a piece behind the bytes that were answered
 
-pub replied_then : (r r_now : Rules) (a b c : Option (List ℕ)) (here here_now : Standing) (bytes held chunk chunk_now held_next behind rest : List ℕ) (state_next : State)
-    → RepliedLines r a b here [] bytes (open_at here_now) held [] [] → r_now ≡ r → chunk_now ≡ chunk → RepliedLines r_now b c here_now held chunk_now state_next held_next behind rest
-    → RepliedLines r a c here [] (bytes ++ chunk) state_next held_next behind rest
-replied_then r r_now a b c here here_now bytes held chunk chunk_now held_next behind rest state_next replied same_rules same_chunk next =
-    let piece = subst (λ l. RepliedLines r b c here_now held l state_next held_next behind rest) same_chunk (subst (λ d. RepliedLines d b c here_now held chunk_now state_next held_next behind rest) same_rules next) in
-    replied_line r a b c here here_now [] (bytes ++ chunk) held chunk held_next behind rest piece.lines state_next
-    (record {
-      lines = replied.lines;
-      cut = λ more. ap script_lines (append_assoc bytes chunk more) ∙ replied.cut (chunk ++ more);
-      wrote = replied.wrote;
-      left = replied.left;
-    })
-    piece.cut piece.wrote piece.left
+pub told_then : (m there next : Meaning) (a b c : Option (List ℕ)) (bytes held chunk chunk_now held_next behind rest : List ℕ)
+    → LinesTold m a b [] bytes there held [] [] → chunk_now ≡ chunk → LinesTold there b c held chunk_now next held_next behind rest
+    → LinesTold m a c [] (bytes ++ chunk) next held_next behind rest
+told_then m there next a b c bytes held chunk chunk_now held_next behind rest told same_chunk more = joined (subst (λ l. LinesTold there b c held l next held_next behind rest) same_chunk more)
+  where
+    joined : LinesTold there b c held chunk next held_next behind rest → LinesTold m a c [] (bytes ++ chunk) next held_next behind rest
+    joined piece = record {
+      lines = told.lines ++ piece.lines;
+      cut = λ l.
+          ap script_lines (append_assoc bytes chunk l)
+          ∙ told.cut (chunk ++ l)
+          ∙ ap (λ k. told.lines ++ k) (piece.cut l)
+          ∙ sym (append_assoc told.lines piece.lines (script_lines (held_next ++ (behind ++ l))));
+      wrote = subst (λ t. Sent a c t rest) (sym (told.left.texts piece.lines)) (sent_on a b c (m.texts told.lines) (there.texts piece.lines) rest told.wrote piece.wrote);
+      left = behind_on m there next told.lines piece.lines told.left piece.left;
+    }
 
 -- before the first byte
-pub none_so_far : (terms : Terms) (session : SessionView) (watches : Watching) (left taken : Option (List ℕ)) → standing_of session terms.relations watches ≡ beginning (rules session.dict) terms → AnsweredSoFar (rules session.dict) terms left left taken taken 0 session watches []
-none_so_far terms session watches left taken begun = record {
+pub none_so_far : (m : Meaning) → IsBeginning m → (left taken : Option (List ℕ)) → AnsweredSoFar m left left taken taken 0 m []
+none_so_far m begins left taken = record {
   bytes = [];
   read = consumes_none left;
   counted = refl;
-  same_rules = refl;
-  few = let none : session.changes ≡ 0 = ap (λ (c : Standing). c.course.changes) begun in omega (arith, none);
-  replied = subst (λ (c : Standing). RepliedLines (rules session.dict) taken taken (beginning (rules session.dict) terms) [] [] (open_at c) [] [] []) (sym begun) (replied_none (rules session.dict) taken (beginning (rules session.dict) terms) [] []);
+  told = record { lines = []; cut = λ more. refl; wrote = subst (λ t. Sent taken taken t []) (sym begins.texts) (sent_none taken []); left = behind_none m begins };
+  unquit = begins.over;
   unended = λ k d h. absurd (omega (arith, h));
 }
 
 -- these bytes more
-pub more_so_far : (r : Rules) (terms : Terms) (a b c : Option (List ℕ)) (left left_now left_next : Option (List ℕ)) (count n : ℕ) (session session_next : SessionView) (watches watches_next : Watching) (held held_next chunk chunk_now : List ℕ)
-    → (so_far : AnsweredSoFar r terms left left_now a b count session watches held) → Consumes left_now left_next chunk → n ≡ length chunk → chunk_now ≡ chunk → session_next.dict ≡ session.dict → session_next.changes ≤ session.changes + length chunk_now
-    → RepliedLines (rules session.dict) b c (standing_of session terms.relations watches) held chunk_now (open_at (standing_of session_next terms.relations watches_next)) held_next [] [] → HasNoNewline held_next
-    → (now : AnsweredSoFar r terms left left_next a c (count + n) session_next watches_next held_next) × (now.bytes ≡ so_far.bytes ++ chunk)
-more_so_far r terms a b c left left_now left_next count n session session_next watches watches_next held held_next chunk chunk_now so_far read long same_chunk same_dict few replied unended = (
+pub more_so_far : (m there next : Meaning) (a b c left left_now left_next : Option (List ℕ)) (count n : ℕ) (held held_next chunk chunk_now : List ℕ)
+    → (so_far : AnsweredSoFar m left left_now a b count there held) → Consumes left_now left_next chunk → n ≡ length chunk → chunk_now ≡ chunk
+    → LinesTold there b c held chunk_now next held_next [] [] → next.over [] ≡ false → HasNoNewline held_next
+    → (now : AnsweredSoFar m left left_next a c (count + n) next held_next) × (now.bytes ≡ so_far.bytes ++ chunk)
+more_so_far m there next a b c left left_now left_next count n held held_next chunk chunk_now so_far read long same_chunk told unquit unended = (
   record {
     bytes = so_far.bytes ++ chunk;
     read = consumes_more left left_now left_next so_far.bytes chunk so_far.read read;
     counted = omega (arith, so_far.counted, long, length-append so_far.bytes chunk);
-    same_rules = ap rules same_dict ∙ so_far.same_rules;
-    few = omega (arith, few, so_far.few, long, ap length same_chunk);
-    replied = replied_then r (rules session.dict) a b c (beginning r terms) (standing_of session terms.relations watches) so_far.bytes held chunk chunk_now held_next [] [] (open_at (standing_of session_next terms.relations watches_next)) so_far.replied so_far.same_rules same_chunk replied;
+    told = told_then m there next a b c so_far.bytes held chunk chunk_now held_next [] [] so_far.told same_chunk told;
+    unquit = unquit;
     unended = unended;
   },
   refl,
@@ -147,16 +131,16 @@ pub nothing_part : (taken : Stream) (text : List ℕ) → SentNothing taken → 
 nothing_part taken text kept = part_of taken [] text text refl (Appends-kept taken.before taken.before taken.after [] (appends_none taken.before) kept)
 
 -- the replies to the first lines that are answered are a part of what is defined
-module _ (r : Rules) (terms : Terms) (script : List ℕ) (lines others : List ScriptLine) (answers : answered_lines script ≡ lines ++ others) where
-  pub first_lines : (defined_script r terms script).text ≡ replies r (at_start r terms) lines ++ replies r (state_after r (at_start r terms) lines) others
-  first_lines = defined_text r terms script ∙ ap (replies r (at_start r terms)) answers ∙ replies-append r (at_start r terms) lines others
+module _ (m : Meaning) (script : List ℕ) (lines others : List ScriptLine) (rest : Meaning) (left : Behind m lines rest) (answers : answered_lines script ≡ lines ++ others) where
+  pub first_lines : (defined_script m script).text ≡ m.texts lines ++ rest.texts others
+  first_lines = defined_text m script ∙ ap m.texts answers ∙ left.texts others
 
-  pub part_by_lines : (taken : Stream) → SentWhole taken (replies r (at_start r terms) lines) → SentPart taken (defined_script r terms script).text
-  part_by_lines taken wrote = part_of taken (replies r (at_start r terms) lines) (replies r (state_after r (at_start r terms) lines) others) (defined_script r terms script).text first_lines wrote
+  pub part_by_lines : (taken : Stream) → SentWhole taken (m.texts lines) → SentPart taken (defined_script m script).text
+  part_by_lines taken wrote = part_of taken (m.texts lines) (rest.texts others) (defined_script m script).text first_lines wrote
 
 -- the replies to the first lines of a script were written
-pub replied_first : (r : Rules) (terms : Terms) (did : ScriptDid) (script : List ℕ) (lines others : List ScriptLine) → MayBe did.left.before script → answered_lines script ≡ lines ++ others → SentWhole did.taken (replies r (at_start r terms) lines) → RepliedFirst r terms did
-replied_first r terms did script lines others read answers wrote = record {
+pub replied_first : (m : Meaning) (did : ScriptDid) (script : List ℕ) (lines others : List ScriptLine) → MayBe did.left.before script → answered_lines script ≡ lines ++ others → SentWhole did.taken (m.texts lines) → RepliedFirst m did
+replied_first m did script lines others read answers wrote = record {
   script = script;
   read = read;
   count = length lines;
@@ -164,80 +148,75 @@ replied_first r terms did script lines others read answers wrote = record {
 }
 
 -- what was written of a script whose front was answered
-module _ (r : Rules) (terms : Terms) (did : ScriptDid) (front rest : List ℕ) (state_now : State) (held_now behind : List ℕ) (replied : RepliedLines r did.taken.before did.taken.after (beginning r terms) [] front state_now held_now behind rest) (short : length front ≤ script_limit) where
+module _ (m : Meaning) (did : ScriptDid) (front rest : List ℕ) (there : Meaning) (held_now behind : List ℕ) (told : LinesTold m did.taken.before did.taken.after [] front there held_now behind rest) (short : length front ≤ script_limit) where
   abbrev text : List ℕ
-  text = replies r (at_start r terms) replied.lines
+  text = m.texts told.lines
 
   whole : rest ≡ [] → SentWhole did.taken text
-  whole none = sent_whole did.taken.before did.taken.after text (subst (λ l. Sent did.taken.before did.taken.after text l) none replied.wrote)
+  whole none = sent_whole did.taken.before did.taken.after text (subst (λ l. Sent did.taken.before did.taken.after text l) none told.wrote)
 
   -- the lines that ended in the front are those that were answered, and those that stand behind
-  front_ended : ended_lines front ≡ replied.lines ++ ended_lines (held_now ++ behind)
-  front_ended = ended_follows front (held_now ++ behind) replied.lines (λ l. replied.cut l ∙ ap (λ k. replied.lines ++ script_lines k) (sym (append_assoc held_now behind l)))
+  front_ended : ended_lines front ≡ told.lines ++ ended_lines (held_now ++ behind)
+  front_ended = ended_follows front (held_now ++ behind) told.lines (λ l. told.cut l ∙ ap (λ k. told.lines ++ script_lines k) (sym (append_assoc held_now behind l)))
 
   -- they are answered, and then others
-  pub front_answered : (more : List ℕ) → (others : List ScriptLine) × (answered_lines (front ++ more) ≡ replied.lines ++ others)
+  pub front_answered : (more : List ℕ) → (others : List ScriptLine) × (answered_lines (front ++ more) ≡ told.lines ++ others)
   front_answered more =
       let ended = ended_are_answered front more short in
-      (ended_lines (held_now ++ behind) ++ ended.0, ended.1 ∙ ap (λ l. l ++ ended.0) front_ended ∙ append_assoc replied.lines (ended_lines (held_now ++ behind)) ended.0)
+      (ended_lines (held_now ++ behind) ++ ended.0, ended.1 ∙ ap (λ l. l ++ ended.0) front_ended ∙ append_assoc told.lines (ended_lines (held_now ++ behind)) ended.0)
 
   -- a part of it
-  pub part_written : (more : List ℕ) → SentPart did.taken (defined_script r terms (front ++ more)).text
+  pub part_written : (more : List ℕ) → SentPart did.taken (defined_script m (front ++ more)).text
   part_written more =
       let answered = front_answered more in
-      let others = replies r (state_after r (at_start r terms) replied.lines) answered.0 in (
+      let others = there.texts answered.0 in (
         rest ++ others,
         record {
-          front = replied.wrote.front;
-          took = replied.wrote.took;
-          split = first_lines r terms (front ++ more) replied.lines answered.0 answered.1 ∙ ap (λ l. l ++ others) replied.wrote.split ∙ append_assoc replied.wrote.front rest others;
+          front = told.wrote.front;
+          took = told.wrote.took;
+          split = first_lines m (front ++ more) told.lines answered.0 there told.left answered.1 ∙ ap (λ l. l ++ others) told.wrote.split ∙ append_assoc told.wrote.front rest others;
         },
       )
 
   -- all of it, where one of them was `quit`
-  module _ (over : state_now.over ≡ true) where
-    over_now : (state_after r (at_start r terms) replied.lines).over ≡ true
-    over_now = ap (λ (s : State). s.over) replied.left ∙ over
+  module _ (quit : IsQuit there) where
+    over_behind : (others : List ScriptLine) → m.over (told.lines ++ others) ≡ true
+    over_behind others = told.left.over others ∙ quit.over others
 
-    over_behind : (lines others : List ScriptLine) → lines ≡ replied.lines ++ others → (state_after r (at_start r terms) lines).over ≡ true
-    over_behind lines others are =
-        ap (λ l. (state_after r (at_start r terms) l).over) are
-        ∙ ap (λ (s : State). s.over) (state_after-append r (at_start r terms) replied.lines others ∙ stays_over r (state_after r (at_start r terms) replied.lines) others over_now)
-        ∙ over_now
+    over_now : (more : List ℕ) → m.over (answered_lines (front ++ more)) ≡ true
+    over_now more = let answered = front_answered more in ap m.over answered.1 ∙ over_behind answered.0
 
-    -- where it left the session
-    pub state_behind : (more : List ℕ) → state_after r (at_start r terms) (answered_lines (front ++ more)) ≡ state_now
-    state_behind more =
-        let answered = front_answered more in
-        ap (state_after r (at_start r terms)) answered.1
-        ∙ state_after-append r (at_start r terms) replied.lines answered.0
-        ∙ stays_over r (state_after r (at_start r terms) replied.lines) answered.0 over_now
-        ∙ replied.left
+    pub done_behind : (more : List ℕ) → (defined_script m (front ++ more)).status ≡ Done
+    done_behind more = over_is_done m (front ++ more) (over_now more)
 
-    pub done_behind : (more : List ℕ) → (defined_script r terms (front ++ more)).status ≡ Done
-    done_behind more =
-        let answered = front_answered more in
-        over_is_done r terms (front ++ more) (over_behind (answered_lines (front ++ more)) answered.0 answered.1)
+    -- the answers that it left
+    pub answers_behind : (more : List ℕ) → m.answers (answered_lines (front ++ more)) ≡ there.answers []
+    answers_behind more = let answered = front_answered more in ap m.answers answered.1 ∙ told.left.answers answered.0 ∙ quit.answers answered.0
 
     -- it ended in the front
-    pub over_in_front : (state_after r (at_start r terms) (ended_lines front)).over ≡ true
-    over_in_front = over_behind (ended_lines front) (ended_lines (held_now ++ behind)) front_ended
+    pub over_in_front : m.over (ended_lines front) ≡ true
+    over_in_front = ap m.over front_ended ∙ over_behind (ended_lines (held_now ++ behind))
 
-    pub over_written : (more : List ℕ) → rest ≡ [] → ((defined_script r terms (front ++ more)).status ≡ Done) × SentWhole did.taken (defined_script r terms (front ++ more)).text
+    pub over_written : (more : List ℕ) → rest ≡ [] → ((defined_script m (front ++ more)).status ≡ Done) × SentWhole did.taken (defined_script m (front ++ more)).text
     over_written more none =
         let answered = front_answered more in
-        let same : (defined_script r terms (front ++ more)).text ≡ text =
-        first_lines r terms (front ++ more) replied.lines answered.0 answered.1 ∙ ap (λ l. text ++ l) (silent r (state_after r (at_start r terms) replied.lines) answered.0 over_now) ∙ append-nil text in
-        (over_is_done r terms (front ++ more) (over_behind (answered_lines (front ++ more)) answered.0 answered.1), subst (λ t. Appends did.taken.before did.taken.after t) (sym same) (whole none))
+        let same : (defined_script m (front ++ more)).text ≡ text =
+        first_lines m (front ++ more) told.lines answered.0 there told.left answered.1 ∙ ap (λ l. text ++ l) (quit.texts answered.0) ∙ append-nil text in
+        (done_behind more, subst (λ t. Appends did.taken.before did.taken.after t) (sym same) (whole none))
 
-  pub first_written : (more : List ℕ) → MayBe did.left.before (front ++ more) → rest ≡ [] → RepliedFirst r terms did
+  pub first_written : (more : List ℕ) → MayBe did.left.before (front ++ more) → rest ≡ [] → RepliedFirst m did
   first_written more read none =
       let answered = front_answered more in
-      replied_first r terms did (front ++ more) replied.lines answered.0 read answered.1 (whole none)
+      replied_first m did (front ++ more) told.lines answered.0 read answered.1 (whole none)
 
 -- ---- a script that isn't begun
 
-pub not_begun : (r : Rules) (terms : Terms) (did : ScriptDid) → did.taken.before ≡ did.taken.after → ScriptEnds r terms did NoMemory
-not_begun r terms did still =
+pub not_begun : (m : Meaning) → IsBeginning m → (did : ScriptDid) → did.taken.before ≡ did.taken.after → ScriptEnds m did NoMemory
+not_begun m begins did still =
     let some = may_go_on did.left.before did.left.before [] (consumes_none did.left.before) in
-    record { script = some.0; read = some.1; count = 0; replied = subst (λ now. Appends did.taken.before now []) still (appends_none did.taken.before) }
+    record {
+      script = some.0;
+      read = some.1;
+      count = 0;
+      replied = subst (λ t. Appends did.taken.before did.taken.after t) (sym begins.texts) (subst (λ now. Appends did.taken.before now []) still (appends_none did.taken.before));
+    }

@@ -16,7 +16,7 @@ use Rattle.interview.specs.Interview.{defined_fault, defined_saved_refused}
 use Rattle.interview.specs.ScriptEnds.{EndsBefore, EndsBehind}
 use Rattle.interview.specs.StepEnds.{EndedBy, NotFetched, NotObtained, NotResumed, RunDid, RunEnds, StartEnds}
 use Rattle.interview.specs.Given.{Did, Given, Unread}
-use Rattle.interview.specs.Ends.{AcceptedRun, BegunRun, Ends, RefusedRun, SavedRefusedRun, terms_of}
+use Rattle.interview.specs.Ends.{AcceptedRun, BegunRun, Ends, RefusedRun, SavedRefusedRun, meaning_in}
 
 -- ---- words
 
@@ -58,7 +58,7 @@ module _ (given : Given) (did : Did) where
       abbrev begun : (s : Start) → IsStart over.rules basis s → BegunRun given
       begun s is = record { over = over; basis = basis; start = s; brought = brought; is_start = is }
 
-      ends_script : (s : Start) (is : IsStart over.rules basis s) (status : Status) → EndsBehind over.rules (terms_of given (begun s is)) s.front did.script status → Ends given did status
+      ends_script : (s : Start) (is : IsStart over.rules basis s) (status : Status) → EndsBehind (meaning_in given (begun s is)) s.front did.script status → Ends given did status
       ends_script s is Done ends = inl (begun s is, ends)
       ends_script s is ReadFault ends = (begun s is, ends)
       ends_script s is WriteFault ends = inl (begun s is, ends)
@@ -71,7 +71,7 @@ module _ (given : Given) (did : Did) where
       ends_front s is NoMemory ends = inl ends
       ends_front s is status ends = absurd ends
 
-      ends_begun : (s : Start) (is : IsStart over.rules basis s) (status : Status) → StartEnds over.rules (terms_of given (begun s is)) s.front did.script status → Ends given did status
+      ends_begun : (s : Start) (is : IsStart over.rules basis s) (status : Status) → StartEnds (meaning_in given (begun s is)) s.front did.script status → Ends given did status
       ends_begun s is status (inl ends) = ends_script s is status ends
       ends_begun s is status (inr ends) = ends_front s is status ends
 
@@ -100,7 +100,7 @@ module _ (given : Given) (did : Did) where
   of_run now = record { shelf = record { before = now; after = did.shelf.after }; failed_name = did.failed_name; script = did.script }
 
   -- with what the shelf tells and how often it had failed before the saved text was fetched
-  pub ends_run : (over : AcceptedRun given) (now : ℕ) (told : List ℕ → Told) (status : Status) → did.shelf.before ≤ now → told ≡ given.told → RunEnds told over.asked.beginning over.rules over.asked.engine given.relations (of_run now) status → Ends given did status
+  pub ends_run : (over : AcceptedRun given) (now : ℕ) (told : List ℕ → Told) (status : Status) → did.shelf.before ≤ now → told ≡ given.told → RunEnds told over.asked.beginning over.rules over.asked.mode given.relations (of_run now) status → Ends given did status
   ends_run over now told status later same (inl (basis, brought, (s, is, ends))) = ends_begun over basis (subst (λ (t : List ℕ → Told). MayBring t over.asked.beginning basis) same brought) s is status ends
   ends_run over now told status later same (inr (inl (basis, brought, (n, is, ended, unread)))) = ends_saved_refused over basis (subst (λ (t : List ℕ → Told). MayBring t over.asked.beginning basis) same brought) n is unread status ended
   ends_run over now told status later same (inr (inr (not, still, unread))) = ends_unresumed over now later still unread over.asked.beginning refl status not

@@ -5,14 +5,14 @@ use Rattle.std.proofs.lemmas.Bool.{false_from_ne_true}
 use Rattle.common_lemmas.proofs.Bytes.{same_bytes}
 use Rattle.interview.specs.declared.built_in.BuiltIn.{BuiltIn}
 use Rattle.interview.specs.declared.built_in.BuiltIn.TheVariants.{Year2023, Year2024, Income2023}
-use Rattle.interview.specs.declared.words.Engine.{Engine}
-use Rattle.interview.specs.declared.words.Engine.TheVariants.{Incremental, Plain}
+use Rattle.interview.specs.declared.words.Mode.{Mode}
+use Rattle.interview.specs.declared.words.Mode.TheVariants.{Incremental, Plain, Desk}
 use Rattle.interview.specs.Words.{Beginning, Fetches, HasNoForm, IsCheck, IsFrom, IsGen, IsRun, IsRunOver, IsSave, Origin, by_carry, by_load, file, program, unanswered}
 
 -- ---- what words ask for
 
 pub data Asked : Type 0 where
-  run : Origin → Beginning → Engine → Asked
+  run : Origin → Beginning → Mode → Asked
   check : List ℕ → Asked
   -- with this word for the number
   gen : List ℕ → Asked
@@ -35,6 +35,7 @@ abbrev asked_by_two : List ℕ → List ℕ → Option Asked
 asked_by_two command word =
     if bytes_eq command (codes "run") then Some (run (file word) unanswered Incremental)
     else if bytes_eq command (codes "run-plain") then Some (run (file word) unanswered Plain)
+    else if bytes_eq command (codes "desk") then Some (run (file word) unanswered Desk)
     else if bytes_eq command (codes "check") then Some (check word)
     else if bytes_eq command (codes "year") then option_map run_of (year_named word)
     else if bytes_eq command (codes "gen") then Some (gen word)
@@ -58,9 +59,10 @@ asked_by (command ∷ word ∷ []) = asked_by_two command word
 asked_by (command ∷ word ∷ saved ∷ []) = asked_by_three command word saved
 asked_by words = None
 
-asks_run : (words : List (List ℕ)) (o : Origin) (b : Beginning) (e : Engine) → IsRunOver words o b e → asked_by words ≡ Some (run o b e)
+asks_run : (words : List (List ℕ)) (o : Origin) (b : Beginning) (e : Mode) → IsRunOver words o b e → asked_by words ≡ Some (run o b e)
 asks_run words (file name) unanswered Incremental is = ap asked_by is
 asks_run words (file name) unanswered Plain is = ap asked_by is
+asks_run words (file name) unanswered Desk is = ap asked_by is
 asks_run words (file name) (by_load saved) Incremental is = ap asked_by is
 asks_run words (file name) (by_carry saved) Incremental is = ap asked_by is
 asks_run words (program Year2023) unanswered Incremental is = ap asked_by is
@@ -71,8 +73,8 @@ asks_run words (program Year2024) (by_carry saved) Incremental is = ap asked_by 
 asks_run words (program Income2023) (by_carry saved) Incremental is = absurd is
 asks_run words o b e is = absurd is
 
-asks_of_run : (words : List (List ℕ)) (o : Origin) (r : IsRun words o) → asked_by words ≡ Some (run o r.beginning r.engine)
-asks_of_run words o r = asks_run words o r.beginning r.engine r.over
+asks_of_run : (words : List (List ℕ)) (o : Origin) (r : IsRun words o) → asked_by words ≡ Some (run o r.beginning r.mode)
+asks_of_run words o r = asks_run words o r.beginning r.mode r.over
 
 asks_check : (words : List (List ℕ)) (name : List ℕ) → IsCheck words name → asked_by words ≡ Some (check name)
 asks_check words name is = ap asked_by is
@@ -97,24 +99,24 @@ abbrev beginning_in : Beginning → Option Asked → Beginning
 beginning_in other (Some (run o b e)) = b
 beginning_in other asked = other
 
-abbrev engine_in : Engine → Option Asked → Engine
-engine_in other (Some (run o b e)) = e
-engine_in other asked = other
+abbrev mode_in : Mode → Option Asked → Mode
+mode_in other (Some (run o b e)) = e
+mode_in other asked = other
 
 abbrev word_in : List ℕ → Option Asked → List ℕ
 word_in other (Some (check name)) = name
 word_in other (Some (gen number)) = number
 word_in other asked = other
 
--- words run over one dictionary, from one place, over one engine
+-- words run over one dictionary, from one place, in one mode
 pub same_origin : (words : List (List ℕ)) (o p : Origin) → IsRun words o → IsRun words p → o ≡ p
 same_origin words o p h k = ap (origin_in o) (sym (asks_of_run words o h) ∙ asks_of_run words p k)
 
 pub same_beginning : (words : List (List ℕ)) (o p : Origin) (h : IsRun words o) (k : IsRun words p) → h.beginning ≡ k.beginning
 same_beginning words o p h k = ap (beginning_in h.beginning) (sym (asks_of_run words o h) ∙ asks_of_run words p k)
 
-pub same_engine : (words : List (List ℕ)) (o p : Origin) (h : IsRun words o) (k : IsRun words p) → h.engine ≡ k.engine
-same_engine words o p h k = ap (engine_in h.engine) (sym (asks_of_run words o h) ∙ asks_of_run words p k)
+pub same_mode : (words : List (List ℕ)) (o p : Origin) (h : IsRun words o) (k : IsRun words p) → h.mode ≡ k.mode
+same_mode words o p h k = ap (mode_in h.mode) (sym (asks_of_run words o h) ∙ asks_of_run words p k)
 
 pub same_check : (words : List (List ℕ)) (a b : List ℕ) → IsCheck words a → IsCheck words b → a ≡ b
 same_check words a b h k = ap (word_in a) (sym (asks_check words a h) ∙ asks_check words b k)
@@ -124,6 +126,19 @@ same_number words n m h k = ap (word_in (decimal n)) (sym (asks_gen words n h) �
 
 pub same_save : (words : List (List ℕ)) (o p : Origin) → IsSave words o → IsSave words p → o ≡ p
 same_save words o p h k = ap (origin_in o) (sym (asks_save words o h) ∙ asks_save words p k)
+
+-- over what the program brings runs the incremental engine alone
+program_runs : (words : List (List ℕ)) (b : BuiltIn) (beginning : Beginning) (e : Mode) → IsRunOver words (program b) beginning e → e ≡ Incremental
+program_runs words b beginning Incremental is = refl
+program_runs words b unanswered Plain is = absurd is
+program_runs words b unanswered Desk is = absurd is
+program_runs words b (by_load saved) Plain is = absurd is
+program_runs words b (by_load saved) Desk is = absurd is
+program_runs words b (by_carry saved) Plain is = absurd is
+program_runs words b (by_carry saved) Desk is = absurd is
+
+pub program_mode : (words : List (List ℕ)) (o : Origin) (b : BuiltIn) → IsRun words (program b) → (h : IsRun words o) → h.mode ≡ Incremental
+program_mode words o b asked h = same_mode words o (program b) h asked ∙ program_runs words b asked.beginning asked.mode asked.over
 
 -- ---- and no other
 
@@ -207,17 +222,17 @@ is_other : (a b : List ℕ) → (a ≡ b → ⊥) → bytes_eq a b ≡ false
 is_other a b apart = false_from_ne_true _ (λ e. apart (same_bytes a b e))
 
 -- no command is followed by one word
-pub others_of_two : (command word : List ℕ) → (command ≡ codes "run" → ⊥) → (command ≡ codes "run-plain" → ⊥) → (command ≡ codes "check" → ⊥) → (command ≡ codes "year" → ⊥)
+pub others_of_two : (command word : List ℕ) → (command ≡ codes "run" → ⊥) → (command ≡ codes "run-plain" → ⊥) → (command ≡ codes "desk" → ⊥) → (command ≡ codes "check" → ⊥) → (command ≡ codes "year" → ⊥)
     → (command ≡ codes "gen" → ⊥) → (command ≡ codes "income" → ⊥) → (command ≡ codes "save" → ⊥) → (command ≡ codes "save-year" → ⊥) → HasNoForm (command ∷ word ∷ [])
-others_of_two command word not_run not_plain not_check not_year not_gen not_income not_save not_save_year =
+others_of_two command word not_run not_plain not_desk not_check not_year not_gen not_income not_save not_save_year =
     no_form (command ∷ word ∷ []) (
-    none_of (is_other command (codes "run") not_run) (is_other command (codes "run-plain") not_plain) (is_other command (codes "check") not_check) (is_other command (codes "year") not_year)
+    none_of (is_other command (codes "run") not_run) (is_other command (codes "run-plain") not_plain) (is_other command (codes "desk") not_desk) (is_other command (codes "check") not_check) (is_other command (codes "year") not_year)
     (is_other command (codes "gen") not_gen) (is_other command (codes "income") not_income) (is_other command (codes "save") not_save) (is_other command (codes "save-year") not_save_year)
     )
   where
-    none_of : bytes_eq command (codes "run") ≡ false → bytes_eq command (codes "run-plain") ≡ false → bytes_eq command (codes "check") ≡ false → bytes_eq command (codes "year") ≡ false
+    none_of : bytes_eq command (codes "run") ≡ false → bytes_eq command (codes "run-plain") ≡ false → bytes_eq command (codes "desk") ≡ false → bytes_eq command (codes "check") ≡ false → bytes_eq command (codes "year") ≡ false
         → bytes_eq command (codes "gen") ≡ false → bytes_eq command (codes "income") ≡ false → bytes_eq command (codes "save") ≡ false → bytes_eq command (codes "save-year") ≡ false → asked_by_two command word ≡ None
-    none_of a b c d e f g h = rw (a, b, c, d, e, f, g, h) refl
+    none_of a b c d e f g h i = rw (a, b, c, d, e, f, g, h, i) refl
 
 no_year : (text : List ℕ) → (text ≡ codes "2023" → ⊥) → (text ≡ codes "2024" → ⊥) → year_named text ≡ None
 no_year text first second = none_of (is_other text (codes "2023") first) (is_other text (codes "2024") second)

@@ -12,9 +12,9 @@ use Rattle.interview.specs.Devices.{Rises, SentNothing, SentPart, SentWhole}
 use Rattle.interview.specs.declared.built_in.BuiltIn.{BuiltIn}
 use Rattle.interview.specs.Beginnings.{Basis, Brings, IsRefusedStart, IsStart, MayBring, Start}
 use Rattle.interview.specs.Dictionaries.{Content, Gives, HasFault, IsAcceptedAs, MayGive}
-use Rattle.session_lines.specs.Laws.{FinalsHold}
-use Rattle.interview.specs.Interview.{ChecksTo, Defined, RunsTo, TablesHoldIn, defined_fault, defined_saved_refused, run_terms, usage}
-use Rattle.session_lines.specs.Stepping.{Terms, at_start, state_after}
+use Rattle.interview.specs.Interview.{ChecksTo, Defined, RunsTo, TablesHoldIn, defined_fault, defined_saved_refused, usage}
+use Rattle.interview.specs.Finals.{AreFinalsKept}
+use Rattle.interview.specs.Meanings.{Meaning, meaning_of}
 use Rattle.interview.specs.GenEnds.{GenEnds, GenInterviewed}
 use Rattle.interview.specs.SaveEnds.{SaveEnds, SaveInterviewed}
 use Rattle.interview.specs.Given.{Did, EndedAs, Given, IsOneOf, Unread}
@@ -39,12 +39,13 @@ pub record BegunRun (given : Given) : Type 0 where
   pub brought : MayBring given.told over.asked.beginning basis
   pub is_start : IsStart over.rules basis start
 
-abbrev pub terms_of : (given : Given) → BegunRun given → Terms
-terms_of given run = run_terms run.over.asked.engine given.relations run.start.answers
+-- what the lines of its script mean
+abbrev pub meaning_in : (given : Given) → BegunRun given → Meaning
+meaning_in given run = meaning_of run.over.rules run.over.asked.mode given.relations run.start.answers
 
 -- its script ended with this status, behind what is written before the replies
 abbrev pub BegunEnds : Given → Did → Status → Type 0
-BegunEnds given did status = (run : BegunRun given) × EndsBehind run.over.rules (terms_of given run) run.start.front did.script status
+BegunEnds given did status = (run : BegunRun given) × EndsBehind (meaning_in given run) run.start.front did.script status
 
 -- a dictionary that it may have been given to run, with its fault
 pub record RefusedRun (given : Given) : Type 0 where
@@ -148,7 +149,7 @@ EndedByCheck given did status bytes = (d : Defined) × ChecksTo bytes given.chec
 
 -- what a run that is told comes to
 abbrev pub ComesTo : (given : Given) → KnownRun given → Defined → Type 0
-ComesTo given run d = RunsTo run.content given.checks run.basis run.asked.engine given.relations run.script d
+ComesTo given run d = RunsTo run.content given.checks run.basis run.asked.mode given.relations run.script d
 
 -- it ended as a run that is told comes to, with the text whole
 abbrev pub EndedByRun : (given : Given) → KnownRun given → Did → Status → Type 0
@@ -188,13 +189,13 @@ pub record Interviewed (given : Given) (did : Did) (status : Status) : Type 0 wh
   pub prefix : (run : KnownRun given) (d : Defined) → ComesTo given run d → SentPart did.script.taken d.text
   -- with status 0 the dictionary is accepted, and the script was read to its end, or to that of the piece in which `quit` ended
   pub read_through : (run : KnownRun given) → status ≡ Done
-      → (r : Rules) × (s : Start) × IsAcceptedAs given.checks run.content r × IsStart r run.basis s × ReadThrough r (run_terms run.asked.engine given.relations s.answers) did.script
+      → (r : Rules) × (s : Start) × IsAcceptedAs given.checks run.content r × IsStart r run.basis s × ReadThrough (meaning_of r run.asked.mode given.relations s.answers) did.script
   -- over a dictionary that is accepted, wherever the lines of a script lead: what is printed as final there is complete, and stays
   -- so under every extension of the answers
-  pub finals : (run : BegunRun given) (lines : List ScriptLine) → FinalsHold run.over.rules (state_after run.over.rules (at_start run.over.rules (terms_of given run)) lines).standing
+  pub finals : (run : BegunRun given) (lines : List ScriptLine) → AreFinalsKept run.over.rules run.over.asked.mode given.relations run.start.answers lines
   -- over the dictionary of a year, wherever the lines of a script lead: what its facts are worth there is what the written tables
   -- of the year give
-  pub tables : (b : BuiltIn) → IsRun given.words (program b) → (run : BegunRun given) (lines : List ScriptLine) → TablesHoldIn b run.over.rules (state_after run.over.rules (at_start run.over.rules (terms_of given run)) lines).standing
+  pub tables : (b : BuiltIn) → IsRun given.words (program b) → (run : BegunRun given) (lines : List ScriptLine) → TablesHoldIn b run.over.rules ((meaning_in given run).answers lines)
   -- a check reads nothing of the script
   pub check_unread : (name : List ℕ) → IsCheck given.words name → Unread did
   -- a check of a dictionary that is told and has this fault ends with its line

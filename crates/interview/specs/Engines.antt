@@ -9,8 +9,9 @@ use Rattle.dictionary.specs.Accepted.{Named}
 use Rattle.graph_session.specs.Rules.{Rules}
 use Rattle.interview.specs.Beginnings.{Basis}
 use Rattle.interview.specs.Dictionaries.{Content}
-use Rattle.interview.specs.Interview.{Defined, RunsTo, defined_script, run_terms}
-use Rattle.interview.specs.declared.words.Engine.TheVariants.{Incremental, Plain}
+use Rattle.interview.specs.Interview.{Defined, RunsTo, defined_script}
+use Rattle.interview.specs.Meanings.{meaning_of}
+use Rattle.interview.specs.declared.words.Mode.TheVariants.{Incremental, Plain}
 
 -- the commands that ask for what an engine counts
 abbrev pub asks_counts : Command → Bool
@@ -37,7 +38,7 @@ AsksNoCounts script = All (λ l. line_asks_counts l ≡ false) (script_lines scr
 -- What such a script comes to is the same with stamps and without, with whatever answers it begins, and whatever may be watched:
 -- `run` and `run-plain` have one defined interview.
 pub record AgreeOn (relations : List Named) (script : List ℕ) : Type 0 where
-  pub defined : (r : Rules) (a : Answered) → defined_script r (run_terms Incremental relations a) script ≡ defined_script r (run_terms Plain relations a) script
+  pub defined : (r : Rules) (a : Answered) → defined_script (meaning_of r Incremental relations a) script ≡ defined_script (meaning_of r Plain relations a) script
   pub there : (content : Content) (checks : List Named) (basis : Basis) (d : Defined) → RunsTo content checks basis Incremental relations script d → RunsTo content checks basis Plain relations script d
   pub back : (content : Content) (checks : List Named) (basis : Basis) (d : Defined) → RunsTo content checks basis Plain relations script d → RunsTo content checks basis Incremental relations script d
 

@@ -9,7 +9,6 @@ use Rattle.graph_session.specs.Rules.{Rules, tree_of}
 use Rattle.interview.specs.declared.status.Status.{Status}
 use Rattle.interview.specs.declared.status.Status.TheVariants.{Done, DictionaryRefused, Usage, ScriptTooLong, SavedRefused}
 use Rattle.session_lines.specs.Replies.{line_with}
-use Rattle.session_lines.specs.Stepping.{Standing, Terms, at_start, replies, state_after}
 use Rattle.interview.specs.FaultLines.{accepted_line, fault_line, saved_refused_line}
 use Rattle.tax_2023.specs.Household.{Household}
 use Rattle.tax_2023.specs.Answers.{AreOfHousehold}
@@ -20,8 +19,8 @@ use Rattle.tax_income.specs.Tables.{Numbered}
 use Rattle.answers.specs.Answered.{Answered}
 use Rattle.interview.specs.declared.built_in.BuiltIn.{BuiltIn}
 use Rattle.interview.specs.declared.built_in.BuiltIn.TheVariants.{Income2023}
-use Rattle.interview.specs.declared.words.Engine.{Engine}
-use Rattle.interview.specs.Words.{keeps_stamps}
+use Rattle.interview.specs.declared.words.Mode.{Mode}
+use Rattle.interview.specs.Meanings.{Meaning, meaning_of}
 use Rattle.interview.specs.Beginnings.{Basis, IsRefusedStart, IsStart, Start}
 use Rattle.interview.specs.Dictionaries.{Content, HasFault, IsAcceptedAs, tables_of}
 
@@ -46,24 +45,20 @@ script_limit = 67108864
 unfoldable pub answered_lines : List ℕ → List ScriptLine
 answered_lines script = if nat_le (length script) script_limit then script_lines script else ended_lines (take script_limit script)
 
--- What a script is to give, with stamps or without: the replies to these lines; past the limit it is too long, but where one of
--- them is `quit`.
-unfoldable pub defined_script : Rules → Terms → List ℕ → Defined
-defined_script r terms script = record {
-  text = replies r (at_start r terms) (answered_lines script);
-  status = if nat_le (length script) script_limit then Done else if (state_after r (at_start r terms) (answered_lines script)).over then Done else ScriptTooLong;
+-- What a script is to give whose lines mean this: the texts of these lines; past the limit it is too long, but where one of them is
+-- `quit`.
+unfoldable pub defined_script : Meaning → List ℕ → Defined
+defined_script m script = record {
+  text = m.texts (answered_lines script);
+  status = if nat_le (length script) script_limit then Done else if m.over (answered_lines script) then Done else ScriptTooLong;
 }
 
 -- ---- runs
 
--- the terms of a run: these answers, stamps where the engine keeps them, and the relations of the table
-abbrev pub run_terms : Engine → List Named → Answered → Terms
-run_terms engine relations answers = record { answers = answers; stamps = keeps_stamps engine; relations = relations }
-
 -- what a script gives that begins so: what is written before the replies, and then these
-abbrev pub defined_run : Rules → Engine → List Named → Start → List ℕ → Defined
-defined_run r engine relations s script =
-    let given = defined_script r (run_terms engine relations s.answers) script in
+abbrev pub defined_run : Rules → Mode → List Named → Start → List ℕ → Defined
+defined_run r mode relations s script =
+    let given = defined_script (meaning_of r mode relations s.answers) script in
     record { text = s.front ++ given.text; status = given.status }
 
 -- the line of a saved text that is refused
@@ -71,17 +66,17 @@ abbrev pub defined_saved_refused : ℕ → Defined
 defined_saved_refused n = record { text = saved_refused_line n; status = SavedRefused }
 
 -- what is given over an accepted dictionary: a script that begins as the saved text says, or the line at which that is refused
-abbrev pub GoesOnTo : Rules → Basis → Engine → List Named → List ℕ → Defined → Type 0
-GoesOnTo r basis engine relations script d =
-    ((s : Start) × IsStart r basis s × (d ≡ defined_run r engine relations s script))
+abbrev pub GoesOnTo : Rules → Basis → Mode → List Named → List ℕ → Defined → Type 0
+GoesOnTo r basis mode relations script d =
+    ((s : Start) × IsStart r basis s × (d ≡ defined_run r mode relations s script))
     ⊎ ((n : ℕ) × IsRefusedStart r basis n × (d ≡ defined_saved_refused n))
 
--- What a run is to give over a dictionary, a saved text where one is named, and the bytes of a script, with these checks, with
--- stamps or without. A saved text is judged where the dictionary is accepted. Wherever the dictionary comes from, what comes
+-- What a run is to give over a dictionary, a saved text where one is named, and the bytes of a script, with these checks, in
+-- this mode. A saved text is judged where the dictionary is accepted. Wherever the dictionary comes from, what comes
 -- behind its acceptance is the same.
-abbrev pub RunsTo : Content → List Named → Basis → Engine → List Named → List ℕ → Defined → Type 0
-RunsTo content checks basis engine relations script d =
-    ((r : Rules) × IsAcceptedAs checks content r × GoesOnTo r basis engine relations script d)
+abbrev pub RunsTo : Content → List Named → Basis → Mode → List Named → List ℕ → Defined → Type 0
+RunsTo content checks basis mode relations script d =
+    ((r : Rules) × IsAcceptedAs checks content r × GoesOnTo r basis mode relations script d)
     ⊎ ((fault : DictFault) × HasFault checks content fault × (d ≡ defined_fault fault))
 
 -- ---- `check`
@@ -103,21 +98,21 @@ OneEndOfCheck = (bytes : List ℕ) (checks : List Named) (d e : Defined) → Che
 
 abbrev pub OneEndOfRun : Type 0
 OneEndOfRun =
-    (content : Content) (checks : List Named) (basis : Basis) (engine : Engine) (relations : List Named) (script : List ℕ) (d e : Defined)
-    → RunsTo content checks basis engine relations script d → RunsTo content checks basis engine relations script e → d ≡ e
+    (content : Content) (checks : List Named) (basis : Basis) (mode : Mode) (relations : List Named) (script : List ℕ) (d e : Defined)
+    → RunsTo content checks basis mode relations script d → RunsTo content checks basis mode relations script e → d ≡ e
 
 -- ---- the tables of a year
 
 -- where these are the answers of a household whose two incomes are modest, so that no sum overflows
-pub record IsAnsweredBy (r : Rules) (s : Standing) (h : Household) : Type 0 where
-  pub answers : AreOfHousehold (tree_of r) s.course.timeline.now h
+pub record IsAnsweredBy (r : Rules) (a : Answered) (h : Household) : Type 0 where
+  pub answers : AreOfHousehold (tree_of r) a h
   pub earned : IsModest h.earned_income
   pub other : IsModest h.other_income
 
 -- then the facts of the dictionary have the values of the written tables, and those of the rates and the credit theirs, where it is
 -- said of each person whether it has a number
-abbrev pub TablesHoldIn : BuiltIn → Rules → Standing → Type 0
-TablesHoldIn Income2023 r s =
-    (h : Household) (numbered : Numbered) → IsAnsweredBy r s h → AreNumbered (tree_of r) s.course.timeline.now numbered h.persons
-    → HasIncomeTables r.accepted s.course.timeline.now h numbered
-TablesHoldIn b r s = (h : Household) → IsAnsweredBy r s h → HasTables r.accepted (tables_of b) s.course.timeline.now h
+abbrev pub TablesHoldIn : BuiltIn → Rules → Answered → Type 0
+TablesHoldIn Income2023 r a =
+    (h : Household) (numbered : Numbered) → IsAnsweredBy r a h → AreNumbered (tree_of r) a numbered h.persons
+    → HasIncomeTables r.accepted a h numbered
+TablesHoldIn b r a = (h : Household) → IsAnsweredBy r a h → HasTables r.accepted (tables_of b) a h

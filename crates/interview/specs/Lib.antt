@@ -4,13 +4,16 @@ pub mod Words
 pub mod Beginnings
 pub mod Dictionaries
 pub mod FaultLines
+pub mod Meanings
 pub mod Interview
 pub mod Engines
+pub mod Telling
 pub mod SoFar
 pub mod Devices
 pub mod ScriptEnds
 pub mod StepsOfScript
 pub mod StepEnds
+pub mod Finals
 pub mod Ends
 pub mod GenEnds
 pub mod Given

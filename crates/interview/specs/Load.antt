@@ -9,9 +9,10 @@ use Rattle.dict_gen.specs.Script.{script}
 use Rattle.graph_session.specs.Rules.{Rules, tree_of}
 use Rattle.interview.specs.declared.status.Status.{Status}
 use Rattle.interview.specs.declared.status.Status.TheVariants.{Done, WriteFault, NoMemory}
-use Rattle.interview.specs.declared.words.Engine.TheVariants.{Incremental}
+use Rattle.interview.specs.declared.words.Mode.TheVariants.{Incremental}
 use Rattle.interview.specs.Devices.{Counted, Rises, SentNothing, SentPart, SentWhole, Stream}
-use Rattle.interview.specs.Interview.{Defined, defined_script, run_terms}
+use Rattle.interview.specs.Interview.{Defined, defined_script}
+use Rattle.interview.specs.Meanings.{meaning_of}
 use Rattle.interview.specs.Summary.{summary}
 
 -- ---- what it comes to
@@ -24,7 +25,7 @@ pub record IsOfLoad (n : ℕ) (r : Rules) : Type 0 where
 
 -- what a run of the script of the load is to write over these rules
 abbrev pub replies_to_load : Rules → List Named → ℕ → List ℕ
-replies_to_load r relations n = (defined_script r (run_terms Incremental relations start) (script n)).text
+replies_to_load r relations n = (defined_script (meaning_of r Incremental relations start) (script n)).text
 
 -- the summary of these replies
 abbrev pub defined_gen : Rules → List Named → ℕ → Defined

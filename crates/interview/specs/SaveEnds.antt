@@ -1,5 +1,5 @@
 -- How an interview ends for the words `save` and `save-year`, and what is known of it when it ends.
-use Rattle.std.specs.Prelude.{◌≡◌, ◌⊎◌, ℕ, List, [], ◌∷◌, Option, Some}
+use Rattle.std.specs.Prelude.{◌≡◌, ◌⊎◌, ℕ, List, [], ◌∷◌, Some}
 use Rattle.fg_io.specs.Outside.{missing}
 use Rattle.dictionary.specs.declared.fault.DictFault.{DictFault}
 use Rattle.graph_session.specs.Rules.{Rules}
@@ -10,7 +10,7 @@ use Rattle.interview.specs.Devices.{Rises, SentNothing, SentPart, SentWhole}
 use Rattle.interview.specs.Dictionaries.{Content, Gives, HasFault, IsAcceptedAs, MayGive}
 use Rattle.interview.specs.Given.{Did, EndedAs, Given, IsOneOf, Unread}
 use Rattle.interview.specs.Interview.{Defined, defined_fault}
-use Rattle.interview.specs.Save.{SavesTo, ScriptSaves, save_terms}
+use Rattle.interview.specs.Save.{SavesTo, ScriptSaves, save_meaning}
 use Rattle.interview.specs.ScriptEnds.{ReadThrough}
 use Rattle.interview.specs.Words.{IsSave, Origin, file, program}
 
@@ -36,7 +36,7 @@ pub record RefusedSave (given : Given) : Type 0 where
 
 -- its script ended with this status
 abbrev pub AcceptedSaves : Given → Did → Status → Type 0
-AcceptedSaves given did status = (over : AcceptedSave given) × ScriptSaves over.rules (save_terms given.relations) did.script status
+AcceptedSaves given did status = (over : AcceptedSave given) × ScriptSaves over.rules (save_meaning over.rules given.relations) did.script status
 
 -- words that save
 abbrev pub AreToSave : List (List ℕ) → Type 0
@@ -95,4 +95,4 @@ pub record SaveInterviewed (given : Given) (did : Did) (status : Status) : Type 
   -- where no script was done, nothing was written
   pub unsaved : AreToSave given.words → IsOneOf status (FetchFault ∷ ReadFault ∷ ScriptTooLong ∷ NoMemory ∷ []) → SentNothing did.script.taken
   -- with status 0 the dictionary is accepted, and the script was read to its end, or to that of the piece in which `quit` ended
-  pub read_through : (save : KnownSave given) → status ≡ Done → (r : Rules) × IsAcceptedAs given.checks save.content r × ReadThrough r (save_terms given.relations) did.script
+  pub read_through : (save : KnownSave given) → status ≡ Done → (r : Rules) × IsAcceptedAs given.checks save.content r × ReadThrough (save_meaning r given.relations) did.script

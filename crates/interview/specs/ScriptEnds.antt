@@ -1,17 +1,15 @@
--- How a script over an accepted dictionary ends, on the terms on which it began: for each status, what was written, what was read,
--- and why it came.
+-- How a script ends whose lines mean this: for each status, what was written, what was read, and why it came.
 use Rattle.std.specs.Prelude.{◌≡◌, ◌⊎◌, ℕ, ◌≤◌, true, false, List, ◌++◌, length, take, Option}
 use Rattle.std.specs.Io.KnownBytes.{Appends, Consumes, IsAtEnd}
 use Rattle.fg_io.specs.Outside.{MayBe}
 use Rattle.script_lines.specs.Lines.{ended_lines}
-use Rattle.graph_session.specs.Rules.{Rules}
 use Rattle.session_lines.specs.declared.progress.Progress.{Progress}
 use Rattle.session_lines.specs.declared.progress.Progress.TheVariants.{More, Over, Unwritten, OutOfMemory}
 use Rattle.interview.specs.declared.status.Status.{Status}
 use Rattle.interview.specs.declared.status.Status.TheVariants.{Done, ReadFault, WriteFault, ScriptTooLong, NoMemory}
 use Rattle.interview.specs.Devices.{Counted, Rises, Stream, SentNothing, SentPart, SentWhole}
 use Rattle.interview.specs.Interview.{answered_lines, defined_script, script_limit}
-use Rattle.session_lines.specs.Stepping.{Terms, at_start, replies, state_after}
+use Rattle.interview.specs.Meanings.{Meaning}
 
 -- what a script did to its source and its sink
 pub record ScriptDid : Type 0 where
@@ -30,28 +28,28 @@ script_did left left_now taken taken_now unread unread_now unwritten unwritten_n
 }
 
 -- the replies to these first lines, whole
-abbrev pub RepliedTo : Rules → Terms → ScriptDid → List ℕ → Type 0
-RepliedTo r terms did bytes = SentWhole did.taken (replies r (at_start r terms) (ended_lines bytes))
+abbrev pub RepliedTo : Meaning → ScriptDid → List ℕ → Type 0
+RepliedTo m did bytes = SentWhole did.taken (m.texts (ended_lines bytes))
 
 -- it ended as defined for some script that it may have been given, with the text whole
-abbrev pub ScriptEndsAs : Rules → Terms → ScriptDid → Status → Type 0
-ScriptEndsAs r terms did status =
-    (script : List ℕ) × MayBe did.left.before script × ((defined_script r terms script).status ≡ status) × SentWhole did.taken (defined_script r terms script).text
+abbrev pub ScriptEndsAs : Meaning → ScriptDid → Status → Type 0
+ScriptEndsAs m did status =
+    (script : List ℕ) × MayBe did.left.before script × ((defined_script m script).status ≡ status) × SentWhole did.taken (defined_script m script).text
 
 -- a read failed behind these bytes, in which no `quit` ended: the lines that ended in them were answered, and no other
-pub record ReadSoFar (r : Rules) (terms : Terms) (did : ScriptDid) : Type 0 where
+pub record ReadSoFar (m : Meaning) (did : ScriptDid) : Type 0 where
   pub bytes : List ℕ
   pub read : Consumes did.left.before did.left.after bytes
   pub within : length bytes ≤ script_limit
-  pub unquit : (state_after r (at_start r terms) (ended_lines bytes)).over ≡ false
-  pub replied : RepliedTo r terms did bytes
+  pub unquit : m.over (ended_lines bytes) ≡ false
+  pub replied : RepliedTo m did bytes
 
 -- whole replies to the first of the lines that are answered, of a script that it may have been given
-pub record RepliedFirst (r : Rules) (terms : Terms) (did : ScriptDid) : Type 0 where
+pub record RepliedFirst (m : Meaning) (did : ScriptDid) : Type 0 where
   pub script : List ℕ
   pub read : MayBe did.left.before script
   pub count : ℕ
-  pub replied : SentWhole did.taken (replies r (at_start r terms) (take count (answered_lines script)))
+  pub replied : SentWhole did.taken (m.texts (take count (answered_lines script)))
 
 -- it was read, and nothing is left of it
 abbrev pub ReadToEnd : ScriptDid → Type 0
@@ -62,24 +60,24 @@ abbrev pub piece_limit : ℕ
 piece_limit = 4096
 
 -- it was read as far as the piece in which `quit` ended: in what was read before, none did
-pub record ReadToQuit (r : Rules) (terms : Terms) (did : ScriptDid) : Type 0 where
+pub record ReadToQuit (m : Meaning) (did : ScriptDid) : Type 0 where
   pub earlier : List ℕ
   pub piece : List ℕ
   pub read : Consumes did.left.before did.left.after (earlier ++ piece)
   pub short : length piece ≤ piece_limit
-  pub unquit : (state_after r (at_start r terms) (ended_lines earlier)).over ≡ false
-  pub quit : (state_after r (at_start r terms) (ended_lines (earlier ++ piece))).over ≡ true
+  pub unquit : m.over (ended_lines earlier) ≡ false
+  pub quit : m.over (ended_lines (earlier ++ piece)) ≡ true
 
-abbrev pub ReadThrough : Rules → Terms → ScriptDid → Type 0
-ReadThrough r terms did = ReadToEnd did ⊎ ReadToQuit r terms did
+abbrev pub ReadThrough : Meaning → ScriptDid → Type 0
+ReadThrough m did = ReadToEnd did ⊎ ReadToQuit m did
 
-abbrev pub ScriptEnds : Rules → Terms → ScriptDid → Status → Type 0
-ScriptEnds r terms did Done = ScriptEndsAs r terms did Done × ReadThrough r terms did
-ScriptEnds r terms did ScriptTooLong = ScriptEndsAs r terms did ScriptTooLong
-ScriptEnds r terms did ReadFault = Rises did.source × ReadSoFar r terms did
-ScriptEnds r terms did WriteFault = Rises did.sink × ((script : List ℕ) × MayBe did.left.before script × SentPart did.taken (defined_script r terms script).text)
-ScriptEnds r terms did NoMemory = RepliedFirst r terms did
-ScriptEnds r terms did other = ⊥
+abbrev pub ScriptEnds : Meaning → ScriptDid → Status → Type 0
+ScriptEnds m did Done = ScriptEndsAs m did Done × ReadThrough m did
+ScriptEnds m did ScriptTooLong = ScriptEndsAs m did ScriptTooLong
+ScriptEnds m did ReadFault = Rises did.source × ReadSoFar m did
+ScriptEnds m did WriteFault = Rises did.sink × ((script : List ℕ) × MayBe did.left.before script × SentPart did.taken (defined_script m script).text)
+ScriptEnds m did NoMemory = RepliedFirst m did
+ScriptEnds m did other = ⊥
 
 -- ---- a script that a text stands before
 
@@ -92,8 +90,8 @@ abbrev pub UnreadScript : ScriptDid → Type 0
 UnreadScript did = (did.left.after ≡ did.left.before) × (did.source.after ≡ did.source.before)
 
 -- the text was written whole, and then it ended so
-abbrev pub EndsBehind : Rules → Terms → List ℕ → ScriptDid → Status → Type 0
-EndsBehind r terms front did status = (taken : Option (List ℕ)) × (Appends did.taken.before taken front × ScriptEnds r terms (did_behind did taken) status)
+abbrev pub EndsBehind : Meaning → List ℕ → ScriptDid → Status → Type 0
+EndsBehind m front did status = (taken : Option (List ℕ)) × (Appends did.taken.before taken front × ScriptEnds m (did_behind did taken) status)
 
 -- it wasn't begun: the text wasn't written whole, or for want of memory nothing was
 abbrev pub EndsBefore : List ℕ → ScriptDid → Status → Type 0

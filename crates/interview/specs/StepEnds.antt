@@ -18,18 +18,18 @@ use Rattle.dictionary.specs.Fits.{AnswersFit}
 use Rattle.save_file.specs.Dropped.{IsDroppedText}
 use Rattle.save_file.specs.declared.fault.LoadFault.{LoadFault}
 use Rattle.save_file.specs.declared.fault.LoadFault.TheVariants as loads
-use Rattle.session_lines.specs.Stepping.{Terms}
+use Rattle.interview.specs.Meanings.{Meaning, meaning_of}
 use Rattle.interview.specs.declared.resuming.Dropped.{Dropped}
 use Rattle.interview.specs.declared.resuming.Dropped.TheVariants as dropped
 use Rattle.interview.specs.declared.resuming.Ready.{Ready}
 use Rattle.interview.specs.declared.resuming.Resumed.{Resumed}
 use Rattle.interview.specs.declared.resuming.Resumed.TheVariants as resumed
-use Rattle.interview.specs.declared.words.Engine.{Engine}
+use Rattle.interview.specs.declared.words.Mode.{Mode}
 use Rattle.interview.specs.Words.{Beginning, Origin, by_carry, by_load, file, program, unanswered}
 use Rattle.interview.specs.Beginnings.{Basis, IsRefusedStart, IsStart, MayBring, Start, saved_limit}
 use Rattle.interview.specs.ScriptEnds.{EndsBefore, EndsBehind, ScriptDid, UnreadScript}
 use Rattle.interview.specs.Dictionaries.{Content, HasFault, IsAcceptedAs, MayGive}
-use Rattle.interview.specs.Interview.{ChecksTo, Defined, defined_accepted, defined_fault, defined_saved_refused, run_terms}
+use Rattle.interview.specs.Interview.{ChecksTo, Defined, defined_accepted, defined_fault, defined_saved_refused}
 
 -- ---- a text
 
@@ -109,8 +109,8 @@ NotResumed (by_carry name) before now failed_name status = NotFetched name befor
 -- ---- a run over an accepted dictionary
 
 -- how a script ends that this text stands before
-abbrev pub StartEnds : Rules → Terms → List ℕ → ScriptDid → Status → Type 0
-StartEnds r terms front did status = EndsBehind r terms front did status ⊎ EndsBefore front did status
+abbrev pub StartEnds : Meaning → List ℕ → ScriptDid → Status → Type 0
+StartEnds m front did status = EndsBehind m front did status ⊎ EndsBefore front did status
 
 -- what a run did to the shelf, and to the rest
 pub record RunDid : Type 0 where
@@ -127,9 +127,9 @@ run_did unfetched unfetched_now failed_name script = record {
 }
 
 -- it began, and its script ended so
-abbrev pub BeginsAndEnds : (List ℕ → Told) → Beginning → Rules → Engine → List Named → RunDid → Status → Type 0
-BeginsAndEnds told beginning r engine relations did status =
-    (basis : Basis) × MayBring told beginning basis × ((s : Start) × IsStart r basis s × StartEnds r (run_terms engine relations s.answers) s.front did.script status)
+abbrev pub BeginsAndEnds : (List ℕ → Told) → Beginning → Rules → Mode → List Named → RunDid → Status → Type 0
+BeginsAndEnds told beginning r mode relations did status =
+    (basis : Basis) × MayBring told beginning basis × ((s : Start) × IsStart r basis s × StartEnds (meaning_of r mode relations s.answers) s.front did.script status)
 
 -- the saved text was refused
 abbrev pub SavedTextEnds : (List ℕ → Told) → Beginning → Rules → RunDid → Status → Type 0
@@ -138,9 +138,9 @@ SavedTextEnds told beginning r did status =
     × EndedBy did.script.taken.before did.script.taken.after did.script.sink.before did.script.sink.after (defined_saved_refused n).text SavedRefused status × UnreadScript did.script)
 
 -- or there was none
-abbrev pub RunEnds : (List ℕ → Told) → Beginning → Rules → Engine → List Named → RunDid → Status → Type 0
-RunEnds told beginning r engine relations did status =
-    BeginsAndEnds told beginning r engine relations did status
+abbrev pub RunEnds : (List ℕ → Told) → Beginning → Rules → Mode → List Named → RunDid → Status → Type 0
+RunEnds told beginning r mode relations did status =
+    BeginsAndEnds told beginning r mode relations did status
     ⊎ (SavedTextEnds told beginning r did status
     ⊎ (NotResumed beginning did.shelf.before did.shelf.after did.failed_name status × (did.script.taken.before ≡ did.script.taken.after) × UnreadScript did.script))
 

@@ -1,10 +1,10 @@
 -- The words of the command line, and the forms that they may have.
-use Rattle.std.specs.Prelude.{◌≡◌, ◌⊎◌, ℕ, ◌≤◌, Bool, true, false, List, [], ◌∷◌, map, codes, decimal, String, string_bytes}
+use Rattle.std.specs.Prelude.{◌≡◌, ◌⊎◌, ℕ, ◌≤◌, List, [], ◌∷◌, map, codes, decimal, String, string_bytes}
 use Rattle.std.specs.declared.alloc.Global.{Global}
 use Rattle.interview.specs.declared.built_in.BuiltIn.{BuiltIn}
 use Rattle.interview.specs.declared.built_in.BuiltIn.TheVariants.{Year2023, Year2024, Income2023}
-use Rattle.interview.specs.declared.words.Engine.{Engine}
-use Rattle.interview.specs.declared.words.Engine.TheVariants.{Incremental, Plain}
+use Rattle.interview.specs.declared.words.Mode.{Mode}
+use Rattle.interview.specs.declared.words.Mode.TheVariants.{Incremental, Plain, Desk}
 use Rattle.interview.specs.declared.words.Origin.{Origin as Asked}
 use Rattle.interview.specs.declared.words.Origin.TheVariants as asked
 use Rattle.interview.specs.declared.words.Beginning.{Beginning as AskedBeginning}
@@ -38,34 +38,30 @@ AreCarriedTo words Year2023 saved = words ≡ codes "carry-year" ∷ codes "2023
 AreCarriedTo words Year2024 saved = words ≡ codes "carry-year" ∷ codes "2024" ∷ saved ∷ []
 AreCarriedTo words other saved = ⊥
 
--- The words run a script over the dictionary from there, from these answers, with the results kept so: for a file `run`,
--- `run-plain`, `load` or `carry` and its name. Over what the program brings, and from a saved text, runs the incremental engine
+-- The words run a script over the dictionary from there, from these answers, in this mode: for a file `run`, `run-plain`, `desk`,
+-- `load` or `carry` and its name. Over what the program brings, and from a saved text, runs a session over the incremental engine
 -- alone.
-abbrev pub IsRunOver : List (List ℕ) → Origin → Beginning → Engine → Type 0
+abbrev pub IsRunOver : List (List ℕ) → Origin → Beginning → Mode → Type 0
 IsRunOver words (file name) unanswered Incremental = words ≡ codes "run" ∷ name ∷ []
 IsRunOver words (file name) unanswered Plain = words ≡ codes "run-plain" ∷ name ∷ []
+IsRunOver words (file name) unanswered Desk = words ≡ codes "desk" ∷ name ∷ []
 IsRunOver words (file name) (by_load saved) Incremental = words ≡ codes "load" ∷ name ∷ saved ∷ []
 IsRunOver words (file name) (by_carry saved) Incremental = words ≡ codes "carry" ∷ name ∷ saved ∷ []
 IsRunOver words (program b) unanswered Incremental = words ≡ words_for b
 IsRunOver words (program b) (by_carry saved) Incremental = AreCarriedTo words b saved
-IsRunOver words origin beginning engine = ⊥
+IsRunOver words origin beginning mode = ⊥
 
 -- the words run a script over the dictionary from there
 pub record IsRun (words : List (List ℕ)) (origin : Origin) : Type 0 where
   pub beginning : Beginning
-  pub engine : Engine
-  pub over : IsRunOver words origin beginning engine
+  pub mode : Mode
+  pub over : IsRunOver words origin beginning mode
 
 -- the saved text has this name
 abbrev pub IsFrom : Beginning → List ℕ → Type 0
 IsFrom unanswered name = ⊥
 IsFrom (by_load saved) name = saved ≡ name
 IsFrom (by_carry saved) name = saved ≡ name
-
--- changes are numbered, and each slot keeps the number of the last that touched it
-abbrev pub keeps_stamps : Engine → Bool
-keeps_stamps Incremental = true
-keeps_stamps Plain = false
 
 -- ---- a check
 
@@ -111,7 +107,7 @@ beginning_of (beginnings.Load name) = by_load name.now
 beginning_of (beginnings.Carry name) = by_carry name.now
 
 abbrev pub IsForm : List (List ℕ) → Form → Type 0
-IsForm words (Run engine origin beginning) = IsRunOver words (origin_of origin) (beginning_of beginning) engine
+IsForm words (Run mode origin beginning) = IsRunOver words (origin_of origin) (beginning_of beginning) mode
 IsForm words (Check name) = IsCheck words name.now
 IsForm words (Gen n) = IsGen words n
 IsForm words (Save origin) = IsSave words (origin_of origin)

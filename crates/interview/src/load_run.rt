@@ -3,12 +3,14 @@ ghost use Rattle.std.specs.Prelude.{◌≡◌, ◌≤◌, ◌<◌, ℕ, List, []
 ghost use Rattle.answers.specs.Answered.{start};
 ghost use Rattle.dictionary.specs.Accepted.{accepted};
 ghost use Rattle.graph_session.specs.Rules.{Rules, rules};
-ghost use Rattle.interview.specs.Interview.{defined_script, run_terms};
+ghost use Rattle.interview.specs.Interview.{defined_script};
+ghost use Rattle.interview.specs.Meanings.{meaning_of};
 ghost use Rattle.interview.specs.Load.{GeneratedAs, IsOfLoad, defined_gen};
 ghost use Rattle.interview.specs.ScriptEnds.{ScriptEnds, script_did};
-ghost use Rattle.interview.specs.declared.words.Engine.TheVariants.{Incremental};
+ghost use Rattle.interview.specs.declared.words.Mode.TheVariants.{Incremental};
 
 use crate::Status;
+use crate::alone::Alone;
 use crate::counting::line_count;
 use crate::ending::end_by;
 use crate::script::run;
@@ -18,7 +20,6 @@ use dictionary::Dictionary;
 use fact_values::NoMemory;
 use fact_watch::WatchTable;
 use fg_io::{MemSink, MemSource, Sink};
-use graph_session::Session;
 use recalc::Recalc;
 use std::alloc::Global;
 use std::marker::Brand;
@@ -39,16 +40,16 @@ fn run_made<L: Ledger>(
     requires parts { blank.parts ≡ L.parts }
     requires some { 0 < blank.parts }
     requires no_checks { dictionary.checks ≡ [] }
-    ensures ends { ScriptEnds (rules dictionary)
-        (run_terms Incremental (map {B = List ℕ × ℕ} (λ r. (r.name, r.code)) table.now.relations.items) start)
+    ensures ends { ScriptEnds
+        (meaning_of (rules dictionary) Incremental (map {B = List ℕ × ℕ} (λ r. (r.name, r.code)) table.now.relations.items) start)
         (script_did (Some script.old.left) (Some script.new.left) (Some out.old.taken) (Some out.new.taken)
         script.old.faults script.new.faults out.old.faults out.new.faults)
         result }
 {
     let checks = CheckTable::new(alloc);
     let mut steps = Steps::<L>::new(blank);
-    match Session::<Recalc>::new(alloc, dictionary) {
-        Ok(mut session) => run(alloc, &mut session, table, &checks, script, out, &mut steps),
+    match Alone::<Recalc>::new(alloc, dictionary) {
+        Ok(mut alone) => run(alloc, &mut alone, table, &checks, script, out, &mut steps),
         Err(NoMemory) => Status::NoMemory,
     }
 }
@@ -61,8 +62,8 @@ fn replies_to(
     table: &WatchTable,
 ) -> Result<MemSink, NoMemory>
     requires { dictionary.checks ≡ [] }
-    ensures replies { IfOk result (λ sink. sink.taken ≡ (defined_script (rules dictionary)
-        (run_terms Incremental (map {B = List ℕ × ℕ} (λ r. (r.name, r.code)) table.now.relations.items) start) script.items).text) }
+    ensures replies { IfOk result (λ sink. sink.taken ≡ (defined_script
+        (meaning_of (rules dictionary) Incremental (map {B = List ℕ × ℕ} (λ r. (r.name, r.code)) table.now.relations.items) start) script.items).text) }
 {
     let mut source = MemSource::new(script, u32::MAX, Vec::new(alloc));
     let mut sink = MemSink::new(alloc, u32::MAX, Vec::new(alloc))?;

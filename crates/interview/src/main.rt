@@ -8,6 +8,8 @@ ghost use Rattle.fact_watch.specs.Says.{watch_says, IsCode as IsRelation};
 ghost use Rattle.interview.specs.Tables.{standard_checks, standard_relations};
 ghost use Rattle.interview.specs.Codes.{code_of};
 
+mod alone;
+mod at_desk;
 mod built_in;
 mod checking;
 mod counting;
@@ -23,6 +25,7 @@ mod script;
 mod silent;
 mod status;
 mod summary;
+mod talk;
 mod top;
 mod words;
 

@@ -3,10 +3,12 @@ ghost use Rattle.std.specs.Prelude.{◌≡◌, ◌<◌, ℕ, List, map};
 ghost use Rattle.dictionary.specs.Accepted.{accepted};
 ghost use Rattle.graph_session.specs.Refusals.{SameChecks};
 ghost use Rattle.graph_session.specs.Rules.{rules};
-ghost use Rattle.graph_session.specs.SessionView.{begun, course};
 ghost use Rattle.save_file.specs.SavedText.{saved};
 ghost use Rattle.interview.specs.Given.{did_by};
-ghost use Rattle.interview.specs.Save.{ScriptSaves, save_terms};
+ghost use Rattle.interview.specs.Meanings.{of_session};
+ghost use Rattle.interview.specs.Save.{ScriptSaves, save_meaning};
+ghost use Rattle.session_lines.specs.Answering.{standing_of};
+ghost use Rattle.session_lines.specs.Stepping.{open_at};
 ghost use Rattle.interview.specs.SaveEnds.{SaveEnds};
 ghost use Rattle.interview.specs.ScriptEnds.{script_did};
 ghost use Rattle.interview.specs.StepEnds.{EndedBy};
@@ -15,6 +17,7 @@ ghost use Rattle.interview.specs.declared.built_in.BuiltIn.{BuiltIn};
 ghost use Rattle.interview.specs.declared.status.Status.TheVariants.{Done};
 
 use crate::Status;
+use crate::alone::Alone;
 use crate::ending::end_by_fault;
 use crate::fetching::Fetched;
 use crate::obtaining::obtain;
@@ -47,27 +50,27 @@ fn save_answers<E: FactEngine, K: Sink>(session: &Session<E>, out: &mut K) -> St
 }
 
 // Runs the script over a session at its start without its replies, and writes the answers that stand at its end.
-fn save_session<E: FactEngine, L: Ledger, S: Source, K: Sink>(
+fn save_alone<E: FactEngine, L: Ledger, S: Source, K: Sink>(
     alloc: Global,
-    session: &mut Session<E>,
+    alone: &mut Alone<E>,
     checks: &CheckTable,
     table: &WatchTable,
     script: &mut S,
     out: &mut K,
     steps: &mut Steps<L>,
 ) -> Status
-    requires same_checks { SameChecks (rules session.old.dict)
+    requires same_checks { SameChecks (rules alone.old.session.dict)
         (map {B = List ℕ × ℕ} (λ c. (c.name, c.code)) checks.now.checks.items) }
-    requires begun { course session.old ≡ begun (accepted session.old.dict) session.old.timeline.now E.STAMPS }
-    ensures saves { ScriptSaves (rules session.old.dict)
-        (record { answers = session.old.timeline.now; stamps = E.STAMPS; relations = (map {B = List ℕ × ℕ} (λ r. (r.name, r.code)) table.now.relations.items) })
+    requires unchanged { alone.old.session.changes ≡ 0 }
+    ensures saves { ScriptSaves (rules alone.old.session.dict)
+        (of_session (rules alone.old.session.dict) (open_at (standing_of alone.old.session (map {B = List ℕ × ℕ} (λ r. (r.name, r.code)) table.now.relations.items) alone.old.watches)))
         (script_did (S.left script.old) (S.left script.new) (K.taken out.old) (K.taken out.new)
         (S.faults script.old) (S.faults script.new) (K.faults out.old) (K.faults out.new))
         result }
 {
     let mut silent = Silent;
-    match run(alloc, session, table, checks, script, &mut silent, steps) {
-        Status::Done => save_answers(session, out),
+    match run(alloc, alone, table, checks, script, &mut silent, steps) {
+        Status::Done => save_answers(&alone.session, out),
         Status::DictionaryRefused => Status::DictionaryRefused,
         Status::Usage => Status::Usage,
         Status::FetchFault => Status::FetchFault,
@@ -95,16 +98,14 @@ fn save_over<L: Ledger, S: Source, K: Sink>(
     requires same_checks { SameChecks (rules dictionary)
         (map {B = List ℕ × ℕ} (λ c. (c.name, c.code)) checks.now.checks.items) }
     ensures saves { ScriptSaves (rules dictionary)
-        (save_terms (map {B = List ℕ × ℕ} (λ r. (r.name, r.code)) table.now.relations.items))
+        (save_meaning (rules dictionary) (map {B = List ℕ × ℕ} (λ r. (r.name, r.code)) table.now.relations.items))
         (script_did (S.left script.old) (S.left script.new) (K.taken out.old) (K.taken out.new)
         (S.faults script.old) (S.faults script.new) (K.faults out.old) (K.faults out.new))
         result }
 {
     let mut steps = Steps::<L>::new(blank);
-    match Session::<Recalc>::new(alloc, dictionary) {
-        Ok(mut session) => {
-            save_session(alloc, &mut session, checks, table, script, out, &mut steps)
-        }
+    match Alone::<Recalc>::new(alloc, dictionary) {
+        Ok(mut alone) => save_alone(alloc, &mut alone, checks, table, script, out, &mut steps),
         Err(NoMemory) => Status::NoMemory,
     }
 }

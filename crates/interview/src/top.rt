@@ -9,39 +9,42 @@ ghost use Rattle.interview.specs.ScriptEnds.{script_did};
 ghost use Rattle.interview.specs.StepEnds.{Gives, RunEnds, StartEnds, run_did};
 ghost use Rattle.interview.specs.Ends.{EndsByWord, Interviewed};
 ghost use Rattle.interview.specs.Given.{did_by, given_by};
-ghost use Rattle.interview.specs.Interview.{run_terms};
+ghost use Rattle.interview.specs.Meanings.{IsBeginning, Meaning, meaning_of, of_desk, of_session};
+ghost use Rattle.session_lines.specs.Stepping.{at_start};
+ghost use Rattle.desk_lines.specs.DeskStepping.{desk_at_start};
 ghost use Rattle.interview.specs.Words.{IsGen, IsRun, IsSave, beginning_of, program, texts, unanswered};
 ghost use Rattle.interview.specs.declared.built_in.BuiltIn.{BuiltIn};
 
 use crate::Status;
+use crate::alone::Alone;
 use crate::checking::check;
 use crate::ending::{end_by, end_by_fault, end_by_refused_line};
 use crate::fetching::Fetched;
 use crate::load_run::run_load;
 use crate::obtaining::obtain;
-use crate::resuming::{Ready, Resumed, put_front, resume};
+use crate::resuming::{Dropped, Ready, Resumed, put_front, resume};
 use crate::save_run::run_and_save;
 use crate::script::run;
-use crate::words::{Beginning, Engine, Form, form_of};
+use crate::talk::Talk;
+use crate::words::{Beginning, Form, Mode, form_of};
 use dictionary::{Dictionary, FactEngine};
 use fact_values::NoMemory;
 use fact_watch::WatchTable;
 use fg_io::{Failed, Shelf, Sink, Source};
-use graph_session::Session;
 use plain_table::PlainTable;
 use recalc::Recalc;
+use shared_desk::Desk;
 use std::alloc::Global;
 use std::marker::Brand;
 use std::sync::ledger::{Blank, Ledger};
 use steps::Steps;
 use text_checks::CheckTable;
 
-// Runs the script over the dictionary, with the results kept by this engine. Its steps are counted for nobody else. The session
-// stands before anything is written.
-fn run_over<E: FactEngine, L: Ledger, S: Source, K: Sink>(
+// Writes what stands before the replies, and runs the script. Its steps are counted for nobody else.
+fn run_behind<T: Talk, L: Ledger, S: Source, K: Sink>(
     alloc: Global,
-    dictionary: Dictionary,
-    ready: Ready,
+    talk: &mut T,
+    dropped: &Dropped,
     checks: &CheckTable,
     table: &WatchTable,
     script: &mut S,
@@ -51,30 +54,27 @@ fn run_over<E: FactEngine, L: Ledger, S: Source, K: Sink>(
     requires name { blank.name ≡ L.name }
     requires parts { blank.parts ≡ L.parts }
     requires some { 0 < blank.parts }
-    requires same_checks { SameChecks (rules dictionary)
+    requires same_checks { SameChecks (T.goes_by talk.old)
         (map {B = List ℕ × ℕ} (λ c. (c.name, c.code)) checks.now.checks.items) }
-    requires fit { AnswersFit (accepted dictionary).tree (answered ready.answers) }
-    requires given { (front : List ℕ) × Gives ready.dropped front }
-    ensures ends { (front : List ℕ) → Gives ready.dropped front → StartEnds (rules dictionary)
-        (record { answers = answered ready.answers; stamps = E.STAMPS; relations = (map {B = List ℕ × ℕ} (λ r. (r.name, r.code)) table.now.relations.items) }) front
+    requires unchanged { T.changes talk.old ≡ 0 }
+    requires meant { (m : Meaning) × IsBeginning m × T.means talk.old (map {B = List ℕ × ℕ} (λ r. (r.name, r.code)) table.now.relations.items) m }
+    requires given { (front : List ℕ) × Gives dropped.now front }
+    ensures { (front : List ℕ) → Gives dropped.now front → (m : Meaning) → IsBeginning m
+        → T.means talk.old (map {B = List ℕ × ℕ} (λ r. (r.name, r.code)) table.now.relations.items) m → StartEnds m front
         (script_did (S.left script.old) (S.left script.new) (K.taken out.old) (K.taken out.new)
         (S.faults script.old) (S.faults script.new) (K.faults out.old) (K.faults out.new))
         result }
 {
     let mut steps = Steps::<L>::new(blank);
-    match Session::<E>::resume(alloc, dictionary, ready.answers) {
-        Ok(mut session) => match put_front(&ready.dropped, out) {
-            Ok(()) => run(alloc, &mut session, table, checks, script, out, &mut steps),
-            Err(Failed) => Status::WriteFault,
-        },
-        Err(NoMemory) => Status::NoMemory,
+    match put_front(dropped, out) {
+        Ok(()) => run(alloc, talk, table, checks, script, out, &mut steps),
+        Err(Failed) => Status::WriteFault,
     }
 }
 
-// Runs the script over the dictionary, with the results kept as the words ask.
-fn run_by<S: Source, K: Sink>(
+// Runs the script by a session over this engine. The session stands before anything is written.
+fn run_alone<E: FactEngine, S: Source, K: Sink>(
     alloc: Global,
-    engine: Engine,
     dictionary: Dictionary,
     ready: Ready,
     checks: &CheckTable,
@@ -86,44 +86,98 @@ fn run_by<S: Source, K: Sink>(
         (map {B = List ℕ × ℕ} (λ c. (c.name, c.code)) checks.now.checks.items) }
     requires fit { AnswersFit (accepted dictionary).tree (answered ready.answers) }
     requires given { (front : List ℕ) × Gives ready.dropped front }
-    ensures ends { (front : List ℕ) → Gives ready.dropped front → StartEnds (rules dictionary)
-        (run_terms engine (map {B = List ℕ × ℕ} (λ r. (r.name, r.code)) table.now.relations.items) (answered ready.answers)) front
+    ensures { (front : List ℕ) → Gives ready.dropped front → StartEnds
+        (of_session (rules dictionary) (at_start (rules dictionary) (record { answers = answered ready.answers; stamps = E.STAMPS; relations = (map {B = List ℕ × ℕ} (λ r. (r.name, r.code)) table.now.relations.items) }))) front
         (script_did (S.left script.old) (S.left script.new) (K.taken out.old) (K.taken out.new)
         (S.faults script.old) (S.faults script.new) (K.faults out.old) (K.faults out.new))
         result }
 {
-    match engine {
-        Engine::Incremental => {
-            run_over::<Recalc, Brand, S, K>(
-                alloc,
-                dictionary,
-                ready,
-                checks,
-                table,
-                script,
-                out,
-                Blank::new(1),
-            )
+    match Alone::<E>::resume(alloc, dictionary, ready.answers) {
+        Ok(mut alone) => run_behind::<Alone<E>, Brand, S, K>(
+            alloc,
+            &mut alone,
+            &ready.dropped,
+            checks,
+            table,
+            script,
+            out,
+            Blank::new(1),
+        ),
+        Err(NoMemory) => Status::NoMemory,
+    }
+}
+
+// Runs the script at a desk of several parties.
+fn run_at_desk<S: Source, K: Sink>(
+    alloc: Global,
+    dictionary: Dictionary,
+    ready: Ready,
+    checks: &CheckTable,
+    table: &WatchTable,
+    script: &mut S,
+    out: &mut K,
+) -> Status
+    requires same_checks { SameChecks (rules dictionary)
+        (map {B = List ℕ × ℕ} (λ c. (c.name, c.code)) checks.now.checks.items) }
+    requires fit { AnswersFit (accepted dictionary).tree (answered ready.answers) }
+    requires given { (front : List ℕ) × Gives ready.dropped front }
+    ensures { (front : List ℕ) → Gives ready.dropped front → StartEnds
+        (of_desk (rules dictionary) (desk_at_start (rules dictionary) (answered ready.answers))) front
+        (script_did (S.left script.old) (S.left script.new) (K.taken out.old) (K.taken out.new)
+        (S.faults script.old) (S.faults script.new) (K.faults out.old) (K.faults out.new))
+        result }
+{
+    match Desk::<Recalc>::resume(alloc, dictionary, ready.answers) {
+        Ok(mut desk) => run_behind::<Desk<Recalc>, Brand, S, K>(
+            alloc,
+            &mut desk,
+            &ready.dropped,
+            checks,
+            table,
+            script,
+            out,
+            Blank::new(1),
+        ),
+        Err(NoMemory) => Status::NoMemory,
+    }
+}
+
+// Runs the script over the dictionary, in the mode that the words ask for.
+fn run_by<S: Source, K: Sink>(
+    alloc: Global,
+    mode: Mode,
+    dictionary: Dictionary,
+    ready: Ready,
+    checks: &CheckTable,
+    table: &WatchTable,
+    script: &mut S,
+    out: &mut K,
+) -> Status
+    requires same_checks { SameChecks (rules dictionary)
+        (map {B = List ℕ × ℕ} (λ c. (c.name, c.code)) checks.now.checks.items) }
+    requires fit { AnswersFit (accepted dictionary).tree (answered ready.answers) }
+    requires given { (front : List ℕ) × Gives ready.dropped front }
+    ensures { (front : List ℕ) → Gives ready.dropped front → StartEnds
+        (meaning_of (rules dictionary) mode (map {B = List ℕ × ℕ} (λ r. (r.name, r.code)) table.now.relations.items) (answered ready.answers)) front
+        (script_did (S.left script.old) (S.left script.new) (K.taken out.old) (K.taken out.new)
+        (S.faults script.old) (S.faults script.new) (K.faults out.old) (K.faults out.new))
+        result }
+{
+    match mode {
+        Mode::Incremental => {
+            run_alone::<Recalc, S, K>(alloc, dictionary, ready, checks, table, script, out)
         }
-        Engine::Plain => {
-            run_over::<PlainTable, Brand, S, K>(
-                alloc,
-                dictionary,
-                ready,
-                checks,
-                table,
-                script,
-                out,
-                Blank::new(1),
-            )
+        Mode::Plain => {
+            run_alone::<PlainTable, S, K>(alloc, dictionary, ready, checks, table, script, out)
         }
+        Mode::Desk => run_at_desk(alloc, dictionary, ready, checks, table, script, out),
     }
 }
 
 // Runs the script over an accepted dictionary, from the answers that the words ask for.
 fn run_from<H: Shelf, S: Source, K: Sink>(
     alloc: Global,
-    engine: Engine,
+    mode: Mode,
     beginning: Beginning<'_>,
     dictionary: Dictionary,
     checks: &CheckTable,
@@ -134,7 +188,7 @@ fn run_from<H: Shelf, S: Source, K: Sink>(
 ) -> Status
     requires { SameChecks (rules dictionary)
         (map {B = List ℕ × ℕ} (λ c. (c.name, c.code)) checks.now.checks.items) }
-    ensures ends { RunEnds (H.told shelf.old) (beginning_of beginning.entry) (rules dictionary) engine
+    ensures ends { RunEnds (H.told shelf.old) (beginning_of beginning.entry) (rules dictionary) mode
         (map {B = List ℕ × ℕ} (λ r. (r.name, r.code)) table.now.relations.items)
         (run_did (H.faults shelf.old) (H.faults shelf.new) (H.failed_name shelf.new)
         (script_did (S.left script.old) (S.left script.new) (K.taken out.old) (K.taken out.new)
@@ -144,7 +198,7 @@ fn run_from<H: Shelf, S: Source, K: Sink>(
 {
     match resume(alloc, beginning, &dictionary, checks, shelf) {
         Ok(Resumed::Begins(ready)) => {
-            run_by(alloc, engine, dictionary, ready, checks, table, script, out)
+            run_by(alloc, mode, dictionary, ready, checks, table, script, out)
         }
         Ok(Resumed::Refused(line)) => end_by_refused_line(out, line),
         Err(status) => status,
@@ -173,9 +227,9 @@ fn attempt<H: Shelf, S: Source, K: Sink>(
     ensures save_unfetched { (b : BuiltIn) → IsSave (texts words.now) (program b) → shelf.new ≡ shelf.old }
 {
     match form_of(words) {
-        Form::Run(engine, origin, beginning) => match obtain(alloc, origin, checks, shelf) {
+        Form::Run(mode, origin, beginning) => match obtain(alloc, origin, checks, shelf) {
             Ok(Fetched::Accepted(dictionary)) => run_from(
-                alloc, engine, beginning, dictionary, checks, table, shelf, script, out,
+                alloc, mode, beginning, dictionary, checks, table, shelf, script, out,
             ),
             Ok(Fetched::Refused(fault)) => end_by_fault(out, fault),
             Err(status) => status,

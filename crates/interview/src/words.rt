@@ -24,21 +24,23 @@ pub enum Beginning<'a> {
     Carry(&'a str),
 }
 
-/// What keeps the results of a run.
+/// How the lines of a script are answered.
 #[derive(Clone, Copy)]
-pub enum Engine {
-    /// The incremental engine, which numbers the changes and keeps stamps.
+pub enum Mode {
+    /// By a session over the incremental engine, which numbers the changes and keeps stamps.
     Incremental,
-    /// The whole table, made anew by each change, without stamps.
+    /// By a session over the whole table, made anew by each change, without stamps.
     Plain,
+    /// By a desk of several parties, over the incremental engine.
+    Desk,
 }
 
 /// What the words of the command line ask for.
 #[derive(Clone, Copy)]
 pub enum Form<'a> {
-    /// `run NAME`, `run-plain NAME`, `load NAME SAVED`, `carry NAME SAVED`, `year Y`, `carry-year Y SAVED` or `income 2023`: to run
-    /// a script over this dictionary, from these answers, with the results kept so.
-    Run(Engine, Origin<'a>, Beginning<'a>),
+    /// `run NAME`, `run-plain NAME`, `desk NAME`, `load NAME SAVED`, `carry NAME SAVED`, `year Y`, `carry-year Y SAVED` or
+    /// `income 2023`: to run a script over this dictionary, from these answers, in this mode.
+    Run(Mode, Origin<'a>, Beginning<'a>),
     /// `check NAME`: to say whether the dictionary of this name is accepted.
     Check(&'a str),
     /// `gen N`: to run the script of the load with so many sums over its dictionary.
@@ -55,12 +57,12 @@ fn form_of_year<'a>(year: &str) -> Form<'a>
 {
     match year {
         "2023" => Form::Run(
-            Engine::Incremental,
+            Mode::Incremental,
             Origin::BuiltIn(BuiltIn::Year2023),
             Beginning::Unanswered,
         ),
         "2024" => Form::Run(
-            Engine::Incremental,
+            Mode::Incremental,
             Origin::BuiltIn(BuiltIn::Year2024),
             Beginning::Unanswered,
         ),
@@ -74,7 +76,7 @@ fn form_of_income<'a>(year: &str) -> Form<'a>
 {
     match year {
         "2023" => Form::Run(
-            Engine::Incremental,
+            Mode::Incremental,
             Origin::BuiltIn(BuiltIn::Income2023),
             Beginning::Unanswered,
         ),
@@ -114,12 +116,9 @@ fn form_of_two<'a>(command: &str, word: &'a str) -> Form<'a>
     ensures { IsForm (command.now ∷ word.now ∷ []) result }
 {
     match command {
-        "run" => Form::Run(
-            Engine::Incremental,
-            Origin::File(word),
-            Beginning::Unanswered,
-        ),
-        "run-plain" => Form::Run(Engine::Plain, Origin::File(word), Beginning::Unanswered),
+        "run" => Form::Run(Mode::Incremental, Origin::File(word), Beginning::Unanswered),
+        "run-plain" => Form::Run(Mode::Plain, Origin::File(word), Beginning::Unanswered),
+        "desk" => Form::Run(Mode::Desk, Origin::File(word), Beginning::Unanswered),
         "check" => Form::Check(word),
         "year" => form_of_year(word),
         "gen" => form_of_gen(word),
@@ -136,12 +135,12 @@ fn form_of_carried_year<'a>(year: &str, saved: &'a str) -> Form<'a>
 {
     match year {
         "2023" => Form::Run(
-            Engine::Incremental,
+            Mode::Incremental,
             Origin::BuiltIn(BuiltIn::Year2023),
             Beginning::Carry(saved),
         ),
         "2024" => Form::Run(
-            Engine::Incremental,
+            Mode::Incremental,
             Origin::BuiltIn(BuiltIn::Year2024),
             Beginning::Carry(saved),
         ),
@@ -156,12 +155,12 @@ fn form_of_three<'a>(command: &str, word: &'a str, saved: &'a str) -> Form<'a>
 {
     match command {
         "load" => Form::Run(
-            Engine::Incremental,
+            Mode::Incremental,
             Origin::File(word),
             Beginning::Load(saved),
         ),
         "carry" => Form::Run(
-            Engine::Incremental,
+            Mode::Incremental,
             Origin::File(word),
             Beginning::Carry(saved),
         ),

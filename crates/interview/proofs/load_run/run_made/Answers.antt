@@ -1,10 +1,22 @@
-use Rattle.std.proofs.Common.{refl, ap}
+use Rattle.std.proofs.Common.{ℕ, true, List, map, ap, refl}
+use Rattle.answers.specs.Answered.{start}
+use Rattle.graph_session.specs.Rules.{rules}
 use Rattle.graph_session.specs.SessionView.{SessionView}
+use Rattle.interview.specs.declared.words.Mode.TheVariants.{Incremental}
+use Rattle.interview.specs.Meanings.{meaning_of}
+use Rattle.interview.proofs.MeaningLaws.{meaning_begins}
 use Rattle.interview.proofs.ScriptLaws.{not_begun}
+use Rattle.interview.proofs.TellingLaws.{begun_means}
 use Rattle.interview.proofs.load_run.run_made.Goals as goal
 
+pub run-requires-clause-meant : goal.run-requires-clause-meant
+run-requires-clause-meant g c = (meaning_of (rules c.args.dictionary) Incremental (map {B = List ℕ × ℕ} (λ r. (r.name, r.code)) c.args.table.now.relations.items) start, meaning_begins (rules c.args.dictionary) Incremental (map {B = List ℕ × ℕ} (λ r. (r.name, r.code)) c.args.table.now.relations.items) start, begun_means _ c.args.dictionary start true _ _ c.in-Ok.ensures.session c.in-Ok.ensures.watches)
+
+pub run-requires-clause-unchanged : goal.run-requires-clause-unchanged
+run-requires-clause-unchanged g c = ap (λ (s : SessionView). s.changes) c.in-Ok.ensures.session
+
 pub returns : goal.returns
-returns g c = record { ends = not_begun _ _ _ refl }
+returns g c = record { ends = not_begun (meaning_of (rules c.args.dictionary) Incremental (map {B = List ℕ × ℕ} (λ r. (r.name, r.code)) c.args.table.now.relations.items) start) (meaning_begins (rules c.args.dictionary) Incremental (map {B = List ℕ × ℕ} (λ r. (r.name, r.code)) c.args.table.now.relations.items) start) _ refl }
 
 pub returns-in-Ok : goal.returns-in-Ok
-returns-in-Ok g c = record { ends = rw (ap (λ (s : SessionView). s.dict) c.in-Ok.ensures, ap (λ (s : SessionView). s.timeline.now) c.in-Ok.ensures) at c.run.ensures.ends }
+returns-in-Ok g c = record { ends = c.run.ensures.ends (meaning_of (rules c.args.dictionary) Incremental (map {B = List ℕ × ℕ} (λ r. (r.name, r.code)) c.args.table.now.relations.items) start) (meaning_begins (rules c.args.dictionary) Incremental (map {B = List ℕ × ℕ} (λ r. (r.name, r.code)) c.args.table.now.relations.items) start) (begun_means _ c.args.dictionary start true _ _ c.in-Ok.ensures.session c.in-Ok.ensures.watches) }

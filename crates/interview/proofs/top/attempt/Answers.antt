@@ -8,7 +8,7 @@ use Rattle.interview.proofs.top.attempt.Goals as goal
 pub returns-in-Ok-Accepted : goal.returns-in-Ok-Accepted
 returns-in-Ok-Accepted g c =
     let had = rw c.in-Ok-Accepted.field-0-is at c.in-Ok-Accepted.ensures.obtained in
-    let asked : IsRun (texts c.args.words.now) (origin_of c.in-Run.origin) = record { beginning = beginning_of c.in-Run.beginning; engine = c.in-Run.engine; over = c.in-Run.ensures } in
+    let asked : IsRun (texts c.args.words.now) (origin_of c.in-Run.origin) = record { beginning = beginning_of c.in-Run.beginning; mode = c.in-Run.mode; over = c.in-Run.ensures } in
     record {
       ends = inl (ends_run _ _ (accepted_run _ _ had.0 _ asked had.1 had.2) _ _ c.run_from.result c.obtain.ensures.later c.obtain.ensures.kept c.run_from.ensures.ends);
       unfetched = λ b of_year none. c.run_from.ensures.unfetched (same_beginning _ _ _ asked of_year ∙ none) ∙ c.obtain.ensures.unfetched b (same_origin _ _ _ asked of_year);
@@ -19,7 +19,7 @@ returns-in-Ok-Accepted g c =
 pub returns-in-Ok-Refused : goal.returns-in-Ok-Refused
 returns-in-Ok-Refused g c =
     let had = rw c.in-Ok-Refused.field-0-is at c.in-Ok-Refused.ensures.obtained in
-    let asked : IsRun (texts c.args.words.now) (origin_of c.in-Run.origin) = record { beginning = beginning_of c.in-Run.beginning; engine = c.in-Run.engine; over = c.in-Run.ensures } in
+    let asked : IsRun (texts c.args.words.now) (origin_of c.in-Run.origin) = record { beginning = beginning_of c.in-Run.beginning; mode = c.in-Run.mode; over = c.in-Run.ensures } in
     record {
       ends = inl (ends_refused _ _ (faulty_run _ _ had.0 _ asked had.1 had.2) (refl, refl) c.end_by_fault.result c.end_by_fault.ensures);
       unfetched = λ b of_year none. c.obtain.ensures.unfetched b (same_origin _ _ _ asked of_year);
@@ -29,7 +29,7 @@ returns-in-Ok-Refused g c =
 
 pub returns-in-Err : goal.returns-in-Err
 returns-in-Err g c =
-    let asked : IsRun (texts c.args.words.now) (origin_of c.in-Run.origin) = record { beginning = beginning_of c.in-Run.beginning; engine = c.in-Run.engine; over = c.in-Run.ensures } in
+    let asked : IsRun (texts c.args.words.now) (origin_of c.in-Run.origin) = record { beginning = beginning_of c.in-Run.beginning; mode = c.in-Run.mode; over = c.in-Run.ensures } in
     record {
       ends = inl (ends_unobtained _ _ _ asked c.in-Err.status refl (refl, refl) c.in-Err.ensures.not_obtained);
       unfetched = λ b of_year none. c.obtain.ensures.unfetched b (same_origin _ _ _ asked of_year);

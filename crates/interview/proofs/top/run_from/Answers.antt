@@ -11,7 +11,7 @@ run_by-requires-clause-given g c = let had = rw c.in-Ok-Begins.field-0-is at c.i
 pub returns-in-Ok-Begins : goal.returns-in-Ok-Begins
 returns-in-Ok-Begins g c =
     let had = rw c.in-Ok-Begins.field-0-is at c.in-Ok-Begins.ensures.resumed in
-    record { ends = begins_and_ends _ _ _ c.args.engine _ _ c.in-Ok-Begins.ready c.run_by.result had c.run_by.ensures.ends; unfetched = c.resume.ensures.unfetched }
+    record { ends = begins_and_ends _ _ _ c.args.mode _ _ c.in-Ok-Begins.ready c.run_by.result had c.run_by.ensures; unfetched = c.resume.ensures.unfetched }
 
 pub returns-in-Ok-Refused : goal.returns-in-Ok-Refused
 returns-in-Ok-Refused g c =

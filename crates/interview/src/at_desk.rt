@@ -1,0 +1,59 @@
+// A desk answers the lines of a script: they are those of several parties.
+ghost use Rattle.std.specs.Prelude.{◌≡◌, ℕ, List, ◌+◌, ◌<◌, ◌≤◌, ◌^◌, ◌++◌, length, map};
+ghost use Rattle.script_lines.specs.Lines.{ended_lines, ready_lines, HasNoNewline};
+ghost use Rattle.graph_session.specs.Refusals.{SameChecks};
+ghost use Rattle.shared_desk.specs.Desk.{Desk as Defined};
+ghost use Rattle.shared_desk.specs.DeskView.{StandsFor, rules_of};
+ghost use Rattle.desk_lines.specs.DeskStepping.{desk_open};
+ghost use Rattle.interview.specs.Meanings.{Meaning, of_desk};
+ghost use Rattle.interview.specs.Telling.{LineToldAs, PieceToldAs};
+
+use crate::talk::Talk;
+use dictionary::FactEngine;
+use fact_watch::WatchTable;
+use fg_io::Sink;
+use script_lines::{Lines, Ready};
+use session_lines::Progress;
+use shared_desk::Desk;
+use std::alloc::Global;
+use std::sync::ledger::Ledger;
+use steps::Steps;
+use text_checks::CheckTable;
+
+impl<E: FactEngine> Talk for Desk<E> {
+    ghost means = { λ v relations m. (d : Defined) × StandsFor v d × (m ≡ of_desk (rules_of v) (desk_open d)) };
+
+    ghost goes_by = { rules_of };
+
+    ghost changes = { λ v. v.session.changes };
+
+    ghost stands = { λ v. v.session.timeline.now };
+
+    ghost most = { E.most };
+
+    fn answer_ready<L: Ledger, K: Sink>(
+        &mut self,
+        alloc: Global,
+        table: &WatchTable,
+        checks: &CheckTable,
+        ready: Ready,
+        line: &[u8],
+        out: &mut K,
+        steps: &mut Steps<L>,
+    ) -> Progress {
+        desk_lines::answer_ready(alloc, self, checks, ready, line, out, steps)
+    }
+
+    fn answer_piece<L: Ledger, K: Sink>(
+        &mut self,
+        alloc: Global,
+        table: &WatchTable,
+        checks: &CheckTable,
+        lines: &mut Lines,
+        out: &mut K,
+        bytes: &[u8],
+        steps: &mut Steps<L>,
+    ) -> Progress {
+        desk_lines::answer_piece(alloc, self, checks, lines, out, bytes, steps)
+    }
+}
