@@ -64,8 +64,17 @@ impl Answers {
         ensures from_one { IfOk result (λ a. FromOne (answered a)) }
     {
         let mut parts = Parts::starting_at(alloc, next);
-        parts.open_lists(lists.as_slice())?;
-        Ok(Answers { parts })
+        match parts.open_lists(lists.as_slice()) {
+            Ok(()) => {
+                drop(lists);
+                Ok(Answers { parts })
+            }
+            Err(NoMemory) => {
+                drop(lists);
+                drop(parts);
+                Err(NoMemory)
+            }
+        }
     }
 
     /// The members of a collection in their order, if it is open.

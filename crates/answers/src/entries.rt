@@ -124,10 +124,15 @@ impl Entries {
         ensures places { (k : ℕ) → HasFact self.old k → HasFact self.new k }
     {
         match self.kept.insert(fact, Pair::only(side, value)) {
-            Ok(_) => Ok(None),
+            Ok(old) => {
+                drop(old);
+                Ok(None)
+            }
             Err(failed) => {
                 let mut pair = failed.value.1;
-                Err(pair.replace(side, None))
+                let value = pair.replace(side, None);
+                drop(pair);
+                Err(value)
             }
         }
     }

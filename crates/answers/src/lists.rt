@@ -47,8 +47,16 @@ impl Lists {
             return Ok(());
         }
         let listed = Listed::new(alloc)?;
-        self.kept.insert(list, listed)?;
-        Ok(())
+        match self.kept.insert(list, listed) {
+            Ok(old) => {
+                drop(old);
+                Ok(())
+            }
+            Err(refused) => {
+                drop(refused);
+                Err(NoMemory)
+            }
+        }
     }
 
     /// Opens a collection that has a place, with these members.

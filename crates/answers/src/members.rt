@@ -50,7 +50,10 @@ impl Members {
         ensures place { OnOk result (HasMember self.new member) }
     {
         match self.kept.insert(member, Some(entries)) {
-            Ok(_) => Ok(()),
+            Ok(old) => {
+                drop(old);
+                Ok(())
+            }
             Err(failed) => match failed.value.1 {
                 Some(entries) => Err(entries),
                 None => Ok(()),
@@ -67,7 +70,10 @@ impl Members {
     {
         match self.store(member, Entries::new(alloc)) {
             Ok(()) => Ok(()),
-            Err(_) => Err(NoMemory),
+            Err(entries) => {
+                drop(entries);
+                Err(NoMemory)
+            }
         }
     }
 

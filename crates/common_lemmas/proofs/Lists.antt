@@ -1,5 +1,5 @@
 -- Elements of lists by their place, and tests of them.
-use Rattle.std.proofs.Common.{◌≡◌, ℕ, zero, suc, ◌≤◌, Bool, true, false, ◌&&◌, IsTrue, List, [], ◌∷◌, ◌++◌, Some, filter, length, refl, sym, ap, ◌∙◌, subst, append_assoc, arith}
+use Rattle.std.proofs.Common.{◌≡◌, ℕ, zero, suc, ◌≤◌, ◌<◌, Bool, true, false, ◌&&◌, IsTrue, List, [], ◌∷◌, ◌++◌, Some, filter, length, refl, sym, ap, ◌∙◌, subst, append_assoc, arith}
 use Rattle.std.specs.Prelude.{nat_eq, ◌==◌, ◌||◌, if◌then◌else◌}
 use Rattle.std.specs.List.{All, list_all, list_any, slice_get}
 use Rattle.std.proofs.lemmas.List.Elements.{All-head, All-tail}
@@ -17,6 +17,16 @@ pub one_at : {X : Type 0} (xs : List X) (i : ℕ) → suc i ≤ length xs → (x
 one_at [] i h = absurd (omega arith)
 one_at (x ∷ xs) zero h = (x, refl)
 one_at (x ∷ xs) (suc i) h = one_at xs i (omega arith)
+
+-- those before the last stay where they are
+pub get_left : {X : Type 0} (xs ys : List X) (i : ℕ) → i < length xs → slice_get (xs ++ ys) i ≡ slice_get xs i
+get_left [] ys i low = absurd (omega (arith, low))
+get_left (x ∷ xs) ys zero low = refl
+get_left (x ∷ xs) ys (suc i) low = get_left xs ys i (omega (arith, low))
+
+pub get_last : {X : Type 0} (xs : List X) (x : X) → slice_get (xs ++ x ∷ []) (length xs) ≡ Some x
+get_last [] x = refl
+get_last (y ∷ xs) x = get_last xs x
 
 pub any_number : (n : ℕ) (xs : List ℕ) → list_any (λ other. other == n) xs ≡ list_any (nat_eq n) xs
 any_number n [] = refl

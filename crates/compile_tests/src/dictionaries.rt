@@ -30,21 +30,32 @@ pub const CASES: &str =
 
 // A table with the check `nine-digits`; none for want of memory.
 fn checks(alloc: Global) -> Option<CheckTable> {
+    let name = Name::read(alloc, "nine-digits").ok()?;
     let check = Box::new(
         alloc,
         |text: &str| -> bool
             ensures { result ≡ check_says 2 text.now }
         { nine_digits(text) },
     );
+    let check = check.ok()?;
     let mut table = CheckTable::new(alloc);
-    table
-        .add(Name::read(alloc, "nine-digits").ok()?, 2, check.ok()?)
-        .ok()?;
-    Some(table)
+    match table.add(name, 2, check) {
+        Ok(()) => Some(table),
+        Err(_) => {
+            drop(table);
+            None
+        }
+    }
 }
 
 /// The dictionary of this text, with the check `nine-digits`; none where it is refused, or for want of memory.
 pub fn accepted(alloc: Global, dictionary: &str) -> Option<Dictionary> {
-    let checks = checks(alloc)?;
-    accept(alloc, dictionary.as_bytes(), &checks).ok()
+    match checks(alloc) {
+        Some(checks) => {
+            let dictionary = accept(alloc, dictionary.as_bytes(), &checks).ok();
+            drop(checks);
+            dictionary
+        }
+        None => None,
+    }
 }

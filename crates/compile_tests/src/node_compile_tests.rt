@@ -2,7 +2,7 @@
 use crate::dictionaries::{
     AMOUNTS, CASES, CHECKED, CONDITIONS, MEMBERS, SUM, SUM_OVER_A_PLACEHOLDER, accepted,
 };
-use crate::node_texts::write_node;
+use crate::node_texts::{put, put_number, write_node};
 use dictionary::Dictionary;
 use fact_values::NoMemory;
 use node_compile::{Compiled, compile};
@@ -20,10 +20,10 @@ fn write_line(
     match node {
         None => Ok(()),
         Some(node) => {
-            write!(text, "{fact}{word} ")?;
+            put_number(text, "", fact as i64)?;
+            put(text, word)?;
             write_node(text, node)?;
-            text.push_str("\n")?;
-            Ok(())
+            put(text, "\n")
         }
     }
 }
@@ -31,8 +31,8 @@ fn write_line(
 fn write_all(text: &mut String, all: &Compiled, count: u32) -> Result<(), NoMemory> {
     for place in 0..count {
         let fact = place + 1;
-        write_line(text, fact, "", all.main(fact))?;
-        write_line(text, fact, " else", all.placeholder(fact))?;
+        write_line(text, fact, " ", all.main(fact))?;
+        write_line(text, fact, " else ", all.placeholder(fact))?;
     }
     Ok(())
 }
@@ -44,14 +44,26 @@ fn text_of_nodes(alloc: Global, all: &Compiled, count: u32) -> Option<String> {
 }
 
 fn text_of_facts(alloc: Global, dict: &Dictionary) -> Option<String> {
-    let all = compile(alloc, dict).ok()?;
-    text_of_nodes(alloc, &all, dict.fact_count())
+    match compile(alloc, dict) {
+        Ok(all) => {
+            let text = text_of_nodes(alloc, &all, dict.fact_count());
+            drop(all);
+            text
+        }
+        Err(NoMemory) => None,
+    }
 }
 
 // The nodes of the facts of a dictionary.
 fn text_of(alloc: Global, dictionary: &str) -> Option<String> {
-    let dict = accepted(alloc, dictionary)?;
-    text_of_facts(alloc, &dict)
+    match accepted(alloc, dictionary) {
+        Some(dict) => {
+            let text = text_of_facts(alloc, &dict);
+            drop(dict);
+            text
+        }
+        None => None,
+    }
 }
 
 fn has_nodes(alloc: Global, dictionary: &str, nodes: &str) -> bool {
@@ -108,47 +120,63 @@ const NODES_OF_PATHS: &str = "1 else 3
 17 Find /15 [All [Dependency 16] [Dependency ../5] [IsComplete /1] [IsComplete /6/3] [IsComplete ../7/3]]
 ";
 
-#[test]
-fn facts_have_the_nodes_of_their_expressions(rt: HostRuntime) {
-    let alloc = rt.alloc();
-    let sum = "3 Add [Dependency /1] [Dependency /2]\n";
-    assert!(rt; has_nodes(alloc, SUM, sum));
-    let with_placeholder = "2 else 0c\n3 Add [Dependency /1] [Dependency /2]\n";
-    assert!(rt; has_nodes(alloc, SUM_OVER_A_PLACEHOLDER, with_placeholder));
-    let conditions = "3 All [Dependency /1] [Dependency /2]
+const NODES_OF_CONDITIONS: &str = "3 All [Dependency /1] [Dependency /2]
 4 Switch [Dependency /1][1] [Dependency /2][2]
 5 IsComplete /1
 ";
-    assert!(rt; has_nodes(alloc, CONDITIONS, conditions));
-    let members = "4 Filter /1 [Dependency 2]
+
+const NODES_OF_MEMBERS: &str = "4 Filter /1 [Dependency 2]
 5 Find /1 [Dependency 2]
 6 SumInt /4/*/3
 7 Dependency /5/3
 ";
-    assert!(rt; has_nodes(alloc, MEMBERS, members));
-    assert!(rt; has_nodes(alloc, CHECKED, ""));
-    let cases = "1 else false\n2 Switch [Dependency /1][1] [true][2]\n";
-    assert!(rt; has_nodes(alloc, CASES, cases));
-    let conditional = "3 Switch [Dependency /1][7] [true][Dependency /2]\n";
-    assert!(rt; has_nodes(alloc, CONDITIONAL, conditional));
+
+fn have_nodes(alloc: Global) -> bool {
+    has_nodes(alloc, SUM, "3 Add [Dependency /1] [Dependency /2]\n")
+        && has_nodes(alloc, CONDITIONS, NODES_OF_CONDITIONS)
+        && has_nodes(alloc, MEMBERS, NODES_OF_MEMBERS)
+        && has_nodes(alloc, CHECKED, "")
+}
+
+fn have_nodes_with_placeholders_and_conditionals(alloc: Global) -> bool {
+    has_nodes(
+        alloc,
+        SUM_OVER_A_PLACEHOLDER,
+        "2 else 0c\n3 Add [Dependency /1] [Dependency /2]\n",
+    ) && has_nodes(
+        alloc,
+        CASES,
+        "1 else false\n2 Switch [Dependency /1][1] [true][2]\n",
+    ) && has_nodes(
+        alloc,
+        CONDITIONAL,
+        "3 Switch [Dependency /1][7] [true][Dependency /2]\n",
+    )
 }
 
 #[test]
-fn constants_are_read_and_operations_kept(rt: HostRuntime) {
-    let alloc = rt.alloc();
-    let amounts = "2 Add [999999999999999c] [1c] [-1c]
+fn facts_have_the_nodes_of_their_expressions(rt: HostRuntime) {
+    assert!(rt; have_nodes(rt.alloc()));
+    assert!(rt; have_nodes_with_placeholders_and_conditionals(rt.alloc()));
+}
+
+const NODES_OF_AMOUNTS: &str = "2 Add [999999999999999c] [1c] [-1c]
 3 Add [999999999999999c] [1c]
 4 Multiply [10005c] [1:2]
 5 Divide [100c] [0]
 6 Any [Equal [Dependency /5] [0c]] [Dependency /1]
 ";
-    assert!(rt; has_nodes(alloc, AMOUNTS, amounts));
-    let kinds = "1 day 1
+
+const NODES_OF_KINDS: &str = "1 day 1
 2 a b
 3 option 1 1
 4 Any [Not [true]] [GreaterThan [Round [150c]] [100c]]
 ";
-    assert!(rt; has_nodes(alloc, KINDS, kinds));
+
+#[test]
+fn constants_are_read_and_operations_kept(rt: HostRuntime) {
+    assert!(rt; has_nodes(rt.alloc(), AMOUNTS, NODES_OF_AMOUNTS));
+    assert!(rt; has_nodes(rt.alloc(), KINDS, NODES_OF_KINDS));
 }
 
 #[test]

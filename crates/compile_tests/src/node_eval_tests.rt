@@ -44,57 +44,175 @@ fn counted<L: Ledger>(
     eval(alloc, node, cells, 0, 0, &mut steps)
 }
 
-fn gives(alloc: Global, node: &Node, cells: &Row, wanted: &Res) -> Result<bool, NoMemory> {
-    let res = counted::<Brand>(alloc, node, cells, Blank::new(1))?;
-    Ok(res.same(wanted))
+fn gives(alloc: Global, node: &Node, cells: &Row, wanted: &Res) -> bool {
+    match counted::<Brand>(alloc, node, cells, Blank::new(1)) {
+        Ok(res) => {
+            let is_same = res.same(wanted);
+            drop(res);
+            is_same
+        }
+        Err(NoMemory) => false,
+    }
 }
 
-fn whole(n: i64) -> Result<Value, Fail> {
-    Ok(Value::Int(Whole::new(n).ok_or("no number")?))
+fn whole(n: i64) -> Value {
+    match Whole::new(n) {
+        Some(n) => Value::Int(n),
+        None => Value::Item(0),
+    }
 }
 
-fn list(alloc: Global, members: &[u32]) -> Result<Value, Fail> {
-    let items = Vec::from_slice(alloc, members)?;
-    Ok(Value::Members(Members::new(items).ok_or("no members")?))
+fn list(alloc: Global, members: &[u32]) -> Option<Value> {
+    let items = Vec::from_slice(alloc, members).ok()?;
+    Some(Value::Members(Members::new(items)?))
 }
 
-fn two_cells(alloc: Global, first: Res, second: Res) -> Result<Row, Fail> {
-    let mut cells = Vec::new(alloc);
-    cells.push(first)?;
-    cells.push(second)?;
-    Ok(Row { cells })
+// Each of these is none where memory is wanting.
+fn two_cells(alloc: Global, first: Res, second: Res) -> Option<Row> {
+    let cells = Vec::from_array(alloc, [first, second]).ok()?;
+    Some(Row { cells })
+}
+
+fn sum(alloc: Global) -> Option<Node> {
+    let operands = [
+        Node::Read(NodeRead::Dependency, Reader::Global(0)),
+        Node::Read(NodeRead::Dependency, Reader::Same(1)),
+    ];
+    let operands = Vec::from_array(alloc, operands).ok()?;
+    Some(Node::Many(ManyOp::Add, operands))
+}
+
+fn gives_the_sum(alloc: Global, row: &Row, wanted: &Res) -> bool {
+    match sum(alloc) {
+        Some(node) => {
+            let gives = gives(alloc, &node, row, wanted);
+            drop(node);
+            gives
+        }
+        None => false,
+    }
+}
+
+fn gives_five(alloc: Global, row: &Row) -> bool {
+    let wanted = Res::Placeholder(whole(5));
+    let gives = gives_the_sum(alloc, row, &wanted);
+    drop(wanted);
+    gives
+}
+
+fn row_of_numbers(alloc: Global) -> Option<Row> {
+    two_cells(alloc, Res::Complete(whole(2)), Res::Placeholder(whole(3)))
+}
+
+// None where memory is wanting, as in the others.
+fn sums(alloc: Global) -> Option<bool> {
+    match row_of_numbers(alloc) {
+        Some(row) => {
+            let gives = gives_five(alloc, &row);
+            drop(row);
+            Some(gives)
+        }
+        None => None,
+    }
 }
 
 #[test]
 fn a_sum_over_a_placeholder(rt: HostRuntime) -> Result<(), Fail> {
-    let first = Res::Complete(whole(2)?);
-    let row = two_cells(rt.alloc(), first, Res::Placeholder(whole(3)?))?;
-    let mut operands = Vec::new(rt.alloc());
-    operands.push(Node::Read(NodeRead::Dependency, Reader::Global(0)))?;
-    operands.push(Node::Read(NodeRead::Dependency, Reader::Same(1)))?;
-    let node = Node::Many(ManyOp::Add, operands);
-    let wanted = Res::Placeholder(whole(5)?);
-    assert!(rt; gives(rt.alloc(), &node, &row, &wanted)?);
+    let sums = sums(rt.alloc()).ok_or("no memory")?;
+    assert!(rt; sums);
     Ok(())
+}
+
+fn row_of_members(alloc: Global) -> Option<Row> {
+    let members = list(alloc, &[1, 2])?;
+    two_cells(
+        alloc,
+        Res::Complete(members),
+        Res::Complete(Value::Boolean(true)),
+    )
+}
+
+fn find(alloc: Global) -> Option<Node> {
+    let test = Node::Read(NodeRead::Dependency, Reader::Inner(0));
+    let test = Box::new(alloc, test).ok()?;
+    Some(Node::Pick(PickOp::Find, Reader::Global(0), test))
+}
+
+fn gives_the_found(alloc: Global, row: &Row, wanted: &Res) -> bool {
+    match find(alloc) {
+        Some(node) => {
+            let gives = gives(alloc, &node, row, wanted);
+            drop(node);
+            gives
+        }
+        None => false,
+    }
+}
+
+fn gives_the_first(alloc: Global, row: &Row) -> bool {
+    let wanted = Res::Complete(Value::Item(1));
+    let gives = gives_the_found(alloc, row, &wanted);
+    drop(wanted);
+    gives
+}
+
+fn finds(alloc: Global) -> Option<bool> {
+    match row_of_members(alloc) {
+        Some(row) => {
+            let gives = gives_the_first(alloc, &row);
+            drop(row);
+            Some(gives)
+        }
+        None => None,
+    }
 }
 
 // The condition is complete at member 1, and has no cell at member 2.
 #[test]
 fn a_find_ends_at_the_member_that_it_finds(rt: HostRuntime) -> Result<(), Fail> {
-    let members = Res::Complete(list(rt.alloc(), &[1, 2])?);
-    let row = two_cells(rt.alloc(), members, Res::Complete(Value::Boolean(true)))?;
-    let test = Node::Read(NodeRead::Dependency, Reader::Inner(0));
-    let node = Node::Pick(PickOp::Find, Reader::Global(0), Box::new(rt.alloc(), test)?);
-    assert!(rt; gives(rt.alloc(), &node, &row, &Res::Complete(Value::Item(1)))?);
+    let finds = finds(rt.alloc()).ok_or("no memory")?;
+    assert!(rt; finds);
     Ok(())
+}
+
+fn row_of_a_list(alloc: Global) -> Option<Row> {
+    let members = list(alloc, &[4, 3])?;
+    two_cells(alloc, Res::Incomplete, Res::Placeholder(members))
+}
+
+fn gives_a_copy(alloc: Global, row: &Row, wanted: &Res) -> bool {
+    let node = Node::Read(NodeRead::Dependency, Reader::Global(1));
+    let gives = gives(alloc, &node, row, wanted);
+    drop(node);
+    gives
+}
+
+fn gives_the_list(alloc: Global, row: &Row) -> bool {
+    match list(alloc, &[4, 3]) {
+        Some(members) => {
+            let wanted = Res::Placeholder(members);
+            let gives = gives_a_copy(alloc, row, &wanted);
+            drop(wanted);
+            gives
+        }
+        None => false,
+    }
+}
+
+fn copies(alloc: Global) -> Option<bool> {
+    match row_of_a_list(alloc) {
+        Some(row) => {
+            let gives = gives_the_list(alloc, &row);
+            drop(row);
+            Some(gives)
+        }
+        None => None,
+    }
 }
 
 #[test]
 fn a_list_is_copied(rt: HostRuntime) -> Result<(), Fail> {
-    let members = Res::Placeholder(list(rt.alloc(), &[4, 3])?);
-    let row = two_cells(rt.alloc(), Res::Incomplete, members)?;
-    let node = Node::Read(NodeRead::Dependency, Reader::Global(1));
-    let wanted = Res::Placeholder(list(rt.alloc(), &[4, 3])?);
-    assert!(rt; gives(rt.alloc(), &node, &row, &wanted)?);
+    let copies = copies(rt.alloc()).ok_or("no memory")?;
+    assert!(rt; copies);
     Ok(())
 }

@@ -4,30 +4,57 @@ use dict_tree::{ManyOp, OneOp, PickOp, TwoOp};
 use fact_values::{NoMemory, Value};
 use node_eval::{Node, NodeCase, NodeRead, Reader};
 
+/// Appends a text.
+pub fn put(text: &mut String, part: &str) -> Result<(), NoMemory> {
+    text.push_str(part)?;
+    Ok(())
+}
+
+/// Appends a number behind a text.
+pub fn put_number(text: &mut String, before: &str, number: i64) -> Result<(), NoMemory> {
+    put(text, before)?;
+    write!(text, "{number}")?;
+    Ok(())
+}
+
+fn put_cents(text: &mut String, cents: i64) -> Result<(), NoMemory> {
+    put_number(text, "", cents)?;
+    put(text, "c")
+}
+
+fn put_two(
+    text: &mut String,
+    before: &str,
+    first: i64,
+    between: &str,
+    second: i64,
+) -> Result<(), NoMemory> {
+    put_number(text, before, first)?;
+    put_number(text, between, second)
+}
+
 fn write_value(text: &mut String, value: &Value) -> Result<(), NoMemory> {
     match value {
-        Value::Boolean(b) => write!(text, "{b}")?,
-        Value::Int(n) => write!(text, "{}", n.get())?,
-        Value::Dollar(amount) => write!(text, "{}c", amount.cents())?,
-        Value::Rational(q) => write!(text, "{}:{}", q.num(), q.den())?,
-        Value::Day(day) => write!(text, "day {}", day.number())?,
-        Value::Text(of) => text.push_str(of.as_str())?,
-        Value::Choice(list, place) => write!(text, "option {list} {place}")?,
-        _ => text.push_str("?")?,
+        Value::Boolean(b) => put(text, if *b { "true" } else { "false" }),
+        Value::Int(n) => put_number(text, "", n.get()),
+        Value::Dollar(amount) => put_cents(text, amount.cents()),
+        Value::Rational(q) => put_two(text, "", q.num(), ":", q.den()),
+        Value::Day(day) => put_number(text, "day ", day.number()),
+        Value::Text(of) => put(text, of.as_str()),
+        Value::Choice(list, place) => put_two(text, "option ", *list as i64, " ", *place as i64),
+        _ => put(text, "?"),
     }
-    Ok(())
 }
 
 fn write_reader(text: &mut String, reader: Reader) -> Result<(), NoMemory> {
     match reader {
-        Reader::Global(n) => write!(text, "/{n}")?,
-        Reader::Same(n) => write!(text, "../{n}")?,
-        Reader::Inner(n) => write!(text, "{n}")?,
-        Reader::Each(n, m) => write!(text, "/{n}/*/{m}")?,
-        Reader::Through(n, m) => write!(text, "/{n}/{m}")?,
-        Reader::SameThrough(n, m) => write!(text, "../{n}/{m}")?,
+        Reader::Global(n) => put_number(text, "/", n as i64),
+        Reader::Same(n) => put_number(text, "../", n as i64),
+        Reader::Inner(n) => put_number(text, "", n as i64),
+        Reader::Each(n, m) => put_two(text, "/", n as i64, "/*/", m as i64),
+        Reader::Through(n, m) => put_two(text, "/", n as i64, "/", m as i64),
+        Reader::SameThrough(n, m) => put_two(text, "../", n as i64, "/", m as i64),
     }
-    Ok(())
 }
 
 fn read_name(read: NodeRead) -> &'static str {
@@ -87,28 +114,28 @@ pub fn write_node(text: &mut String, node: &Node) -> Result<(), NoMemory> {
     match node {
         Node::Const(value) => write_value(text, value),
         Node::Read(read, reader) => {
-            text.push_str(read_name(*read))?;
+            put(text, read_name(*read))?;
             write_reader(text, *reader)
         }
         Node::Switch(cases) => write_cases(text, cases.as_slice()),
         Node::Many(op, operands) => {
-            text.push_str(many_name(*op))?;
+            put(text, many_name(*op))?;
             write_operands(text, operands.as_slice())
         }
         Node::One(op, operand) => {
-            text.push_str(one_name(*op))?;
+            put(text, one_name(*op))?;
             write_operand(text, operand)
         }
         Node::Two(op, left, right) => {
-            text.push_str(two_name(*op))?;
+            put(text, two_name(*op))?;
             write_operand(text, left)?;
-            text.push_str(" ")?;
+            put(text, " ")?;
             write_operand(text, right)
         }
         Node::Pick(op, list, test) => {
-            text.push_str(pick_name(*op))?;
+            put(text, pick_name(*op))?;
             write_reader(text, *list)?;
-            text.push_str(" ")?;
+            put(text, " ")?;
             write_operand(text, test)
         }
     }
@@ -116,16 +143,15 @@ pub fn write_node(text: &mut String, node: &Node) -> Result<(), NoMemory> {
 
 #[cycle(writing)]
 fn write_operand(text: &mut String, operand: &Node) -> Result<(), NoMemory> {
-    text.push_str("[")?;
+    put(text, "[")?;
     write_node(text, operand)?;
-    text.push_str("]")?;
-    Ok(())
+    put(text, "]")
 }
 
 #[cycle(writing)]
 fn write_operands(text: &mut String, operands: &[Node]) -> Result<(), NoMemory> {
     for operand in operands {
-        text.push_str(" ")?;
+        put(text, " ")?;
         write_operand(text, operand)?;
     }
     Ok(())
@@ -133,9 +159,9 @@ fn write_operands(text: &mut String, operands: &[Node]) -> Result<(), NoMemory> 
 
 #[cycle(writing)]
 fn write_cases(text: &mut String, cases: &[NodeCase]) -> Result<(), NoMemory> {
-    text.push_str("Switch")?;
+    put(text, "Switch")?;
     for case in cases {
-        text.push_str(" ")?;
+        put(text, " ")?;
         write_operand(text, &case.test)?;
         write_operand(text, &case.outcome)?;
     }

@@ -1,6 +1,6 @@
 //! The nodes of the tax years, fact by fact, each compared with a text that was worked out by hand from the rules.
 
-use crate::node_texts::write_node;
+use crate::node_texts::{put, put_number, write_node};
 use dictionary::Dictionary;
 use fact_values::NoMemory;
 use node_compile::{Compiled, compile};
@@ -84,12 +84,17 @@ OLD_BEFORE day -3652
 UNDER_19_AFTER day 13148
 UNDER_24_AFTER day 11322";
 
-// The text with the figures of these lines in place of their names.
+// The text with the figure of this line in place of its name.
+fn with_figure(alloc: Global, text: &str, line: &str) -> Result<String, NoMemory> {
+    let (name, figure) = line.split_once(' ').unwrap_or((line, ""));
+    Ok(text.replace(alloc, name, figure)?)
+}
+
+// The text with the figures of all these lines.
 fn with_figures(alloc: Global, figures: &str) -> Result<String, NoMemory> {
     let mut text = String::from_str(alloc, NODES)?;
     for line in figures.lines() {
-        let (name, figure) = line.split_once(' ').unwrap_or((line, ""));
-        text = text.as_str().replace(alloc, name, figure)?;
+        text = with_figure(alloc, text.as_str(), line)?;
     }
     Ok(text)
 }
@@ -98,7 +103,7 @@ fn write_part(text: &mut String, word: &str, node: Option<&Node>) -> Result<(), 
     match node {
         None => Ok(()),
         Some(node) => {
-            text.push_str(word)?;
+            put(text, word)?;
             write_node(text, node)
         }
     }
@@ -117,8 +122,9 @@ fn write_fact(
     all: &Compiled,
     fact: u32,
 ) -> Result<(), NoMemory> {
-    write!(text, "{fact} ")?;
-    text.push_str(path_of(dict, fact))?;
+    put_number(text, "", fact as i64)?;
+    put(text, " ")?;
+    put(text, path_of(dict, fact))?;
     write_part(text, " ", all.main(fact))?;
     write_part(text, " else ", all.placeholder(fact))
 }
@@ -157,19 +163,25 @@ fn expect_year(
     figures: &str,
 ) -> Result<(), NoMemory> {
     let all = compile(alloc, dict)?;
-    expect_nodes(rt, alloc, dict, &all, figures)
+    let end = expect_nodes(rt, alloc, dict, &all, figures);
+    drop(all);
+    end
 }
 
 #[test]
 fn each_fact_of_2023_has_the_nodes_of_its_rule(rt: HostRuntime) -> Result<(), Fail> {
     let dict = year_2023(rt.alloc())?;
-    expect_year(&rt, rt.alloc(), &dict, FIGURES_OF_2023)?;
+    let end = expect_year(&rt, rt.alloc(), &dict, FIGURES_OF_2023);
+    drop(dict);
+    end?;
     Ok(())
 }
 
 #[test]
 fn each_fact_of_2024_has_the_nodes_of_its_rule(rt: HostRuntime) -> Result<(), Fail> {
     let dict = year_2024(rt.alloc())?;
-    expect_year(&rt, rt.alloc(), &dict, FIGURES_OF_2024)?;
+    let end = expect_year(&rt, rt.alloc(), &dict, FIGURES_OF_2024);
+    drop(dict);
+    end?;
     Ok(())
 }

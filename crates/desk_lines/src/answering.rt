@@ -73,7 +73,11 @@ fn answer_line<E: FactEngine, L: Ledger, K: Sink>(
     ensures steps { steps.new ≤ steps.old + steps_of_party_line E.most (rules_of desk.old) (course desk.old.session) (whole line.now) }
 {
     match read_party_line(alloc, line) {
-        Ok(said) => answer_said(alloc, desk, checks, &said, out, steps),
+        Ok(said) => {
+            let progress = answer_said(alloc, desk, checks, &said, out, steps);
+            drop(said);
+            progress
+        }
         Err(NoMemory) => Progress::OutOfMemory,
     }
 }

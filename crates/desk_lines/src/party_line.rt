@@ -60,6 +60,7 @@ fn said_of(party: u32, command: Command) -> PartyLine
     ensures { result ≡ said_by party (of_command command) }
 {
     if is_watching(&command) {
+        drop(command);
         PartyLine::NoCommand(party)
     } else {
         PartyLine::Asks(party, command)

@@ -1,8 +1,7 @@
-//! What tests of desks begin with: a desk over a dictionary, and lines of its parties.
+//! What a test of a desk begins with: a desk over a dictionary, and lines of its parties.
 ghost use Rattle.std.specs.Prelude.{◌≡◌, ◌<◌};
 
 use dictionary::{Dictionary, accept};
-use fact_values::Slot;
 use graph_session::{Refusal, Reply};
 use recalc::Recalc;
 use script_lines::{Command, command_of};
@@ -10,39 +9,24 @@ use shared_desk::{Desk, DeskRefusal};
 use std::alloc::Global;
 use std::marker::Brand;
 use std::sync::ledger::{Blank, Ledger};
-use std::test::Fail;
 use steps::Steps;
 use text_checks::CheckTable;
-
-/// Two amounts and their sum.
-pub const SUM: &str =
-    r#"{"path":"/a","writable":"Dollar"},{"path":"/b","writable":"Dollar"},{"path":"/s","derived":"Dollar","is":["Add",["Dependency","/a"],["Dependency","/b"]]}"#;
-
-pub const A: Slot = Slot { fact: 1, member: 0 };
-
-pub const S: Slot = Slot { fact: 3, member: 0 };
-
-/// A collection whose members have a number each.
-pub const MEMBERS: &str =
-    r#"{"path":"/c","writable":"Collection"},{"path":"/c/*/v","writable":"Int"}"#;
 
 /// What a party is answered.
 pub type Said = Result<Reply, DeskRefusal>;
 
-pub const DONE: Said = Ok(Reply::Done);
-
-/// A party, its line, and what it is to be answered.
-pub type Row = (u32, &'static str, Said);
-
-fn accepted(alloc: Global, facts: &str) -> Result<Dictionary, Fail> {
-    let text = format!(in alloc; "{{\"version\":\"1\",\"facts\":[{facts}]}}")?;
-    Ok(accept(alloc, text.as_bytes(), &CheckTable::new(alloc))?)
+fn accepted(alloc: Global, dict: &str) -> Option<Dictionary> {
+    let checks = CheckTable::new(alloc);
+    let dictionary = accept(alloc, dict.as_bytes(), &checks).ok();
+    drop(checks);
+    dictionary
 }
 
-// A desk at which nobody has done anything, over the dictionary with these facts.
-fn begin(alloc: Global, facts: &str) -> Result<Desk<Recalc>, Fail> {
-    let dict = accepted(alloc, facts)?;
-    Ok(Desk::new(alloc, dict)?)
+/// A desk at which nobody has done anything, over the dictionary of this text: none where it isn't accepted, or memory is
+/// wanting.
+pub fn begin(alloc: Global, dict: &str) -> Option<Desk<Recalc>> {
+    let dict = accepted(alloc, dict)?;
+    Desk::new(alloc, dict).ok()
 }
 
 fn said_counted<L: Ledger>(
@@ -65,7 +49,20 @@ fn said_counted<L: Ledger>(
 
 fn said(alloc: Global, desk: &mut Desk<Recalc>, party: u32, command: &Command) -> Said {
     let checks = CheckTable::new(alloc);
-    said_counted::<Brand>(desk, party, command, &checks, Blank::new(1))
+    let said = said_counted::<Brand>(desk, party, command, &checks, Blank::new(1));
+    drop(checks);
+    said
+}
+
+fn is_answered(
+    alloc: Global,
+    desk: &mut Desk<Recalc>,
+    party: u32,
+    command: &Command,
+    wanted: &Said,
+) -> bool {
+    let said = said(alloc, desk, party, command);
+    said == *wanted
 }
 
 fn spelled(alloc: Global, line: &str) -> Option<Command> {
@@ -75,39 +72,20 @@ fn spelled(alloc: Global, line: &str) -> Option<Command> {
     command_of(alloc, line.as_bytes()).ok()?
 }
 
-// Whether it is what is wanted: none where memory is wanting.
-fn is_same(said: Said, wanted: Said) -> Option<bool> {
-    if said == Err(DeskRefusal::Session(Refusal::NoMemory)) {
-        None
-    } else {
-        Some(said == wanted)
-    }
-}
-
-fn is_said(
+/// Whether the party's line is answered so.
+pub fn is_said(
     alloc: Global,
     desk: &mut Desk<Recalc>,
     party: u32,
     line: &str,
-    wanted: Said,
-) -> Option<bool> {
-    let command = spelled(alloc, line)?;
-    is_same(said(alloc, desk, party, &command), wanted)
-}
-
-// How many rows come before the first that isn't answered as it says: none where memory is wanting.
-fn count_said(alloc: Global, desk: &mut Desk<Recalc>, rows: &[Row]) -> Option<usize> {
-    for n in 0..rows.len() {
-        let (party, line, wanted) = rows[n];
-        if !is_said(alloc, desk, party, line, wanted)? {
-            return Some(n);
+    wanted: &Said,
+) -> bool {
+    match spelled(alloc, line) {
+        Some(command) => {
+            let is_answered = is_answered(alloc, desk, party, &command, wanted);
+            drop(command);
+            is_answered
         }
+        None => false,
     }
-    Some(rows.len())
-}
-
-/// How many rows are answered as they say, one after another, at a new desk over the dictionary with these facts.
-pub fn run(alloc: Global, facts: &str, rows: &[Row]) -> Result<usize, Fail> {
-    let mut desk = begin(alloc, facts)?;
-    Ok(count_said(alloc, &mut desk, rows).ok_or("no memory")?)
 }

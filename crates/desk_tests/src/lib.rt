@@ -1,11 +1,7 @@
-//! The tests of desks over the incremental engine.
+//! A test of desks over the incremental engine, by calls. What parties are answered is stored cases of the program.
 #![tactic(auto)]
 
 #[cfg(test)]
 mod desk_begun;
 #[cfg(test)]
-mod order_tests;
-#[cfg(test)]
-mod party_tests;
-#[cfg(test)]
-mod stale_tests;
+mod line_tests;

@@ -10,6 +10,7 @@ use Rattle.dict_tree.specs.Facts.{Fact}
 use Rattle.dict_tree.specs.Finding.{find_path, is_path}
 use Rattle.dict_tree.proofs.FindingLaws.{is_path-some}
 use Rattle.dict_order.proofs.ListLaws.{at_most_or_above}
+use Rattle.common_lemmas.proofs.Lists.{get_last}
 use Rattle.dict_gen.specs.Chain.{chain, chain_facts, member_facts, sum_fact}
 use Rattle.dict_gen.proofs.SumNames.{names_differ, sum_name, sum_path_is}
 
@@ -48,10 +49,6 @@ get_kept : {X : Type 0} (xs ys : List X) (i : ℕ) (x : X) → slice_get xs i �
 get_kept [] ys i x h = absurd (none-some x h)
 get_kept (z ∷ xs) ys zero x h = h
 get_kept (z ∷ xs) ys (suc i) x h = get_kept xs ys i x h
-
-get_last : {X : Type 0} (xs : List X) (x : X) → slice_get (xs ++ x ∷ []) (length xs) ≡ Some x
-get_last [] x = refl
-get_last (z ∷ xs) x = get_last xs x
 
 -- ---- chains
 

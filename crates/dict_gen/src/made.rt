@@ -28,7 +28,7 @@ pub fn make(alloc: Global, n: u32) -> Result<Made, NoMemory>
     ensures checks { IfOk result (λ made. made.dict.checks ≡ []) }
     ensures script { IfOk result (λ made. made.script.items ≡ load n) }
 {
-    let dict = of_faultless_source(alloc, source(alloc, n)?)?;
     let script = script(alloc, n)?;
+    let dict = of_faultless_source(alloc, source(alloc, n)?)?;
     Ok(Made { dict, script })
 }

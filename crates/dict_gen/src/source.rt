@@ -86,8 +86,13 @@ fn start(alloc: Global) -> Result<DictSource, NoMemory>
     ensures { IfOk result (λ source. dictionary_view source ≡ chain 0) }
 {
     let mut source = DictSource::new(alloc, EnumLists::new(alloc));
-    push_rows(alloc, &[], member_rows(), &mut source)?;
-    Ok(source)
+    match push_rows(alloc, &[], member_rows(), &mut source) {
+        Ok(()) => Ok(source),
+        Err(NoMemory) => {
+            drop(source);
+            Err(NoMemory)
+        }
+    }
 }
 
 /// The source of the dictionary of `n` sums.
@@ -97,7 +102,13 @@ pub fn source(alloc: Global, n: u32) -> Result<DictSource, NoMemory>
 {
     let mut source = start(alloc)?;
     for before in 0..n {
-        push_sum(alloc, before, &mut source)?;
+        match push_sum(alloc, before, &mut source) {
+            Ok(()) => (),
+            Err(NoMemory) => {
+                drop(source);
+                return Err(NoMemory);
+            }
+        }
     }
     Ok(source)
 }

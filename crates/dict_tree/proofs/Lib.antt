@@ -14,6 +14,7 @@ pub mod MentionLaws
 pub mod NameLaws
 pub mod OperandLaws
 pub mod PathIndexLaws
+pub mod ReadingLaws
 pub mod SourceExamples
 pub mod SourceLaws
 pub mod StatedLaws

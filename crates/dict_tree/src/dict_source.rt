@@ -9,7 +9,7 @@ ghost use Rattle.dict_tree.specs.Forms.{IsWellFormed};
 ghost use Rattle.dict_tree.specs.PathIndex.{IsIndex, fact_noted};
 
 use crate::fact_source::FactSource;
-use crate::finding::{global_line, member_line};
+use crate::finding::{global_text, member_text};
 use crate::path_index::PathIndex;
 use fact_paths::{FactPath, Name};
 use std::alloc::{AllocError, Global};
@@ -153,14 +153,14 @@ impl DictSource {
     pub fn find_global(&self, name: &Name) -> Option<u32>
         ensures { result ≡ find_path (dictionary_view self.now).facts (paths.Global name.now) }
     {
-        self.index.get(global_line(name).bytes())
+        self.index.get(global_text(name).as_slice())
     }
 
     /// The first fact `/N/*/M`, by its number.
     pub fn find_member(&self, collection: &Name, member: &Name) -> Option<u32>
         ensures { result ≡ find_path (dictionary_view self.now).facts (paths.Member collection.now member.now) }
     {
-        self.index.get(member_line(collection, member).bytes())
+        self.index.get(member_text(collection, member).as_slice())
     }
 
     /// The first fact with the path, by its number. It takes no memory.

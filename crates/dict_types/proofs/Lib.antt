@@ -2,8 +2,10 @@ pub mod DictLaws
 pub mod FaultLaws
 pub mod FirstLaws
 pub mod FoundLaws
+pub mod InferLaws
 pub mod InferenceLaws
 pub mod LimitLaws
+pub mod OneByOneLaws
 pub mod PlaceLaws
 pub mod ReadLaws
 pub mod RuleLaws

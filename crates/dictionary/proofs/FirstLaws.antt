@@ -13,13 +13,13 @@ use Rattle.dict_types.specs.TypedParts.{TypedDictionary}
 use Rattle.dict_types.proofs.FoundLaws.{first_is_named, well_typed_is_found}
 use Rattle.dict_order.specs.Graph.{Graph, HasNoCycle, IsFirstCycle}
 use Rattle.dict_order.specs.MentionGraph.{mention_graph}
-use Rattle.dict_order.specs.Ranks.{AreRanks}
 use Rattle.dict_order.proofs.ListLaws.{at_most_or_above}
-use Rattle.dict_order.proofs.RankLaws.{no_cycle, only_one}
+use Rattle.dict_order.proofs.RankLaws.{no_cycle}
 use Rattle.dictionary.specs.Accepted.{Accepted, IsAccepted}
 use Rattle.dictionary.specs.Faults.{AreAccepted, HasNoFault, IsFault, IsFaultOf, IsFaultOfRead, Refuses, of_trees, of_types}
 use Rattle.dictionary.specs.declared.fault.DictFault.{DictFault}
 use Rattle.dictionary.specs.declared.fault.DictFault.TheVariants as faults
+use Rattle.dictionary.proofs.AcceptedLaws.{one_accepted}
 
 -- ---- bytes give one thing
 
@@ -192,20 +192,5 @@ accepted_has_none bytes names d fault is h = elim (cause bytes names fault h) [
   ]
 ]
 
-abbrev made : Tree → TypedDictionary → List ℕ → Accepted
-made d t ranks = record { tree = d; typed = t; ranks = ranks }
-
-same_parts : (d e : Tree) (t u : TypedDictionary) (ranks others : List ℕ) → d ≡ e → t ≡ u → ranks ≡ others → made d t ranks ≡ made e u others
-same_parts d e t u ranks others a b c = ap (λ (x : Tree). made x t ranks) a ∙ ap (λ (x : TypedDictionary). made e x ranks) b ∙ ap (made e u) c
-
-one_typed : (r : Result TypedDictionary TypeFault) (t u : TypedDictionary) → r ≡ Ok t → r ≡ Ok u → t ≡ u
-one_typed r t u h k = let same : typed t ≡ typed u = sym h ∙ k in cc
-
 pub one_dictionary : (bytes : List ℕ) (names : List (List ℕ)) (d e : Accepted) → AreAccepted bytes names d → AreAccepted bytes names e → d ≡ e
-one_dictionary bytes names d e h k =
-    let same : d.tree ≡ e.tree = one_tree bytes d.tree e.tree h.0 k.0 in
-    let found : typed_dictionary e.tree names ≡ typed d.typed = ap (λ (x : Tree). typed_dictionary x names) (sym same) ∙ well_typed_is_found d.tree names d.typed h.1.typed in
-    let ranked = subst (λ (x : Tree). AreRanks (mention_graph x) d.ranks) same h.1.ranked in
-    same_parts d.tree e.tree d.typed e.typed d.ranks e.ranks same
-    (one_typed (typed_dictionary e.tree names) d.typed e.typed found (well_typed_is_found e.tree names e.typed k.1.typed))
-    (only_one (mention_graph e.tree) d.ranks e.ranks ranked k.1.ranked)
+one_dictionary bytes names d e h k = one_accepted names d e (one_tree bytes d.tree e.tree h.0 k.0) h.1 k.1

@@ -6,6 +6,7 @@ pub mod ChangedAnswers
 pub mod CheckLaws
 pub mod ConstantTypes
 pub mod ExtensionLaws
+pub mod EnumLists
 pub mod FactMentions
 pub mod FactTypes
 pub mod FaultLaws

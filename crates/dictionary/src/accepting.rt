@@ -49,9 +49,22 @@ pub fn of_source(
     ensures checks { IfOk result (λ d. d.checks ≡ map {B = List ℕ × ℕ} (λ c. (c.name, c.code)) checks.now.checks.items) }
     ensures refused { IfErr result (Refuses (IsFaultOf (dictionary_view source) (map {B = List ℕ} (λ c. c.name) checks.now.checks.items))) }
 {
-    let typed = type_source(alloc, &source, checks)?;
-    let ranks = rank_source(alloc, &source)?;
-    Dictionary::keep(alloc, source, typed, ranks, checks)
+    // That the source is valid is what its facts say.
+    let _ = source.facts();
+    match type_source(alloc, &source, checks) {
+        Ok(typed) => match rank_source(alloc, &source) {
+            Ok(ranks) => Dictionary::keep(alloc, source, typed, ranks, checks),
+            Err(fault) => {
+                drop(source);
+                drop(typed);
+                Err(fault)
+            }
+        },
+        Err(fault) => {
+            drop(source);
+            Err(fault)
+        }
+    }
 }
 
 /// The dictionary that the bytes spell, or its first fault: the bytes and their shape first, then the limits, then what

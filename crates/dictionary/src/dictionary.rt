@@ -57,19 +57,30 @@ impl Dictionary {
         ensures kept { IfOk result (λ d. d ≡ record { source = source; typed = typed; ranks = ranks.items; checks = map {B = List ℕ × ℕ} (λ c. (c.name, c.code)) table.now.checks.items }) }
         ensures memory { IfErr result (λ fault. fault ≡ NoMemory) }
     {
-        let Ok(checks) = keep_checks(alloc, table) else {
-            return Err(DictFault::NoMemory);
-        };
-        let Ok(worked) = work_out(alloc, &source, ranks.as_slice()) else {
-            return Err(DictFault::NoMemory);
-        };
-        Ok(Dictionary {
-            source,
-            typed,
-            ranks,
-            checks,
-            worked,
-        })
+        match keep_checks(alloc, table) {
+            Ok(checks) => match work_out(alloc, &source, ranks.as_slice()) {
+                Ok(worked) => Ok(Dictionary {
+                    source,
+                    typed,
+                    ranks,
+                    checks,
+                    worked,
+                }),
+                Err(_) => {
+                    drop(source);
+                    drop(typed);
+                    drop(ranks);
+                    drop(checks);
+                    Err(DictFault::NoMemory)
+                }
+            },
+            Err(_) => {
+                drop(source);
+                drop(typed);
+                drop(ranks);
+                Err(DictFault::NoMemory)
+            }
+        }
     }
 
     /// The dictionary as it is written.

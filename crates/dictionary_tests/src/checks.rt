@@ -4,7 +4,7 @@ ghost use Rattle.text_checks.specs.Checks.{IsCode, check_says};
 
 use fact_paths::Name;
 use std::alloc::Global;
-use text_checks::{CheckTable, Test, digits, nine_digits, trimmed};
+use text_checks::{CheckTable, Test, digits, nine_digits};
 
 // Adds a check to a table that has few.
 fn add(alloc: Global, table: &mut CheckTable, name: &str, code: u32, check: Test) -> bool
@@ -48,24 +48,10 @@ fn add_nine_digits(alloc: Global, table: &mut CheckTable) -> bool {
     }
 }
 
-fn add_trimmed(alloc: Global, table: &mut CheckTable) -> bool {
-    let check = Box::new(
-        alloc,
-        |text: &str| -> bool
-            ensures { result ≡ check_says 4 text.now }
-        { trimmed(text) },
-    );
-    match check {
-        Ok(check) => add(alloc, table, "trimmed", 4, check),
-        Err(_) => false,
-    }
-}
-
-/// The check `digits`, and then `nine-digits` and `trimmed` where they are wanted; none for want of memory.
-pub fn table(alloc: Global, with_nine_digits: bool, with_trimmed: bool) -> Option<CheckTable> {
+/// The check `digits`, and then `nine-digits` where it is wanted; none for want of memory.
+pub fn table(alloc: Global, with_nine_digits: bool) -> Option<CheckTable> {
     let mut table = CheckTable::new(alloc);
     let is_whole = add_digits(alloc, &mut table)
-        && (!with_nine_digits || add_nine_digits(alloc, &mut table))
-        && (!with_trimmed || add_trimmed(alloc, &mut table));
+        && (!with_nine_digits || add_nine_digits(alloc, &mut table));
     if is_whole { Some(table) } else { None }
 }

@@ -1,4 +1,4 @@
-//! Tests of `dict_types`: what is kept of a dictionary. What refuses one is shown by stored cases of the program.
+//! A test of `dict_types`: what is kept of a dictionary. What refuses one is shown by stored cases of the program.
 ghost use Rattle.std.specs.Prelude.{◌≡◌, IfSome, length};
 
 use crate::checks::table;
@@ -9,7 +9,7 @@ use std::alloc::Global;
 use std::test::Fail;
 
 const TEXT: &str =
-    r#"{"version":"2","enums":[{"name":"status","options":["single","married"]}],"facts":[{"path":"/t","writable":"Text","limits":[["Check","trimmed"]]},{"path":"/s","derived":"Enum(status)","is":["Enum","status","single"],"conditional":[["Not",["True"]],["Enum","status","married"]]}]}"#;
+    r#"{"version":"2","enums":[{"name":"status","options":["single","married"]}],"facts":[{"path":"/t","writable":"Text","limits":[["Check","nine-digits"]]},{"path":"/s","derived":"Enum(status)","is":["Enum","status","single"],"conditional":[["Not",["True"]],["Enum","status","married"]]}]}"#;
 
 fn is_value(found: Option<&Value>, want: &Value) -> bool {
     match found {
@@ -37,22 +37,6 @@ fn has_constants(typed: &Typed) -> bool {
         && is_value(typed.constant(2, 4), &Value::Choice(0, 1))
 }
 
-fn typed(alloc: Global, source: &DictSource) -> Option<Typed>
-    ensures facts { IfSome result (λ typed. length typed.facts ≡ length source.now.facts) }
-    ensures limits { IfSome result (λ typed. length typed.limits ≡ length source.now.facts) }
-{
-    let checks = table(alloc, false, true)?;
-    check(alloc, source, &checks).ok()
-}
-
-#[test]
-fn constants_are_kept(rt: HostRuntime) -> Result<(), Fail> {
-    let source = read(rt.alloc(), TEXT.as_bytes())?;
-    let typed = typed(rt.alloc(), &source).ok_or("refused")?;
-    assert!(rt; has_constants(&typed) && lacks_constants(&typed));
-    Ok(())
-}
-
 fn has_types(typed: &Typed) -> bool
     requires { length typed.now.facts ≡ 2 }
 {
@@ -65,11 +49,28 @@ fn has_limits(typed: &Typed) -> bool
     typed.limits(1).len() == 1 && is_check(&typed.limits(1)[0], 1) && typed.limits(2).is_empty()
 }
 
+fn typed(alloc: Global, source: &DictSource) -> Option<Typed>
+    ensures facts { IfSome result (λ typed. length typed.facts ≡ length source.now.facts) }
+    ensures limits { IfSome result (λ typed. length typed.limits ≡ length source.now.facts) }
+{
+    let checks = table(alloc, true)?;
+    check(alloc, source, &checks).ok()
+}
+
+// Whether the constants, types and limits of the two facts are kept: none where memory is wanting.
+fn are_kept(alloc: Global, source: &DictSource) -> Option<bool> {
+    if source.facts().len() != 2 {
+        return Some(false);
+    }
+    let typed = typed(alloc, source)?;
+    Some(
+        has_constants(&typed) && lacks_constants(&typed) && has_types(&typed) && has_limits(&typed),
+    )
+}
+
 #[test]
-fn types_and_limits_are_kept(rt: HostRuntime) -> Result<(), Fail> {
+fn constants_types_and_limits_are_kept(rt: HostRuntime) -> Result<(), Fail> {
     let source = read(rt.alloc(), TEXT.as_bytes())?;
-    let typed = typed(rt.alloc(), &source).ok_or("refused")?;
-    assert!(rt; source.facts().len() == 2);
-    assert!(rt; has_types(&typed) && has_limits(&typed));
+    assert!(rt; are_kept(rt.alloc(), &source) == Some(true));
     Ok(())
 }

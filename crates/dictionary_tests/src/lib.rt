@@ -1,4 +1,5 @@
-//! The tests of the crates that read, judge and order a dictionary, and of the operations of its nodes.
+//! The tests of what no run of the program shows of the crates that judge and order a dictionary, and of the operations of
+//! its nodes.
 #![tactic(auto)]
 
 #[cfg(test)]
@@ -7,8 +8,6 @@ mod accepting_tests;
 mod checks;
 #[cfg(test)]
 mod dict_order_tests;
-#[cfg(test)]
-mod dict_tree_tests;
 #[cfg(test)]
 mod dict_types_tests;
 #[cfg(test)]

@@ -2,76 +2,91 @@
 use dict_tree::TwoOp;
 use fact_values::{Dollar, Rational, Value, ValueFault, Whole};
 use operations::{CaseStep, ItemStep, case_step, item_step, members, size, two};
-use std::test::Fail;
 use three_state::{Res, down};
 
-fn amount(cents: i64) -> Option<Res> {
-    Some(Res::Complete(Value::Dollar(Dollar::new(cents)?)))
+// Each of these is complete.
+fn amount(cents: i64) -> Res {
+    match Dollar::new(cents) {
+        Some(amount) => Res::Complete(Value::Dollar(amount)),
+        None => Res::Incomplete,
+    }
 }
 
-fn whole(n: i64) -> Option<Res> {
-    Some(Res::Complete(Value::Int(Whole::new(n)?)))
+fn whole(n: i64) -> Res {
+    match Whole::new(n) {
+        Some(n) => Res::Complete(Value::Int(n)),
+        None => Res::Incomplete,
+    }
 }
 
-fn half() -> Option<Res> {
-    Some(Res::Complete(Value::Rational(Rational::new(1, 2).ok()?)))
+fn half() -> Res {
+    match Rational::new(1, 2) {
+        Ok(half) => Res::Complete(Value::Rational(half)),
+        Err(_) => Res::Incomplete,
+    }
 }
 
-fn is_fault(res: &Res, fault: ValueFault) -> bool {
+fn gives_fault(op: TwoOp, a: &Res, b: &Res, fault: ValueFault) -> bool {
+    let res = two(op, a, b);
     res.same(&Res::Fault(fault))
 }
 
-fn gives_fault(op: TwoOp, a: Option<Res>, b: Option<Res>, fault: ValueFault) -> Option<bool> {
-    Some(is_fault(&two(op, &a?, &b?), fault))
+fn amounts_have_no_product() -> bool {
+    let cent = amount(1);
+    gives_fault(TwoOp::Multiply, &cent, &cent, ValueFault::Overflow)
+}
+
+fn a_fraction_divides_nothing() -> bool {
+    let one = whole(1);
+    let half = half();
+    gives_fault(TwoOp::Divide, &one, &half, ValueFault::ZeroDivide)
 }
 
 #[test]
 fn pairs_without_a_product_or_a_quotient(rt: HostRuntime) {
-    let product = gives_fault(TwoOp::Multiply, amount(1), amount(1), ValueFault::Overflow);
-    assert!(&rt; product == Some(true));
-    let quotient = gives_fault(TwoOp::Divide, whole(1), half(), ValueFault::ZeroDivide);
-    assert!(&rt; quotient == Some(true));
+    assert!(rt; amounts_have_no_product());
+    assert!(rt; a_fraction_divides_nothing());
 }
 
-// What a condition says, as a letter and a flag.
-fn step_of(complete: bool, condition: &Res) -> (u8, bool) {
+// Whether the condition leads to the next case, with this flag.
+fn goes_on(complete: bool, condition: &Res, still: bool) -> bool {
     match case_step(complete, condition) {
-        CaseStep::Next(still) => (b'n', still),
-        CaseStep::Take(still) => (b't', still),
-        CaseStep::End(_) => (b'e', false),
+        CaseStep::Next(found) => found == still,
+        CaseStep::Take(_) => false,
+        CaseStep::End(_) => false,
     }
 }
 
-// The member where the item leads, with its flag.
-fn member_of(item: &Res) -> Option<(u32, bool)> {
+fn leads_nowhere(item: &Res) -> bool {
     match item_step(item) {
-        ItemStep::Member(member, complete) => Some((member, complete)),
-        ItemStep::End(_) => None,
+        ItemStep::Member(..) => false,
+        ItemStep::End(_) => true,
     }
 }
 
 fn has_size(list: &Res, n: i64) -> bool {
-    match whole(n) {
-        Some(wanted) => size(list).same(&wanted),
-        None => false,
-    }
+    let wanted = whole(n);
+    size(list).same(&wanted)
 }
 
 // A condition that isn't Boolean counts as false, another value than an item leads nowhere, and one
 // that isn't a list has no members.
-#[test]
-fn values_of_another_kind(rt: HostRuntime) -> Result<(), Fail> {
-    let cent = amount(1).ok_or("no amount")?;
-    assert!(&rt; step_of(true, &cent) == (b'n', true));
-    assert!(&rt; step_of(false, &cent) == (b'n', false));
-    assert!(&rt; member_of(&cent).is_none());
-    assert!(&rt; members(&cent).is_empty() && has_size(&cent, 0));
-    Ok(())
+fn is_of_another_kind(res: &Res) -> bool {
+    goes_on(true, res, true)
+        && goes_on(false, res, false)
+        && leads_nowhere(res)
+        && members(res).is_empty()
+        && has_size(res, 0)
 }
 
 #[test]
-fn a_placeholder_of_another_kind(rt: HostRuntime) -> Result<(), Fail> {
-    let maybe = down(amount(1).ok_or("no amount")?);
-    assert!(&rt; step_of(true, &maybe) == (b'n', false));
-    Ok(())
+fn values_of_another_kind(rt: HostRuntime) {
+    let cent = amount(1);
+    assert!(rt; is_of_another_kind(&cent));
+}
+
+#[test]
+fn a_placeholder_of_another_kind(rt: HostRuntime) {
+    let maybe = down(amount(1));
+    assert!(rt; goes_on(true, &maybe, false));
 }

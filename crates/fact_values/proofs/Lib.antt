@@ -1,6 +1,8 @@
 pub mod Days
 pub mod Divisors
 mod Nearest
+mod Products
 pub mod Rationals
+mod Signs
 mod Unique
 pub mod ValueExamples

@@ -1,1 +1,2 @@
 pub mod FiringLaws
+pub mod TableLaws

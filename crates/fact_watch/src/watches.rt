@@ -79,6 +79,19 @@ fn note_of<E: FactEngine>(
     }
 }
 
+fn push_note<E: FactEngine>(
+    alloc: Global,
+    session: &Session<E>,
+    slot: Slot,
+    notes: &mut Vec<Option<Res>>,
+) -> Result<(), NoMemory>
+    ensures { OnOk result (notes.new.items ≡ notes.old.items ++ plain (accepted session.now.dict) session.now.timeline.now slot ∷ []) }
+{
+    let note = note_of(alloc, session, slot)?;
+    notes.push(note)?;
+    Ok(())
+}
+
 // What the relation at the place says of a slot: no where it didn't stand or doesn't.
 #[tactic(auto, using(crate::proofs::FiringLaws::said_at))]
 fn says(table: &WatchTable, place: u32, old: Option<&Res>, new: Option<&Res>) -> bool
@@ -170,7 +183,13 @@ impl Watches {
     {
         let mut notes = Vec::new(self.alloc);
         for (_, slot) in &self.pairs {
-            notes.push(note_of(self.alloc, session, *slot)?)?;
+            match push_note(self.alloc, session, *slot, &mut notes) {
+                Ok(()) => (),
+                Err(NoMemory) => {
+                    drop(notes);
+                    return Err(NoMemory);
+                }
+            }
         }
         self.notes = notes;
         Ok(())

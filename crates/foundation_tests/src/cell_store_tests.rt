@@ -3,7 +3,7 @@ ghost use Rattle.std.specs.Prelude.{◌≡◌, ◌<◌, IsTrue, None};
 ghost use Rattle.std.specs.FinMap as map;
 
 use cell_store::Store;
-use fact_values::Slot;
+use fact_values::{Slot, ValueFault};
 use three_state::Res;
 
 const WHOLE: Slot = Slot { fact: 3, member: 0 };
@@ -28,37 +28,60 @@ fn put(store: &mut Store, slot: Slot, res: Res, stamp: u64) -> Option<Res> {
     store.put(slot, res, stamp)
 }
 
-fn stamps(store: &Store) -> [Option<u64>; 3] {
-    [store.stamp(WHOLE), store.stamp(FIRST), store.stamp(SECOND)]
+// Whether nothing stood at the slot.
+fn is_new(store: &mut Store, slot: Slot, stamp: u64) -> bool {
+    put(store, slot, Res::Incomplete, stamp).is_none()
+}
+
+fn is_taken(store: &mut Store, slot: Slot) -> bool {
+    store.take(slot).is_some()
+}
+
+fn has_stamps(store: &Store, whole: Option<u64>, first: Option<u64>, second: Option<u64>) -> bool {
+    store.stamp(WHOLE) == whole && store.stamp(FIRST) == first && store.stamp(SECOND) == second
+}
+
+fn is_filled(store: &mut Store) -> bool {
+    is_new(store, FIRST, 1) && is_new(store, SECOND, 2) && has_stamps(store, None, Some(1), Some(2))
+}
+
+fn is_emptied(store: &mut Store) -> bool {
+    is_taken(store, FIRST)
+        && !is_taken(store, FIRST)
+        && is_taken(store, SECOND)
+        && has_stamps(store, None, None, None)
+}
+
+fn is_filled_again(store: &mut Store) -> bool {
+    is_new(store, SECOND, 3) && is_new(store, WHOLE, 4) && has_stamps(store, Some(4), None, Some(3))
 }
 
 #[test]
 fn what_is_put_is_found_until_it_is_taken(rt: HostRuntime) {
     let mut store = Store::new(rt.alloc());
     assert!(rt; store.reserve(2).is_ok());
-    assert!(rt; put(&mut store, FIRST, Res::Incomplete, 1).is_none());
-    assert!(rt; put(&mut store, SECOND, Res::Incomplete, 2).is_none());
-    assert_eq!(rt; stamps(&store), [None, Some(1), Some(2)]);
-    assert!(rt; store.take(FIRST).is_some());
-    assert!(rt; store.take(FIRST).is_none());
-    assert!(rt; store.take(SECOND).is_some());
-    assert_eq!(rt; stamps(&store), [None, None, None]);
-    assert!(rt; put(&mut store, SECOND, Res::Incomplete, 3).is_none());
-    assert!(rt; put(&mut store, WHOLE, Res::Incomplete, 4).is_none());
-    assert_eq!(rt; stamps(&store), [Some(4), None, Some(3)]);
+    assert!(rt; is_filled(&mut store));
+    assert!(rt; is_emptied(&mut store));
+    assert!(rt; is_filled_again(&mut store));
+}
+
+fn is_incomplete(res: &Option<Res>) -> bool {
+    matches!(res, Some(Res::Incomplete))
+}
+
+fn hands_back(store: &mut Store) -> bool {
+    let old = put(store, WHOLE, Res::Fault(ValueFault::Overflow), 2);
+    is_incomplete(&old)
+}
+
+fn has_the_new(store: &Store) -> bool {
+    matches!(store.get(WHOLE), Some(Res::Fault(_))) && store.stamp(WHOLE) == Some(2)
 }
 
 #[test]
 fn a_put_hands_the_old_result_back(rt: HostRuntime) {
     let mut store = Store::new(rt.alloc());
-    assert!(rt; put(&mut store, WHOLE, Res::Incomplete, 1).is_none());
-    let old = put(
-        &mut store,
-        WHOLE,
-        Res::Fault(fact_values::ValueFault::Overflow),
-        2,
-    );
-    assert!(rt; matches!(&old, Some(Res::Incomplete)));
-    assert!(rt; matches!(store.get(WHOLE), Some(Res::Fault(_))));
-    assert_eq!(rt; store.stamp(WHOLE), Some(2));
+    assert!(rt; is_new(&mut store, WHOLE, 1));
+    assert!(rt; hands_back(&mut store));
+    assert!(rt; has_the_new(&store));
 }

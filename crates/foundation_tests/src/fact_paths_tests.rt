@@ -1,6 +1,6 @@
 //! Tests of `fact_paths`: of the texts that are printed. What each kind of path spells is shown by stored cases.
 
-use fact_paths::{Name, PathFault, read_fact_path, read_slot_path, read_use_path};
+use fact_paths::{FactPath, Name, PathFault, read_fact_path, read_slot_path, read_use_path};
 use std::alloc::Global;
 
 fn is_text(printed: Option<String>, text: &str) -> bool {
@@ -17,9 +17,14 @@ fn has_equal_copy(alloc: Global, name: &Name) -> bool {
     }
 }
 
+fn gives_text(name: Name, text: &str) -> bool {
+    let given = name.into_string();
+    given.as_str() == text
+}
+
 fn is_name(alloc: Global, text: &str) -> bool {
     match Name::read(alloc, text) {
-        Ok(name) => has_equal_copy(alloc, &name) && name.into_string().as_str() == text,
+        Ok(name) => has_equal_copy(alloc, &name) && gives_text(name, text),
         Err(_) => false,
     }
 }
@@ -36,12 +41,16 @@ fn is_fact_path(alloc: Global, text: &str) -> bool {
     }
 }
 
+fn is_same(alloc: Global, path: &FactPath, text: &str) -> bool {
+    match read_fact_path(alloc, text) {
+        Ok(other) => path.same(&other),
+        Err(_) => true,
+    }
+}
+
 fn are_same(alloc: Global, one: &str, other: &str) -> bool {
     match read_fact_path(alloc, one) {
-        Ok(one) => match read_fact_path(alloc, other) {
-            Ok(other) => one.same(&other),
-            Err(_) => true,
-        },
+        Ok(one) => is_same(alloc, &one, other),
         Err(_) => true,
     }
 }
@@ -60,12 +69,16 @@ fn is_slot_path(alloc: Global, text: &str) -> bool {
     }
 }
 
+fn are_printed_and_compared(alloc: Global) -> bool {
+    is_fact_path(alloc, "/a/*/b")
+        && !are_same(alloc, "/a/*/b", "/a/*/c")
+        && is_use_path(alloc, "../a/b")
+        && is_slot_path(alloc, "/c/#20/k")
+}
+
 #[test]
 fn paths_are_printed_and_compared(rt: HostRuntime) {
-    assert!(rt; is_fact_path(rt.alloc(), "/a/*/b"));
-    assert!(rt; !are_same(rt.alloc(), "/a/*/b", "/a/*/c"));
-    assert!(rt; is_use_path(rt.alloc(), "../a/b"));
-    assert!(rt; is_slot_path(rt.alloc(), "/c/#20/k"));
+    assert!(rt; are_printed_and_compared(rt.alloc()));
 }
 
 fn is_said(alloc: Global, fault: PathFault, text: &str) -> bool {

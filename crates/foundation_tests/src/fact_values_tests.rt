@@ -1,9 +1,7 @@
 //! Tests of `fact_values`: of what no script shows. Its arithmetic, roundings and ranges are stored cases.
 
 use fact_values::{Day, Dollar, Members, Rational, Text, Value, Whole, is_in_range, same};
-use std::alloc::{AllocError, Global};
-use std::process::Abort;
-use std::test::Fail;
+use std::alloc::Global;
 
 fn is_date(day: Day, year: i64, month: i64, number: i64) -> bool {
     day.year() == year && day.month() == month && day.number() == number
@@ -12,13 +10,13 @@ fn is_date(day: Day, year: i64, month: i64, number: i64) -> bool {
 // Whether this day of the month is that day of the calendar, by its parts and by its number.
 fn is_day(year: i64, month: i64, day: i64, number: i64) -> bool {
     match Day::new(year, month, day) {
-        Some(made) => is_date(made, year, month, number) && made.day() == day,
+        Some(made) => {
+            is_date(made, year, month, number)
+                && made.day() == day
+                && Day::of_number(number) == Some(made)
+        }
         None => false,
     }
-}
-
-fn has_number(year: i64, month: i64, day: i64, number: i64) -> bool {
-    Day::new(year, month, day) == Day::of_number(number)
 }
 
 #[test]
@@ -31,17 +29,20 @@ fn days_are_those_of_the_calendar(rt: HostRuntime) {
         (2199, 12, 31, 84_005),
     ] {
         assert!(rt; is_day(year, month, day, number), "at {number}");
-        assert!(rt; has_number(year, month, day, number), "at {number}");
     }
+}
+
+fn are_past_the_calendar() -> bool {
+    Day::new(65_536 + 2023, 1, 1).is_none()
+        && Day::new(i64::MAX, i64::MAX, i64::MAX).is_none()
+        && Day::new(i64::MIN, i64::MIN, i64::MIN).is_none()
+        && Day::of_number(-62_092).is_none()
+        && Day::of_number(84_006).is_none()
 }
 
 #[test]
 fn the_calendar_ends(rt: HostRuntime) {
-    assert!(rt; Day::new(65_536 + 2023, 1, 1).is_none());
-    assert!(rt; Day::new(i64::MAX, i64::MAX, i64::MAX).is_none());
-    assert!(rt; Day::new(i64::MIN, i64::MIN, i64::MIN).is_none());
-    assert!(rt; Day::of_number(-62_092).is_none());
-    assert!(rt; Day::of_number(84_006).is_none());
+    assert!(rt; are_past_the_calendar());
 }
 
 fn is_whole(n: i64) -> bool {
@@ -58,15 +59,23 @@ fn is_amount(cents: i64) -> bool {
     }
 }
 
+fn is_number(n: i64) -> bool {
+    is_in_range(n) && is_whole(n) && is_amount(n)
+}
+
+fn is_no_number(n: i64) -> bool {
+    !is_in_range(n) && !is_whole(n) && !is_amount(n)
+}
+
 const MOST: i64 = 999_999_999_999_999;
 
 #[test]
 fn numbers_and_amounts_end_below_ten_to_the_fifteenth(rt: HostRuntime) {
     for n in [0, 1, -1, MOST, -MOST] {
-        assert!(rt; is_in_range(n) && is_whole(n) && is_amount(n), "at {n}");
+        assert!(rt; is_number(n), "at {n}");
     }
     for n in [MOST + 1, -MOST - 1, i64::MAX, i64::MIN] {
-        assert!(rt; !is_in_range(n) && !is_whole(n) && !is_amount(n), "at {n}");
+        assert!(rt; is_no_number(n), "at {n}");
     }
 }
 
@@ -75,10 +84,7 @@ fn numbers_and_amounts_have_their_order(rt: HostRuntime) {
     assert!(rt; Whole::new(-5) < Whole::new(3) && Dollar::new(150) > Dollar::new(15));
 }
 
-fn text(alloc: Global, of: &str) -> Result<Option<Text>, AllocError> {
-    Ok(Text::new(String::from_str(alloc, of)?))
-}
-
+// Each of these says whether a value is made of what is given, and gives it back: none where memory is wanting.
 fn is_text(made: Option<Text>, wanted: &str) -> bool {
     match made {
         Some(made) => made.as_str() == wanted,
@@ -86,40 +92,40 @@ fn is_text(made: Option<Text>, wanted: &str) -> bool {
     }
 }
 
+fn makes_text(alloc: Global, of: &str) -> Option<bool> {
+    match String::from_str(alloc, of) {
+        Ok(text) => Some(is_text(Text::new(text), of)),
+        Err(_) => None,
+    }
+}
+
 #[test]
-fn texts_have_no_control_character(rt: HostRuntime) -> Result<(), Fail> {
+fn texts_have_no_control_character(rt: HostRuntime) {
     for of in ["", "a", "~", " ", "\u{a0}", "\u{e9}t\u{e9}", "\u{1f600}"] {
-        assert!(rt; is_text(text(rt.alloc(), of)?, of), "at {of:?}");
+        assert!(rt; makes_text(rt.alloc(), of) == Some(true), "at {of:?}");
     }
     for of in ["\u{0}", "a\n", "\u{1f}", "a\u{7f}b", "\u{80}", "\u{9f}"] {
-        assert!(rt; text(rt.alloc(), of)?.is_none(), "at {of:?}");
+        assert!(rt; makes_text(rt.alloc(), of) == Some(false), "at {of:?}");
     }
-    Ok(())
 }
 
-// A piece, so many times.
-fn repeated(alloc: Global, piece: &str, count: usize) -> Result<Option<Text>, AllocError> {
-    Ok(Text::new(piece.repeat(alloc, count)?))
+// The piece, so many times.
+fn makes_long_text(alloc: Global, piece: &str, count: usize) -> Option<bool> {
+    match piece.repeat(alloc, count) {
+        Ok(text) => Some(Text::new(text).is_some()),
+        Err(_) => None,
+    }
+}
+
+fn has_1000_bytes_at_most(alloc: Global) -> bool {
+    makes_long_text(alloc, "a", 1000) == Some(true)
+        && makes_long_text(alloc, "a", 1001) == Some(false)
+        && makes_long_text(alloc, "\u{e9}", 501) == Some(false)
 }
 
 #[test]
-fn texts_have_1000_bytes_at_most(rt: HostRuntime) -> Result<(), Fail> {
-    assert!(rt; repeated(rt.alloc(), "a", 1000)?.is_some());
-    assert!(rt; repeated(rt.alloc(), "a", 1001)?.is_none());
-    assert!(rt; repeated(rt.alloc(), "\u{e9}", 501)?.is_none());
-    Ok(())
-}
-
-fn members(alloc: Global, numbers: &[u32]) -> Result<Option<Members>, AllocError> {
-    Ok(Members::new(numbers.to_vec(alloc)?))
-}
-
-fn counted(alloc: Global, count: u32) -> Result<Option<Members>, AllocError> {
-    let mut list = Vec::new(alloc);
-    for i in 0..count {
-        list.push(i.wrapping_add(1))?;
-    }
-    Ok(Members::new(list))
+fn texts_have_1000_bytes_at_most(rt: HostRuntime) {
+    assert!(rt; has_1000_bytes_at_most(rt.alloc()));
 }
 
 fn are_members(made: Option<Members>, wanted: &[u32]) -> bool {
@@ -129,27 +135,45 @@ fn are_members(made: Option<Members>, wanted: &[u32]) -> bool {
     }
 }
 
-#[test]
-fn members_are_distinct(rt: HostRuntime) -> Result<(), Fail> {
-    let three = [3, 1, 1_000_000];
-    assert!(rt; are_members(members(rt.alloc(), &three)?, &three));
-    assert!(rt; are_members(members(rt.alloc(), &[])?, &[]));
-    assert!(rt; members(rt.alloc(), &[3, 1, 3])?.is_none());
-    Ok(())
+fn makes_members(alloc: Global, numbers: &[u32]) -> Option<bool> {
+    match numbers.to_vec(alloc) {
+        Ok(list) => Some(are_members(Members::new(list), numbers)),
+        Err(_) => None,
+    }
+}
+
+fn makes_distinct_members(alloc: Global) -> bool {
+    makes_members(alloc, &[3, 1, 1_000_000]) == Some(true)
+        && makes_members(alloc, &[]) == Some(true)
+        && makes_members(alloc, &[3, 1, 3]) == Some(false)
+        && makes_members(alloc, &[1, 0]) == Some(false)
+        && makes_members(alloc, &[1_000_001]) == Some(false)
 }
 
 #[test]
-fn members_are_numbers_to_a_million(rt: HostRuntime) -> Result<(), Fail> {
-    assert!(rt; members(rt.alloc(), &[1, 0])?.is_none());
-    assert!(rt; members(rt.alloc(), &[1_000_001])?.is_none());
-    Ok(())
+fn members_are_distinct_numbers_to_a_million(rt: HostRuntime) {
+    assert!(rt; makes_distinct_members(rt.alloc()));
+}
+
+fn counted(alloc: Global, count: u32) -> Option<Vec<u32>> {
+    let mut list = Vec::new(alloc);
+    for i in 0..count {
+        list.push(i.wrapping_add(1)).ok()?;
+    }
+    Some(list)
+}
+
+fn makes_so_many(alloc: Global, count: u32) -> Option<bool> {
+    match counted(alloc, count) {
+        Some(list) => Some(Members::new(list).is_some()),
+        None => None,
+    }
 }
 
 #[test]
-fn members_are_100_at_most(rt: HostRuntime) -> Result<(), Fail> {
-    assert!(rt; counted(rt.alloc(), 100)?.is_some());
-    assert!(rt; counted(rt.alloc(), 101)?.is_none());
-    Ok(())
+fn members_are_100_at_most(rt: HostRuntime) {
+    assert!(rt; makes_so_many(rt.alloc(), 100) == Some(true));
+    assert!(rt; makes_so_many(rt.alloc(), 101) == Some(false));
 }
 
 #[test]
@@ -169,6 +193,16 @@ fn number(k: u8) -> Option<Value> {
     }
 }
 
+fn text(alloc: Global) -> Option<Value> {
+    let text = String::from_str(alloc, "1").ok()?;
+    Some(Value::Text(Text::new(text)?))
+}
+
+fn members(alloc: Global) -> Option<Value> {
+    let list = [1].as_slice().to_vec(alloc).ok()?;
+    Some(Value::Members(Members::new(list)?))
+}
+
 fn sample(alloc: Global, k: u8) -> Option<Value> {
     match k {
         0 => Some(Value::Boolean(true)),
@@ -176,8 +210,8 @@ fn sample(alloc: Global, k: u8) -> Option<Value> {
         2 => Some(Value::Choice(1, 2)),
         3 => Some(Value::Choice(2, 1)),
         4 => Some(Value::Item(1)),
-        5 => Some(Value::Text(text(alloc, "1").ok()??)),
-        6 => Some(Value::Members(members(alloc, &[1]).ok()??)),
+        5 => text(alloc),
+        6 => members(alloc),
         _ => number(k - 7),
     }
 }
@@ -190,13 +224,6 @@ fn equals_its_copy(alloc: Global, value: &Value) -> bool {
     }
 }
 
-fn is_copied(alloc: Global, k: u8) -> bool {
-    match sample(alloc, k) {
-        Some(value) => equals_its_copy(alloc, &value),
-        None => false,
-    }
-}
-
 fn equals(alloc: Global, value: &Value, k: u8) -> bool {
     match sample(alloc, k) {
         Some(other) => same(value, &other),
@@ -204,25 +231,26 @@ fn equals(alloc: Global, value: &Value, k: u8) -> bool {
     }
 }
 
-fn expect_one(rt: &impl Abort, alloc: Global, k: u8, value: &Value) {
+// Whether the value equals the one of this number, and no other.
+fn equals_one(alloc: Global, value: &Value, k: u8) -> bool {
     for other in 0..SAMPLES {
-        assert!(rt;
-            equals(alloc, value, other) == (k == other),
-            "at {k} and {other}"
-        );
+        if equals(alloc, value, other) != (k == other) {
+            return false;
+        }
+    }
+    true
+}
+
+fn is_copied_alone(alloc: Global, k: u8) -> bool {
+    match sample(alloc, k) {
+        Some(value) => equals_its_copy(alloc, &value) && equals_one(alloc, &value, k),
+        None => false,
     }
 }
 
 #[test]
-fn values_equal_their_copies_alone(rt: HostRuntime) -> Result<(), Fail> {
+fn values_equal_their_copies_alone(rt: HostRuntime) {
     for k in 0..SAMPLES {
-        assert!(rt; is_copied(rt.alloc(), k), "at {k}");
-        expect_one(
-            &rt,
-            rt.alloc(),
-            k,
-            &sample(rt.alloc(), k).ok_or("no value")?,
-        );
+        assert!(rt; is_copied_alone(rt.alloc(), k), "at {k}");
     }
-    Ok(())
 }

@@ -1,62 +1,65 @@
 //! Tests of `fg_io`.
 ghost use Rattle.std.specs.Prelude.{◌<◌};
 
-use fact_values::NoMemory;
 use fg_io::{
     FetchFault, FolderShelf, MemShelf, MemSink, MemSource, Shelf, Sink, Source, StdinSource,
     StdoutSink, put_all,
 };
-use std::alloc::{AllocError, Global};
-use std::process::Abort;
+use std::alloc::Global;
 use std::test::Fail;
 use std::{env, fs};
 
-fn text(alloc: Global, of: &str) -> Result<String, AllocError> {
-    String::from_str(alloc, of)
-}
-
-fn bytes(alloc: Global, of: &str) -> Result<Vec<u8>, AllocError> {
-    of.as_bytes().to_vec(alloc)
-}
-
-// Whether one pull into a buffer of four gives these bytes, or fails where none are wanted.
-fn gives<S: Source>(source: &mut S, wanted: Option<&str>) -> bool {
+// Whether one pull into a buffer of four gives these bytes.
+fn gives<S: Source>(source: &mut S, wanted: &[u8]) -> bool {
     let mut buf = [0u8; 4];
     match source.pull(&mut buf) {
-        Ok(count) => wanted.is_some_and(|wanted| wanted.as_bytes() == &buf[..count]),
-        Err(_) => wanted.is_none(),
+        Ok(count) => wanted == &buf[..count],
+        Err(_) => false,
     }
 }
 
-// The seven bytes, at most so many a call.
-fn seven(alloc: Global, most: u32, failing: Vec<u64>) -> Result<MemSource, AllocError>
+fn gives_none<S: Source>(source: &mut S) -> bool {
+    let mut buf = [0u8; 4];
+    source.pull(&mut buf).is_err()
+}
+
+// The seven bytes, at most so many a call: none where memory is wanting.
+fn seven(alloc: Global, most: u32, failing: Vec<u64>) -> Option<MemSource>
     requires { 0 < most }
 {
-    Ok(MemSource::new(bytes(alloc, "abcdefg")?, most, failing))
+    match b"abcdefg".as_slice().to_vec(alloc) {
+        Ok(bytes) => Some(MemSource::new(bytes, most, failing)),
+        Err(_) => None,
+    }
+}
+
+// At most three a call, of which the second and the sixth fail.
+fn three_a_call(alloc: Global) -> Option<MemSource> {
+    let failing = vec![in alloc; 2, 6].ok()?;
+    seven(alloc, 3, failing)
+}
+
+fn gives_all_in_turn(source: &mut MemSource) -> bool {
+    gives(source, b"abc")
+        && gives_none(source)
+        && gives(source, b"def")
+        && gives(source, b"g")
+        && gives(source, b"")
+        && gives_none(source)
+        && gives(source, b"")
 }
 
 #[test]
 fn source_gives_its_bytes_and_fails_where_told(rt: HostRuntime) -> Result<(), Fail> {
-    // At most three a call: what each call gives, where the second and the last but one fail.
-    let mut source = seven(rt.alloc(), 3, vec![in rt.alloc(); 2, 6]?)?;
-    for wanted in [
-        Some("abc"),
-        None,
-        Some("def"),
-        Some("g"),
-        Some(""),
-        None,
-        Some(""),
-    ] {
-        assert!(rt; gives(&mut source, wanted), "{wanted:?}");
-    }
+    let mut source = three_a_call(rt.alloc()).ok_or("no memory")?;
+    assert!(rt; gives_all_in_turn(&mut source));
     Ok(())
 }
 
 #[test]
 fn source_gives_what_the_buffer_takes(rt: HostRuntime) -> Result<(), Fail> {
-    let mut source = seven(rt.alloc(), 9, Vec::new(rt.alloc()))?;
-    assert!(rt; gives(&mut source, Some("abcd")));
+    let mut source = seven(rt.alloc(), 9, Vec::new(rt.alloc())).ok_or("no memory")?;
+    assert!(rt; gives(&mut source, b"abcd"));
     Ok(())
 }
 
@@ -66,23 +69,30 @@ fn put_pieces(sink: &mut MemSink) -> bool {
         && put_all(sink, "you".as_bytes()).is_ok()
 }
 
-// Whether the pieces are put or not, at most so many bytes a call, and this is written.
-fn writes(
-    alloc: Global,
-    most: u32,
-    failing: u64,
-    is_whole: bool,
-    written: &str,
-) -> Result<bool, NoMemory>
+fn are_put(sink: &mut MemSink, is_whole: bool, written: &str) -> bool {
+    put_pieces(sink) == is_whole && sink.bytes() == written.as_bytes()
+}
+
+// A sink that takes at most so many bytes a call, of which one fails: none where memory is wanting.
+fn failing_sink(alloc: Global, most: u32, failing: u64) -> Option<MemSink>
     requires { 0 < most }
 {
-    let mut sink = MemSink::new(alloc, most, vec![in alloc; failing]?)?;
-    let is_put = put_pieces(&mut sink);
-    Ok(is_put == is_whole && sink.bytes() == written.as_bytes())
+    let failing = vec![in alloc; failing].ok()?;
+    MemSink::new(alloc, most, failing).ok()
+}
+
+// Whether the pieces are put or not, and this is written.
+fn writes(alloc: Global, most: u32, failing: u64, is_whole: bool, written: &str) -> bool
+    requires { 0 < most }
+{
+    match failing_sink(alloc, most, failing) {
+        Some(mut sink) => are_put(&mut sink, is_whole, written),
+        None => false,
+    }
 }
 
 #[test]
-fn pieces_are_put_whole_or_as_far_as_the_sink_takes_them(rt: HostRuntime) -> Result<(), Fail> {
+fn pieces_are_put_whole_or_as_far_as_the_sink_takes_them(rt: HostRuntime) {
     for (most, failing, is_whole, written) in [
         (1, 0, true, "helloyou"),
         (3, 0, true, "helloyou"),
@@ -93,11 +103,10 @@ fn pieces_are_put_whole_or_as_far_as_the_sink_takes_them(rt: HostRuntime) -> Res
         (3, 3, false, "hello"),
     ] {
         assert!(rt;
-            writes(rt.alloc(), most, failing, is_whole, written)?,
+            writes(rt.alloc(), most, failing, is_whole, written),
             "{most} {failing}"
         );
     }
-    Ok(())
 }
 
 // Whether there is room for these bytes, but not for one more.
@@ -115,28 +124,33 @@ fn ends_full(sink: &MemSink) -> bool {
     sink.bytes().len() == 1_000_000 && sink.bytes().last().copied() == Some(b'a')
 }
 
+// Whether a sink that took this piece, one byte short of its most, takes one byte more.
+fn is_filled(sink: &mut MemSink, piece: &[u8]) -> bool {
+    put_all(sink, piece).is_ok() && fills(sink, b"ab") && ends_full(sink)
+}
+
 #[test]
 fn full_sink_fails(rt: HostRuntime) -> Result<(), Fail> {
     let piece = vec![in rt.alloc(); 7u8; 999_999]?;
     let mut sink = MemSink::new(rt.alloc(), u32::MAX, Vec::new(rt.alloc()))?;
-    assert!(rt; put_all(&mut sink, &piece).is_ok());
-    assert!(rt; fills(&mut sink, "ab".as_bytes()), "room for one more");
-    assert!(rt; ends_full(&sink));
+    assert!(rt; is_filled(&mut sink, piece.as_slice()));
     Ok(())
 }
 
-fn add(alloc: Global, shelf: &mut MemShelf, name: &str, of: &str) -> Result<(), NoMemory> {
-    shelf.add(text(alloc, name)?, bytes(alloc, of)?)
+fn add(alloc: Global, shelf: &mut MemShelf, name: &str, of: &str) -> Option<()> {
+    let name = String::from_str(alloc, name).ok()?;
+    let bytes = of.as_bytes().to_vec(alloc).ok()?;
+    shelf.add(name, bytes).ok()
 }
 
-// A file that is written twice, and another; the third call fails.
-fn shelf(alloc: Global) -> Result<MemShelf, NoMemory> {
-    let mut shelf = MemShelf::new(alloc);
-    add(alloc, &mut shelf, "a", "old")?;
-    add(alloc, &mut shelf, "b", "other")?;
-    add(alloc, &mut shelf, "a", "four")?;
-    shelf.fail_at(vec![in alloc; 3]?);
-    Ok(shelf)
+// Adds a file that is written twice, and another; the third call fails.
+fn add_files(alloc: Global, shelf: &mut MemShelf) -> Option<()> {
+    add(alloc, shelf, "a", "old")?;
+    add(alloc, shelf, "b", "other")?;
+    add(alloc, shelf, "a", "four")?;
+    let failing = vec![in alloc; 3].ok()?;
+    shelf.fail_at(failing);
+    Some(())
 }
 
 fn fetches<H: Shelf>(shelf: &mut H, name: &str, at_most: u64, wanted: &[u8]) -> bool {
@@ -153,50 +167,63 @@ fn fails<H: Shelf>(shelf: &mut H, name: &str, at_most: u64, fault: FetchFault) -
     }
 }
 
+// The third call fails, and there is no file "c".
+fn answers_its_files(shelf: &mut MemShelf) -> bool {
+    fetches(shelf, "a", 4, b"four")
+        && fails(shelf, "a", 3, FetchFault::TooLong)
+        && fails(shelf, "a", 4, FetchFault::Failed)
+        && fetches(shelf, "b", u64::MAX, b"other")
+        && fails(shelf, "c", 9, FetchFault::Failed)
+        && fetches(shelf, "a", 9, b"four")
+}
+
 #[test]
 fn shelf_answers_its_files_and_fails_where_told(rt: HostRuntime) -> Result<(), Fail> {
-    let mut shelf = shelf(rt.alloc())?;
-    assert!(rt; fetches(&mut shelf, "a", 4, b"four"));
-    assert!(rt; fails(&mut shelf, "a", 3, FetchFault::TooLong));
-    assert!(rt;
-        fails(&mut shelf, "a", 4, FetchFault::Failed),
-        "the third call"
-    );
-    assert!(rt; fetches(&mut shelf, "b", u64::MAX, b"other"));
-    assert!(rt;
-        fails(&mut shelf, "c", 9, FetchFault::Failed),
-        "no such file"
-    );
-    assert!(rt; fetches(&mut shelf, "a", 9, b"four"));
+    let mut shelf = MemShelf::new(rt.alloc());
+    add_files(rt.alloc(), &mut shelf).ok_or("no memory")?;
+    assert!(rt; answers_its_files(&mut shelf));
     Ok(())
 }
 
 // More than is read at once.
-fn contents(alloc: Global) -> Result<Vec<u8>, AllocError> {
-    (0..5000u32).map(|i| (i % 251) as u8).collect(alloc)
+fn contents(alloc: Global) -> Option<Vec<u8>> {
+    let mut bytes = Vec::new(alloc);
+    for i in 0..5000u32 {
+        bytes.push((i % 251) as u8).ok()?;
+    }
+    Some(bytes)
 }
 
-fn expect_file<H: Shelf>(rt: &impl Abort, shelf: &mut H, name: &str, wanted: &[u8]) {
-    assert!(rt; fetches(shelf, name, 5000, wanted));
-    assert!(rt; fetches(shelf, name, u64::MAX, wanted));
-    assert!(rt; fails(shelf, name, 4999, FetchFault::TooLong));
+fn answers_a_file<H: Shelf>(shelf: &mut H, name: &str, wanted: &[u8]) -> bool {
+    fetches(shelf, name, 5000, wanted)
+        && fetches(shelf, name, u64::MAX, wanted)
+        && fails(shelf, name, 4999, FetchFault::TooLong)
+}
+
+// Whether a file that is there is answered, and one that was removed isn't.
+fn is_answered(rt: HostRuntime, name: &str, contents: &[u8]) -> bool {
+    let mut shelf = FolderShelf::new(rt, rt.alloc());
+    fs::write(&rt, name, contents).is_ok()
+        && answers_a_file(&mut shelf, name, contents)
+        && fs::remove_file(&rt, name).is_ok()
+        && fails(&mut shelf, name, 5000, FetchFault::Failed)
+}
+
+fn reads_a_file(rt: HostRuntime, name: &str) -> bool {
+    match contents(rt.alloc()) {
+        Some(contents) => is_answered(rt, name, contents.as_slice()),
+        None => false,
+    }
 }
 
 #[test]
 fn folder_shelf_reads_files(rt: HostRuntime) -> Result<(), Fail> {
-    let alloc = rt.alloc();
     let process = std::process::id(rt.process());
     let folder = env::temp_dir(&rt)?;
-    let path = folder
-        .as_path()
-        .join(alloc, format!(in alloc; "fg_io-{process}")?.as_str())?;
+    let file = format!(in rt.alloc(); "fg_io-{process}")?;
+    let path = folder.as_path().join(rt.alloc(), file.as_str())?;
     let name = path.as_path().to_str().ok_or("the path is text")?;
-    let contents = contents(alloc)?;
-    fs::write(&rt, name, contents.as_slice())?;
-    let mut shelf = FolderShelf::new(rt, alloc);
-    expect_file(&rt, &mut shelf, name, contents.as_slice());
-    fs::remove_file(&rt, name)?;
-    assert!(rt; fails(&mut shelf, name, 5000, FetchFault::Failed));
+    assert!(rt; reads_a_file(rt, name));
     Ok(())
 }
 
@@ -204,8 +231,8 @@ fn folder_shelf_reads_files(rt: HostRuntime) -> Result<(), Fail> {
 #[test]
 fn standard_streams_are_read_and_written(rt: HostRuntime) {
     let mut source = StdinSource::new(rt.stdin());
-    assert!(rt; gives(&mut source, Some("")));
-    assert!(rt; gives(&mut source, Some("")));
+    assert!(rt; gives(&mut source, b""));
+    assert!(rt; gives(&mut source, b""));
     let mut out = StdoutSink::new(rt.stdout());
     assert!(rt; put_all(&mut out, "written\n".as_bytes()).is_ok());
 }

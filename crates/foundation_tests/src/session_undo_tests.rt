@@ -31,10 +31,16 @@ fn stands(answers: &Answers, is_open: bool, next: u32) -> bool {
 }
 
 #[test]
-fn an_added_member_goes_and_comes_again(rt: HostRuntime) {
+fn nothing_is_undone_at_first(rt: HostRuntime) {
     let mut answers = Answers::new(rt.alloc());
     let mut history = History::new(rt.alloc());
     assert!(rt; history.back(&mut answers) == Err(UndoRefusal::NothingToUndo));
+}
+
+#[test]
+fn an_added_member_goes_and_comes_again(rt: HostRuntime) {
+    let mut answers = Answers::new(rt.alloc());
+    let mut history = History::new(rt.alloc());
     assert!(rt; history.room().is_ok());
     assert!(rt; add(&mut history, &mut answers));
     assert!(rt; history.newest(false).is_some());

@@ -1,7 +1,5 @@
 use fact_values::{Dollar, Members, Text, Value, ValueFault, Whole};
 use std::alloc::Global;
-use std::process::Abort;
-use std::test::Fail;
 use three_state::{AllFold, AnyFold, Res, Strict, Verdict, down, finish, truth};
 
 // Results by letters: T and F are complete, t and f placeholders, i incomplete, o and z the
@@ -63,29 +61,31 @@ fn first_of(rules: &[u8], otherwise: u8, letters: &[u8]) -> u8 {
     otherwise
 }
 
-fn expect_list(rt: &impl Abort, letters: &[u8]) {
-    let all = all_by_fold(letters) == first_of(b"Fioft", b'T', letters);
-    let any = any_by_fold(letters) == first_of(b"Tiotf", b'F', letters);
-    assert!(rt; all && any, "of {letters:?}");
+// Whether both folds of the list are by the first rule that fits.
+fn are_by_rule(letters: &[u8]) -> bool {
+    all_by_fold(letters) == first_of(b"Fioft", b'T', letters)
+        && any_by_fold(letters) == first_of(b"Tiotf", b'F', letters)
 }
 
-fn expect_lists_of(rt: &impl Abort, first: u8, second: u8) {
+fn are_by_rule_behind(first: u8, second: u8) -> bool {
     for third in LETTERS {
-        expect_list(rt, &[first, second, third]);
+        if !are_by_rule(&[first, second, third]) {
+            return false;
+        }
     }
-}
-
-fn expect_lists_from(rt: &impl Abort, first: u8) {
-    for second in LETTERS {
-        expect_lists_of(rt, first, second);
-    }
+    true
 }
 
 // Each list of up to three of T, F, t, f, i and o.
 #[test]
 fn all_and_any_are_the_first_rule_that_fits(rt: HostRuntime) {
     for first in LETTERS {
-        expect_lists_from(&rt, first);
+        for second in LETTERS {
+            assert!(rt;
+                are_by_rule_behind(first, second),
+                "behind {first} and {second}"
+            );
+        }
     }
 }
 
@@ -176,11 +176,13 @@ fn number(k: u8) -> Option<Value> {
 }
 
 fn text(alloc: Global) -> Option<Value> {
-    Some(Value::Text(Text::new(String::from_str(alloc, "a").ok()?)?))
+    let text = String::from_str(alloc, "a").ok()?;
+    Some(Value::Text(Text::new(text)?))
 }
 
-fn members(alloc: Global, numbers: [u32; 2]) -> Option<Value> {
-    Some(Value::Members(Members::new(Vec::from_array(alloc, numbers).ok()?)?))
+fn members(alloc: Global, numbers: &[u32]) -> Option<Value> {
+    let list = numbers.to_vec(alloc).ok()?;
+    Some(Value::Members(Members::new(list)?))
 }
 
 fn sample(alloc: Global, k: u8) -> Option<Value> {
@@ -192,8 +194,8 @@ fn sample(alloc: Global, k: u8) -> Option<Value> {
         4 => Some(Value::Item(1)),
         5 => Some(Value::Item(2)),
         6 => text(alloc),
-        7 => members(alloc, [1, 2]),
-        8 => members(alloc, [2, 1]),
+        7 => members(alloc, &[1, 2]),
+        8 => members(alloc, &[2, 1]),
         _ => number(k - 9),
     }
 }
@@ -210,11 +212,16 @@ fn equals_its_copy(alloc: Global, res: &Res) -> bool {
     }
 }
 
-// Whether a complete result of the value and its placeholder are copied, and aren't the same.
-fn is_copied(alloc: Global, k: u8) -> Option<bool> {
-    let res = complete(alloc, k)?;
-    let other = down(complete(alloc, k)?);
-    Some(equals_its_copy(alloc, &res) && equals_its_copy(alloc, &other) && !res.same(&other))
+// Whether a placeholder of the value is copied, and isn't the complete result.
+fn is_another(alloc: Global, res: &Res, k: u8) -> bool {
+    match complete(alloc, k) {
+        Some(other) => is_another_copied(alloc, res, &down(other)),
+        None => false,
+    }
+}
+
+fn is_another_copied(alloc: Global, res: &Res, other: &Res) -> bool {
+    equals_its_copy(alloc, other) && !res.same(other)
 }
 
 fn equals(alloc: Global, res: &Res, k: u8) -> bool {
@@ -224,27 +231,30 @@ fn equals(alloc: Global, res: &Res, k: u8) -> bool {
     }
 }
 
-fn expect_one(rt: &impl Abort, alloc: Global, k: u8, res: &Res) {
+// Whether the result equals the one of this number, and no other.
+fn equals_one(alloc: Global, res: &Res, k: u8) -> bool {
     for other in 0..SAMPLES {
-        assert!(rt;
-            equals(alloc, res, other) == (k == other),
-            "at {k} and {other}"
-        );
+        if equals(alloc, res, other) != (k == other) {
+            return false;
+        }
+    }
+    true
+}
+
+fn is_copied_alone(alloc: Global, k: u8) -> bool {
+    match complete(alloc, k) {
+        Some(res) => {
+            equals_its_copy(alloc, &res) && is_another(alloc, &res, k) && equals_one(alloc, &res, k)
+        }
+        None => false,
     }
 }
 
 #[test]
-fn copies_are_the_same_and_others_are_not(rt: HostRuntime) -> Result<(), Fail> {
+fn copies_are_the_same_and_others_are_not(rt: HostRuntime) {
     for k in 0..SAMPLES {
-        assert!(rt; is_copied(rt.alloc(), k) == Some(true), "at {k}");
-        expect_one(
-            &rt,
-            rt.alloc(),
-            k,
-            &complete(rt.alloc(), k).ok_or("no value")?,
-        );
+        assert!(rt; is_copied_alone(rt.alloc(), k), "at {k}");
     }
-    Ok(())
 }
 
 const OVERFLOW: Res = Res::Fault(ValueFault::Overflow);

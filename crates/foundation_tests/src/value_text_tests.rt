@@ -1,90 +1,80 @@
 //! Tests of `value_text`: of calls that no script shows. Which texts are read, and how values are printed, is stored cases.
-ghost use Rattle.value_text.specs.Values.{IsPrinted};
-
 use fact_paths::Name;
-use fact_values::{Dollar, FactType, Members, Value};
+use fact_values::Dollar;
 use std::alloc::Global;
 use std::test::Fail;
-use value_text::{EnumLists, Line, ListFault, print, print_dollar, read};
+use value_text::{EnumLists, Line, ListFault, print_dollar};
 
-#[test]
-fn a_text_is_read_where_there_is_memory(rt: HostRuntime) {
-    let lists = EnumLists::new(rt.alloc());
-    assert!(rt; read(rt.alloc(), FactType::Text, &lists, "a b").is_ok());
-}
-
-fn names(alloc: Global, texts: &[&str]) -> Result<Vec<Name>, ListFault> {
+fn names(alloc: Global, texts: &[&str]) -> Option<Vec<Name>> {
     let mut names = Vec::new(alloc);
     for text in texts {
-        match Name::read(alloc, text) {
-            Ok(name) => names.push(name)?,
-            Err(_) => return Err(ListFault::NoMemory),
-        }
+        let name = Name::read(alloc, text).ok()?;
+        names.push(name).ok()?;
     }
-    Ok(names)
+    Some(names)
 }
 
-// Adds a list, where few are there.
-fn add(
+// Adds a list of these options, where few are there: the fault, or none.
+fn add_list(
     alloc: Global,
     lists: &mut EnumLists,
     name: &str,
-    options: &[&str],
-) -> Result<(), ListFault> {
-    let options = names(alloc, options)?;
-    if lists.len() > 9 {
-        return Err(ListFault::NoMemory);
-    }
-    if options.len() > 9 {
-        return Err(ListFault::NoMemory);
+    options: Vec<Name>,
+) -> Option<ListFault> {
+    if lists.len() > 9 || options.len() > 9 {
+        return Some(ListFault::NoMemory);
     }
     match Name::read(alloc, name) {
-        Ok(name) => lists.add(name, options),
-        Err(_) => Err(ListFault::NoMemory),
+        Ok(name) => lists.add(name, options).err(),
+        Err(_) => Some(ListFault::NoMemory),
     }
 }
 
-// Whether a list is refused so, or added.
-fn is_answered(
-    alloc: Global,
-    lists: &mut EnumLists,
-    name: &str,
-    options: &[&str],
-    answer: Result<(), ListFault>,
-) -> bool {
-    add(alloc, lists, name, options) == answer
+fn add(alloc: Global, lists: &mut EnumLists, name: &str, options: &[&str]) -> Option<ListFault> {
+    match names(alloc, options) {
+        Some(options) => add_list(alloc, lists, name, options),
+        None => Some(ListFault::NoMemory),
+    }
+}
+
+fn is_added(alloc: Global, lists: &mut EnumLists, name: &str, options: &[&str]) -> bool {
+    add(alloc, lists, name, options).is_none()
+}
+
+fn is_same(alloc: Global, lists: &mut EnumLists, name: &str, options: &[&str]) -> bool {
+    add(alloc, lists, name, options) == Some(ListFault::Same)
+}
+
+fn is_empty(alloc: Global, lists: &mut EnumLists, name: &str) -> bool {
+    add(alloc, lists, name, &[]) == Some(ListFault::Empty)
+}
+
+// One list is added, and each other one is refused.
+fn is_added_alone(alloc: Global, lists: &mut EnumLists) -> bool {
+    is_same(alloc, lists, "n", &["a", "b", "a"])
+        && is_added(alloc, lists, "n", &["a"])
+        && is_same(alloc, lists, "n", &["b"])
+        && is_empty(alloc, lists, "m")
+        && is_same(alloc, lists, "n", &[])
+        && lists.len() == 1
 }
 
 #[test]
 fn repeated_and_empty_lists_are_refused(rt: HostRuntime) {
-    let alloc = rt.alloc();
-    let mut lists = EnumLists::new(alloc);
-    for (name, options, answer) in [
-        ("n", ["a", "b", "a"].as_slice(), Err(ListFault::Same)),
-        ("n", ["a"].as_slice(), Ok(())),
-        ("n", ["b"].as_slice(), Err(ListFault::Same)),
-        ("m", [].as_slice(), Err(ListFault::Empty)),
-        ("n", [].as_slice(), Err(ListFault::Same)),
-    ] {
-        assert!(rt;
-            is_answered(alloc, &mut lists, name, options, answer),
-            "{name} {options:?}"
-        );
-    }
-    assert!(rt; lists.len() == 1);
+    let mut lists = EnumLists::new(rt.alloc());
+    assert!(rt; is_added_alone(rt.alloc(), &mut lists));
 }
 
 // Two lists that share an option.
-fn two_lists(alloc: Global) -> Result<EnumLists, ListFault> {
+fn two_lists(alloc: Global) -> Option<EnumLists> {
     let mut lists = EnumLists::new(alloc);
-    add(
-        alloc,
-        &mut lists,
-        "status",
-        ["single", "married"].as_slice(),
-    )?;
-    add(alloc, &mut lists, "other", ["marr", "married"].as_slice())?;
-    Ok(lists)
+    if is_added(alloc, &mut lists, "status", &["single", "married"])
+        && is_added(alloc, &mut lists, "other", &["marr", "married"])
+    {
+        Some(lists)
+    } else {
+        None
+    }
 }
 
 // Does the option at a place have this text?
@@ -107,36 +97,9 @@ fn are_options(lists: &EnumLists) -> bool {
 }
 
 #[test]
-fn lists_and_options_have_places(rt: HostRuntime) {
-    match two_lists(rt.alloc()) {
-        Ok(lists) => assert!(rt; are_two(&lists) && are_options(&lists)),
-        Err(_) => assert!(rt; false),
-    }
-}
-
-// Is the value printed as this text?
-fn is_printed(lists: &EnumLists, value: &Value, text: &str) -> bool
-    requires { IsPrinted lists.now value.now }
-{
-    let mut line = Line::new();
-    print(value, lists, &mut line);
-    line.bytes() == text.as_bytes()
-}
-
-fn are_printed_members(lists: &EnumLists, members: Vec<u32>, text: &str) -> bool {
-    match Members::new(members) {
-        Some(members) => is_printed(lists, &Value::Members(members), text),
-        None => false,
-    }
-}
-
-#[test]
-fn members_are_printed(rt: HostRuntime) -> Result<(), Fail> {
-    let lists = EnumLists::new(rt.alloc());
-    assert!(rt; are_printed_members(&lists, Vec::new(rt.alloc()), "[]"));
-    let three = vec![in rt.alloc(); 1, 20, 1_000_000]?;
-    assert!(rt; are_printed_members(&lists, three, "[#1 #20 #1000000]"));
-    assert!(rt; is_printed(&lists, &Value::Item(3), "#3"));
+fn lists_and_options_have_places(rt: HostRuntime) -> Result<(), Fail> {
+    let lists = two_lists(rt.alloc()).ok_or("no memory")?;
+    assert!(rt; are_two(&lists) && are_options(&lists));
     Ok(())
 }
 

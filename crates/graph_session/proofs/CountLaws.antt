@@ -16,7 +16,7 @@ counts_by d a f n = record { stamps = stamps_of d a f; touched = n }
 
 -- ---- lists of slots with stamps
 
-with_stamps : (Slot → ℕ) → List Slot → List (Slot × ℕ)
+pub with_stamps : (Slot → ℕ) → List Slot → List (Slot × ℕ)
 with_stamps f ss = map (λ s. (s, f s)) ss
 
 stamp_found : (f : Slot → ℕ) (ss : List Slot) (s : Slot) → list_any (slot_same s) ss ≡ true → stamp_in (with_stamps f ss) s ≡ f s

@@ -5,6 +5,7 @@ use Rattle.fact_paths.specs.declared.slot_path.SlotPath.{SlotPath}
 use Rattle.fact_values.specs.declared.slot.Slot.{Slot}
 use Rattle.script_lines.specs.declared.command.Command.{Command}
 use Rattle.script_lines.specs.declared.command.Command.TheVariants as commands
+use Rattle.dict_tree.specs.Dictionary.{Dictionary as Tree}
 use Rattle.answers.specs.Answered.{Answered}
 use Rattle.answers.specs.Change.{Change, applied}
 use Rattle.session_undo.specs.Timeline.{Timeline}
@@ -15,7 +16,7 @@ use Rattle.graph_session.specs.Naming.{fact_of, is_unknown, lacks_member, slot_o
 use Rattle.graph_session.specs.Refusals.{Refused, decided, first_of, is_empty, set_refusals, slot_found, slot_refusals, value_refusals, when}
 use Rattle.graph_session.specs.Rules.{Rules, tree_of}
 use Rattle.graph_session.specs.SessionView.{Course, moved}
-use Rattle.graph_session.specs.Step.{most_steps, moved_by, refusal, reply, step, steps_to, timeline_by, with_change}
+use Rattle.graph_session.specs.Step.{is_change, most_steps, moved_by, refusal, reply, step, steps_to, timeline_by, with_change}
 use Rattle.graph_session.specs.declared.reply.Refusal.{Refusal}
 use Rattle.graph_session.specs.declared.reply.Refusal.TheVariants.{UnknownFact, NoMember, WrongKind, NothingToUndo, NothingToRedo, NoMemory}
 use Rattle.graph_session.specs.declared.reply.Reply.{Reply}
@@ -30,6 +31,39 @@ decided_ok (Some r) x y e = absurd cc
 pub decided_err : {A : Type 0} (o : Option Refusal) (x : A) (r : Refusal) → ◌≡◌ {A = Result A Refusal} (Err r) (decided o x) → o ≡ Some r
 decided_err None x r e = absurd cc
 decided_err (Some q) x r e = cc
+
+-- ---- where an accepted command leads
+
+-- it isn't refused, and leads to its reply and course
+pub accepted_step : (r : Rules) (s t : Course) (c : Command) (said : Reply) → step r s c ≡ Ok (said, t)
+    → (refusal r s c ≡ None) × ((said ≡ reply r s c) × (t ≡ moved_by r s (timeline_by (tree_of r) s.timeline c)))
+accepted_step r s t c said e =
+    let parts = decided_ok (refusal r s c) (reply r s c, moved_by r s (timeline_by (tree_of r) s.timeline c)) (said, t) (sym e) in
+    (parts.0, (ap (λ (p : Reply × Course). p.0) parts.1, ap (λ (p : Reply × Course). p.1) parts.1))
+
+-- a change leads along the timeline
+pub changes_move : (d : Tree) (t : Timeline) (c : Command) → is_change c ≡ true → (to : Timeline) × (timeline_by d t c ≡ Some to)
+changes_move d t (commands.Get path) e = absurd cc
+changes_move d t (commands.Final path) e = absurd cc
+changes_move d t (commands.Stamp path) e = absurd cc
+changes_move d t commands.Touched e = absurd cc
+changes_move d t (commands.Missing path) e = absurd cc
+changes_move d t (commands.Watch name path) e = absurd cc
+changes_move d t (commands.Unwatch name path) e = absurd cc
+changes_move d t commands.Quit e = absurd cc
+changes_move d t c e = (_, refl)
+
+pub questions_stay : (d : Tree) (t : Timeline) (c : Command) → is_change c ≡ false → timeline_by d t c ≡ None
+questions_stay d t (commands.Set path text) e = absurd cc
+questions_stay d t (commands.Clear path) e = absurd cc
+questions_stay d t (commands.OpenList path) e = absurd cc
+questions_stay d t (commands.Add path) e = absurd cc
+questions_stay d t (commands.Remove path member) e = absurd cc
+questions_stay d t (commands.Override path text) e = absurd cc
+questions_stay d t (commands.Release path) e = absurd cc
+questions_stay d t commands.Undo e = absurd cc
+questions_stay d t commands.Redo e = absurd cc
+questions_stay d t c e = refl
 
 -- ---- where the slot is found, the first refusal is one of the rest
 

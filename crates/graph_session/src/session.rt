@@ -89,15 +89,21 @@ impl<E: FactEngine> Session<E> {
         ensures { IfOk result (λ s. s ≡ start_at dict (answered answers) E.STAMPS) }
     {
         let _accepted = dict.source();
-        let engine = E::begin(alloc, &dict, &answers)?;
-        Ok(Session {
-            alloc,
-            dict,
-            answers,
-            history: History::new(alloc),
-            engine,
-            changes: 0,
-        })
+        match E::begin(alloc, &dict, &answers) {
+            Err(NoMemory) => {
+                drop(dict);
+                drop(answers);
+                Err(NoMemory)
+            }
+            Ok(engine) => Ok(Session {
+                alloc,
+                dict,
+                answers,
+                history: History::new(alloc),
+                engine,
+                changes: 0,
+            }),
+        }
     }
 
     /// The dictionary.
@@ -145,19 +151,27 @@ impl<E: FactEngine> Session<E> {
         ensures unchanged { OnErr result (self.new ≡ self.old) }
         ensures steps { steps.new ≤ steps.old + E.most (accepted self.old.dict) self.old.timeline.now (applied (change edit) self.old.timeline.now) }
     {
-        self.history.room()?;
-        match self.answers.apply(edit) {
-            Err(_) => Err(NoMemory),
-            Ok(undo) => match self.engine.refresh(&self.dict, &self.answers, &undo, steps) {
-                Ok(()) => {
-                    keep(&mut self.history, undo);
-                    self.changes += 1;
-                    Ok(())
-                }
-                Err(NoMemory) => {
-                    restore(&mut self.answers, undo);
+        match self.history.room() {
+            Err(NoMemory) => {
+                drop(edit);
+                Err(NoMemory)
+            }
+            Ok(()) => match self.answers.apply(edit) {
+                Err(unapplied) => {
+                    drop(unapplied);
                     Err(NoMemory)
                 }
+                Ok(undo) => match self.engine.refresh(&self.dict, &self.answers, &undo, steps) {
+                    Ok(()) => {
+                        keep(&mut self.history, undo);
+                        self.changes += 1;
+                        Ok(())
+                    }
+                    Err(NoMemory) => {
+                        restore(&mut self.answers, undo);
+                        Err(NoMemory)
+                    }
+                },
             },
         }
     }
@@ -316,7 +330,7 @@ fn restore(answers: &mut Answers, undo: Edit)
     requires fits { Fits (change undo) (answered answers.old) }
     ensures { answered answers.new ≡ applied (change undo) (answered answers.old) }
 {
-    let _ = answers.apply(undo);
+    drop(answers.apply(undo));
 }
 
 // Adds a change, for which there is room.
@@ -325,5 +339,5 @@ fn keep(history: &mut History, undo: Edit)
     ensures back { behind history.new ≡ change undo ∷ behind history.old }
     ensures ahead { ahead_of history.new ≡ [] }
 {
-    let _ = history.push(undo);
+    drop(history.push(undo));
 }

@@ -1,5 +1,5 @@
 -- The answers at the start of a run: what they come from, and that they come to one end.
-use Rattle.std.proofs.Common.{◌≡◌, ℕ, suc, ◌≤◌, List, length, inl, inr, refl, sym, ap, subst, ◌∙◌, arith, le_of_suc-le-suc, lt_of_not-le}
+use Rattle.std.proofs.Common.{◌≡◌, ℕ, ◌≤◌, List, length, inl, inr, refl, sym, ap, subst, ◌∙◌, arith}
 use Rattle.fg_io.specs.Outside.{MayHold, Told, missing}
 use Rattle.value_text.specs.Enums.{AreLists}
 use Rattle.dictionary.specs.Accepted.{IsAccepted}
@@ -11,6 +11,7 @@ use Rattle.save_file.specs.Carrying.{IsCarryOf, dropped_numbers}
 use Rattle.save_file.specs.Dropped.{dropped_text}
 use Rattle.save_file.specs.Loading.{IsRefusedAt, IsSavedText}
 use Rattle.save_file.proofs.CarryLaws.{one_carry, one_text}
+use Rattle.save_file.proofs.RefusedLaws.{refused_at_one}
 use Rattle.save_file.proofs.SameTexts.{one_saved}
 use Rattle.interview.specs.Beginnings.{Basis, Brings, IsBadText, IsCarriedAs, IsRefusedStart, IsStart, MayBring, Start, no_text, saved_limit, to_carry, to_load}
 use Rattle.interview.specs.Words.{Beginning, IsFrom, by_carry, by_load, unanswered}
@@ -45,14 +46,6 @@ module _ (told : List ℕ → Told) where
   none_refused (by_carry name) may r n is held refused = cc
 
 -- ---- a text is refused at one line, or is none
-
-one_line : (IsText : List ℕ → Type 0) (bytes : List ℕ) (n m : ℕ) → IsRefusedAt IsText bytes n → IsRefusedAt IsText bytes m → n ≤ m  -- move down
-one_line IsText bytes n m h k =
-    let no_less : ¬ (suc m ≤ n) = λ below. k.here (omega (arith, below, h.high)) (h.before m below) in
-    le_of_suc-le-suc (lt_of_not-le no_less)
-
-pub refused_at_one : (IsText : List ℕ → Type 0) (bytes : List ℕ) (n m : ℕ) → IsRefusedAt IsText bytes n → IsRefusedAt IsText bytes m → n ≡ m  -- move down
-refused_at_one IsText bytes n m h k = omega (arith, one_line IsText bytes n m h k, one_line IsText bytes m n k h)
 
 bad_at_one : (IsText : List ℕ → Type 0) (bytes : List ℕ) (n m : ℕ) → IsBadText IsText bytes n → IsBadText IsText bytes m → n ≡ m
 bad_at_one IsText bytes n m (inl (long, is)) (inl (other, is_other)) = is ∙ sym is_other

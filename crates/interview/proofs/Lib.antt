@@ -1,12 +1,12 @@
 pub mod BeginningLaws
 pub mod CheckLaws
-pub mod CountLaws
 pub mod DictionaryLaws
 pub mod EndLaws
 pub mod EngineLaws
 pub mod EnumLaws
 pub mod ExactLaws
 pub mod FinalLaws
+pub mod FirstWords
 pub mod GenLaws
 pub mod LeadLaws
 pub mod LoadLaws

@@ -45,7 +45,11 @@ pub fn check<H: Shelf, K: Sink>(
         result }
 {
     match fetch(alloc, name, checks, shelf) {
-        Ok(Fetched::Accepted(dictionary)) => end_accepted(out, &dictionary),
+        Ok(Fetched::Accepted(dictionary)) => {
+            let status = end_accepted(out, &dictionary);
+            drop(dictionary);
+            status
+        }
         Ok(Fetched::Refused(fault)) => end_by_fault(out, fault),
         Err(status) => status,
     }

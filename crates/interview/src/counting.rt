@@ -1,29 +1,9 @@
 // Counts lines of a text.
-ghost use Rattle.std.specs.Prelude.{◌≡◌, ◌<◌, ◌∷◌, [], IfNone, IfSome, length, bytes_eq};
-ghost use Rattle.script_lines.specs.Lines.{HasNoNewline, IsNewlineAt, lines_of};
+ghost use Rattle.std.specs.Prelude.{◌≡◌, [], IfNone, IfSome, length, bytes_eq};
+ghost use Rattle.script_lines.specs.Lines.{lines_of};
 ghost use Rattle.interview.specs.Summary.{HasNoBlank, IsBlankAt, count_of as replies_with, first_word as front, last_of};
 
-// The place of the first newline.
-// -- move down
-fn newline_at(bytes: &[u8]) -> Option<usize>
-    ensures found { IfSome result (IsNewlineAt bytes.now) }
-    ensures none { IfNone result (HasNoNewline bytes.now) }
-{
-    bytes.iter().position(|byte| *byte == b'\n')
-}
-
-// The first line, and what stands behind its newline.
-// -- move down
-fn cut_line(bytes: &[u8]) -> (&[u8], &[u8])
-    requires { 0 < length bytes.now }
-    ensures lines { lines_of bytes.now ≡ result.0.now ∷ lines_of result.1.now }
-    ensures shorter { length result.1.now < length bytes.now }
-{
-    match newline_at(bytes) {
-        None => (bytes, &[]),
-        Some(at) => (&bytes[..at], &bytes[at + 1..]),
-    }
-}
+use script_lines::cut_line;
 
 // The place of the first blank.
 fn blank_at(line: &[u8]) -> Option<usize>

@@ -49,7 +49,11 @@ fn run_made<L: Ledger>(
     let checks = CheckTable::new(alloc);
     let mut steps = Steps::<L>::new(blank);
     match Alone::<Recalc>::new(alloc, dictionary) {
-        Ok(mut alone) => run(alloc, &mut alone, table, &checks, script, out, &mut steps),
+        Ok(mut alone) => {
+            let status = run(alloc, &mut alone, table, &checks, script, out, &mut steps);
+            drop(alone);
+            status
+        }
         Err(NoMemory) => Status::NoMemory,
     }
 }
@@ -67,16 +71,21 @@ fn replies_to(
 {
     let mut source = MemSource::new(script, u32::MAX, Vec::new(alloc));
     let mut sink = MemSink::new(alloc, u32::MAX, Vec::new(alloc))?;
-    match run_made::<Brand>(
+    let status = run_made::<Brand>(
         alloc,
         dictionary,
         table,
         &mut source,
         &mut sink,
         Blank::new(1),
-    ) {
+    );
+    drop(source);
+    match status {
         Status::Done => Ok(sink),
-        _ => Err(NoMemory),
+        _ => {
+            drop(sink);
+            Err(NoMemory)
+        }
     }
 }
 

@@ -105,7 +105,11 @@ fn save_over<L: Ledger, S: Source, K: Sink>(
 {
     let mut steps = Steps::<L>::new(blank);
     match Alone::<Recalc>::new(alloc, dictionary) {
-        Ok(mut alone) => save_alone(alloc, &mut alone, checks, table, script, out, &mut steps),
+        Ok(mut alone) => {
+            let status = save_alone(alloc, &mut alone, checks, table, script, out, &mut steps);
+            drop(alone);
+            status
+        }
         Err(NoMemory) => Status::NoMemory,
     }
 }

@@ -93,16 +93,20 @@ fn run_alone<E: FactEngine, S: Source, K: Sink>(
         result }
 {
     match Alone::<E>::resume(alloc, dictionary, ready.answers) {
-        Ok(mut alone) => run_behind::<Alone<E>, Brand, S, K>(
-            alloc,
-            &mut alone,
-            &ready.dropped,
-            checks,
-            table,
-            script,
-            out,
-            Blank::new(1),
-        ),
+        Ok(mut alone) => {
+            let status = run_behind::<Alone<E>, Brand, S, K>(
+                alloc,
+                &mut alone,
+                &ready.dropped,
+                checks,
+                table,
+                script,
+                out,
+                Blank::new(1),
+            );
+            drop(alone);
+            status
+        }
         Err(NoMemory) => Status::NoMemory,
     }
 }
@@ -128,16 +132,20 @@ fn run_at_desk<S: Source, K: Sink>(
         result }
 {
     match Desk::<Recalc>::resume(alloc, dictionary, ready.answers) {
-        Ok(mut desk) => run_behind::<Desk<Recalc>, Brand, S, K>(
-            alloc,
-            &mut desk,
-            &ready.dropped,
-            checks,
-            table,
-            script,
-            out,
-            Blank::new(1),
-        ),
+        Ok(mut desk) => {
+            let status = run_behind::<Desk<Recalc>, Brand, S, K>(
+                alloc,
+                &mut desk,
+                &ready.dropped,
+                checks,
+                table,
+                script,
+                out,
+                Blank::new(1),
+            );
+            drop(desk);
+            status
+        }
         Err(NoMemory) => Status::NoMemory,
     }
 }
@@ -200,8 +208,14 @@ fn run_from<H: Shelf, S: Source, K: Sink>(
         Ok(Resumed::Begins(ready)) => {
             run_by(alloc, mode, dictionary, ready, checks, table, script, out)
         }
-        Ok(Resumed::Refused(line)) => end_by_refused_line(out, line),
-        Err(status) => status,
+        Ok(Resumed::Refused(line)) => {
+            drop(dictionary);
+            end_by_refused_line(out, line)
+        }
+        Err(status) => {
+            drop(dictionary);
+            status
+        }
     }
 }
 

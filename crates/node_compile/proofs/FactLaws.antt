@@ -1,13 +1,16 @@
 -- The nodes of an accepted dictionary's facts stand for the facts' expressions.
-use Rattle.std.proofs.Common.{◌≡◌, ◌<◌, ℕ, zero, suc, ◌+◌, false, ◌&&◌, ◌||◌, List, [], ◌∷◌, map, slice_get, Option, Some, None, refl, sym, ap, subst, ◌∙◌, arith}
+use Rattle.std.proofs.Common.{◌≡◌, ◌<◌, ℕ, zero, suc, ◌+◌, false, ◌&&◌, ◌||◌, List, [], ◌∷◌, ◌++◌, length, drop, get_or, map, slice_get, Option, Some, None, refl, sym, ap, subst, ◌∙◌, add-one, append_assoc, arith}
 use Rattle.std.specs.Prelude.{option_and_then, option_map}
+use Rattle.std.proofs.Math.Seq.{drop-cons}
 use Rattle.std.proofs.lemmas.Bool.{false_from_ne_true}
+use Rattle.std.proofs.lemmas.List.{map-append}
 use Rattle.std.proofs.lemmas.Option.{slice_get-map}
 use Rattle.fact_values.specs.declared.fact_type.FactType.{FactType}
 use Rattle.dict_tree.specs.Dictionary.{Dictionary as Tree}
-use Rattle.dict_tree.specs.Facts.{Fact}
+use Rattle.dict_tree.specs.Facts.{Fact, fact_view}
 use Rattle.dict_tree.specs.Finding.{fact_at}
 use Rattle.dict_tree.specs.Tree.{Source, SourceCase}
+use Rattle.dict_tree.specs.declared.fact_source.FactSource.{FactSource}
 use Rattle.dict_types.specs.DictFaults.{IsTypedDictionary}
 use Rattle.dict_types.specs.NoCollection.{is_list}
 use Rattle.dict_types.specs.StatedTypes.{type_at}
@@ -126,6 +129,22 @@ main_in (Some f) = refl
 placeholder_in : (o : Option FactNodes) → option_and_then (λ (f : FactNodes). option_map view f.placeholder) o ≡ option_and_then (λ (t : NodeTrees). t.placeholder) (option_map trees_of o)
 placeholder_in None = refl
 placeholder_in (Some f) = refl
+
+-- one fact more is compiled
+pub next_fact : (d : Tree) (fs : List FactSource) (i : ℕ) (f : FactSource) (so_far more : List FactNodes) (x : FactNodes) (whole : List NodeTrees)
+    → i < length fs → f ≡ get_or fs i f → map trees_of so_far ++ facts_trees d (i + 1) (map fact_view (drop i fs)) ≡ whole → trees_of x ≡ fact_trees d (i + 1) (fact_view f) → more ≡ so_far ++ x ∷ []
+    → map trees_of more ++ facts_trees d (i + 1 + 1) (map fact_view (drop (i + 1) fs)) ≡ whole
+next_fact d fs i f so_far more x whole low at before same pushed =
+    let later = facts_trees d (i + 1 + 1) (map fact_view (drop (i + 1) fs)) in
+    let here = fact_trees d (i + 1) (fact_view (get_or fs i f)) in
+    ap (λ l. map trees_of l ++ later) pushed
+    ∙ ap (λ l. l ++ later) (map-append trees_of so_far (x ∷ []))
+    ∙ append_assoc (map trees_of so_far) (trees_of x ∷ []) later
+    ∙ ap (λ (t : NodeTrees). map trees_of so_far ++ t ∷ later) (same ∙ ap (λ (g : FactSource). fact_trees d (i + 1) (fact_view g)) at)
+    ∙ ap (λ (k : ℕ). map trees_of so_far ++ here ∷ facts_trees d k (map fact_view (drop (i + 1) fs))) (add-one (i + 1))
+    ∙ ap (λ (k : ℕ). map trees_of so_far ++ here ∷ facts_trees d (suc (i + 1)) (map fact_view (drop k fs))) (add-one i)
+    ∙ ap (λ (l : List FactSource). map trees_of so_far ++ facts_trees d (i + 1) (map fact_view l)) (sym (drop-cons fs i f low))
+    ∙ before
 
 -- nodes that are compiled of each fact stand for its expressions
 pub is_compiled : (d : Tree) (checks : List (List ℕ)) (typed : TypedDictionary) → IsTypedDictionary d checks typed → (c : Compiled) → map trees_of c.facts.items ≡ facts_trees d 1 d.facts → IsCompiled d c

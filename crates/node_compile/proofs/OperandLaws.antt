@@ -1,5 +1,7 @@
 -- Lists of operands and of cases, compiled one by one.
-use Rattle.std.proofs.Common.{◌≡◌, ℕ, List, [], ◌∷◌, map, refl, ap}
+use Rattle.std.proofs.Common.{◌≡◌, ℕ, ◌+◌, ◌<◌, List, [], ◌∷◌, ◌++◌, length, get_or, map, take, refl, sym, ap, ◌∙◌, add-one}
+use Rattle.std.proofs.Math.Seq.{take-suc}
+use Rattle.std.proofs.lemmas.List.{map-append}
 use Rattle.dict_tree.specs.Dictionary.{Dictionary as Tree}
 use Rattle.dict_tree.specs.Tree.{Cases, Trees, a_case, tree}
 use Rattle.dict_tree.specs.View.{cases_view, trees_view, view}
@@ -25,3 +27,14 @@ module _ (d : Tree) (fact base : ℕ) where
   pub cases_resolved : (cs : List Case) → resolved_cases (names d fact) base (cases_view cs) ≡ cases_of (map node_case_of cs)
   cases_resolved [] = refl
   cases_resolved (c ∷ cs) = ap (λ (ts : Cases Value NodeReading Reader). a_case (resolved (names d fact) base (view c.test)) (resolved (names d fact) base (view c.outcome)) ts) (cases_resolved cs)
+
+-- one element more is compiled
+pub next_compiled : {X Y Z : Type 0} (f : X → Z) (g : Y → Z) (ys : List Y) (i : ℕ) (y : Y) (so_far more : List X) (x : X)
+    → i < length ys → y ≡ get_or ys i y → map f so_far ≡ map g (take i ys) → f x ≡ g y → more ≡ so_far ++ x ∷ [] → map f more ≡ map g (take (i + 1) ys)
+next_compiled f g ys i y so_far more x low at before same pushed =
+    ap (map f) pushed
+    ∙ map-append f so_far (x ∷ [])
+    ∙ ap (λ l. l ++ f x ∷ []) before
+    ∙ ap (λ z. map g (take i ys) ++ z ∷ []) (same ∙ ap g at)
+    ∙ sym (map-append g (take i ys) (get_or ys i y ∷ []))
+    ∙ ap (map g) (sym (take-suc ys i y low) ∙ ap (λ (k : ℕ). take k ys) (sym (add-one i)))

@@ -1,15 +1,17 @@
 // The node of an expression.
 ghost use Rattle.std.specs.Prelude.{◌≡◌, IfOk};
 ghost use Rattle.dict_tree.specs.Dictionary.{dictionary_view};
-ghost use Rattle.dict_tree.specs.View.{cases_view, trees_view, view};
+ghost use Rattle.dict_tree.specs.Tree.{literal, one, pick, two};
+ghost use Rattle.dict_tree.specs.View.{cases_view, literal_of, trees_view, view};
+ghost use Rattle.dictionary.specs.Reading.{constant_value};
 ghost use Rattle.evaluation.specs.Resolving.{resolved, resolved_all, resolved_cases};
-ghost use Rattle.node_eval.specs.View.{cases_view as node_cases_view, trees_view as node_trees_view, view as node_view};
+ghost use Rattle.node_eval.specs.View.{case_view as node_case_view, cases_view as node_cases_view, trees_view as node_trees_view, view as node_view};
 ghost use Rattle.node_compile.specs.Compiling.{names};
 
 use crate::reading::{base_under, constant, read_path, reader};
-use dict_tree::{Case, DictSource, Expr};
+use dict_tree::{Case, Constant, DictSource, Expr, OneOp, PickOp, TwoOp};
 use fact_values::NoMemory;
-use node_eval::{Node, NodeCase};
+use node_eval::{Node, NodeCase, Reader};
 use std::alloc::Global;
 
 /// The node of an expression of this fact, under a condition over the base, or with the base 0
@@ -26,7 +28,7 @@ pub fn compile_expr(
     ensures { IfOk result (λ node. node_view node ≡ resolved (names (dictionary_view source.now) fact) base (view expr.now)) }
 {
     match expr {
-        Expr::Const(text) => Ok(Node::Const(constant(alloc, source.enums(), text)?)),
+        Expr::Const(text) => constant_node(alloc, source, text),
         Expr::Read(op, used) => Ok(read_path(source, fact, base, *op, used)),
         Expr::Switch(cases) => {
             let cases = compile_cases(alloc, source, fact, base, cases.as_slice())?;
@@ -38,18 +40,65 @@ pub fn compile_expr(
         }
         Expr::One(op, operand) => {
             let operand = compile_expr(alloc, source, fact, base, operand)?;
-            Ok(Node::One(*op, Box::new(alloc, operand)?))
+            one_node(alloc, *op, operand)
         }
         Expr::Two(op, left, right) => {
             let left = compile_expr(alloc, source, fact, base, left)?;
-            let right = compile_expr(alloc, source, fact, base, right)?;
-            Ok(Node::Two(*op, Box::new(alloc, left)?, Box::new(alloc, right)?))
+            match compile_expr(alloc, source, fact, base, right) {
+                Ok(right) => two_nodes(alloc, *op, left, right),
+                Err(NoMemory) => {
+                    drop(left);
+                    Err(NoMemory)
+                }
+            }
         }
         Expr::Pick(op, used, test) => {
             let inner = base_under(source, fact, base, used);
-            let test = compile_expr(alloc, source, fact, inner, test)?;
             let list = reader(source, fact, base, used);
-            Ok(Node::Pick(*op, list, Box::new(alloc, test)?))
+            let test = compile_expr(alloc, source, fact, inner, test)?;
+            pick_node(alloc, *op, list, test)
+        }
+    }
+}
+
+#[tactic(auto, using(node_eval::proofs::Views::views))]
+fn constant_node(alloc: Global, source: &DictSource, text: &Constant) -> Result<Node, NoMemory>
+    ensures { IfOk result (λ node. node_view node ≡ literal (constant_value (dictionary_view source.now).enums (literal_of text.now))) }
+{
+    Ok(Node::Const(constant(alloc, source.enums(), text)?))
+}
+
+#[tactic(auto, using(node_eval::proofs::Views::views))]
+fn one_node(alloc: Global, op: OneOp, operand: Node) -> Result<Node, NoMemory>
+    ensures { IfOk result (λ node. node_view node ≡ one op (node_view operand)) }
+{
+    Ok(Node::One(op, Box::new(alloc, operand)?))
+}
+
+#[tactic(auto, using(node_eval::proofs::Views::views))]
+fn pick_node(alloc: Global, op: PickOp, list: Reader, test: Node) -> Result<Node, NoMemory>
+    ensures { IfOk result (λ node. node_view node ≡ pick op list (node_view test)) }
+{
+    Ok(Node::Pick(op, list, Box::new(alloc, test)?))
+}
+
+#[tactic(auto, using(node_eval::proofs::Views::views))]
+fn two_nodes(alloc: Global, op: TwoOp, left: Node, right: Node) -> Result<Node, NoMemory>
+    ensures { IfOk result (λ node. node_view node ≡ two op (node_view left) (node_view right)) }
+{
+    match Box::new(alloc, left) {
+        Ok(left) => match Box::new(alloc, right) {
+            Ok(right) => Ok(Node::Two(op, left, right)),
+            Err(refused) => {
+                drop(refused);
+                drop(left);
+                Err(NoMemory)
+            }
+        },
+        Err(refused) => {
+            drop(refused);
+            drop(right);
+            Err(NoMemory)
         }
     }
 }
@@ -84,9 +133,33 @@ fn compile_cases(
 {
     let mut nodes = Vec::with_capacity(alloc, cases.len())?;
     for case in cases {
-        let test = compile_expr(alloc, source, fact, base, &case.test)?;
-        let outcome = compile_expr(alloc, source, fact, base, &case.outcome)?;
-        nodes.push(NodeCase { test, outcome })?;
+        match compile_case(alloc, source, fact, base, case) {
+            Ok(case) => nodes.push(case)?,
+            Err(NoMemory) => {
+                drop(nodes);
+                return Err(NoMemory);
+            }
+        }
     }
     Ok(nodes)
+}
+
+#[cycle(compile)]
+fn compile_case(
+    alloc: Global,
+    source: &DictSource,
+    fact: u32,
+    base: u32,
+    case: &Case,
+) -> Result<NodeCase, NoMemory>
+    ensures { IfOk result (λ node. node_case_view node ≡ (resolved (names (dictionary_view source.now) fact) base (view case.now.test), resolved (names (dictionary_view source.now) fact) base (view case.now.outcome))) }
+{
+    let test = compile_expr(alloc, source, fact, base, &case.test)?;
+    match compile_expr(alloc, source, fact, base, &case.outcome) {
+        Ok(outcome) => Ok(NodeCase { test, outcome }),
+        Err(NoMemory) => {
+            drop(test);
+            Err(NoMemory)
+        }
+    }
 }

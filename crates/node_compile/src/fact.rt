@@ -6,7 +6,7 @@ ghost use Rattle.dict_tree.specs.Tree.{a_case, literal, no_cases, switch};
 ghost use Rattle.dict_tree.specs.View.{view};
 ghost use Rattle.fact_values.specs.declared.value.Value.TheVariants.{Boolean};
 ghost use Rattle.dictionary.specs.Plain.{body, conditional_body};
-ghost use Rattle.node_eval.specs.View.{view as node_view};
+ghost use Rattle.node_eval.specs.View.{case_view, view as node_view};
 ghost use Rattle.node_compile.specs.Compiling.{fact_trees, node_tree};
 ghost use Rattle.node_compile.specs.FactTrees.{trees_of};
 
@@ -34,13 +34,35 @@ fn compile_body(
 ) -> Result<Node, NoMemory>
     ensures { IfOk result (λ node. node_view node ≡ node_tree (dictionary_view source.now) fact (conditional_body (option_map conditional_view conditional.now) (view main.now))) }
 {
-    let main = compile_expr(alloc, source, fact, 0, main)?;
     match conditional {
-        None => Ok(main),
+        None => compile_expr(alloc, source, fact, 0, main),
         Some(pair) => {
-            let test = compile_expr(alloc, source, fact, 0, &pair.test)?;
-            let outcome = compile_expr(alloc, source, fact, 0, &pair.value)?;
-            under_condition(alloc, NodeCase { test, outcome }, main)
+            let case = compile_pair(alloc, source, fact, pair)?;
+            match compile_expr(alloc, source, fact, 0, main) {
+                Ok(main) => under_condition(alloc, case, main),
+                Err(NoMemory) => {
+                    drop(case);
+                    Err(NoMemory)
+                }
+            }
+        }
+    }
+}
+
+fn compile_pair(
+    alloc: Global,
+    source: &DictSource,
+    fact: u32,
+    pair: &Conditional,
+) -> Result<NodeCase, NoMemory>
+    ensures { IfOk result (λ case. case_view case ≡ (node_tree (dictionary_view source.now) fact (view pair.now.test), node_tree (dictionary_view source.now) fact (view pair.now.value))) }
+{
+    let test = compile_expr(alloc, source, fact, 0, &pair.test)?;
+    match compile_expr(alloc, source, fact, 0, &pair.value) {
+        Ok(outcome) => Ok(NodeCase { test, outcome }),
+        Err(NoMemory) => {
+            drop(test);
+            Err(NoMemory)
         }
     }
 }
@@ -50,13 +72,17 @@ fn compile_body(
 fn under_condition(alloc: Global, case: NodeCase, main: Node) -> Result<Node, NoMemory>
     ensures { IfOk result (λ node. node_view node ≡ switch (a_case (node_view case.test) (node_view case.outcome) (a_case (literal (Boolean true)) (node_view main) no_cases))) }
 {
-    let mut cases = Vec::with_capacity(alloc, 2)?;
-    cases.push(case)?;
-    cases.push(NodeCase {
+    let otherwise = NodeCase {
         test: Node::Const(Value::Boolean(true)),
         outcome: main,
-    })?;
-    Ok(Node::Switch(cases))
+    };
+    match Vec::from_array(alloc, [case, otherwise]) {
+        Ok(cases) => Ok(Node::Switch(cases)),
+        Err(refused) => {
+            drop(refused);
+            Err(NoMemory)
+        }
+    }
 }
 
 fn compile_main(

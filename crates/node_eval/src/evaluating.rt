@@ -1,10 +1,11 @@
 // The result of a compiled node, visit by visit.
-ghost use Rattle.std.specs.Prelude.{◌≡◌, ℕ, ◌+◌, ◌≤◌, [], ◌∷◌, ◌++◌, sum_by, if◌then◌else◌, IfOk, IsErr, OnOk, Option};
+ghost use Rattle.std.specs.Prelude.{◌≡◌, ℕ, ◌+◌, ◌<◌, ◌≤◌, ◌^◌, [], ◌∷◌, ◌++◌, sum_by, if◌then◌else◌, IfOk, IsErr, OnOk, Option};
 ghost use Rattle.evaluation.specs.Over.{many_of, over, over_all, over_cases, pick_of, weight, weight_of_all, weight_of_cases};
 ghost use Rattle.fact_values.specs.Values.{HoldsMemory};
 ghost use Rattle.fact_values.specs.declared.fact_type.FactType.{FactType};
 ghost use Rattle.evaluation.specs.SlotsRead.{members_visited, up_to_decider};
 ghost use Rattle.operations.specs.CaseSteps.{find_from};
+ghost use Rattle.operations.specs.ManyFolds.{saw};
 ghost use Rattle.three_state.specs.Results.{filter_of, find_of, members_of, switch_of};
 ghost use Rattle.node_eval.specs.Evaluating.{TakesAt, condition_at, visits_at, work_at};
 ghost use Rattle.node_eval.specs.Memory.{PickTakes, SomeOf, TakesInAll, TakesInCases, TakesMemory};
@@ -15,9 +16,9 @@ ghost use Rattle.evaluation.specs.Typed.{Domains};
 ghost use Rattle.evaluation.specs.Visits.{visits, visits_of_all, visits_of_cases};
 
 use crate::cells::Cells;
-use crate::node::{Node, NodeCase, Reader};
+use crate::node::{Node, NodeCase, NodeRead, Reader};
 use crate::place::Place;
-use crate::reads::{read, read_source};
+use crate::reads::{read, read_source, see_dependency};
 use dict_tree::{ManyOp, PickOp};
 use fact_values::{NoMemory, Value};
 use operations::{
@@ -74,7 +75,10 @@ fn visit<C: Cells, L: Ledger>(
         Node::Two(op, left, right) => {
             let first = visit(alloc, cells, at, left, steps)?;
             let second = visit(alloc, cells, at, right, steps)?;
-            Ok(two(*op, &first, &second))
+            let res = two(*op, &first, &second);
+            drop(first);
+            drop(second);
+            Ok(res)
         }
         Node::Pick(op, reader, test) => eval_pick(alloc, cells, at, *op, *reader, test, steps),
     }
@@ -104,10 +108,38 @@ fn eval_all<C: Cells, L: Ledger>(
 {
     let mut fold = ManyFold::new(op);
     for operand in operands {
-        let res = visit(alloc, cells, at, operand, steps)?;
-        fold.see(res);
+        see_operand(alloc, cells, at, operand, &mut fold, steps)?;
     }
     Ok(fold.end())
+}
+
+// Sees the result of an operand. That of a Dependency is seen where it stands.
+#[cycle(eval)]
+#[tactic(auto, using(crate::proofs::Views::views))]
+fn see_operand<C: Cells, L: Ledger>(
+    alloc: Global,
+    cells: &C,
+    at: Place,
+    operand: &Node,
+    fold: &mut ManyFold,
+    steps: &mut Steps<L>,
+) -> Result<(), NoMemory>
+    requires few { fold.old.count + 1 < 2 ^ 64 }
+    ensures next { OnOk result (fold.new ≡ saw fold.old (over (node_env (C.look cells.now)) at (view operand.now))) }
+    ensures visited { OnOk result (steps.new ≡ steps.old + visits (node_env (C.look cells.now)) at (view operand.now)) }
+    ensures most { steps.new ≤ steps.old + weight (node_env (C.look cells.now)) at (view operand.now) }
+    ensures memory { IsErr result → TakesMemory (node_env (C.look cells.now)) at (view operand.now) }
+{
+    match operand {
+        Node::Read(NodeRead::Dependency, reader) => {
+            see_dependency(alloc, cells, at, *reader, fold, steps)
+        }
+        _ => {
+            let res = visit(alloc, cells, at, operand, steps)?;
+            fold.see(res);
+            Ok(())
+        }
+    }
 }
 
 // A Switch: the cases in their order, up to the one that is taken.
@@ -127,7 +159,9 @@ fn eval_cases<C: Cells, L: Ledger>(
     let mut complete = true;
     for case in cases {
         let condition = visit(alloc, cells, at, &case.test, steps)?;
-        match case_step(complete, &condition) {
+        let step = case_step(complete, &condition);
+        drop(condition);
+        match step {
             CaseStep::Next(still) => complete = still,
             CaseStep::Take(still) => {
                 let res = visit(alloc, cells, at, &case.outcome, steps)?;
@@ -192,6 +226,7 @@ fn eval_filter<C: Cells, L: Ledger>(
     for member in members(source) {
         let condition = visit(alloc, cells, at.at(*member), test, steps)?;
         let is_kept = fold.see(&condition);
+        drop(condition);
         keep(&mut kept, is_kept, *member)?;
     }
     Ok(fold.end(kept))
@@ -240,7 +275,9 @@ fn find_among<C: Cells, L: Ledger>(
     let mut complete = complete;
     for member in members {
         let condition = visit(alloc, cells, at.at(*member), test, steps)?;
-        match case_step(complete, &condition) {
+        let step = case_step(complete, &condition);
+        drop(condition);
+        match step {
             CaseStep::Next(still) => complete = still,
             CaseStep::Take(still) => return Ok(found(still, *member)),
             CaseStep::End(none) => return Ok(none),

@@ -1,7 +1,9 @@
 // What a node that reads gives, from the facts that its reader names.
-ghost use Rattle.std.specs.Prelude.{◌≡◌, IfOk, IsErr, Some};
+ghost use Rattle.std.specs.Prelude.{◌≡◌, ◌+◌, ◌<◌, ◌^◌, IfOk, IsErr, OnOk, Some};
 ghost use Rattle.evaluation.specs.Reads.{collection_size, complete_test, sum_over, through_item};
 ghost use Rattle.fact_values.specs.declared.fact_type.FactType.{FactType};
+ghost use Rattle.operations.specs.ManyFolds.{saw};
+ghost use Rattle.three_state.specs.Folds.{down_unless};
 ghost use Rattle.three_state.specs.Results.{ValueHoldsMemory, count_of};
 ghost use Rattle.three_state.specs.declared.res.Res.TheVariants.{Incomplete};
 ghost use Rattle.node_eval.specs.Looks.{result_at};
@@ -12,8 +14,12 @@ use crate::cells::{Cells, result_at};
 use crate::node::{NodeRead, Reader};
 use crate::place::Place;
 use fact_values::{FactType, NoMemory, Value};
-use operations::{CountFold, ItemStep, SumFold, complete_test, item_step, members, size, taken};
+use operations::{
+    CountFold, ItemStep, ManyFold, SumFold, complete_test, item_step, members, size, taken,
+};
 use std::alloc::Global;
+use std::sync::ledger::Ledger;
+use steps::Steps;
 use three_state::Res;
 
 // The first fact of a reader.
@@ -113,6 +119,57 @@ fn reached_test(end: Reached) -> Res
         }
         Reached::End(res) => complete_test(&res),
     }
+}
+
+// ---- a Dependency that is an operand
+
+// Sees a result that stands in a cell, of which the flag says that no placeholder was passed on the way. Then it isn't copied.
+fn see_at(alloc: Global, res: &Res, complete: bool, fold: &mut ManyFold) -> Result<(), NoMemory>
+    requires few { fold.old.count + 1 < 2 ^ 64 }
+    ensures next { OnOk result (fold.new ≡ saw fold.old (down_unless complete res.now)) }
+    ensures memory { IsErr result → ValueHoldsMemory (down_unless complete res.now) }
+{
+    if complete {
+        return fold.see_lent(alloc, res);
+    }
+    fold.see(taken(complete, res.copy(alloc)?));
+    Ok(())
+}
+
+// Sees the result at which a Dependency ends.
+fn see_reached(alloc: Global, end: Reached, fold: &mut ManyFold) -> Result<(), NoMemory>
+    requires few { fold.old.count + 1 < 2 ^ 64 }
+    ensures next { OnOk result (fold.new ≡ saw fold.old (reached end.entry)) }
+    ensures memory { IsErr result → ValueHoldsMemory (reached end.entry) }
+{
+    match end {
+        Reached::At(res, complete) => see_at(alloc, res, complete, fold),
+        Reached::End(res) => {
+            fold.see(res);
+            Ok(())
+        }
+    }
+}
+
+/// Sees the result of a Dependency by this reader as an operand, which is a step: a call of its own, so that it is counted
+/// from outside, too.
+#[inline(never)]
+pub fn see_dependency<C: Cells, L: Ledger>(
+    alloc: Global,
+    cells: &C,
+    at: Place,
+    reader: Reader,
+    fold: &mut ManyFold,
+    steps: &mut Steps<L>,
+) -> Result<(), NoMemory>
+    requires few { fold.old.count + 1 < 2 ^ 64 }
+    ensures next { OnOk result (fold.new ≡ saw fold.old (dependency (C.look cells.now) at reader)) }
+    ensures memory { IsErr result → ValueHoldsMemory (dependency (C.look cells.now) at reader) }
+    ensures step { steps.new ≡ steps.old + 1 }
+{
+    steps.tick();
+    let missing = Res::Incomplete;
+    see_reached(alloc, reach(cells, &missing, at, reader), fold)
 }
 
 // ---- the members of a collection

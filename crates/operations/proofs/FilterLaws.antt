@@ -8,7 +8,7 @@ use Rattle.fact_values.specs.Members.{IsMemberList}
 use Rattle.three_state.specs.Folds.{filter_on}
 use Rattle.three_state.specs.Results.{after_verdict, down, fault_or_go, filter_of, first_fault, is_complete, is_incomplete, is_true, kept, members_in, members_of, verdict_of}
 use Rattle.three_state.specs.declared.res.Res.{Res}
-use Rattle.three_state.specs.declared.res.Res.TheVariants.{Placeholder, Incomplete}
+use Rattle.three_state.specs.declared.res.Res.TheVariants.{Placeholder}
 use Rattle.three_state.specs.declared.strict.Verdict.TheVariants as verdict
 use Rattle.three_state.proofs.FoldLaws.{verdict_on-start}
 use Rattle.three_state.proofs.RuleLaws.{filter_on-found}

@@ -1,9 +1,11 @@
-ghost use Rattle.std.specs.Prelude.{◌≡◌, ◌<◌, ◌^◌};
+ghost use Rattle.std.specs.Prelude.{◌≡◌, ◌<◌, ◌^◌, IsErr, OnErr, OnOk};
+ghost use Rattle.fact_values.specs.Values.{HoldsMemory};
 ghost use Rattle.operations.specs.ManyFolds.{calls_of, extreme_end, gathered_end, gathered_next, greater_next, lesser_next};
 
 use crate::numbers::order;
 use crate::sum::Summed;
-use fact_values::{Value, ValueFault, Whole};
+use fact_values::{NoMemory, Value, ValueFault, Whole};
+use std::alloc::Global;
 
 /// What an operation with many operands keeps of the values seen.
 #[derive(Drop)]
@@ -22,11 +24,33 @@ impl Gathered {
         ensures { self.new ≡ gathered_next self.old value }
     {
         match self {
-            Gathered::Added(sum) => sum.add(&value),
-            Gathered::Subtracted(sum) => sum.subtract(&value),
+            Gathered::Added(sum) => {
+                sum.add(&value);
+                drop(value);
+            }
+            Gathered::Subtracted(sum) => {
+                sum.subtract(&value);
+                drop(value);
+            }
             Gathered::Greatest(greatest) => keep_greater(greatest, value),
             Gathered::Least(least) => keep_lesser(least, value),
         }
+    }
+
+    /// Sees the next value, which stays where it is: it is copied where it may be kept.
+    pub fn see_lent(&mut self, alloc: Global, value: &Value) -> Result<(), NoMemory>
+        requires few { calls_of self.old < 2 ^ 64 }
+        ensures ok { OnOk result (self.new ≡ gathered_next self.old value.now) }
+        ensures unchanged { OnErr result (self.new ≡ self.old) }
+        ensures memory { IsErr result → HoldsMemory value.now }
+    {
+        match self {
+            Gathered::Added(sum) => sum.add(value),
+            Gathered::Subtracted(sum) => sum.subtract(value),
+            Gathered::Greatest(greatest) => keep_greater(greatest, value.copy(alloc)?),
+            Gathered::Least(least) => keep_lesser(least, value.copy(alloc)?),
+        }
+        Ok(())
     }
 
     /// What the operation gives.
@@ -50,6 +74,8 @@ fn keep_greater(greatest: &mut Option<Value>, value: Value)
         Some(kept) => {
             if order(kept, &value).is_lt() {
                 *kept = value;
+            } else {
+                drop(value);
             }
         }
         None => *greatest = Some(value),
@@ -63,6 +89,8 @@ fn keep_lesser(least: &mut Option<Value>, value: Value)
         Some(kept) => {
             if order(kept, &value).is_gt() {
                 *kept = value;
+            } else {
+                drop(value);
             }
         }
         None => *least = Some(value),

@@ -1,10 +1,13 @@
-ghost use Rattle.std.specs.Prelude.{◌≡◌, ◌<◌, ◌^◌};
+ghost use Rattle.std.specs.Prelude.{◌≡◌, ◌<◌, ◌^◌, IsErr, OnErr, OnOk};
+ghost use Rattle.three_state.specs.Results.{ValueHoldsMemory};
 ghost use Rattle.operations.specs.ManyFolds.{calls_kept, calls_of, gathered_after, kept_end, kept_next, kept_start};
 
 use crate::gathered::Gathered;
 use crate::sum::Summed;
 use crate::verdict::after_verdict;
 use dict_tree::ManyOp;
+use fact_values::NoMemory;
+use std::alloc::Global;
 use three_state::{AllFold, AnyFold, Res, Strict};
 
 /// What a node with many operands keeps of those seen.
@@ -37,11 +40,41 @@ impl Kept {
         ensures { self.new ≡ kept_next self.old operand }
     {
         match self {
-            Kept::All(fold) => fold.see(&operand),
-            Kept::Any(fold) => fold.see(&operand),
+            Kept::All(fold) => {
+                fold.see(&operand);
+                drop(operand);
+            }
+            Kept::Any(fold) => {
+                fold.see(&operand);
+                drop(operand);
+            }
             Kept::Values(verdict, gathered) => {
                 verdict.see(&operand);
                 gather(gathered, operand);
+            }
+        }
+    }
+
+    #[tactic(auto, unfolding(crate::specs::ManyFolds::kept_next))]
+    pub fn see_lent(&mut self, alloc: Global, operand: &Res) -> Result<(), NoMemory>
+        requires few { calls_kept self.old < 2 ^ 64 }
+        ensures ok { OnOk result (self.new ≡ kept_next self.old operand.now) }
+        ensures unchanged { OnErr result (self.new ≡ self.old) }
+        ensures memory { IsErr result → ValueHoldsMemory operand.now }
+    {
+        match self {
+            Kept::All(fold) => {
+                fold.see(operand);
+                Ok(())
+            }
+            Kept::Any(fold) => {
+                fold.see(operand);
+                Ok(())
+            }
+            Kept::Values(verdict, gathered) => {
+                gather_lent(alloc, gathered, operand)?;
+                verdict.see(operand);
+                Ok(())
             }
         }
     }
@@ -68,5 +101,20 @@ fn gather(gathered: &mut Gathered, operand: Res)
         Res::Placeholder(v) => gathered.see(v),
         Res::Incomplete => {}
         Res::Fault(_) => {}
+    }
+}
+
+/// The same of an operand that stays where it is.
+fn gather_lent(alloc: Global, gathered: &mut Gathered, operand: &Res) -> Result<(), NoMemory>
+    requires few { calls_of gathered.old < 2 ^ 64 }
+    ensures ok { OnOk result (gathered.new ≡ gathered_after gathered.old operand.now) }
+    ensures unchanged { OnErr result (gathered.new ≡ gathered.old) }
+    ensures memory { IsErr result → ValueHoldsMemory operand.now }
+{
+    match operand {
+        Res::Complete(v) => gathered.see_lent(alloc, v),
+        Res::Placeholder(v) => gathered.see_lent(alloc, v),
+        Res::Incomplete => Ok(()),
+        Res::Fault(_) => Ok(()),
     }
 }

@@ -1,11 +1,14 @@
-ghost use Rattle.std.specs.Prelude.{◌≡◌, ◌+◌, ◌<◌, ◌^◌, [], ◌∷◌, ◌++◌, List};
+ghost use Rattle.std.specs.Prelude.{◌≡◌, ◌+◌, ◌<◌, ◌^◌, [], ◌∷◌, ◌++◌, List, IsErr, OnErr, OnOk};
 ghost use Rattle.dict_tree.specs.declared.operators.ManyOp.{ManyOp};
 ghost use Rattle.evaluation.specs.Over.{many_of};
 ghost use Rattle.operations.specs.ManyFolds.{AreSeen, many_end, many_start, saw};
+ghost use Rattle.three_state.specs.Results.{ValueHoldsMemory};
 ghost use Rattle.three_state.specs.declared.res.Res.{Res};
 
 use crate::kept::Kept;
 use dict_tree::ManyOp;
+use fact_values::NoMemory;
+use std::alloc::Global;
 use std::marker::Model;
 use three_state::Res;
 
@@ -49,6 +52,20 @@ impl ManyFold {
     {
         self.kept.see(operand);
         self.count += 1;
+    }
+
+    /// Sees the next operand, which stays where it is. It wants memory where a text or a list of members may be kept.
+    #[tactic(auto, unfolding(crate::specs::ManyFolds::kept_next))]
+    pub fn see_lent(&mut self, alloc: Global, operand: &Res) -> Result<(), NoMemory>
+        requires few { self.old.count + 1 < 2 ^ 64 }
+        ensures next { OnOk result (self.new ≡ saw self.old operand.now) }
+        ensures unchanged { OnErr result (self.new ≡ self.old) }
+        ensures seen { OnOk result ((op : ManyOp) (rs : List Res) → AreSeen op rs self.old → AreSeen op (rs ++ operand.now ∷ []) self.new) }
+        ensures memory { IsErr result → ValueHoldsMemory operand.now }
+    {
+        self.kept.see_lent(alloc, operand)?;
+        self.count += 1;
+        Ok(())
     }
 
     /// The result of the node.

@@ -45,10 +45,8 @@ by_step complete (Placeholder v) given rest = by_truth false (truth v) given res
 by_step complete Incomplete given rest = refl
 by_step complete (Fault fault) given rest = refl
 
-pub step_visits : (complete : Bool) (condition expected : Res) (step : CaseStep) (given rest : ℕ) → condition ≡ expected → step ≡ case_step complete condition
-    → visits_after expected given rest ≡ after_step step given rest
-step_visits complete condition expected step given rest is taken =
-    ap (λ r. visits_after r given rest) (sym is) ∙ sym (by_step complete condition given rest) ∙ ap (λ s. after_step s given rest) (sym taken)
+pub step_visits : (complete : Bool) (condition : Res) (step : CaseStep) (given rest : ℕ) → step ≡ case_step complete condition → visits_after condition given rest ≡ after_step step given rest
+step_visits complete condition step given rest is = sym (by_step complete condition given rest) ∙ ap (λ s. after_step s given rest) (sym is)
 
 -- ---- operands
 
@@ -75,34 +73,34 @@ module _ (env : Env Literal Reading Use Place) (at : Place) where
     cases_left : drop i (map case_view cs) ≡ case_view c ∷ drop (i + 1) (map case_view cs)
     cases_left = drop-view case_view cs i (i + 1) c low is (add-one i)
 
-    pub case_at : (complete : Bool) (condition : Res) (step : CaseStep) → condition ≡ over env at (view c.test) → step ≡ case_step complete condition
+    pub case_at : (complete : Bool) (step : CaseStep) → step ≡ case_step complete (over env at (view c.test))
         → after_case step (over env at (view c.outcome)) (λ still. switch_from still (over_cases env at (cases_of (drop (i + 1) (map case_view cs))))) ≡ switch_from complete (over_cases env at (cases_of (drop i (map case_view cs))))
-    case_at complete condition step f h =
-        ap (λ (s : CaseStep). after_case s (over env at (view c.outcome)) (λ still. switch_from still (over_cases env at (cases_of (drop (i + 1) (map case_view cs)))))) (h ∙ ap (case_step complete) f)
+    case_at complete step h =
+        ap (λ (s : CaseStep). after_case s (over env at (view c.outcome)) (λ still. switch_from still (over_cases env at (cases_of (drop (i + 1) (map case_view cs)))))) h
         ∙ sym (ap (λ l. switch_from complete (over_cases env at (cases_of l))) cases_left)
 
     pub cases_weigh : weight_of_cases env at (cases_of (drop i (map case_view cs))) ≡ weight env at (view c.test) + (weight env at (view c.outcome) + weight_of_cases env at (cases_of (drop (i + 1) (map case_view cs))))
     cases_weigh = ap (λ l. weight_of_cases env at (cases_of l)) cases_left
 
-    pub cases_visits : (complete : Bool) (condition : Res) (step : CaseStep) → condition ≡ over env at (view c.test) → step ≡ case_step complete condition
+    pub cases_visits : (complete : Bool) (step : CaseStep) → step ≡ case_step complete (over env at (view c.test))
         → visits_of_cases env at (cases_of (drop i (map case_view cs)))
         ≡ visits env at (view c.test) + after_step step (visits env at (view c.outcome)) (visits_of_cases env at (cases_of (drop (i + 1) (map case_view cs))))
-    cases_visits complete condition step is taken =
+    cases_visits complete step is =
         ap (λ l. visits_of_cases env at (cases_of l)) cases_left
         ∙ ap (λ n. visits env at (view c.test) + n)
-        (step_visits complete condition (over env at (view c.test)) step (visits env at (view c.outcome)) (visits_of_cases env at (cases_of (drop (i + 1) (map case_view cs)))) is taken)
+        (step_visits complete (over env at (view c.test)) step (visits env at (view c.outcome)) (visits_of_cases env at (cases_of (drop (i + 1) (map case_view cs)))) is)
 
 -- a body with a conditional: its value where the condition is true, else the main expression
-pub conditional_at : (test value main condition : Res) (step : CaseStep) → condition ≡ test → step ≡ case_step true condition
+pub conditional_at : (test value main : Res) (step : CaseStep) → step ≡ case_step true test
     → after_case step value (λ still. down_unless still main) ≡ switch_of ((test, value) ∷ (Complete (Boolean true), main) ∷ [])
 unfolding case_step
-conditional_at test value main condition step e h =
-    ap (λ (s : CaseStep). after_case s value (λ still. down_unless still main)) (h ∙ ap (case_step true) e) ∙ switch_from-start ((test, value) ∷ (Complete (Boolean true), main) ∷ [])
+conditional_at test value main step h =
+    ap (λ (s : CaseStep). after_case s value (λ still. down_unless still main)) h ∙ switch_from-start ((test, value) ∷ (Complete (Boolean true), main) ∷ [])
 
-pub conditional_visits : (k : Known) (at : Place) (test value main : Source) (condition : Res) (step : CaseStep) → condition ≡ over (env_of k) at test → step ≡ case_step true condition
+pub conditional_visits : (k : Known) (at : Place) (test value main : Source) (step : CaseStep) → step ≡ case_step true (over (env_of k) at test)
     → suc (visits (env_of k) at test + after_step step (visits (env_of k) at value) (1 + visits (env_of k) at main)) ≡ visits (env_of k) at (conditional_body (Some (test, value)) main)
-conditional_visits k at test value main condition step is taken =
-    ap (λ n. suc (visits (env_of k) at test + n)) (sym (step_visits true condition (over (env_of k) at test) step (visits (env_of k) at value) (1 + visits (env_of k) at main) is taken))
+conditional_visits k at test value main step is =
+    ap (λ n. suc (visits (env_of k) at test + n)) (sym (step_visits true (over (env_of k) at test) step (visits (env_of k) at value) (1 + visits (env_of k) at main) is))
 
 -- ---- members
 
@@ -110,32 +108,29 @@ module _ (ms : List ℕ) (i : ℕ) (low : i < length ms) where
   pub members_weigh : (work : ℕ → ℕ) → sum_by work (drop i ms) ≡ work (get_or ms i 0) + sum_by work (drop (i + 1) ms)
   members_weigh work = ap (sum_by work) (next_member ms i low) ∙ sum_by-cons work (get_or ms i 0) (drop (i + 1) ms)
 
-  module _ (condition : ℕ → Res) (r : Res) (is : r ≡ condition (get_or ms i 0)) where
-    pub found_visits : (work : ℕ → ℕ) (complete : Bool) (step : CaseStep) → step ≡ case_step complete r
+  module _ (condition : ℕ → Res) where
+    pub found_visits : (work : ℕ → ℕ) (complete : Bool) (step : CaseStep) → step ≡ case_step complete (condition (get_or ms i 0))
         → sum_by work (up_to_decider condition (drop i ms)) ≡ work (get_or ms i 0) + after_step step 0 (sum_by work (up_to_decider condition (drop (i + 1) ms)))
-    found_visits work complete step taken =
+    found_visits work complete step is =
         ap (λ l. sum_by work (up_to_decider condition l)) (next_member ms i low)
         ∙ find-visits condition work (get_or ms i 0) (drop (i + 1) ms)
-        ∙ ap (λ n. work (get_or ms i 0) + n) (step_visits complete r (condition (get_or ms i 0)) step 0 (sum_by work (up_to_decider condition (drop (i + 1) ms))) is taken)
+        ∙ ap (λ n. work (get_or ms i 0) + n) (step_visits complete (condition (get_or ms i 0)) step 0 (sum_by work (up_to_decider condition (drop (i + 1) ms))) is)
 
-    pub find_at : (complete : Bool) (step : CaseStep) → step ≡ case_step complete r
+    pub find_at : (complete : Bool) (step : CaseStep) → step ≡ case_step complete (condition (get_or ms i 0))
         → after_case step (Complete (Item (get_or ms i 0))) (λ still. find_from condition still (drop (i + 1) ms)) ≡ find_from condition complete (drop i ms)
     find_at complete step h =
-        ap (λ (s : CaseStep). after_case s (Complete (Item (get_or ms i 0))) (λ still. find_from condition still (drop (i + 1) ms))) (h ∙ ap (case_step complete) is)
+        ap (λ (s : CaseStep). after_case s (Complete (Item (get_or ms i 0))) (λ still. find_from condition still (drop (i + 1) ms))) h
         ∙ sym (ap (find_from condition complete) (next_member ms i low))
 
-    module _ (found found' : List ℕ) (b : Bool) (test : b ≡ is_true r) (more : found' ≡ (if b then found ++ get_or ms i 0 ∷ [] else found)) where
-      more_found : found' ≡ kept_next found (get_or ms i 0) (condition (get_or ms i 0))
-      more_found = more ∙ ap (λ (x : Bool). if x then found ++ get_or ms i 0 ∷ [] else found) (test ∙ ap is_true is)
-
-      pub filter_next : (verdict verdict' : Verdict) → verdict' ≡ verdict_next verdict r → filter_on condition found' verdict' (drop (i + 1) ms) ≡ filter_on condition found verdict (drop i ms)
+    module _ (found found' : List ℕ) (more : found' ≡ kept_next found (get_or ms i 0) (condition (get_or ms i 0))) where
+      pub filter_next : (verdict verdict' : Verdict) → verdict' ≡ verdict_next verdict (condition (get_or ms i 0)) → filter_on condition found' verdict' (drop (i + 1) ms) ≡ filter_on condition found verdict (drop i ms)
       filter_next verdict verdict' next =
-          ap (λ (l : List ℕ). filter_on condition l verdict' (drop (i + 1) ms)) more_found
-          ∙ ap (λ (v : Verdict). filter_on condition (kept_next found (get_or ms i 0) (condition (get_or ms i 0))) v (drop (i + 1) ms)) (next ∙ ap (verdict_next verdict) is)
+          ap (λ (l : List ℕ). filter_on condition l verdict' (drop (i + 1) ms)) more
+          ∙ ap (λ (v : Verdict). filter_on condition (kept_next found (get_or ms i 0) (condition (get_or ms i 0))) v (drop (i + 1) ms)) next
           ∙ sym (ap (filter_on condition found verdict) (next_member ms i low))
 
       pub kept_more : found' ++ kept condition (drop (i + 1) ms) ≡ found ++ kept condition (drop i ms)
       kept_more =
-          ap (λ (l : List ℕ). l ++ kept condition (drop (i + 1) ms)) more_found
+          ap (λ (l : List ℕ). l ++ kept condition (drop (i + 1) ms)) more
           ∙ kept_one (is_true (condition (get_or ms i 0))) found (get_or ms i 0) (kept condition (drop (i + 1) ms))
           ∙ sym (ap (λ l. found ++ kept condition l) (next_member ms i low))

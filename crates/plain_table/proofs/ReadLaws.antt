@@ -45,9 +45,8 @@ after_step complete (Placeholder v) given rest = by_truth false (truth v) given 
 after_step complete Incomplete given rest = refl
 after_step complete (Fault fault) given rest = refl
 
-pub after_this_step : {X : Type 0} (complete : Bool) (r condition : Res) (step : CaseStep) (given rest : List X) → r ≡ condition → step ≡ case_step complete r → after_condition condition given rest ≡ reads_after step given rest
-after_this_step complete r condition step given rest e h =
-    ap (λ (c : Res). after_condition c given rest) (sym e) ∙ after_step complete r given rest ∙ ap (λ (s : CaseStep). reads_after s given rest) (sym h)
+pub after_this_step : {X : Type 0} (complete : Bool) (condition : Res) (step : CaseStep) (given rest : List X) → step ≡ case_step complete condition → after_condition condition given rest ≡ reads_after step given rest
+after_this_step complete condition step given rest h = after_step complete condition given rest ∙ ap (λ (s : CaseStep). reads_after s given rest) (sym h)
 
 module _ (env : Env Literal Reading Use Place) (by : ReadBy Reading Use Place Slot) (at : Place) where
   -- ---- operands
@@ -61,14 +60,14 @@ module _ (env : Env Literal Reading Use Place) (by : ReadBy Reading Use Place Sl
   -- ---- cases
 
   module _ (cs : List Case) (i : ℕ) (c : Case) (low : i < length cs) (is : c ≡ get_or cs i c) where
-    pub case_read : (complete : Bool) (r : Res) (step : CaseStep) → r ≡ over env at (view c.test) → step ≡ case_step complete r → (old new : List Slot) → new ≡ old ++ slots_read env by at (view c.test)
+    pub case_read : (complete : Bool) (step : CaseStep) → step ≡ case_step complete (over env at (view c.test)) → (old new : List Slot) → new ≡ old ++ slots_read env by at (view c.test)
         → new ++ reads_after step (slots_read env by at (view c.outcome)) (slots_read_of_cases env by at (cases_of (drop (i + 1) (map case_view cs)))) ≡ old ++ slots_read_of_cases env by at (cases_of (drop i (map case_view cs)))
-    case_read complete r step f h old new e =
+    case_read complete step h old new e =
         let given = slots_read env by at (view c.outcome) in
         let rest = slots_read_of_cases env by at (cases_of (drop (i + 1) (map case_view cs))) in
         moved_on old new (slots_read env by at (view c.test)) (reads_after step given rest) (slots_read_of_cases env by at (cases_of (drop i (map case_view cs)))) e
         (ap (λ l. slots_read_of_cases env by at (cases_of l)) (drop-view case_view cs i (i + 1) c low is (add-one i))
-        ∙ ap (λ l. slots_read env by at (view c.test) ++ l) (after_this_step complete r (over env at (view c.test)) step given rest f h))
+        ∙ ap (λ l. slots_read env by at (view c.test) ++ l) (after_this_step complete (over env at (view c.test)) step given rest h))
 
 -- ---- members
 
@@ -76,13 +75,13 @@ module _ {X : Type 0} (f : ℕ → List X) (ms : List ℕ) (i : ℕ) (low : i < 
   pub member_read : new ++ flat_map f (drop (i + 1) ms) ≡ old ++ flat_map f (drop i ms)
   member_read = moved_on old new (f (get_or ms i 0)) (flat_map f (drop (i + 1) ms)) (flat_map f (drop i ms)) e (ap (flat_map f) (next_member ms i low))
 
-  pub judged_read : (condition : ℕ → Res) (complete : Bool) (r : Res) (step : CaseStep) → r ≡ condition (get_or ms i 0) → step ≡ case_step complete r
+  pub judged_read : (condition : ℕ → Res) (complete : Bool) (step : CaseStep) → step ≡ case_step complete (condition (get_or ms i 0))
       → new ++ flat_map f (reads_after step [] (up_to_decider condition (drop (i + 1) ms))) ≡ old ++ flat_map f (up_to_decider condition (drop i ms))
-  judged_read condition complete r step k h =
+  judged_read condition complete step h =
       let rest = up_to_decider condition (drop (i + 1) ms) in
       moved_on old new (f (get_or ms i 0)) (flat_map f (reads_after step [] rest)) (flat_map f (up_to_decider condition (drop i ms))) e
       (ap (λ l. flat_map f (up_to_decider condition l)) (next_member ms i low)
-      ∙ ap (λ l. f (get_or ms i 0) ++ flat_map f l) (after_this_step complete r (condition (get_or ms i 0)) step [] rest k h))
+      ∙ ap (λ l. f (get_or ms i 0) ++ flat_map f l) (after_this_step complete (condition (get_or ms i 0)) step [] rest h))
 
 -- ---- a body with a conditional
 
@@ -91,15 +90,15 @@ pub joined : {X : Type 0} (old mid new a b : List X) → new ≡ mid ++ b → mi
 joined old mid new a b e f = e ∙ ap (λ l. l ++ b) f ∙ append_assoc old a b
 
 -- its value is read where the condition is true, else the main expression
-pub conditional_read : (k : Known) (at : Place) (test value main : Source) (r : Res) (step : CaseStep) → r ≡ over (env_of k) at test → step ≡ case_step true r
+pub conditional_read : (k : Known) (at : Place) (test value main : Source) (step : CaseStep) → step ≡ case_step true (over (env_of k) at test)
     → (old new : List Slot) → new ≡ old ++ slots_read (env_of k) (reads_of k) at test
     → new ++ reads_after step (slots_read (env_of k) (reads_of k) at value) (slots_read (env_of k) (reads_of k) at main)
     ≡ old ++ slots_read (env_of k) (reads_of k) at (conditional_body (Some (test, value)) main)
-conditional_read k at test value main r step f h old new e =
+conditional_read k at test value main step h old new e =
     let env = env_of k in
     let by = reads_of k in
     moved_on old new (slots_read env by at test) (reads_after step (slots_read env by at value) (slots_read env by at main)) (slots_read env by at (conditional_body (Some (test, value)) main)) e
-    (ap (λ l. slots_read env by at test ++ l) (after_this_step true r (over env at test) step (slots_read env by at value) (slots_read env by at main) f h))
+    (ap (λ l. slots_read env by at test ++ l) (after_this_step true (over env at test) step (slots_read env by at value) (slots_read env by at main) h))
 
 -- ---- the field of the member that an item names
 

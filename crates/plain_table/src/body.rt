@@ -9,13 +9,13 @@ ghost use Rattle.dictionary.specs.Plain.{conditional_body};
 ghost use Rattle.plain_table.specs.Known.{env_of, reads_of};
 ghost use Rattle.plain_table.specs.Noted.{Noted};
 
-use crate::evaluating::eval;
+use crate::evaluating::{eval, judge, take};
 use crate::ground::Ground;
 use crate::notes::Notes;
 use dict_tree::{Conditional, Expr};
 use dictionary::Place;
 use fact_values::NoMemory;
-use operations::{CaseStep, case_step, taken};
+use operations::CaseStep;
 use std::alloc::Global;
 use std::sync::ledger::Ledger;
 use steps::Steps;
@@ -38,17 +38,13 @@ fn eval_conditional<G: Ground, N: Notes, L: Ledger>(
     ensures most { steps.new ≤ steps.old + weight (env_of (G.known ground.now)) at (conditional_body (Some (conditional_view pair.now)) (view main.now)) }
 {
     steps.tick();
-    let condition = eval(alloc, ground, at, &pair.test, notes, steps)?;
-    match case_step(true, &condition) {
+    let step = judge(alloc, ground, at, true, &pair.test, notes, steps)?;
+    match step {
         CaseStep::Next(still) => {
             steps.tick();
-            let res = eval(alloc, ground, at, main, notes, steps)?;
-            Ok(taken(still, res))
+            take(alloc, ground, at, still, main, notes, steps)
         }
-        CaseStep::Take(still) => {
-            let res = eval(alloc, ground, at, &pair.value, notes, steps)?;
-            Ok(taken(still, res))
-        }
+        CaseStep::Take(still) => take(alloc, ground, at, still, &pair.value, notes, steps),
         CaseStep::End(res) => Ok(res),
     }
 }

@@ -1,10 +1,11 @@
 // The result of an expression as it is written, and what its evaluation reads.
 ghost use Rattle.std.specs.Prelude.{◌≡◌, ◌+◌, ◌≤◌, [], ◌∷◌, ◌++◌, ℕ, List, flat_map, sum_by, if◌then◌else◌, IfOk, OnOk};
 ghost use Rattle.dict_tree.specs.View.{cases_view, trees_view, use_view, view};
-ghost use Rattle.evaluation.specs.Over.{many_of, over, over_all, over_cases, pick_of, weight, weight_of_all, weight_of_cases};
+ghost use Rattle.evaluation.specs.Over.{many_of, over, over_all, over_cases, pick_of, two_of, weight, weight_of_all, weight_of_cases};
 ghost use Rattle.evaluation.specs.SlotsRead.{members_visited, slots_read, slots_read_of_all, slots_read_of_cases, up_to_decider};
 ghost use Rattle.evaluation.specs.Visits.{visits, visits_of_all, visits_of_cases};
-ghost use Rattle.operations.specs.CaseSteps.{find_from};
+ghost use Rattle.operations.specs.CaseSteps.{case_step as step_of_case, find_from};
+ghost use Rattle.three_state.specs.Folds.{down_unless, kept_next, verdict_next};
 ghost use Rattle.three_state.specs.Results.{filter_of, find_of, members_of, switch_of};
 ghost use Rattle.plain_table.specs.Known.{condition_on, condition_reads, env_of, picked_at, reads_of, visits_on, visits_under, work_on};
 ghost use Rattle.plain_table.specs.Noted.{Noted};
@@ -12,7 +13,7 @@ ghost use Rattle.plain_table.specs.Noted.{Noted};
 use crate::ground::Ground;
 use crate::notes::Notes;
 use crate::reads::{base_under, read, read_constant, read_source};
-use dict_tree::{Case, Expr, ManyOp, PathUse, PickOp};
+use dict_tree::{Case, Expr, ManyOp, PathUse, PickOp, TwoOp};
 use dictionary::Place;
 use fact_values::NoMemory;
 use operations::{
@@ -60,11 +61,31 @@ pub fn eval<G: Ground, N: Notes, L: Ledger>(
         }
         Expr::Two(op, left, right) => {
             let first = eval(alloc, ground, at, left, notes, steps)?;
-            let second = eval(alloc, ground, at, right, notes, steps)?;
-            Ok(two(*op, &first, &second))
+            eval_second(alloc, ground, at, *op, &first, right, notes, steps)
         }
         Expr::Pick(op, used, test) => eval_pick(alloc, ground, at, *op, used, test, notes, steps),
     }
+}
+
+// A node with two operands, behind the first.
+#[cycle(eval)]
+fn eval_second<G: Ground, N: Notes, L: Ledger>(
+    alloc: Global,
+    ground: &G,
+    at: Place,
+    op: TwoOp,
+    first: &Res,
+    right: &Expr,
+    notes: &mut N,
+    steps: &mut Steps<L>,
+) -> Result<Res, NoMemory>
+    ensures value { IfOk result (λ r. r ≡ two_of op first.now (over (env_of (G.known ground.now)) at (view right.now))) }
+    ensures reads { OnOk result (Noted N.keeps (N.noted notes.old) (slots_read (env_of (G.known ground.now)) (reads_of (G.known ground.now)) at (view right.now)) (N.noted notes.new)) }
+    ensures visits { OnOk result (steps.new ≡ steps.old + visits (env_of (G.known ground.now)) at (view right.now)) }
+    ensures most { steps.new ≤ steps.old + weight (env_of (G.known ground.now)) at (view right.now) }
+{
+    let second = eval(alloc, ground, at, right, notes, steps)?;
+    Ok(two(op, first, &second))
 }
 
 // A node with a list of operands.
@@ -91,6 +112,46 @@ fn eval_all<G: Ground, N: Notes, L: Ledger>(
     Ok(fold.end())
 }
 
+/// What the condition says of its case. The flag says that no condition before it rested on a placeholder.
+#[cycle(eval)]
+pub fn judge<G: Ground, N: Notes, L: Ledger>(
+    alloc: Global,
+    ground: &G,
+    at: Place,
+    complete: bool,
+    test: &Expr,
+    notes: &mut N,
+    steps: &mut Steps<L>,
+) -> Result<CaseStep, NoMemory>
+    ensures step { IfOk result (λ s. s ≡ step_of_case complete (over (env_of (G.known ground.now)) at (view test.now))) }
+    ensures reads { OnOk result (Noted N.keeps (N.noted notes.old) (slots_read (env_of (G.known ground.now)) (reads_of (G.known ground.now)) at (view test.now)) (N.noted notes.new)) }
+    ensures visits { OnOk result (steps.new ≡ steps.old + visits (env_of (G.known ground.now)) at (view test.now)) }
+    ensures most { steps.new ≤ steps.old + weight (env_of (G.known ground.now)) at (view test.now) }
+{
+    let condition = eval(alloc, ground, at, test, notes, steps)?;
+    Ok(case_step(complete, &condition))
+}
+
+/// The result of a case that is taken. Unless the flag says so, it rests on a placeholder.
+#[cycle(eval)]
+pub fn take<G: Ground, N: Notes, L: Ledger>(
+    alloc: Global,
+    ground: &G,
+    at: Place,
+    complete: bool,
+    outcome: &Expr,
+    notes: &mut N,
+    steps: &mut Steps<L>,
+) -> Result<Res, NoMemory>
+    ensures value { IfOk result (λ r. r ≡ down_unless complete (over (env_of (G.known ground.now)) at (view outcome.now))) }
+    ensures reads { OnOk result (Noted N.keeps (N.noted notes.old) (slots_read (env_of (G.known ground.now)) (reads_of (G.known ground.now)) at (view outcome.now)) (N.noted notes.new)) }
+    ensures visits { OnOk result (steps.new ≡ steps.old + visits (env_of (G.known ground.now)) at (view outcome.now)) }
+    ensures most { steps.new ≤ steps.old + weight (env_of (G.known ground.now)) at (view outcome.now) }
+{
+    let res = eval(alloc, ground, at, outcome, notes, steps)?;
+    Ok(taken(complete, res))
+}
+
 // A Switch: the cases in their order, up to the one that is taken.
 #[cycle(eval)]
 fn eval_cases<G: Ground, N: Notes, L: Ledger>(
@@ -108,12 +169,11 @@ fn eval_cases<G: Ground, N: Notes, L: Ledger>(
 {
     let mut complete = true;
     for case in cases {
-        let condition = eval(alloc, ground, at, &case.test, notes, steps)?;
-        match case_step(complete, &condition) {
+        let step = judge(alloc, ground, at, complete, &case.test, notes, steps)?;
+        match step {
             CaseStep::Next(still) => complete = still,
             CaseStep::Take(still) => {
-                let res = eval(alloc, ground, at, &case.outcome, notes, steps)?;
-                return Ok(taken(still, res));
+                return take(alloc, ground, at, still, &case.outcome, notes, steps);
             }
             CaseStep::End(res) => return Ok(res),
         }
@@ -158,6 +218,30 @@ fn keep(kept: &mut Vec<u32>, is_kept: bool, member: u32) -> Result<(), NoMemory>
     Ok(())
 }
 
+// Folds one member, and keeps it where its condition is true.
+#[cycle(eval)]
+fn see_member<G: Ground, N: Notes, L: Ledger>(
+    alloc: Global,
+    ground: &G,
+    at: Place,
+    test: &Expr,
+    fold: &mut FilterFold,
+    kept: &mut Vec<u32>,
+    member: u32,
+    notes: &mut N,
+    steps: &mut Steps<L>,
+) -> Result<(), NoMemory>
+    ensures fold { OnOk result (fold.new ≡ verdict_next fold.old (over (env_of (G.known ground.now)) at (view test.now))) }
+    ensures kept { OnOk result (kept.new.items ≡ kept_next kept.old.items member (over (env_of (G.known ground.now)) at (view test.now))) }
+    ensures reads { OnOk result (Noted N.keeps (N.noted notes.old) (slots_read (env_of (G.known ground.now)) (reads_of (G.known ground.now)) at (view test.now)) (N.noted notes.new)) }
+    ensures visits { OnOk result (steps.new ≡ steps.old + visits (env_of (G.known ground.now)) at (view test.now)) }
+    ensures most { steps.new ≤ steps.old + weight (env_of (G.known ground.now)) at (view test.now) }
+{
+    let condition = eval(alloc, ground, at, test, notes, steps)?;
+    let is_kept = fold.see(&condition);
+    keep(kept, is_kept, member)
+}
+
 // The members of the collection at which the condition is true.
 #[cycle(eval)]
 fn eval_filter<G: Ground, N: Notes, L: Ledger>(
@@ -177,9 +261,17 @@ fn eval_filter<G: Ground, N: Notes, L: Ledger>(
     let mut fold = FilterFold::new(source);
     let mut kept = Vec::new(alloc);
     for member in members(source) {
-        let condition = eval(alloc, ground, under.at(*member), test, notes, steps)?;
-        let is_kept = fold.see(&condition);
-        keep(&mut kept, is_kept, *member)?;
+        see_member(
+            alloc,
+            ground,
+            under.at(*member),
+            test,
+            &mut fold,
+            &mut kept,
+            *member,
+            notes,
+            steps,
+        )?;
     }
     Ok(fold.end(kept))
 }
@@ -237,8 +329,16 @@ fn find_among<G: Ground, N: Notes, L: Ledger>(
 {
     let mut complete = complete;
     for member in members {
-        let condition = eval(alloc, ground, under.at(*member), test, notes, steps)?;
-        match case_step(complete, &condition) {
+        let step = judge(
+            alloc,
+            ground,
+            under.at(*member),
+            complete,
+            test,
+            notes,
+            steps,
+        )?;
+        match step {
             CaseStep::Next(still) => complete = still,
             CaseStep::Take(still) => return Ok(found(still, *member)),
             CaseStep::End(none) => return Ok(none),

@@ -18,41 +18,8 @@ use Rattle.graph_session.specs.Step.{moved_by, refusal, reply, step, steps_to, t
 use Rattle.graph_session.specs.declared.reply.Refusal.{Refusal}
 use Rattle.graph_session.specs.declared.reply.Reply.{Reply}
 use Rattle.graph_session.proofs.CountLaws.{stamp_listed}
-use Rattle.graph_session.proofs.StepLaws.{decided_err, decided_ok, most_by}
-use Rattle.recalc.specs.Sessions.{ChangesTakeTouched, QuestionsChangeNone, QuestionsTakeNone, RefusedTakeNone, TouchedHaveNumber, UntouchedKeepAll, is_change}
-
--- ---- where an accepted command leads
-
--- it isn't refused, and leads to its reply and course
-accepted_step : (r : Rules) (s t : Course) (c : Command) (said : Reply) → step r s c ≡ Ok (said, t)
-    → (refusal r s c ≡ None) × (t ≡ moved_by r s (timeline_by (tree_of r) s.timeline c))
-accepted_step r s t c said e =
-    let parts = decided_ok (refusal r s c) (reply r s c, moved_by r s (timeline_by (tree_of r) s.timeline c)) (said, t) (sym e) in
-    (parts.0, ap (λ (p : Reply × Course). p.1) parts.1)
-
--- a change leads along the timeline
-changes_move : (d : Tree) (t : Timeline) (c : Command) → is_change c ≡ true → (to : Timeline) × (timeline_by d t c ≡ Some to)
-changes_move d t (commands.Get path) e = absurd cc
-changes_move d t (commands.Final path) e = absurd cc
-changes_move d t (commands.Stamp path) e = absurd cc
-changes_move d t commands.Touched e = absurd cc
-changes_move d t (commands.Missing path) e = absurd cc
-changes_move d t (commands.Watch name path) e = absurd cc
-changes_move d t (commands.Unwatch name path) e = absurd cc
-changes_move d t commands.Quit e = absurd cc
-changes_move d t c e = (_, refl)
-
-questions_stay : (d : Tree) (t : Timeline) (c : Command) → is_change c ≡ false → timeline_by d t c ≡ None
-questions_stay d t (commands.Set path text) e = absurd cc
-questions_stay d t (commands.Clear path) e = absurd cc
-questions_stay d t (commands.OpenList path) e = absurd cc
-questions_stay d t (commands.Add path) e = absurd cc
-questions_stay d t (commands.Remove path member) e = absurd cc
-questions_stay d t (commands.Override path text) e = absurd cc
-questions_stay d t (commands.Release path) e = absurd cc
-questions_stay d t commands.Undo e = absurd cc
-questions_stay d t commands.Redo e = absurd cc
-questions_stay d t c e = refl
+use Rattle.graph_session.proofs.StepLaws.{accepted_step, changes_move, decided_err, most_by, questions_stay}
+use Rattle.recalc.specs.Sessions.{ChangesTakeTouched, QuestionsChangeNone, QuestionsTakeNone, RefusedTakeNone, TouchedHaveNumber, UntouchedKeepAll}
 
 -- ---- steps
 
@@ -61,7 +28,7 @@ changes_take_touched r s t c said is e =
     let parts = accepted_step r s t c said e in
     let to = changes_move (tree_of r) s.timeline c is in
     most_by (touched_weight r.accepted) r s c (Some to.0) parts.0 to.1
-    ∙ ap (λ (u : Course). touched_weight r.accepted s.timeline.now u.timeline.now) (sym (parts.1 ∙ ap (moved_by r s) to.1))
+    ∙ ap (λ (u : Course). touched_weight r.accepted s.timeline.now u.timeline.now) (sym (parts.1.1 ∙ ap (moved_by r s) to.1))
 
 pub refused_take_none : RefusedTakeNone
 refused_take_none most r s c why e =
@@ -80,7 +47,7 @@ questions_take_none most r s c e =
 -- ---- results and stamps
 
 pub questions_change_none : QuestionsChangeNone
-questions_change_none r s t c said is e = (accepted_step r s t c said e).1 ∙ ap (moved_by r s) (questions_stay (tree_of r) s.timeline c is)
+questions_change_none r s t c said is e = (accepted_step r s t c said e).1.1 ∙ ap (moved_by r s) (questions_stay (tree_of r) s.timeline c is)
 
 -- the stamp of a slot that stands where a change leads
 module _ (r : Rules) (s : Course) (to : Timeline) (x : Slot) (stands_there : IsTrue (stands (tree_of r) to.now x)) where
@@ -103,7 +70,7 @@ stamps_kept r s (Some to) x stands_there e = stamp_kept r s to x stands_there e
 
 pub untouched_keep_all : UntouchedKeepAll
 untouched_keep_all r is s t c said fit_s fit_t e x stands_there untouched =
-    let leads = (accepted_step r s t c said e).1 in (
+    let leads = (accepted_step r s t c said e).1.1 in (
       untouched_keeps (names_of r.checks) r.accepted is s.timeline.now t.timeline.now fit_s fit_t x stands_there untouched,
       stamps_kept r s (timeline_by (tree_of r) s.timeline c) x
           (subst (λ (u : Course). IsTrue (stands (tree_of r) u.timeline.now x)) leads stands_there)
@@ -114,7 +81,7 @@ untouched_keep_all r is s t c said fit_s fit_t e x stands_there untouched =
 pub touched_have_number : TouchedHaveNumber
 touched_have_number r s t c said k is e has x stands_there touched =
     let to = changes_move (tree_of r) s.timeline c is in
-    let leads = (accepted_step r s t c said e).1 ∙ ap (moved_by r s) to.1 in (
+    let leads = (accepted_step r s t c said e).1.1 ∙ ap (moved_by r s) to.1 in (
       ap (λ (u : Course). stamp_of u.counts x) leads
           ∙ stamp_after r s to.0 x (subst (λ (u : Course). IsTrue (stands (tree_of r) u.timeline.now x)) leads stands_there) k has
           ∙ ap (λ b. if b then s.changes + 1 else stamp_in k.stamps x) (subst (λ (u : Course). IsTrue (touches r.accepted s.timeline.now u.timeline.now x)) leads touched),

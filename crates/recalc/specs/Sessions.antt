@@ -2,7 +2,6 @@
 use Rattle.std.specs.Prelude.{◌≡◌, ℕ, ◌+◌, Bool, true, false, IsTrue, Some, Ok, Err}
 use Rattle.fact_values.specs.declared.slot.Slot.{Slot}
 use Rattle.script_lines.specs.declared.command.Command.{Command}
-use Rattle.script_lines.specs.declared.command.Command.TheVariants.{Set, Clear, OpenList, Add, Remove, Override, Release, Undo, Redo, Get, Final, Stamp, Touched, Missing, Watch, Unwatch, Quit}
 use Rattle.answers.specs.Answered.{Answered}
 use Rattle.dictionary.specs.Accepted.{IsAccepted, names_of}
 use Rattle.dictionary.specs.Fits.{AnswersFit}
@@ -13,29 +12,9 @@ use Rattle.dictionary.specs.Weights.{touched_weight}
 use Rattle.graph_session.specs.Counts.{Counts, stamp_of}
 use Rattle.graph_session.specs.Rules.{Rules, tree_of}
 use Rattle.graph_session.specs.SessionView.{Course}
-use Rattle.graph_session.specs.Step.{most_steps, step}
+use Rattle.graph_session.specs.Step.{is_change, most_steps, step}
 use Rattle.graph_session.specs.declared.reply.Refusal.{Refusal}
 use Rattle.graph_session.specs.declared.reply.Reply.{Reply}
-
--- the command makes a change where it isn't refused; every other one asks, or ends the script
-abbrev pub is_change : Command → Bool
-is_change (Set path text) = true
-is_change (Clear path) = true
-is_change (OpenList path) = true
-is_change (Add path) = true
-is_change (Remove path member) = true
-is_change (Override path text) = true
-is_change (Release path) = true
-is_change Undo = true
-is_change Redo = true
-is_change (Get path) = false
-is_change (Final path) = false
-is_change (Stamp path) = false
-is_change Touched = false
-is_change (Missing path) = false
-is_change (Watch name path) = false
-is_change (Unwatch name path) = false
-is_change Quit = false
 
 -- ---- laws of the steps that a command may take
 

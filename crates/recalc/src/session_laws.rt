@@ -4,11 +4,11 @@ ghost use Rattle.dictionary.specs.Accepted.{accepted};
 ghost use Rattle.dictionary.specs.Weights.{touched_weight};
 ghost use Rattle.graph_session.specs.Rules.{rules};
 ghost use Rattle.graph_session.specs.SessionView.{Course, course};
-ghost use Rattle.graph_session.specs.Step.{most_steps, step};
+ghost use Rattle.graph_session.specs.Step.{is_change, most_steps, step};
 ghost use Rattle.graph_session.specs.declared.reply.Refusal.{Refusal};
 ghost use Rattle.graph_session.specs.declared.reply.Reply.{Reply as OneReply};
 ghost use Rattle.recalc.specs.Sessions.{ChangesTakeTouched, QuestionsChangeNone, QuestionsTakeNone, RefusedTakeNone};
-ghost use Rattle.recalc.specs.Sessions.{TouchedHaveNumber, UntouchedKeepAll, is_change};
+ghost use Rattle.recalc.specs.Sessions.{TouchedHaveNumber, UntouchedKeepAll};
 
 use crate::recalc::Recalc;
 use dictionary::FactEngine;

@@ -22,11 +22,10 @@ use Rattle.save_file.specs.declared.fault.LoadFault.{LoadFault}
 use Rattle.save_file.specs.declared.fault.LoadFault.TheVariants.{BadSaved, NoMemory}
 use Rattle.save_file.proofs.CarriedLines.{no_whole}
 use Rattle.save_file.proofs.CarriedSteps.{behind_first, behind_next, no_lines}
-use Rattle.save_file.proofs.EntryLaws.{members_numbered}
-use Rattle.save_file.proofs.KeyedLines.{cons_not_nil}
-use Rattle.save_file.proofs.LineLaws.{ended_joined, joined_ended}
 use Rattle.save_file.proofs.LineTexts.{IsLine, decimal_line, line-append, name_line, plain_line, rest_line, slot_line}
-use Rattle.save_file.proofs.ListTexts.{numbers_of}
+use Rattle.save_file.proofs.Lines.{cons_not_nil}
+use Rattle.save_file.proofs.SlotTexts.{members_numbered, numbers_of}
+use Rattle.save_file.proofs.TextLaws.{ended_joined, joined_ended}
 use Rattle.save_file.proofs.TextLaws as texts
 
 -- ---- the lines of a carried text are UTF-8 without newlines

@@ -1,31 +1,370 @@
 -- What one line does to what was read of a carried text.
-use Rattle.std.proofs.Common.{◌≡◌, ◌≢◌, ◌⊎◌, ℕ, ◌<◌, ◌≤◌, false, bytes_eq, List, [], ◌∷◌, ◌++◌, length, map, Some, None, Result, Ok, Err, inl, inr, sym, ap, subst, ◌∙◌, arith}
-use Rattle.std.specs.Prelude.{codes, decimal}
-use Rattle.std.specs.List.{list_any}
-use Rattle.std.proofs.lemmas.List.{map-append}
-use Rattle.fact_paths.specs.Cuts.{after}
-use Rattle.fact_paths.proofs.CutLaws.{after-append, after_some}
+use Rattle.std.proofs.Common.{Bool, Err, List, None, Ok, Result, Some, [], ap, append_assoc, arith, bytes_eq, false, filter, inl, inr, length, length-append, map, nat_eq, not, refl, string_bytes, subst, suc, sym, true, ℕ, ◌&&◌, ◌++◌, ◌+◌, ◌<◌, ◌||◌, ◌∙◌, ◌∷◌, ◌≡◌, ◌≢◌, ◌≤◌, ◌⊎◌}
+use Rattle.std.proofs.lemmas.Bool.Decides.{nat_tests}
+use Rattle.std.proofs.lemmas.List.Elements.{filter-append}
+use Rattle.std.proofs.lemmas.List.Folds.{list_any-append}
+use Rattle.std.proofs.lemmas.List.{append-nil, map-append}
 use Rattle.std.proofs.lemmas.Option.{none-some, same_Some}
-use Rattle.fact_paths.specs.Paths.{slot_path_text}
-use Rattle.value_text.specs.MemberTexts.{printed_rest}
+use Rattle.std.specs.List.{AllByRecursion, list_all, list_any}
+use Rattle.std.specs.Prelude.{IfErr, OnOk, codes, decimal, nat_lt}
 use Rattle.answers.specs.declared.edit.Side.TheVariants.{Answer, Override}
-use Rattle.script_lines.specs.declared.fault.LineFault.{LineFault}
-use Rattle.script_lines.specs.declared.fault.LineFault.TheVariants.{BadLine, NoMemory}
-use Rattle.save_file.specs.CarriedReading.{EndsNone, IsRead, JudgesCarried, MayFollow, ReadsLine, Takes, TakesText, line_of_entry, line_of_list, lines_of, head_of, is_override, texts_of}
-use Rattle.save_file.specs.CarriedText.{CarriedLine, CarriedText, HasItsForm, IsCarried, IsShort, carried_lines, collection, entry, line_text}
+use Rattle.answers.specs.declared.edit.Side.{Side}
+use Rattle.common_lemmas.proofs.Bools.{and_intro, both, is_not, neither_or, not_true, or_false, or_neither}
+use Rattle.common_lemmas.proofs.Bytes.{equal_bytes, same_bytes}
+use Rattle.fact_paths.proofs.CutLaws.{after-append, after_some}
+use Rattle.fact_paths.specs.Cuts.{after}
+use Rattle.fact_paths.specs.Paths.{slot_path_text}
+use Rattle.fact_paths.specs.declared.slot_path.SlotPath.TheVariants.{Global, Member}
+use Rattle.fact_paths.specs.declared.slot_path.SlotPath.{SlotPath}
+use Rattle.save_file.proofs.CarriedLines.{entry_up, goes_on, no_end, same_line, stands_there, with_line}
+use Rattle.save_file.proofs.Lines.{cons_not_nil, cons_parts, first}
+use Rattle.save_file.proofs.MemberReading.{decimals_one, none_there, there_none}
+use Rattle.save_file.proofs.SlotTexts.{same_behind}
+use Rattle.save_file.proofs.TextLaws.{all-append, all_behind, in_front, next_one}
+use Rattle.save_file.specs.CarriedReading.{EndsNone, IsRead, IsWithEntry, IsWithList, JudgesCarried, MayFollow, ReadsLine, Takes, TakesText, head_of, is_empty, is_other_list, is_override, line_of_entry, line_of_list, lines_of, may_enter, may_list, new_or_fault, text_of, texts_of}
+use Rattle.save_file.specs.CarriedText.{CarriedLine, CarriedText, HasItsForm, IsCarried, IsInOrder, IsShort, NamesOther, SharesNone, carried_lines, collection, entry, head_text, is_collection, line_text, lists_member, lists_member_of, rank}
 use Rattle.save_file.specs.Following.{BeginsOther}
 use Rattle.save_file.specs.Heads.{has}
-use Rattle.save_file.specs.Reading.{IsNextNumber}
-use Rattle.save_file.specs.SavedText.{end_line, next_line, opening_line}
+use Rattle.save_file.specs.Reading.{IsNextNumber, are_below, are_others}
+use Rattle.save_file.specs.SavedText.{end_line, next_line, opening_line, side_word}
 use Rattle.save_file.specs.declared.carried_line.EntryLine.{EntryLine}
 use Rattle.save_file.specs.declared.carried_line.ListLine.{ListLine}
 use Rattle.save_file.specs.declared.carried_read.CarriedRead.{CarriedRead}
-use Rattle.save_file.specs.declared.carried_stage.CarriedStage.TheVariants.{Opening, Number, Lines, Whole}
-use Rattle.save_file.proofs.CarriedLines.{goes_on, no_end, same_line}
-use Rattle.save_file.proofs.FollowingLines.{stands_there}
-use Rattle.save_file.proofs.KeyedLines.{cons_not_nil, cons_parts}
-use Rattle.save_file.proofs.ListsEnd.{decimals_one}
-use Rattle.save_file.proofs.SlotTexts.{same_behind}
+use Rattle.save_file.specs.declared.carried_stage.CarriedStage.TheVariants.{Lines, Number, Opening, Whole}
+use Rattle.save_file.specs.declared.heads.Heads.{Heads}
+use Rattle.script_lines.specs.declared.fault.LineFault.TheVariants.{BadLine, NoMemory}
+use Rattle.script_lines.specs.declared.fault.LineFault.{LineFault}
+use Rattle.value_text.specs.MemberTexts.{printed_rest}
+
+-- ==== tests tell whether a list or an entry may stand behind the lines of a carried text that were read
+
+-- ---- how many lists
+
+all_lists : (ls : List ListLine) → length (filter is_collection (map line_of_list ls)) ≡ length ls
+all_lists [] = refl
+all_lists (l ∷ ls) = ap suc (all_lists ls)
+
+no_lists : (es : List EntryLine) → filter is_collection (map line_of_entry es) ≡ []
+no_lists [] = refl
+no_lists (e ∷ es) = no_lists es
+
+count : (ls : List ListLine) (es : List EntryLine) (tail : List CarriedLine) → length (filter is_collection ((map line_of_list ls ++ map line_of_entry es) ++ tail)) ≡ length ls + length (filter is_collection tail)
+count ls es tail =
+    ap length (filter-append is_collection (map line_of_list ls ++ map line_of_entry es) tail)
+    ∙ length-append (filter is_collection (map line_of_list ls ++ map line_of_entry es)) (filter is_collection tail)
+    ∙ ap (λ (n : ℕ). n + length (filter is_collection tail)) (lists ∙ all_lists ls)
+  where
+    lists : length (filter is_collection (map line_of_list ls ++ map line_of_entry es)) ≡ length (filter is_collection (map line_of_list ls))
+    lists =
+        ap length (filter-append is_collection (map line_of_list ls) (map line_of_entry es)
+        ∙ ap (λ (xs : List CarriedLine). filter is_collection (map line_of_list ls) ++ xs) (no_lists es)
+        ∙ append-nil (filter is_collection (map line_of_list ls)))
+
+-- ---- members below a number
+
+below_from : (next : ℕ) (ms : List ℕ) → AllByRecursion (λ m. m < next) ms → are_below next ms ≡ true
+below_from next [] all = refl
+below_from next (m ∷ ms) all = and_intro (nat_lt m next) (are_below next ms) (let low : m < next = all.0 in let test : nat_lt m next ≡ true = grind (arith, nat_tests) in test) (below_from next ms all.1)
+
+from_below : (next : ℕ) (ms : List ℕ) → are_below next ms ≡ true → AllByRecursion (λ m. m < next) ms
+from_below next [] all = tt
+from_below next (m ∷ ms) all =
+    let tests_passed = both (nat_lt m next) (are_below next ms) all in
+    (let test : nat_lt m next ≡ true = tests_passed.0 in let low : m < next = grind (arith, nat_tests) in low, from_below next ms tests_passed.1)
+
+-- ---- names
+
+other_name : (n m : List ℕ) → bytes_eq n m ≡ false → codes "list /" ++ n ≢ codes "list /" ++ m
+other_name n m other e = let same : bytes_eq n m ≡ true = ap (λ (k : List ℕ). bytes_eq k m) (same_behind (codes "list /") n m e) ∙ equal_bytes m in absurd cc
+
+name_differs : (n m : List ℕ) → codes "list /" ++ n ≢ codes "list /" ++ m → bytes_eq n m ≡ false
+name_differs n m other = at (bytes_eq n m) refl
+  where
+    at : (b : Bool) → bytes_eq n m ≡ b → b ≡ false
+    at false e = refl
+    at true e = absurd (other (ap (λ (k : List ℕ). codes "list /" ++ k) (same_bytes n m e)))
+
+list_no_entry : (side : Side) (name path : List ℕ) → codes "list /" ++ name ≢ side_word side ++ path
+list_no_entry Answer name path e = let byte : 108 ≡ 118 = ap first e in omega (arith, byte)
+list_no_entry Override name path e = let byte : 108 ≡ 111 = ap first e in omega (arith, byte)
+
+-- ---- lists behind lists
+
+module _ (line : ListLine) where
+  others_from : (ls : List ListLine) → AllByRecursion (λ x. NamesOther x (line_of_list line)) (map line_of_list ls) → AllByRecursion (λ x. SharesNone x (line_of_list line)) (map line_of_list ls) → list_all (is_other_list line) ls ≡ true
+  others_from [] once apart = refl
+  others_from (l ∷ ls) once apart =
+      and_intro (is_other_list line l) (list_all (is_other_list line) ls)
+      (and_intro (not (bytes_eq l.name line.name)) (are_others line.members l.members) (is_not (bytes_eq l.name line.name) (name_differs l.name line.name once.0))
+      (is_not (list_any (λ m. list_any (nat_eq m) line.members) l.members) (there_none line.members l.members apart.0)))
+      (others_from ls once.1 apart.1)
+
+  from_others : (ls : List ListLine) → list_all (is_other_list line) ls ≡ true → AllByRecursion (λ x. NamesOther x (line_of_list line)) (map line_of_list ls) × AllByRecursion (λ x. SharesNone x (line_of_list line)) (map line_of_list ls)
+  from_others [] all = (tt, tt)
+  from_others (l ∷ ls) all =
+      let tests_passed = both (is_other_list line l) (list_all (is_other_list line) ls) all in
+      let here = both (not (bytes_eq l.name line.name)) (are_others line.members l.members) tests_passed.0 in
+      let rest = from_others ls tests_passed.1 in (
+        (other_name l.name line.name (not_true (bytes_eq l.name line.name) here.0), rest.0),
+        (none_there line.members l.members (not_true (list_any (λ m. list_any (nat_eq m) line.members) l.members) here.1), rest.1),
+      )
+
+  no_entries : (ls : List ListLine) (es : List EntryLine) → AllByRecursion (λ x. IsInOrder x (line_of_list line)) (map line_of_list ls ++ map line_of_entry es) → is_empty es ≡ true
+  no_entries ls [] order = refl
+  no_entries ls (e ∷ es) order =
+      let low : rank (line_of_entry e) ≤ 0 = next_one (λ x. IsInOrder x (line_of_list line)) (map line_of_list ls) (line_of_entry e) (map line_of_entry es) order in
+      let up : 1 ≤ rank (line_of_entry e) = entry_up e.side e.path (string_bytes e.text) in
+      absurd (omega (arith, low, up))
+
+  in_order : (ls : List ListLine) → AllByRecursion (λ x. IsInOrder x (line_of_list line)) (map line_of_list ls)
+  in_order [] = tt
+  in_order (l ∷ ls) = (omega arith, in_order ls)
+
+is_nil : (es : List EntryLine) → is_empty es ≡ true → es ≡ []
+is_nil [] e = refl
+is_nil (x ∷ es) e = absurd cc
+
+module _ (r : CarriedRead) (line : ListLine) (read : IsRead r) (form : HasItsForm (line_of_list line)) (short : IsShort (line_of_list line)) where
+  listed_from : MayFollow r.next (lines_of r) (line_of_list line) → may_list r line ≡ true
+  listed_from may =
+      let total : length (filter is_collection (lines_of r ++ line_of_list line ∷ [])) ≡ length r.lists.items + 1 = count r.lists.items r.entries.items (line_of_list line ∷ []) in
+      let few : length r.lists.items < 32 = omega (arith, may.few, total) in
+      and_intro (is_empty r.entries.items) (nat_lt (length r.lists.items) 32 && (are_below r.next line.members && list_all (is_other_list line) r.lists.items)) (no_entries line r.lists.items r.entries.items may.order)
+      (and_intro (nat_lt (length r.lists.items) 32) (are_below r.next line.members && list_all (is_other_list line) r.lists.items) (let test : nat_lt (length r.lists.items) 32 ≡ true = grind (arith, nat_tests) in test)
+      (and_intro (are_below r.next line.members) (list_all (is_other_list line) r.lists.items) (below_from r.next line.members may.below)
+      (others_from line r.lists.items (in_front (λ x. NamesOther x (line_of_list line)) (map line_of_list r.lists.items) (map line_of_entry r.entries.items) may.once) (in_front (λ x. SharesNone x (line_of_list line)) (map line_of_list r.lists.items) (map line_of_entry r.entries.items) may.apart))))
+
+  pub not_listed : may_list r line ≡ false → ¬ MayFollow r.next (lines_of r) (line_of_list line)
+  not_listed bad may = let good : may_list r line ≡ true = listed_from may in absurd cc
+
+  module _ (test : may_list r line ≡ true) where
+    tests_passed : (is_empty r.entries.items ≡ true) × (nat_lt (length r.lists.items) 32 ≡ true) × (are_below r.next line.members ≡ true) × (list_all (is_other_list line) r.lists.items ≡ true)
+    tests_passed =
+        let one = both (is_empty r.entries.items) (nat_lt (length r.lists.items) 32 && (are_below r.next line.members && list_all (is_other_list line) r.lists.items)) test in
+        let two = both (nat_lt (length r.lists.items) 32) (are_below r.next line.members && list_all (is_other_list line) r.lists.items) one.1 in
+        let three = both (are_below r.next line.members) (list_all (is_other_list line) r.lists.items) two.1 in
+        (one.0, two.0, three.0, three.1)
+
+    none : r.entries.items ≡ []
+    none = is_nil r.entries.items tests_passed.0
+
+    -- all lines are lists
+    lists_alone : lines_of r ≡ map line_of_list r.lists.items
+    lists_alone = ap (λ (xs : List EntryLine). map line_of_list r.lists.items ++ map line_of_entry xs) none ∙ append-nil (map line_of_list r.lists.items)
+
+    may_follow : MayFollow r.next (lines_of r) (line_of_list line)
+    may_follow =
+        let total : length (filter is_collection (lines_of r ++ line_of_list line ∷ [])) ≡ length r.lists.items + 1 = count r.lists.items r.entries.items (line_of_list line ∷ []) in
+        let low : nat_lt (length r.lists.items) 32 ≡ true = tests_passed.1 in
+        let few : length r.lists.items < 32 = grind (arith, nat_tests) in
+        let others = from_others line r.lists.items tests_passed.3 in
+        record {
+          form = form;
+          short = short;
+          below = from_below r.next line.members tests_passed.2;
+          order = subst (AllByRecursion (λ x. IsInOrder x (line_of_list line))) (sym lists_alone) (in_order line r.lists.items);
+          once = subst (AllByRecursion (λ x. NamesOther x (line_of_list line))) (sym lists_alone) others.0;
+          apart = subst (AllByRecursion (λ x. SharesNone x (line_of_list line))) (sym lists_alone) others.1;
+          few = omega (arith, few, total);
+          member = refl;
+        }
+
+    pub took_list : (new : CarriedRead) → IsWithList r line new → Takes r (line_of_list line) (Ok new)
+    took_list new with = (
+      record {
+        text = subst (λ (n : ℕ). IsCarried (record { next = n; lines = lines_of new })) (sym with.next) (subst (λ (xs : List CarriedLine). IsCarried (record { next = r.next; lines = xs })) (sym more) (with_line r.next (lines_of r) (line_of_list line) read.text may_follow));
+        heads = λ head. ap (λ (h : Heads). has h head) with.heads ∙ read.heads head ∙ ap (λ (xs : List EntryLine). list_any (bytes_eq head) (map head_of xs)) (sym with.entries);
+        overridden = with.overridden ∙ read.overridden ∙ ap (λ (xs : List EntryLine). list_any (λ (e : EntryLine). is_override e.side) xs) (sym with.entries);
+      },
+      with.next,
+      more,
+    )
+      where
+        more : lines_of new ≡ lines_of r ++ line_of_list line ∷ []
+        more =
+            ap (λ (xs : List EntryLine). map line_of_list new.lists.items ++ map line_of_entry xs) (with.entries ∙ none)
+            ∙ append-nil (map line_of_list new.lists.items)
+            ∙ ap (map line_of_list) with.lists
+            ∙ map-append line_of_list r.lists.items (line ∷ [])
+            ∙ ap (λ (xs : List CarriedLine). xs ++ line_of_list line ∷ []) (sym lists_alone)
+
+-- ---- an entry behind lines
+
+head_new : (head : List ℕ) (es : List EntryLine) → list_any (bytes_eq head) (map head_of es) ≡ false → AllByRecursion (λ x. head_text x ≢ head) (map line_of_entry es)
+head_new head [] out = tt
+head_new head (e ∷ es) out =
+    let tests_passed = or_neither (bytes_eq head (head_of e)) (list_any (bytes_eq head) (map head_of es)) out in
+    (λ same. absurd (let equal : bytes_eq head (head_of e) ≡ true = ap (bytes_eq head) same ∙ equal_bytes head in let other : bytes_eq head (head_of e) ≡ false = tests_passed.0 in cc), head_new head es tests_passed.1)
+
+new_head : (head : List ℕ) (es : List EntryLine) → AllByRecursion (λ x. head_text x ≢ head) (map line_of_entry es) → list_any (bytes_eq head) (map head_of es) ≡ false
+new_head head [] all = refl
+new_head head (e ∷ es) all = neither_or (bytes_eq head (head_of e)) (list_any (bytes_eq head) (map head_of es)) (at (bytes_eq head (head_of e)) refl) (new_head head es all.1)
+  where
+    at : (b : Bool) → bytes_eq head (head_of e) ≡ b → b ≡ false
+    at false h = refl
+    at true h = absurd (all.0 (sym (same_bytes head (head_of e) h)))
+
+list_heads : (e : EntryLine) (ls : List ListLine) → AllByRecursion (λ x. NamesOther x (line_of_entry e)) (map line_of_list ls)
+list_heads e [] = tt
+list_heads e (l ∷ ls) = (list_no_entry e.side l.name (slot_path_text e.path), list_heads e ls)
+
+shares_none : (e : EntryLine) (xs : List CarriedLine) → AllByRecursion (λ x. SharesNone x (line_of_entry e)) xs
+shares_none e [] = tt
+shares_none e (x ∷ xs) = (λ m i. refl, shares_none e xs)
+
+lists_before : (k : ℕ) (ls : List ListLine) → AllByRecursion (λ x. rank x ≤ k) (map line_of_list ls)
+lists_before k [] = tt
+lists_before k (l ∷ ls) = (omega arith, lists_before k ls)
+
+rank_is : (side : Side) (path : SlotPath) (text : List ℕ) → is_override side ≡ false → rank (entry side path text) ≤ 1
+rank_is Answer path text e = omega arith
+rank_is Override path text e = absurd cc
+
+rank_most : (side : Side) (path : SlotPath) (text : List ℕ) → rank (entry side path text) ≤ 2
+rank_most Answer path text = omega arith
+rank_most Override path text = omega arith
+
+answers_alone : (es : List EntryLine) → list_any (λ (e : EntryLine). is_override e.side) es ≡ false → AllByRecursion (λ x. rank x ≤ 1) (map line_of_entry es)
+answers_alone [] out = tt
+answers_alone (e ∷ es) out =
+    let tests_passed = or_neither (is_override e.side) (list_any (λ (x : EntryLine). is_override x.side) es) out in
+    (rank_is e.side e.path (string_bytes e.text) tests_passed.0, answers_alone es tests_passed.1)
+
+alone_answers : (es : List EntryLine) → AllByRecursion (λ x. rank x ≤ 1) (map line_of_entry es) → list_any (λ (e : EntryLine). is_override e.side) es ≡ false
+alone_answers [] all = refl
+alone_answers (e ∷ es) all = neither_or (is_override e.side) (list_any (λ (x : EntryLine). is_override x.side) es) (at e.side e.path (string_bytes e.text) all.0) (alone_answers es all.1)
+  where
+    at : (side : Side) (path : SlotPath) (text : List ℕ) → rank (entry side path text) ≤ 1 → is_override side ≡ false
+    at Answer path text low = refl
+    at Override path text low = absurd (omega arith)
+
+entries_before : (es : List EntryLine) → AllByRecursion (λ x. rank x ≤ 2) (map line_of_entry es)
+entries_before [] = tt
+entries_before (e ∷ es) = (rank_most e.side e.path (string_bytes e.text), entries_before es)
+
+-- no entry lists a member
+none_listed : (name : List ℕ) (k : ℕ) (es : List EntryLine) → list_any (lists_member name k) (map line_of_entry es) ≡ false
+none_listed name k [] = refl
+none_listed name k (e ∷ es) = none_listed name k es
+
+listed_there : (ls : List ListLine) (es : List EntryLine) (e : EntryLine) (path : SlotPath) → lists_member_of ((map line_of_list ls ++ map line_of_entry es) ++ line_of_entry e ∷ []) path ≡ lists_member_of (map line_of_list ls) path
+listed_there ls es e (Global n) = refl
+listed_there ls es e (Member name k n) =
+    list_any-append (lists_member name k) (map line_of_list ls ++ map line_of_entry es) (line_of_entry e ∷ [])
+    ∙ or_false (list_any (lists_member name k) (map line_of_list ls ++ map line_of_entry es))
+    ∙ list_any-append (lists_member name k) (map line_of_list ls) (map line_of_entry es)
+    ∙ ap (λ (b : Bool). list_any (lists_member name k) (map line_of_list ls) || b) (none_listed name k es)
+    ∙ or_false (list_any (lists_member name k) (map line_of_list ls))
+
+turned : (a b : Bool) → (a || b) ≡ (b || (a || false))
+turned true true = refl
+turned true false = refl
+turned false true = refl
+turned false false = refl
+
+pushed : (test : List ℕ → Bool) (es : List EntryLine) (e : EntryLine) → list_any test (map head_of (es ++ e ∷ [])) ≡ (test (head_of e) || list_any test (map head_of es))
+pushed test es e = ap (list_any test) (map-append head_of es (e ∷ [])) ∙ list_any-append test (map head_of es) (head_of e ∷ []) ∙ sym (turned (test (head_of e)) (list_any test (map head_of es)))
+
+side_pushed : (es : List EntryLine) (e : EntryLine) → list_any (λ (x : EntryLine). is_override x.side) (es ++ e ∷ []) ≡ (list_any (λ (x : EntryLine). is_override x.side) es || is_override e.side)
+side_pushed es e = list_any-append (λ (x : EntryLine). is_override x.side) es (e ∷ []) ∙ ap (λ (b : Bool). list_any (λ (x : EntryLine). is_override x.side) es || b) (or_false (is_override e.side))
+
+module _ (r : CarriedRead) (line : EntryLine) (read : IsRead r) (form : HasItsForm (line_of_entry line)) (short : IsShort (line_of_entry line)) where
+  entry_order : (side : Side) (path : SlotPath) (text : List ℕ) → AllByRecursion (λ x. IsInOrder x (entry side path text)) (lines_of r) → (is_override side || not r.overridden) ≡ true
+  entry_order Override path text order = refl
+  entry_order Answer path text order =
+      is_not r.overridden (read.overridden ∙ alone_answers r.entries.items (all_behind (λ x. rank x ≤ 1) (map line_of_list r.lists.items) (map line_of_entry r.entries.items) order))
+
+  order_from : (side : Side) (path : SlotPath) (text : List ℕ) → (is_override side || not r.overridden) ≡ true → AllByRecursion (λ x. IsInOrder x (entry side path text)) (lines_of r)
+  order_from Override path text test = all-append (λ x. rank x ≤ 2) (map line_of_list r.lists.items) (map line_of_entry r.entries.items) (lists_before 2 r.lists.items) (entries_before r.entries.items)
+  order_from Answer path text test =
+      all-append (λ x. rank x ≤ 1) (map line_of_list r.lists.items) (map line_of_entry r.entries.items) (lists_before 1 r.lists.items)
+      (answers_alone r.entries.items (sym read.overridden ∙ not_true r.overridden test))
+
+  pub not_entered : may_enter r line ≡ false → ¬ MayFollow r.next (lines_of r) (line_of_entry line)
+  not_entered bad may =
+      let good : may_enter r line ≡ true =
+      and_intro (is_override line.side || not r.overridden) (lists_member_of (map line_of_list r.lists.items) line.path) (entry_order line.side line.path (string_bytes line.text) may.order)
+      (sym (listed_there r.lists.items r.entries.items line line.path) ∙ may.member) in
+      absurd cc
+
+  pub not_new : not (has r.heads (head_of line)) ≡ false → ¬ MayFollow r.next (lines_of r) (line_of_entry line)
+  not_new old may =
+      let new : has r.heads (head_of line) ≡ false =
+      read.heads (head_of line) ∙ new_head (head_of line) r.entries.items (all_behind (λ x. NamesOther x (line_of_entry line)) (map line_of_list r.lists.items) (map line_of_entry r.entries.items) may.once) in
+      absurd cc
+
+  module _ (test : may_enter r line ≡ true) (new_one : not (has r.heads (head_of line)) ≡ true) where
+    tests : ((is_override line.side || not r.overridden) ≡ true) × (lists_member_of (map line_of_list r.lists.items) line.path ≡ true)
+    tests = both (is_override line.side || not r.overridden) (lists_member_of (map line_of_list r.lists.items) line.path) test
+
+    may_follow_entry : MayFollow r.next (lines_of r) (line_of_entry line)
+    may_follow_entry =
+        let total : length (filter is_collection (lines_of r ++ line_of_entry line ∷ [])) ≡ length r.lists.items + 0 = count r.lists.items r.entries.items (line_of_entry line ∷ []) in
+        let before : length (filter is_collection (lines_of r ++ [])) ≡ length r.lists.items + 0 = count r.lists.items r.entries.items [] in
+        let same : length (filter is_collection (lines_of r ++ [])) ≡ length (filter is_collection (lines_of r)) = ap (λ (xs : List CarriedLine). length (filter is_collection xs)) (append-nil (lines_of r)) in
+        let few : length (filter is_collection (lines_of r)) ≤ 32 = read.text.few in
+        record {
+          form = form;
+          short = short;
+          below = tt;
+          order = order_from line.side line.path (string_bytes line.text) tests.0;
+          once = all-append (λ x. NamesOther x (line_of_entry line)) (map line_of_list r.lists.items) (map line_of_entry r.entries.items) (list_heads line r.lists.items)
+              (head_new (head_of line) r.entries.items (sym (read.heads (head_of line)) ∙ not_true (has r.heads (head_of line)) new_one));
+          apart = shares_none line (lines_of r);
+          few = omega (arith, few, total, before, same);
+          member = listed_there r.lists.items r.entries.items line line.path ∙ tests.1;
+        }
+
+    pub took_entry : (new : CarriedRead) → new.next ≡ r.next → new.lists.items ≡ r.lists.items → new.entries.items ≡ r.entries.items ++ line ∷ [] → new.overridden ≡ (r.overridden || is_override line.side)
+        → ((text : List ℕ) → has new.heads text ≡ (bytes_eq text (head_of line) || has r.heads text)) → Takes r (line_of_entry line) (Ok new)
+    took_entry new next lists entries overridden added = (
+      record {
+        text = subst (λ (n : ℕ). IsCarried (record { next = n; lines = lines_of new })) (sym next) (subst (λ (xs : List CarriedLine). IsCarried (record { next = r.next; lines = xs })) (sym more) (with_line r.next (lines_of r) (line_of_entry line) read.text may_follow_entry));
+        heads = λ head.
+            added head ∙ ap (λ (b : Bool). bytes_eq head (head_of line) || b) (read.heads head)
+            ∙ sym (pushed (bytes_eq head) r.entries.items line) ∙ ap (λ (xs : List EntryLine). list_any (bytes_eq head) (map head_of xs)) (sym entries);
+        overridden =
+            overridden ∙ ap (λ (b : Bool). b || is_override line.side) read.overridden
+            ∙ sym (side_pushed r.entries.items line) ∙ ap (λ (xs : List EntryLine). list_any (λ (e : EntryLine). is_override e.side) xs) (sym entries);
+      },
+      next,
+      more,
+    )
+      where
+        more : lines_of new ≡ lines_of r ++ line_of_entry line ∷ []
+        more =
+            ap (λ (xs : List ListLine). map line_of_list xs ++ map line_of_entry new.entries.items) lists
+            ∙ ap (λ (xs : List EntryLine). map line_of_list r.lists.items ++ map line_of_entry xs) entries
+            ∙ ap (λ (xs : List CarriedLine). map line_of_list r.lists.items ++ xs) (map-append line_of_entry r.entries.items (line ∷ []))
+            ∙ sym (append_assoc (map line_of_list r.lists.items) (map line_of_entry r.entries.items) (line_of_entry line ∷ []))
+
+-- whether one of the lists passes a test
+pub any_of : (test : CarriedLine → Bool) (ls : List ListLine) → list_any (λ l. test (line_of_list l)) ls ≡ list_any test (map line_of_list ls)
+any_of test [] = refl
+any_of test (l ∷ ls) = ap (λ (b : Bool). test (line_of_list l) || b) (any_of test ls)
+
+-- ---- what comes of a list, and of an entry
+
+pub list_result : (r : CarriedRead) (line : ListLine) → IsRead r → HasItsForm (line_of_list line) → IsShort (line_of_list line) → may_list r line ≡ true
+    → (new : CarriedRead) (result : Result (Unit {0}) LineFault) → OnOk result (IsWithList r line new) → IfErr result (λ fault. fault ≡ NoMemory) → Takes r (line_of_list line) (new_or_fault new result)
+list_result r line read form short test new (Ok done) with memory = took_list r line read form short test new with
+list_result r line read form short test new (Err fault) with memory = subst (λ (f : LineFault). Takes r (line_of_list line) (Err f)) (sym memory) tt
+
+pub entry_result : (r : CarriedRead) (line : EntryLine) → IsRead r → HasItsForm (line_of_entry line) → IsShort (line_of_entry line) → may_enter r line ≡ true → not (has r.heads (head_of line)) ≡ true
+    → (heads : Heads) → ((text : List ℕ) → has heads text ≡ (bytes_eq text (head_of line) || has r.heads text))
+    → (new : CarriedRead) (result : Result (Unit {0}) LineFault) → OnOk result (IsWithEntry (record { next = r.next; lists = r.lists; entries = r.entries; heads = heads; overridden = r.overridden }) line new) → IfErr result (λ fault. fault ≡ NoMemory)
+    → Takes r (line_of_entry line) (new_or_fault new result)
+entry_result r line read form short test new_one heads added new (Ok done) with memory =
+    took_entry r line read form short test new_one new with.next with.lists with.entries with.overridden (λ text. ap (λ (h : Heads). has h text) with.heads ∙ added text)
+entry_result r line read form short test new_one heads added new (Err fault) with memory = subst (λ (f : LineFault). Takes r (line_of_entry line) (Err f)) (sym memory) tt
+
+pub few_lists : (r : CarriedRead) → IsCarried (text_of r) → length r.lists.items ≤ 32
+few_lists r is =
+    let total : length (filter is_collection (lines_of r ++ [])) ≡ length r.lists.items + 0 = count r.lists.items r.entries.items [] in
+    let same : length (filter is_collection (lines_of r ++ [])) ≡ length (filter is_collection (lines_of r)) = ap (λ (xs : List CarriedLine). length (filter is_collection xs)) (append-nil (lines_of r)) in
+    omega (arith, is.few, total, same)
+
+-- ==== what one line does to what was read of a carried text
 
 -- the first line, the next, and those behind
 pub behind_first : (c : CarriedText) (first : List ℕ) (rest : List (List ℕ)) → carried_lines c ≡ first ∷ rest → (opening_line ≡ first) × (next_line c.next ∷ (map line_text c.lines ++ end_line ∷ []) ≡ rest)

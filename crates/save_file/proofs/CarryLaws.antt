@@ -20,10 +20,10 @@ use Rattle.save_file.specs.SavedText.{end_line, next_line, opening_line}
 use Rattle.save_file.proofs.CarriedEnds.{are_lines}
 use Rattle.save_file.proofs.CarriedLines.{same_lines}
 use Rattle.save_file.proofs.CarriedSteps.{behind_next}
-use Rattle.save_file.proofs.LinesThere.{at_first, later_too}
-use Rattle.save_file.proofs.ListsEnd.{decimals_one}
-use Rattle.save_file.proofs.SameAnswers.{same_answers}
+use Rattle.save_file.proofs.Lines.{at_first, later_too}
+use Rattle.save_file.proofs.MemberReading.{decimals_one}
 use Rattle.save_file.proofs.SlotTexts.{same_behind}
+use Rattle.save_file.proofs.SlotsLeft.{same_answers}
 use Rattle.save_file.proofs.TextLaws.{whole_lines}
 
 -- ---- lines
@@ -101,7 +101,7 @@ kept_or_listed r c a dropped of place line found = (
 
 -- ---- one result
 
-same_options : {X : Type 0} (o p : Option X) → ((x : X) → o ≡ Some x → p ≡ Some x) → ((x : X) → p ≡ Some x → o ≡ Some x) → o ≡ p
+pub same_options : {X : Type 0} (o p : Option X) → ((x : X) → o ≡ Some x → p ≡ Some x) → ((x : X) → p ≡ Some x → o ≡ Some x) → o ≡ p
 same_options None None to from = refl
 same_options None (Some x) to from = from x refl
 same_options (Some x) p to from = sym (to x refl)

@@ -1,24 +1,179 @@
--- What is said of the lines that carrying drops.
-use Rattle.std.proofs.Common.{◌≡◌, ℕ, suc, ◌+◌, ◌<◌, ◌≤◌, Bool, true, false, not, nat_eq, List, [], ◌∷◌, ◌++◌, length, map, filter, Result, Ok, Err, refl, sym, ap, subst, ◌∙◌, arith, Option}
-use Rattle.std.specs.Prelude.{if◌then◌else◌}
-use Rattle.std.specs.List.{AllByRecursion}
+-- What is written, and what is said of the lines that carrying drops.
+use Rattle.std.proofs.Common.{Bool, Err, List, Ok, Option, Result, [], ap, append_assoc, arith, drop, false, filter, inl, inr, length, length-drop, map, nat_eq, not, refl, subst, suc, sym, take, true, ℕ, ◌++◌, ◌+◌, ◌-◌, ◌<◌, ◌∙◌, ◌∷◌, ◌≡◌, ◌≢◌, ◌≤◌}
 use Rattle.std.proofs.lemmas.Bool.Decides.{nat_tests}
+use Rattle.std.proofs.lemmas.List.Elements.{All-head, All-tail}
+use Rattle.std.proofs.lemmas.Result.{err_from_is_err_and}
+use Rattle.std.proofs.lemmas.List.{append-nil, drop_more, take-append-drop, take_all}
+use Rattle.std.specs.List.{AllByRecursion, flat_map}
+use Rattle.std.specs.Prelude.{codes, if◌then◌else◌}
+use Rattle.std.specs.Result.{IsErrAnd}
+use Rattle.answers.specs.Answered.{Answered}
+use Rattle.answers.specs.declared.edit.Side.TheVariants.{Answer, Override}
+use Rattle.dict_tree.specs.Dictionary.{Dictionary as Tree}
+use Rattle.fact_paths.proofs.SlotPathLaws.{slot_lacks_blank}
+use Rattle.fact_paths.specs.Cuts.{Lacks}
+use Rattle.fact_paths.specs.Paths.{slot_path_text}
+use Rattle.fg_io.proofs.SentLaws.{sent_none, sent_piece}
+use Rattle.fg_io.proofs.WritingLaws.{failed_within}
 use Rattle.fg_io.specs.Outside.{HasCause}
 use Rattle.fg_io.specs.Sent.{Sent}
-use Rattle.fg_io.specs.Writing.{Wrote}
+use Rattle.fg_io.specs.Writing.{Wrote, WroteAll, WrotePart}
 use Rattle.graph_session.specs.Rules.{Rules}
-use Rattle.answers.specs.Answered.{Answered}
+use Rattle.save_file.proofs.CarriedEnds.{are_lines}
+use Rattle.save_file.proofs.SlotTexts.{Tail, tail_of}
+use Rattle.save_file.proofs.TextLaws.{empty_is, whole_lines}
+use Rattle.save_file.specs.CarriedText.{CarriedLine, CarriedText, HasItsForm, IsCarried, carried_lines, collection, entry, line_text}
+use Rattle.save_file.specs.Carrying.{IsCarry, dropped_numbers, keeps, numbers_failing}
+use Rattle.save_file.specs.Dropped.{HasNoBlank, IsBlankAt, IsDroppedText, behind_word, dropped_line, dropped_lines, dropped_text, is_next, past, said_at, said_if, said_of, word_of}
+use Rattle.save_file.specs.SavedText.{end_line, entries, lists, next_line, opening_line, saved}
+use Rattle.script_lines.proofs.Bytes.{at_byte, at_other}
+use Rattle.script_lines.proofs.JoinedLaws.{joined-append}
+use Rattle.script_lines.proofs.PartLaws.{name_lacks_blank}
 use Rattle.script_lines.specs.Joined.{joined}
 use Rattle.script_lines.specs.Lines.{lines_of}
-use Rattle.script_lines.proofs.JoinedLaws.{joined-append}
-use Rattle.save_file.specs.CarriedText.{CarriedLine, CarriedText, HasItsForm, IsCarried, carried, carried_lines, line_text}
-use Rattle.save_file.specs.Carrying.{IsCarry, dropped_numbers, keeps, numbers_failing}
-use Rattle.save_file.specs.Dropped.{IsDroppedText, dropped_line, dropped_lines, dropped_text, is_next, past, said_at, said_if, said_of}
-use Rattle.save_file.specs.SavedText.{end_line, next_line, opening_line}
-use Rattle.save_file.proofs.CarriedEnds.{are_lines}
-use Rattle.save_file.proofs.DroppedWords.{said_line}
-use Rattle.save_file.proofs.LineCuts.{empty_is}
-use Rattle.save_file.proofs.TextLaws.{whole_lines}
+use Rattle.value_text.specs.MemberTexts.{printed_rest}
+
+-- ==== a text that is written piece by piece
+
+-- ---- joined lines
+
+-- the lines of the first, and second those of the rest
+pub joined_each : {X : Type 0} (f : X → List (List ℕ)) (x : X) (xs : List X) → joined (flat_map f (x ∷ xs)) ≡ joined (f x) ++ joined (flat_map f xs)
+joined_each f x xs = joined-append (f x) (flat_map f xs)
+
+-- a line in two pieces
+pub entry_pieces : (word slot value : List ℕ) → (word ++ (slot ++ codes " ")) ++ (value ++ 10 ∷ []) ≡ (word ++ (slot ++ (codes " " ++ value))) ++ 10 ∷ []
+entry_pieces word slot value = simp append_assoc
+
+-- ---- pieces
+
+-- the lines of the next are the piece in front
+pub next_piece : {X : Type 0} (f : X → List (List ℕ)) (a b : Option (List ℕ)) (text : List ℕ) (x : X) (all xs : List X) → all ≡ x ∷ xs
+    → Sent a b text (joined (flat_map f all)) → Sent a b text (joined (f x) ++ joined (flat_map f xs))
+next_piece f a b text x all xs e sent = subst (Sent a b text) (ap (λ l. joined (flat_map f l)) e ∙ joined_each f x xs) sent
+
+-- ---- pieces one after another
+
+abbrev pub whole : List (List ℕ) → List ℕ
+whole [] = []
+whole (p ∷ ps) = p ++ whole ps
+
+-- these pieces are left of the text
+pub record IsLeft (a b : Option (List ℕ)) (f g : ℕ) (text : List ℕ) (pieces : List (List ℕ)) : Type 0 where
+  pub sent : Sent a b text (whole pieces)
+  pub later : f ≤ g
+
+pub all_left : (a : Option (List ℕ)) (f : ℕ) (text : List ℕ) (pieces : List (List ℕ)) → whole pieces ≡ text → IsLeft a a f f text pieces
+all_left a f text pieces e = record { sent = subst (λ (t : List ℕ). Sent a a t (whole pieces)) e (sent_none a (whole pieces)); later = omega arith }
+
+pub wrote_piece : {a b c : Option (List ℕ)} {f0 f1 f2 : ℕ} {text p : List ℕ} {ps : List (List ℕ)} → IsLeft a b f0 f1 text (p ∷ ps) → WroteAll b c f1 f2 p → IsLeft a c f0 f2 text ps
+wrote_piece {a = a} {b = b} {c = c} {text = text} {p = p} {ps = ps} left wrote = record { sent = sent_piece a b c text p (whole ps) left.sent wrote.0; later = omega (arith, left.later, wrote.1) }
+
+pub failed_piece : {T E : Type 0} {a b c : Option (List ℕ)} {f0 f1 f2 : ℕ} {text p : List ℕ} {ps : List (List ℕ)} (Q : E → Type 0) (r : Result T E) → IsErrAnd r Q → IsLeft a b f0 f1 text (p ∷ ps) → WrotePart b c f1 f2 p → Wrote a c f0 f2 text r
+failed_piece {a = a} {b = b} {c = c} {f0 = f0} {f1 = f1} {f2 = f2} {text = text} {p = p} {ps = ps} Q r is left wrote =
+    let fault = err_from_is_err_and r is in
+    rw fault.1 (failed_within a b c f0 f1 f2 text p (whole ps) left.sent left.later wrote)
+
+pub last_piece : {T E : Type 0} {a b : Option (List ℕ)} {f0 f1 : ℕ} {text p : List ℕ} (c : Option (List ℕ)) (f2 : ℕ) (r : Result T E) → IsLeft a b f0 f1 text (p ∷ []) → Wrote b c f1 f2 p r → Wrote a c f0 f2 text r
+last_piece c f2 (Ok done) left wrote = let all = wrote_piece left wrote in (all.sent, all.later)
+last_piece {a = a} {b = b} {f0 = f0} {f1 = f1} {text = text} {p = p} c f2 (Err failed) left wrote = failed_within a b c f0 f1 f2 text p [] left.sent left.later wrote
+
+-- of a saved text
+pub saved_left : (d : Tree) (x : Answered) (a : Option (List ℕ)) (f next : ℕ) → next ≡ x.next
+    → IsLeft a a f f (saved d x) ((opening_line ++ 10 ∷ []) ∷ (next_line next ++ 10 ∷ []) ∷ joined (lists d x) ∷ joined (entries Answer d x) ∷ joined (entries Override d x) ∷ (end_line ++ 10 ∷ []) ∷ [])
+saved_left d x a f next e =
+    all_left a f (saved d x) _
+    (ap (λ (t : List ℕ). (opening_line ++ 10 ∷ []) ++ ((next_line next ++ 10 ∷ []) ++ t)) (sym behind)
+    ∙ ap (λ (t : List ℕ). (opening_line ++ 10 ∷ []) ++ t) (append_assoc (next_line next) (10 ∷ []) (joined (lists d x ++ (entries Answer d x ++ (entries Override d x ++ end_line ∷ [])))))
+    ∙ ap (λ (n : ℕ). joined (opening_line ∷ next_line n ∷ (lists d x ++ (entries Answer d x ++ (entries Override d x ++ end_line ∷ []))))) e)
+  where
+    behind : joined (lists d x ++ (entries Answer d x ++ (entries Override d x ++ end_line ∷ []))) ≡ joined (lists d x) ++ (joined (entries Answer d x) ++ (joined (entries Override d x) ++ (end_line ++ 10 ∷ [])))
+    behind =
+        joined-append (lists d x) (entries Answer d x ++ (entries Override d x ++ end_line ∷ []))
+        ∙ ap (λ (t : List ℕ). joined (lists d x) ++ t)
+        (joined-append (entries Answer d x) (entries Override d x ++ end_line ∷ []) ∙ ap (λ (t : List ℕ). joined (entries Answer d x) ++ t) (joined-append (entries Override d x) (end_line ∷ [])))
+
+-- ==== the first words of a line
+
+-- ---- words
+
+word_front : (word rest : List ℕ) → Lacks 32 word → word_of (word ++ 32 ∷ rest) ≡ word
+word_front [] rest none = at_byte 32 32 [] (32 ∷ word_of rest) refl
+word_front (b ∷ word) rest none = at_other 32 b [] (b ∷ word_of (word ++ 32 ∷ rest)) none.0 ∙ ap (λ (w : List ℕ). b ∷ w) (word_front word rest none.1)
+
+behind_front : (word rest : List ℕ) → Lacks 32 word → behind_word (word ++ 32 ∷ rest) ≡ rest
+behind_front [] rest none = at_byte 32 32 rest (behind_word rest) refl
+behind_front (b ∷ word) rest none = at_other 32 b (word ++ 32 ∷ rest) (behind_word (word ++ 32 ∷ rest)) none.0 ∙ behind_front word rest none.1
+
+word_alone : (text : List ℕ) → Lacks 32 text → word_of text ≡ text
+word_alone [] none = refl
+word_alone (b ∷ text) none = at_other 32 b [] (b ∷ word_of text) none.0 ∙ ap (λ (w : List ℕ). b ∷ w) (word_alone text none.1)
+
+none_behind : (text : List ℕ) → Lacks 32 text → behind_word text ≡ []
+none_behind [] none = refl
+none_behind (b ∷ text) none = at_other 32 b text (behind_word text) none.0 ∙ none_behind text none.1
+
+-- a word with nothing or a blank behind it
+word_before : (word tail : List ℕ) → Lacks 32 word → Tail tail → word_of (word ++ tail) ≡ word
+word_before word tail none (inl nothing) = ap (λ (t : List ℕ). word_of (word ++ t)) nothing ∙ ap word_of (append-nil word) ∙ word_alone word none
+word_before word tail none (inr some) = ap (λ (t : List ℕ). word_of (word ++ t)) some.1 ∙ word_front word some.0 none
+
+-- ---- how they are cut
+
+lacks_of : (text : List ℕ) → HasNoBlank text → Lacks 32 text
+lacks_of [] none = tt
+lacks_of (b ∷ text) none = (All-head (λ c. c ≢ 32) b text none, lacks_of text (All-tail (λ c. c ≢ 32) b text none))
+
+parts_at : (text : List ℕ) (at : ℕ) → IsBlankAt text at → text ≡ take at text ++ 32 ∷ drop (at + 1) text
+parts_at text at blank =
+    sym (take-append-drop at text) ∙ ap (λ l. take at text ++ l) (drop_more text at 0 blank.within ∙ ap (λ b. b ∷ drop (at + 1) text) blank.here)
+
+pub word_at : (text : List ℕ) (at : ℕ) → IsBlankAt text at → take at text ≡ word_of text
+word_at text at blank =
+    sym (ap word_of (parts_at text at blank) ∙ word_front (take at text) (drop (at + 1) text) (lacks_of (take at text) blank.first))
+
+pub behind_at : (text : List ℕ) (at : ℕ) → IsBlankAt text at → take (length text - (at + 1)) (drop (at + 1) text) ≡ behind_word text
+behind_at text at blank =
+    take_all (length text - (at + 1)) (drop (at + 1) text) (omega (arith, length-drop (at + 1) text))
+    ∙ sym (ap behind_word (parts_at text at blank) ∙ behind_front (take at text) (drop (at + 1) text) (lacks_of (take at text) blank.first))
+
+pub word_uncut : (text : List ℕ) → HasNoBlank text → text ≡ word_of text
+word_uncut text none = sym (word_alone text (lacks_of text none))
+
+pub behind_uncut : (text : List ℕ) → HasNoBlank text → [] ≡ behind_word text
+behind_uncut text none = sym (none_behind text (lacks_of text none))
+
+-- ---- what is said of a line
+
+pub said_line : (line : CarriedLine) → HasItsForm line → said_of (line_text line) ≡ dropped_line line
+said_line (collection name members) form =
+    ap (λ (word : List ℕ). codes "dropped " ++ (codes "list" ++ (codes " " ++ word)))
+    (word_before (47 ∷ name) (printed_rest members) (let other : 47 ≢ 32 = omega arith in other, name_lacks_blank name form.0) (tail_of members))
+said_line (entry Answer path text) form =
+    ap (λ (word : List ℕ). codes "dropped " ++ (codes "value" ++ (codes " " ++ word)))
+    (word_front (slot_path_text path) text (slot_lacks_blank path form.0))
+said_line (entry Override path text) form =
+    ap (λ (word : List ℕ). codes "dropped " ++ (codes "override" ++ (codes " " ++ word)))
+    (word_front (slot_path_text path) text (slot_lacks_blank path form.0))
+
+-- its two words, in pieces
+pub said_left : (line kind behind name : List ℕ) (a : Option (List ℕ)) (f : ℕ) → kind ≡ word_of line → behind ≡ behind_word line → name ≡ word_of behind
+    → IsLeft a a f f (said_of line ++ 10 ∷ []) (codes "dropped " ∷ kind ∷ codes " " ∷ name ∷ (10 ∷ []) ∷ [])
+said_left line kind behind name a f k b n =
+    all_left a f (said_of line ++ 10 ∷ []) _
+    (ap (λ (w : List ℕ). codes "dropped " ++ (w ++ 32 ∷ (name ++ 10 ∷ []))) k ∙ ap (λ (w : List ℕ). codes "dropped " ++ (word_of line ++ 32 ∷ (w ++ 10 ∷ []))) (n ∙ ap word_of b)
+    ∙ pieces (codes "dropped ") (word_of line) (word_of (behind_word line)))
+  where
+    pieces : (front word next : List ℕ) → front ++ (word ++ 32 ∷ (next ++ 10 ∷ [])) ≡ (front ++ (word ++ (codes " " ++ next))) ++ 10 ∷ []
+    pieces front word next = simp append_assoc
+
+-- ---- numbers that rise
+
+pub past_other : (n : ℕ) (ns : List ℕ) → is_next n ns ≡ false → ns ≡ past n ns
+past_other n [] e = refl
+past_other n (k ∷ ks) e = sym (ap (λ (b : Bool). if b then ks else k ∷ ks) e)
+
+-- ==== what is said of the lines that carrying drops
 
 -- ---- line after line
 

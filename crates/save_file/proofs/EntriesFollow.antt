@@ -1,46 +1,45 @@
--- What follows of one line of an answer or an override.
-use Rattle.std.proofs.Common.{◌≡◌, ◌≢◌, ℕ, ◌||◌, ◌&&◌, Bool, true, false, if◌then◌else◌, IsTrue, List, [], ◌∷◌, ◌++◌, Option, Some, None, refl, sym, ap, subst, ◌∙◌}
-use Rattle.std.specs.Prelude.{codes, IsSome}
-use Rattle.std.specs.List.{AllByRecursion, flat_map, list_any}
-use Rattle.std.proofs.lemmas.Option.{some_pair_parts}
+-- What follows of the lines of answers and overrides.
+use Rattle.std.proofs.Common.{Bool, IsTrue, List, None, Option, Some, [], ap, false, if◌then◌else◌, refl, subst, sym, true, ℕ, ◌&&◌, ◌++◌, ◌||◌, ◌∙◌, ◌∷◌, ◌≡◌, ◌≢◌}
 use Rattle.std.proofs.lemmas.List.Folds.{list_any-append}
-use Rattle.common_lemmas.proofs.Bools.{and_intro, neither_or, or_left, or_neither, or_right}
-use Rattle.common_lemmas.proofs.Options.{both_some}
-use Rattle.fact_paths.specs.Cuts.{cut}
-use Rattle.fact_paths.proofs.CutLaws.{cut-append, cut_some}
-use Rattle.fact_values.specs.declared.fact_type.FactType.{FactType}
-use Rattle.fact_values.specs.declared.slot.Slot.{Slot}
-use Rattle.fact_values.specs.declared.value.Value.{Value}
-use Rattle.value_text.specs.Enums.{AreLists}
-use Rattle.value_text.specs.Values.{printed, value_at}
-use Rattle.value_text.proofs.ReadingLaws.{value_again}
-use Rattle.value_text.proofs.TypeLaws.{of_type}
-use Rattle.dict_tree.specs.Dictionary.{Dictionary as Tree}
-use Rattle.dict_types.specs.StatedTypes.{type_at}
+use Rattle.std.proofs.lemmas.Option.{some_pair_parts}
+use Rattle.std.specs.List.{AllByRecursion, flat_map, list_any}
+use Rattle.std.specs.Prelude.{IsSome, codes}
+use Rattle.answers.proofs.StandLaws.{entry_stands}
 use Rattle.answers.specs.Answered.{Answered, entry, value_of}
 use Rattle.answers.specs.Change.{applied, sets}
-use Rattle.answers.proofs.StandLaws.{entry_stands}
-use Rattle.answers.specs.declared.edit.Side.{Side}
 use Rattle.answers.specs.declared.edit.Side.TheVariants.{Answer, Override}
+use Rattle.answers.specs.declared.edit.Side.{Side}
+use Rattle.common_lemmas.proofs.Bools.{and_intro, neither_or, or_left, or_neither, or_right}
+use Rattle.common_lemmas.proofs.Options.{both_some}
+use Rattle.dict_tree.specs.Dictionary.{Dictionary as Tree}
+use Rattle.dict_types.specs.StatedTypes.{type_at}
+use Rattle.dictionary.proofs.FitChangeLaws.{allowed_changes_fit}
+use Rattle.dictionary.proofs.SetLaws.{is_side, same_side, set_is}
+use Rattle.dictionary.proofs.SlotLaws.{slot_same-comm, slot_same-equal, slot_same-itself}
+use Rattle.dictionary.proofs.SlotTextLaws.{standing_slot}
 use Rattle.dictionary.specs.Accepted.{Accepted, IsAccepted}
 use Rattle.dictionary.specs.Fits.{AnswersFit, IsOfFact, takes}
 use Rattle.dictionary.specs.SlotText.{IsSlot, slot_text}
 use Rattle.dictionary.specs.Slots.{slot_same, stands}
-use Rattle.dictionary.proofs.FitChangeLaws.{allowed_changes_fit}
-use Rattle.dictionary.proofs.SetLaws.{is_side, same_side, set_is}
-use Rattle.dictionary.proofs.SlotLaws.{slot_same-comm, slot_same-equal, slot_same-itself}
-use Rattle.graph_session.specs.Kinds.{value_spelled}
-use Rattle.graph_session.proofs.TypeLaws.{value_typed}
-use Rattle.save_file.specs.Following.{AreSlots, FollowsEntries, IsBuilt, IsPast, IsToCome, behind_side}
-use Rattle.save_file.specs.SavedText.{entry_line, entry_lines, entry_lines_of, side_word}
-use Rattle.dictionary.proofs.SlotTextLaws.{standing_slot}
-use Rattle.save_file.proofs.EntryLaws.{entry_slot}
-use Rattle.save_file.proofs.KeyedLines.{HasNone, HasOther, behind_keys, cons_parts, none_added, skip}
-use Rattle.save_file.proofs.SlotsOnce.{behind_skipped, in_front}
-use Rattle.save_file.proofs.SlotTexts.{one_slot, same_behind, text_lacks_blank}
-use Rattle.save_file.proofs.ValueTexts.{printed_read}
-use Rattle.save_file.proofs.WordLaws.{first, no_entry, none_behind, one_entry, entry_shown}
+use Rattle.fact_paths.proofs.CutLaws.{cut-append, cut_some}
+use Rattle.fact_paths.specs.Cuts.{cut}
+use Rattle.fact_values.specs.declared.fact_type.FactType.{FactType}
+use Rattle.fact_values.specs.declared.slot.Slot.{Slot}
+use Rattle.fact_values.specs.declared.value.Value.{Value}
 use Rattle.graph_session.proofs.AllowedLaws.{slot_stands}
+use Rattle.graph_session.proofs.TypeLaws.{value_typed}
+use Rattle.graph_session.specs.Kinds.{value_spelled}
+use Rattle.save_file.proofs.Lines.{HasNone, HasOther, behind_keys, cons_parts, end_only, entry_shown, everywhere, first, no_entry, none_added, none_behind, one_entry, other_entry, skip}
+use Rattle.save_file.proofs.SlotTexts.{entry_slot, one_slot, printed_read, same_behind, text_lacks_blank}
+use Rattle.save_file.proofs.SlotsLeft.{all_slots, behind_skipped, in_front, none_outside, same_answers, same_slots}
+use Rattle.save_file.specs.Following.{AreSlots, BeginsOther, FollowsEntries, IsBuilt, IsPast, IsToCome, behind_side}
+use Rattle.save_file.specs.SavedText.{end_line, entries, entry_line, entry_lines, entry_lines_of, side_word, slots}
+use Rattle.value_text.proofs.ReadingLaws.{value_again}
+use Rattle.value_text.proofs.TypeLaws.{of_type}
+use Rattle.value_text.specs.Enums.{AreLists}
+use Rattle.value_text.specs.Values.{printed, value_at}
+
+-- ==== what follows of one line of an answer or an override
 
 -- ---- what is past and what is to come
 
@@ -234,8 +233,8 @@ module _ (names : List (List ℕ)) (d : Accepted) (is : IsAccepted names d) (enu
         let rest = or_neither (slot_same u s) (list_any (slot_same u) now) both_out.1 in
         (slot_same-comm s u ∙ rest.0, rest.1)
 
-    pub taken : (a : Answered) (more : List (List ℕ)) → FollowsEntries d.tree side b (skipped ++ s ∷ now) a ((side_word side ++ text) ∷ more) → FollowsEntries d.tree side (applied (sets side s (Some v)) b) now a more
-    taken a more f = record { fit = f.fit; number = f.number; same_lists = f.same_lists; agree = agree; text = own.1.3 }
+    pub entry_taken : (a : Answered) (more : List (List ℕ)) → FollowsEntries d.tree side b (skipped ++ s ∷ now) a ((side_word side ++ text) ∷ more) → FollowsEntries d.tree side (applied (sets side s (Some v)) b) now a more
+    entry_taken a more f = record { fit = f.fit; number = f.number; same_lists = f.same_lists; agree = agree; text = own.1.3 }
       where
         own : AllByRecursion (HasNone (entry_lines side d.tree a)) skipped
             × ((w : Value) × (value_of side a s ≡ Some w) × (printed d.tree.enums w ≡ value) × (flat_map (entry_lines side d.tree a) now ++ behind_side side d.tree a ≡ more))
@@ -258,8 +257,8 @@ module _ (names : List (List ℕ)) (d : Accepted) (is : IsAccepted names d) (enu
         agree : (k : Side) (u : Slot) → IsPast side now k u → value_of k a u ≡ value_of k (applied (sets side s (Some v)) b) u
         agree k u past = by_side k u (is_side side k) refl past
 
-    pub given_back : (a : Answered) (more : List (List ℕ)) → FollowsEntries d.tree side (applied (sets side s (Some v)) b) now a more → FollowsEntries d.tree side b (skipped ++ s ∷ now) a ((side_word side ++ text) ∷ more)
-    given_back a more f = record {
+    pub entry_given_back : (a : Answered) (more : List (List ℕ)) → FollowsEntries d.tree side (applied (sets side s (Some v)) b) now a more → FollowsEntries d.tree side b (skipped ++ s ∷ now) a ((side_word side ++ text) ∷ more)
+    entry_given_back a more f = record {
       fit = f.fit;
       number = f.number;
       same_lists = f.same_lists;
@@ -314,3 +313,90 @@ module _ (names : List (List ℕ)) (d : Accepted) (is : IsAccepted names d) (enu
             at : (mine : Bool) → is_side side k ≡ mine → (mine && slot_same s u) ≡ false
             at true e = here_not u (come_own_of k u e come) (slot_same s u) refl
             at false e = refl
+
+-- ==== what follows where a side is at its end
+
+-- a line with another first word is none of the slots that are left
+nothing_left : (d : Tree) (side : Side) (b : Answered) (left : List Slot) (a : Answered) (line : List ℕ) (more : List (List ℕ)) → BeginsOther (side_word side) line
+    → FollowsEntries d side b left a (line ∷ more) → AllByRecursion (HasNone (entry_lines side d a)) left × (behind_side side d a ≡ line ∷ more)
+nothing_left d side b left a line more other f =
+    skip (entry_lines side d a) (one_entry side d a) left (behind_side side d a) more line (everywhere (HasOther (entry_lines side d a) line) (other_entry side d a line other) left) f.text
+
+-- so this side is the one that was read
+side_is : (d : Tree) (side : Side) (b : Answered) (left : List Slot) (a : Answered) (line : List ℕ) (more : List (List ℕ)) → IsBuilt d side b left → BeginsOther (side_word side) line
+    → FollowsEntries d side b left a (line ∷ more) → (u : Slot) → value_of side a u ≡ value_of side b u
+side_is d side b left a line more built other f u = at (list_any (slot_same u) left) refl
+  where
+    at : (there : Bool) → list_any (slot_same u) left ≡ there → value_of side a u ≡ value_of side b u
+    at true e = no_entry side d a u (at_one (HasNone (entry_lines side d a)) left u (nothing_left d side b left a line more other f).0 e) ∙ sym (built.none side u (come_own side left u e))
+    at false e = f.agree side u (past_own side left u e)
+
+-- where a side is the one that was read, none of the slots that are left has a line
+none_left : (d : Tree) (side : Side) (b : Answered) (left : List Slot) (a : Answered) → IsBuilt d side b left → ((u : Slot) → value_of side a u ≡ value_of side b u) → AllByRecursion (HasNone (entry_lines side d a)) left
+none_left d side b left a built same = each (HasNone (entry_lines side d a)) left (λ u there. ap (entry_lines_of side d u) (same u ∙ built.none side u (come_own side left u there)))
+
+-- ---- from the answers to the overrides
+
+override_slots : (d : Tree) (a b : Answered) → a.lists ≡ b.lists → entries Override d a ≡ flat_map (entry_lines Override d a) (slots d b)
+override_slots d a b e = ap (flat_map (entry_lines Override d a)) (same_slots d a b e)
+
+module _ (d : Tree) (b : Answered) (left : List Slot) (built : IsBuilt d Answer b left) where
+  pub turned : IsBuilt d Override b (slots d b)
+  turned = record { fit = built.fit; slots = all_slots d b built.fit.well; none = none }
+    where
+      none : (k : Side) (s : Slot) → IsToCome Override (slots d b) k s → value_of k b s ≡ None
+      none Answer s come = absurd come
+      none Override s come = built.none Override s tt
+
+  pub turn : (a : Answered) (line : List ℕ) (more : List (List ℕ)) → BeginsOther (codes "value ") line → FollowsEntries d Answer b left a (line ∷ more) → FollowsEntries d Override b (slots d b) a (line ∷ more)
+  turn a line more other f = record {
+    fit = f.fit;
+    number = f.number;
+    same_lists = f.same_lists;
+    agree = agree;
+    text = ap (λ (ls : List (List ℕ)). ls ++ end_line ∷ []) (sym (override_slots d a b f.same_lists)) ∙ (nothing_left d Answer b left a line more other f).1;
+  }
+    where
+      agree : (k : Side) (s : Slot) → IsPast Override (slots d b) k s → value_of k a s ≡ value_of k b s
+      agree Answer s past = side_is d Answer b left a line more built other f s
+      agree Override s past =
+          none_outside d a f.fit Override s (ap (list_any (slot_same s)) (same_slots d a b f.same_lists) ∙ past) ∙ sym (none_outside d b built.fit Override s past)
+
+  pub turn_back : (a : Answered) (more : List (List ℕ)) → FollowsEntries d Override b (slots d b) a more → FollowsEntries d Answer b left a more
+  turn_back a more f = record {
+    fit = f.fit;
+    number = f.number;
+    same_lists = f.same_lists;
+    agree = agree;
+    text =
+        none_added (entry_lines Answer d a) left (behind_side Answer d a) (none_left d Answer b left a built (λ u. f.agree Answer u tt))
+        ∙ ap (λ (ls : List (List ℕ)). ls ++ end_line ∷ []) (override_slots d a b f.same_lists) ∙ f.text;
+  }
+    where
+      agree : (k : Side) (s : Slot) → IsPast Answer left k s → value_of k a s ≡ value_of k b s
+      agree Answer s past = f.agree Answer s tt
+      agree Override s past = absurd past
+
+-- ---- the last line
+
+module _ (d : Tree) (b : Answered) (left : List Slot) (built : IsBuilt d Override b left) where
+  pub ended : (a : Answered) (line : List ℕ) (more : List (List ℕ)) → BeginsOther (codes "override ") line → FollowsEntries d Override b left a (line ∷ more) → (a ≡ b) × (line ≡ end_line) × (more ≡ [])
+  ended a line more other f =
+      let last = end_only line more (nothing_left d Override b left a line more other f).1 in
+      (same_answers a b f.fit.well built.fit.well f.fit.from_one built.fit.from_one f.same_lists values f.number, last.0, last.1)
+    where
+      values : (side : Side) (s : Slot) → value_of side a s ≡ value_of side b s
+      values Answer s = f.agree Answer s tt
+      values Override s = side_is d Override b left a line more built other f s
+
+  pub end_back : FollowsEntries d Override b left b (end_line ∷ [])
+  end_back = record {
+    fit = built.fit;
+    number = refl;
+    same_lists = refl;
+    agree = λ k s past. refl;
+    text = none_added (entry_lines Override d b) left (end_line ∷ []) (none_left d Override b left b built (λ u. refl));
+  }
+
+  pub not_ended : (a : Answered) (more : List (List ℕ)) → (a ≡ b) × (more ≡ []) → FollowsEntries d Override b left a (end_line ∷ more)
+  not_ended a more h = subst (λ (x : Answered). FollowsEntries d Override b left x (end_line ∷ more)) (sym h.0) (subst (λ (ls : List (List ℕ)). FollowsEntries d Override b left b (end_line ∷ ls)) (sym h.1) end_back)

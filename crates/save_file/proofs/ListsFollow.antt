@@ -1,35 +1,125 @@
--- What follows of one line of an open collection, and where the lists are at their end.
-use Rattle.std.proofs.Common.{◌≡◌, ◌≢◌, ℕ, zero, suc, ◌+◌, ◌-◌, ◌<◌, ◌≤◌, Bool, true, false, nat_eq, if◌then◌else◌, IsTrue, List, [], ◌∷◌, ◌++◌, length, Option, Some, None, is_some, unwrap_or, inl, inr, refl, sym, ap, subst, ◌∙◌, arith}
-use Rattle.std.specs.Prelude.{codes}
+-- What follows of the lines of open collections.
+use Rattle.std.proofs.Common.{Bool, IsTrue, List, None, Option, Some, [], ap, arith, cond, false, if◌then◌else◌, inl, inr, is_some, length, nat_eq, refl, subst, suc, sym, true, unwrap_or, zero, ℕ, ◌++◌, ◌+◌, ◌-◌, ◌<◌, ◌∙◌, ◌∷◌, ◌≡◌, ◌≢◌, ◌≤◌}
+use Rattle.std.proofs.lemmas.Bool.Decides.{nat_tests}
+use Rattle.std.proofs.lemmas.Bool.{cases_lt}
+use Rattle.std.proofs.lemmas.List.Elements.{All-cons, All-head, All-nil, All-push, All-tail, All-weaker}
+use Rattle.std.specs.FinMap as map
 use Rattle.std.specs.List.{All, AllByRecursion, flat_map, list_any}
 use Rattle.std.specs.Map.{lookup}
-use Rattle.std.specs.FinMap as map
-use Rattle.std.proofs.lemmas.Bool.{cases_lt}
-use Rattle.std.proofs.lemmas.Bool.Decides.{nat_tests}
-use Rattle.std.proofs.lemmas.List.Elements.{All-push, All-weaker}
-use Rattle.common_lemmas.proofs.Numbers.{same_number}
-use Rattle.fact_values.specs.Members.{IsMemberList}
-use Rattle.fact_values.specs.declared.slot.Slot.{Slot}
-use Rattle.value_text.specs.MemberTexts.{printed_rest}
-use Rattle.dict_tree.specs.Dictionary.{Dictionary as Tree}
-use Rattle.answers.specs.Answered.{Answered, list_of}
-use Rattle.answers.specs.GivenLists.{IsBelow, IsWithout}
+use Rattle.std.specs.Ordering.{nat_cmp}
+use Rattle.std.specs.Prelude.{codes, decimal}
+use Rattle.answers.proofs.FiniteLaws.{get_map_of, same}
+use Rattle.answers.proofs.OpenedListsLaws.{given_well, of_lists}
+use Rattle.answers.specs.Answered.{Answered, list_of, start_at, value_of}
+use Rattle.answers.specs.Finite.{Numbered, and_then, map_of}
+use Rattle.answers.specs.GivenLists.{AreApart, FactsRise, IsAfter, IsBelow, IsOfLists, IsWithout}
 use Rattle.answers.specs.Lists.{IsIn, IsNotIn}
+use Rattle.answers.specs.OpenedLists.{with_all}
+use Rattle.answers.specs.WellFormed.{FromOne, WellFormed}
+use Rattle.answers.specs.declared.edit.Side.TheVariants.{Answer, Override}
+use Rattle.answers.specs.declared.edit.Side.{Side}
+use Rattle.common_lemmas.proofs.Numbers.{same_number}
+use Rattle.dict_tree.specs.Dictionary.{Dictionary as Tree}
+use Rattle.dictionary.proofs.FitStart.{given_fit, given_value}
+use Rattle.dictionary.proofs.NumberLaws.{fact_within}
+use Rattle.dictionary.proofs.SlotTextLaws.{member_below}
 use Rattle.dictionary.specs.Accepted.{Accepted, IsAccepted}
 use Rattle.dictionary.specs.Fits.{AnswersFit, is_list}
 use Rattle.dictionary.specs.Reading.{slot}
 use Rattle.dictionary.specs.SlotText.{slot_text}
-use Rattle.save_file.specs.Following.{AreRead, FollowsLists, behind_lists}
-use Rattle.save_file.specs.Reading.{IsLaterList, IsListFound}
-use Rattle.save_file.specs.SavedText.{counted, list_line, list_lines, list_lines_of}
-use Rattle.dictionary.proofs.SlotTextLaws.{member_below}
-use Rattle.save_file.proofs.EntryLaws.{list_slot, list_there, members_numbered, open_list_members}
-use Rattle.save_file.proofs.GivenLists.{IsUpTo, apart_push, each_given, given, given_is, given_none, given_push, rise_push}
-use Rattle.save_file.proofs.KeyedLines.{HasNone, HasOther, behind_keys, cons_parts, none_added, skip}
-use Rattle.save_file.proofs.ListTexts.{numbers_of, same_members, same_parts, tail_of}
-use Rattle.save_file.proofs.SlotTexts.{one_slot, same_behind, text_lacks_blank}
-use Rattle.save_file.proofs.WordLaws.{first, list_shown, no_list, no_list_behind, one_list}
-use Rattle.dictionary.proofs.NumberLaws.{fact_within}
+use Rattle.dictionary.specs.Slots.{slot_same}
+use Rattle.fact_values.specs.Members.{IsMemberList}
+use Rattle.fact_values.specs.declared.slot.Slot.{Slot}
+use Rattle.save_file.proofs.EntriesFollow.{end_back, turn_back, turned}
+use Rattle.save_file.proofs.Lines.{HasNone, HasOther, behind_keys, cons_parts, everywhere, first, list_shown, no_list, no_list_behind, none_added, one_list, other_list, skip}
+use Rattle.save_file.proofs.MemberReading.{decimals_one}
+use Rattle.save_file.proofs.SlotTexts.{list_slot, list_there, members_numbered, numbers_of, one_slot, open_list_members, same_behind, same_members, same_parts, tail_of, text_lacks_blank}
+use Rattle.save_file.proofs.SlotsLeft.{all_slots, counted_all, none_outside, same_slots}
+use Rattle.save_file.specs.Following.{AreRead, BeginsOther, FollowsEntries, FollowsLists, IsBuilt, IsPast, behind_lists, behind_opening, behind_side}
+use Rattle.save_file.specs.Reading.{IsLaterList, IsListFound, IsNextNumber}
+use Rattle.save_file.specs.SavedText.{counted, end_line, entry_lines, list_line, list_lines, list_lines_of, lists as lists_lines, next_line, slots}
+use Rattle.value_text.specs.MemberTexts.{printed_rest}
+
+-- ==== lists whose facts rise, with one more at their end
+
+-- what the lists have at a fact
+abbrev pub given : List (ℕ × List ℕ) → Numbered (List ℕ)
+given lists = map_of (λ (ms : List ℕ). Some ms) lists
+
+abbrev pub IsUpTo : ℕ → ℕ × List ℕ → Type 0
+IsUpTo done e = e.0 ≤ done
+
+whole : (o : Option (List ℕ)) → and_then (λ (ms : List ℕ). Some ms) o ≡ o
+whole None = refl
+whole (Some ms) = refl
+
+pub given_is : (lists : List (ℕ × List ℕ)) (q : ℕ) → map.get (given lists) q ≡ lookup (nat_eq q) lists
+given_is lists q = get_map_of (λ (ms : List ℕ). Some ms) lists q ∙ whole (lookup (nat_eq q) lists)
+
+-- nothing behind the last
+lookup_none : (lists : List (ℕ × List ℕ)) (done q : ℕ) → All (IsUpTo done) lists → done < q → lookup (nat_eq q) lists ≡ None
+lookup_none [] done q all high = refl
+lookup_none (e ∷ es) done q all high =
+    let low : e.0 ≤ done = All-head (IsUpTo done) e es all in
+    let other : nat_eq q e.0 ≡ false = grind (arith, nat_tests) in
+    ap (λ (b : Bool). cond b (Some e.1) (lookup (nat_eq q) es)) other ∙ lookup_none es done q (All-tail (IsUpTo done) e es all) high
+
+pub given_none : (lists : List (ℕ × List ℕ)) (done q : ℕ) → All (IsUpTo done) lists → done < q → map.get (given lists) q ≡ None
+given_none lists done q all high = given_is lists q ∙ lookup_none lists done q all high
+
+lookup_push : (lists : List (ℕ × List ℕ)) (done c : ℕ) (ms : List ℕ) (q : ℕ) → All (IsUpTo done) lists → done < c
+    → lookup (nat_eq q) (lists ++ (c, ms) ∷ []) ≡ (if nat_eq q c then Some ms else lookup (nat_eq q) lists)
+lookup_push [] done c ms q all high = refl
+lookup_push (e ∷ es) done c ms q all high =
+    ap (cond (nat_eq q e.0) (Some e.1)) (lookup_push es done c ms q (All-tail (IsUpTo done) e es all) high) ∙ by (nat_eq q e.0) (nat_eq q c) refl refl
+  where
+    low : e.0 ≤ done
+    low = All-head (IsUpTo done) e es all
+
+    by : (b t : Bool) → nat_eq q e.0 ≡ b → nat_eq q c ≡ t → cond b (Some e.1) (if t then Some ms else lookup (nat_eq q) es) ≡ (if t then Some ms else cond b (Some e.1) (lookup (nat_eq q) es))
+    by true true f g = absurd (let left : q ≡ e.0 = same_number q e.0 f in let right : q ≡ c = same_number q c g in omega (arith, low))
+    by true false f g = refl
+    by false true f g = refl
+    by false false f g = refl
+
+pub given_push : (lists : List (ℕ × List ℕ)) (done c : ℕ) (ms : List ℕ) (q : ℕ) → All (IsUpTo done) lists → done < c
+    → map.get (given (lists ++ (c, ms) ∷ [])) q ≡ (if nat_eq q c then Some ms else map.get (given lists) q)
+given_push lists done c ms q all high =
+    given_is (lists ++ (c, ms) ∷ []) q ∙ lookup_push lists done c ms q all high ∙ ap (λ (o : Option (List ℕ)). if nat_eq q c then Some ms else o) (sym (given_is lists q))
+
+-- ---- what stays true
+
+pub rise_push : (lists : List (ℕ × List ℕ)) (done c : ℕ) (ms : List ℕ) → FactsRise lists → All (IsUpTo done) lists → done < c → FactsRise (lists ++ (c, ms) ∷ [])
+rise_push [] done c ms rise all high = (All-nil (IsAfter c), tt)
+rise_push (e ∷ es) done c ms rise all high =
+    let low : e.0 ≤ done = All-head (IsUpTo done) e es all in
+    (All-push (IsAfter e.0) es (c, ms) rise.0 (omega (arith, low)), rise_push es done c ms rise.1 (All-tail (IsUpTo done) e es all) high)
+
+pub apart_push : (lists : List (ℕ × List ℕ)) (c : ℕ) (ms : List ℕ) → AreApart lists → All (λ (e : ℕ × List ℕ). IsWithout e.1 (c, ms)) lists → AreApart (lists ++ (c, ms) ∷ [])
+apart_push [] c ms apart new = (All-nil (IsWithout ms), tt)
+apart_push (e ∷ es) c ms apart new =
+    (All-push (IsWithout e.1) es (c, ms) apart.0 (All-head (λ (f : ℕ × List ℕ). IsWithout f.1 (c, ms)) e es new), apart_push es c ms apart.1 (All-tail (λ (f : ℕ × List ℕ). IsWithout f.1 (c, ms)) e es new))
+
+-- ---- each list is found
+
+rises : (e : ℕ × List ℕ) (es : List (ℕ × List ℕ)) (q : ℕ) (xs : List ℕ) → All (IsAfter e.0) es → lookup (nat_eq q) es ≡ Some xs → e.0 < q
+rises e [] q xs less found = absurd cc
+rises e (f ∷ fs) q xs less found = at (nat_eq q f.0) refl found (rises e fs q xs (All-tail (IsAfter e.0) f fs less))
+  where
+    at : (b : Bool) → nat_eq q f.0 ≡ b → cond b (Some f.1) (lookup (nat_eq q) fs) ≡ Some xs → (lookup (nat_eq q) fs ≡ Some xs → e.0 < q) → e.0 < q
+    at true h found rest = let low : e.0 < f.0 = All-head (IsAfter e.0) f fs less in let same : q ≡ f.0 = same_number q f.0 h in omega (arith, low)
+    at false h found rest = rest found
+
+pub each_given : (P : ℕ × List ℕ → Type 0) (es : List (ℕ × List ℕ)) → FactsRise es → ((q : ℕ) (xs : List ℕ) → lookup (nat_eq q) es ≡ Some xs → P (q, xs)) → All P es
+each_given P [] rise all = All-nil P
+each_given P (e ∷ es) rise all =
+    All-cons P e es (all e.0 e.1 (ap (λ (b : Bool). cond b (Some e.1) (lookup (nat_eq e.0) es)) (itself e.0)))
+    (each_given P es rise.1 (λ q xs found. all q xs (ap (λ (b : Bool). cond b (Some e.1) (lookup (nat_eq q) es)) (let low : e.0 < q = rises e es q xs rise.0 found in let other : nat_eq q e.0 ≡ false = grind (arith, nat_tests) in other) ∙ found)))
+  where
+    itself : (n : ℕ) → nat_eq n n ≡ true
+    itself n = grind (arith, nat_tests)
+
+-- ==== what follows of one line of an open collection, and where the lists are at their end
 
 -- ---- numbers in a row
 
@@ -126,8 +216,8 @@ module _ (names : List (List ℕ)) (d : Accepted) (is : IsAccepted names d) wher
         own : (map.get a.lists c ≡ Some ms) × (flat_map (list_lines d.tree a) (counted (suc c) (length d.tree.facts - c)) ++ behind_lists d.tree a ≡ more)
         own = at (map.get a.lists c) refl behind.1
 
-    pub taken : (a : Answered) (more : List (List ℕ)) → FollowsLists d.tree next (given lists) done a (line ∷ more) → FollowsLists d.tree next (given (lists ++ (c, ms) ∷ [])) c a more
-    taken a more f = record { fit = f.fit; number = f.number; agree = agree; text = own.2 }
+    pub list_taken : (a : Answered) (more : List (List ℕ)) → FollowsLists d.tree next (given lists) done a (line ∷ more) → FollowsLists d.tree next (given (lists ++ (c, ms) ∷ [])) c a more
+    list_taken a more f = record { fit = f.fit; number = f.number; agree = agree; text = own.2 }
       where
         own : AllByRecursion (HasNone (list_lines d.tree a)) (counted (suc done) (c - suc done)) × (map.get a.lists c ≡ Some ms) × (flat_map (list_lines d.tree a) (counted (suc c) (length d.tree.facts - c)) ++ behind_lists d.tree a ≡ more)
         own = its_list a more f
@@ -147,8 +237,8 @@ module _ (names : List (List ℕ)) (d : Accepted) (is : IsAccepted names d) wher
         agree : (q : ℕ) → q ≤ c → map.get a.lists q ≡ map.get (given (lists ++ (c, ms) ∷ [])) q
         agree q high = by q (nat_eq q c) refl high ∙ sym (given_push lists done c ms q read.up_to found.later.0)
 
-    pub given_back : (a : Answered) (more : List (List ℕ)) → FollowsLists d.tree next (given (lists ++ (c, ms) ∷ [])) c a more → FollowsLists d.tree next (given lists) done a (line ∷ more)
-    given_back a more f = record {
+    pub list_given_back : (a : Answered) (more : List (List ℕ)) → FollowsLists d.tree next (given (lists ++ (c, ms) ∷ [])) c a more → FollowsLists d.tree next (given lists) done a (line ∷ more)
+    list_given_back a more f = record {
       fit = f.fit;
       number = f.number;
       agree = λ q up. (let later : done < c = found.later.0 in f.agree q (omega (arith, up, later)) ∙ before q (omega (arith, up, later)));
@@ -226,3 +316,119 @@ module _ (names : List (List ℕ)) (d : Accepted) (is : IsAccepted names d) wher
       (each_counted (HasOther (list_lines d.tree a) line) (suc done) (length d.tree.facts - done)
       (λ k low high. other_fact a f.fit line k (λ ns list members. none k (omega (arith, low), list) ns members))) f.text in
       no_list_behind d.tree a line more starts rest.1
+
+-- ==== what follows where the lists are at their end, and before them
+
+module _ (d : Tree) (next : ℕ) (lists : List (ℕ × List ℕ)) (done : ℕ) (read : AreRead d next lists done) (b : Answered) (of : IsOfLists lists next b) where
+  sound : WellFormed b × FromOne b
+  sound = given_well lists next b read.rise read.separate read.below read.members read.number.0 read.number.1 of
+
+  fits : AnswersFit d b
+  fits = given_fit d lists next b sound.0 sound.1 of read.collections
+
+  pub opened : IsBuilt d Answer b (slots d b)
+  opened = record { fit = fits; slots = all_slots d b fits.well; none = λ k s come. given_value lists next b of k s }
+
+  given_at : (q : ℕ) → map.get b.lists q ≡ map.get (given lists) q
+  given_at q = ap (λ (ls : Numbered (List ℕ)). map.get ls q) of.lists_are
+
+  pub opens : (a : Answered) (line : List ℕ) (more : List (List ℕ)) → BeginsOther (codes "list ") line → FollowsLists d next (given lists) done a (line ∷ more) → FollowsEntries d Answer b (slots d b) a (line ∷ more)
+  opens a line more other f = record {
+    fit = f.fit;
+    number = f.number ∙ sym of.number;
+    same_lists = same_lists;
+    agree = agree;
+    text = ap (λ (ss : List Slot). flat_map (entry_lines Answer d a) ss ++ behind_side Answer d a) (sym (same_slots d a b same_lists)) ∙ nothing.1;
+  }
+    where
+      nothing : AllByRecursion (HasNone (list_lines d a)) (counted (suc done) (length d.facts - done)) × (behind_lists d a ≡ line ∷ more)
+      nothing =
+          skip (list_lines d a) (one_list d a) (counted (suc done) (length d.facts - done)) (behind_lists d a) more line
+          (everywhere (HasOther (list_lines d a) line) (other_list d a line other) (counted (suc done) (length d.facts - done))) f.text
+
+      none_later : (q : ℕ) → done < q → map.get a.lists q ≡ None
+      none_later q high = elim (cases_lt (length d.facts) q) [
+        | inl out ↦ no_list_at d a f.fit q (λ list. let inside = list_within d q list in omega (arith, out, inside.1))
+        | inr up ↦ no_list d a q (at_counted (HasNone (list_lines d a)) (suc done) (length d.facts - done) nothing.0 q (omega (arith, high)) (omega (arith, high, up)))
+      ]
+
+      each_list : (q : ℕ) → map.get a.lists q ≡ map.get b.lists q
+      each_list q = elim (cases_lt done q) [
+        | inl high ↦ none_later q high ∙ sym (given_none lists done q read.up_to high) ∙ sym (given_at q)
+        | inr up ↦ f.agree q up ∙ sym (given_at q)
+      ]
+
+      same_lists : a.lists ≡ b.lists
+      same_lists = same _ _ each_list
+
+      agree : (k : Side) (s : Slot) → IsPast Answer (slots d b) k s → value_of k a s ≡ value_of k b s
+      agree Answer s past = none_outside d a f.fit Answer s (ap (list_any (slot_same s)) (same_slots d a b same_lists) ∙ past) ∙ sym (none_outside d b fits Answer s past)
+      agree Override s past = absurd past
+
+  pub open_back : (a : Answered) (more : List (List ℕ)) → FollowsEntries d Answer b (slots d b) a more → FollowsLists d next (given lists) done a more
+  open_back a more f = record {
+    fit = f.fit;
+    number = f.number ∙ of.number;
+    agree = λ q up. lists_at q;
+    text =
+        none_added (list_lines d a) (counted (suc done) (length d.facts - done)) (behind_lists d a)
+        (each_counted (HasNone (list_lines d a)) (suc done) (length d.facts - done) (λ k low high. ap (list_lines_of d k) (lists_at k ∙ given_none lists done k read.up_to (omega (arith, low)))))
+        ∙ ap (λ (ss : List Slot). flat_map (entry_lines Answer d a) ss ++ behind_side Answer d a) (same_slots d a b f.same_lists) ∙ f.text;
+  }
+    where
+      lists_at : (q : ℕ) → map.get a.lists q ≡ map.get (given lists) q
+      lists_at q = ap (λ (ls : Numbered (List ℕ)). map.get ls q) f.same_lists ∙ given_at q
+
+-- some answers go on from lists that were read
+pub lists_go_on : (d : Tree) (next : ℕ) (lists : List (ℕ × List ℕ)) (done : ℕ) → AreRead d next lists done → (a : Answered) × FollowsLists d next (given lists) done a (end_line ∷ [])
+lists_go_on d next lists done read =
+    let b = with_all lists (start_at next) in
+    let of = of_lists lists next read.rise in
+    let built = opened d next lists done read b of in
+    (b, open_back d next lists done read b of b (end_line ∷ []) (turn_back d b (slots d b) built b (end_line ∷ []) (end_back d b (slots d b) (turned d b (slots d b) built))))
+
+-- ---- the line of the next number
+
+pub next_is : (a : Answered) → WellFormed a → FromOne a → IsNextNumber a.next
+next_is a well one = (one.low, well.high)
+
+module _ (d : Tree) (digits : List ℕ) where
+  pub numbered : (k : ℕ) → IsNextNumber k → digits ≡ decimal k → (a : Answered) (more : List (List ℕ)) → AnswersFit d a × (behind_opening d a ≡ (codes "next " ++ digits) ∷ more) → FollowsLists d k (given []) 0 a more
+  numbered k number is a more f = record { fit = f.0; number = next; agree = agree; text = ap (λ (ks : List ℕ). flat_map (list_lines d a) ks ++ behind_lists d a) (counted_all (length d.facts)) ∙ rest }
+    where
+      line : next_line a.next ≡ codes "next " ++ digits
+      line = (cons_parts (next_line a.next) (codes "next " ++ digits) (lists_lines d a ++ behind_lists d a) more f.1).0
+
+      rest : lists_lines d a ++ behind_lists d a ≡ more
+      rest = (cons_parts (next_line a.next) (codes "next " ++ digits) (lists_lines d a ++ behind_lists d a) more f.1).1
+
+      next : a.next ≡ k
+      next = decimals_one a.next k f.0.well.high number.1 (same_behind (codes "next ") (decimal a.next) digits line ∙ is)
+
+      agree : (c : ℕ) → c ≤ 0 → map.get a.lists c ≡ map.get (given []) c
+      agree c low =
+          let zero_is : c ≡ 0 = omega arith in
+          no_list_at d a f.0 c (λ list. let inside = list_within d c list in omega (arith, inside.0, low)) ∙ sym (map.get-empty nat_cmp c)
+
+  pub numbered_back : (k : ℕ) → digits ≡ decimal k → (a : Answered) (more : List (List ℕ)) → FollowsLists d k (given []) 0 a more → AnswersFit d a × (behind_opening d a ≡ (codes "next " ++ digits) ∷ more)
+  numbered_back k is a more f = (
+    f.fit,
+    ap (λ (n : ℕ). next_line n ∷ (lists_lines d a ++ behind_lists d a)) f.number
+        ∙ ap (λ (text : List ℕ). (codes "next " ++ text) ∷ (lists_lines d a ++ behind_lists d a)) (sym is)
+        ∙ ap (λ (ls : List (List ℕ)). (codes "next " ++ digits) ∷ ls) (sym (ap (λ (ks : List ℕ). flat_map (list_lines d a) ks ++ behind_lists d a) (counted_all (length d.facts))) ∙ f.text),
+  )
+
+  pub no_number : ((k : ℕ) → IsNextNumber k → digits ≢ decimal k) → (a : Answered) (more : List (List ℕ)) → AnswersFit d a → behind_opening d a ≡ (codes "next " ++ digits) ∷ more → ⊥
+  no_number none a more fit e = none a.next (next_is a fit.well fit.from_one) (sym (same_behind (codes "next ") (decimal a.next) digits (cons_parts (next_line a.next) (codes "next " ++ digits) (lists_lines d a ++ behind_lists d a) more e).0))
+
+pub nothing_read : (d : Tree) (k : ℕ) → IsNextNumber k → AreRead d k [] 0
+nothing_read d k number = record {
+  number = number;
+  rise = tt;
+  separate = tt;
+  below = All-nil _;
+  members = All-nil _;
+  collections = All-nil _;
+  up_to = All-nil _;
+  within = omega arith;
+}

@@ -1,21 +1,29 @@
--- Members that are read word by word, and the number of the next.
-use Rattle.std.proofs.Common.{◌≡◌, ◌≢◌, ℕ, ◌<◌, List, [], ◌∷◌, ◌++◌, length, Option, Some, None, inl, inr, refl, sym, ap, subst, ◌∙◌, append_assoc, Ok, Err, arith, length-append}
-use Rattle.std.specs.Prelude.{codes, decimal, MatchOption}
-use Rattle.std.specs.List.{AllByRecursion}
+-- Members: how they are read, and tests of them.
+use Rattle.std.proofs.Common.{◌≤◌, Bool, Err, List, None, Ok, Option, Some, [], ap, append_assoc, arith, false, inl, inr, length, length-append, nat_eq, refl, subst, sym, true, ℕ, ◌++◌, ◌<◌, ◌||◌, ◌∙◌, ◌∷◌, ◌≡◌, ◌≢◌}
+use Rattle.std.proofs.lemmas.Bool.Decides.{nat_tests}
 use Rattle.std.proofs.lemmas.Bool.{cases_lt}
-use Rattle.std.proofs.lemmas.Fmt.{decimal-digits_value}
+use Rattle.std.proofs.lemmas.Fmt.{decimal-digits_value, digits_value-decimal}
+use Rattle.std.proofs.lemmas.List.Elements.{All-cons, All-head, All-nil, All-tail}
 use Rattle.std.proofs.lemmas.List.{append-nil}
-use Rattle.std.proofs.lemmas.Option.{none-some, same_Some}
-use Rattle.fact_paths.specs.Cuts.{Lacks, after, cut}
+use Rattle.std.specs.List.{All, AllByRecursion, list_all, list_any}
+use Rattle.std.specs.Prelude.{MatchOption, codes, decimal, nat_lt}
+use Rattle.std.specs.Str.Parse.{digits_value}
+use Rattle.answers.specs.GivenLists.{IsBelow, IsWithout}
+use Rattle.answers.specs.Lists.{IsIn, IsNotIn}
+use Rattle.common_lemmas.proofs.Bools.{and_intro, both, is_not, neither_or, not_true, or_left, or_neither, or_right}
+use Rattle.common_lemmas.proofs.Numbers.{equal_number, same_number}
+use Rattle.fact_paths.proofs.CutLaws.{cut_some, front_lacks, uncut_lacks}
+use Rattle.fact_paths.specs.Cuts.{Lacks, cut}
 use Rattle.fact_paths.specs.Paths.{IsMemberNumber, SpellsMemberNumber}
-use Rattle.fact_paths.proofs.CutLaws.{after-append, after_some, cut_some, front_lacks, uncut_lacks}
-use Rattle.value_text.specs.MemberTexts.{printed_item, printed_rest}
-use Rattle.value_text.proofs.DigitLemmas.{own}
-use Rattle.script_lines.specs.declared.fault.LineFault.{LineFault}
+use Rattle.save_file.proofs.Lines.{cons_not_nil, cons_parts}
+use Rattle.save_file.proofs.SlotTexts.{item_lacks, same_parts, tail_of}
+use Rattle.save_file.specs.Reading.{IsNextNumber, ReadsMember, ReadsMembers, are_below, are_others}
 use Rattle.script_lines.specs.declared.fault.LineFault.TheVariants.{BadLine, NoMemory}
-use Rattle.save_file.specs.Reading.{IsNextNumber, ReadsMember, ReadsMembers}
-use Rattle.save_file.proofs.KeyedLines.{cons_not_nil, cons_parts}
-use Rattle.save_file.proofs.ListTexts.{item_lacks, same_parts, tail_of}
+use Rattle.script_lines.specs.declared.fault.LineFault.{LineFault}
+use Rattle.value_text.proofs.DigitLemmas.{own}
+use Rattle.value_text.specs.MemberTexts.{printed_item, printed_rest}
+
+-- ==== members that are read word by word, and the number of the next
 
 -- ---- members
 
@@ -84,15 +92,6 @@ module _ (tail found rest : List ℕ) (so_far : AreSoFar tail found rest) where
 
 -- ---- words
 
-pub no_sign : (word : List ℕ) → after (codes "#") word ≡ None → (m : ℕ) → IsMemberNumber m → word ≢ printed_item m
-no_sign word none m is e = none-some (decimal m) (sym none ∙ ap (after (codes "#")) e ∙ after-append (codes "#") (decimal m))
-
-pub no_digits : (word digits : List ℕ) → after (codes "#") word ≡ Some digits → ((k : ℕ) → ¬ SpellsMemberNumber digits k) → (m : ℕ) → IsMemberNumber m → word ≢ printed_item m
-no_digits word digits e none m is same = none m (is, same_Some digits (decimal m) (sym e ∙ ap (after (codes "#")) same ∙ after-append (codes "#") (decimal m)))
-
-pub word_spelled : (word digits : List ℕ) (m : ℕ) → after (codes "#") word ≡ Some digits → SpellsMemberNumber digits m → IsMemberNumber m × (word ≡ printed_item m)
-word_spelled word digits m e (is, spelled) = (is, after_some (codes "#") word digits e ∙ ap (λ (t : List ℕ). 35 ∷ t) spelled)
-
 -- where a word isn't read, no members have the text
 pub not_read : (tail found rest word behind new : List ℕ) → AreSoFar tail found rest → cut 32 rest ≡ Some (word, behind) → (fault : LineFault) → ReadsMember word found new (Err fault) → ReadsMembers tail (Err fault)
 not_read tail found rest word behind new so_far e BadLine reads = bad_word tail found rest so_far word behind e reads
@@ -114,6 +113,10 @@ shorter rest word behind e = omega (arith, ap length (cut_some 32 rest word behi
 
 -- ---- the next number
 
+-- it is told by its digits
+pub decimals_one : (n k : ℕ) → n ≤ 1000001 → k ≤ 1000001 → decimal n ≡ decimal k → n ≡ k
+decimals_one n k low high e = sym (digits_value-decimal own n (omega (arith, low))) ∙ ap (digits_value 10) e ∙ digits_value-decimal own k (omega (arith, high))
+
 -- the number behind the last member's
 pub last_next : decimal 1000001 ≡ codes "1000001"
 last_next = decimal-digits_value own (codes "1000001") refl (omega arith) (λ e. absurd (omega (arith, e))) (omega arith)
@@ -131,3 +134,58 @@ next_read digits other (Some k) h = ((h.0.0, omega (arith, h.0.1)), h.1)
 
 pub last_read : (digits : List ℕ) → digits ≡ codes "1000001" → IsNextNumber 1000001 × (digits ≡ decimal 1000001)
 last_read digits e = ((omega arith, omega arith), e ∙ sym last_next)
+
+-- ==== tests of members tell whether they are new
+
+-- ---- apart
+
+pub none_there : (others ms : List ℕ) → list_any (λ m. list_any (nat_eq m) others) ms ≡ false → (m : ℕ) → IsIn m ms → IsNotIn m others
+none_there others [] out m i = absurd cc
+none_there others (k ∷ ms) out m i = at (nat_eq m k) refl i (none_there others ms parts.1 m)
+  where
+    parts : (list_any (nat_eq k) others ≡ false) × (list_any (λ n. list_any (nat_eq n) others) ms ≡ false)
+    parts = or_neither (list_any (nat_eq k) others) (list_any (λ n. list_any (nat_eq n) others) ms) out
+
+    at : (b : Bool) → nat_eq m k ≡ b → (b || list_any (nat_eq m) ms) ≡ true → (IsIn m ms → IsNotIn m others) → IsNotIn m others
+    at true e i rest = ap (λ (n : ℕ). list_any (nat_eq n) others) (same_number m k e) ∙ parts.0
+    at false e i rest = rest i
+
+pub there_none : (others ms : List ℕ) → ((m : ℕ) → IsIn m ms → IsNotIn m others) → list_any (λ m. list_any (nat_eq m) others) ms ≡ false
+there_none others [] all = refl
+there_none others (k ∷ ms) all =
+    neither_or (list_any (nat_eq k) others) (list_any (λ n. list_any (nat_eq n) others) ms)
+    (all k (or_left (nat_eq k k) (list_any (nat_eq k) ms) (equal_number k)))
+    (there_none others ms (λ m i. all m (or_right (nat_eq m k) (list_any (nat_eq m) ms) i)))
+
+pub apart_by : (ms : List ℕ) (c : ℕ) (lists : List (ℕ × List ℕ)) → list_all (λ (e : ℕ × List ℕ). are_others ms e.1) lists ≡ true → All (λ (e : ℕ × List ℕ). IsWithout e.1 (c, ms)) lists
+apart_by ms c [] all = All-nil (λ (e : ℕ × List ℕ). IsWithout e.1 (c, ms))
+apart_by ms c (e ∷ es) all =
+    let parts = both (are_others ms e.1) (list_all (λ (f : ℕ × List ℕ). are_others ms f.1) es) all in
+    All-cons (λ (f : ℕ × List ℕ). IsWithout f.1 (c, ms)) e es (none_there ms e.1 (not_true (list_any (λ m. list_any (nat_eq m) ms) e.1) parts.0)) (apart_by ms c es parts.1)
+
+pub by_apart : (ms : List ℕ) (c : ℕ) (lists : List (ℕ × List ℕ)) → All (λ (e : ℕ × List ℕ). IsWithout e.1 (c, ms)) lists → list_all (λ (e : ℕ × List ℕ). are_others ms e.1) lists ≡ true
+by_apart ms c [] all = refl
+by_apart ms c (e ∷ es) all =
+    and_intro (are_others ms e.1) (list_all (λ (f : ℕ × List ℕ). are_others ms f.1) es)
+    (is_not (list_any (λ m. list_any (nat_eq m) ms) e.1) (there_none ms e.1 (All-head (λ (f : ℕ × List ℕ). IsWithout f.1 (c, ms)) e es all)))
+    (by_apart ms c es (All-tail (λ (f : ℕ × List ℕ). IsWithout f.1 (c, ms)) e es all))
+
+-- ---- below
+
+pub below_by : (next c : ℕ) (ms : List ℕ) → are_below next ms ≡ true → IsBelow next (c, ms)
+below_by next c [] all m i = absurd cc
+below_by next c (k ∷ ms) all m i = at (nat_eq m k) refl i (below_by next c ms parts.1 m)
+  where
+    parts : (nat_lt k next ≡ true) × (are_below next ms ≡ true)
+    parts = both (nat_lt k next) (are_below next ms) all
+
+    at : (b : Bool) → nat_eq m k ≡ b → (b || list_any (nat_eq m) ms) ≡ true → (IsIn m ms → m < next) → m < next
+    at true e i rest = let same : m ≡ k = same_number m k e in let low : nat_lt k next ≡ true = parts.0 in grind (arith, nat_tests)
+    at false e i rest = rest i
+
+pub by_below : (next c : ℕ) (ms : List ℕ) → IsBelow next (c, ms) → are_below next ms ≡ true
+by_below next c [] all = refl
+by_below next c (k ∷ ms) all =
+    and_intro (nat_lt k next) (are_below next ms)
+    (let low : k < next = all k (or_left (nat_eq k k) (list_any (nat_eq k) ms) (equal_number k)) in let test : nat_lt k next ≡ true = grind (arith, nat_tests) in test)
+    (by_below next c ms (λ m i. all m (or_right (nat_eq m k) (list_any (nat_eq m) ms) i)))

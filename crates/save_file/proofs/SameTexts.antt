@@ -1,198 +1,537 @@
--- A saved text tells its answers.
-use Rattle.std.proofs.Common.{◌≡◌, ◌≢◌, ◌⊎◌, ℕ, zero, suc, Bool, true, false, List, [], ◌∷◌, ◌++◌, length, Option, Some, None, inl, inr, refl, sym, ap, subst, ◌∙◌, arith}
-use Rattle.std.specs.Prelude.{codes, decimal}
-use Rattle.std.specs.List.{AllByRecursion, flat_map, list_any}
+-- The saved text of answers that fit an accepted dictionary: it is a carried text, it tells its answers, and its own dictionary keeps its lines, but for answers that are refused now.
+use Rattle.std.proofs.Common.{Bool, IsSome, List, None, Option, Some, [], ap, append_assoc, arith, bytes_eq, cond, false, if◌then◌else◌, is_none, is_some, length, map, nat_eq, refl, slice_get, subst, suc, sym, true, unwrap_or, ℕ, ◌&&◌, ◌++◌, ◌+◌, ◌<◌, ◌∙◌, ◌∷◌, ◌≡◌, ◌≤◌}
+use Rattle.std.proofs.lemmas.Bool.{false_from_ne_true, ltb-false}
+use Rattle.std.proofs.lemmas.List.Folds.{list_any-append}
+use Rattle.std.proofs.lemmas.List.{map-append}
 use Rattle.std.specs.FinMap as map
-use Rattle.std.proofs.lemmas.Option.{some_pair_parts}
+use Rattle.std.specs.List.{AllByRecursion, list_any}
+use Rattle.std.specs.Prelude.{IsTrue, codes, count_by, nat_lt, option_map, sum_by}
+use Rattle.answers.proofs.FiniteLaws.{same}
+use Rattle.answers.specs.Answered.{Answered, list_of, value_of}
+use Rattle.answers.specs.Lists.{IsIn}
+use Rattle.answers.specs.declared.edit.Side.TheVariants.{Answer, Override}
+use Rattle.answers.specs.declared.edit.Side.{Side}
+use Rattle.common_lemmas.proofs.Bools.{and_intro, both, or_left, or_neither, or_right}
+use Rattle.common_lemmas.proofs.Bytes.{equal_bytes}
+use Rattle.common_lemmas.proofs.Numbers.{equal_number, same_number}
+use Rattle.common_lemmas.proofs.Options.{mapped}
+use Rattle.dict_tree.specs.Dictionary.{Dictionary as Tree, is_collection as is_collection_type, too_many}
+use Rattle.dict_tree.specs.Facts.{Fact, fact_size}
+use Rattle.dict_tree.specs.Finding.{HasPath, fact_at}
+use Rattle.dictionary.proofs.HomeLaws.{home_is_collection, text_spells}
+use Rattle.dictionary.proofs.SlotLaws.{fact_of_standing, slot_same-itself}
+use Rattle.dictionary.proofs.SlotTextLaws.{member_below, slot_short}
+use Rattle.dictionary.specs.Accepted.{Accepted, IsAccepted, names_of}
+use Rattle.dictionary.specs.Fits.{AnswersFit, is_list, opens_of, takes}
+use Rattle.dictionary.specs.Homes.{home}
+use Rattle.dictionary.specs.Reading.{slot}
+use Rattle.dictionary.specs.SlotText.{IsSlot, slot_path, slot_path_of, slot_text}
+use Rattle.dictionary.specs.Slots.{is_member, slot_same, stands}
+use Rattle.evaluation.proofs.MemberLaws.{member_list-length}
+use Rattle.fact_paths.specs.Names.{IsName}
+use Rattle.fact_paths.specs.Paths.{IsSlotPath, slot_path_text}
+use Rattle.fact_paths.specs.declared.fact_path.FactPath.TheVariants as facts_by
+use Rattle.fact_paths.specs.declared.fact_path.FactPath.{FactPath}
+use Rattle.fact_paths.specs.declared.slot_path.SlotPath.TheVariants as paths
+use Rattle.fact_paths.specs.declared.slot_path.SlotPath.TheVariants.{Global}
+use Rattle.fact_paths.specs.declared.slot_path.SlotPath.{SlotPath}
 use Rattle.fact_values.specs.declared.slot.Slot.{Slot}
 use Rattle.fact_values.specs.declared.value.Value.{Value}
-use Rattle.value_text.specs.Enums.{AreLists}
-use Rattle.value_text.specs.Values.{printed}
-use Rattle.script_lines.specs.Lines.{lines_of}
-use Rattle.answers.specs.Answered.{Answered, value_of}
-use Rattle.answers.specs.declared.edit.Side.{Side}
-use Rattle.answers.specs.declared.edit.Side.TheVariants.{Answer, Override}
-use Rattle.answers.proofs.FiniteLaws.{same}
-use Rattle.dictionary.specs.Accepted.{Accepted, IsAccepted}
-use Rattle.dictionary.specs.Fits.{AnswersFit, is_list}
-use Rattle.dictionary.specs.Slots.{slot_same}
-use Rattle.dictionary.specs.SlotText.{slot_text}
 use Rattle.graph_session.specs.Kinds.{value_spelled}
-use Rattle.save_file.specs.Following.{AreSlots, behind_lists, behind_opening, behind_side}
-use Rattle.save_file.specs.SavedText.{counted, entries, entry_line, entry_lines, entry_lines_of, facts, list_line, list_lines, list_lines_of, lists, next_line, opening_line, saved, saved_lines, side_word, slots}
-use Rattle.save_file.proofs.EntriesFollow.{at_one, each, entry_cut, side_first}
-use Rattle.save_file.proofs.EntryLaws.{entry_slot, members_numbered, open_list, open_list_members}
-use Rattle.save_file.proofs.KeyedLines.{HasOneAtMost, HasOther, cons_not_nil, cons_parts, skip}
-use Rattle.save_file.proofs.ListsEnd.{decimals_one}
-use Rattle.save_file.proofs.ListsFollow.{at_counted, each_counted, line_parts, list_within, no_list_at}
-use Rattle.save_file.proofs.ListTexts.{numbers_of, same_members}
-use Rattle.save_file.proofs.SameAnswers.{same_answers}
-use Rattle.save_file.proofs.SavedLines.{all_lines}
-use Rattle.save_file.proofs.SlotsOnce.{all_slots}
-use Rattle.save_file.proofs.SlotsThere.{none_outside, same_slots}
-use Rattle.save_file.proofs.SlotTexts.{one_slot, same_behind}
-use Rattle.save_file.proofs.ValueTexts.{printed_read}
-use Rattle.save_file.proofs.WordLaws.{entry_shown, first, list_shown, no_list_behind, none_behind, one_entry, one_list}
-use Rattle.save_file.proofs.TextLaws.{whole_lines}
+use Rattle.graph_session.specs.Naming.{fact_of, named_fact, path_of}
+use Rattle.graph_session.specs.Refusals.{first_of, limit_refusals, value_refusals, when}
+use Rattle.graph_session.specs.Rules.{Rules, tree_of}
+use Rattle.graph_session.specs.declared.reply.Refusal.TheVariants.{BadValue}
+use Rattle.graph_session.specs.declared.reply.Refusal.{Refusal}
+use Rattle.save_file.proofs.CarriedAnswers.{named_kept}
+use Rattle.save_file.proofs.CarriedEnds.{are_lines}
+use Rattle.save_file.proofs.CarriedLines.{entry_pieces, few_lists, higher, in_order, names_other, shares_none}
+use Rattle.save_file.proofs.CarryLaws.{one_text, same_options}
+use Rattle.save_file.proofs.EntriesFollow.{at_one}
+use Rattle.save_file.proofs.LineTexts.{IsLine, entry_short, list_short, rest_short, value_short}
+use Rattle.save_file.proofs.Lines.{across, all_shown, any_counted, any_keys, counted_rise, each_shown, few_shown, map_shown, one_of_all, onto, pairs-append, pairs_shown, shown}
+use Rattle.save_file.proofs.ListsFollow.{at_counted, list_within}
+use Rattle.save_file.proofs.SlotTexts.{entry_slot, found_at, list_slot, members_numbered, numbers_of, of_type, one_slot, open_list, open_list_members, path_parts, printed_line, printed_read, same_behind}
+use Rattle.save_file.proofs.SlotsLeft.{all_slots, none_outside, same_answers}
+use Rattle.save_file.proofs.TextLaws.{all-append, all_behind, in_front}
+use Rattle.save_file.specs.CarriedText.{CarriedLine, CarriedText, HasItsForm, IsBelowNext, IsCarried, IsInOrder, IsShort, NamesOther, Pairs, SharesNone, carried, carried_lines, collection, entry, has_its_member, line_text, lists_member, lists_member_of, rank}
+use Rattle.save_file.specs.Carrying.{IsRefusedAnswer, OwnLinesAreKept, SavedTextsAreCarried, keeps}
+use Rattle.save_file.specs.Following.{AreSlots}
+use Rattle.save_file.specs.Loading.{SavedTextsTellAnswers}
+use Rattle.save_file.specs.SavedText.{end_line, entries, entry_line, entry_lines, entry_lines_of, facts, list_line, list_lines, list_lines_of, lists, next_line, opening_line, saved, saved_lines, side_word, slots}
+use Rattle.script_lines.specs.Joined.{joined}
+use Rattle.value_text.proofs.EnumLemmas.{name_short}
+use Rattle.value_text.proofs.PrintedTexts.{value_spelled as printed_spelled}
+use Rattle.value_text.specs.Enums.{AreLists}
+use Rattle.value_text.specs.MemberTexts.{printed_rest}
+use Rattle.value_text.specs.Values.{printed}
 
--- ---- keys with one line at most
+-- ==== the saved text of answers that fit an accepted dictionary is a carried text
 
--- a key's line is that of no later key, and doesn't begin what stands behind them
-abbrev IsApart : {K : Type 0} → (K → List (List ℕ)) → (K → List (List ℕ)) → List (List ℕ) → List K → Type 0
-IsApart f g tail [] = Unit {0}
-IsApart f g tail (k ∷ ks) = ((l : List ℕ) → f k ≡ l ∷ [] → AllByRecursion (HasOther g l) ks × ((more : List (List ℕ)) → tail ≢ l ∷ more)) × IsApart f g tail ks
+-- ---- names and paths
 
-same_keys : {K : Type 0} (f g : K → List (List ℕ)) → HasOneAtMost f → HasOneAtMost g → (ks : List K) (tf tg : List (List ℕ)) → IsApart f g tg ks → IsApart g f tf ks
-    → flat_map f ks ++ tf ≡ flat_map g ks ++ tg → AllByRecursion (λ (k : K). f k ≡ g k) ks × (tf ≡ tg)
-same_keys f g one other [] tf tg left right e = (tt, e)
-same_keys {K = K} f g one other (k ∷ ks) tf tg left right e = at (one k) (other k) (same_keys f g one other ks tf tg left.1 right.1)
+abbrev name_in : Option SlotPath → List ℕ
+name_in None = []
+name_in (Some (paths.Global n)) = n
+name_in (Some (paths.Member c k n)) = []
+
+-- a path without a member
+global_path : (path : SlotPath) (p : FactPath) → path ≡ slot_path_of 0 p → IsSlotPath path → (n : List ℕ) × (path ≡ paths.Global n)
+global_path (paths.Global n) p e is = (n, refl)
+global_path (paths.Member c k n) (facts_by.Global m) e is = absurd cc
+global_path (paths.Member c k n) (facts_by.Member b m) e is = let none : k ≡ 0 = cc in absurd (omega (arith, none, is.1.0))
+
+-- ---- collections are few
+
+third_is_not : (a b c : Bool) (rest : Option ℕ) → cond a (Some 1) (cond b (Some 2) (cond c (Some 3) rest)) ≡ None → c ≡ false
+third_is_not true b c rest h = absurd cc
+third_is_not false true c rest h = absurd cc
+third_is_not false false true rest h = absurd cc
+third_is_not false false false rest h = refl
+
+few_collections : (d : Tree) → too_many d ≡ None → count_by (λ (f : Fact). is_collection_type f.stated) d.facts ≤ 32
+few_collections d h =
+    ltb-false 32 (count_by (λ (f : Fact). is_collection_type f.stated) d.facts)
+    (third_is_not (nat_lt 2000 (length d.facts)) (nat_lt 40000 (sum_by fact_size d.facts)) (nat_lt 32 (count_by (λ (f : Fact). is_collection_type f.stated) d.facts)) _ h)
+
+opened : (o : Option Fact) → opens_of o ≡ true → (f : Fact) × (o ≡ Some f) × (is_collection_type f.stated ≡ true)
+opened None h = absurd cc
+opened (Some f) h = (f, refl, h)
+
+-- ---- members
+
+each_in : (P : ℕ → Type 0) (ms : List ℕ) → ((m : ℕ) → IsIn m ms → P m) → AllByRecursion P ms
+each_in P [] all = tt
+each_in P (m ∷ ms) all = (
+  all m (or_left (nat_eq m m) (list_any (nat_eq m) ms) (equal_number m)),
+  each_in P ms (λ k i. all k (or_right (nat_eq k m) (list_any (nat_eq k) ms) i)),
+)
+
+none_same : {X : Type 0} (p : X → Bool) (xs : List X) → list_any p xs ≡ false → AllByRecursion (λ x. p x ≡ false) xs
+none_same p [] out = tt
+none_same p (x ∷ xs) out = let parts = or_neither (p x) (list_any p xs) out in (parts.0, none_same p xs parts.1)
+
+apart_slots : (d : Tree) (a : Answered) (ss : List Slot) → AreSlots d a ss → Pairs (λ (s t : Slot). slot_same s t ≡ false) ss
+apart_slots d a [] all = tt
+apart_slots d a (s ∷ ss) all = (none_same (slot_same s) ss all.1, apart_slots d a ss all.2)
+
+-- ---- the lines
+
+abbrev pub name_of : Tree → ℕ → List ℕ
+name_of d c = name_in (slot_path d (slot c 0))
+
+abbrev pub path_at : Tree → Slot → SlotPath
+path_at d s = unwrap_or (slot_path d s) (paths.Global [])
+
+abbrev pub list_at : Tree → Answered → ℕ → Option CarriedLine
+list_at d a c = option_map (collection (name_of d c)) (map.get a.lists c)
+
+abbrev pub entry_at : Tree → Answered → Side → Slot → Option CarriedLine
+entry_at d a side s = option_map (λ (v : Value). entry side (path_at d s) (printed d.enums v)) (value_of side a s)
+
+abbrev pub list_part : Tree → Answered → List CarriedLine
+list_part d a = shown (list_at d a) (facts d)
+
+abbrev pub side_part : Tree → Answered → Side → List CarriedLine
+side_part d a side = shown (entry_at d a side) (slots d a)
+
+abbrev pub behind : Tree → Answered → List CarriedLine
+behind d a = side_part d a Answer ++ side_part d a Override
+
+abbrev pub all_parts : Tree → Answered → List CarriedLine
+all_parts d a = list_part d a ++ behind d a
+
+abbrev pub own_text : Tree → Answered → CarriedText
+own_text d a = record { next = a.next; lines = all_parts d a }
+
+module _ (names : List (List ℕ)) (d : Accepted) (is : IsAccepted names d) where
+  -- the path of a collection, and of another slot
+  pub spelled_list : (c : ℕ) → IsTrue (is_list d.tree c) → IsName (name_of d.tree c) × ((slot_text d.tree (slot c 0) ≡ 47 ∷ name_of d.tree c) × (slot_path d.tree (slot c 0) ≡ Some (paths.Global (name_of d.tree c))))
+  spelled_list c list =
+      let spelled = text_spells names d (slot c 0) is (list_slot names d is c list) in
+      let parts = path_parts names d is (slot c 0) spelled.0 spelled.1 in
+      let global = global_path spelled.0 parts.0 parts.2 spelled.2.0 in
+      let same : global.0 ≡ name_of d.tree c = sym (ap name_in (spelled.1 ∙ ap Some global.1)) in
+      let path : spelled.0 ≡ paths.Global (name_of d.tree c) = global.1 ∙ ap (λ (n : List ℕ). paths.Global n) same in
+      (subst IsSlotPath path spelled.2.0, (spelled.2.1 ∙ ap slot_path_text path, spelled.1 ∙ ap Some path))
+
+  pub spelled_slot : (s : Slot) → IsSlot d.tree s → IsSlotPath (path_at d.tree s) × ((slot_text d.tree s ≡ slot_path_text (path_at d.tree s)) × (slot_path d.tree s ≡ Some (path_at d.tree s)))
+  spelled_slot s there =
+      let spelled = text_spells names d s is there in
+      let same : spelled.0 ≡ path_at d.tree s = sym (ap (λ (o : Option SlotPath). unwrap_or o (paths.Global [])) spelled.1) in
+      (subst IsSlotPath same spelled.2.0, (spelled.2.1 ∙ ap slot_path_text same, spelled.1 ∙ ap Some same))
+
+  -- which tell them
+  pub one_name : (c k : ℕ) → IsTrue (is_list d.tree c) → IsTrue (is_list d.tree k) → name_of d.tree c ≡ name_of d.tree k → c ≡ k
+  one_name c k list other e =
+      ap (λ (s : Slot). s.fact) (one_slot names d is (slot c 0) (slot k 0) (list_slot names d is c list) (list_slot names d is k other)
+      ((spelled_list c list).1.0 ∙ ap (λ (n : List ℕ). 47 ∷ n) e ∙ sym (spelled_list k other).1.0))
+
+  pub one_path : (s t : Slot) → IsSlot d.tree s → IsSlot d.tree t → slot_path_text (path_at d.tree s) ≡ slot_path_text (path_at d.tree t) → s ≡ t
+  one_path s t there other e = one_slot names d is s t there other ((spelled_slot s there).1.0 ∙ e ∙ sym (spelled_slot t other).1.0)
+
+module _ (names : List (List ℕ)) (d : Accepted) (is : IsAccepted names d) (enums : AreLists d.tree.enums) (a : Answered) (fit : AnswersFit d.tree a) where
+  -- ---- the line of a list
+
+  list_of_name : (c : ℕ) (ms : List ℕ) → map.get a.lists c ≡ Some ms → IsName (name_of d.tree c) × ((slot_text d.tree (slot c 0) ≡ 47 ∷ name_of d.tree c) × (slot_path d.tree (slot c 0) ≡ Some (paths.Global (name_of d.tree c))))
+  list_of_name c ms has = spelled_list names d is c (open_list d.tree a fit c ms has)
+
+  list_text : (c : ℕ) (ms : List ℕ) → map.get a.lists c ≡ Some ms → line_text (collection (name_of d.tree c) ms) ≡ list_line d.tree c ms
+  list_text c ms has = ap (λ (t : List ℕ). codes "list " ++ (t ++ printed_rest ms)) (sym (list_of_name c ms has).1.0)
+
+  -- what is true of the line of each list that is open
+  of_lists : (P : CarriedLine → Type 0) → ((c : ℕ) (ms : List ℕ) → map.get a.lists c ≡ Some ms → P (collection (name_of d.tree c) ms)) → AllByRecursion P (list_part d.tree a)
+  of_lists P each =
+      all_shown (list_at d.tree a) (λ (c : ℕ). Unit {0}) P
+      (λ c x all e. let parts = mapped (collection (name_of d.tree c)) (map.get a.lists c) x e in subst P (sym parts.2) (each c parts.0 parts.1))
+      (facts d.tree) (any_keys (facts d.tree))
+
+  list_members : (c : ℕ) (ms : List ℕ) → map.get a.lists c ≡ Some ms → (m : ℕ) → IsIn m ms → IsIn m (list_of a c)
+  list_members c ms has m i = subst (IsIn m) (sym (ap (λ (o : Option (List ℕ)). unwrap_or o []) has)) i
+
+  -- ---- the line of an entry
+
+  spelled_entry : (side : Side) (s : Slot) (v : Value) → value_of side a s ≡ Some v → IsSlotPath (path_at d.tree s) × ((slot_text d.tree s ≡ slot_path_text (path_at d.tree s)) × (slot_path d.tree s ≡ Some (path_at d.tree s)))
+  spelled_entry side s v has = spelled_slot names d is s (entry_slot d.tree a fit side s v has)
+
+  entry_text : (side : Side) (s : Slot) (v : Value) → value_of side a s ≡ Some v → line_text (entry side (path_at d.tree s) (printed d.tree.enums v)) ≡ entry_line side d.tree s v
+  entry_text side s v has =
+      entry_pieces side (path_at d.tree s) (printed d.tree.enums v)
+      ∙ ap (λ (t : List ℕ). side_word side ++ (t ++ 32 ∷ printed d.tree.enums v)) (sym (spelled_entry side s v has).1.0)
+
+  of_side : (P : CarriedLine → Type 0) (side : Side) → ((s : Slot) (v : Value) → value_of side a s ≡ Some v → P (entry side (path_at d.tree s) (printed d.tree.enums v))) → AllByRecursion P (side_part d.tree a side)
+  of_side P side each =
+      all_shown (entry_at d.tree a side) (λ (s : Slot). Unit {0}) P
+      (λ s x all e. let parts = mapped (λ (v : Value). entry side (path_at d.tree s) (printed d.tree.enums v)) (value_of side a s) x e in subst P (sym parts.2) (each s parts.0 parts.1))
+      (slots d.tree a) (any_keys (slots d.tree a))
+
+  pub of_all : (P : CarriedLine → Type 0) → ((c : ℕ) (ms : List ℕ) → map.get a.lists c ≡ Some ms → P (collection (name_of d.tree c) ms))
+      → ((side : Side) (s : Slot) (v : Value) → value_of side a s ≡ Some v → P (entry side (path_at d.tree s) (printed d.tree.enums v))) → AllByRecursion P (all_parts d.tree a)
+  of_all P lists entries =
+      all-append P (list_part d.tree a) (behind d.tree a) (of_lists P lists)
+      (all-append P (side_part d.tree a Answer) (side_part d.tree a Override) (of_side P Answer (entries Answer)) (of_side P Override (entries Override)))
+
+  -- ---- what each line keeps
+
+  forms : AllByRecursion HasItsForm (all_parts d.tree a)
+  forms =
+      of_all HasItsForm (λ c ms has. ((list_of_name c ms has).0, open_list_members d.tree a fit c ms has))
+      (λ side s v has. (let line = printed_line names d is enums a fit side s v has in ((spelled_entry side s v has).0, line.utf8, line.no_newline)))
+
+  short_list : (c : ℕ) (ms : List ℕ) → map.get a.lists c ≡ Some ms → IsShort (collection (name_of d.tree c) ms)
+  short_list c ms has =
+      let members = open_list_members d.tree a fit c ms has in
+      list_short (name_of d.tree c) ms (name_short (name_of d.tree c) (list_of_name c ms has).0) (rest_short ms (numbers_of ms (members_numbered ms members))) (member_list-length ms members)
+
+  short_entry : (side : Side) (s : Slot) (v : Value) → value_of side a s ≡ Some v → IsShort (entry side (path_at d.tree s) (printed d.tree.enums v))
+  short_entry side s v has =
+      let typed = of_type names d is enums a fit side s v has in
+      entry_short side (path_at d.tree s) (printed d.tree.enums v)
+      (subst (λ (t : List ℕ). length t ≤ 140) (spelled_entry side s v has).1.0 (slot_short names d is s (entry_slot d.tree a fit side s v has)))
+      (value_short d.tree.enums enums typed.0 (printed d.tree.enums v) v (printed_spelled d.tree.enums typed.0 v typed.2))
+
+  short : AllByRecursion IsShort (all_parts d.tree a)
+  short = of_all IsShort short_list short_entry
+
+  below : AllByRecursion (IsBelowNext a.next) (all_parts d.tree a)
+  below =
+      of_all (IsBelowNext a.next) (λ c ms has. each_in (λ m. m < a.next) ms (λ m i. member_below a fit.well c m (list_members c ms has m i)))
+      (λ side s v has. tt)
+
+  -- ---- what two lines keep
+
+  list_rank : AllByRecursion (λ x. rank x ≡ 0) (list_part d.tree a)
+  list_rank = of_lists (λ x. rank x ≡ 0) (λ c ms has. refl)
+
+  answer_rank : AllByRecursion (λ x. rank x ≡ 1) (side_part d.tree a Answer)
+  answer_rank = of_side (λ x. rank x ≡ 1) Answer (λ s v has. refl)
+
+  override_rank : AllByRecursion (λ x. rank x ≡ 2) (side_part d.tree a Override)
+  override_rank = of_side (λ x. rank x ≡ 2) Override (λ s v has. refl)
+
+  behind_rank : AllByRecursion (λ x. 1 ≤ rank x) (behind d.tree a)
+  behind_rank = all-append (λ x. 1 ≤ rank x) (side_part d.tree a Answer) (side_part d.tree a Override) (higher 1 1 (omega arith) (side_part d.tree a Answer) answer_rank) (higher 1 2 (omega arith) (side_part d.tree a Override) override_rank)
+
+  -- within the lists, within each side, and across
+  pairs_of : (R : CarriedLine → CarriedLine → Type 0) → Pairs R (list_part d.tree a) → ((side : Side) → Pairs R (side_part d.tree a side))
+      → ((x y : CarriedLine) → rank x ≡ 0 → 1 ≤ rank y → R x y) → ((x y : CarriedLine) → rank x ≡ 1 → rank y ≡ 2 → R x y) → Pairs R (all_parts d.tree a)
+  pairs_of R lists sides to_entries to_overrides =
+      pairs-append R (list_part d.tree a) (behind d.tree a) lists
+      (pairs-append R (side_part d.tree a Answer) (side_part d.tree a Override) (sides Answer) (sides Override) (across R (λ x. rank x ≡ 1) (λ y. rank y ≡ 2) to_overrides (side_part d.tree a Answer) (side_part d.tree a Override) answer_rank override_rank))
+      (across R (λ x. rank x ≡ 0) (λ y. 1 ≤ rank y) to_entries (list_part d.tree a) (behind d.tree a) list_rank behind_rank)
+
+  two_lists : (R : CarriedLine → CarriedLine → Type 0) → ((c k : ℕ) (ms ns : List ℕ) → c < k → map.get a.lists c ≡ Some ms → map.get a.lists k ≡ Some ns → R (collection (name_of d.tree c) ms) (collection (name_of d.tree k) ns)) → Pairs R (list_part d.tree a)
+  two_lists R each =
+      pairs_shown (list_at d.tree a) (λ c k. c < k) R
+      (λ c k x y low e f.
+      (let left = mapped (collection (name_of d.tree c)) (map.get a.lists c) x e in
+      let right = mapped (collection (name_of d.tree k)) (map.get a.lists k) y f in
+      subst (λ (z : CarriedLine). R z y) (sym left.2) (subst (R (collection (name_of d.tree c) left.0)) (sym right.2) (each c k left.0 right.0 low left.1 right.1))))
+      (facts d.tree) (counted_rise 1 (length d.tree.facts))
+
+  two_entries : (R : CarriedLine → CarriedLine → Type 0) (side : Side)
+      → ((s t : Slot) (v w : Value) → slot_same s t ≡ false → value_of side a s ≡ Some v → value_of side a t ≡ Some w → R (entry side (path_at d.tree s) (printed d.tree.enums v)) (entry side (path_at d.tree t) (printed d.tree.enums w)))
+      → Pairs R (side_part d.tree a side)
+  two_entries R side each =
+      pairs_shown (entry_at d.tree a side) (λ (s t : Slot). slot_same s t ≡ false) R
+      (λ s t x y other e f.
+      (let left = mapped (λ (v : Value). entry side (path_at d.tree s) (printed d.tree.enums v)) (value_of side a s) x e in
+      let right = mapped (λ (v : Value). entry side (path_at d.tree t) (printed d.tree.enums v)) (value_of side a t) y f in
+      subst (λ (z : CarriedLine). R z y) (sym left.2) (subst (R (entry side (path_at d.tree s) (printed d.tree.enums left.0))) (sym right.2) (each s t left.0 right.0 other left.1 right.1))))
+      (slots d.tree a) (apart_slots d.tree a (slots d.tree a) (all_slots d.tree a fit.well))
+
+  order : Pairs IsInOrder (all_parts d.tree a)
+  order =
+      pairs_of IsInOrder (two_lists IsInOrder (λ c k ms ns low e f. let equal : 0 ≤ 0 = omega arith in equal))
+      (λ side. two_entries IsInOrder side (λ s t v w other e f. same_side side (path_at d.tree s) (path_at d.tree t) (printed d.tree.enums v) (printed d.tree.enums w)))
+      (λ x y e low. omega (arith, e)) (in_order 1 2 (omega arith))
+    where
+      same_side : (side : Side) (p q : SlotPath) (t u : List ℕ) → IsInOrder (entry side p t) (entry side q u)
+      same_side Answer p q t u = omega arith
+      same_side Override p q t u = omega arith
+
+  other_list : (c k : ℕ) (ms ns : List ℕ) → c < k → map.get a.lists c ≡ Some ms → map.get a.lists k ≡ Some ns → NamesOther (collection (name_of d.tree c) ms) (collection (name_of d.tree k) ns)
+  other_list c k ms ns low has also same =
+      let fact = one_name names d is c k (open_list d.tree a fit c ms has) (open_list d.tree a fit k ns also) (same_behind (codes "list /") (name_of d.tree c) (name_of d.tree k) same) in
+      omega (arith, low, fact)
+
+  other_entry : (side : Side) (s t : Slot) (v w : Value) → slot_same s t ≡ false → value_of side a s ≡ Some v → value_of side a t ≡ Some w
+      → NamesOther (entry side (path_at d.tree s) (printed d.tree.enums v)) (entry side (path_at d.tree t) (printed d.tree.enums w))
+  other_entry side s t v w other has also same =
+      let one = one_path names d is s t (entry_slot d.tree a fit side s v has) (entry_slot d.tree a fit side t w also) (same_behind (side_word side) (slot_path_text (path_at d.tree s)) (slot_path_text (path_at d.tree t)) same) in
+      let itself : slot_same s t ≡ true = ap (slot_same s) (sym one) ∙ slot_same-itself s in
+      absurd cc
+
+  once : Pairs NamesOther (all_parts d.tree a)
+  once =
+      pairs_of NamesOther (two_lists NamesOther other_list) (λ side. two_entries NamesOther side (other_entry side))
+      (λ x y e low. names_other 0 (rank y) (omega (arith, low)) x y e refl) (names_other 1 2 (omega arith))
+
+  separate : Pairs SharesNone (all_parts d.tree a)
+  separate =
+      pairs_of SharesNone
+      (two_lists SharesNone (λ c k ms ns low has also m i. false_from_ne_true (list_any (nat_eq m) ns) (λ j. (let same = fit.well.apart c k m (list_members c ms has m i) (list_members k ns also m j) in omega (arith, low, same)))))
+      (λ side. two_entries SharesNone side (λ s t v w other e f m i. refl))
+      (λ x y e low. shares_none (rank y) (omega (arith, low)) x y refl) (λ x y e f. shares_none 2 (omega arith) x y f)
+
+  -- ---- what all lines keep
+
+  few : length (list_part d.tree a) ≤ 32
+  few =
+      let counted = few_shown (list_at d.tree a) (λ (f : Fact). is_collection_type f.stated) 1 d.tree.facts
+      (λ i x e.
+      (let one : suc i ≡ 1 + i = omega arith in
+      let parts = mapped (collection (name_of d.tree (suc i))) (map.get a.lists (suc i)) x (ap (λ (c : ℕ). list_at d.tree a c) one ∙ e) in
+      opened (slice_get d.tree.facts i) (open_list d.tree a fit (suc i) parts.0 parts.1))) in
+      omega (arith, counted, few_collections d.tree is.valid.limits.many)
+
+  -- the list of a slot's member
+  listed : (c : List ℕ) (k h : ℕ) → HasPath d.tree.facts (facts_by.Global c) h → is_member a h k ≡ true → list_any (lists_member c k) (all_parts d.tree a) ≡ true
+  listed c k h has i = at (map.get a.lists h) refl
+    where
+      named : name_of d.tree h ≡ c
+      named = let path : slot_path d.tree (slot h 0) ≡ Some (paths.Global c) = rw (has.is_there, has.path_is) refl in ap name_in path
+
+      at : (o : Option (List ℕ)) → map.get a.lists h ≡ o → list_any (lists_member c k) (all_parts d.tree a) ≡ true
+      at None e = absurd (let none : is_member a h k ≡ false = ap (λ (o : Option (List ℕ)). list_any (nat_eq k) (unwrap_or o [])) e in cc)
+      at (Some ms) e =
+          let within = list_within d.tree h (open_list d.tree a fit h ms e) in
+          let there : list_any (nat_eq k) ms ≡ true = sym (ap (λ (o : Option (List ℕ)). list_any (nat_eq k) (unwrap_or o [])) e) ∙ i in
+          let passes : lists_member c k (collection (name_of d.tree h) ms) ≡ true = and_intro (bytes_eq (name_of d.tree h) c) (list_any (nat_eq k) ms) (ap (bytes_eq (name_of d.tree h)) (sym named) ∙ equal_bytes (name_of d.tree h)) there in
+          list_any-append (lists_member c k) (list_part d.tree a) (behind d.tree a)
+          ∙ or_left (list_any (lists_member c k) (list_part d.tree a)) (list_any (lists_member c k) (behind d.tree a))
+          (any_counted (list_at d.tree a) (lists_member c k) 1 (length d.tree.facts) h (collection (name_of d.tree h) ms) (omega (arith, within.0)) (omega (arith, within.1)) (ap (option_map (collection (name_of d.tree h))) e) passes)
+
+  at_path : (side : Side) (s : Slot) (v : Value) → value_of side a s ≡ Some v → (p : FactPath) → HasPath d.tree.facts p s.fact → path_at d.tree s ≡ slot_path_of s.member p → lists_member_of (all_parts d.tree a) (path_at d.tree s) ≡ true
+  at_path side s v has (facts_by.Global n) there e = ap (lists_member_of (all_parts d.tree a)) e
+  at_path side s v has (facts_by.Member c n) there e =
+      ap (lists_member_of (all_parts d.tree a)) e ∙ listed c s.member (home d.tree s.fact) (home_is_collection names d s.fact c n is there).0.here (at (nat_eq (home d.tree s.fact) 0) refl standing.2)
+    where
+      standing : (f : Fact) × (fact_at d.tree.facts s.fact ≡ Some f) × IsTrue (if nat_eq (home d.tree s.fact) 0 then nat_eq s.member 0 else is_member a (home d.tree s.fact) s.member)
+      standing = fact_of_standing d.tree a s (both (stands d.tree a s) (takes side d.tree s.fact) (fit.placed side s (ap is_some has))).0
+
+      some : 1 ≤ s.member
+      some = let path : IsSlotPath (paths.Member c s.member n) = subst IsSlotPath e (spelled_entry side s v has).0 in path.1.0
+
+      at : (b : Bool) → nat_eq (home d.tree s.fact) 0 ≡ b → IsTrue (if b then nat_eq s.member 0 else is_member a (home d.tree s.fact) s.member) → is_member a (home d.tree s.fact) s.member ≡ true
+      at true h i = absurd (let none : s.member ≡ 0 = same_number s.member 0 i in omega (arith, some, none))
+      at false h i = i
+
+  member_listed : (side : Side) (s : Slot) (v : Value) → value_of side a s ≡ Some v → lists_member_of (all_parts d.tree a) (path_at d.tree s) ≡ true
+  member_listed side s v has =
+      let parts = path_parts names d is s (path_at d.tree s) (spelled_entry side s v has).1.1 in
+      at_path side s v has parts.0 parts.1 parts.2
+
+  -- ---- the text
+
+  pub is_carried : IsCarried (own_text d.tree a)
+  is_carried = record {
+    number = (fit.from_one.low, fit.well.high);
+    forms = forms;
+    short = short;
+    below = below;
+    order = order;
+    once = once;
+    apart = separate;
+    few = let lists = few in omega (arith, lists, few_lists (list_part d.tree a) (behind d.tree a) behind_rank);
+    members = of_all (λ line. IsTrue (has_its_member (all_parts d.tree a) line)) (λ c ms has. refl) member_listed;
+  }
+
+  same_list : (c : ℕ) → map line_text (onto (list_at d.tree a c) []) ≡ list_lines d.tree a c
+  same_list c = at (map.get a.lists c) refl
+    where
+      at : (o : Option (List ℕ)) → map.get a.lists c ≡ o → map line_text (onto (option_map (collection (name_of d.tree c)) o) []) ≡ list_lines_of d.tree c o
+      at None e = refl
+      at (Some ms) e = ap (λ (l : List ℕ). l ∷ []) (list_text c ms e)
+
+  same_entry : (side : Side) (s : Slot) → map line_text (onto (entry_at d.tree a side s) []) ≡ entry_lines side d.tree a s
+  same_entry side s = at (value_of side a s) refl
+    where
+      at : (o : Option Value) → value_of side a s ≡ o → map line_text (onto (option_map (λ (v : Value). entry side (path_at d.tree s) (printed d.tree.enums v)) o) []) ≡ entry_lines_of side d.tree s o
+      at None e = refl
+      at (Some v) e = ap (λ (l : List ℕ). l ∷ []) (entry_text side s v e)
+
+  same_lines : map line_text (all_parts d.tree a) ≡ lists d.tree a ++ (entries Answer d.tree a ++ entries Override d.tree a)
+  same_lines =
+      map-append line_text (list_part d.tree a) (behind d.tree a)
+      ∙ ap (λ (ls : List (List ℕ)). ls ++ map line_text (behind d.tree a)) (map_shown (list_at d.tree a) line_text (list_lines d.tree a) same_list (facts d.tree))
+      ∙ ap (λ (ls : List (List ℕ)). lists d.tree a ++ ls)
+      (map-append line_text (side_part d.tree a Answer) (side_part d.tree a Override)
+      ∙ ap (λ (ls : List (List ℕ)). ls ++ map line_text (side_part d.tree a Override)) (map_shown (entry_at d.tree a Answer) line_text (entry_lines Answer d.tree a) (same_entry Answer) (slots d.tree a))
+      ∙ ap (λ (ls : List (List ℕ)). entries Answer d.tree a ++ ls) (map_shown (entry_at d.tree a Override) line_text (entry_lines Override d.tree a) (same_entry Override) (slots d.tree a)))
+
+  same_text : saved_lines d.tree a ≡ carried_lines (own_text d.tree a)
+  same_text =
+      sym
+      (ap (λ (ls : List (List ℕ)). opening_line ∷ next_line a.next ∷ (ls ++ end_line ∷ [])) same_lines
+      ∙ ap (λ (ls : List (List ℕ)). opening_line ∷ next_line a.next ∷ ls)
+      (append_assoc (lists d.tree a) (entries Answer d.tree a ++ entries Override d.tree a) (end_line ∷ [])
+      ∙ ap (λ (ls : List (List ℕ)). lists d.tree a ++ ls) (append_assoc (entries Answer d.tree a) (entries Override d.tree a) (end_line ∷ []))))
+
+  pub saved_is : saved d.tree a ≡ carried (own_text d.tree a)
+  saved_is = ap joined same_text
+
+  -- each line is UTF-8, and has no newline
+  pub all_lines : AllByRecursion IsLine (saved_lines d.tree a)
+  all_lines = subst (AllByRecursion IsLine) (sym same_text) (are_lines (own_text d.tree a) is_carried)
+
+pub saved_carried : SavedTextsAreCarried
+saved_carried names d is enums a fit = (own_text d.tree a, is_carried names d is enums a fit, saved_is names d is enums a fit)
+
+-- ==== a saved text tells its answers, and over its own dictionary its lines are kept, but for answers that are refused now
+
+-- ---- a saved text tells its answers
+
+-- the line says what the answers have
+abbrev Tells : Accepted → Answered → CarriedLine → Type 0
+Tells d a (collection name ms) = (c : ℕ) × (map.get a.lists c ≡ Some ms) × (name ≡ name_of d.tree c)
+Tells d a (entry side path text) = (s : Slot) × (v : Value) × (value_of side a s ≡ Some v) × (path ≡ path_at d.tree s) × (text ≡ printed d.tree.enums v)
+
+module _ (names : List (List ℕ)) (d : Accepted) (is : IsAccepted names d) (enums : AreLists d.tree.enums) (a b : Answered) (fit : AnswersFit d.tree a) (other_fit : AnswersFit d.tree b) (same_parts : all_parts d.tree a ≡ all_parts d.tree b) where
+  told_lines : AllByRecursion (Tells d b) (all_parts d.tree a)
+  told_lines = subst (AllByRecursion (Tells d b)) (sym same_parts) (of_all names d is enums b other_fit (Tells d b) (λ c ms has. (c, has, refl)) (λ side s v has. (s, v, has, refl, refl)))
+
+  side_lines : (side : Side) → AllByRecursion (Tells d b) (side_part d.tree a side)
+  side_lines Answer = in_front (Tells d b) (side_part d.tree a Answer) (side_part d.tree a Override) (all_behind (Tells d b) (list_part d.tree a) (behind d.tree a) told_lines)
+  side_lines Override = all_behind (Tells d b) (side_part d.tree a Answer) (side_part d.tree a Override) (all_behind (Tells d b) (list_part d.tree a) (behind d.tree a) told_lines)
+
+  list_too : (c : ℕ) (ms : List ℕ) → map.get a.lists c ≡ Some ms → map.get b.lists c ≡ Some ms
+  list_too c ms has =
+      let list = open_list d.tree a fit c ms has in
+      let within = list_within d.tree c list in
+      let keys = each_shown (list_at d.tree a) (Tells d b) (facts d.tree) (in_front (Tells d b) (list_part d.tree a) (behind d.tree a) told_lines) in
+      let found =
+      at_counted (λ (k : ℕ). (x : CarriedLine) → list_at d.tree a k ≡ Some x → Tells d b x) 1 (length d.tree.facts) keys c (omega (arith, within.0)) (omega (arith, within.1))
+      (collection (name_of d.tree c) ms) (ap (option_map (collection (name_of d.tree c))) has) in
+      ap (map.get b.lists) (one_name names d is c found.0 list (open_list d.tree b other_fit found.0 ms found.1) found.2) ∙ found.1
+
+  value_too : (side : Side) (s : Slot) (v : Value) → value_of side a s ≡ Some v → value_of side b s ≡ Some v
+  value_too side s v has = at (list_any (slot_same s) (slots d.tree a)) refl
+    where
+      at : (t : Bool) → list_any (slot_same s) (slots d.tree a) ≡ t → value_of side b s ≡ Some v
+      at false out = absurd (let none : value_of side a s ≡ None = none_outside d.tree a fit side s out in cc)
+      at true there =
+          let found =
+          at_one (λ (u : Slot). (x : CarriedLine) → entry_at d.tree a side u ≡ Some x → Tells d b x) (slots d.tree a) s (each_shown (entry_at d.tree a side) (Tells d b) (slots d.tree a) (side_lines side)) there
+          (entry side (path_at d.tree s) (printed d.tree.enums v)) (ap (option_map (λ (w : Value). entry side (path_at d.tree s) (printed d.tree.enums w))) has) in
+          let same_slot = one_path names d is s found.0 (entry_slot d.tree a fit side s v has) (entry_slot d.tree b other_fit side found.0 found.1 found.2) (ap slot_path_text found.3) in
+          ap (value_of side b) same_slot ∙ found.2 ∙ sym (printed_read names d is enums b other_fit side found.0 found.1 found.2)
+          ∙ ap (λ (u : Slot). value_spelled d.tree u.fact (printed d.tree.enums found.1)) (sym same_slot)
+          ∙ ap (value_spelled d.tree s.fact) (sym found.4) ∙ printed_read names d is enums a fit side s v has
+
+pub one_saved : SavedTextsTellAnswers
+one_saved names d is enums a b fit other_fit e =
+    same_answers a b fit.well other_fit.well fit.from_one other_fit.from_one
+    (same a.lists b.lists (λ c. same_options (map.get a.lists c) (map.get b.lists c) (list_too names d is enums a b fit other_fit parts c) (list_too names d is enums b a other_fit fit (sym parts) c)))
+    (λ side s. same_options (value_of side a s) (value_of side b s) (value_too names d is enums a b fit other_fit parts side s) (value_too names d is enums b a other_fit fit (sym parts) side s))
+    (ap (λ (c : CarriedText). c.next) one)
   where
-    at : (f k ≡ []) ⊎ ((l : List ℕ) × (f k ≡ l ∷ [])) → (g k ≡ []) ⊎ ((l : List ℕ) × (g k ≡ l ∷ [])) → (flat_map f ks ++ tf ≡ flat_map g ks ++ tg → AllByRecursion (λ (j : K). f j ≡ g j) ks × (tf ≡ tg))
-        → ((f k ≡ g k) × AllByRecursion (λ (j : K). f j ≡ g j) ks) × (tf ≡ tg)
-    at (inl p) (inl q) rest =
-        let later = rest (sym (ap (λ (ls : List (List ℕ)). (ls ++ flat_map f ks) ++ tf) p) ∙ e ∙ ap (λ (ls : List (List ℕ)). (ls ++ flat_map g ks) ++ tg) q) in
-        ((p ∙ sym q, later.0), later.1)
-    at (inl p) (inr q) rest =
-        let h : q.0 ∷ (flat_map g ks ++ tg) ≡ flat_map f ks ++ tf = sym (ap (λ (ls : List (List ℕ)). (ls ++ flat_map g ks) ++ tg) q.1) ∙ sym e ∙ ap (λ (ls : List (List ℕ)). (ls ++ flat_map f ks) ++ tf) p in
-        let apart = right.0 q.0 q.1 in
-        let rest = skip f one ks tf (flat_map g ks ++ tg) q.0 apart.0 (sym h) in
-        absurd (apart.1 (flat_map g ks ++ tg) rest.1)
-    at (inr p) (inl q) rest =
-        let h : p.0 ∷ (flat_map f ks ++ tf) ≡ flat_map g ks ++ tg = sym (ap (λ (ls : List (List ℕ)). (ls ++ flat_map f ks) ++ tf) p.1) ∙ e ∙ ap (λ (ls : List (List ℕ)). (ls ++ flat_map g ks) ++ tg) q in
-        let apart = left.0 p.0 p.1 in
-        let rest = skip g other ks tg (flat_map f ks ++ tf) p.0 apart.0 (sym h) in
-        absurd (apart.1 (flat_map f ks ++ tf) rest.1)
-    at (inr p) (inr q) rest =
-        let h : p.0 ∷ (flat_map f ks ++ tf) ≡ q.0 ∷ (flat_map g ks ++ tg) = sym (ap (λ (ls : List (List ℕ)). (ls ++ flat_map f ks) ++ tf) p.1) ∙ e ∙ ap (λ (ls : List (List ℕ)). (ls ++ flat_map g ks) ++ tg) q.1 in
-        let parts = cons_parts p.0 q.0 (flat_map f ks ++ tf) (flat_map g ks ++ tg) h in
-        let later = rest parts.1 in
-        ((p.1 ∙ ap (λ (l : List ℕ). l ∷ []) parts.0 ∙ sym q.1, later.0), later.1)
+    one : own_text d.tree a ≡ own_text d.tree b
+    one =
+        one_text (own_text d.tree a) (own_text d.tree b) (is_carried names d is enums a fit) (is_carried names d is enums b other_fit)
+        (sym (saved_is names d is enums a fit) ∙ e ∙ saved_is names d is enums b other_fit)
 
-module _ (names : List (List ℕ)) (d : Accepted) (is : IsAccepted names d) (enums : AreLists d.tree.enums) where
-  -- ---- lists
+    parts : all_parts d.tree a ≡ all_parts d.tree b
+    parts = ap (λ (c : CarriedText). c.lines) one
 
-  lists_apart : (a b : Answered) → AnswersFit d.tree a → AnswersFit d.tree b → (from n : ℕ) → IsApart (list_lines d.tree a) (list_lines d.tree b) (behind_lists d.tree b) (counted from n)
-  lists_apart a b fit other_fit from zero = tt
-  lists_apart a b fit other_fit from (suc n) = (apart, lists_apart a b fit other_fit (suc from) n)
+-- ---- its told_lines over its own dictionary
+
+path_back : (m : ℕ) (p : FactPath) → path_of (slot_path_of m p) ≡ p
+path_back m (facts_by.Global n) = refl
+path_back m (facts_by.Member c n) = refl
+
+some_value : (b : Bool) (o : Option Value) (v : Value) → o ≡ Some v → b ≡ true → is_some (if b then o else None) ≡ true
+some_value true o v e h = ap is_some e
+some_value false o v e h = absurd cc
+
+some_of : (o : Option Refusal) → is_none o ≡ false → IsSome o
+some_of None e = absurd cc
+some_of (Some x) e = refl
+
+-- a value of the fact's type that is dropped
+module _ (r : Rules) (path : SlotPath) (text : List ℕ) (v : Value) (spelled : value_spelled (tree_of r) (fact_of (tree_of r) path) text ≡ Some v) where
+  abbrev fact : ℕ
+  fact = fact_of (tree_of r) path
+
+  refused : (side : Side) → takes side (tree_of r) fact ≡ true → keeps r (entry side path text) ≡ false → IsRefusedAnswer r (entry side path text)
+  refused Override may dropped = absurd (let kept : keeps r (entry Override path text) ≡ true = some_value (takes Override (tree_of r) fact) (value_spelled (tree_of r) fact text) v spelled may in cc)
+  refused Answer may dropped = at (is_none (first_of (value_refusals r fact text))) refl
     where
-      apart : (l : List ℕ) → list_lines d.tree a from ≡ l ∷ [] → AllByRecursion (HasOther (list_lines d.tree b) l) (counted (suc from) n) × ((more : List (List ℕ)) → behind_lists d.tree b ≢ l ∷ more)
-      apart l e =
-          let has = list_shown d.tree a from l e in (
-            each_counted (HasOther (list_lines d.tree b) l) (suc from) n
-                (λ k low high m shown same.
-                (let other = list_shown d.tree b k m shown in
-                let one = (line_parts names d is from k has.0 other.0 (open_list d.tree a fit from has.0 has.1) (open_list d.tree b other_fit k other.0 other.1) (sym has.2 ∙ sym same ∙ other.2)).0 in
-                omega (arith, one, low))),
-            λ more tail. no_list_behind d.tree b l more (ap first has.2) tail,
-          )
+      at : (b : Bool) → is_none (first_of (value_refusals r fact text)) ≡ b → IsRefusedAnswer r (entry Answer path text)
+      at true h =
+          absurd (let test : (takes Answer (tree_of r) fact && is_none (first_of (value_refusals r fact text))) ≡ true = and_intro (takes Answer (tree_of r) fact) (is_none (first_of (value_refusals r fact text))) may h in
+          let kept : keeps r (entry Answer path text) ≡ true = some_value (takes Answer (tree_of r) fact && is_none (first_of (value_refusals r fact text))) (value_spelled (tree_of r) fact text) v spelled test in
+          cc)
+      at false h = (v, spelled, some_of (first_of (limit_refusals r fact (Some v))) (sym (ap (λ (o : Option Value). is_none (first_of (when (is_none o) BadValue ∷ limit_refusals r fact o))) spelled) ∙ h))
 
-  same_list : (a b : Answered) → AnswersFit d.tree a → AnswersFit d.tree b → (k : ℕ) → list_lines d.tree a k ≡ list_lines d.tree b k → map.get a.lists k ≡ map.get b.lists k
-  same_list a b fit other_fit k e = at (map.get a.lists k) (map.get b.lists k) refl refl e
-    where
-      at : (x y : Option (List ℕ)) → map.get a.lists k ≡ x → map.get b.lists k ≡ y → list_lines_of d.tree k x ≡ list_lines_of d.tree k y → map.get a.lists k ≡ map.get b.lists k
-      at None None p q h = p ∙ sym q
-      at None (Some ns) p q h = absurd (cons_not_nil (list_line d.tree k ns) [] (sym h))
-      at (Some ms) None p q h = absurd (cons_not_nil (list_line d.tree k ms) [] h)
-      at (Some ms) (Some ns) p q h =
-          let line = (cons_parts (list_line d.tree k ms) (list_line d.tree k ns) [] [] h).0 in
-          let texts = (line_parts names d is k k ms ns (open_list d.tree a fit k ms p) (open_list d.tree b other_fit k ns q) line).1 in
-          let left = numbers_of ms (members_numbered ms (open_list_members d.tree a fit k ms p)) in
-          let right = numbers_of ns (members_numbered ns (open_list_members d.tree b other_fit k ns q)) in
-          p ∙ ap Some (same_members ms ns left right texts) ∙ sym q
+module _ (r : Rules) (is : IsAccepted (names_of r.checks) r.accepted) (enums : AreLists (tree_of r).enums) (a : Answered) (fit : AnswersFit (tree_of r) a) where
+  fact_named : (s : Slot) (path : SlotPath) → slot_path (tree_of r) s ≡ Some path → named_fact (tree_of r) path ≡ Some s.fact
+  fact_named s path e =
+      let parts = path_parts (names_of r.checks) r.accepted is s path e in
+      found_at (names_of r.checks) r.accepted is (path_of path) s.fact (subst (λ (p : FactPath). HasPath (tree_of r).facts p s.fact) (sym (ap path_of parts.2 ∙ path_back s.member parts.0)) parts.1)
 
-  all_lists : (a b : Answered) → AnswersFit d.tree a → AnswersFit d.tree b → AllByRecursion (λ (k : ℕ). list_lines d.tree a k ≡ list_lines d.tree b k) (facts d.tree) → a.lists ≡ b.lists
-  all_lists a b fit other_fit all = same _ _ each_list
-    where
-      each_list : (k : ℕ) → map.get a.lists k ≡ map.get b.lists k
-      each_list k = at (is_list d.tree k) refl
-        where
-          at : (t : Bool) → is_list d.tree k ≡ t → map.get a.lists k ≡ map.get b.lists k
-          at true e =
-              let inside = list_within d.tree k e in
-              same_list a b fit other_fit k (at_counted (λ (n : ℕ). list_lines d.tree a n ≡ list_lines d.tree b n) 1 (length d.tree.facts) all k (omega (arith, inside.0)) (omega (arith, inside.1)))
-          at false e = no_list_at d.tree a fit k (λ yes_it_is. let list : is_list d.tree k ≡ true = yes_it_is in cc) ∙ sym (no_list_at d.tree b other_fit k (λ yes_it_is. let list : is_list d.tree k ≡ true = yes_it_is in cc))
+  own_list : (c : ℕ) (ms : List ℕ) → map.get a.lists c ≡ Some ms → keeps r (collection (name_of (tree_of r) c) ms) ≡ false → ⊥
+  own_list c ms has dropped =
+      let list = open_list (tree_of r) a fit c ms has in
+      let name = name_of (tree_of r) c in
+      let kept : keeps r (collection (name_of (tree_of r) c) ms) ≡ true =
+      ap is_some (named_kept (tree_of r) name c list (fact_named (slot c 0) (Global name) (spelled_list (names_of r.checks) r.accepted is c list).1.1)) in
+      cc
 
-  -- ---- slots
+  own_entry : (side : Side) (s : Slot) (v : Value) → value_of side a s ≡ Some v
+      → keeps r (entry side (path_at (tree_of r) s) (printed (tree_of r).enums v)) ≡ false → IsRefusedAnswer r (entry side (path_at (tree_of r) s) (printed (tree_of r).enums v))
+  own_entry side s v has =
+      let path = path_at (tree_of r) s in
+      let fact : fact_of (tree_of r) path ≡ s.fact = ap (λ (o : Option ℕ). unwrap_or o 0) (fact_named s path (spelled_slot (names_of r.checks) r.accepted is s (entry_slot (tree_of r) a fit side s v has)).1.1) in
+      refused r path (printed (tree_of r).enums v) v
+      (ap (λ (n : ℕ). value_spelled (tree_of r) n (printed (tree_of r).enums v)) fact ∙ printed_read (names_of r.checks) r.accepted is enums a fit side s v has) side
+      (ap (takes side (tree_of r)) fact ∙ (both (stands (tree_of r) a s) (takes side (tree_of r) s.fact) (fit.placed side s (ap is_some has))).1)
 
-  module _ (side : Side) (a b : Answered) (fit : AnswersFit d.tree a) (other_fit : AnswersFit d.tree b) where
-    slots_apart : (x : Answered) (ss : List Slot) → AreSlots d.tree x ss → IsApart (entry_lines side d.tree a) (entry_lines side d.tree b) (behind_side side d.tree b) ss
-    slots_apart x [] all = tt
-    slots_apart x (s ∷ ss) all = (apart, slots_apart x ss all.2)
-      where
-        apart : (l : List ℕ) → entry_lines side d.tree a s ≡ l ∷ [] → AllByRecursion (HasOther (entry_lines side d.tree b) l) ss × ((more : List (List ℕ)) → behind_side side d.tree b ≢ l ∷ more)
-        apart l e =
-            let has = entry_shown side d.tree a s l e in
-            let slot_s = entry_slot d.tree a fit side s has.0 has.1 in (
-              each (HasOther (entry_lines side d.tree b) l) ss
-                  (λ u there m shown same.
-                  (let other = entry_shown side d.tree b u m shown in
-                  let slot_u = entry_slot d.tree b other_fit side u other.0 other.1 in
-                  let text = slot_text d.tree u ++ (codes " " ++ printed d.tree.enums other.0) in
-                  let mine = entry_cut names d is side s has.0 text slot_s (sym has.2 ∙ sym same ∙ other.2) in
-                  let its = entry_cut names d is side u other.0 text slot_u refl in
-                  let path = (some_pair_parts (slot_text d.tree s) (slot_text d.tree u) (printed d.tree.enums has.0) (printed d.tree.enums other.0) (sym mine ∙ its)).0 in
-                  let one : s ≡ u = one_slot names d is s u slot_s slot_u path in
-                  let out : list_any (slot_same u) ss ≡ false = subst (λ (t : Slot). list_any (slot_same t) ss ≡ false) one all.1 in
-                  cc)),
-              λ more tail. none_behind side d.tree b l more (ap first has.2 ∙ side_first side (slot_text d.tree s ++ (codes " " ++ printed d.tree.enums has.0))) tail,
-            )
-
-    same_value : (s : Slot) → entry_lines side d.tree a s ≡ entry_lines side d.tree b s → value_of side a s ≡ value_of side b s
-    same_value s e = at (value_of side a s) (value_of side b s) refl refl e
-      where
-        at : (x y : Option Value) → value_of side a s ≡ x → value_of side b s ≡ y → entry_lines_of side d.tree s x ≡ entry_lines_of side d.tree s y → value_of side a s ≡ value_of side b s
-        at None None p q h = p ∙ sym q
-        at None (Some w) p q h = absurd (cons_not_nil (entry_line side d.tree s w) [] (sym h))
-        at (Some v) None p q h = absurd (cons_not_nil (entry_line side d.tree s v) [] h)
-        at (Some v) (Some w) p q h =
-            let line = (cons_parts (entry_line side d.tree s v) (entry_line side d.tree s w) [] [] h).0 in
-            let behind_word = same_behind (side_word side) (slot_text d.tree s ++ (codes " " ++ printed d.tree.enums v)) (slot_text d.tree s ++ (codes " " ++ printed d.tree.enums w)) line in
-            let behind_path = same_behind (slot_text d.tree s) (codes " " ++ printed d.tree.enums v) (codes " " ++ printed d.tree.enums w) behind_word in
-            let texts = same_behind (codes " ") (printed d.tree.enums v) (printed d.tree.enums w) behind_path in
-            p ∙ sym (printed_read names d is enums a fit side s v p) ∙ ap (value_spelled d.tree s.fact) texts ∙ printed_read names d is enums b other_fit side s w q ∙ sym q
-
-    all_values : a.lists ≡ b.lists → AllByRecursion (λ (s : Slot). entry_lines side d.tree a s ≡ entry_lines side d.tree b s) (slots d.tree a) → (s : Slot) → value_of side a s ≡ value_of side b s
-    all_values e all s = at (list_any (slot_same s) (slots d.tree a)) refl
-      where
-        at : (t : Bool) → list_any (slot_same s) (slots d.tree a) ≡ t → value_of side a s ≡ value_of side b s
-        at true h = same_value s (at_one (λ (u : Slot). entry_lines side d.tree a u ≡ entry_lines side d.tree b u) (slots d.tree a) s all h)
-        at false h = none_outside d.tree a fit side s h ∙ sym (none_outside d.tree b other_fit side s (ap (list_any (slot_same s)) (sym (same_slots d.tree a b e)) ∙ h))
-
-  -- ---- the whole text
-
-  lines_are : (a : Answered) → AnswersFit d.tree a → saved_lines d.tree a ≡ lines_of (saved d.tree a)
-  lines_are a fit = whole_lines (AnswersFit d.tree) (saved_lines d.tree) (all_lines names d is enums) a fit (saved d.tree a) refl
-
-  pub one_saved : (a b : Answered) → AnswersFit d.tree a → AnswersFit d.tree b → saved d.tree a ≡ saved d.tree b → a ≡ b
-  one_saved a b fit other_fit e = same_answers a b fit.well other_fit.well fit.from_one other_fit.from_one lists_same values_same next_same
-    where
-      behind : (next_line a.next ≡ next_line b.next) × (lists d.tree a ++ behind_lists d.tree a ≡ lists d.tree b ++ behind_lists d.tree b)
-      behind =
-          let all = lines_are a fit ∙ ap lines_of e ∙ sym (lines_are b other_fit) in
-          let first = cons_parts opening_line opening_line (behind_opening d.tree a) (behind_opening d.tree b) all in
-          cons_parts (next_line a.next) (next_line b.next) (lists d.tree a ++ behind_lists d.tree a) (lists d.tree b ++ behind_lists d.tree b) first.1
-
-      next_same : a.next ≡ b.next
-      next_same = decimals_one a.next b.next fit.well.high other_fit.well.high (same_behind (codes "next ") (decimal a.next) (decimal b.next) behind.0)
-
-      by_list : AllByRecursion (λ (k : ℕ). list_lines d.tree a k ≡ list_lines d.tree b k) (facts d.tree) × (behind_lists d.tree a ≡ behind_lists d.tree b)
-      by_list =
-          same_keys (list_lines d.tree a) (list_lines d.tree b) (one_list d.tree a) (one_list d.tree b) (facts d.tree) (behind_lists d.tree a) (behind_lists d.tree b)
-          (lists_apart a b fit other_fit 1 (length d.tree.facts)) (lists_apart b a other_fit fit 1 (length d.tree.facts)) behind.1
-
-      lists_same : a.lists ≡ b.lists
-      lists_same = all_lists a b fit other_fit by_list.0
-
-      at_slots : (side : Side) → entries side d.tree b ≡ flat_map (entry_lines side d.tree b) (slots d.tree a)
-      at_slots side = ap (flat_map (entry_lines side d.tree b)) (sym (same_slots d.tree a b lists_same))
-
-      by_slot : (side : Side) → entries side d.tree a ++ behind_side side d.tree a ≡ entries side d.tree b ++ behind_side side d.tree b
-          → AllByRecursion (λ (s : Slot). entry_lines side d.tree a s ≡ entry_lines side d.tree b s) (slots d.tree a) × (behind_side side d.tree a ≡ behind_side side d.tree b)
-      by_slot side h =
-          same_keys (entry_lines side d.tree a) (entry_lines side d.tree b) (one_entry side d.tree a) (one_entry side d.tree b) (slots d.tree a) (behind_side side d.tree a) (behind_side side d.tree b)
-          (slots_apart side a b fit other_fit a (slots d.tree a) (all_slots d.tree a fit.well)) (slots_apart side b a other_fit fit a (slots d.tree a) (all_slots d.tree a fit.well))
-          (h ∙ ap (λ (ls : List (List ℕ)). ls ++ behind_side side d.tree b) (at_slots side))
-
-      values_same : (side : Side) (s : Slot) → value_of side a s ≡ value_of side b s
-      values_same Answer s = all_values Answer a b fit other_fit lists_same (by_slot Answer by_list.1).0 s
-      values_same Override s = all_values Override a b fit other_fit lists_same (by_slot Override (by_slot Answer by_list.1).1).0 s
+pub own_lines : OwnLinesAreKept
+own_lines r is enums a fit = (
+  own_text (tree_of r) a,
+  is_carried (names_of r.checks) r.accepted is enums a fit,
+  saved_is (names_of r.checks) r.accepted is enums a fit,
+  λ line there. one_of_all (λ (l : CarriedLine). keeps r l ≡ false → IsRefusedAnswer r l) (all_parts (tree_of r) a) line
+      (of_all (names_of r.checks) r.accepted is enums a fit (λ (l : CarriedLine). keeps r l ≡ false → IsRefusedAnswer r l) (own_list r is enums a fit) (own_entry r is enums a fit)) there,
+)

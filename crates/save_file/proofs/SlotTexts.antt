@@ -1,30 +1,63 @@
--- The text of a slot has no blank, and no other slot has it.
-use Rattle.std.proofs.Common.{◌≡◌, ℕ, Bool, true, false, List, ◌++◌, Option, Some, None, inl, inr, refl, sym, ap, subst, ◌∙◌, arith}
-use Rattle.std.specs.Prelude.{nat_lt, option_and_then}
-use Rattle.std.proofs.lemmas.Bool.{cases_lt}
+-- The texts of slots, of lists and of values.
+use Rattle.std.proofs.Common.{Bool, IsSome, IsTrue, List, None, Option, Some, [], ap, arith, false, inl, inr, is_some, length, length-append, nat_le, refl, subst, sym, true, ℕ, ◌&&◌, ◌++◌, ◌+◌, ◌∙◌, ◌∷◌, ◌≡◌, ◌≤◌, ◌⊎◌}
 use Rattle.std.proofs.lemmas.Bool.Decides.{nat_tests}
-use Rattle.std.proofs.lemmas.Option.{same_Some}
+use Rattle.std.proofs.lemmas.Bool.{cases_lt, leb-true}
+use Rattle.std.proofs.lemmas.List.{append-nil}
+use Rattle.std.proofs.lemmas.Option.{none-some, same_Some, some_pair_parts}
+use Rattle.std.specs.FinMap as map
+use Rattle.std.specs.List.{AllByRecursion, list_all}
+use Rattle.std.specs.Prelude.{decimal, nat_lt, option_and_then}
+use Rattle.answers.specs.Answered.{Answered, value_of}
+use Rattle.answers.specs.declared.edit.Side.TheVariants.{Answer, Override}
+use Rattle.answers.specs.declared.edit.Side.{Side}
+use Rattle.common_lemmas.proofs.Bools.{both, both_left, both_right, or_left, or_right}
 use Rattle.common_lemmas.proofs.Options.{both_some, mapped}
-use Rattle.fact_paths.specs.Cuts.{Lacks, after}
-use Rattle.fact_paths.specs.Paths.{SpellsSlotPath}
-use Rattle.fact_paths.specs.declared.fact_path.FactPath.{FactPath}
-use Rattle.fact_paths.specs.declared.fact_path.FactPath.TheVariants as facts
-use Rattle.fact_paths.specs.declared.slot_path.SlotPath.{SlotPath}
-use Rattle.fact_paths.proofs.CutLaws.{after-append}
-use Rattle.fact_paths.proofs.ReadingLaws.{one_path_from}
-use Rattle.fact_paths.proofs.SlotPathLaws.{slot_lacks_blank, slot_path_reading}
-use Rattle.fact_paths.specs.Reading.{slot_path_of as read_slot_path}
-use Rattle.fact_values.specs.declared.slot.Slot.{Slot}
-use Rattle.dict_tree.specs.Facts.{Fact}
-use Rattle.dict_tree.specs.Dictionary.{Dictionary as Tree}
-use Rattle.dict_tree.specs.Finding.{HasPath, fact_at, find_path}
 use Rattle.dict_tree.proofs.FindingLaws.{find_path-first, find_path-none}
+use Rattle.dict_tree.specs.Dictionary.{Dictionary as Tree}
+use Rattle.dict_tree.specs.Facts.{Fact}
+use Rattle.dict_tree.specs.Finding.{HasPath, fact_at, find_path}
 use Rattle.dict_types.specs.DuplicatePath.{is_before, is_taken}
+use Rattle.dict_types.specs.StatedTypes.{type_at}
+use Rattle.dictionary.proofs.ExtensionLaws.{is_placed, list_home}
+use Rattle.dictionary.proofs.HomeLaws.{global_has_none, text_spells}
+use Rattle.dictionary.proofs.ListTypes.{open_members}
+use Rattle.dictionary.proofs.NumberLaws.{fact_within}
+use Rattle.dictionary.proofs.PrintedLaws.{value_printed}
+use Rattle.dictionary.proofs.SlotTextLaws.{standing_slot}
 use Rattle.dictionary.specs.Accepted.{Accepted, IsAccepted}
+use Rattle.dictionary.specs.Fits.{AnswersFit, domains, is_answered_by, is_list, is_overridden_by, opens_of, takes}
 use Rattle.dictionary.specs.Reading.{slot}
 use Rattle.dictionary.specs.SlotText.{IsSlot, slot_path, slot_path_of, slot_text}
-use Rattle.dictionary.proofs.HomeLaws.{global_has_none, text_spells}
-use Rattle.save_file.proofs.LineTexts.{IsLine, slot_line}
+use Rattle.dictionary.specs.Slots.{stands}
+use Rattle.evaluation.specs.Typed.{IsOfType}
+use Rattle.fact_paths.proofs.CutLaws.{after-append, cut-append, cut-lacks}
+use Rattle.fact_paths.proofs.MemberNumbers.{decimal_lacks, member_number-decimal}
+use Rattle.fact_paths.proofs.ReadingLaws.{one_path_from}
+use Rattle.fact_paths.proofs.SlotPathLaws.{slot_lacks_blank, slot_path_reading}
+use Rattle.fact_paths.specs.Cuts.{Lacks, after, cut}
+use Rattle.fact_paths.specs.Paths.{IsMemberNumber, SpellsSlotPath}
+use Rattle.fact_paths.specs.Reading.{member_number_of, slot_path_of as read_slot_path}
+use Rattle.fact_paths.specs.declared.fact_path.FactPath.TheVariants as facts
+use Rattle.fact_paths.specs.declared.fact_path.FactPath.{FactPath}
+use Rattle.fact_paths.specs.declared.slot_path.SlotPath.{SlotPath}
+use Rattle.fact_values.specs.Members as numbers
+use Rattle.fact_values.specs.Members.{IsMemberList}
+use Rattle.fact_values.specs.declared.fact_type.FactType.TheVariants as types
+use Rattle.fact_values.specs.declared.fact_type.FactType.{FactType}
+use Rattle.fact_values.specs.declared.slot.Slot.{Slot}
+use Rattle.fact_values.specs.declared.value.Value.TheVariants as values
+use Rattle.fact_values.specs.declared.value.Value.{Value}
+use Rattle.graph_session.proofs.TypeLaws.{given_read}
+use Rattle.graph_session.specs.Kinds.{is_given, value_spelled}
+use Rattle.save_file.proofs.LineTexts.{IsLine, slot_line, value_line}
+use Rattle.value_text.proofs.PrintedTexts.{value_spelled as printed_spelled}
+use Rattle.value_text.proofs.TypeLaws.{read_printed}
+use Rattle.value_text.specs.Enums.{AreLists, option_at}
+use Rattle.value_text.specs.MemberTexts.{printed_item, printed_rest}
+use Rattle.value_text.specs.ValueLaws.{IsValueOf}
+use Rattle.value_text.specs.Values.{IsPrinted, IsRead, printed, value_at}
+
+-- ==== the text of a slot has no blank, and no other slot has it
 
 -- ---- texts
 
@@ -104,3 +137,134 @@ module _ (names : List (List ℕ)) (d : Accepted) (is : IsAccepted names d) wher
       let of_s = path_parts s left.0 left.1 in
       let of_t = path_parts t right.0 right.1 in
       same_path s t of_s.0 of_t.0 of_s.1 of_t.1 (sym of_s.2 ∙ same ∙ of_t.2) slot_s slot_t
+
+-- ==== the line of a collection has one path and one list of members
+
+-- nothing, or a text that begins with a blank
+abbrev pub Tail : List ℕ → Type 0
+Tail text = (text ≡ []) ⊎ ((behind : List ℕ) × (text ≡ 32 ∷ behind))
+
+pub tail_of : (ms : List ℕ) → Tail (printed_rest ms)
+tail_of [] = inl refl
+tail_of (m ∷ ms) = inr (printed_item m ++ printed_rest ms, refl)
+
+no_cut : (x y t : List ℕ) → Lacks 32 x → Lacks 32 y → x ≡ y ++ 32 ∷ t → ⊥
+no_cut x y t lacks other e = none-some (y, t) (sym (cut-lacks 32 x lacks) ∙ ap (cut 32) e ∙ cut-append 32 y t other)
+
+bare : (x r : List ℕ) → r ≡ [] → x ≡ x ++ r
+bare x r e = sym (append-nil x) ∙ ap (λ (t : List ℕ). x ++ t) (sym e)
+
+-- texts without a blank, with such tails, are one where the whole is
+pub same_parts : (x y r s : List ℕ) → Lacks 32 x → Lacks 32 y → Tail r → Tail s → x ++ r ≡ y ++ s → (x ≡ y) × (r ≡ s)
+same_parts x y r s lacks other (inl f) (inl g) e = (bare x r f ∙ e ∙ sym (bare y s g), f ∙ sym g)
+same_parts x y r s lacks other (inl f) (inr g) e = absurd (no_cut x y g.0 lacks other (bare x r f ∙ e ∙ ap (λ (t : List ℕ). y ++ t) g.1))
+same_parts x y r s lacks other (inr f) (inl g) e = absurd (no_cut y x f.0 other lacks (bare y s g ∙ sym e ∙ ap (λ (t : List ℕ). x ++ t) f.1))
+same_parts x y r s lacks other (inr f) (inr g) e =
+    let whole : x ++ 32 ∷ f.0 ≡ y ++ 32 ∷ g.0 = ap (λ (t : List ℕ). x ++ t) (sym f.1) ∙ e ∙ ap (λ (t : List ℕ). y ++ t) g.1 in
+    let parts = some_pair_parts x y f.0 g.0 (sym (cut-append 32 x f.0 lacks) ∙ ap (cut 32) whole ∙ cut-append 32 y g.0 other) in
+    (parts.0, f.1 ∙ ap (λ (t : List ℕ). 32 ∷ t) parts.1 ∙ sym g.1)
+
+pub item_lacks : (m : ℕ) → IsMemberNumber m → Lacks 32 (printed_item m)
+item_lacks m is = (omega arith, decimal_lacks 32 refl m is)
+
+pub same_member : (m n : ℕ) → IsMemberNumber m → IsMemberNumber n → printed_item m ≡ printed_item n → m ≡ n
+same_member m n is other e =
+    let digits : decimal m ≡ decimal n = cc in
+    same_Some m n (sym (member_number-decimal m is) ∙ ap member_number_of digits ∙ member_number-decimal n other)
+
+-- members are told by their text
+pub same_members : (ms ns : List ℕ) → AllByRecursion IsMemberNumber ms → AllByRecursion IsMemberNumber ns → printed_rest ms ≡ printed_rest ns → ms ≡ ns
+same_members [] [] is other e = refl
+same_members [] (n ∷ ns) is other e = absurd cc
+same_members (m ∷ ms) [] is other e = absurd cc
+same_members (m ∷ ms) (n ∷ ns) is other e =
+    let behind : printed_item m ++ printed_rest ms ≡ printed_item n ++ printed_rest ns = cc in
+    let parts = same_parts (printed_item m) (printed_item n) (printed_rest ms) (printed_rest ns) (item_lacks m is.0) (item_lacks n other.0) (tail_of ms) (tail_of ns) behind in
+    let first = same_member m n is.0 other.0 parts.0 in
+    let rest = same_members ms ns is.1 other.1 parts.1 in
+    cc
+
+-- a list has numbers of members
+pub numbers_of : (ms : List ℕ) → list_all numbers.is_member ms ≡ true → AllByRecursion IsMemberNumber ms
+numbers_of [] all = tt
+numbers_of (m ∷ ms) all =
+    let parts = both (numbers.is_member m) (list_all numbers.is_member ms) all in
+    let number = both _ _ parts.0 in
+    ((leb-true 1 m number.0, leb-true m 1000000 number.1), numbers_of ms parts.1)
+
+-- ==== what is saved has a text
+
+-- ---- slots
+
+pub entry_slot : (d : Tree) (a : Answered) → AnswersFit d a → (side : Side) (s : Slot) (v : Value) → value_of side a s ≡ Some v → IsSlot d s
+entry_slot d a fit side s v e = standing_slot d a fit.well fit.from_one s (is_placed d a fit side s v e)
+
+-- and the one of a collection
+pub list_there : (d : Tree) (c : ℕ) → IsTrue (is_list d c) → (f : Fact) × (fact_at d.facts c ≡ Some f)
+list_there d c h = at (fact_at d.facts c) refl h
+  where
+    at : (o : Option Fact) → fact_at d.facts c ≡ o → IsTrue (opens_of o) → (f : Fact) × (fact_at d.facts c ≡ Some f)
+    at None e h = absurd cc
+    at (Some f) e h = (f, e)
+
+pub list_slot : (names : List (List ℕ)) (d : Accepted) → IsAccepted names d → (c : ℕ) → IsTrue (is_list d.tree c) → IsSlot d.tree (slot c 0)
+list_slot names d is c h =
+    let f = list_there d.tree c h in
+    let n = fact_within d.tree.facts c f.0 f.1 in
+    record { there = (omega (arith, n.0), n.1); once = (λ _. list_home names d is c h, λ _. refl); member = omega arith }
+
+pub open_list : (d : Tree) (a : Answered) → AnswersFit d a → (c : ℕ) (ms : List ℕ) → map.get a.lists c ≡ Some ms → IsTrue (is_list d c)
+open_list d a fit c ms e = fit.lists c (ap is_some e)
+
+pub open_list_members : (d : Tree) (a : Answered) → AnswersFit d a → (c : ℕ) (ms : List ℕ) → map.get a.lists c ≡ Some ms → IsMemberList ms
+open_list_members d a fit c ms e = (open_members d a fit.well fit.from_one c ms e).0
+
+pub members_numbered : (ms : List ℕ) → IsMemberList ms → IsTrue (list_all numbers.is_member ms)
+members_numbered ms h = both_left (list_all numbers.is_member ms) (numbers.are_distinct ms) (both_right (nat_le (length ms) 100) (list_all numbers.is_member ms && numbers.are_distinct ms) h)
+
+-- ---- values
+
+pub entry_printed : (d : Tree) (a : Answered) → AnswersFit d a → (side : Side) (s : Slot) (v : Value) → value_of side a s ≡ Some v → IsPrinted d.enums v
+entry_printed d a fit side s v e = let typed = fit.typed side s v e in value_printed d a v typed.0 typed.2
+
+-- ---- lengths
+
+pub length_behind : (out old text : List ℕ) (n m : ℕ) → out ≡ old ++ text → length old ≤ n → length text ≤ m → length out ≤ n + m
+length_behind out old text n m e low high = omega (arith, ap length e, length-append old text)
+
+-- ==== what is printed of a value that fits is read as the value, and is part of a line
+
+value_of_type : (d : Tree) (a : Answered) (w : Value) (t : FactType) → IsRead d.enums t → IsOfType (domains d a) w t → IsValueOf d.enums t w
+value_of_type d a (values.Boolean b) types.Boolean r h = h
+value_of_type d a (values.Int n) types.Int r h = h
+value_of_type d a (values.Dollar n) types.Dollar r h = h
+value_of_type d a (values.Rational q) types.Rational r h = h
+value_of_type d a (values.Day n) types.Day r h = h
+value_of_type d a (values.Text s) types.Text r h = h
+value_of_type d a (values.Choice list place) (types.Enum n) r h =
+    (h.0, subst (λ (l : ℕ). IsSome (option_at d.enums l place)) h.0 (value_printed d a (values.Choice list place) (types.Enum n) h))
+value_of_type d a (values.Members ms) (types.Collection c) r h = absurd r
+value_of_type d a (values.Item m) (types.Item c) r h = absurd r
+value_of_type d a w t r h = absurd h
+
+pub given_by : (side : Side) (d : Tree) (fact : ℕ) → IsTrue (takes side d fact) → IsTrue (is_given d fact)
+given_by Answer d fact h = or_left (is_answered_by d fact) (is_overridden_by d fact) h
+given_by Override d fact h = or_right (is_answered_by d fact) (is_overridden_by d fact) h
+
+module _ (names : List (List ℕ)) (d : Accepted) (is : IsAccepted names d) (enums : AreLists d.tree.enums) (a : Answered) (fit : AnswersFit d.tree a) (side : Side) (s : Slot) (w : Value) (has : value_of side a s ≡ Some w) where
+  pub of_type : (t : FactType) × (type_at d.tree s.fact ≡ Some t) × IsValueOf d.tree.enums t w
+  of_type =
+      let typed = fit.typed side s w has in
+      let may = both (stands d.tree a s) (takes side d.tree s.fact) (fit.placed side s (rw has refl)) in
+      let read = given_read names d is s.fact typed.0 (given_by side d.tree s.fact may.1) typed.1 in
+      (typed.0, typed.1, value_of_type d.tree a w typed.0 read typed.2)
+
+  pub printed_read : value_spelled d.tree s.fact (printed d.tree.enums w) ≡ Some w
+  printed_read =
+      let typed = of_type in
+      ap (option_and_then (λ (t : FactType). value_at d.tree.enums t (printed d.tree.enums w))) typed.1 ∙ read_printed d.tree.enums typed.0 w enums typed.2
+
+  pub printed_line : IsLine (printed d.tree.enums w)
+  printed_line =
+      let typed = of_type in
+      value_line d.tree.enums enums typed.0 (printed d.tree.enums w) w (printed_spelled d.tree.enums typed.0 w typed.2)

@@ -1,19 +1,116 @@
--- What is known of bytes from their lines that were read, where texts of a kind are lines, each with its newline.
-use Rattle.std.proofs.Common.{◌≡◌, ℕ, zero, suc, ◌<◌, ◌≤◌, List, [], ◌∷◌, ◌++◌, length, take, refl, sym, ap, subst, ◌∙◌, append_assoc, arith, length-append}
-use Rattle.std.specs.List.{AllByRecursion}
+-- Bytes and their lines.
+use Rattle.std.proofs.Common.{Bool, List, None, Some, [], ap, append_assoc, arith, false, length, length-append, nat_eq, refl, slice_get, subst, suc, sym, take, true, zero, ℕ, ◌++◌, ◌-◌, ◌<◌, ◌∙◌, ◌∷◌, ◌≡◌, ◌≢◌, ◌≤◌}
+use Rattle.std.proofs.lemmas.Bool.Decides.{nat_tests}
+use Rattle.std.proofs.lemmas.Bool.{eqb-true}
+use Rattle.std.proofs.lemmas.List.Elements.{All-cons, All-nil}
 use Rattle.std.proofs.lemmas.List.{append-nil}
-use Rattle.script_lines.specs.Joined.{joined}
-use Rattle.script_lines.specs.Lines.{HasNoNewline, lines_of}
-use Rattle.save_file.specs.Loading.{Begins, IsRefusedAt, first_lines}
-use Rattle.save_file.proofs.LineLaws.{lines_before, lines_have_none}
+use Rattle.std.proofs.lemmas.Option.{none-some, same_Some}
+use Rattle.std.specs.List.{AllByRecursion}
+use Rattle.std.specs.Prelude.{if◌then◌else◌, ◌==◌, ◌↔◌}
+use Rattle.common_lemmas.proofs.Numbers.{same_number}
 use Rattle.save_file.proofs.LineTexts.{IsLine}
+use Rattle.save_file.specs.Loading.{Begins, IsRefusedAt, first_lines}
+use Rattle.script_lines.proofs.Bytes.{lines_of-newline}
 use Rattle.script_lines.proofs.JoinedLaws.{joined-append}
+use Rattle.script_lines.specs.Joined.{joined}
+use Rattle.script_lines.specs.Lines.{HasNoNewline, lines_of, onto_first}
+
+-- ==== bytes and their lines
+
+-- lines before other bytes are the first lines
+pub lines_before : (ls : List (List ℕ)) (rest : List ℕ) → AllByRecursion HasNoNewline ls → lines_of (joined ls ++ rest) ≡ ls ++ lines_of rest
+lines_before [] rest none = refl
+lines_before (l ∷ ls) rest none =
+    ap lines_of (append_assoc l (10 ∷ joined ls) rest)
+    ∙ lines_of-newline l (joined ls ++ rest) none.0
+    ∙ ap (λ (others : List (List ℕ)). l ∷ others) (lines_before ls rest none.1)
+
+-- no line has a newline
+onto_none : (b : ℕ) (ls : List (List ℕ)) → b ≢ 10 → AllByRecursion HasNoNewline ls → AllByRecursion HasNoNewline (onto_first b ls)
+onto_none b [] other none = (All-cons (λ c. c ≢ 10) b [] other (All-nil (λ c. c ≢ 10)), tt)
+onto_none b (l ∷ ls) other none = (All-cons (λ c. c ≢ 10) b l other none.0, none.1)
+
+pub lines_have_none : (bytes : List ℕ) → AllByRecursion HasNoNewline (lines_of bytes)
+lines_have_none [] = tt
+lines_have_none (b ∷ bytes) = at (b == 10) refl (lines_have_none bytes)
+  where
+    at : (t : Bool) → (b == 10) ≡ t → AllByRecursion HasNoNewline (lines_of bytes) → AllByRecursion HasNoNewline (if t then [] ∷ lines_of bytes else onto_first b (lines_of bytes))
+    at true e rest = (All-nil (λ c. c ≢ 10), rest)
+    at false e rest = onto_none b (lines_of bytes) (let other : b ≢ 10 = grind (arith, nat_tests) in other) rest
+
+-- bytes that end in a newline are their lines
+onto_joined : (b : ℕ) (ls : List (List ℕ)) (bytes : List ℕ) → joined ls ≡ bytes ++ 10 ∷ [] → joined (onto_first b ls) ≡ b ∷ (bytes ++ 10 ∷ [])
+onto_joined b [] bytes e = absurd (at bytes e)
+  where
+    at : (bytes : List ℕ) → [] ≡ bytes ++ 10 ∷ [] → ⊥
+    at [] e = cc
+    at (c ∷ bytes) e = cc
+onto_joined b (l ∷ ls) bytes e = ap (λ (text : List ℕ). b ∷ text) e
+
+pub ended_joined : (front : List ℕ) → joined (lines_of (front ++ 10 ∷ [])) ≡ front ++ 10 ∷ []
+ended_joined [] = refl
+ended_joined (b ∷ front) = at (b == 10) refl (ended_joined front)
+  where
+    at : (t : Bool) → (b == 10) ≡ t → joined (lines_of (front ++ 10 ∷ [])) ≡ front ++ 10 ∷ [] → joined (if t then [] ∷ lines_of (front ++ 10 ∷ []) else onto_first b (lines_of (front ++ 10 ∷ []))) ≡ b ∷ (front ++ 10 ∷ [])
+    at true e rest = ap (λ (text : List ℕ). 10 ∷ text) rest ∙ ap (λ (c : ℕ). c ∷ (front ++ 10 ∷ [])) (sym (eqb-true b 10 e))
+    at false e rest = onto_joined b (lines_of (front ++ 10 ∷ [])) front rest
+
+-- and lines end in a newline
+pub joined_ended : (l : List ℕ) (ls : List (List ℕ)) → (front : List ℕ) × (joined (l ∷ ls) ≡ front ++ 10 ∷ [])
+joined_ended l [] = (l, refl)
+joined_ended l (k ∷ ls) =
+    let rest = joined_ended k ls in
+    (l ++ 10 ∷ rest.0, ap (λ (text : List ℕ). l ++ 10 ∷ text) rest.1 ∙ sym (append_assoc l (10 ∷ rest.0) (10 ∷ [])))
+
+-- ==== the end of bytes from which one line after another is cut
+
+pub empty_is : (bytes : List ℕ) → length bytes ≤ 0 → bytes ≡ []
+empty_is [] none = refl
+empty_is (b ∷ bytes) none = absurd (omega arith)
+
+last_at : (bytes : List ℕ) (i b : ℕ) → suc i ≡ length bytes → slice_get bytes i ≡ Some b → (front : List ℕ) × (bytes ≡ front ++ b ∷ [])
+last_at [] i b low e = absurd (omega arith)
+last_at (x ∷ []) zero b low e = ([], ap (λ (y : ℕ). y ∷ []) (same_Some x b e))
+last_at (x ∷ []) (suc i) b low e = absurd (omega arith)
+last_at (x ∷ y ∷ bytes) zero b low e = absurd (omega arith)
+last_at (x ∷ y ∷ bytes) (suc i) b low e = let rest = last_at (y ∷ bytes) i b (omega arith) e in (x ∷ rest.0, ap (λ (ys : List ℕ). x ∷ ys) rest.1)
+
+last_of : (front : List ℕ) (i b : ℕ) → suc i ≡ length (front ++ b ∷ []) → slice_get (front ++ b ∷ []) i ≡ Some b
+last_of [] zero b low = refl
+last_of [] (suc i) b low = absurd (omega arith)
+last_of (x ∷ front) zero b low = absurd (omega (arith, length-append front (b ∷ [])))
+last_of (x ∷ front) (suc i) b low = last_of front i b (omega arith)
+
+ended_is : (bytes : List ℕ) (b : ℕ) → Some b ≡ slice_get bytes (length bytes - 1) → (front : List ℕ) × (bytes ≡ front ++ b ∷ [])
+ended_is [] b e = absurd (none-some b (sym e))
+ended_is (x ∷ bytes) b e = last_at (x ∷ bytes) (length (x ∷ bytes) - 1) b (omega arith) (sym e)
+
+is_last : (bytes front : List ℕ) → bytes ≡ front ++ 10 ∷ [] → slice_get bytes (length bytes - 1) ≡ Some 10
+is_last bytes front e =
+    ap (λ (bs : List ℕ). slice_get bs (length bs - 1)) e
+    ∙ last_of front (length (front ++ 10 ∷ []) - 1) 10 (let long = length-append front (10 ∷ []) in omega arith)
+
+-- whether the last byte is a newline
+pub last_tells : (bytes : List ℕ) (b : ℕ) → Some b ≡ slice_get bytes (length bytes - 1) → (nat_eq b 10 ≡ true) ↔ ((front : List ℕ) × (bytes ≡ front ++ 10 ∷ []))
+last_tells bytes b e = (
+  λ h. (let found = ended_is bytes b e in (found.0, found.1 ∙ ap (λ (c : ℕ). found.0 ++ c ∷ []) (same_number b 10 h))),
+  λ h. ap (λ (c : ℕ). nat_eq c 10) (same_Some b 10 (e ∙ is_last bytes h.0 h.1)),
+)
+
+pub none_tells : (bytes : List ℕ) → None ≡ slice_get bytes (length bytes - 1) → (false ≡ true) ↔ ((front : List ℕ) × (bytes ≡ front ++ 10 ∷ []))
+none_tells bytes e = (λ h. absurd cc, λ h. absurd (none-some 10 (e ∙ is_last bytes h.0 h.1)))
+
+-- ==== what is known of bytes from their lines that were read, where texts of a kind are lines, each with its newline
 
 pub all-append : {X : Type 0} (P : X → Type 0) (xs ys : List X) → AllByRecursion P xs → AllByRecursion P ys → AllByRecursion P (xs ++ ys)
 all-append P [] ys left right = right
 all-append P (x ∷ xs) ys left right = (left.0, all-append P xs ys left.1 right)
 
--- what is true of all is true of those in front, and of the next
+-- what is true of all is true of those behind, of those in front, and of the next
+pub all_behind : {X : Type 0} (P : X → Type 0) (xs ys : List X) → AllByRecursion P (xs ++ ys) → AllByRecursion P ys
+all_behind P [] ys all = all
+all_behind P (x ∷ xs) ys all = all_behind P xs ys all.1
+
 pub in_front : {X : Type 0} (P : X → Type 0) (xs ys : List X) → AllByRecursion P (xs ++ ys) → AllByRecursion P xs
 in_front P [] ys all = tt
 in_front P (x ∷ xs) ys all = (all.0, in_front P xs ys all.1)

@@ -108,6 +108,11 @@ pub record IsWithEntry (old : CarriedRead) (line : EntryLine) (new : CarriedRead
   pub heads : new.heads ≡ old.heads
   pub overridden : new.overridden ≡ (old.overridden || is_override line.side)
 
+-- what lines that are lent come to
+abbrev pub new_or_fault : CarriedRead → Result (Unit {0}) LineFault → Result CarriedRead LineFault
+new_or_fault new (Ok done) = Ok new
+new_or_fault new (Err fault) = Err fault
+
 -- the line was taken, or it may not stand there
 abbrev pub Takes : CarriedRead → CarriedLine → Result CarriedRead LineFault → Type 0
 Takes old line (Ok new) = IsRead new × (new.next ≡ old.next) × (lines_of new ≡ lines_of old ++ line ∷ [])

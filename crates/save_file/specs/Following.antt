@@ -22,6 +22,7 @@ use Rattle.answers.specs.declared.parts.Parts.{Parts}
 use Rattle.save_file.specs.declared.fault.LoadFault.{LoadFault}
 use Rattle.save_file.specs.declared.fault.LoadFault.TheVariants.{BadSaved}
 use Rattle.save_file.specs.declared.fault.LoadFault.TheVariants as faults
+use Rattle.save_file.specs.declared.stage.EntriesRead.{EntriesRead}
 use Rattle.save_file.specs.declared.stage.Stage.{Stage}
 use Rattle.save_file.specs.declared.stage.Stage.TheVariants.{Opening, Number, Lists, Entries, Whole}
 
@@ -120,6 +121,11 @@ abbrev pub Judges : Tree → Stage → List ℕ → Result Stage LineFault → T
 Judges d old line (Ok new) = IsStage d new × TakesLine d old line new
 Judges d old line (Err BadLine) = (a : Answered) (more : List (List ℕ)) → ¬ Follows d old a (line ∷ more)
 Judges d old line (Err NoMemory) = Unit {0}
+
+-- a value was given to a slot
+abbrev pub Enters : Tree → EntriesRead → List ℕ → EntriesRead → Result (Unit {0}) LineFault → Type 0
+Enters d old line new (Ok done) = Judges d (Entries old) line (Ok (Entries new))
+Enters d old line new (Err fault) = Judges d (Entries old) line (Err fault)
 
 -- the line doesn't begin with the word
 abbrev pub BeginsOther : List ℕ → List ℕ → Type 0

@@ -73,7 +73,10 @@ fn with_members(alloc: Global, name: &str, found: Vec<u32>) -> Result<ListLine, 
     match read_name(alloc, name) {
         Err(fault) => Err(fault),
         Ok(name) => match Members::new(found) {
-            None => Err(LineFault::BadLine),
+            None => {
+                drop(name);
+                Err(LineFault::BadLine)
+            }
             Some(members) => Ok(ListLine { name, members }),
         },
     }
@@ -103,7 +106,10 @@ pub fn read_entry_line(alloc: Global, side: Side, text: &str) -> Result<EntryLin
     match read_path(alloc, path) {
         Err(fault) => Err(fault),
         Ok(path) => match copy_text(alloc, value) {
-            Err(fault) => Err(fault),
+            Err(fault) => {
+                drop(path);
+                Err(fault)
+            }
             Ok(text) => Ok(EntryLine { side, path, text }),
         },
     }

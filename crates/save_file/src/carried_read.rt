@@ -1,7 +1,7 @@
 // The lines of a carried text that were read, and one more.
 ghost use Rattle.std.specs.Prelude.{◌≡◌, ◌||◌, ℕ, List, map, not, bytes_eq, IfErr, IfOk, OnOk, string_bytes};
 ghost use Rattle.std.specs.List.{list_all, list_any};
-ghost use Rattle.save_file.specs.CarriedReading.{IsRead, IsWithEntry, IsWithList, Takes, is_other_list, is_override as is_side_override, line_of_entry, line_of_list, may_enter as may_be_entered, may_list as may_be_listed};
+ghost use Rattle.save_file.specs.CarriedReading.{IsRead, IsWithEntry, IsWithList, Takes, is_other_list, is_override as is_side_override, line_of_entry, line_of_list, may_enter as may_be_entered, may_list as may_be_listed, new_or_fault};
 ghost use Rattle.save_file.specs.Heads.{has};
 ghost use Rattle.save_file.specs.CarriedText.{HasItsForm, IsShort, head_text, lists_member as lists_the_member, lists_member_of};
 ghost use Rattle.script_lines.specs.declared.fault.LineFault.TheVariants.{NoMemory};
@@ -105,66 +105,41 @@ fn may_enter(read: &CarriedRead, line: &EntryLine) -> bool
     (is_override(line.side) || !read.overridden) && is_listed(&line.path, read.lists.as_slice())
 }
 
-// With one more list.
-fn with_list(read: CarriedRead, line: ListLine) -> Result<CarriedRead, LineFault>
-    ensures read { IfOk result (λ new. IsWithList read line new) }
+// Adds a list.
+fn add_list(read: &mut CarriedRead, line: ListLine) -> Result<(), LineFault>
+    ensures read { OnOk result (IsWithList read.old line read.new) }
     ensures memory { IfErr result (λ fault. fault ≡ NoMemory) }
 {
-    let CarriedRead {
-        next,
-        mut lists,
-        entries,
-        heads,
-        overridden,
-    } = read;
-    match lists.push(line) {
+    match read.lists.push(line) {
         Err(_) => Err(LineFault::NoMemory),
-        Ok(()) => Ok(CarriedRead {
-            next,
-            lists,
-            entries,
-            heads,
-            overridden,
-        }),
+        Ok(()) => Ok(()),
     }
 }
 
-// With one more entry.
-fn with_entry(read: CarriedRead, line: EntryLine) -> Result<CarriedRead, LineFault>
-    ensures read { IfOk result (λ new. IsWithEntry read line new) }
+// Adds an entry.
+fn add_entry(read: &mut CarriedRead, line: EntryLine) -> Result<(), LineFault>
+    ensures read { OnOk result (IsWithEntry read.old line read.new) }
     ensures memory { IfErr result (λ fault. fault ≡ NoMemory) }
 {
-    let CarriedRead {
-        next,
-        lists,
-        mut entries,
-        heads,
-        overridden,
-    } = read;
-    let overridden = overridden || is_override(line.side);
-    match entries.push(line) {
+    read.overridden = read.overridden || is_override(line.side);
+    match read.entries.push(line) {
         Err(_) => Err(LineFault::NoMemory),
-        Ok(()) => Ok(CarriedRead {
-            next,
-            lists,
-            entries,
-            heads,
-            overridden,
-        }),
+        Ok(()) => Ok(()),
     }
 }
 
 /// One more list.
-pub fn take_list_line(read: CarriedRead, line: ListLine) -> Result<CarriedRead, LineFault>
-    requires sound { IsRead read }
+pub fn take_list_line(read: &mut CarriedRead, line: ListLine) -> Result<(), LineFault>
+    requires sound { IsRead read.old }
     requires form { HasItsForm (line_of_list line) }
     requires short { IsShort (line_of_list line) }
-    ensures { Takes read (line_of_list line) result }
+    ensures { Takes read.old (line_of_list line) (new_or_fault read.new result) }
 {
-    if !may_list(&read, &line) {
+    if !may_list(read, &line) {
+        drop(line);
         return Err(LineFault::BadLine);
     }
-    with_list(read, line)
+    add_list(read, line)
 }
 
 // Notes what the entry names, and tells whether it is new.
@@ -182,21 +157,27 @@ fn note_head(alloc: Global, heads: &mut Heads, line: &EntryLine) -> Result<bool,
 /// One more entry.
 pub fn take_entry_line(
     alloc: Global,
-    read: CarriedRead,
+    read: &mut CarriedRead,
     line: EntryLine,
-) -> Result<CarriedRead, LineFault>
-    requires sound { IsRead read }
+) -> Result<(), LineFault>
+    requires sound { IsRead read.old }
     requires form { HasItsForm (line_of_entry line) }
     requires short { IsShort (line_of_entry line) }
-    ensures { Takes read (line_of_entry line) result }
+    ensures { Takes read.old (line_of_entry line) (new_or_fault read.new result) }
 {
-    if !may_enter(&read, &line) {
+    if !may_enter(read, &line) {
+        drop(line);
         return Err(LineFault::BadLine);
     }
-    let mut read = read;
     match note_head(alloc, &mut read.heads, &line) {
-        Err(fault) => Err(fault),
-        Ok(false) => Err(LineFault::BadLine),
-        Ok(true) => with_entry(read, line),
+        Err(fault) => {
+            drop(line);
+            Err(fault)
+        }
+        Ok(false) => {
+            drop(line);
+            Err(LineFault::BadLine)
+        }
+        Ok(true) => add_entry(read, line),
     }
 }

@@ -1,7 +1,7 @@
 // Takes the next line of a carried text.
 ghost use Rattle.std.specs.Prelude.{◌≡◌, ◌≢◌, ◌++◌, ◌≤◌, codes, length};
 ghost use Rattle.script_lines.specs.Lines.{HasNoNewline};
-ghost use Rattle.save_file.specs.CarriedReading.{IsCarriedStage, IsRead, JudgesCarried, ReadsCarried, TakesText};
+ghost use Rattle.save_file.specs.CarriedReading.{IsCarriedStage, IsRead, JudgesCarried, ReadsCarried, TakesText, new_or_fault};
 ghost use Rattle.save_file.specs.Following.{BeginsOther};
 ghost use Rattle.save_file.specs.SavedText.{end_line, side_word as word_of_side};
 ghost use Rattle.save_file.specs.declared.carried_stage.CarriedStage.TheVariants.{Lines, Number, Opening};
@@ -58,10 +58,10 @@ fn take_number(alloc: Global, line: &str) -> Result<CarriedStage, LineFault>
 }
 
 // `list ..`, by what stands behind the slash
-fn take_list(alloc: Global, read: CarriedRead, text: &str) -> Result<CarriedRead, LineFault>
-    requires sound { IsRead read }
+fn take_list(alloc: Global, read: &mut CarriedRead, text: &str) -> Result<(), LineFault>
+    requires sound { IsRead read.old }
     requires short { length (codes "list /" ++ text.now) ≤ 4096 }
-    ensures { TakesText read (codes "list /" ++ text.now) result }
+    ensures { TakesText read.old (codes "list /" ++ text.now) (new_or_fault read.new result) }
 {
     match read_list_line(alloc, text) {
         Err(fault) => Err(fault),
@@ -72,14 +72,14 @@ fn take_list(alloc: Global, read: CarriedRead, text: &str) -> Result<CarriedRead
 // `value ..` or `override ..`, by what stands behind the first word
 fn take_entry(
     alloc: Global,
-    read: CarriedRead,
+    read: &mut CarriedRead,
     side: Side,
     text: &str,
-) -> Result<CarriedRead, LineFault>
-    requires sound { IsRead read }
+) -> Result<(), LineFault>
+    requires sound { IsRead read.old }
     requires short { length (word_of_side side ++ text.now) ≤ 4096 }
     requires line { HasNoNewline text.now }
-    ensures { TakesText read (word_of_side side ++ text.now) result }
+    ensures { TakesText read.old (word_of_side side ++ text.now) (new_or_fault read.new result) }
 {
     match read_entry_line(alloc, side, text) {
         Err(fault) => Err(fault),
@@ -88,13 +88,13 @@ fn take_entry(
 }
 
 // A line of an override, or none.
-fn take_override(alloc: Global, read: CarriedRead, line: &str) -> Result<CarriedRead, LineFault>
-    requires sound { IsRead read }
+fn take_override(alloc: Global, read: &mut CarriedRead, line: &str) -> Result<(), LineFault>
+    requires sound { IsRead read.old }
     requires short { length line.now ≤ 4096 }
     requires line { HasNoNewline line.now }
     requires no_list { BeginsOther (codes "list /") line.now }
     requires no_value { BeginsOther (codes "value ") line.now }
-    ensures { TakesText read line.now result }
+    ensures { TakesText read.old line.now (new_or_fault read.new result) }
 {
     match behind("override ", line) {
         None => Err(LineFault::BadLine),
@@ -103,12 +103,12 @@ fn take_override(alloc: Global, read: CarriedRead, line: &str) -> Result<Carried
 }
 
 // A line of an entry, or none.
-fn take_either(alloc: Global, read: CarriedRead, line: &str) -> Result<CarriedRead, LineFault>
-    requires sound { IsRead read }
+fn take_either(alloc: Global, read: &mut CarriedRead, line: &str) -> Result<(), LineFault>
+    requires sound { IsRead read.old }
     requires short { length line.now ≤ 4096 }
     requires line { HasNoNewline line.now }
     requires no_list { BeginsOther (codes "list /") line.now }
-    ensures { TakesText read line.now result }
+    ensures { TakesText read.old line.now (new_or_fault read.new result) }
 {
     match behind("value ", line) {
         None => take_override(alloc, read, line),
@@ -117,10 +117,10 @@ fn take_either(alloc: Global, read: CarriedRead, line: &str) -> Result<CarriedRe
 }
 
 // A line of a list or of an entry.
-fn take_text(alloc: Global, read: CarriedRead, line: &str) -> Result<CarriedRead, LineFault>
-    requires sound { IsRead read }
+fn take_text(alloc: Global, read: &mut CarriedRead, line: &str) -> Result<(), LineFault>
+    requires sound { IsRead read.old }
     requires line { HasNoNewline line.now }
-    ensures { TakesText read line.now result }
+    ensures { TakesText read.old line.now (new_or_fault read.new result) }
 {
     if line.len() > MOST_BYTES {
         return Err(LineFault::BadLine);
@@ -140,9 +140,13 @@ fn take_later(alloc: Global, read: CarriedRead, line: &str) -> Result<CarriedSta
     if is_word(line, "end") {
         return Ok(CarriedStage::Whole(read));
     }
-    match take_text(alloc, read, line) {
-        Err(fault) => Err(fault),
-        Ok(read) => Ok(CarriedStage::Lines(read)),
+    let mut read = read;
+    match take_text(alloc, &mut read, line) {
+        Err(fault) => {
+            drop(read);
+            Err(fault)
+        }
+        Ok(()) => Ok(CarriedStage::Lines(read)),
     }
 }
 
@@ -171,6 +175,7 @@ pub fn read_carried(
     ensures { ReadsCarried stage line.now number result }
 {
     let Ok(text) = str::from_utf8(line) else {
+        drop(stage);
         return Err(LoadFault::BadSaved(number));
     };
     match take_line(alloc, stage, text) {

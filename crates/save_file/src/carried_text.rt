@@ -5,7 +5,8 @@ ghost use Rattle.save_file.specs.CarriedReading.{EndsCarried, GivesLines};
 use crate::carried_read::CarriedRead;
 use crate::carried_stage::{CarriedStage, read_carried};
 use crate::fault::LoadFault;
-use crate::loading::{cut_line, is_ended};
+use crate::loading::is_ended;
+use script_lines::cut_line;
 use std::alloc::Global;
 
 // The lines of a whole text, of which `ended` says whether its last line has its newline.

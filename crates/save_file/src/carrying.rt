@@ -1,6 +1,5 @@
 // Carries a saved text to another dictionary.
 ghost use Rattle.std.specs.Prelude.{◌≡◌, ◌+◌, ◌<◌, ◌++◌, ◌∷◌, [], ℕ, List, Some, ◌≤◌, IfErr, IfOk, OnOk, length, map, if◌then◌else◌};
-ghost use Rattle.answers.specs.Change.{Fits, applied, sets};
 ghost use Rattle.answers.specs.Meaning.{answered};
 ghost use Rattle.graph_session.specs.Naming.{slot_of};
 ghost use Rattle.graph_session.specs.Refusals.{SameChecks};
@@ -14,13 +13,12 @@ ghost use Rattle.save_file.specs.declared.fault.LoadFault.TheVariants.{NoMemory}
 use crate::carried_line::{EntryLine, ListLine};
 use crate::carried_read::CarriedRead;
 use crate::carried_text::read_lines;
-use crate::entry_line::edit_of;
+use crate::entry_line::set_value;
 use crate::fault::LoadFault;
 use crate::keeping::{collection_of, worth_of};
 use crate::opening::open_kept;
-use answers::{Answers, Side};
+use answers::Answers;
 use dictionary::Dictionary;
-use fact_values::{Slot, Value};
 use std::alloc::Global;
 use text_checks::CheckTable;
 
@@ -59,36 +57,24 @@ fn note_list(
     }
 }
 
-// The numbers of the lists that are dropped.
-fn dropped_lists(
-    alloc: Global,
+// Notes the numbers of the lists that are dropped.
+fn note_lists(
     dict: &Dictionary,
     lists: &[ListLine],
-) -> Result<Vec<u32>, LoadFault>
+    dropped: &mut Vec<u32>,
+) -> Result<(), LoadFault>
     requires { length lists.now ≤ 32 }
-    ensures dropped { IfOk result (λ ns. ns.items ≡ numbers_failing (keeps (rules dict.now)) 3 (map line_of_list lists.now)) }
+    ensures noted { OnOk result (dropped.new.items ≡ dropped.old.items ++ numbers_failing (keeps (rules dict.now)) 3 (map line_of_list lists.now)) }
     ensures memory { IfErr result (λ fault. fault ≡ NoMemory) }
 {
-    let mut dropped = Vec::new(alloc);
     let mut number = 3;
     for line in lists {
-        match note_list(dict, line, number, &mut dropped) {
+        match note_list(dict, line, number, dropped) {
             Err(fault) => return Err(fault),
             Ok(()) => number += 1,
         }
     }
-    Ok(dropped)
-}
-
-fn set_value(answers: &mut Answers, side: Side, slot: Slot, value: Value) -> Result<(), LoadFault>
-    requires { Fits (sets side slot (Some value)) (answered answers.old) }
-    ensures new { OnOk result (answered answers.new ≡ applied (sets side slot (Some value)) (answered answers.old)) }
-    ensures memory { IfErr result (λ fault. fault ≡ NoMemory) }
-{
-    match answers.apply(edit_of(side, slot, value)) {
-        Err(_) => Err(LoadFault::NoMemory),
-        Ok(_) => Ok(()),
-    }
+    Ok(())
 }
 
 // Gives a slot the value of an entry that is kept, and notes the number of another.
@@ -109,7 +95,12 @@ fn keep_entry(
     match worth_of(alloc, dict, checks, &carried.answers, line) {
         Err(fault) => Err(fault),
         Ok(None) => note(number, &mut carried.dropped),
-        Ok(Some((slot, value))) => set_value(&mut carried.answers, line.side, slot, value),
+        Ok(Some((slot, value))) => {
+            match set_value(&mut carried.answers, line.side, slot, value) {
+                Err(_) => Err(LoadFault::NoMemory),
+                Ok(()) => Ok(()),
+            }
+        }
     }
 }
 
@@ -119,24 +110,49 @@ fn keep_entries(
     dict: &Dictionary,
     checks: &CheckTable,
     read: &CarriedRead,
-    carried: Carried,
-) -> Result<Carried, LoadFault>
+    carried: &mut Carried,
+) -> Result<(), LoadFault>
     requires same_checks { SameChecks (rules dict.now) (map {B = List ℕ × ℕ} (λ c. (c.name, c.code)) checks.now.checks.items) }
-    requires placed { ArePlaced (tree_of (rules dict.now)) (answered carried.answers) read.now.entries.items }
+    requires placed { ArePlaced (tree_of (rules dict.now)) (answered carried.old.answers) read.now.entries.items }
     requires few { length read.now.lists.items + length read.now.entries.items + 3 < 4294967296 }
-    ensures entered { IfOk result (λ c. answered c.answers ≡ entered (rules dict.now) (answered carried.answers) read.now.entries.items) }
-    ensures dropped { IfOk result (λ c. c.dropped.items ≡ carried.dropped.items ++ numbers_failing (keeps (rules dict.now)) (length read.now.lists.items + 3) (map line_of_entry read.now.entries.items)) }
+    ensures entered { OnOk result (answered carried.new.answers ≡ entered (rules dict.now) (answered carried.old.answers) read.now.entries.items) }
+    ensures dropped { OnOk result (carried.new.dropped.items ≡ carried.old.dropped.items ++ numbers_failing (keeps (rules dict.now)) (length read.now.lists.items + 3) (map line_of_entry read.now.entries.items)) }
     ensures memory { IfErr result (λ fault. fault ≡ NoMemory) }
 {
-    let mut carried = carried;
     let mut number = read.lists.len() as u32 + 3;
     for line in read.entries.iter() {
-        match keep_entry(alloc, dict, checks, line, number, &mut carried) {
+        match keep_entry(alloc, dict, checks, line, number, carried) {
             Err(fault) => return Err(fault),
             Ok(()) => number += 1,
         }
     }
-    Ok(carried)
+    Ok(())
+}
+
+// The same of all lines, of which the collections are open.
+fn keep_lines(
+    alloc: Global,
+    dict: &Dictionary,
+    checks: &CheckTable,
+    read: &CarriedRead,
+    carried: &mut Carried,
+) -> Result<(), LoadFault>
+    requires same_checks { SameChecks (rules dict.now) (map {B = List ℕ × ℕ} (λ c. (c.name, c.code)) checks.now.checks.items) }
+    requires placed { ArePlaced (tree_of (rules dict.now)) (answered carried.old.answers) read.now.entries.items }
+    requires lists { length read.now.lists.items ≤ 32 }
+    requires few { length read.now.lists.items + length read.now.entries.items + 3 < 4294967296 }
+    requires none { carried.old.dropped.items ≡ [] }
+    ensures entered { OnOk result (answered carried.new.answers ≡ entered (rules dict.now) (answered carried.old.answers) read.now.entries.items) }
+    ensures dropped { OnOk result (carried.new.dropped.items ≡ numbers_failing (keeps (rules dict.now)) 3 (map line_of_list read.now.lists.items) ++ numbers_failing (keeps (rules dict.now)) (length read.now.lists.items + 3) (map line_of_entry read.now.entries.items)) }
+    ensures memory { IfErr result (λ fault. fault ≡ NoMemory) }
+{
+    match note_lists(dict, read.lists.as_slice(), &mut carried.dropped) {
+        Err(fault) => Err(fault),
+        Ok(()) => match keep_entries(alloc, dict, checks, read, carried) {
+            Err(fault) => Err(fault),
+            Ok(()) => Ok(()),
+        },
+    }
 }
 
 // Carries lines that make a carried text.
@@ -155,10 +171,17 @@ fn carry_lines(
     let _accepted = dict.source();
     match open_kept(alloc, dict, read) {
         Err(fault) => Err(fault),
-        Ok(answers) => match dropped_lists(alloc, dict, read.lists.as_slice()) {
-            Err(fault) => Err(fault),
-            Ok(dropped) => keep_entries(alloc, dict, checks, read, Carried { answers, dropped }),
-        },
+        Ok(answers) => {
+            let dropped = Vec::new(alloc);
+            let mut carried = Carried { answers, dropped };
+            match keep_lines(alloc, dict, checks, read, &mut carried) {
+                Err(fault) => {
+                    drop(carried);
+                    Err(fault)
+                }
+                Ok(()) => Ok(carried),
+            }
+        }
     }
 }
 

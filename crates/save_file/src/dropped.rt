@@ -6,8 +6,8 @@ ghost use Rattle.script_lines.specs.Joined.{joined};
 ghost use Rattle.script_lines.specs.Lines.{lines_of};
 ghost use Rattle.save_file.specs.Dropped.{HasNoBlank, IsBlankAt, IsDroppedText, behind_word as bytes_behind_word, is_next as is_next_of, past as past_of, said_at, said_if, said_of, word_of};
 
-use crate::loading::cut_line;
 use fg_io::{Failed, Sink, put_text};
+use script_lines::cut_line;
 
 // The place of the first blank.
 fn blank_at(text: &[u8]) -> Option<usize>
@@ -28,53 +28,17 @@ fn cut_word(text: &[u8]) -> (&[u8], &[u8])
     }
 }
 
-// Puts the first word.
-fn put_first<K: Sink>(text: &[u8], out: &mut K) -> Result<(), Failed>
-    ensures { Wrote (K.taken out.old) (K.taken out.new) (K.faults out.old) (K.faults out.new) (word_of text.now) result }
-{
-    let cut = cut_word(text);
-    put_text(cut.0, out)
-}
-
-// Puts the second word, and a newline.
-fn put_second<K: Sink>(line: &[u8], out: &mut K) -> Result<(), Failed>
-    ensures { Wrote (K.taken out.old) (K.taken out.new) (K.faults out.old) (K.faults out.new) (word_of (bytes_behind_word line.now) ++ 10 ∷ []) result }
-{
-    let cut = cut_word(line);
-    match put_first(cut.1, out) {
-        Err(failed) => Err(failed),
-        Ok(()) => put_text(b"\n", out),
-    }
-}
-
-// Puts a blank, and what stands behind it.
-fn put_behind<K: Sink>(line: &[u8], out: &mut K) -> Result<(), Failed>
-    ensures { Wrote (K.taken out.old) (K.taken out.new) (K.faults out.old) (K.faults out.new) (32 ∷ (word_of (bytes_behind_word line.now) ++ 10 ∷ [])) result }
-{
-    match put_text(b" ", out) {
-        Err(failed) => Err(failed),
-        Ok(()) => put_second(line, out),
-    }
-}
-
-// Puts the first two words.
-fn put_words<K: Sink>(line: &[u8], out: &mut K) -> Result<(), Failed>
-    ensures { Wrote (K.taken out.old) (K.taken out.new) (K.faults out.old) (K.faults out.new) (word_of line.now ++ 32 ∷ (word_of (bytes_behind_word line.now) ++ 10 ∷ [])) result }
-{
-    match put_first(line, out) {
-        Err(failed) => Err(failed),
-        Ok(()) => put_behind(line, out),
-    }
-}
-
-// Puts what is said of a line.
+// Puts what is said of a line: its first two words.
 fn put_line<K: Sink>(line: &[u8], out: &mut K) -> Result<(), Failed>
     ensures { Wrote (K.taken out.old) (K.taken out.new) (K.faults out.old) (K.faults out.new) (joined (said_of line.now ∷ [])) result }
 {
-    match put_text(b"dropped ", out) {
-        Err(failed) => Err(failed),
-        Ok(()) => put_words(line, out),
-    }
+    let kind = cut_word(line);
+    let name = cut_word(kind.1);
+    put_text(b"dropped ", out)?;
+    put_text(kind.0, out)?;
+    put_text(b" ", out)?;
+    put_text(name.0, out)?;
+    put_text(b"\n", out)
 }
 
 // Whether this number is the next of those that rise.

@@ -1,5 +1,5 @@
 // Takes the line of an answer or of an override.
-ghost use Rattle.std.specs.Prelude.{◌≡◌, ◌≢◌, ◌++◌, ◌≤◌, ℕ, List, IsTrue, IfErr, IfOk, IfSome, Some, codes, length};
+ghost use Rattle.std.specs.Prelude.{◌≡◌, ◌≢◌, ◌++◌, ◌≤◌, ℕ, List, IsTrue, IfErr, IfSome, OnOk, Some, codes, length};
 ghost use Rattle.fact_values.specs.declared.value.Value.{Value as Worth};
 ghost use Rattle.answers.specs.Change.{Fits, applied, sets};
 ghost use Rattle.answers.specs.Meaning.{answered, change};
@@ -9,7 +9,7 @@ ghost use Rattle.dictionary.specs.Fits.{AnswersFit, takes};
 ghost use Rattle.graph_session.specs.Kinds.{is_given};
 ghost use Rattle.script_lines.specs.declared.fault.LineFault.TheVariants.{NoMemory};
 ghost use Rattle.save_file.specs.Cursors.{slots_left};
-ghost use Rattle.save_file.specs.Following.{AreSlots, IsStage, Judges};
+ghost use Rattle.save_file.specs.Following.{AreSlots, Enters, IsStage, Judges};
 ghost use Rattle.save_file.specs.Reading.{FindsSlot, ReadsPrinted, ReadsValue};
 ghost use Rattle.save_file.specs.SavedText.{side_word as word_of_side};
 ghost use Rattle.save_file.specs.declared.stage.Stage.TheVariants.{Entries};
@@ -85,8 +85,8 @@ fn read_entry(
     read_printed(alloc, dict, fact, text)
 }
 
-/// The edit that gives a slot a value.
-pub fn edit_of(side: Side, slot: Slot, value: Value) -> Edit
+// The edit that gives a slot a value.
+fn edit_of(side: Side, slot: Slot, value: Value) -> Edit
     ensures { change result ≡ sets side slot (Some value) }
 {
     match side {
@@ -95,16 +95,50 @@ pub fn edit_of(side: Side, slot: Slot, value: Value) -> Edit
     }
 }
 
-// Gives a slot a value.
-fn with_value(answers: Answers, side: Side, slot: Slot, value: Value) -> Result<Answers, LineFault>
-    requires { Fits (sets side slot (Some value)) (answered answers) }
-    ensures new { IfOk result (λ b. answered b ≡ applied (sets side slot (Some value)) (answered answers)) }
+/// Gives a slot a value.
+pub fn set_value(
+    answers: &mut Answers,
+    side: Side,
+    slot: Slot,
+    value: Value,
+) -> Result<(), LineFault>
+    requires { Fits (sets side slot (Some value)) (answered answers.old) }
+    ensures new { OnOk result (answered answers.new ≡ applied (sets side slot (Some value)) (answered answers.old)) }
     ensures memory { IfErr result (λ fault. fault ≡ NoMemory) }
 {
-    let mut answers = answers;
     match answers.apply(edit_of(side, slot, value)) {
-        Err(_) => Err(LineFault::NoMemory),
-        Ok(_) => Ok(answers),
+        Err(unapplied) => {
+            drop(unapplied);
+            Err(LineFault::NoMemory)
+        }
+        Ok(back) => {
+            drop(back);
+            Ok(())
+        }
+    }
+}
+
+// Gives a slot that is left the value of a line, by what stands behind its first word.
+fn enter(
+    alloc: Global,
+    dict: &Dictionary,
+    read: &mut EntriesRead,
+    text: &str,
+) -> Result<(), LineFault>
+    requires { IsStage (accepted dict.now).tree (Entries read.old) }
+    ensures { Enters (accepted dict.now).tree read.old (word_of_side read.old.side ++ text.now) read.new result }
+{
+    let _accepted = dict.source();
+    let _enums = dict.source().enums().len();
+    let Some((path, value)) = at_blank(text) else {
+        return Err(LineFault::BadLine);
+    };
+    let Some(slot) = find_slot(dict, &read.answers, &mut read.cursor, path) else {
+        return Err(LineFault::BadLine);
+    };
+    match read_entry(alloc, dict, read.side, slot.fact, value) {
+        Err(fault) => Err(fault),
+        Ok(value) => set_value(&mut read.answers, read.side, slot, value),
     }
 }
 
@@ -118,28 +152,12 @@ pub fn take_entry(
     requires { IsStage (accepted dict.now).tree (Entries read) }
     ensures { Judges (accepted dict.now).tree (Entries read) (word_of_side read.side ++ text.now) result }
 {
-    let _accepted = dict.source();
-    let _enums = dict.source().enums().len();
-    let EntriesRead {
-        side,
-        answers,
-        mut cursor,
-    } = read;
-    let Some((path, value)) = at_blank(text) else {
-        return Err(LineFault::BadLine);
-    };
-    let Some(slot) = find_slot(dict, &answers, &mut cursor, path) else {
-        return Err(LineFault::BadLine);
-    };
-    match read_entry(alloc, dict, side, slot.fact, value) {
-        Err(fault) => Err(fault),
-        Ok(value) => match with_value(answers, side, slot, value) {
-            Err(fault) => Err(fault),
-            Ok(answers) => Ok(Stage::Entries(EntriesRead {
-                side,
-                answers,
-                cursor,
-            })),
-        },
+    let mut read = read;
+    match enter(alloc, dict, &mut read, text) {
+        Err(fault) => {
+            drop(read);
+            Err(fault)
+        }
+        Ok(()) => Ok(Stage::Entries(read)),
     }
 }

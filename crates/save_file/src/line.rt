@@ -4,13 +4,13 @@ ghost use Rattle.answers.specs.declared.edit.Side.TheVariants.{Answer, Override}
 ghost use Rattle.dict_tree.specs.Dictionary.{Dictionary as Tree};
 ghost use Rattle.dictionary.specs.Accepted.{accepted};
 ghost use Rattle.save_file.specs.Following.{AreRead, BeginsOther, GoesOn, IsStage, Judges, ReadsOn};
-ghost use Rattle.save_file.specs.declared.stage.Stage.TheVariants.{Entries, Lists, Number, Opening};
+ghost use Rattle.save_file.specs.declared.stage.Stage.TheVariants.{Entries, Lists, Number, Opening, Whole};
 
 use crate::cursor::Cursor;
 use crate::entry_line::take_entry;
 use crate::fault::LoadFault;
 use crate::list_line::{open_lists, take_list};
-use crate::reading::{behind, is_word, read_next};
+use crate::reading::{behind, is_word, read_next, text_of};
 use crate::stage::{EntriesRead, ListsRead, Stage};
 use answers::Side;
 use dictionary::Dictionary;
@@ -45,6 +45,12 @@ fn take_number(alloc: Global, line: &str) -> Result<Stage, LineFault>
     }))
 }
 
+fn whole(read: EntriesRead) -> Stage
+    ensures { result ≡ Whole read.answers }
+{
+    Stage::Whole(read.answers)
+}
+
 // `end`
 fn take_end(dict: &Dictionary, read: EntriesRead, line: &str) -> Result<Stage, LineFault>
     requires side { read.side ≡ Override }
@@ -54,8 +60,9 @@ fn take_end(dict: &Dictionary, read: EntriesRead, line: &str) -> Result<Stage, L
 {
     let _accepted = dict.source();
     if is_word(line, "end") {
-        Ok(Stage::Whole(read.answers))
+        Ok(whole(read))
     } else {
+        drop(read);
         Err(LineFault::BadLine)
     }
 }
@@ -154,7 +161,28 @@ fn take_line(alloc: Global, dict: &Dictionary, stage: Stage, line: &str) -> Resu
         Stage::Number => take_number(alloc, line),
         Stage::Lists(read) => take_lists(alloc, dict, read, line),
         Stage::Entries(read) => take_entries(alloc, dict, read, line),
-        Stage::Whole(_) => Err(LineFault::BadLine),
+        Stage::Whole(answers) => {
+            drop(answers);
+            Err(LineFault::BadLine)
+        }
+    }
+}
+
+// Takes the text of the line of this number.
+fn read_text(
+    alloc: Global,
+    dict: &Dictionary,
+    stage: Stage,
+    text: &str,
+    number: u32,
+) -> Result<Stage, LoadFault>
+    requires { IsStage (accepted dict.now).tree stage }
+    ensures { ReadsOn (accepted dict.now).tree stage text.now number result }
+{
+    match take_line(alloc, dict, stage, text) {
+        Ok(new) => Ok(new),
+        Err(LineFault::BadLine) => Err(LoadFault::BadSaved(number)),
+        Err(LineFault::NoMemory) => Err(LoadFault::NoMemory),
     }
 }
 
@@ -169,12 +197,11 @@ pub fn read_on(
     requires { IsStage (accepted dict.now).tree stage }
     ensures { ReadsOn (accepted dict.now).tree stage line.now number result }
 {
-    let Ok(text) = str::from_utf8(line) else {
-        return Err(LoadFault::BadSaved(number));
-    };
-    match take_line(alloc, dict, stage, text) {
-        Ok(new) => Ok(new),
-        Err(LineFault::BadLine) => Err(LoadFault::BadSaved(number)),
-        Err(LineFault::NoMemory) => Err(LoadFault::NoMemory),
+    match text_of(line) {
+        None => {
+            drop(stage);
+            Err(LoadFault::BadSaved(number))
+        }
+        Some(text) => read_text(alloc, dict, stage, text, number),
     }
 }

@@ -1,6 +1,5 @@
 // Loads the answers of a saved text.
-ghost use Rattle.std.specs.Prelude.{◌≡◌, ◌↔◌, ◌<◌, ◌∷◌, [], ◌++◌, ℕ, List, IsTrue, IfErr, IfOk, IfNone, IfSome, length};
-ghost use Rattle.script_lines.specs.Lines.{HasNoNewline, IsNewlineAt, lines_of};
+ghost use Rattle.std.specs.Prelude.{◌≡◌, ◌↔◌, ◌<◌, ◌∷◌, [], ◌++◌, ℕ, List, IsTrue, IfErr, IfOk, length};
 ghost use Rattle.answers.specs.Answered.{Answered};
 ghost use Rattle.answers.specs.Meaning.{answered};
 ghost use Rattle.dictionary.specs.Accepted.{accepted};
@@ -14,27 +13,8 @@ use crate::line::read_on;
 use crate::stage::Stage;
 use answers::Answers;
 use dictionary::Dictionary;
+use script_lines::cut_line;
 use std::alloc::Global;
-
-// The place of the first newline.
-fn newline_at(bytes: &[u8]) -> Option<usize>
-    ensures found { IfSome result (IsNewlineAt bytes.now) }
-    ensures none { IfNone result (HasNoNewline bytes.now) }
-{
-    bytes.iter().position(|byte| *byte == b'\n')
-}
-
-/// The first line, and what stands behind its newline.
-pub fn cut_line(bytes: &[u8]) -> (&[u8], &[u8])
-    requires { 0 < length bytes.now }
-    ensures lines { lines_of bytes.now ≡ result.0.now ∷ lines_of result.1.now }
-    ensures shorter { length result.1.now < length bytes.now }
-{
-    match newline_at(bytes) {
-        None => (bytes, &[]),
-        Some(at) => (&bytes[..at], &bytes[at + 1..]),
-    }
-}
 
 /// Whether the last byte is a newline.
 pub fn is_ended(bytes: &[u8]) -> bool
@@ -51,16 +31,17 @@ fn end_with(stage: Stage, ended: bool, number: u32) -> Result<Answers, LoadFault
     ensures { Ends stage ended number result }
 {
     match stage {
-        Stage::Opening => Err(LoadFault::BadSaved(number)),
-        Stage::Number => Err(LoadFault::BadSaved(number)),
-        Stage::Lists(_) => Err(LoadFault::BadSaved(number)),
-        Stage::Entries(_) => Err(LoadFault::BadSaved(number)),
         Stage::Whole(answers) => {
             if ended {
                 Ok(answers)
             } else {
+                drop(answers);
                 Err(LoadFault::BadSaved(number))
             }
+        }
+        other => {
+            drop(other);
+            Err(LoadFault::BadSaved(number))
         }
     }
 }

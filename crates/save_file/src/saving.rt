@@ -5,9 +5,7 @@ ghost use Rattle.fg_io.specs.Outside.{HasCause};
 ghost use Rattle.fg_io.specs.Sent.{Sent};
 ghost use Rattle.dictionary.specs.Accepted.{accepted};
 ghost use Rattle.dictionary.specs.Fits.{AnswersFit};
-ghost use Rattle.answers.specs.declared.edit.Side.TheVariants.{Answer, Override};
-ghost use Rattle.script_lines.specs.Joined.{joined};
-ghost use Rattle.save_file.specs.SavedText.{end_line, entries, lists, next_line, saved, saved_lines};
+ghost use Rattle.save_file.specs.SavedText.{next_line, saved};
 ghost use Rattle.fg_io.specs.Writing.{Wrote};
 
 use crate::entries::put_entries;
@@ -31,59 +29,17 @@ fn put_next<K: Sink>(next: u32, out: &mut K) -> Result<(), Failed>
     put_text(line.bytes(), out)
 }
 
-// Puts the overrides and the last line.
-fn put_overrides<K: Sink>(dict: &Dictionary, answers: &Answers, out: &mut K) -> Result<(), Failed>
-    requires { AnswersFit (accepted dict.now).tree (answered answers.now) }
-    ensures { Wrote (K.taken out.old) (K.taken out.new) (K.faults out.old) (K.faults out.new) (joined (entries Override (accepted dict.now).tree (answered answers.now) ++ end_line ∷ [])) result }
-{
-    match put_entries(dict, answers, Side::Override, out) {
-        Err(failed) => Err(failed),
-        Ok(()) => put_text(b"end\n", out),
-    }
-}
-
-// Puts the answers, and what stands behind them.
-fn put_answers<K: Sink>(dict: &Dictionary, answers: &Answers, out: &mut K) -> Result<(), Failed>
-    requires { AnswersFit (accepted dict.now).tree (answered answers.now) }
-    ensures { Wrote (K.taken out.old) (K.taken out.new) (K.faults out.old) (K.faults out.new) (joined (entries Answer (accepted dict.now).tree (answered answers.now) ++ (entries Override (accepted dict.now).tree (answered answers.now) ++ end_line ∷ []))) result }
-{
-    match put_entries(dict, answers, Side::Answer, out) {
-        Err(failed) => Err(failed),
-        Ok(()) => put_overrides(dict, answers, out),
-    }
-}
-
-// Puts the lists, and what stands behind them.
-fn put_content<K: Sink>(dict: &Dictionary, answers: &Answers, out: &mut K) -> Result<(), Failed>
-    requires { AnswersFit (accepted dict.now).tree (answered answers.now) }
-    ensures { Wrote (K.taken out.old) (K.taken out.new) (K.faults out.old) (K.faults out.new) (joined (lists (accepted dict.now).tree (answered answers.now) ++ (entries Answer (accepted dict.now).tree (answered answers.now) ++ (entries Override (accepted dict.now).tree (answered answers.now) ++ end_line ∷ [])))) result }
-{
-    match put_lists(dict, answers, out) {
-        Err(failed) => Err(failed),
-        Ok(()) => put_answers(dict, answers, out),
-    }
-}
-
-// Puts the next number, and what stands behind it.
-fn put_numbered<K: Sink>(dict: &Dictionary, answers: &Answers, out: &mut K) -> Result<(), Failed>
-    requires { AnswersFit (accepted dict.now).tree (answered answers.now) }
-    ensures { Wrote (K.taken out.old) (K.taken out.new) (K.faults out.old) (K.faults out.new) (joined (next_line (answered answers.now).next ∷ (lists (accepted dict.now).tree (answered answers.now) ++ (entries Answer (accepted dict.now).tree (answered answers.now) ++ (entries Override (accepted dict.now).tree (answered answers.now) ++ end_line ∷ []))))) result }
-{
-    match put_next(answers.next_number(), out) {
-        Err(failed) => Err(failed),
-        Ok(()) => put_content(dict, answers, out),
-    }
-}
-
 // Puts the saved text.
 fn put_saved<K: Sink>(dict: &Dictionary, answers: &Answers, out: &mut K) -> Result<(), Failed>
     requires { AnswersFit (accepted dict.now).tree (answered answers.now) }
-    ensures { Wrote (K.taken out.old) (K.taken out.new) (K.faults out.old) (K.faults out.new) (joined (saved_lines (accepted dict.now).tree (answered answers.now))) result }
+    ensures { Wrote (K.taken out.old) (K.taken out.new) (K.faults out.old) (K.faults out.new) (saved (accepted dict.now).tree (answered answers.now)) result }
 {
-    match put_text(b"saved 1\n", out) {
-        Err(failed) => Err(failed),
-        Ok(()) => put_numbered(dict, answers, out),
-    }
+    put_text(b"saved 1\n", out)?;
+    put_next(answers.next_number(), out)?;
+    put_lists(dict, answers, out)?;
+    put_entries(dict, answers, Side::Answer, out)?;
+    put_entries(dict, answers, Side::Override, out)?;
+    put_text(b"end\n", out)
 }
 
 /// Puts the saved text of answers that fit the dictionary, line after line; a line may be put in several pieces. After a

@@ -1,18 +1,18 @@
 -- The lines of bytes, by the byte or the text in front.
-use Rattle.std.proofs.Common.{◌≡◌, ◌≢◌, ℕ, ◌<◌, List, [], ◌∷◌, ◌++◌, length, refl, sym, ◌∙◌, ap, arith, length-append}
+use Rattle.std.proofs.Common.{◌≡◌, ◌≢◌, ℕ, ◌+◌, ◌-◌, ◌<◌, List, [], ◌∷◌, ◌++◌, length, take, drop, refl, sym, ◌∙◌, ap, arith, length-append, length-drop}
 use Rattle.std.specs.Prelude.{map, if◌then◌else◌, ◌==◌}
 use Rattle.std.proofs.lemmas.Bool.Decides.{nat_tests}
-use Rattle.std.proofs.lemmas.List.{append-nil}
+use Rattle.std.proofs.lemmas.List.{append-nil, drop_more, take-append-drop, take_all}
 use Rattle.std.proofs.lemmas.List.Elements.{All-append, All-head, All-tail}
 use Rattle.script_lines.specs.Joined.{last_line}
-use Rattle.script_lines.specs.Lines.{long, lines_of, ended_of, line_of, script_lines, onto_first, onto_ended, HasNoNewline}
+use Rattle.script_lines.specs.Lines.{long, lines_of, ended_of, line_of, script_lines, onto_first, onto_ended, HasNoNewline, IsNewlineAt}
 
--- a choice at a newline, and at another byte
-pub at_newline : {X : Type 0} (b : ℕ) (x y : X) → b ≡ 10 → (if b == 10 then x else y) ≡ x
-at_newline b x y is = grind (arith, nat_tests)
+-- a choice at the byte that is looked for, and at another one
+pub at_byte : {X : Type 0} (n b : ℕ) (x y : X) → b ≡ n → (if b == n then x else y) ≡ x
+at_byte n b x y is = grind (arith, nat_tests)
 
-pub at_other : {X : Type 0} (b : ℕ) (x y : X) → b ≢ 10 → (if b == 10 then x else y) ≡ y
-at_other b x y apart = grind (arith, nat_tests)
+pub at_other : {X : Type 0} (n b : ℕ) (x y : X) → b ≢ n → (if b == n then x else y) ≡ y
+at_other n b x y apart = grind (arith, nat_tests)
 
 -- the first byte, and the others
 no_newline_first : (b : ℕ) (bytes : List ℕ) → HasNoNewline (b ∷ bytes) → b ≢ 10
@@ -28,13 +28,13 @@ HasNoNewline-append = All-append (λ b. b ≢ 10)
 pub lines_of-newline : (line more : List ℕ) → HasNoNewline line → lines_of (line ++ 10 ∷ more) ≡ line ∷ lines_of more
 lines_of-newline [] more none = refl
 lines_of-newline (b ∷ line) more none =
-    at_other b _ _ (no_newline_first b line none)
+    at_other 10 b _ _ (no_newline_first b line none)
     ∙ ap (onto_first b) (lines_of-newline line more (no_newline_others b line none))
 
 pub ended_of-newline : (line more : List ℕ) → HasNoNewline line → ended_of (line ++ 10 ∷ more) ≡ line ∷ ended_of more
 ended_of-newline [] more none = refl
 ended_of-newline (b ∷ line) more none =
-    at_other b _ _ (no_newline_first b line none)
+    at_other 10 b _ _ (no_newline_first b line none)
     ∙ ap (onto_ended b) (ended_of-newline line more (no_newline_others b line none))
 
 -- the first line, and the others
@@ -53,9 +53,9 @@ onto_first-parts b (line ∷ lines) = refl
 -- a text without a newline begins the first line
 lines_of-front : (b : ℕ) (front more : List ℕ) → HasNoNewline (b ∷ front)
     → lines_of ((b ∷ front) ++ more) ≡ ((b ∷ front) ++ first_line (lines_of more)) ∷ other_lines (lines_of more)
-lines_of-front b [] more none = at_other b _ _ (no_newline_first b [] none) ∙ onto_first-parts b (lines_of more)
+lines_of-front b [] more none = at_other 10 b _ _ (no_newline_first b [] none) ∙ onto_first-parts b (lines_of more)
 lines_of-front b (c ∷ front) more none =
-    at_other b _ _ (no_newline_first b (c ∷ front) none)
+    at_other 10 b _ _ (no_newline_first b (c ∷ front) none)
     ∙ ap (onto_first b) (lines_of-front c front more (no_newline_others b (c ∷ front) none))
 
 -- a text without a newline, alone
@@ -67,7 +67,7 @@ lines_of-last (b ∷ line) none =
 pub ended_of-last : (line : List ℕ) → HasNoNewline line → ended_of line ≡ []
 ended_of-last [] none = refl
 ended_of-last (b ∷ line) none =
-    at_other b _ _ (no_newline_first b line none)
+    at_other 10 b _ _ (no_newline_first b line none)
     ∙ ap (onto_ended b) (ended_of-last line (no_newline_others b line none))
 
 line_of-long : (line : List ℕ) → 4096 < length line → line_of line ≡ long
@@ -88,3 +88,20 @@ pub long_same : (front other more : List ℕ) → HasNoNewline front → HasNoNe
     → script_lines (front ++ more) ≡ script_lines (other ++ more)
 long_same front other more none other_none over other_over =
     script_lines-long front more none over ∙ sym (script_lines-long other more other_none other_over)
+
+-- ---- the first line, cut off
+
+-- up to the first newline, and behind it
+pub cut_at : (bytes : List ℕ) (at : ℕ) → IsNewlineAt bytes at → lines_of bytes ≡ take at bytes ∷ lines_of (take (length bytes - (at + 1)) (drop (at + 1) bytes))
+cut_at bytes at newline =
+    let rest = drop (at + 1) bytes in
+    let parts : bytes ≡ take at bytes ++ 10 ∷ rest =
+    sym (take-append-drop at bytes) ∙ ap (λ l. take at bytes ++ l) (drop_more bytes at 0 newline.within ∙ ap (λ b. b ∷ rest) newline.here) in
+    ap lines_of parts
+    ∙ lines_of-newline (take at bytes) rest newline.first
+    ∙ ap (λ (r : List ℕ). take at bytes ∷ lines_of r) (sym (take_all (length bytes - (at + 1)) rest (omega (arith, length-drop (at + 1) bytes))))
+
+-- a last line without a newline
+pub uncut : (bytes : List ℕ) → 0 < length bytes → HasNoNewline bytes → lines_of bytes ≡ bytes ∷ lines_of []
+uncut [] some none = absurd (omega arith)
+uncut (b ∷ bytes) some none = lines_of-last (b ∷ bytes) none

@@ -5,7 +5,7 @@ use Rattle.std.proofs.lemmas.Bool.{cases_eq}
 use Rattle.std.proofs.lemmas.List.{append-nil, map-append, same_from_push}
 use Rattle.std.proofs.lemmas.List.Elements.{All-nil, All-cons, All-head, All-tail}
 use Rattle.script_lines.specs.Lines.{ScriptLine, lines_of, ended_of, line_of, script_lines, ended_lines, onto_first, onto_ended, HasNoNewline}
-use Rattle.script_lines.proofs.Bytes.{at_newline, at_other, lines_of-newline, ended_of-newline}
+use Rattle.script_lines.proofs.Bytes.{at_byte, at_other, lines_of-newline, ended_of-newline}
 
 -- bytes whose ended lines are these, and what they hold behind the last newline
 record Cut (bytes : List ℕ) (ended : List (List ℕ)) : Type 0 where
@@ -18,8 +18,8 @@ cut_newline : (b : ℕ) (bytes : List ℕ) (ended : List (List ℕ)) → b ≡ 1
 cut_newline b bytes ended is cut = record {
   held = cut.held;
   no_newline = cut.no_newline;
-  lines_go_on = λ more. at_newline b _ _ is ∙ ap (λ lines. [] ∷ lines) (cut.lines_go_on more);
-  ended_goes_on = λ more. at_newline b _ _ is ∙ ap (λ lines. [] ∷ lines) (cut.ended_goes_on more);
+  lines_go_on = λ more. at_byte 10 b _ _ is ∙ ap (λ lines. [] ∷ lines) (cut.lines_go_on more);
+  ended_goes_on = λ more. at_byte 10 b _ _ is ∙ ap (λ lines. [] ∷ lines) (cut.ended_goes_on more);
 }
 
 -- another byte goes before the first ended line, or before what is held
@@ -27,21 +27,21 @@ cut_other : (b : ℕ) (bytes : List ℕ) (ended : List (List ℕ)) → b ≢ 10 
 cut_other b bytes [] apart cut = record {
   held = b ∷ cut.held;
   no_newline = All-cons (λ b. b ≢ 10) b cut.held apart cut.no_newline;
-  lines_go_on = λ more. at_other b _ _ apart ∙ ap (onto_first b) (cut.lines_go_on more) ∙ sym (at_other b _ _ apart);
-  ended_goes_on = λ more. at_other b _ _ apart ∙ ap (onto_ended b) (cut.ended_goes_on more) ∙ sym (at_other b _ _ apart);
+  lines_go_on = λ more. at_other 10 b _ _ apart ∙ ap (onto_first b) (cut.lines_go_on more) ∙ sym (at_other 10 b _ _ apart);
+  ended_goes_on = λ more. at_other 10 b _ _ apart ∙ ap (onto_ended b) (cut.ended_goes_on more) ∙ sym (at_other 10 b _ _ apart);
 }
 cut_other b bytes (line ∷ lines) apart cut = record {
   held = cut.held;
   no_newline = cut.no_newline;
-  lines_go_on = λ more. at_other b _ _ apart ∙ ap (onto_first b) (cut.lines_go_on more);
-  ended_goes_on = λ more. at_other b _ _ apart ∙ ap (onto_ended b) (cut.ended_goes_on more);
+  lines_go_on = λ more. at_other 10 b _ _ apart ∙ ap (onto_first b) (cut.lines_go_on more);
+  ended_goes_on = λ more. at_other 10 b _ _ apart ∙ ap (onto_ended b) (cut.ended_goes_on more);
 }
 
 cut : (bytes : List ℕ) → Cut bytes (ended_of bytes)
 cut [] = record { held = []; no_newline = All-nil (λ b. b ≢ 10); lines_go_on = λ more. refl; ended_goes_on = λ more. refl }
 cut (b ∷ bytes) = elim (cases_eq b 10) [
-  | inl is ↦ subst (Cut (b ∷ bytes)) (sym (at_newline b _ _ is)) (cut_newline b bytes (ended_of bytes) is (cut bytes))
-  | inr apart ↦ subst (Cut (b ∷ bytes)) (sym (at_other b _ _ apart)) (cut_other b bytes (ended_of bytes) apart (cut bytes))
+  | inl is ↦ subst (Cut (b ∷ bytes)) (sym (at_byte 10 b _ _ is)) (cut_newline b bytes (ended_of bytes) is (cut bytes))
+  | inr apart ↦ subst (Cut (b ∷ bytes)) (sym (at_other 10 b _ _ apart)) (cut_other b bytes (ended_of bytes) apart (cut bytes))
 ]
 
 -- bytes that follow leave the ended lines as they are
@@ -85,7 +85,7 @@ ended_follows bytes behind lines stream =
 pub none_ended : (bytes : List ℕ) → HasNoNewline bytes → ended_lines bytes ≡ []
 none_ended [] none = refl
 none_ended (b ∷ bytes) none =
-    ap (map line_of) (at_other b _ _ (All-head (λ b. b ≢ 10) b bytes none)) ∙ onto_none bytes (none_ended bytes (All-tail (λ b. b ≢ 10) b bytes none))
+    ap (map line_of) (at_other 10 b _ _ (All-head (λ b. b ≢ 10) b bytes none)) ∙ onto_none bytes (none_ended bytes (All-tail (λ b. b ≢ 10) b bytes none))
   where
     onto_none : (bytes : List ℕ) → ended_lines bytes ≡ [] → map line_of (onto_ended b (ended_of bytes)) ≡ []
     onto_none bytes is = elim (ended_of bytes) as (λ lines. map line_of lines ≡ [] → map line_of (onto_ended b lines) ≡ []) [ [] ↦ λ e. refl | line ∷ lines ↦ λ e. cc ] is

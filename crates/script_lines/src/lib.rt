@@ -2,6 +2,7 @@
 #![tactic(auto)]
 
 mod command;
+mod cutting;
 mod fault;
 mod kept;
 mod laws;
@@ -13,6 +14,7 @@ mod value;
 mod verb;
 
 pub use command::Command;
+pub use cutting::cut_line;
 pub use fault::LineFault;
 pub use laws::{a_line_says_one_thing, ended_lines_stand, lines_are_those_joined};
 pub use lines::{Fed, Lines, Ready};

@@ -2,6 +2,7 @@ ghost use Rattle.std.specs.Prelude.{◌≡◌, ◌<◌, ◌≤◌, [], ◌++◌,
 ghost use Rattle.script_lines.specs.Lines.{script_lines, ready_lines, HasNoNewline, IsNewlineAt, TakesLine, EndsLine};
 ghost use Rattle.script_lines.specs.Kept.{read_as};
 
+use crate::cutting::newline_at;
 use crate::kept::Kept;
 use std::marker::Model;
 
@@ -113,14 +114,6 @@ impl Lines {
     {
         if self.is_told { &self.kept.bytes } else { &[] }
     }
-}
-
-// The place of the first newline.
-fn newline_at(bytes: &[u8]) -> Option<usize>
-    ensures found { IfSome result (IsNewlineAt bytes.now) }
-    ensures none { IfNone result (HasNoNewline bytes.now) }
-{
-    bytes.iter().position(|byte| *byte == b'\n')
 }
 
 // Begins a new line where one was told.

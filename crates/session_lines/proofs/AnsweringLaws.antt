@@ -1,6 +1,6 @@
 -- A script on its way: steps, lines, and pieces of bytes one behind another.
 use Rattle.std.proofs.Common.{◌≡◌, ℕ, ◌-◌, ◌≤◌, Bool, true, false, List, [], ◌∷◌, ◌++◌, length, take, drop, Option, refl, sym, ap, subst, ◌∙◌, arith, append_assoc, length-drop}
-use Rattle.std.specs.Prelude.{Ok}
+use Rattle.std.specs.Prelude.{Result, Ok}
 use Rattle.std.proofs.lemmas.List.{append-nil, take_all}
 use Rattle.fg_io.specs.Sent.{Sent}
 use Rattle.fg_io.proofs.SentLaws.{sent_none, sent_on}
@@ -18,7 +18,7 @@ use Rattle.graph_session.specs.declared.reply.Reply.{Reply}
 use Rattle.graph_session.proofs.RunLaws.{refused_step}
 use Rattle.session_lines.specs.declared.progress.Progress.{Progress}
 use Rattle.session_lines.specs.declared.progress.Progress.TheVariants.{More, Over, Unwritten, OutOfMemory}
-use Rattle.session_lines.specs.Answering.{AnsweredAs, EndsOrWrites, RefusedAs, RepliedLines, SteppedAs, ToldAs, WrittenAs}
+use Rattle.session_lines.specs.Answering.{AnsweredAs, EndsOrWrites, KeptAs, RefusedAs, RepliedLines, SteppedAs, ToldAs, WrittenAs}
 use Rattle.session_lines.specs.Replies.{line_with, refusal_text, reply_text}
 use Rattle.session_lines.specs.Stepping.{Standing, State, Step, is_known, open_at, replies, said, state_after, step, step_answered, step_command, step_known, step_writing}
 
@@ -99,6 +99,46 @@ module _ (taken taken_now : Option (List ℕ)) (faults faults_now : ℕ) (here_n
           (subst (λ t. Sent taken taken_now t []) silent (subst (λ now. Sent taken now [] []) (sym stepped.0) (sent_none taken [])), stepped.2)
       cases Unwritten stepped = (stepped.0, (stepped.1.0, subst (λ t. Sent taken taken_now t stepped.1.0) text stepped.1.1))
       cases OutOfMemory stepped = stepped
+
+-- ---- what stands behind a step
+
+-- where nothing changes all is as before
+pub keeps_still : (here : Standing) (progress : Progress) → KeptAs (open_at here) here here progress
+keeps_still here More = tt
+keeps_still here Over = tt
+keeps_still here Unwritten = refl
+keeps_still here OutOfMemory = refl
+
+-- a line leaves what its step leaves
+pub keeps_line : (r : Rules) (here here_now : Standing) (line : ScriptLine) (made : Step) (progress : Progress) → step r (open_at here) line ≡ made → KeptAs made.state here here_now progress
+    → KeptAs (state_after r (open_at here) (line ∷ [])) here here_now progress
+keeps_line r here here_now line made progress is kept = subst (λ (s : Step). KeptAs s.state here here_now progress) (sym is) kept
+
+module _ (taken taken_now : Option (List ℕ)) (faults faults_now : ℕ) (here here_now : Standing) where
+  -- there was memory for a text that was written
+  pub keeps_written : (state : State) (text : List ℕ) (progress : Progress) → state ≡ open_at here_now → WrittenAs taken taken_now faults faults_now text progress → KeptAs state here here_now progress
+  keeps_written state text More is written = tt
+  keeps_written state text Over is written = tt
+  keeps_written state text Unwritten is written = is
+  keeps_written state text OutOfMemory is written = absurd written
+
+  -- a refusal changes nothing
+  pub keeps_refused : (state : State) (text : List ℕ) (memory : Bool) (progress : Progress) → here_now ≡ here → (memory ≡ false → state ≡ open_at here)
+      → EndsOrWrites memory taken taken_now faults faults_now text progress → KeptAs state here here_now progress
+  keeps_refused state text true progress same is ended = subst (KeptAs state here here_now) (sym ended.1) same
+  keeps_refused state text false progress same is written = keeps_written state text progress (is refl ∙ ap open_at (sym same)) written
+
+module _ (taken taken_now : Option (List ℕ)) (faults faults_now : ℕ) (r : Rules) (s : Standing) (d : Course) (asked : Command) where
+  pub reply_keeps : (reply : Reply) (text : List ℕ) (progress : Progress) → session.step r s.course asked ≡ Ok (reply, d) → WrittenAs taken taken_now faults faults_now text progress
+      → KeptAs (step_known r s asked).state s (record s { course = d }) progress
+  reply_keeps reply text progress is written =
+      keeps_written taken taken_now faults faults_now s (record s { course = d }) (step_known r s asked).state text progress (ap (λ (a : Result (Reply × Course) Refusal). (step_answered r s asked a).state) is) written
+
+  pub refusal_keeps : (refusal : Refusal) (progress : Progress) → Refused refusal (session.refusal r s.course asked) → d ≡ s.course → RefusedAs taken taken_now faults faults_now refusal progress
+      → KeptAs (step_known r s asked).state s (record s { course = d }) progress
+  refusal_keeps refusal progress refused same written =
+      keeps_refused taken taken_now faults faults_now s (record s { course = d }) (step_known r s asked).state (line_with (refusal_text refusal)) (is_memory refusal) progress (ap (λ (c : Course). record s { course = c }) same)
+      (λ known. ap (λ (a : Result (Reply × Course) Refusal). (step_answered r s asked a).state) (refused_step r s.course asked refusal known refused)) written
 
 -- ---- replies to lines one behind another
 

@@ -1,5 +1,5 @@
 -- Steps of the commands that put a watch and take it out.
-use Rattle.std.proofs.Common.{◌≡◌, ℕ, false, cond, List, [], ◌∷◌, map, Option, Some, None, refl, sym, ap, subst}
+use Rattle.std.proofs.Common.{◌≡◌, ℕ, false, cond, List, [], ◌∷◌, map, Option, Some, None, refl, sym, ap, subst, ◌∙◌}
 use Rattle.std.specs.Prelude.{◌+◌, codes}
 use Rattle.std.specs.List.{position_from}
 use Rattle.std.specs.Str.{bytes_eq}
@@ -10,10 +10,10 @@ use Rattle.fact_watch.specs.Watching.{Pair}
 use Rattle.fact_watch.specs.declared.commands.WatchRefusal.{WatchRefusal}
 use Rattle.fact_watch.specs.declared.commands.WatchRefusal.TheVariants as watches
 use Rattle.session_lines.specs.declared.progress.Progress.{Progress}
-use Rattle.session_lines.specs.Answering.{SteppedAs, WatchRefusedAs, WrittenAs}
+use Rattle.session_lines.specs.Answering.{KeptAs, SteppedAs, WatchRefusedAs, WrittenAs}
 use Rattle.session_lines.specs.Replies.{is_watch_memory, line_with, watch_refusal_text}
-use Rattle.session_lines.specs.Stepping.{Standing, place_in, watch_decided}
-use Rattle.session_lines.proofs.AnsweringLaws.{ends_or_steps, text_step}
+use Rattle.session_lines.specs.Stepping.{Standing, open_at, place_in, watch_decided}
+use Rattle.session_lines.proofs.AnsweringLaws.{ends_or_steps, keeps_refused, keeps_written, text_step}
 
 -- ---- a table as its list of names and codes
 
@@ -52,3 +52,16 @@ module _ (taken taken_now : Option (List ℕ)) (faults faults_now : ℕ) (s : St
       subst (λ (ps : List Pair). SteppedAs taken taken_now faults faults_now (watch_decided s pairs o) (record s { watched = ps }) progress) (sym same)
       (ends_or_steps taken taken_now faults faults_now (watch_decided s pairs o) s (watch_refusal_text refusal) (is_watch_memory refusal) progress
       (λ known. ap (watch_decided s pairs) (refused_is refusal o refused known)) written)
+
+  -- and what stands behind it
+  pub allowed_keeps : (o : Option WatchRefusal) → o ≡ None → now ≡ pairs → WrittenAs taken taken_now faults faults_now (line_with (codes "ok")) progress
+      → KeptAs (watch_decided s pairs o).state s (record s { watched = now }) progress
+  allowed_keeps o none same written =
+      keeps_written taken taken_now faults faults_now s (record s { watched = now }) (watch_decided s pairs o).state (line_with (codes "ok")) progress
+      (ap (λ (p : Option WatchRefusal). (watch_decided s pairs p).state) none ∙ ap (λ (ps : List Pair). open_at (record s { watched = ps })) (sym same)) written
+
+  pub refused_keeps : (o : Option WatchRefusal) (refusal : WatchRefusal) → Refused refusal o → now ≡ s.watched → WatchRefusedAs taken taken_now faults faults_now refusal progress
+      → KeptAs (watch_decided s pairs o).state s (record s { watched = now }) progress
+  refused_keeps o refusal refused same written =
+      keeps_refused taken taken_now faults faults_now s (record s { watched = now }) (watch_decided s pairs o).state (line_with (watch_refusal_text refusal)) (is_watch_memory refusal) progress (ap (λ (ps : List Pair). record s { watched = ps }) same)
+      (λ known. ap (λ (p : Option WatchRefusal). (watch_decided s pairs p).state) (refused_is refusal o refused known)) written

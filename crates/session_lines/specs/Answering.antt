@@ -27,6 +27,13 @@ SteppedAs taken taken_now faults faults_now step here_now Over = (taken_now ≡ 
 SteppedAs taken taken_now faults faults_now step here_now Unwritten = Rose faults faults_now × ((rest : List ℕ) × Sent taken taken_now step.text rest)
 SteppedAs taken taken_now faults faults_now step here_now OutOfMemory = taken_now ≡ taken
 
+-- Where there was no memory all stands as before; and behind a text that wasn't written whole stands the state that its step leaves.
+abbrev pub KeptAs : State → Standing → Standing → Progress → Type 0
+KeptAs state here here_now More = Unit {0}
+KeptAs state here here_now Over = Unit {0}
+KeptAs state here here_now Unwritten = state ≡ open_at here_now
+KeptAs state here here_now OutOfMemory = here_now ≡ here
+
 -- A line, or none, was answered: the reply was written whole and the script goes on or is over, or the reply wasn't
 -- written whole, or there was no memory for the command.
 abbrev pub AnsweredAs : Rules → Option (List ℕ) → Option (List ℕ) → ℕ → ℕ → Standing → Standing → List ScriptLine → Progress → Type 0

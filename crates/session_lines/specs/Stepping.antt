@@ -15,6 +15,7 @@ use Rattle.graph_session.specs.Refusals.{slot_found}
 use Rattle.graph_session.specs.Rules.{Rules, tree_of}
 use Rattle.graph_session.specs.SessionView.{Course, begun}
 use Rattle.graph_session.specs.Step as session
+use Rattle.graph_session.specs.Step.{is_change}
 use Rattle.graph_session.specs.declared.reply.Refusal.{Refusal}
 use Rattle.graph_session.specs.declared.reply.Reply.{Reply}
 use Rattle.fact_watch.specs.Refusals.{pair_of, unwatch_refusal, watch_refusal}
@@ -52,19 +53,6 @@ abbrev pub step_writing : Standing → List ℕ → Step
 step_writing s text = record { text = line_with text; state = open_at s }
 
 -- ---- commands of the session
-
--- those that move along the answers, where they are accepted
-abbrev pub is_change : Command → Bool
-is_change (commands.Set path text) = true
-is_change (commands.Clear path) = true
-is_change (commands.OpenList path) = true
-is_change (commands.Add path) = true
-is_change (commands.Remove path member) = true
-is_change (commands.Override path text) = true
-is_change (commands.Release path) = true
-is_change commands.Undo = true
-is_change commands.Redo = true
-is_change _ = false
 
 -- the lines of the watches that fire between two courses
 abbrev pub fired : Rules → Standing → Course → List ℕ

@@ -3,8 +3,8 @@ ghost use Rattle.std.specs.Prelude.{◌≡◌, ℕ, List, ◌+◌, ◌<◌, ◌�
 ghost use Rattle.script_lines.specs.Lines.{ended_lines, ready_lines, whole, HasNoNewline};
 ghost use Rattle.graph_session.specs.Refusals.{SameChecks};
 ghost use Rattle.graph_session.specs.Rules.{rules};
-ghost use Rattle.session_lines.specs.Answering.{AnsweredAs, PieceAnsweredAs, standing_of};
-ghost use Rattle.session_lines.specs.Stepping.{open_at};
+ghost use Rattle.session_lines.specs.Answering.{AnsweredAs, KeptAs, PieceAnsweredAs, standing_of};
+ghost use Rattle.session_lines.specs.Stepping.{open_at, state_after};
 ghost use Rattle.session_lines.specs.Steps.{steps_of_line, steps_of_lines};
 
 use crate::command::answer_command;
@@ -39,6 +39,9 @@ fn answer_line<E: FactEngine, L: Ledger, K: Sink>(
         (K.taken out.old) (K.taken out.new) (K.faults out.old) (K.faults out.new)
         (standing_of session.old (map {B = List ℕ × ℕ} (λ r. (r.name, r.code)) table.now.relations.items) watches.old)
         (standing_of session.new (map {B = List ℕ × ℕ} (λ r. (r.name, r.code)) table.now.relations.items) watches.new) (whole line.now ∷ []) result }
+    ensures kept { KeptAs (state_after (rules session.old.dict) (open_at (standing_of session.old (map {B = List ℕ × ℕ} (λ r. (r.name, r.code)) table.now.relations.items) watches.old)) (whole line.now ∷ []))
+        (standing_of session.old (map {B = List ℕ × ℕ} (λ r. (r.name, r.code)) table.now.relations.items) watches.old)
+        (standing_of session.new (map {B = List ℕ × ℕ} (λ r. (r.name, r.code)) table.now.relations.items) watches.new) result }
     ensures dict { session.new.dict ≡ session.old.dict }
     ensures few { session.new.changes ≤ session.old.changes + 1 }
     ensures later { K.faults out.old ≤ K.faults out.new }
@@ -47,9 +50,13 @@ fn answer_line<E: FactEngine, L: Ledger, K: Sink>(
 {
     match command_of(alloc, line) {
         Ok(None) => Progress::More,
-        Ok(Some(command)) => answer_command(
-            alloc, session, watches, table, &command, checks, out, steps,
-        ),
+        Ok(Some(command)) => {
+            let progress = answer_command(
+                alloc, session, watches, table, &command, checks, out, steps,
+            );
+            drop(command);
+            progress
+        }
         Err(LineFault::BadLine) => write_text(b"refused 1 BadLine\n", out),
         Err(LineFault::NoMemory) => Progress::OutOfMemory,
     }
@@ -75,6 +82,9 @@ pub fn answer_ready<E: FactEngine, L: Ledger, K: Sink>(
         (K.taken out.old) (K.taken out.new) (K.faults out.old) (K.faults out.new)
         (standing_of session.old (map {B = List ℕ × ℕ} (λ r. (r.name, r.code)) table.now.relations.items) watches.old)
         (standing_of session.new (map {B = List ℕ × ℕ} (λ r. (r.name, r.code)) table.now.relations.items) watches.new) (ready_lines ready line.now) result }
+    ensures kept { KeptAs (state_after (rules session.old.dict) (open_at (standing_of session.old (map {B = List ℕ × ℕ} (λ r. (r.name, r.code)) table.now.relations.items) watches.old)) (ready_lines ready line.now))
+        (standing_of session.old (map {B = List ℕ × ℕ} (λ r. (r.name, r.code)) table.now.relations.items) watches.old)
+        (standing_of session.new (map {B = List ℕ × ℕ} (λ r. (r.name, r.code)) table.now.relations.items) watches.new) result }
     ensures dict { session.new.dict ≡ session.old.dict }
     ensures few { session.new.changes ≤ session.old.changes + 1 }
     ensures later { K.faults out.old ≤ K.faults out.new }

@@ -8,10 +8,11 @@ ghost use Rattle.fact_watch.specs.Watching.{noted};
 ghost use Rattle.graph_session.specs.Refusals.{SameChecks};
 ghost use Rattle.graph_session.specs.Rules.{rules};
 ghost use Rattle.graph_session.specs.SessionView.{course};
-ghost use Rattle.session_lines.specs.Answering.{SteppedAs, WrittenAs, standing_of};
+ghost use Rattle.graph_session.specs.Step.{is_change as changes};
+ghost use Rattle.session_lines.specs.Answering.{KeptAs, SteppedAs, WrittenAs, standing_of};
 ghost use Rattle.session_lines.specs.Firing.{firing_lines};
 ghost use Rattle.session_lines.specs.Replies.{line_with, reply_text};
-ghost use Rattle.session_lines.specs.Stepping.{is_change as changes, step_known};
+ghost use Rattle.session_lines.specs.Stepping.{step_known};
 ghost use Rattle.session_lines.specs.Steps.{steps_of_command};
 
 use crate::firing::write_fired;
@@ -117,6 +118,9 @@ fn answer_noted<E: FactEngine, L: Ledger, K: Sink>(
     ensures stepped { SteppedAs (K.taken out.old) (K.taken out.new) (K.faults out.old) (K.faults out.new)
         (step_known (rules session.old.dict) (standing_of session.old (map {B = List ℕ × ℕ} (λ r. (r.name, r.code)) table.now.relations.items) watches.now) command.now)
         (standing_of session.new (map {B = List ℕ × ℕ} (λ r. (r.name, r.code)) table.now.relations.items) watches.now) result }
+    ensures kept { KeptAs (step_known (rules session.old.dict) (standing_of session.old (map {B = List ℕ × ℕ} (λ r. (r.name, r.code)) table.now.relations.items) watches.now) command.now).state
+        (standing_of session.old (map {B = List ℕ × ℕ} (λ r. (r.name, r.code)) table.now.relations.items) watches.now)
+        (standing_of session.new (map {B = List ℕ × ℕ} (λ r. (r.name, r.code)) table.now.relations.items) watches.now) result }
     ensures dict { session.new.dict ≡ session.old.dict }
     ensures few { session.new.changes ≤ session.old.changes + 1 }
     ensures later { K.faults out.old ≤ K.faults out.new }
@@ -146,6 +150,9 @@ fn answer_change<E: FactEngine, L: Ledger, K: Sink>(
     ensures stepped { SteppedAs (K.taken out.old) (K.taken out.new) (K.faults out.old) (K.faults out.new)
         (step_known (rules session.old.dict) (standing_of session.old (map {B = List ℕ × ℕ} (λ r. (r.name, r.code)) table.now.relations.items) watches.old) command.now)
         (standing_of session.new (map {B = List ℕ × ℕ} (λ r. (r.name, r.code)) table.now.relations.items) watches.new) result }
+    ensures kept { KeptAs (step_known (rules session.old.dict) (standing_of session.old (map {B = List ℕ × ℕ} (λ r. (r.name, r.code)) table.now.relations.items) watches.old) command.now).state
+        (standing_of session.old (map {B = List ℕ × ℕ} (λ r. (r.name, r.code)) table.now.relations.items) watches.old)
+        (standing_of session.new (map {B = List ℕ × ℕ} (λ r. (r.name, r.code)) table.now.relations.items) watches.new) result }
     ensures dict { session.new.dict ≡ session.old.dict }
     ensures few { session.new.changes ≤ session.old.changes + 1 }
     ensures later { K.faults out.old ≤ K.faults out.new }
@@ -173,6 +180,9 @@ pub fn answer_known<E: FactEngine, L: Ledger, K: Sink>(
     requires few { session.old.changes < 2 ^ 63 }
     ensures stepped { SteppedAs (K.taken out.old) (K.taken out.new) (K.faults out.old) (K.faults out.new)
         (step_known (rules session.old.dict) (standing_of session.old (map {B = List ℕ × ℕ} (λ r. (r.name, r.code)) table.now.relations.items) watches.old) command.now)
+        (standing_of session.new (map {B = List ℕ × ℕ} (λ r. (r.name, r.code)) table.now.relations.items) watches.new) result }
+    ensures kept { KeptAs (step_known (rules session.old.dict) (standing_of session.old (map {B = List ℕ × ℕ} (λ r. (r.name, r.code)) table.now.relations.items) watches.old) command.now).state
+        (standing_of session.old (map {B = List ℕ × ℕ} (λ r. (r.name, r.code)) table.now.relations.items) watches.old)
         (standing_of session.new (map {B = List ℕ × ℕ} (λ r. (r.name, r.code)) table.now.relations.items) watches.new) result }
     ensures dict { session.new.dict ≡ session.old.dict }
     ensures few { session.new.changes ≤ session.old.changes + 1 }

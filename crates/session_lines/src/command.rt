@@ -2,7 +2,7 @@
 ghost use Rattle.std.specs.Prelude.{◌≡◌, ◌≤◌, ◌<◌, ◌+◌, ◌^◌, ℕ, List, false, map};
 ghost use Rattle.graph_session.specs.Refusals.{SameChecks};
 ghost use Rattle.graph_session.specs.Rules.{rules};
-ghost use Rattle.session_lines.specs.Answering.{SteppedAs, standing_of};
+ghost use Rattle.session_lines.specs.Answering.{KeptAs, SteppedAs, standing_of};
 ghost use Rattle.session_lines.specs.Stepping.{is_known as known, step_command};
 ghost use Rattle.session_lines.specs.Steps.{steps_of_command};
 
@@ -55,6 +55,9 @@ fn answer_other<E: FactEngine, K: Sink>(
     ensures stepped { SteppedAs (K.taken out.old) (K.taken out.new) (K.faults out.old) (K.faults out.new)
         (step_command (rules session.now.dict) (standing_of session.now (map {B = List ℕ × ℕ} (λ r. (r.name, r.code)) table.now.relations.items) watches.old) command.now)
         (standing_of session.now (map {B = List ℕ × ℕ} (λ r. (r.name, r.code)) table.now.relations.items) watches.new) result }
+    ensures kept { KeptAs (step_command (rules session.now.dict) (standing_of session.now (map {B = List ℕ × ℕ} (λ r. (r.name, r.code)) table.now.relations.items) watches.old) command.now).state
+        (standing_of session.now (map {B = List ℕ × ℕ} (λ r. (r.name, r.code)) table.now.relations.items) watches.old)
+        (standing_of session.now (map {B = List ℕ × ℕ} (λ r. (r.name, r.code)) table.now.relations.items) watches.new) result }
     ensures later { K.faults out.old ≤ K.faults out.new }
 {
     match command {
@@ -81,6 +84,9 @@ pub fn answer_command<E: FactEngine, L: Ledger, K: Sink>(
     requires few { session.old.changes < 2 ^ 63 }
     ensures stepped { SteppedAs (K.taken out.old) (K.taken out.new) (K.faults out.old) (K.faults out.new)
         (step_command (rules session.old.dict) (standing_of session.old (map {B = List ℕ × ℕ} (λ r. (r.name, r.code)) table.now.relations.items) watches.old) command.now)
+        (standing_of session.new (map {B = List ℕ × ℕ} (λ r. (r.name, r.code)) table.now.relations.items) watches.new) result }
+    ensures kept { KeptAs (step_command (rules session.old.dict) (standing_of session.old (map {B = List ℕ × ℕ} (λ r. (r.name, r.code)) table.now.relations.items) watches.old) command.now).state
+        (standing_of session.old (map {B = List ℕ × ℕ} (λ r. (r.name, r.code)) table.now.relations.items) watches.old)
         (standing_of session.new (map {B = List ℕ × ℕ} (λ r. (r.name, r.code)) table.now.relations.items) watches.new) result }
     ensures dict { session.new.dict ≡ session.old.dict }
     ensures few { session.new.changes ≤ session.old.changes + 1 }

@@ -2,7 +2,7 @@
 ghost use Rattle.std.specs.Prelude.{◌≡◌, ◌≤◌, ℕ, List, codes, length, map};
 ghost use Rattle.graph_session.specs.Refusals.{slot_found};
 ghost use Rattle.graph_session.specs.Rules.{rules};
-ghost use Rattle.session_lines.specs.Answering.{SteppedAs, WatchRefusedAs, standing_of};
+ghost use Rattle.session_lines.specs.Answering.{KeptAs, SteppedAs, WatchRefusedAs, standing_of};
 ghost use Rattle.session_lines.specs.Replies.{is_watch_memory, watch_refusal_name as name_of_refusal};
 ghost use Rattle.session_lines.specs.Stepping.{cut_watch, put_watch};
 ghost use Rattle.std.specs.Prelude.{Ok};
@@ -69,6 +69,9 @@ fn watch_slot<E: FactEngine, K: Sink>(
     ensures stepped { SteppedAs (K.taken out.old) (K.taken out.new) (K.faults out.old) (K.faults out.new)
         (put_watch (standing_of session.now (map {B = List ℕ × ℕ} (λ r. (r.name, r.code)) table.now.relations.items) watches.old) name.now (Ok slot))
         (standing_of session.now (map {B = List ℕ × ℕ} (λ r. (r.name, r.code)) table.now.relations.items) watches.new) result }
+    ensures kept { KeptAs (put_watch (standing_of session.now (map {B = List ℕ × ℕ} (λ r. (r.name, r.code)) table.now.relations.items) watches.old) name.now (Ok slot)).state
+        (standing_of session.now (map {B = List ℕ × ℕ} (λ r. (r.name, r.code)) table.now.relations.items) watches.old)
+        (standing_of session.now (map {B = List ℕ × ℕ} (λ r. (r.name, r.code)) table.now.relations.items) watches.new) result }
     ensures later { K.faults out.old ≤ K.faults out.new }
 {
     match watch(watches, table, name, slot) {
@@ -90,6 +93,10 @@ pub fn answer_watch<E: FactEngine, K: Sink>(
         (put_watch (standing_of session.now (map {B = List ℕ × ℕ} (λ r. (r.name, r.code)) table.now.relations.items) watches.old) name.now
         (slot_found (rules session.now.dict) session.now.timeline.now path.now))
         (standing_of session.now (map {B = List ℕ × ℕ} (λ r. (r.name, r.code)) table.now.relations.items) watches.new) result }
+    ensures kept { KeptAs (put_watch (standing_of session.now (map {B = List ℕ × ℕ} (λ r. (r.name, r.code)) table.now.relations.items) watches.old) name.now
+        (slot_found (rules session.now.dict) session.now.timeline.now path.now)).state
+        (standing_of session.now (map {B = List ℕ × ℕ} (λ r. (r.name, r.code)) table.now.relations.items) watches.old)
+        (standing_of session.now (map {B = List ℕ × ℕ} (λ r. (r.name, r.code)) table.now.relations.items) watches.new) result }
     ensures later { K.faults out.old ≤ K.faults out.new }
 {
     match session.slot_of(path) {
@@ -109,6 +116,9 @@ fn unwatch_slot<E: FactEngine, K: Sink>(
 ) -> Progress
     ensures stepped { SteppedAs (K.taken out.old) (K.taken out.new) (K.faults out.old) (K.faults out.new)
         (cut_watch (standing_of session.now (map {B = List ℕ × ℕ} (λ r. (r.name, r.code)) table.now.relations.items) watches.old) name.now (Ok slot))
+        (standing_of session.now (map {B = List ℕ × ℕ} (λ r. (r.name, r.code)) table.now.relations.items) watches.new) result }
+    ensures kept { KeptAs (cut_watch (standing_of session.now (map {B = List ℕ × ℕ} (λ r. (r.name, r.code)) table.now.relations.items) watches.old) name.now (Ok slot)).state
+        (standing_of session.now (map {B = List ℕ × ℕ} (λ r. (r.name, r.code)) table.now.relations.items) watches.old)
         (standing_of session.now (map {B = List ℕ × ℕ} (λ r. (r.name, r.code)) table.now.relations.items) watches.new) result }
     ensures later { K.faults out.old ≤ K.faults out.new }
 {
@@ -130,6 +140,10 @@ pub fn answer_unwatch<E: FactEngine, K: Sink>(
     ensures stepped { SteppedAs (K.taken out.old) (K.taken out.new) (K.faults out.old) (K.faults out.new)
         (cut_watch (standing_of session.now (map {B = List ℕ × ℕ} (λ r. (r.name, r.code)) table.now.relations.items) watches.old) name.now
         (slot_found (rules session.now.dict) session.now.timeline.now path.now))
+        (standing_of session.now (map {B = List ℕ × ℕ} (λ r. (r.name, r.code)) table.now.relations.items) watches.new) result }
+    ensures kept { KeptAs (cut_watch (standing_of session.now (map {B = List ℕ × ℕ} (λ r. (r.name, r.code)) table.now.relations.items) watches.old) name.now
+        (slot_found (rules session.now.dict) session.now.timeline.now path.now)).state
+        (standing_of session.now (map {B = List ℕ × ℕ} (λ r. (r.name, r.code)) table.now.relations.items) watches.old)
         (standing_of session.now (map {B = List ℕ × ℕ} (λ r. (r.name, r.code)) table.now.relations.items) watches.new) result }
     ensures later { K.faults out.old ≤ K.faults out.new }
 {

@@ -31,8 +31,8 @@ pub fn write_text<K: Sink>(text: &[u8], out: &mut K) -> Progress
     as_progress(put)
 }
 
-/// Writes what the session says.
-pub fn write_reply<E: FactEngine, K: Sink>(
+// Writes what the session says, as a line that is printed.
+fn write_printed<E: FactEngine, K: Sink>(
     session: &Session<E>,
     reply: Reply,
     out: &mut K,
@@ -45,6 +45,22 @@ pub fn write_reply<E: FactEngine, K: Sink>(
     print_reply(session, reply, &mut line);
     line.push(b"\n");
     write_text(line.bytes(), out)
+}
+
+/// Writes what the session says. That a change was made is said without a line being filled: most lines of a script are changes.
+pub fn write_reply<E: FactEngine, K: Sink>(
+    session: &Session<E>,
+    reply: Reply,
+    out: &mut K,
+) -> Progress
+    ensures written { WrittenAs (K.taken out.old) (K.taken out.new) (K.faults out.old) (K.faults out.new)
+        (line_with (reply_text (rules session.now.dict) (course session.now) reply)) result }
+    ensures later { K.faults out.old ≤ K.faults out.new }
+{
+    match reply {
+        Reply::Done => write_text(b"ok\n", out),
+        _ => write_printed(session, reply, out),
+    }
 }
 
 /// Writes why a command is refused.

@@ -8,20 +8,21 @@ use script_lines::{Command, command_of};
 use std::alloc::Global;
 use std::marker::Brand;
 use std::sync::ledger::{Blank, Ledger};
-use std::test::Fail;
 use steps::Steps;
 use text_checks::CheckTable;
 
-/// The dictionary with these facts.
-pub fn accepted(alloc: Global, facts: &str) -> Result<Dictionary, Fail> {
-    let text = format!(in alloc; "{{\"version\":\"1\",\"facts\":[{facts}]}}")?;
-    Ok(accept(alloc, text.as_bytes(), &CheckTable::new(alloc))?)
+/// The dictionary of this text: none where it isn't accepted, or memory is wanting.
+pub fn accepted(alloc: Global, dict: &str) -> Option<Dictionary> {
+    let checks = CheckTable::new(alloc);
+    let dictionary = accept(alloc, dict.as_bytes(), &checks).ok();
+    drop(checks);
+    dictionary
 }
 
-/// Nothing is answered of it.
-pub fn begin(alloc: Global, facts: &str) -> Result<Session<PlainTable>, Fail> {
-    let dict = accepted(alloc, facts)?;
-    Ok(Session::new(alloc, dict)?)
+/// The same, of which nothing is answered.
+pub fn begin(alloc: Global, dict: &str) -> Option<Session<PlainTable>> {
+    let dict = accepted(alloc, dict)?;
+    Session::new(alloc, dict).ok()
 }
 
 fn carry_out_counted<L: Ledger>(
@@ -43,7 +44,9 @@ fn carry_out_counted<L: Ledger>(
 
 fn carry_out(alloc: Global, session: &mut Session<PlainTable>, command: &Command) -> bool {
     let checks = CheckTable::new(alloc);
-    carry_out_counted::<Brand>(session, command, &checks, Blank::new(1))
+    let is_carried_out = carry_out_counted::<Brand>(session, command, &checks, Blank::new(1));
+    drop(checks);
+    is_carried_out
 }
 
 fn spelled(alloc: Global, line: &str) -> Option<Command> {
@@ -53,12 +56,22 @@ fn spelled(alloc: Global, line: &str) -> Option<Command> {
     command_of(alloc, line.as_bytes()).ok()?
 }
 
-/// Carries out the command of a line: none where it is refused, or memory is wanting.
-pub fn obey(alloc: Global, session: &mut Session<PlainTable>, line: &str) -> Option<()> {
-    let command = spelled(alloc, line)?;
-    if carry_out(alloc, session, &command) {
+fn carried_out(alloc: Global, session: &mut Session<PlainTable>, command: &Command) -> Option<()> {
+    if carry_out(alloc, session, command) {
         Some(())
     } else {
         None
+    }
+}
+
+/// Carries out the command of a line: none where it is refused, or memory is wanting.
+pub fn obey(alloc: Global, session: &mut Session<PlainTable>, line: &str) -> Option<()> {
+    match spelled(alloc, line) {
+        Some(command) => {
+            let end = carried_out(alloc, session, &command);
+            drop(command);
+            end
+        }
+        None => None,
     }
 }

@@ -1,145 +1,66 @@
 //! Tests of the watches of `fact_watch`.
-ghost use Rattle.std.specs.Prelude.{◌≡◌, ◌<◌};
-
 use crate::begun::{begin, obey};
-use crate::relation_tests::four;
-use fact_paths::Name;
+use crate::relation_tests::one;
 use fact_values::{NoMemory, Slot};
-use fact_watch::{PutFault, WatchRefusal, WatchTable, Watches, unwatch, watch};
+use fact_watch::{WatchTable, Watches};
 use graph_session::Session;
 use plain_table::PlainTable;
 use std::alloc::Global;
 use std::test::Fail;
+
+const DICTIONARY: &str = r#"{"version":"1","facts":[{"path":"/t","writable":"Text"}]}"#;
 
 const TEXT: Slot = Slot { fact: 1, member: 0 };
 
 // No such slot stands.
 const NOTHING: Slot = Slot { fact: 7, member: 0 };
 
-// Puts a watch that isn't there, where there is room: none where memory is wanting.
-fn put(watches: &mut Watches, place: u32, slot: Slot) -> Option<bool> {
-    match watches.put(place, slot) {
-        Ok(()) => Some(true),
-        Err(PutFault::NoMemory) => None,
-        Err(_) => Some(false),
+// Two watches, at the places 0 and 1: none where memory is wanting.
+fn two(alloc: Global) -> Option<Watches> {
+    let mut watches = Watches::new(alloc);
+    if watches.put(0, NOTHING).is_ok() && watches.put(0, TEXT).is_ok() {
+        Some(watches)
+    } else {
+        drop(watches);
+        None
     }
 }
 
 fn has_two(watches: &Watches) -> bool {
     watches.len() == 2
-        && watches.at(0) == Some((1, NOTHING))
+        && watches.at(0) == Some((0, NOTHING))
         && watches.at(1) == Some((0, TEXT))
         && watches.at(2).is_none()
 }
 
-// Puts two watches.
-fn two(alloc: Global) -> Option<Watches> {
-    let mut watches = Watches::new(alloc);
-    if put(&mut watches, 1, NOTHING)? && put(&mut watches, 0, TEXT)? {
-        Some(watches)
-    } else {
-        None
+fn stand_in_order(alloc: Global) -> Option<bool> {
+    match two(alloc) {
+        Some(watches) => {
+            let stand = has_two(&watches);
+            drop(watches);
+            Some(stand)
+        }
+        None => None,
     }
 }
 
 #[test]
 fn watches_stand_in_the_order_in_which_they_were_put(rt: HostRuntime) -> Result<(), Fail> {
-    let watches = two(rt.alloc()).ok_or("no memory")?;
-    assert!(rt; has_two(&watches));
-    Ok(())
-}
-
-fn is_put_once(watches: &mut Watches) -> bool {
-    watches.put(0, TEXT) == Err(PutFault::Same) && has_two(watches)
-}
-
-fn is_cut_once(watches: &mut Watches) -> bool {
-    watches.cut(1, NOTHING) && !watches.cut(1, NOTHING) && watches.len() == 1
-}
-
-#[test]
-fn a_watch_is_put_and_cut_once(rt: HostRuntime) -> Result<(), Fail> {
-    let mut watches = two(rt.alloc()).ok_or("no memory")?;
-    assert!(rt; is_put_once(&mut watches));
-    assert!(rt; is_cut_once(&mut watches));
-    Ok(())
-}
-
-// A thousand watches.
-fn thousand(alloc: Global) -> Option<Watches> {
-    let mut watches = Watches::new(alloc);
-    for fact in 0..1_000 {
-        if !put(&mut watches, 0, Slot { fact, member: 0 })? {
-            return None;
-        }
-    }
-    Some(watches)
-}
-
-// One that is there is named first.
-fn is_full(watches: &mut Watches) -> bool {
-    watches.put(1, TEXT) == Err(PutFault::Full)
-        && watches.put(0, TEXT) == Err(PutFault::Same)
-        && watches.len() == 1_000
-}
-
-#[test]
-fn there_are_a_thousand_watches_at_most(rt: HostRuntime) -> Result<(), Fail> {
-    let mut watches = thousand(rt.alloc()).ok_or("no memory")?;
-    assert!(rt; is_full(&mut watches));
-    Ok(())
-}
-
-fn put_by_name(
-    alloc: Global,
-    watches: &mut Watches,
-    table: &WatchTable,
-    name: &str,
-) -> Option<bool> {
-    let name = Name::read(alloc, name).ok()?;
-    match watch(watches, table, &name, TEXT) {
-        Ok(()) => Some(true),
-        Err(WatchRefusal::NoMemory) => None,
-        Err(_) => Some(false),
-    }
-}
-
-fn cut_by_name(
-    alloc: Global,
-    watches: &mut Watches,
-    table: &WatchTable,
-    name: &str,
-) -> Option<bool> {
-    let name = Name::read(alloc, name).ok()?;
-    Some(unwatch(watches, table, &name, TEXT).is_ok())
-}
-
-fn is_put_by_name(alloc: Global, watches: &mut Watches, table: &WatchTable) -> Option<bool> {
-    let is_put = put_by_name(alloc, watches, table, "lost")?;
-    Some(is_put && watches.at(0) == Some((2, TEXT)))
-}
-
-fn is_cut_by_name(alloc: Global, watches: &mut Watches, table: &WatchTable) -> Option<bool> {
-    let is_cut = cut_by_name(alloc, watches, table, "lost")?;
-    Some(is_cut && watches.len() == 0)
-}
-
-#[test]
-fn a_watch_is_put_and_cut_by_its_name(rt: HostRuntime) -> Result<(), Fail> {
-    let table = four(rt.alloc()).ok_or("no memory")?;
-    let mut watches = Watches::new(rt.alloc());
-    let is_put = is_put_by_name(rt.alloc(), &mut watches, &table).ok_or("no memory")?;
-    assert!(rt; is_put);
-    let is_cut = is_cut_by_name(rt.alloc(), &mut watches, &table).ok_or("no memory")?;
-    assert!(rt; is_cut);
+    let stand = stand_in_order(rt.alloc()).ok_or("no memory")?;
+    assert!(rt; stand);
     Ok(())
 }
 
 // Two watches that have noted the results of a session.
 fn noted(alloc: Global, session: &Session<PlainTable>) -> Option<Watches> {
     let mut watches = two(alloc)?;
-    watches.note(session).ok()?;
-    Some(watches)
+    match watches.note(session) {
+        Ok(()) => Some(watches),
+        Err(NoMemory) => {
+            drop(watches);
+            None
+        }
+    }
 }
 
 fn fires(watches: &Watches, table: &WatchTable, session: &Session<PlainTable>, n: u32) -> bool {
@@ -166,13 +87,62 @@ fn is_noted_anew(watches: &mut Watches, table: &WatchTable, session: &Session<Pl
     }
 }
 
+// Whether a watch fires once its slot has moved, and no more behind the next note.
+fn fires_once(watches: &mut Watches, table: &WatchTable, session: &Session<PlainTable>) -> bool {
+    only_the_second_fires(watches, table, session) && is_noted_anew(watches, table, session)
+}
+
+// The same, over a session that moves: none where memory is wanting.
+fn fires_behind_a_move(
+    alloc: Global,
+    watches: &mut Watches,
+    table: &WatchTable,
+    session: &mut Session<PlainTable>,
+) -> Option<bool> {
+    obey(alloc, session, "set /t abc")?;
+    Some(fires_once(watches, table, session))
+}
+
+fn fires_when_moved(
+    alloc: Global,
+    table: &WatchTable,
+    session: &mut Session<PlainTable>,
+) -> Option<bool> {
+    match noted(alloc, session) {
+        Some(mut watches) => {
+            let fires = fires_behind_a_move(alloc, &mut watches, table, session);
+            drop(watches);
+            fires
+        }
+        None => None,
+    }
+}
+
+fn fires_by(alloc: Global, table: &WatchTable) -> Option<bool> {
+    match begin(alloc, DICTIONARY) {
+        Some(mut session) => {
+            let fires = fires_when_moved(alloc, table, &mut session);
+            drop(session);
+            fires
+        }
+        None => None,
+    }
+}
+
+fn fires_by_one(alloc: Global) -> Option<bool> {
+    match one(alloc) {
+        Some(table) => {
+            let fires = fires_by(alloc, &table);
+            drop(table);
+            fires
+        }
+        None => None,
+    }
+}
+
 #[test]
 fn a_watch_fires_where_its_slot_has_moved_since_the_note(rt: HostRuntime) -> Result<(), Fail> {
-    let table = four(rt.alloc()).ok_or("no memory")?;
-    let mut session = begin(rt.alloc(), r#"{"path":"/t","writable":"Text"}"#)?;
-    let mut watches = noted(rt.alloc(), &session).ok_or("no memory")?;
-    obey(rt.alloc(), &mut session, "set /t abc").ok_or("no memory")?;
-    assert!(rt; only_the_second_fires(&watches, &table, &session));
-    assert!(rt; is_noted_anew(&mut watches, &table, &session));
+    let fires = fires_by_one(rt.alloc()).ok_or("no memory")?;
+    assert!(rt; fires);
     Ok(())
 }

@@ -1,4 +1,4 @@
-//! What tests of given answers begin with: a collection with two members.
+//! What a test of given answers begins with: a collection with two members.
 ghost use Rattle.std.specs.Prelude.{◌≡◌, [], ◌∷◌, IfSome, IsTrue};
 ghost use Rattle.answers.specs.GivenLists.{IsOfLists};
 ghost use Rattle.answers.specs.Meaning.{answered};
@@ -15,14 +15,14 @@ use fact_values::Members;
 use std::alloc::Global;
 
 /// A collection and the number of its members.
-pub const FACTS: &str =
-    r#"{"path":"/c","writable":"Collection"},{"path":"/n","derived":"Int","is":["CollectionSize","/c"]}"#;
+pub const SIZED: &str =
+    r#"{"version":"1","facts":[{"path":"/c","writable":"Collection"},{"path":"/n","derived":"Int","is":["CollectionSize","/c"]}]}"#;
 
-pub const LIST: u32 = 1;
+const LIST: u32 = 1;
 
-/// The collection has the members 3 and 1, and the next member is 4.
+// The collection has the members 3 and 1, and the next member is 4.
 #[tactic(auto, using(crate::proofs::GivenLists::one_given))]
-pub fn given(alloc: Global) -> Option<Answers>
+fn given(alloc: Global) -> Option<Answers>
     ensures lists { IfSome result (λ a. IsOfLists ((1, 3 ∷ 1 ∷ []) ∷ []) 4 (answered a)) }
     ensures well { IfSome result (λ a. WellFormed (answered a)) }
     ensures from_one { IfSome result (λ a. FromOne (answered a)) }
@@ -52,7 +52,7 @@ fn begins_with_a_list(dict: &Dictionary) -> bool
     }
 }
 
-/// The same, of a dictionary that begins with a collection.
+/// The collection with which the dictionary begins has the members 3 and 1, and the next member is 4.
 pub fn given_of(alloc: Global, dict: &Dictionary) -> Option<Answers>
     ensures { IfSome result (λ a. AnswersFit (accepted dict.now).tree (answered a)) }
 {

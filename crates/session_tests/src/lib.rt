@@ -1,20 +1,15 @@
-//! The tests of sessions over the plain engine, of answers that are given, of what is missing, and of watches.
+//! The tests of what no run of the program shows of sessions: given answers over the plain engine, lists of commands, and watches
+//! and their relations by calls.
 #![tactic(auto)]
 
 #[cfg(test)]
 mod begun;
 #[cfg(test)]
-mod explain_tests;
-#[cfg(test)]
 mod fact_watch_tests;
-#[cfg(test)]
-mod final_result_tests;
 #[cfg(test)]
 mod given;
 #[cfg(test)]
 mod given_tests;
-#[cfg(test)]
-mod graph_session_tests;
 #[cfg(test)]
 mod relation_tests;
 #[cfg(test)]

@@ -1,6 +1,6 @@
-//! Tests of the relations of `fact_watch`, run by a table: each of two results of all kinds.
+//! Tests of the relations of `fact_watch`, each of two results of all kinds, and of a table of them.
 ghost use Rattle.std.specs.Prelude.{◌≡◌, Bool};
-ghost use Rattle.fact_watch.specs.Says.{IsCode, watch_says};
+ghost use Rattle.fact_watch.specs.Says.{watch_says};
 
 use fact_paths::Name;
 use fact_values::{Dollar, Value, ValueFault, Whole};
@@ -9,24 +9,19 @@ use std::alloc::Global;
 use std::test::Fail;
 use three_state::Res;
 
-// Adds a relation to a table that has few.
-fn add(
-    alloc: Global,
-    table: &mut WatchTable,
-    name: &str,
-    code: u32,
-    says: Says,
-) -> Option<TableFault>
-    requires code { IsCode code }
+const NAME: &str = "changed";
+
+// Adds the relation `changed` to a table that has few.
+fn add(alloc: Global, table: &mut WatchTable, says: Says) -> Option<TableFault>
     requires callable { (old : _) (new : _) → Says.pre says old new }
     requires answers { (old : _) (new : _) (answer : Bool)
-        → Says.post says old new answer → answer ≡ watch_says code old.now new.now }
+        → Says.post says old new answer → answer ≡ watch_says 1 old.now new.now }
 {
     if table.len() > 9 {
         return Some(TableFault::NoMemory);
     }
-    match Name::read(alloc, name) {
-        Ok(name) => table.add(name, code, says).err(),
+    match Name::read(alloc, NAME) {
+        Ok(name) => table.add(name, 1, says).err(),
         Err(_) => Some(TableFault::NoMemory),
     }
 }
@@ -39,110 +34,65 @@ fn add_changed(alloc: Global, table: &mut WatchTable) -> Option<TableFault> {
         { changed(old, new) },
     );
     match says {
-        Ok(says) => add(alloc, table, "changed", 1, says),
+        Ok(says) => add(alloc, table, says),
         Err(_) => Some(TableFault::NoMemory),
     }
 }
 
-fn add_completed(alloc: Global, table: &mut WatchTable) -> Option<TableFault> {
-    let says = Box::new(
-        alloc,
-        |old: &Res, new: &Res| -> bool
-            ensures { result ≡ watch_says 2 old.now new.now }
-        { completed(old, new) },
-    );
-    match says {
-        Ok(says) => add(alloc, table, "completed", 2, says),
-        Err(_) => Some(TableFault::NoMemory),
-    }
-}
-
-fn add_lost(alloc: Global, table: &mut WatchTable) -> Option<TableFault> {
-    let says = Box::new(
-        alloc,
-        |old: &Res, new: &Res| -> bool
-            ensures { result ≡ watch_says 3 old.now new.now }
-        { lost(old, new) },
-    );
-    match says {
-        Ok(says) => add(alloc, table, "lost", 3, says),
-        Err(_) => Some(TableFault::NoMemory),
-    }
-}
-
-// Under a name of the caller's.
-fn add_raised(alloc: Global, table: &mut WatchTable, name: &str) -> Option<TableFault> {
-    let says = Box::new(
-        alloc,
-        |old: &Res, new: &Res| -> bool
-            ensures { result ≡ watch_says 4 old.now new.now }
-        { raised(old, new) },
-    );
-    match says {
-        Ok(says) => add(alloc, table, name, 4, says),
-        Err(_) => Some(TableFault::NoMemory),
-    }
-}
-
-/// The four relations, each at the place before its code: none where memory is wanting.
-pub fn four(alloc: Global) -> Option<WatchTable> {
+/// A table with one relation, that a result has changed: none where memory is wanting.
+pub fn one(alloc: Global) -> Option<WatchTable> {
     let mut table = WatchTable::new(alloc);
-    let changed = add_changed(alloc, &mut table).is_none();
-    let completed = add_completed(alloc, &mut table).is_none();
-    let lost = add_lost(alloc, &mut table).is_none();
-    let raised = add_raised(alloc, &mut table, "raised").is_none();
-    if changed && completed && lost && raised {
-        Some(table)
-    } else {
-        None
+    match add_changed(alloc, &mut table) {
+        None => Some(table),
+        Some(_) => {
+            drop(table);
+            None
+        }
     }
 }
 
-fn has_name(table: &WatchTable, place: u32, name: &str) -> bool {
+fn has_name(table: &WatchTable, place: u32) -> bool {
     match table.name(place) {
-        Some(found) => found.as_str() == name,
+        Some(found) => found.as_str() == NAME,
         None => false,
     }
 }
 
-fn has_relation(table: &WatchTable, place: u32, name: &str, code: u32) -> bool {
-    table.find(name) == Some(place)
-        && has_name(table, place, name)
-        && table.code(place) == Some(code)
+fn has_one(table: &WatchTable) -> bool {
+    table.len() == 1
+        && table.find(NAME) == Some(0)
+        && has_name(table, 0)
+        && table.code(0) == Some(1)
 }
 
 fn has_no_other(table: &WatchTable) -> bool {
-    table.find("raise").is_none() && table.name(4).is_none() && table.code(4).is_none()
+    table.find("change").is_none() && table.name(1).is_none() && table.code(1).is_none()
 }
 
-#[test]
-fn a_table_has_its_relations_by_name(rt: HostRuntime) -> Result<(), Fail> {
-    let table = four(rt.alloc()).ok_or("no memory")?;
-    for (place, name, code) in [
-        (0, "changed", 1),
-        (1, "completed", 2),
-        (2, "lost", 3),
-        (3, "raised", 4),
-    ] {
-        assert!(rt; has_relation(&table, place, name, code), "at {name}");
-    }
-    assert!(rt; has_no_other(&table));
-    Ok(())
-}
-
-// Whether a relation is there once, and isn't added anew under its name: none where memory is wanting.
+// Whether a relation isn't added anew under its name: none where memory is wanting.
 fn is_added_once(alloc: Global, table: &mut WatchTable) -> Option<bool> {
-    match add_raised(alloc, table, "changed") {
+    match add_changed(alloc, table) {
         None => Some(false),
-        Some(TableFault::Same) => Some(table.len() == 4 && table.code(0) == Some(1)),
+        Some(TableFault::Same) => Some(has_one(table) && has_no_other(table)),
         Some(TableFault::NoMemory) => None,
+    }
+}
+
+fn is_added_once_to_one(alloc: Global) -> Option<bool> {
+    match one(alloc) {
+        Some(mut table) => {
+            let is_once = is_added_once(alloc, &mut table);
+            drop(table);
+            is_once
+        }
+        None => None,
     }
 }
 
 #[test]
 fn a_name_is_added_once(rt: HostRuntime) -> Result<(), Fail> {
-    let mut table = four(rt.alloc()).ok_or("no memory")?;
-    assert!(rt; is_added_once(rt.alloc(), &mut table).ok_or("no memory")?);
+    let is_once = is_added_once_to_one(rt.alloc()).ok_or("no memory")?;
+    assert!(rt; is_once);
     Ok(())
 }
 
@@ -190,22 +140,44 @@ fn due(place: u32, old: u32, new: u32) -> bool {
     }
 }
 
-fn says(table: &WatchTable, place: u32, old: u32, new: u32) -> bool {
-    place < table.len() && table.run(place, &at(old), &at(new))
+fn said(place: u32, old: &Res, new: &Res) -> bool {
+    match place {
+        0 => changed(old, new),
+        1 => completed(old, new),
+        2 => lost(old, new),
+        _ => raised(old, new),
+    }
 }
 
-// Whether the relation says of the result and each other one what it is to say.
-fn says_what_is_due(table: &WatchTable, place: u32, old: u32) -> bool {
-    (0..RESULTS).all(|new| says(table, place, old, new) == due(place, old, new))
+fn said_of(place: u32, old: &Res, new: u32) -> bool {
+    let new = at(new);
+    let said = said(place, old, &new);
+    drop(new);
+    said
+}
+
+// Whether the relation says of the results and each other one what it is to say.
+fn says_what_is_due_of(place: u32, old: u32, res: &Res) -> bool {
+    for new in 0..RESULTS {
+        if said_of(place, res, new) != due(place, old, new) {
+            return false;
+        }
+    }
+    true
+}
+
+fn says_what_is_due(place: u32, old: u32) -> bool {
+    let res = at(old);
+    let is_due = says_what_is_due_of(place, old, &res);
+    drop(res);
+    is_due
 }
 
 #[test]
-fn relations_say_what_is_due_of_all_pairs_of_results(rt: HostRuntime) -> Result<(), Fail> {
-    let table = four(rt.alloc()).ok_or("no memory")?;
+fn relations_say_what_is_due_of_all_pairs_of_results(rt: HostRuntime) {
     for place in 0..4 {
         for old in 0..RESULTS {
-            assert!(rt; says_what_is_due(&table, place, old), "at {place}, {old}");
+            assert!(rt; says_what_is_due(place, old), "at {place}, {old}");
         }
     }
-    Ok(())
 }

@@ -55,7 +55,7 @@ impl History {
     {
         match self.room() {
             Ok(()) => {
-                let _ = self.back.push(inverse);
+                drop(self.back.push(inverse));
                 self.ahead.clear();
                 Ok(())
             }
@@ -145,11 +145,11 @@ fn move_newest(
         None => Ok(()),
         Some(edit) => match answers.apply(edit) {
             Ok(inverse) => {
-                let _ = to.push(inverse);
+                drop(to.push(inverse));
                 Ok(())
             }
             Err(unapplied) => {
-                let _ = from.push(unapplied.edit);
+                drop(from.push(unapplied.edit));
                 Err(NoMemory)
             }
         },

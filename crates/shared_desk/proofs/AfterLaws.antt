@@ -4,7 +4,8 @@ use Rattle.script_lines.specs.declared.command.Command.{Command}
 use Rattle.session_undo.specs.Timeline.{Timeline}
 use Rattle.graph_session.specs.Rules.{Rules, tree_of}
 use Rattle.graph_session.specs.SessionView.{Course, moved}
-use Rattle.shared_desk.specs.Desk.{Desk, desk_after, entries_after, is_change, is_shown, is_touched, looked, place_of, shown}
+use Rattle.graph_session.specs.Step.{is_change}
+use Rattle.shared_desk.specs.Desk.{Desk, desk_after, entries_after, is_shown, is_touched, looked, place_of, shown}
 use Rattle.shared_desk.proofs.StepLaws.{change_leads, question_leads}
 
 module _ (r : Rules) (d : Desk) (p : ℕ) (c : Command) where

@@ -1,16 +1,8 @@
 -- Lists of parties.
 use Rattle.std.proofs.Common.{◌≡◌, ℕ, zero, suc, ◌+◌, ◌-◌, ◌<◌, ◌≤◌, List, [], ◌∷◌, ◌++◌, length, slice_get, Some, refl, ap, ◌∙◌, arith}
 use Rattle.std.proofs.lemmas.List.{length-append}
+use Rattle.common_lemmas.proofs.Lists.{get_last, get_left}
 use Rattle.shared_desk.specs.Desk.{changer}
-
-pub get_left : {A : Type 0} (xs ys : List A) (i : ℕ) → i < length xs → slice_get (xs ++ ys) i ≡ slice_get xs i
-get_left [] ys i low = absurd (omega (arith, low))
-get_left (x ∷ xs) ys zero low = refl
-get_left (x ∷ xs) ys (suc i) low = get_left xs ys i (omega (arith, low))
-
-pub get_last : {A : Type 0} (xs : List A) (x : A) → slice_get (xs ++ x ∷ []) (length xs) ≡ Some x
-get_last [] x = refl
-get_last (y ∷ ys) x = get_last ys x
 
 pub changer_at : (changers : List ℕ) (n : ℕ) → changer changers (suc n) ≡ slice_get changers n
 changer_at changers n = let at : suc n - 1 ≡ n = omega arith in ap (slice_get changers) at

@@ -4,7 +4,6 @@ use Rattle.std.specs.Prelude.{Result, Ok}
 use Rattle.fact_paths.specs.declared.slot_path.SlotPath.{SlotPath}
 use Rattle.fact_values.specs.declared.slot.Slot.{Slot}
 use Rattle.script_lines.specs.declared.command.Command.{Command}
-use Rattle.common_lemmas.proofs.Bools.{or_neither}
 use Rattle.common_lemmas.proofs.Numbers.{nat_eq-comm}
 use Rattle.answers.specs.Answered.{Answered}
 use Rattle.dictionary.specs.Accepted.{Kept, accepted}
@@ -14,14 +13,15 @@ use Rattle.graph_session.specs.Refusals.{first_of as first_session, slot_found, 
 use Rattle.graph_session.specs.Rules.{rules, tree_of}
 use Rattle.graph_session.specs.SessionView.{SessionView, begun, course, start_at}
 use Rattle.graph_session.specs.declared.reply.Refusal.{Refusal}
+use Rattle.graph_session.specs.Step.{is_change}
 use Rattle.graph_session.proofs.StepLaws.{decided_ok}
-use Rattle.shared_desk.specs.Desk.{appends, desk_begun, is_change, is_shown, place_of, shown, steps_along}
+use Rattle.shared_desk.specs.Desk.{appends, desk_begun, is_shown, place_of, shown}
 use Rattle.shared_desk.specs.DeskView.{DeskView, Keeps, StandsFor, rules_of}
 use Rattle.shared_desk.specs.Looks.{Key, key_of, look_in, same_key}
 use Rattle.shared_desk.proofs.LookLaws.{zero_first}
 use Rattle.shared_desk.proofs.OrderLaws.{order_begun}
 use Rattle.shared_desk.proofs.StampLaws.{stamp_begun}
-use Rattle.shared_desk.proofs.StepLaws.{shows_no_change}
+use Rattle.shared_desk.proofs.StepLaws.{shows_appends_none, shows_no_change}
 
 pub stands_begun : (k : Kept) (a : Answered) (v : DeskView) (stamps : Bool) → v.session ≡ start_at k a stamps → stamps ≡ true → v.changers ≡ [] → v.entries ≡ [] → v.asked ≡ [] → StandsFor v (desk_begun (rules k) a)
 stands_begun k a v stamps e kept_stamps no_changers no_entries no_looks = record {
@@ -45,7 +45,7 @@ pub show_keeps : (v : DeskView) (w : SessionView) (p : ℕ) (c : Command) (path 
     → Keeps v p c (record { session = w; changers = v.changers; entries = v.entries; asked = asked })
 show_keeps v w p c path s asked number is found now put = record {
   changers = sym (ap (λ (b : Bool). if b then v.changers ++ p ∷ [] else v.changers) none);
-  entries = sym (ap (λ (b : Bool). if b then take (place_of (course v.session)) v.entries ++ p ∷ [] else v.entries) (or_neither (appends c) (steps_along c) none).0);
+  entries = sym (ap (λ (b : Bool). if b then take (place_of (course v.session)) v.entries ++ p ∷ [] else v.entries) (shows_appends_none c path is));
   looks = λ q t. put q t ∙ (λ i. if at q t i then now i else look_in v.asked q t);
 }
   where

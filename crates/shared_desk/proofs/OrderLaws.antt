@@ -7,7 +7,8 @@ use Rattle.answers.specs.Answered.{Answered}
 use Rattle.graph_session.specs.Counts.{next_counts, stamp_of}
 use Rattle.graph_session.specs.Rules.{Rules, tree_of}
 use Rattle.graph_session.specs.SessionView.{moved}
-use Rattle.shared_desk.specs.Desk.{Desk, desk_after, desk_begun, is_change, is_shown, is_touched, shown}
+use Rattle.graph_session.specs.Step.{is_change}
+use Rattle.shared_desk.specs.Desk.{Desk, desk_after, desk_begun, is_shown, is_touched, shown}
 use Rattle.shared_desk.specs.DeskView.{IsOrderly}
 use Rattle.shared_desk.proofs.AfterLaws.{after_by, after_change, after_question}
 use Rattle.shared_desk.proofs.Changers.{one_more}

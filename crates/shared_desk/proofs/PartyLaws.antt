@@ -13,10 +13,11 @@ use Rattle.graph_session.specs.Refusals.{decided as session_decided, first_of as
 use Rattle.graph_session.specs.Rules.{Rules, tree_of}
 use Rattle.graph_session.specs.Run.{ended, next, replies, said}
 use Rattle.graph_session.specs.SessionView.{Course}
-use Rattle.graph_session.specs.Step.{refusal, reply, step}
+use Rattle.graph_session.specs.Step.{is_change, refusal, reply, step}
 use Rattle.graph_session.specs.declared.reply.Refusal.{Refusal}
 use Rattle.graph_session.specs.declared.reply.Reply.{Reply}
-use Rattle.shared_desk.specs.Desk.{Desk, absent_refusals, appends, changer, course_after, desk_after, desk_begun, desk_refusal, desk_step, early, edited, entrant, entries_after, first_early, is_change, is_party, other, owner, place_of, stale, stale_named}
+use Rattle.graph_session.proofs.StepLaws.{accepted_step}
+use Rattle.shared_desk.specs.Desk.{Desk, absent_refusals, appends, changer, course_after, desk_after, desk_begun, desk_refusal, desk_step, early, edited, entrant, entries_after, first_early, is_party, other, owner, place_of, stale, stale_named}
 use Rattle.shared_desk.specs.DeskView.{IsOrderly}
 use Rattle.shared_desk.specs.Parties.{AcceptedAreAnswered, OnePartyIsAlone, SessionIsOverAccepted, accepted_first, accepted_of, agreed_first, agreed_of, desk_ended, desk_next, desk_replies, desk_said, of_session}
 use Rattle.shared_desk.specs.Refusals.{decided, first_of}
@@ -25,7 +26,7 @@ use Rattle.shared_desk.specs.declared.refusal.DeskRefusal.TheVariants.{Session}
 use Rattle.shared_desk.proofs.Changers.{changer_at}
 use Rattle.shared_desk.proofs.LookLaws.{or_true}
 use Rattle.shared_desk.proofs.OrderLaws.{order_begun, order_stays}
-use Rattle.shared_desk.proofs.StepLaws.{absent_first, accepted_step, first_one}
+use Rattle.shared_desk.proofs.StepLaws.{absent_first, first_one}
 
 -- ---- an accepted line
 

@@ -30,24 +30,25 @@ use Rattle.graph_session.specs.Naming.{slot_of}
 use Rattle.graph_session.specs.Refusals.{decided as session_decided, first_of as first_session, slot_found, slot_refusals}
 use Rattle.graph_session.specs.Rules.{Rules, tree_of}
 use Rattle.graph_session.specs.SessionView.{moved}
-use Rattle.graph_session.specs.Step.{step}
+use Rattle.graph_session.specs.Step.{is_change, step}
 use Rattle.graph_session.specs.declared.reply.Refusal.{Refusal}
 use Rattle.graph_session.specs.declared.reply.Reply.{Reply}
 use Rattle.graph_session.proofs.AllowedLaws.{found_stands}
 use Rattle.graph_session.proofs.SoundLaws.{fit_start}
-use Rattle.shared_desk.specs.Desk.{Desk, absent_refusals, changer, desk_after, desk_begun, desk_step, early, edited, is_change, is_party, owner, stale, stale_named}
+use Rattle.graph_session.proofs.StepLaws.{accepted_step}
+use Rattle.shared_desk.specs.Desk.{Desk, absent_refusals, changer, desk_after, desk_begun, desk_step, early, edited, is_party, owner, stale, stale_named}
 use Rattle.shared_desk.specs.DeskView.{IsOrderly}
 use Rattle.shared_desk.specs.Parties.{EditsFindWhatWasSeen, Line, SameAt, desk_ended, desk_next, led_to, passed}
 use Rattle.shared_desk.specs.Refusals.{first_of}
 use Rattle.shared_desk.specs.declared.refusal.DeskRefusal.{DeskRefusal}
 use Rattle.shared_desk.specs.declared.refusal.DeskRefusal.TheVariants.{NotYours, Session, Stale}
 use Rattle.shared_desk.proofs.AfterLaws.{after_by, after_change, after_question}
-use Rattle.shared_desk.proofs.Changers.{get_last, get_left, one_more}
+use Rattle.common_lemmas.proofs.Lists.{get_last, get_left}
+use Rattle.shared_desk.proofs.Changers.{one_more}
 use Rattle.shared_desk.proofs.FitLaws.{course_fits}
 use Rattle.shared_desk.proofs.OrderLaws.{order_begun, order_stays}
 use Rattle.shared_desk.proofs.PartyLaws.{accepted_line}
 use Rattle.shared_desk.proofs.StampLaws.{listed_after}
-use Rattle.shared_desk.proofs.StepLaws.{accepted_step}
 
 -- ---- a slot that isn't touched
 

@@ -16,10 +16,10 @@ use Rattle.graph_session.specs.Naming.{slot_of}
 use Rattle.graph_session.specs.Refusals.{first_of as first_session}
 use Rattle.graph_session.specs.Rules.{Rules, tree_of}
 use Rattle.graph_session.specs.SessionView.{moved}
-use Rattle.graph_session.specs.Step.{refusal}
+use Rattle.graph_session.specs.Step.{is_change, refusal}
 use Rattle.graph_session.specs.declared.reply.Refusal.{Refusal}
 use Rattle.graph_session.specs.declared.reply.Reply.{Reply}
-use Rattle.shared_desk.specs.Desk.{Desk, absent_refusals, changer, desk_after, desk_begun, desk_refusal, desk_step, edited, is_change, is_party, is_touched, owner, stale, stale_named}
+use Rattle.shared_desk.specs.Desk.{Desk, absent_refusals, changer, desk_after, desk_begun, desk_refusal, desk_step, edited, is_party, is_touched, owner, stale, stale_named}
 use Rattle.shared_desk.specs.DeskView.{IsOrderly}
 use Rattle.shared_desk.specs.Parties.{Line, desk_ended, desk_next}
 use Rattle.shared_desk.specs.Refusals.{first_of}
@@ -27,7 +27,8 @@ use Rattle.shared_desk.specs.StaleRule.{AnothersChangeIsStale, EditsThere, IsAno
 use Rattle.shared_desk.specs.declared.refusal.DeskRefusal.{DeskRefusal}
 use Rattle.shared_desk.specs.declared.refusal.DeskRefusal.TheVariants.{NotYours, Session, Stale}
 use Rattle.shared_desk.proofs.AfterLaws.{after_by, after_change, after_question}
-use Rattle.shared_desk.proofs.Changers.{get_last, get_left, one_more}
+use Rattle.common_lemmas.proofs.Lists.{get_last, get_left}
+use Rattle.shared_desk.proofs.Changers.{one_more}
 use Rattle.shared_desk.proofs.LookLaws.{and_false}
 use Rattle.shared_desk.proofs.OrderLaws.{order_begun, order_stays}
 use Rattle.shared_desk.proofs.PartyLaws.{accepted_line}

@@ -17,11 +17,7 @@ use Rattle.shared_desk.specs.Desk.{is_touched}
 
 -- ---- stamps in a list
 
-with_stamps : (Slot → ℕ) → List Slot → List (Slot × ℕ)
-with_stamps f ss = map (λ s. (s, f s)) ss
-
-stamp_missing : (f : Slot → ℕ) (ss : List Slot) (s : Slot) → list_any (slot_same s) ss ≡ false → stamp_in (with_stamps f ss) s ≡ 0
-unfolding with_stamps
+stamp_missing : (f : Slot → ℕ) (ss : List Slot) (s : Slot) → list_any (slot_same s) ss ≡ false → stamp_in (map (λ t. (t, f t)) ss) s ≡ 0
 stamp_missing f [] s h = refl
 stamp_missing f (t ∷ ss) s h =
     let parts = or_neither (slot_same s t) (list_any (slot_same s) ss) h in
@@ -29,7 +25,6 @@ stamp_missing f (t ∷ ss) s h =
 
 -- a slot that doesn't stand has the stamp 0
 stamp_unlisted : (d : Accepted) (a : Answered) (stamps : Slot → ℕ) (s : Slot) → stands d.tree a s ≡ false → stamp_in (stamps_of d a stamps) s ≡ 0
-unfolding with_stamps
 stamp_unlisted d a stamps s h = stamp_missing stamps (standing d.tree a) s (listed_stand d.tree a s ∙ h)
 
 -- ---- after a change

@@ -10,9 +10,10 @@ use Rattle.graph_session.specs.Counts.{stamp_of}
 use Rattle.graph_session.specs.Naming.{slot_of}
 use Rattle.graph_session.specs.Rules.{tree_of}
 use Rattle.graph_session.specs.SessionView.{Course, course, moved}
-use Rattle.graph_session.specs.Step.{refusal, step}
+use Rattle.graph_session.specs.Step.{is_change, refusal, step}
 use Rattle.graph_session.specs.declared.reply.Reply.{Reply}
-use Rattle.shared_desk.specs.Desk.{Desk, absent_refusals, changer, course_after, desk_after, desk_refusal, desk_step, early, edited, entrant, entries_after, first_early, is_change, is_party, is_shown, is_touched, other, owner, place_of, shown, stale, stale_named, stale_since}
+use Rattle.graph_session.proofs.StepLaws.{accepted_step}
+use Rattle.shared_desk.specs.Desk.{Desk, absent_refusals, changer, course_after, desk_after, desk_refusal, desk_step, early, edited, entrant, entries_after, first_early, is_party, is_shown, is_touched, other, owner, place_of, shown, stale, stale_named, stale_since}
 use Rattle.shared_desk.specs.DeskView.{DeskView, IsOrderly, Keeps, StandsFor, kept_desk, rules_of}
 use Rattle.shared_desk.specs.Looks.{look_in}
 use Rattle.shared_desk.specs.Refusals.{Refused}
@@ -21,7 +22,7 @@ use Rattle.shared_desk.specs.declared.refusal.DeskRefusal.TheVariants.{Session}
 use Rattle.shared_desk.proofs.AfterLaws.{after_by, after_change, after_question}
 use Rattle.shared_desk.proofs.LookLaws.{and_false, kept_asked, kept_changed, looked_low}
 use Rattle.shared_desk.proofs.OrderLaws.{order_stays, touch_at}
-use Rattle.shared_desk.proofs.StepLaws.{accepted_step, early_refusal, late_refusal, late_step, refused_self}
+use Rattle.shared_desk.proofs.StepLaws.{early_refusal, late_refusal, late_step, refused_self}
 
 -- ---- the same refusals
 

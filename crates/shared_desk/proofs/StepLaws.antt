@@ -16,51 +16,17 @@ use Rattle.graph_session.specs.Refusals.{Refused as SessionRefused, first_of as 
 use Rattle.graph_session.specs.Naming.{fact_of, slot_of}
 use Rattle.graph_session.specs.Rules.{Rules, tree_of}
 use Rattle.graph_session.specs.SessionView.{Course, SessionView, course, moved, view_at}
-use Rattle.graph_session.specs.Step.{moved_by, refusal, reply, step, timeline_by}
+use Rattle.graph_session.specs.Step.{is_change, moved_by, refusal, reply, step, timeline_by}
 use Rattle.graph_session.specs.declared.reply.Refusal.{Refusal}
 use Rattle.graph_session.specs.declared.reply.Refusal.TheVariants.{AlreadyOpen, BadValue, NoMemory, NoOverride, NoStamps, NotAnswered, WrongKind}
 use Rattle.graph_session.specs.declared.reply.Reply.{Reply}
-use Rattle.graph_session.proofs.StepLaws.{decided_err, decided_ok}
-use Rattle.shared_desk.specs.Desk.{Desk, absent_refusals, appends, course_after, desk_after, desk_refusal, desk_step, early, is_change, place_of, shown}
+use Rattle.graph_session.proofs.StepLaws.{accepted_step, changes_move, decided_err, decided_ok, questions_stay}
+use Rattle.shared_desk.specs.Desk.{Desk, absent_refusals, appends, course_after, desk_after, desk_refusal, desk_step, early, place_of, shown}
 use Rattle.shared_desk.specs.Refusals.{Refused, RefusedBut, decided, first_of, wants_memory}
 use Rattle.shared_desk.specs.declared.refusal.DeskRefusal.{DeskRefusal}
 use Rattle.shared_desk.specs.declared.refusal.DeskRefusal.TheVariants.{Session}
 
 -- ---- where an accepted command leads
-
--- it isn't refused, and leads to its reply and course
--- move down
-pub accepted_step : (r : Rules) (s t : Course) (c : Command) (said : Reply) → step r s c ≡ Ok (said, t)
-    → (refusal r s c ≡ None) × ((said ≡ reply r s c) × (t ≡ course_after r s c))
-accepted_step r s t c said e =
-    let parts = decided_ok (refusal r s c) (reply r s c, moved_by r s (timeline_by (tree_of r) s.timeline c)) (said, t) (sym e) in
-    (parts.0, (ap (λ (p : Reply × Course). p.0) parts.1, ap (λ (p : Reply × Course). p.1) parts.1))
-
--- a change leads along the timeline
--- move down
-changes_move : (d : Tree) (t : Timeline) (c : Command) → is_change c ≡ true → (to : Timeline) × (timeline_by d t c ≡ Some to)
-changes_move d t (commands.Get path) e = absurd cc
-changes_move d t (commands.Final path) e = absurd cc
-changes_move d t (commands.Stamp path) e = absurd cc
-changes_move d t commands.Touched e = absurd cc
-changes_move d t (commands.Missing path) e = absurd cc
-changes_move d t (commands.Watch name path) e = absurd cc
-changes_move d t (commands.Unwatch name path) e = absurd cc
-changes_move d t commands.Quit e = absurd cc
-changes_move d t c e = (_, refl)
-
--- move down
-questions_stay : (d : Tree) (t : Timeline) (c : Command) → is_change c ≡ false → timeline_by d t c ≡ None
-questions_stay d t (commands.Set path text) e = absurd cc
-questions_stay d t (commands.Clear path) e = absurd cc
-questions_stay d t (commands.OpenList path) e = absurd cc
-questions_stay d t (commands.Add path) e = absurd cc
-questions_stay d t (commands.Remove path member) e = absurd cc
-questions_stay d t (commands.Override path text) e = absurd cc
-questions_stay d t (commands.Release path) e = absurd cc
-questions_stay d t commands.Undo e = absurd cc
-questions_stay d t commands.Redo e = absurd cc
-questions_stay d t c e = refl
 
 pub change_leads : (r : Rules) (s : Course) (c : Command) → is_change c ≡ true → (to : Timeline) × (course_after r s c ≡ moved r.accepted s to)
 change_leads r s c e = let to = changes_move (tree_of r) s.timeline c e in (to.0, ap (moved_by r s) to.1)
@@ -104,6 +70,12 @@ shows_no_change (commands.Get x) path e = refl
 shows_no_change (commands.Final x) path e = refl
 shows_no_change (commands.Stamp x) path e = refl
 shows_no_change c path e = absurd cc
+
+pub shows_appends_none : (c : Command) (path : SlotPath) → shown c ≡ Some path → appends c ≡ false
+shows_appends_none (commands.Get x) path e = refl
+shows_appends_none (commands.Final x) path e = refl
+shows_appends_none (commands.Stamp x) path e = refl
+shows_appends_none c path e = absurd cc
 
 -- a question leaves the session as it was
 pub question_stays : (r : Rules) (v w : SessionView) (c : Command) (said : Reply) → is_change c ≡ false → step r (course v) c ≡ Ok (said, course w) → w.dict ≡ v.dict → w ≡ v

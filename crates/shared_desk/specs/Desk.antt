@@ -16,7 +16,7 @@ use Rattle.graph_session.specs.Naming.{fact_of, slot_of}
 use Rattle.graph_session.specs.Refusals.{first_of as first_session, slot_refusals, when}
 use Rattle.graph_session.specs.Rules.{Rules, tree_of}
 use Rattle.graph_session.specs.SessionView.{Course, begun}
-use Rattle.graph_session.specs.Step.{moved_by, refusal, reply, timeline_by}
+use Rattle.graph_session.specs.Step.{is_change, moved_by, refusal, reply, timeline_by}
 use Rattle.graph_session.specs.declared.reply.Refusal.{Refusal}
 use Rattle.graph_session.specs.declared.reply.Refusal.TheVariants.{NoMember}
 use Rattle.graph_session.specs.declared.reply.Reply.{Reply}
@@ -70,15 +70,6 @@ appends (Remove path member) = true
 appends (Override path text) = true
 appends (Release path) = true
 appends _ = false
-
--- the place goes along the list
-abbrev pub steps_along : Command → Bool
-steps_along Undo = true
-steps_along Redo = true
-steps_along _ = false
-
-abbrev pub is_change : Command → Bool
-is_change c = appends c || steps_along c
 
 -- ---- stale slots
 

@@ -15,7 +15,8 @@ use Rattle.graph_session.specs.Run.{ended, replies}
 use Rattle.graph_session.specs.SessionView.{begun}
 use Rattle.graph_session.specs.declared.reply.Refusal.{Refusal}
 use Rattle.graph_session.specs.declared.reply.Reply.{Reply}
-use Rattle.shared_desk.specs.Desk.{Desk, desk_begun, desk_step, edited, is_change}
+use Rattle.graph_session.specs.Step.{is_change}
+use Rattle.shared_desk.specs.Desk.{Desk, desk_begun, desk_step, edited}
 use Rattle.shared_desk.specs.declared.refusal.DeskRefusal.{DeskRefusal}
 use Rattle.shared_desk.specs.declared.refusal.DeskRefusal.TheVariants.{Session}
 

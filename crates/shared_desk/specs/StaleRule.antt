@@ -10,7 +10,8 @@ use Rattle.graph_session.specs.Naming.{slot_of}
 use Rattle.graph_session.specs.Refusals.{first_of}
 use Rattle.graph_session.specs.Rules.{Rules, tree_of}
 use Rattle.graph_session.specs.declared.reply.Reply.{Reply}
-use Rattle.shared_desk.specs.Desk.{Desk, absent_refusals, desk_begun, desk_refusal, desk_step, edited, is_change, is_touched}
+use Rattle.graph_session.specs.Step.{is_change}
+use Rattle.shared_desk.specs.Desk.{Desk, absent_refusals, desk_begun, desk_refusal, desk_step, edited, is_touched}
 use Rattle.shared_desk.specs.Parties.{Line, desk_ended, desk_next}
 use Rattle.shared_desk.specs.declared.refusal.DeskRefusal.{DeskRefusal}
 use Rattle.shared_desk.specs.declared.refusal.DeskRefusal.TheVariants.{Stale}

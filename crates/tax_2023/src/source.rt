@@ -107,17 +107,30 @@ fn options(alloc: Global) -> Result<EnumLists, NoMemory>
     Ok(lists)
 }
 
+// Adds all facts, with the figures of a year.
+fn add_facts(alloc: Global, figures: &[Figure<'_>], source: &mut DictSource) -> Result<(), NoMemory>
+    requires { dictionary_view source.old ≡ at_start }
+    ensures { OnOk result (dictionary_view source.new ≡ dictionary (figures_view figures.now)) }
+{
+    add_filer(alloc, figures, source)?;
+    add_return(alloc, figures, source)?;
+    add_dependents(alloc, figures, source)?;
+    add_tests(alloc, figures, source)?;
+    add_counts(alloc, figures, source)
+}
+
 // The facts, with the figures of a year.
 fn source(alloc: Global, figures: &[Figure<'_>]) -> Result<DictSource, NoMemory>
     ensures { IfOk result (λ source. dictionary_view source ≡ dictionary (figures_view figures.now)) }
 {
     let mut source = DictSource::new(alloc, options(alloc)?);
-    add_filer(alloc, figures, &mut source)?;
-    add_return(alloc, figures, &mut source)?;
-    add_dependents(alloc, figures, &mut source)?;
-    add_tests(alloc, figures, &mut source)?;
-    add_counts(alloc, figures, &mut source)?;
-    Ok(source)
+    match add_facts(alloc, figures, &mut source) {
+        Ok(()) => Ok(source),
+        Err(NoMemory) => {
+            drop(source);
+            Err(NoMemory)
+        }
+    }
 }
 
 /// The 45 facts of 2023, in order.

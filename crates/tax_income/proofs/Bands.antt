@@ -85,7 +85,7 @@ up_to (negsuc n) most low high = absurd (omega (arith, ints, low))
 pub up_to_range : (x : ℤ) (most : ℕ) → IsUpTo x most → most ≤ 999999999999999 → IsTrue (is_in_range x)
 up_to_range x most u h = rw u.same (in_range_of (pos u.size) (record { low = omega (arith, ints); high = omega (arith, ints, u.small, h) }))
 
-not_below : (n : ℤ) → pos 0 ≤ℤ greater_of (pos 0) n
+pub not_below : (n : ℤ) → pos 0 ≤ℤ greater_of (pos 0) n
 not_below n = grind (arith, ints)
 
 not_above : (n : ℤ) (most : ℕ) → n ≤ℤ pos most → greater_of (pos 0) n ≤ℤ pos most

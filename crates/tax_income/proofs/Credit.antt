@@ -29,7 +29,7 @@ use Rattle.tax_2023.proofs.Spells.{around}
 use Rattle.tax_2023.proofs.Values.{person}
 use Rattle.tax_income.specs.Facts as facts
 use Rattle.tax_income.specs.Tables.{Numbered, child_credit, credit_base, credit_children, excess, income_limit, is_credit_child, is_other_dependent, other_dependents, reduction, schedule_tax, tax_after_credits, thousands}
-use Rattle.tax_income.proofs.Bands.{IsTax, IsUpTo, greater_up_to, tax_small, up_to, up_to_range}
+use Rattle.tax_income.proofs.Bands.{IsTax, IsUpTo, greater_up_to, not_below, tax_small, up_to, up_to_range}
 use Rattle.tax_income.proofs.IncomeValues.{Worth}
 use Rattle.tax_income.proofs.Rounding.{by_division, rounded_up, thousands_are}
 
@@ -175,12 +175,9 @@ lesser_up_to x y most u low = rw u.same (up_to (lesser_of (pos u.size) y) most (
     below : (n : ℕ) (y : Cents) → n ≤ most → lesser_of (pos n) y ≤ℤ pos most
     below n y h = grind (arith, ints)
 
-least_credit : (x : ℤ) → pos 0 ≤ℤ greater_of (pos 0) x
-least_credit x = grind (arith, ints)
-
 pub credit_small : (h : Household) (numbered : Numbered) → IsModest h.earned_income → IsModest h.other_income → IsTax (child_credit h numbered)
 unfolding child_credit
-credit_small h numbered e o = lesser_up_to (schedule_tax h) (greater_of (pos 0) (credit_base h numbered -ℤ reduction h)) 518000000000000 (tax_small h e o) (least_credit (credit_base h numbered -ℤ reduction h))
+credit_small h numbered e o = lesser_up_to (schedule_tax h) (greater_of (pos 0) (credit_base h numbered -ℤ reduction h)) 518000000000000 (tax_small h e o) (not_below (credit_base h numbered -ℤ reduction h))
 
 -- ---- the facts
 

@@ -9,6 +9,3 @@ mod source;
 
 pub use income::income_2023;
 pub use laws::tables_of_income_2023;
-
-#[cfg(test)]
-mod tests;

@@ -71,14 +71,27 @@ fn add_credit(alloc: Global, source: &mut DictSource) -> Result<(), NoMemory>
     push_rows(alloc, &[], credit_rows(), source)
 }
 
+// Adds the 24 facts behind those of 2023.
+fn add_facts(alloc: Global, source: &mut DictSource) -> Result<(), NoMemory>
+    requires { dictionary_view source.old ≡ dictionary (figures tables_2023) }
+    ensures { OnOk result (dictionary_view source.new ≡ income_dictionary (figures tables_2023)) }
+{
+    add_ends(alloc, source)?;
+    add_taxes(alloc, source)?;
+    add_children(alloc, source)?;
+    add_credit(alloc, source)
+}
+
 /// The 45 facts of 2023 and the 24 behind them, in order.
 pub fn income_source(alloc: Global) -> Result<DictSource, NoMemory>
     ensures { IfOk result (λ source. dictionary_view source ≡ income_dictionary (figures tables_2023)) }
 {
     let mut source = source_2023(alloc)?;
-    add_ends(alloc, &mut source)?;
-    add_taxes(alloc, &mut source)?;
-    add_children(alloc, &mut source)?;
-    add_credit(alloc, &mut source)?;
-    Ok(source)
+    match add_facts(alloc, &mut source) {
+        Ok(()) => Ok(source),
+        Err(NoMemory) => {
+            drop(source);
+            Err(NoMemory)
+        }
+    }
 }

@@ -9,14 +9,9 @@ ghost use Rattle.written_facts.specs.Taking.{takes, takes_all, with_facts};
 use crate::figure::Figure;
 use crate::row::Row;
 use crate::stating::fact_of;
-use dict_tree::{DictSource, FactSource, Unpushed};
+use dict_tree::{DictSource, FactSource};
 use fact_values::NoMemory;
 use std::alloc::Global;
-
-// What comes back is let go.
-fn no_memory(_unpushed: Unpushed) -> NoMemory {
-    NoMemory
-}
 
 fn push(source: &mut DictSource, fact: FactSource) -> Result<(), NoMemory>
     requires { IsTrue (takes (dictionary_view source.old) (fact_view fact)) }
@@ -24,7 +19,10 @@ fn push(source: &mut DictSource, fact: FactSource) -> Result<(), NoMemory>
 {
     match source.push(fact) {
         Ok(()) => Ok(()),
-        Err(unpushed) => Err(no_memory(unpushed)),
+        Err(unpushed) => {
+            drop(unpushed);
+            Err(NoMemory)
+        }
     }
 }
 

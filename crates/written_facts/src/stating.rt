@@ -71,8 +71,8 @@ fn start(alloc: Global, path: &str, kind: &Kind<'_>) -> Result<Head, NoMemory>
     ensures stated { IfOk result (λ h. stated_view h.stated ≡ kind_view kind.now) }
 {
     let path_text = String::from_str(alloc, path)?;
-    let stated = state(alloc, kind)?;
     let path = path_of(alloc, path)?;
+    let stated = state(alloc, kind)?;
     Ok(Head {
         path_text,
         path,
@@ -118,9 +118,14 @@ fn derived(
     requires { IsTrue (is_named (kind_view kind.now)) }
     ensures { IfOk result (λ f. fact_view f ≡ follows path.now (kind_view kind.now) (form_view (figures_view figures.now) form.now)) }
 {
-    let head = start(alloc, path, kind)?;
     let main = build(alloc, figures, form)?;
-    Ok(fact(head, Vec::new(alloc), Some(main)))
+    match start(alloc, path, kind) {
+        Ok(head) => Ok(fact(head, Vec::new(alloc), Some(main))),
+        Err(NoMemory) => {
+            drop(main);
+            Err(NoMemory)
+        }
+    }
 }
 
 /// The fact that the row writes, with the figures of these names.

@@ -1,9 +1,10 @@
-use Rattle.std.proofs.Common.{arith, drop, option_map, ap}
+use Rattle.std.proofs.Common.{arith, ◌∙◌, ◌++◌, ◌+◌, drop, map, option_map, ap, refl, add-one}
 use Rattle.std.proofs.lemmas.Result.{err_from_is_err_and}
 use Rattle.serde_json.specs.View.{view as json, items_view}
-use Rattle.dict_tree.specs.View.{box_view, pair_view, picked_view, use_view}
-use Rattle.dict_tree.specs.Reading.{picked_of, tree_of, only_tree, pair_tree, picked_tree}
+use Rattle.dict_tree.specs.View.{box_view, case_view, pair_view, picked_view, use_view, view}
+use Rattle.dict_tree.specs.Reading.{picked_of, tree_of, only_tree, pair_tree, picked_tree, tree_list, case_of, case_list}
 use Rattle.dict_tree.proofs.OperandLaws.{only_tree_else, pair_tree_else, picked_tree_else, only_tree_at, pair_tree_none, pair_tree_none_second, pair_tree_some, picked_none, picked_some, part_err, part_gives}
+use Rattle.dict_tree.proofs.ReadingLaws.{items_next, one_more, read_next}
 use Rattle.dict_tree.proofs.expr_json.+expr.Goals as goal
 
 pub read_only-returns-then-items-ne2 : goal.read_only-returns-then-items-ne2
@@ -46,3 +47,19 @@ pub read_picked-returns : goal.read_picked-returns
 read_picked-returns t c =
     picked_some c.args.items.now c.index-items-1.result c.index-items-2.result c.in-Some.text.now (box_view c.in_ok-condition.condition) (use_view c.in_ok-path.path) (omega arith) c.index-items-1.is c.index-items-2.is
     c.in-Some.ensures c.in_ok-condition.ensures c.in_ok-path.ensures
+
+pub read_list-loop-i-preserved : goal.read_list-loop-i-preserved
+read_list-loop-i-preserved t c =
+    let i = c.loop-i.i in
+    let values = c.args.items.now in
+    read_next tree_of tree_list (λ d ds. refl) (items_view (drop i values)) (items_view (drop (i + 1) values)) (json c.index-items-i.result) (view c.in_ok-expr.expr) (map view c.loop-i.list.items) (map view c.push.new.self.items) _
+    (items_next values i (i + 1) c.index-items-i.result (omega arith) c.index-items-i.is (add-one i)) c.loop-i.invariant c.in_ok-expr.ensures
+    (λ ys. ap (λ l. map view l ++ ys) c.in_ok-push.ensures.items ∙ one_more view c.loop-i.list.items c.in_ok-expr.expr ys)
+
+pub read_cases-loop-i-preserved : goal.read_cases-loop-i-preserved
+read_cases-loop-i-preserved t c =
+    let i = c.loop-i.i in
+    let values = c.args.items.now in
+    read_next case_of case_list (λ d ds. refl) (items_view (drop i values)) (items_view (drop (i + 1) values)) (json c.index-items-i.result) (case_view c.in_ok-case.case) (map case_view c.loop-i.cases.items) (map case_view c.push.new.self.items) _
+    (items_next values i (i + 1) c.index-items-i.result (omega arith) c.index-items-i.is (add-one i)) c.loop-i.invariant c.in_ok-case.ensures
+    (λ ys. ap (λ l. map case_view l ++ ys) c.in_ok-push.ensures.items ∙ one_more case_view c.loop-i.cases.items c.in_ok-case.case ys)

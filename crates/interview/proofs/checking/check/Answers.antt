@@ -5,7 +5,7 @@ use Rattle.interview.proofs.checking.check.Goals as goal
 pub returns-in-Ok-Accepted : goal.returns-in-Ok-Accepted
 returns-in-Ok-Accepted g c =
     let found = rw c.in-Ok-Accepted.field-0-is at c.in-Ok-Accepted.ensures.fetched in
-    record { ends = ends_fetched _ _ _ _ (fetches.Accepted _) c.end_accepted.result found c.end_accepted.ensures }
+    record { ends = ends_fetched _ _ _ _ (fetches.Accepted _) c.end_accepted-status.result found c.end_accepted-status.ensures }
 
 pub returns-in-Ok-Refused : goal.returns-in-Ok-Refused
 returns-in-Ok-Refused g c =

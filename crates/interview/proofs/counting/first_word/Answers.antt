@@ -1,4 +1,4 @@
-use Rattle.interview.proofs.CountLaws.{one_word, word_at}
+use Rattle.interview.proofs.FirstWords.{one_word, word_at}
 use Rattle.interview.proofs.counting.first_word.Goals as goal
 
 pub returns-in-None : goal.returns-in-None

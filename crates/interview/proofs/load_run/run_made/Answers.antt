@@ -9,14 +9,14 @@ use Rattle.interview.proofs.ScriptLaws.{not_begun}
 use Rattle.interview.proofs.TellingLaws.{begun_means}
 use Rattle.interview.proofs.load_run.run_made.Goals as goal
 
-pub run-requires-clause-meant : goal.run-requires-clause-meant
-run-requires-clause-meant g c = (meaning_of (rules c.args.dictionary) Incremental (map {B = List ℕ × ℕ} (λ r. (r.name, r.code)) c.args.table.now.relations.items) start, meaning_begins (rules c.args.dictionary) Incremental (map {B = List ℕ × ℕ} (λ r. (r.name, r.code)) c.args.table.now.relations.items) start, begun_means _ c.args.dictionary start true _ _ c.in-Ok.ensures.session c.in-Ok.ensures.watches)
+pub run-status-requires-clause-meant : goal.run-status-requires-clause-meant
+run-status-requires-clause-meant g c = (meaning_of (rules c.args.dictionary) Incremental (map {B = List ℕ × ℕ} (λ r. (r.name, r.code)) c.args.table.now.relations.items) start, meaning_begins (rules c.args.dictionary) Incremental (map {B = List ℕ × ℕ} (λ r. (r.name, r.code)) c.args.table.now.relations.items) start, begun_means _ c.args.dictionary start true _ _ c.in-Ok.ensures.session c.in-Ok.ensures.watches)
 
-pub run-requires-clause-unchanged : goal.run-requires-clause-unchanged
-run-requires-clause-unchanged g c = ap (λ (s : SessionView). s.changes) c.in-Ok.ensures.session
+pub run-status-requires-clause-unchanged : goal.run-status-requires-clause-unchanged
+run-status-requires-clause-unchanged g c = ap (λ (s : SessionView). s.changes) c.in-Ok.ensures.session
 
 pub returns : goal.returns
 returns g c = record { ends = not_begun (meaning_of (rules c.args.dictionary) Incremental (map {B = List ℕ × ℕ} (λ r. (r.name, r.code)) c.args.table.now.relations.items) start) (meaning_begins (rules c.args.dictionary) Incremental (map {B = List ℕ × ℕ} (λ r. (r.name, r.code)) c.args.table.now.relations.items) start) _ refl }
 
 pub returns-in-Ok : goal.returns-in-Ok
-returns-in-Ok g c = record { ends = c.run.ensures.ends (meaning_of (rules c.args.dictionary) Incremental (map {B = List ℕ × ℕ} (λ r. (r.name, r.code)) c.args.table.now.relations.items) start) (meaning_begins (rules c.args.dictionary) Incremental (map {B = List ℕ × ℕ} (λ r. (r.name, r.code)) c.args.table.now.relations.items) start) (begun_means _ c.args.dictionary start true _ _ c.in-Ok.ensures.session c.in-Ok.ensures.watches) }
+returns-in-Ok g c = record { ends = c.run-status.ensures.ends (meaning_of (rules c.args.dictionary) Incremental (map {B = List ℕ × ℕ} (λ r. (r.name, r.code)) c.args.table.now.relations.items) start) (meaning_begins (rules c.args.dictionary) Incremental (map {B = List ℕ × ℕ} (λ r. (r.name, r.code)) c.args.table.now.relations.items) start) (begun_means _ c.args.dictionary start true _ _ c.in-Ok.ensures.session c.in-Ok.ensures.watches) }

@@ -45,14 +45,14 @@ visit-returns-in-Pick-clause-memory g t c =
 
 -- ---- a list of operands
 
-pub eval_all-returns-in_err-res-clause-most : goal.eval_all-returns-in_err-res-clause-most
-eval_all-returns-in_err-res-clause-most g t c =
+pub eval_all-returns-in_err-see_operand-clause-most : goal.eval_all-returns-in_err-see_operand-clause-most
+eval_all-returns-in_err-see_operand-clause-most g t c =
     let weigh = all_weigh view (node_env (g.C.Cells.look c.args.cells.now)) c.args.at c.args.operands.now c.loop-operand.operand-index c.operand-item.result c.loop-operand-test.true c.operand-item.is in
-    omega (arith, weigh, c.in_err-res.ensures.most, c.loop-operand.invariant.most)
+    omega (arith, weigh, c.in_err-see_operand.ensures.most, c.loop-operand.invariant.most)
 
-pub eval_all-returns-in_err-res-clause-memory : goal.eval_all-returns-in_err-res-clause-memory
-eval_all-returns-in_err-res-clause-memory g t c =
-    λ h. c.loop-operand.invariant.memory (all_take view (node_env (g.C.Cells.look c.args.cells.now)) c.args.at c.args.operands.now c.loop-operand.operand-index c.operand-item.result c.loop-operand-test.true c.operand-item.is (inl (c.in_err-res.ensures.memory refl)))
+pub eval_all-returns-in_err-see_operand-clause-memory : goal.eval_all-returns-in_err-see_operand-clause-memory
+eval_all-returns-in_err-see_operand-clause-memory g t c =
+    λ h. c.loop-operand.invariant.memory (all_take view (node_env (g.C.Cells.look c.args.cells.now)) c.args.at c.args.operands.now c.loop-operand.operand-index c.operand-item.result c.loop-operand-test.true c.operand-item.is (inl (c.in_err-see_operand.ensures.memory refl)))
 
 pub eval_all-loop-operand-preserved : goal.eval_all-loop-operand-preserved
 eval_all-loop-operand-preserved g t c =
@@ -62,11 +62,11 @@ eval_all-loop-operand-preserved g t c =
     let visit = all_visit view env c.args.at c.args.operands.now i c.operand-item.result c.loop-operand-test.true c.operand-item.is in
     record {
       value =
-          all_next view env c.args.at c.args.operands.now i c.operand-item.result c.loop-operand-test.true c.operand-item.is c.loop-operand.fold c.see.new.self c.in_ok-res.res c.in_ok-res.ensures.value c.see.ensures.next
+          all_next view env c.args.at c.args.operands.now i c.operand-item.result c.loop-operand-test.true c.operand-item.is c.loop-operand.fold c.see_operand.new.fold (over env c.args.at (view c.operand-item.result)) refl c.in_ok-see_operand.ensures.next
           ∙ c.loop-operand.invariant.value;
-      count = ap (λ s. s.count) c.see.ensures.next ∙ ap (λ n. n + 1) c.loop-operand.invariant.count;
-      visited = omega (arith, visit, c.in_ok-res.ensures.visited, c.loop-operand.invariant.visited);
-      most = omega (arith, weigh, c.in_ok-res.ensures.most, c.loop-operand.invariant.most);
+      count = ap (λ s. s.count) c.in_ok-see_operand.ensures.next ∙ ap (λ n. n + 1) c.loop-operand.invariant.count;
+      visited = omega (arith, visit, c.in_ok-see_operand.ensures.visited, c.loop-operand.invariant.visited);
+      most = omega (arith, weigh, c.in_ok-see_operand.ensures.most, c.loop-operand.invariant.most);
       memory = λ h. c.loop-operand.invariant.memory (all_take view env c.args.at c.args.operands.now i c.operand-item.result c.loop-operand-test.true c.operand-item.is (inr h));
     }
 
@@ -107,7 +107,7 @@ eval_cases-returns-in_err-condition-clause-memory g t c =
 
 pub eval_cases-returns-in_err-res-in-Take-clause-memory : goal.eval_cases-returns-in_err-res-in-Take-clause-memory
 eval_cases-returns-in_err-res-in-Take-clause-memory g t c =
-    λ h. c.loop-case.invariant.memory (case_takes case_view (node_env (g.C.Cells.look c.args.cells.now)) c.args.at c.args.cases.now c.loop-case.case-index c.case-item.result c.loop-case-test.true c.case-item.is c.loop-case.complete c.in_ok-condition.condition (Take c.in-Take.still) c.in_ok-condition.ensures.value (sym c.in-Take.is ∙ c.case_step.ensures) (c.in_err-res-in-Take.ensures.memory refl))
+    λ h. c.loop-case.invariant.memory (case_takes case_view (node_env (g.C.Cells.look c.args.cells.now)) c.args.at c.args.cases.now c.loop-case.case-index c.case-item.result c.loop-case-test.true c.case-item.is c.loop-case.complete c.in_ok-condition.condition (Take c.in-Take.still) c.in_ok-condition.ensures.value (sym c.in-Take.is ∙ c.case_step-step.ensures) (c.in_err-res-in-Take.ensures.memory refl))
 
 pub eval_cases-returns-in_err-res-in-Take-clause-most : goal.eval_cases-returns-in_err-res-in-Take-clause-most
 eval_cases-returns-in_err-res-in-Take-clause-most g t c =
@@ -120,7 +120,7 @@ eval_cases-returns-in-Take-clause-value g t c =
     let i = c.loop-case.case-index in
     c.taken.ensures
     ∙ ap (λ r. after_case (Take c.in-Take.still) r (λ still. switch_from still (over_cases env c.args.at (cases_of (drop (i + 1) (map case_view c.args.cases.now)))))) c.in_ok-res-in-Take.ensures.value
-    ∙ case_at case_view env c.args.at c.args.cases.now i c.case-item.result c.loop-case-test.true c.case-item.is c.loop-case.complete c.in_ok-condition.condition (Take c.in-Take.still) c.in_ok-condition.ensures.value (sym c.in-Take.is ∙ c.case_step.ensures)
+    ∙ case_at case_view env c.args.at c.args.cases.now i c.case-item.result c.loop-case-test.true c.case-item.is c.loop-case.complete c.in_ok-condition.condition (Take c.in-Take.still) c.in_ok-condition.ensures.value (sym c.in-Take.is ∙ c.case_step-step.ensures)
     ∙ c.loop-case.invariant.value
 
 pub eval_cases-returns-in-Take-clause-most : goal.eval_cases-returns-in-Take-clause-most
@@ -131,12 +131,12 @@ eval_cases-returns-in-Take-clause-most g t c =
 pub eval_cases-returns-in-Take-clause-visited : goal.eval_cases-returns-in-Take-clause-visited
 eval_cases-returns-in-Take-clause-visited g t c =
     let env = node_env (g.C.Cells.look c.args.cells.now) in
-    let visit = case_visit case_view env c.args.at c.args.cases.now c.loop-case.case-index c.case-item.result c.loop-case-test.true c.case-item.is c.loop-case.complete c.in_ok-condition.condition (Take c.in-Take.still) c.in_ok-condition.ensures.value (sym c.in-Take.is ∙ c.case_step.ensures) in
+    let visit = case_visit case_view env c.args.at c.args.cases.now c.loop-case.case-index c.case-item.result c.loop-case-test.true c.case-item.is c.loop-case.complete c.in_ok-condition.condition (Take c.in-Take.still) c.in_ok-condition.ensures.value (sym c.in-Take.is ∙ c.case_step-step.ensures) in
     omega (arith, visit, c.in_ok-condition.ensures.visited, c.in_ok-res-in-Take.ensures.visited, c.loop-case.invariant.visited)
 
 pub eval_cases-returns-in-End-clause-value : goal.eval_cases-returns-in-End-clause-value
 eval_cases-returns-in-End-clause-value g t c =
-    case_at case_view (node_env (g.C.Cells.look c.args.cells.now)) c.args.at c.args.cases.now c.loop-case.case-index c.case-item.result c.loop-case-test.true c.case-item.is c.loop-case.complete c.in_ok-condition.condition (End c.in-End.res) c.in_ok-condition.ensures.value (sym c.in-End.is ∙ c.case_step.ensures)
+    case_at case_view (node_env (g.C.Cells.look c.args.cells.now)) c.args.at c.args.cases.now c.loop-case.case-index c.case-item.result c.loop-case-test.true c.case-item.is c.loop-case.complete c.in_ok-condition.condition (End c.in-End.res) c.in_ok-condition.ensures.value (sym c.in-End.is ∙ c.case_step-step.ensures)
     ∙ c.loop-case.invariant.value
 
 pub eval_cases-returns-in-End-clause-most : goal.eval_cases-returns-in-End-clause-most
@@ -147,7 +147,7 @@ eval_cases-returns-in-End-clause-most g t c =
 pub eval_cases-returns-in-End-clause-visited : goal.eval_cases-returns-in-End-clause-visited
 eval_cases-returns-in-End-clause-visited g t c =
     let env = node_env (g.C.Cells.look c.args.cells.now) in
-    let visit = case_visit case_view env c.args.at c.args.cases.now c.loop-case.case-index c.case-item.result c.loop-case-test.true c.case-item.is c.loop-case.complete c.in_ok-condition.condition (End c.in-End.res) c.in_ok-condition.ensures.value (sym c.in-End.is ∙ c.case_step.ensures) in
+    let visit = case_visit case_view env c.args.at c.args.cases.now c.loop-case.case-index c.case-item.result c.loop-case-test.true c.case-item.is c.loop-case.complete c.in_ok-condition.condition (End c.in-End.res) c.in_ok-condition.ensures.value (sym c.in-End.is ∙ c.case_step-step.ensures) in
     omega (arith, visit, c.in_ok-condition.ensures.visited, c.loop-case.invariant.visited)
 
 pub eval_cases-loop-case-preserved : goal.eval_cases-loop-case-preserved
@@ -155,14 +155,14 @@ eval_cases-loop-case-preserved g t c =
     let env = node_env (g.C.Cells.look c.args.cells.now) in
     let i = c.loop-case.case-index in
     let weigh = cases_weigh case_view env c.args.at c.args.cases.now i c.case-item.result c.loop-case-test.true c.case-item.is in
-    let visit = case_visit case_view env c.args.at c.args.cases.now i c.case-item.result c.loop-case-test.true c.case-item.is c.loop-case.complete c.in_ok-condition.condition (Next c.in-Next.still) c.in_ok-condition.ensures.value (sym c.in-Next.is ∙ c.case_step.ensures) in
+    let visit = case_visit case_view env c.args.at c.args.cases.now i c.case-item.result c.loop-case-test.true c.case-item.is c.loop-case.complete c.in_ok-condition.condition (Next c.in-Next.still) c.in_ok-condition.ensures.value (sym c.in-Next.is ∙ c.case_step-step.ensures) in
     record {
       value =
-          case_at case_view env c.args.at c.args.cases.now i c.case-item.result c.loop-case-test.true c.case-item.is c.loop-case.complete c.in_ok-condition.condition (Next c.in-Next.still) c.in_ok-condition.ensures.value (sym c.in-Next.is ∙ c.case_step.ensures)
+          case_at case_view env c.args.at c.args.cases.now i c.case-item.result c.loop-case-test.true c.case-item.is c.loop-case.complete c.in_ok-condition.condition (Next c.in-Next.still) c.in_ok-condition.ensures.value (sym c.in-Next.is ∙ c.case_step-step.ensures)
           ∙ c.loop-case.invariant.value;
       visited = omega (arith, visit, c.in_ok-condition.ensures.visited, c.loop-case.invariant.visited);
       most = omega (arith, weigh, c.in_ok-condition.ensures.most, c.loop-case.invariant.most);
-      memory = λ h. c.loop-case.invariant.memory (case_takes case_view env c.args.at c.args.cases.now i c.case-item.result c.loop-case-test.true c.case-item.is c.loop-case.complete c.in_ok-condition.condition (Next c.in-Next.still) c.in_ok-condition.ensures.value (sym c.in-Next.is ∙ c.case_step.ensures) h);
+      memory = λ h. c.loop-case.invariant.memory (case_takes case_view env c.args.at c.args.cases.now i c.case-item.result c.loop-case-test.true c.case-item.is c.loop-case.complete c.in_ok-condition.condition (Next c.in-Next.still) c.in_ok-condition.ensures.value (sym c.in-Next.is ∙ c.case_step-step.ensures) h);
     }
 
 pub eval_cases-returns-clause-value : goal.eval_cases-returns-clause-value
@@ -278,7 +278,7 @@ find_among-loop-member-preserved g t c =
     let test = view c.args.test.now in
     let condition = condition_at look c.args.at test in
     let is = c.in_ok-condition.ensures.value ∙ ap (λ (p : Place). over env p test) c.at.ensures in
-    let step = sym c.in-Next.is ∙ c.case_step.ensures in
+    let step = sym c.in-Next.is ∙ c.case_step-step.ensures in
     let weigh = members_weigh c.args.members.now i c.loop-member-test.true (work_at look c.args.at test) in
     let visit = find_visit c.args.members.now i c.loop-member-test.true condition c.in_ok-condition.condition is c.loop-member.complete (Next c.in-Next.still) step (visits_at look c.args.at test) in
     record {
@@ -300,7 +300,7 @@ find_among-returns-in-Take-clause-visited g t c =
     let env = node_env look in
     let test = view c.args.test.now in
     let is = c.in_ok-condition.ensures.value ∙ ap (λ (p : Place). over env p test) c.at.ensures in
-    let visit = find_visit c.args.members.now c.loop-member.member-index c.loop-member-test.true (condition_at look c.args.at test) c.in_ok-condition.condition is c.loop-member.complete (Take c.in-Take.still) (sym c.in-Take.is ∙ c.case_step.ensures) (visits_at look c.args.at test) in
+    let visit = find_visit c.args.members.now c.loop-member.member-index c.loop-member-test.true (condition_at look c.args.at test) c.in_ok-condition.condition is c.loop-member.complete (Take c.in-Take.still) (sym c.in-Take.is ∙ c.case_step-step.ensures) (visits_at look c.args.at test) in
     omega (arith, visit, ap (λ (p : Place). visits env p test) c.at.ensures, c.in_ok-condition.ensures.visited, c.loop-member.invariant.visited)
 
 pub find_among-returns-in-End-clause-visited : goal.find_among-returns-in-End-clause-visited
@@ -309,7 +309,7 @@ find_among-returns-in-End-clause-visited g t c =
     let env = node_env look in
     let test = view c.args.test.now in
     let is = c.in_ok-condition.ensures.value ∙ ap (λ (p : Place). over env p test) c.at.ensures in
-    let visit = find_visit c.args.members.now c.loop-member.member-index c.loop-member-test.true (condition_at look c.args.at test) c.in_ok-condition.condition is c.loop-member.complete (End c.in-End.none) (sym c.in-End.is ∙ c.case_step.ensures) (visits_at look c.args.at test) in
+    let visit = find_visit c.args.members.now c.loop-member.member-index c.loop-member-test.true (condition_at look c.args.at test) c.in_ok-condition.condition is c.loop-member.complete (End c.in-End.none) (sym c.in-End.is ∙ c.case_step-step.ensures) (visits_at look c.args.at test) in
     omega (arith, visit, ap (λ (p : Place). visits env p test) c.at.ensures, c.in_ok-condition.ensures.visited, c.loop-member.invariant.visited)
 
 pub find_among-returns-clause-visited : goal.find_among-returns-clause-visited

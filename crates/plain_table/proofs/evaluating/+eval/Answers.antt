@@ -1,19 +1,20 @@
-use Rattle.std.proofs.Common.{refl, ◌≡◌, ◌+◌, ◌++◌, [], List, ℕ, flat_map, sum_by, map, drop, sym, ap, ◌∙◌, arith}
+use Rattle.std.proofs.Common.{refl, ◌≡◌, ◌+◌, ◌++◌, [], List, ℕ, flat_map, sum_by, map, drop, get_or, sym, ap, ◌∙◌, arith}
 use Rattle.std.proofs.lemmas.List.{append-nil, drop_all, length-map}
 use Rattle.std.proofs.lemmas.Result.{on_ok_weaker}
-use Rattle.dict_tree.specs.Tree.{pick}
+use Rattle.dict_tree.specs.Tree.{pick, two}
 use Rattle.dict_tree.specs.View.{case_view, cases_of, trees_of, use_view, view}
-use Rattle.dict_tree.proofs.Views.{view-Pick}
+use Rattle.dict_tree.proofs.Views.{view-Pick, view-Two}
 use Rattle.evaluation.specs.Over.{over, over_all, over_cases, weight}
 use Rattle.evaluation.specs.SlotsRead.{slots_read, slots_read_of_all, slots_read_of_cases}
 use Rattle.evaluation.specs.Visits.{visits}
-use Rattle.operations.specs.CaseSteps.{after_case, find_after, find_from, switch_from}
+use Rattle.operations.specs.CaseSteps.{case_step, find_after, find_from}
 use Rattle.operations.specs.ManyFolds.{many_from}
 use Rattle.operations.specs.declared.cases.CaseStep.TheVariants.{Next, Take, End}
 use Rattle.operations.proofs.CaseLaws.{find_after-start, switch_from-start}
 use Rattle.operations.proofs.FilterLaws.{filter_on-source, kept-member_list}
 use Rattle.operations.proofs.ManyLaws.{many_from-start}
 use Rattle.operations.proofs.StepLaws.{ok_more, ok_same, one_more}
+use Rattle.three_state.specs.Folds.{kept_next, verdict_next}
 use Rattle.three_state.specs.Results.{kept, members_of}
 use Rattle.three_state.specs.declared.strict.Verdict.{Verdict}
 use Rattle.dictionary.specs.Reading.{Place}
@@ -43,6 +44,30 @@ pub eval-returns-in-Pick-clause-reads : goal.eval-returns-in-Pick-clause-reads
 eval-returns-in-Pick-clause-reads g t c =
     let shape : view c.args.expr.now ≡ pick c.in-Pick.op (use_view c.in-Pick.used) (view c.in-Pick.test.value) = ap view c.in-Pick.is ∙ view-Pick _ _ _ in
     rw (shape, ← c.deref-in-Pick.ensures) c.eval_pick.ensures.reads
+
+pub eval-returns-in_ok-first-in-Two-clause-value : goal.eval-returns-in_ok-first-in-Two-clause-value
+eval-returns-in_ok-first-in-Two-clause-value g t c =
+    let shape : view c.args.expr.now ≡ two c.in-Two.op (view c.in-Two.left.value) (view c.in-Two.right.value) = ap view c.in-Two.is ∙ view-Two _ _ _ in
+    rw (shape, ← c.deref-in-Two.ensures, ← c.deref-in-Two-2.ensures) (rw c.in_ok-first-in-Two.ensures.value at c.eval_second.ensures.value)
+
+pub eval-returns-in_ok-first-in-Two-clause-most : goal.eval-returns-in_ok-first-in-Two-clause-most
+eval-returns-in_ok-first-in-Two-clause-most g t c =
+    let shape : view c.args.expr.now ≡ two c.in-Two.op (view c.in-Two.left.value) (view c.in-Two.right.value) = ap view c.in-Two.is ∙ view-Two _ _ _ in
+    rw (shape, ← c.deref-in-Two.ensures, ← c.deref-in-Two-2.ensures) (omega (arith, c.tick.ensures, c.in_ok-first-in-Two.ensures.most, c.eval_second.ensures.most))
+
+pub eval-returns-in_ok-first-in-Two-clause-visits : goal.eval-returns-in_ok-first-in-Two-clause-visits
+eval-returns-in_ok-first-in-Two-clause-visits g t c =
+    let shape : view c.args.expr.now ≡ two c.in-Two.op (view c.in-Two.left.value) (view c.in-Two.right.value) = ap view c.in-Two.is ∙ view-Two _ _ _ in
+    rw (shape, ← c.deref-in-Two.ensures, ← c.deref-in-Two-2.ensures)
+    (let ticked = c.tick.ensures in
+    let before = c.in_ok-first-in-Two.ensures.visits in
+    on_ok_weaker c.eval_second.result (λ now. omega (arith, ticked, before, now)) c.eval_second.ensures.visits)
+
+pub eval-returns-in_ok-first-in-Two-clause-reads : goal.eval-returns-in_ok-first-in-Two-clause-reads
+eval-returns-in_ok-first-in-Two-clause-reads g t c =
+    let shape : view c.args.expr.now ≡ two c.in-Two.op (view c.in-Two.left.value) (view c.in-Two.right.value) = ap view c.in-Two.is ∙ view-Two _ _ _ in
+    rw (shape, ← c.deref-in-Two.ensures, ← c.deref-in-Two-2.ensures)
+    (on_ok_weaker c.eval_second.result (λ read keeps. joined _ _ _ _ _ (read keeps) (c.in_ok-first-in-Two.ensures.reads keeps)) c.eval_second.ensures.reads)
 
 -- ---- a list of operands
 
@@ -98,60 +123,56 @@ eval_cases-loop-case-init g t c = record {
   most = omega arith;
 }
 
-pub eval_cases-returns-in_err-condition-clause-most : goal.eval_cases-returns-in_err-condition-clause-most
-eval_cases-returns-in_err-condition-clause-most g t c =
+pub eval_cases-returns-in_err-step-clause-most : goal.eval_cases-returns-in_err-step-clause-most
+eval_cases-returns-in_err-step-clause-most g t c =
     let weigh = cases_weigh (env_of (g.G.Ground.known c.args.ground.now)) c.args.at c.args.cases.now c.loop-case.case-index c.case-item.result c.loop-case-test.true c.case-item.is in
-    omega (arith, weigh, c.in_err-condition.ensures.most, c.loop-case.invariant.most)
-
-pub eval_cases-returns-in_err-res-in-Take-clause-most : goal.eval_cases-returns-in_err-res-in-Take-clause-most
-eval_cases-returns-in_err-res-in-Take-clause-most g t c =
-    let weigh = cases_weigh (env_of (g.G.Ground.known c.args.ground.now)) c.args.at c.args.cases.now c.loop-case.case-index c.case-item.result c.loop-case-test.true c.case-item.is in
-    omega (arith, weigh, c.in_ok-condition.ensures.most, c.in_err-res-in-Take.ensures.most, c.loop-case.invariant.most)
+    omega (arith, weigh, c.in_err-step.ensures.most, c.loop-case.invariant.most)
 
 pub eval_cases-returns-in-Take-clause-value : goal.eval_cases-returns-in-Take-clause-value
 eval_cases-returns-in-Take-clause-value g t c =
     let env = env_of (g.G.Ground.known c.args.ground.now) in
-    let i = c.loop-case.case-index in
-    c.taken.ensures
-    ∙ ap (λ r. after_case (Take c.in-Take.still) r (λ still. switch_from still (over_cases env c.args.at (cases_of (drop (i + 1) (map case_view c.args.cases.now)))))) c.in_ok-res-in-Take.ensures.value
-    ∙ case_at env c.args.at c.args.cases.now i c.case-item.result c.loop-case-test.true c.case-item.is c.loop-case.complete c.in_ok-condition.condition (Take c.in-Take.still) c.in_ok-condition.ensures.value (sym c.in-Take.is ∙ c.case_step.ensures)
-    ∙ c.loop-case.invariant.value
+    ok_same c.take.result _ _
+    (case_at env c.args.at c.args.cases.now c.loop-case.case-index c.case-item.result c.loop-case-test.true c.case-item.is c.loop-case.complete (Take c.in-Take.still) (sym c.in-Take.is ∙ c.in_ok-step.ensures.step) ∙ c.loop-case.invariant.value)
+    c.take.ensures.value
 
 pub eval_cases-returns-in-Take-clause-visits : goal.eval_cases-returns-in-Take-clause-visits
 eval_cases-returns-in-Take-clause-visits g t c =
     let visited =
-    cases_visits (env_of (g.G.Ground.known c.args.ground.now)) c.args.at c.args.cases.now c.loop-case.case-index c.case-item.result c.loop-case-test.true c.case-item.is c.loop-case.complete c.in_ok-condition.condition (Take c.in-Take.still) c.in_ok-condition.ensures.value (sym c.in-Take.is ∙ c.case_step.ensures) in
-    omega (arith, visited, c.in_ok-condition.ensures.visits, c.in_ok-res-in-Take.ensures.visits, c.loop-case.invariant.visits)
+    cases_visits (env_of (g.G.Ground.known c.args.ground.now)) c.args.at c.args.cases.now c.loop-case.case-index c.case-item.result c.loop-case-test.true c.case-item.is c.loop-case.complete (Take c.in-Take.still) (sym c.in-Take.is ∙ c.in_ok-step.ensures.step) in
+    let before = c.in_ok-step.ensures.visits in
+    let all = c.loop-case.invariant.visits in
+    on_ok_weaker c.take.result (λ now. omega (arith, visited, before, now, all)) c.take.ensures.visits
 
 pub eval_cases-returns-in-Take-clause-most : goal.eval_cases-returns-in-Take-clause-most
 eval_cases-returns-in-Take-clause-most g t c =
     let weigh = cases_weigh (env_of (g.G.Ground.known c.args.ground.now)) c.args.at c.args.cases.now c.loop-case.case-index c.case-item.result c.loop-case-test.true c.case-item.is in
-    omega (arith, weigh, c.in_ok-condition.ensures.most, c.in_ok-res-in-Take.ensures.most, c.loop-case.invariant.most)
+    omega (arith, weigh, c.in_ok-step.ensures.most, c.take.ensures.most, c.loop-case.invariant.most)
 
 pub eval_cases-returns-in-Take-clause-reads : goal.eval_cases-returns-in-Take-clause-reads
-eval_cases-returns-in-Take-clause-reads g t c = λ keeps.
+eval_cases-returns-in-Take-clause-reads g t c =
     let known = g.G.Ground.known c.args.ground.now in
-    let env = env_of known in
-    let by = reads_of known in
-    c.in_ok-res-in-Take.ensures.reads keeps
-    ∙ case_read env by c.args.at c.args.cases.now c.loop-case.case-index c.case-item.result c.loop-case-test.true c.case-item.is c.loop-case.complete c.in_ok-condition.condition (Take c.in-Take.still) c.in_ok-condition.ensures.value (sym c.in-Take.is ∙ c.case_step.ensures) _ _ (c.in_ok-condition.ensures.reads keeps)
-    ∙ c.loop-case.invariant.reads keeps
+    on_ok_weaker c.take.result
+    (λ read keeps.
+    read keeps
+    ∙ case_read (env_of known) (reads_of known) c.args.at c.args.cases.now c.loop-case.case-index c.case-item.result c.loop-case-test.true c.case-item.is c.loop-case.complete (Take c.in-Take.still) (sym c.in-Take.is ∙ c.in_ok-step.ensures.step) _ _ (c.in_ok-step.ensures.reads keeps)
+    ∙ c.loop-case.invariant.reads keeps)
+    c.take.ensures.reads
 
 pub eval_cases-returns-in-End-clause-value : goal.eval_cases-returns-in-End-clause-value
 eval_cases-returns-in-End-clause-value g t c =
-    case_at (env_of (g.G.Ground.known c.args.ground.now)) c.args.at c.args.cases.now c.loop-case.case-index c.case-item.result c.loop-case-test.true c.case-item.is c.loop-case.complete c.in_ok-condition.condition (End c.in-End.res) c.in_ok-condition.ensures.value (sym c.in-End.is ∙ c.case_step.ensures)
+    case_at (env_of (g.G.Ground.known c.args.ground.now)) c.args.at c.args.cases.now c.loop-case.case-index c.case-item.result c.loop-case-test.true c.case-item.is c.loop-case.complete (End c.in-End.res) (sym c.in-End.is ∙ c.in_ok-step.ensures.step)
     ∙ c.loop-case.invariant.value
 
 pub eval_cases-returns-in-End-clause-visits : goal.eval_cases-returns-in-End-clause-visits
 eval_cases-returns-in-End-clause-visits g t c =
     let visited =
-    cases_visits (env_of (g.G.Ground.known c.args.ground.now)) c.args.at c.args.cases.now c.loop-case.case-index c.case-item.result c.loop-case-test.true c.case-item.is c.loop-case.complete c.in_ok-condition.condition (End c.in-End.res) c.in_ok-condition.ensures.value (sym c.in-End.is ∙ c.case_step.ensures) in
-    omega (arith, visited, c.in_ok-condition.ensures.visits, c.loop-case.invariant.visits)
+    cases_visits (env_of (g.G.Ground.known c.args.ground.now)) c.args.at c.args.cases.now c.loop-case.case-index c.case-item.result c.loop-case-test.true c.case-item.is c.loop-case.complete (End c.in-End.res) (sym c.in-End.is ∙ c.in_ok-step.ensures.step) in
+    omega (arith, visited, c.in_ok-step.ensures.visits, c.loop-case.invariant.visits)
 
 pub eval_cases-returns-in-End-clause-most : goal.eval_cases-returns-in-End-clause-most
 eval_cases-returns-in-End-clause-most g t c =
     let weigh = cases_weigh (env_of (g.G.Ground.known c.args.ground.now)) c.args.at c.args.cases.now c.loop-case.case-index c.case-item.result c.loop-case-test.true c.case-item.is in
-    omega (arith, weigh, c.in_ok-condition.ensures.most, c.loop-case.invariant.most)
+    omega (arith, weigh, c.in_ok-step.ensures.most, c.loop-case.invariant.most)
 
 pub eval_cases-returns-in-End-clause-reads : goal.eval_cases-returns-in-End-clause-reads
 eval_cases-returns-in-End-clause-reads g t c = λ keeps.
@@ -159,7 +180,7 @@ eval_cases-returns-in-End-clause-reads g t c = λ keeps.
     let env = env_of known in
     let by = reads_of known in
     sym (append-nil _)
-    ∙ case_read env by c.args.at c.args.cases.now c.loop-case.case-index c.case-item.result c.loop-case-test.true c.case-item.is c.loop-case.complete c.in_ok-condition.condition (End c.in-End.res) c.in_ok-condition.ensures.value (sym c.in-End.is ∙ c.case_step.ensures) _ _ (c.in_ok-condition.ensures.reads keeps)
+    ∙ case_read env by c.args.at c.args.cases.now c.loop-case.case-index c.case-item.result c.loop-case-test.true c.case-item.is c.loop-case.complete (End c.in-End.res) (sym c.in-End.is ∙ c.in_ok-step.ensures.step) _ _ (c.in_ok-step.ensures.reads keeps)
     ∙ c.loop-case.invariant.reads keeps
 
 pub eval_cases-loop-case-preserved : goal.eval_cases-loop-case-preserved
@@ -168,16 +189,16 @@ eval_cases-loop-case-preserved g t c =
     let i = c.loop-case.case-index in
     let weigh = cases_weigh env c.args.at c.args.cases.now i c.case-item.result c.loop-case-test.true c.case-item.is in
     let visited =
-    cases_visits env c.args.at c.args.cases.now i c.case-item.result c.loop-case-test.true c.case-item.is c.loop-case.complete c.in_ok-condition.condition (Next c.in-Next.still) c.in_ok-condition.ensures.value (sym c.in-Next.is ∙ c.case_step.ensures) in
+    cases_visits env c.args.at c.args.cases.now i c.case-item.result c.loop-case-test.true c.case-item.is c.loop-case.complete (Next c.in-Next.still) (sym c.in-Next.is ∙ c.in_ok-step.ensures.step) in
     record {
       value =
-          case_at env c.args.at c.args.cases.now i c.case-item.result c.loop-case-test.true c.case-item.is c.loop-case.complete c.in_ok-condition.condition (Next c.in-Next.still) c.in_ok-condition.ensures.value (sym c.in-Next.is ∙ c.case_step.ensures)
+          case_at env c.args.at c.args.cases.now i c.case-item.result c.loop-case-test.true c.case-item.is c.loop-case.complete (Next c.in-Next.still) (sym c.in-Next.is ∙ c.in_ok-step.ensures.step)
           ∙ c.loop-case.invariant.value;
       reads = λ keeps.
-          case_read env (reads_of (g.G.Ground.known c.args.ground.now)) c.args.at c.args.cases.now i c.case-item.result c.loop-case-test.true c.case-item.is c.loop-case.complete c.in_ok-condition.condition (Next c.in-Next.still) c.in_ok-condition.ensures.value (sym c.in-Next.is ∙ c.case_step.ensures) _ _ (c.in_ok-condition.ensures.reads keeps)
+          case_read env (reads_of (g.G.Ground.known c.args.ground.now)) c.args.at c.args.cases.now i c.case-item.result c.loop-case-test.true c.case-item.is c.loop-case.complete (Next c.in-Next.still) (sym c.in-Next.is ∙ c.in_ok-step.ensures.step) _ _ (c.in_ok-step.ensures.reads keeps)
           ∙ c.loop-case.invariant.reads keeps;
-      visits = omega (arith, visited, c.in_ok-condition.ensures.visits, c.loop-case.invariant.visits);
-      most = omega (arith, weigh, c.in_ok-condition.ensures.most, c.loop-case.invariant.most);
+      visits = omega (arith, visited, c.in_ok-step.ensures.visits, c.loop-case.invariant.visits);
+      most = omega (arith, weigh, c.in_ok-step.ensures.most, c.loop-case.invariant.most);
     }
 
 pub eval_cases-returns-clause-reads : goal.eval_cases-returns-clause-reads
@@ -226,21 +247,18 @@ eval_filter-loop-member-preserved g t c =
     let env = env_of (g.G.Ground.known c.args.ground.now) in
     let test = view c.args.test.now in
     let condition = condition_on (g.G.Ground.known c.args.ground.now) c.args.under test in
-    let is = c.in_ok-condition.ensures.value ∙ ap (λ (p : Place). over env p test) c.at.ensures in
+    let kept_one = c.in_ok-see_member.ensures.kept ∙ ap (λ (p : Place). kept_next c.loop-member.kept.items (get_or ms i 0) (over env p test)) c.at.ensures in
+    let fold_one = c.in_ok-see_member.ensures.fold ∙ ap (λ (p : Place). verdict_next c.loop-member.fold (over env p test)) c.at.ensures in
     let weigh = members_weigh ms i c.loop-member-test.true (work_on (g.G.Ground.known c.args.ground.now) c.args.under test) in
     let visited = members_weigh ms i c.loop-member-test.true (visits_on (g.G.Ground.known c.args.ground.now) c.args.under test) in
     record {
-      value =
-          filter_next ms i c.loop-member-test.true condition c.in_ok-condition.condition is c.loop-member.kept.items c.keep.new.kept.items c.see-is_kept.result c.see-is_kept.ensures.kept c.in_ok-keep.ensures c.loop-member.fold c.see-is_kept.new.self c.see-is_kept.ensures.next
-          ∙ c.loop-member.invariant.value;
-      kept =
-          kept_more ms i c.loop-member-test.true condition c.in_ok-condition.condition is c.loop-member.kept.items c.keep.new.kept.items c.see-is_kept.result c.see-is_kept.ensures.kept c.in_ok-keep.ensures
-          ∙ c.loop-member.invariant.kept;
+      value = filter_next ms i c.loop-member-test.true condition c.loop-member.kept.items c.see_member.new.kept.items kept_one c.loop-member.fold c.see_member.new.fold fold_one ∙ c.loop-member.invariant.value;
+      kept = kept_more ms i c.loop-member-test.true condition c.loop-member.kept.items c.see_member.new.kept.items kept_one ∙ c.loop-member.invariant.kept;
       reads = λ keeps.
-          member_read (condition_reads (g.G.Ground.known c.args.ground.now) c.args.under test) ms i c.loop-member-test.true _ _ (c.in_ok-condition.ensures.reads keeps ∙ ap (λ (p : Place). g.N.Notes.noted c.loop-member.notes ++ slots_read env (reads_of (g.G.Ground.known c.args.ground.now)) p test) c.at.ensures)
+          member_read (condition_reads (g.G.Ground.known c.args.ground.now) c.args.under test) ms i c.loop-member-test.true _ _ (c.in_ok-see_member.ensures.reads keeps ∙ ap (λ (p : Place). g.N.Notes.noted c.loop-member.notes ++ slots_read env (reads_of (g.G.Ground.known c.args.ground.now)) p test) c.at.ensures)
           ∙ c.loop-member.invariant.reads keeps;
-      visits = omega (arith, visited, ap (λ (p : Place). visits env p test) c.at.ensures, c.in_ok-condition.ensures.visits, c.loop-member.invariant.visits);
-      most = omega (arith, weigh, ap (λ (p : Place). weight env p test) c.at.ensures, c.in_ok-condition.ensures.most, c.loop-member.invariant.most);
+      visits = omega (arith, visited, ap (λ (p : Place). visits env p test) c.at.ensures, c.in_ok-see_member.ensures.visits, c.loop-member.invariant.visits);
+      most = omega (arith, weigh, ap (λ (p : Place). weight env p test) c.at.ensures, c.in_ok-see_member.ensures.most, c.loop-member.invariant.most);
     }
 
 pub eval_filter-end-requires : goal.eval_filter-end-requires
@@ -275,30 +293,30 @@ find_among-loop-member-preserved g t c =
     let i = c.loop-member.member-index in
     let env = env_of (g.G.Ground.known c.args.ground.now) in
     let test = view c.args.test.now in
-    let is = c.in_ok-condition.ensures.value ∙ ap (λ (p : Place). over env p test) c.at.ensures in
+    let is = c.in_ok-step.ensures.step ∙ ap (λ (p : Place). case_step c.loop-member.complete (over env p test)) c.at.ensures in
     let weigh = members_weigh c.args.members.now i c.loop-member-test.true (work_on (g.G.Ground.known c.args.ground.now) c.args.under test) in
     let visited =
-    found_visits c.args.members.now i c.loop-member-test.true (condition_on (g.G.Ground.known c.args.ground.now) c.args.under test) c.in_ok-condition.condition is (visits_on (g.G.Ground.known c.args.ground.now) c.args.under test) c.loop-member.complete (Next c.in-Next.still) (sym c.in-Next.is ∙ c.case_step.ensures) in
+    found_visits c.args.members.now i c.loop-member-test.true (condition_on (g.G.Ground.known c.args.ground.now) c.args.under test) (visits_on (g.G.Ground.known c.args.ground.now) c.args.under test) c.loop-member.complete (Next c.in-Next.still) (sym c.in-Next.is ∙ is) in
     record {
       value =
-          find_at c.args.members.now i c.loop-member-test.true (condition_on (g.G.Ground.known c.args.ground.now) c.args.under test) c.in_ok-condition.condition is c.loop-member.complete (Next c.in-Next.still) (sym c.in-Next.is ∙ c.case_step.ensures)
+          find_at c.args.members.now i c.loop-member-test.true (condition_on (g.G.Ground.known c.args.ground.now) c.args.under test) c.loop-member.complete (Next c.in-Next.still) (sym c.in-Next.is ∙ is)
           ∙ c.loop-member.invariant.value;
       reads = λ keeps.
-          judged_read (condition_reads (g.G.Ground.known c.args.ground.now) c.args.under test) c.args.members.now i c.loop-member-test.true _ _ (c.in_ok-condition.ensures.reads keeps ∙ ap (λ (p : Place). g.N.Notes.noted c.loop-member.notes ++ slots_read env (reads_of (g.G.Ground.known c.args.ground.now)) p test) c.at.ensures)
-          (condition_on (g.G.Ground.known c.args.ground.now) c.args.under test) c.loop-member.complete c.in_ok-condition.condition (Next c.in-Next.still) is (sym c.in-Next.is ∙ c.case_step.ensures)
+          judged_read (condition_reads (g.G.Ground.known c.args.ground.now) c.args.under test) c.args.members.now i c.loop-member-test.true _ _ (c.in_ok-step.ensures.reads keeps ∙ ap (λ (p : Place). g.N.Notes.noted c.loop-member.notes ++ slots_read env (reads_of (g.G.Ground.known c.args.ground.now)) p test) c.at.ensures)
+          (condition_on (g.G.Ground.known c.args.ground.now) c.args.under test) c.loop-member.complete (Next c.in-Next.still) (sym c.in-Next.is ∙ is)
           ∙ c.loop-member.invariant.reads keeps;
-      visits = omega (arith, visited, ap (λ (p : Place). visits env p test) c.at.ensures, c.in_ok-condition.ensures.visits, c.loop-member.invariant.visits);
-      most = omega (arith, weigh, ap (λ (p : Place). weight env p test) c.at.ensures, c.in_ok-condition.ensures.most, c.loop-member.invariant.most);
+      visits = omega (arith, visited, ap (λ (p : Place). visits env p test) c.at.ensures, c.in_ok-step.ensures.visits, c.loop-member.invariant.visits);
+      most = omega (arith, weigh, ap (λ (p : Place). weight env p test) c.at.ensures, c.in_ok-step.ensures.most, c.loop-member.invariant.most);
     }
 
 pub find_among-returns-in-Take-clause-visits : goal.find_among-returns-in-Take-clause-visits
 find_among-returns-in-Take-clause-visits g t c =
     let env = env_of (g.G.Ground.known c.args.ground.now) in
     let test = view c.args.test.now in
-    let is = c.in_ok-condition.ensures.value ∙ ap (λ (p : Place). over env p test) c.at.ensures in
+    let is = c.in_ok-step.ensures.step ∙ ap (λ (p : Place). case_step c.loop-member.complete (over env p test)) c.at.ensures in
     let visited =
-    found_visits c.args.members.now c.loop-member.member-index c.loop-member-test.true (condition_on (g.G.Ground.known c.args.ground.now) c.args.under test) c.in_ok-condition.condition is (visits_on (g.G.Ground.known c.args.ground.now) c.args.under test) c.loop-member.complete (Take c.in-Take.still) (sym c.in-Take.is ∙ c.case_step.ensures) in
-    omega (arith, visited, ap (λ (p : Place). visits env p test) c.at.ensures, c.in_ok-condition.ensures.visits, c.loop-member.invariant.visits)
+    found_visits c.args.members.now c.loop-member.member-index c.loop-member-test.true (condition_on (g.G.Ground.known c.args.ground.now) c.args.under test) (visits_on (g.G.Ground.known c.args.ground.now) c.args.under test) c.loop-member.complete (Take c.in-Take.still) (sym c.in-Take.is ∙ is) in
+    omega (arith, visited, ap (λ (p : Place). visits env p test) c.at.ensures, c.in_ok-step.ensures.visits, c.loop-member.invariant.visits)
 
 pub find_among-returns-in-Take-clause-reads : goal.find_among-returns-in-Take-clause-reads
 find_among-returns-in-Take-clause-reads g t c = λ keeps.
@@ -306,20 +324,20 @@ find_among-returns-in-Take-clause-reads g t c = λ keeps.
     let env = env_of known in
     let by = reads_of known in
     let test = view c.args.test.now in
-    let is = c.in_ok-condition.ensures.value ∙ ap (λ (p : Place). over env p test) c.at.ensures in
+    let is = c.in_ok-step.ensures.step ∙ ap (λ (p : Place). case_step c.loop-member.complete (over env p test)) c.at.ensures in
     sym (append-nil _)
-    ∙ judged_read (condition_reads known c.args.under test) c.args.members.now c.loop-member.member-index c.loop-member-test.true _ _ (c.in_ok-condition.ensures.reads keeps ∙ ap (λ (p : Place). g.N.Notes.noted c.loop-member.notes ++ slots_read env by p test) c.at.ensures)
-    (condition_on known c.args.under test) c.loop-member.complete c.in_ok-condition.condition (Take c.in-Take.still) is (sym c.in-Take.is ∙ c.case_step.ensures)
+    ∙ judged_read (condition_reads known c.args.under test) c.args.members.now c.loop-member.member-index c.loop-member-test.true _ _ (c.in_ok-step.ensures.reads keeps ∙ ap (λ (p : Place). g.N.Notes.noted c.loop-member.notes ++ slots_read env by p test) c.at.ensures)
+    (condition_on known c.args.under test) c.loop-member.complete (Take c.in-Take.still) (sym c.in-Take.is ∙ is)
     ∙ c.loop-member.invariant.reads keeps
 
 pub find_among-returns-in-End-clause-visits : goal.find_among-returns-in-End-clause-visits
 find_among-returns-in-End-clause-visits g t c =
     let env = env_of (g.G.Ground.known c.args.ground.now) in
     let test = view c.args.test.now in
-    let is = c.in_ok-condition.ensures.value ∙ ap (λ (p : Place). over env p test) c.at.ensures in
+    let is = c.in_ok-step.ensures.step ∙ ap (λ (p : Place). case_step c.loop-member.complete (over env p test)) c.at.ensures in
     let visited =
-    found_visits c.args.members.now c.loop-member.member-index c.loop-member-test.true (condition_on (g.G.Ground.known c.args.ground.now) c.args.under test) c.in_ok-condition.condition is (visits_on (g.G.Ground.known c.args.ground.now) c.args.under test) c.loop-member.complete (End c.in-End.none) (sym c.in-End.is ∙ c.case_step.ensures) in
-    omega (arith, visited, ap (λ (p : Place). visits env p test) c.at.ensures, c.in_ok-condition.ensures.visits, c.loop-member.invariant.visits)
+    found_visits c.args.members.now c.loop-member.member-index c.loop-member-test.true (condition_on (g.G.Ground.known c.args.ground.now) c.args.under test) (visits_on (g.G.Ground.known c.args.ground.now) c.args.under test) c.loop-member.complete (End c.in-End.none) (sym c.in-End.is ∙ is) in
+    omega (arith, visited, ap (λ (p : Place). visits env p test) c.at.ensures, c.in_ok-step.ensures.visits, c.loop-member.invariant.visits)
 
 pub find_among-returns-in-End-clause-reads : goal.find_among-returns-in-End-clause-reads
 find_among-returns-in-End-clause-reads g t c = λ keeps.
@@ -327,8 +345,8 @@ find_among-returns-in-End-clause-reads g t c = λ keeps.
     let env = env_of known in
     let by = reads_of known in
     let test = view c.args.test.now in
-    let is = c.in_ok-condition.ensures.value ∙ ap (λ (p : Place). over env p test) c.at.ensures in
+    let is = c.in_ok-step.ensures.step ∙ ap (λ (p : Place). case_step c.loop-member.complete (over env p test)) c.at.ensures in
     sym (append-nil _)
-    ∙ judged_read (condition_reads known c.args.under test) c.args.members.now c.loop-member.member-index c.loop-member-test.true _ _ (c.in_ok-condition.ensures.reads keeps ∙ ap (λ (p : Place). g.N.Notes.noted c.loop-member.notes ++ slots_read env by p test) c.at.ensures)
-    (condition_on known c.args.under test) c.loop-member.complete c.in_ok-condition.condition (End c.in-End.none) is (sym c.in-End.is ∙ c.case_step.ensures)
+    ∙ judged_read (condition_reads known c.args.under test) c.args.members.now c.loop-member.member-index c.loop-member-test.true _ _ (c.in_ok-step.ensures.reads keeps ∙ ap (λ (p : Place). g.N.Notes.noted c.loop-member.notes ++ slots_read env by p test) c.at.ensures)
+    (condition_on known c.args.under test) c.loop-member.complete (End c.in-End.none) (sym c.in-End.is ∙ is)
     ∙ c.loop-member.invariant.reads keeps

@@ -1,5 +1,5 @@
 use Rattle.std.proofs.Common.{refl, sym}
-use Rattle.save_file.proofs.CarriedReads.{bad_path, entry_read, no_value}
+use Rattle.save_file.proofs.CarriedLines.{bad_path, entry_read, no_value}
 use Rattle.save_file.proofs.carried_line.read_entry_line.Goals as goal
 
 pub returns-in_default : goal.returns-in_default

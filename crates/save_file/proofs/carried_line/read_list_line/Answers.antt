@@ -4,7 +4,7 @@ use Rattle.std.proofs.lemmas.List.{append-nil}
 use Rattle.fact_paths.proofs.CutLaws.{cut_some, front_lacks, uncut_lacks}
 use Rattle.value_text.specs.MemberTexts.{printed_rest}
 use Rattle.save_file.specs.CarriedReading.{ReadsLine, line_of_list}
-use Rattle.save_file.proofs.CarriedReads.{bad_members}
+use Rattle.save_file.proofs.CarriedLines.{bad_members}
 use Rattle.save_file.proofs.carried_line.read_list_line.Goals as goal
 
 pub with_members-requires-clause-name : goal.with_members-requires-clause-name

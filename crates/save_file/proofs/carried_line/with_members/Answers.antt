@@ -1,7 +1,7 @@
 use Rattle.std.proofs.Common.{◌≡◌, true, false}
 use Rattle.value_text.specs.MemberTexts.{printed_rest}
-use Rattle.save_file.proofs.CarriedReads.{bad_list, bad_name}
-use Rattle.save_file.proofs.ListTexts.{tail_of}
+use Rattle.save_file.proofs.CarriedLines.{bad_list, bad_name}
+use Rattle.save_file.proofs.SlotTexts.{tail_of}
 use Rattle.save_file.proofs.carried_line.with_members.Goals as goal
 
 pub returns-in-Err : goal.returns-in-Err

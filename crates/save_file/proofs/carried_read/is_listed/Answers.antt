@@ -1,7 +1,7 @@
 use Rattle.std.proofs.Common.{map, sym, ap, ◌∙◌}
 use Rattle.save_file.specs.CarriedReading.{line_of_list}
 use Rattle.save_file.specs.CarriedText.{lists_member, lists_member_of}
-use Rattle.save_file.proofs.TakenLines.{any_of}
+use Rattle.save_file.proofs.CarriedSteps.{any_of}
 use Rattle.save_file.proofs.carried_read.is_listed.Goals as goal
 
 pub returns-in-Member : goal.returns-in-Member

@@ -10,4 +10,4 @@ returns-in-Err c =
     later_fault c.args.read c.requires.sound c.args.line.now (λ e. (let is_it : c.is_word.result ≡ true = c.is_word.ensures.1 e in let is_not : c.is_word.result ≡ false = c.if-is_word.false in cc)) c.in-Err.fault c.in-Err.ensures
 
 pub returns-in-Ok : goal.returns-in-Ok
-returns-in-Ok c = later_taken c.args.read c.requires.sound c.args.line.now c.in-Ok.read c.in-Ok.ensures
+returns-in-Ok c = later_taken c.args.read c.requires.sound c.args.line.now c.take_text.new.read c.in-Ok.ensures

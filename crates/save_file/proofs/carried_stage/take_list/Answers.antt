@@ -1,17 +1,17 @@
 use Rattle.std.proofs.Common.{◌++◌}
 use Rattle.std.specs.Prelude.{codes}
-use Rattle.save_file.specs.CarriedReading.{line_of_list}
+use Rattle.save_file.specs.CarriedReading.{line_of_list, new_or_fault}
 use Rattle.save_file.proofs.CarriedSteps.{is_short, line_fault, of_text}
 use Rattle.save_file.proofs.carried_stage.take_list.Goals as goal
 
 pub returns-in-Err : goal.returns-in-Err
-returns-in-Err c = line_fault c.args.read line_of_list (codes "list /" ++ c.args.text.now) c.in-Err.fault c.in-Err.ensures
+returns-in-Err c = line_fault c.args.read.now line_of_list (codes "list /" ++ c.args.text.now) c.in-Err.fault c.in-Err.ensures
 
 pub take_list_line-requires-clause-form : goal.take_list_line-requires-clause-form
 take_list_line-requires-clause-form c = c.in-Ok.ensures.0
 
 pub take_list_line-requires-clause-short : goal.take_list_line-requires-clause-short
-take_list_line-requires-clause-short c = is_short c.args.read (line_of_list c.in-Ok.line) (codes "list /" ++ c.args.text.now) c.in-Ok.ensures.1 c.requires.short
+take_list_line-requires-clause-short c = is_short c.args.read.now (line_of_list c.in-Ok.line) (codes "list /" ++ c.args.text.now) c.in-Ok.ensures.1 c.requires.short
 
 pub returns-in-Ok : goal.returns-in-Ok
-returns-in-Ok c = of_text c.args.read (line_of_list c.in-Ok.line) (codes "list /" ++ c.args.text.now) c.in-Ok.ensures.0 c.in-Ok.ensures.1 c.take_list_line.result c.take_list_line.ensures
+returns-in-Ok c = of_text c.args.read.now (line_of_list c.in-Ok.line) (codes "list /" ++ c.args.text.now) c.in-Ok.ensures.0 c.in-Ok.ensures.1 (new_or_fault c.take_list_line.new.read c.take_list_line.result) c.take_list_line.ensures

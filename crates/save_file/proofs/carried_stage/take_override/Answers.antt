@@ -2,14 +2,14 @@ use Rattle.std.proofs.Common.{ℕ, List, ◌≤◌, length, sym, subst}
 use Rattle.std.specs.Prelude.{codes}
 use Rattle.fact_paths.proofs.CutLaws.{after_some}
 use Rattle.script_lines.specs.Lines.{HasNoNewline}
-use Rattle.save_file.specs.CarriedReading.{TakesText}
-use Rattle.save_file.proofs.CarriedReads.{none_there}
+use Rattle.save_file.specs.CarriedReading.{TakesText, new_or_fault}
+use Rattle.save_file.proofs.CarriedLines.{none_there}
 use Rattle.save_file.proofs.CarriedSteps.{no_word}
-use Rattle.save_file.proofs.WordLaws.{not_behind}
+use Rattle.save_file.proofs.Lines.{not_behind}
 use Rattle.save_file.proofs.carried_stage.take_override.Goals as goal
 
 pub returns-in-None : goal.returns-in-None
-returns-in-None c = no_word c.args.read c.args.line.now c.requires.no_list c.requires.no_value (not_behind (codes "override ") c.args.line.now (sym c.in-None.ensures))
+returns-in-None c = no_word c.args.read.now c.args.line.now c.requires.no_list c.requires.no_value (not_behind (codes "override ") c.args.line.now (sym c.in-None.ensures))
 
 pub take_entry-requires-clause-short : goal.take_entry-requires-clause-short
 take_entry-requires-clause-short c = subst (λ (t : List ℕ). length t ≤ 4096) (after_some (codes "override ") c.args.line.now c.in-Some.text.now (sym c.in-Some.ensures)) c.requires.short
@@ -18,4 +18,4 @@ pub take_entry-requires-clause-line : goal.take_entry-requires-clause-line
 take_entry-requires-clause-line c = none_there (codes "override ") c.in-Some.text.now (subst HasNoNewline (after_some (codes "override ") c.args.line.now c.in-Some.text.now (sym c.in-Some.ensures)) c.requires.line)
 
 pub returns-in-Some : goal.returns-in-Some
-returns-in-Some c = subst (λ (t : List ℕ). TakesText c.args.read t c.take_entry.result) (sym (after_some (codes "override ") c.args.line.now c.in-Some.text.now (sym c.in-Some.ensures))) c.take_entry.ensures
+returns-in-Some c = subst (λ (t : List ℕ). TakesText c.args.read.now t (new_or_fault c.take_entry.new.read c.take_entry.result)) (sym (after_some (codes "override ") c.args.line.now c.in-Some.text.now (sym c.in-Some.ensures))) c.take_entry.ensures

@@ -3,8 +3,7 @@ use Rattle.std.specs.List.{AllByRecursion}
 use Rattle.std.proofs.lemmas.Bool.{eqb-true}
 use Rattle.script_lines.specs.Lines.{HasNoNewline, lines_of}
 use Rattle.save_file.proofs.CarriedEnds.{finished, refused_next}
-use Rattle.save_file.proofs.LineCuts.{empty_is}
-use Rattle.save_file.proofs.LineLaws.{lines_have_none}
+use Rattle.save_file.proofs.TextLaws.{empty_is, lines_have_none}
 use Rattle.save_file.proofs.carried_text.read_lines.Goals as goal
 
 pub loop-rest-init : goal.loop-rest-init

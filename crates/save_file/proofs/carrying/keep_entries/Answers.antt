@@ -1,13 +1,13 @@
 use Rattle.std.proofs.Common.{◌≡◌, suc, ◌+◌, ◌∙◌, arith}
 use Rattle.answers.specs.Meaning.{answered}
 use Rattle.graph_session.specs.Rules.{rules}
-use Rattle.save_file.proofs.KeptEntries.{entered_on, item_placed, lists_on, numbers_on}
+use Rattle.save_file.proofs.CarriedAnswers.{entered_on, item_placed, lists_on, numbers_on}
 use Rattle.save_file.proofs.carrying.keep_entries.Goals as goal
 
 pub keep_entry-requires-clause-placed : goal.keep_entry-requires-clause-placed
 keep_entry-requires-clause-placed g c =
     item_placed (rules c.args.dict.now) c.deref-line-items.result.now c.loop-line.line-index c.line-item.result c.loop-line-test.true c.line-item.is
-    (answered c.args.carried.answers) (answered c.loop-line.carried.answers) c.args.read.now.entries.items c.requires.placed c.deref-line-items.ensures.value c.loop-line.invariant.lists
+    (answered c.args.carried.now.answers) (answered c.loop-line.carried.answers) c.args.read.now.entries.items c.requires.placed c.deref-line-items.ensures.value c.loop-line.invariant.lists
 
 pub loop-line-preserved : goal.loop-line-preserved
 loop-line-preserved g c =

@@ -1,4 +1,4 @@
-use Rattle.save_file.proofs.DroppedWords.{behind_at, behind_uncut, word_at, word_uncut}
+use Rattle.save_file.proofs.DroppedLaws.{behind_at, behind_uncut, word_at, word_uncut}
 use Rattle.save_file.proofs.dropped.cut_word.Goals as goal
 
 pub returns-in-None-clause-word : goal.returns-in-None-clause-word

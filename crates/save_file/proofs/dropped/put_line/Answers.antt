@@ -1,19 +1,25 @@
-use Rattle.std.proofs.Common.{ℕ, List, [], ◌∷◌, ◌++◌, subst}
-use Rattle.std.specs.Prelude.{codes}
-use Rattle.fg_io.specs.Writing.{Wrote, WrotePart}
-use Rattle.fg_io.proofs.WritingLaws.{failed_before, wrote_behind}
-use Rattle.save_file.specs.Dropped.{behind_word, word_of}
-use Rattle.save_file.proofs.DroppedWords.{said_pieces}
+use Rattle.save_file.proofs.DroppedLaws.{failed_piece, last_piece, said_left, wrote_piece}
 use Rattle.save_file.proofs.dropped.put_line.Goals as goal
 
-pub returns-in-Err : goal.returns-in-Err
-returns-in-Err g c =
-    subst (WrotePart (g.K.Sink.taken c.args.out.now) (g.K.Sink.taken c.put_text.new.out) (g.K.Sink.faults c.args.out.now) (g.K.Sink.faults c.put_text.new.out))
-    (said_pieces c.args.line.now)
-    (failed_before _ _ _ _ (codes "dropped ") (word_of c.args.line.now ++ 32 ∷ (word_of (behind_word c.args.line.now) ++ 10 ∷ [])) c.in-Err.ensures)
+pub returns-in_err-put_text : goal.returns-in_err-put_text
+returns-in_err-put_text g c = failed_piece _ c.from_residual.result c.from_residual.ensures.1 (said_left c.args.line.now _ _ _ _ _ c.cut_word-kind.ensures.word c.cut_word-kind.ensures.behind c.cut_word-name.ensures.word) c.in_err-put_text.ensures
 
-pub returns-in-Ok : goal.returns-in-Ok
-returns-in-Ok g c =
-    subst (λ (t : List ℕ). Wrote (g.K.Sink.taken c.args.out.now) (g.K.Sink.taken c.put_words.new.out) (g.K.Sink.faults c.args.out.now) (g.K.Sink.faults c.put_words.new.out) t c.put_words.result)
-    (said_pieces c.args.line.now)
-    (wrote_behind _ _ _ _ _ _ (codes "dropped ") (word_of c.args.line.now ++ 32 ∷ (word_of (behind_word c.args.line.now) ++ 10 ∷ [])) c.put_words.result c.in-Ok.ensures c.put_words.ensures)
+pub returns-in_err-put_text-2 : goal.returns-in_err-put_text-2
+returns-in_err-put_text-2 g c =
+    let first = wrote_piece (said_left c.args.line.now _ _ _ _ _ c.cut_word-kind.ensures.word c.cut_word-kind.ensures.behind c.cut_word-name.ensures.word) c.in_ok-put_text.ensures in
+    failed_piece _ c.from_residual-in_err-put_text-2.result c.from_residual-in_err-put_text-2.ensures.1 first c.in_err-put_text-2.ensures
+
+pub returns-in_err-put_text-3 : goal.returns-in_err-put_text-3
+returns-in_err-put_text-3 g c =
+    let first = wrote_piece (said_left c.args.line.now _ _ _ _ _ c.cut_word-kind.ensures.word c.cut_word-kind.ensures.behind c.cut_word-name.ensures.word) c.in_ok-put_text.ensures in
+    failed_piece _ c.from_residual-in_err-put_text-3.result c.from_residual-in_err-put_text-3.ensures.1 (wrote_piece first c.in_ok-put_text-2.ensures) c.in_err-put_text-3.ensures
+
+pub returns-in_err-put_text-4 : goal.returns-in_err-put_text-4
+returns-in_err-put_text-4 g c =
+    let first = wrote_piece (said_left c.args.line.now _ _ _ _ _ c.cut_word-kind.ensures.word c.cut_word-kind.ensures.behind c.cut_word-name.ensures.word) c.in_ok-put_text.ensures in
+    failed_piece _ c.from_residual-in_err-put_text-4.result c.from_residual-in_err-put_text-4.ensures.1 (wrote_piece (wrote_piece first c.in_ok-put_text-2.ensures) c.in_ok-put_text-3.ensures) c.in_err-put_text-4.ensures
+
+pub returns : goal.returns
+returns g c =
+    let first = wrote_piece (said_left c.args.line.now _ _ _ _ _ c.cut_word-kind.ensures.word c.cut_word-kind.ensures.behind c.cut_word-name.ensures.word) c.in_ok-put_text.ensures in
+    last_piece _ _ c.put_text-5.result (wrote_piece (wrote_piece (wrote_piece first c.in_ok-put_text-2.ensures) c.in_ok-put_text-3.ensures) c.in_ok-put_text-4.ensures) c.put_text-5.ensures

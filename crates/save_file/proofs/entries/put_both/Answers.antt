@@ -6,7 +6,7 @@ use Rattle.dictionary.specs.SlotText.{slot_text}
 use Rattle.save_file.specs.SavedText.{side_word}
 use Rattle.fg_io.specs.Writing.{Wrote, WrotePart}
 use Rattle.fg_io.proofs.WritingLaws.{failed_before, wrote_behind}
-use Rattle.save_file.proofs.WritingLaws.{entry_pieces}
+use Rattle.save_file.proofs.DroppedLaws.{entry_pieces}
 use Rattle.save_file.proofs.entries.put_both.Goals as goal
 
 pub returns-in-Err : goal.returns-in-Err

@@ -7,7 +7,7 @@ use Rattle.save_file.specs.Cursors.{slots_left}
 use Rattle.save_file.specs.SavedText.{entries, entry_lines}
 use Rattle.fg_io.proofs.SentLaws.{sent_piece}
 use Rattle.fg_io.proofs.WritingLaws.{failed_within}
-use Rattle.save_file.proofs.WritingLaws.{next_piece}
+use Rattle.save_file.proofs.DroppedLaws.{next_piece}
 use Rattle.save_file.proofs.entries.put_entries.Goals as goal
 
 pub returns-in-Err : goal.returns-in-Err

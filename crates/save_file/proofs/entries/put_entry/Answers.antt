@@ -1,7 +1,7 @@
 use Rattle.std.proofs.Common.{sym}
 use Rattle.answers.specs.Meaning.{answered}
 use Rattle.dictionary.specs.Accepted.{accepted}
-use Rattle.save_file.proofs.EntryLaws.{entry_printed, entry_slot}
+use Rattle.save_file.proofs.SlotTexts.{entry_printed, entry_slot}
 use Rattle.save_file.proofs.entries.put_entry.Goals as goal
 
 pub put_both-requires-clause-slot : goal.put_both-requires-clause-slot

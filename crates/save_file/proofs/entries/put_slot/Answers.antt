@@ -5,7 +5,7 @@ use Rattle.dictionary.specs.SlotText.{slot_text}
 use Rattle.save_file.specs.SavedText.{side_word}
 use Rattle.fg_io.specs.Writing.{Wrote}
 use Rattle.dictionary.proofs.SlotTextLaws.{slot_short}
-use Rattle.save_file.proofs.EntryLaws.{length_behind}
+use Rattle.save_file.proofs.SlotTexts.{length_behind}
 use Rattle.save_file.proofs.entries.put_slot.Goals as goal
 
 pub push-requires-2 : goal.push-requires-2

@@ -6,7 +6,7 @@ use Rattle.save_file.specs.Cursors.{slots_left}
 use Rattle.save_file.specs.Following.{AreSlots}
 use Rattle.save_file.specs.Reading.{FindsSlot}
 use Rattle.dictionary.proofs.SlotTextLaws.{standing_slot}
-use Rattle.save_file.proofs.EntrySteps.{skip_slot}
+use Rattle.save_file.proofs.LoadSteps.{skip_slot}
 use Rattle.save_file.proofs.entry_line.find_slot.Goals as goal
 
 pub is_path-requires : goal.is_path-requires

@@ -1,5 +1,5 @@
 use Rattle.dictionary.specs.Accepted.{accepted}
-use Rattle.save_file.proofs.EntrySteps.{spelled_printed}
+use Rattle.save_file.proofs.LoadSteps.{spelled_printed}
 use Rattle.save_file.proofs.entry_line.read_printed.Goals as goal
 
 pub is_printed-requires : goal.is_printed-requires

@@ -6,7 +6,7 @@ use Rattle.answers.specs.Meaning.{answered}
 use Rattle.graph_session.specs.Rules.{rules, tree_of}
 use Rattle.graph_session.proofs.NamingLaws.{found_number}
 use Rattle.save_file.specs.Carrying.{kept_value}
-use Rattle.save_file.proofs.KeptEntries.{slot_named}
+use Rattle.save_file.proofs.CarriedAnswers.{slot_named}
 use Rattle.save_file.proofs.keeping.worth_of.Goals as goal
 
 pub value_of-requires-clause-number : goal.value_of-requires-clause-number

@@ -3,8 +3,8 @@ use Rattle.std.specs.Prelude.{codes}
 use Rattle.dictionary.specs.Accepted.{accepted}
 use Rattle.save_file.specs.SavedText.{side_word}
 use Rattle.save_file.specs.declared.stage.Stage.TheVariants.{Entries}
-use Rattle.save_file.proofs.LineSteps.{judged_on, worded}
-use Rattle.save_file.proofs.WordLaws.{not_behind}
+use Rattle.save_file.proofs.Lines.{not_behind}
+use Rattle.save_file.proofs.LoadSteps.{judged_on, worded}
 use Rattle.save_file.proofs.line.take_answer.Goals as goal
 
 pub returns-in-None : goal.returns-in-None

@@ -3,7 +3,7 @@ use Rattle.dictionary.specs.Accepted.{accepted}
 use Rattle.script_lines.specs.declared.fault.LineFault.TheVariants.{BadLine}
 use Rattle.save_file.specs.Following.{IsStage, Judges}
 use Rattle.save_file.specs.declared.stage.Stage.{Stage}
-use Rattle.save_file.proofs.LineSteps.{none_behind_end}
+use Rattle.save_file.proofs.LoadSteps.{none_behind_end}
 use Rattle.save_file.proofs.line.take_line.Goals as goal
 
 pub returns-in-Opening : goal.returns-in-Opening
@@ -24,5 +24,5 @@ take_entries-requires c = subst (IsStage (accepted c.args.dict.now).tree) c.in-E
 pub returns-in-Entries : goal.returns-in-Entries
 returns-in-Entries c = let d = (accepted c.args.dict.now).tree in subst (λ (s : Stage). Judges d s c.args.line.now c.take_entries.result) (sym c.in-Entries.is) c.take_entries.ensures
 
-pub returns : goal.returns
-returns c = let d = (accepted c.args.dict.now).tree in subst (λ (s : Stage). Judges d s c.args.line.now (Err BadLine)) (sym c.in-Whole.is) (none_behind_end d c.in-Whole.field-0 c.args.line.now)
+pub returns-in-Whole : goal.returns-in-Whole
+returns-in-Whole c = let d = (accepted c.args.dict.now).tree in subst (λ (s : Stage). Judges d s c.args.line.now (Err BadLine)) (sym c.in-Whole.is) (none_behind_end d c.in-Whole.answers c.args.line.now)

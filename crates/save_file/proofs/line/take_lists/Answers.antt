@@ -4,8 +4,8 @@ use Rattle.dictionary.specs.Accepted.{accepted}
 use Rattle.script_lines.specs.declared.fault.LineFault.{LineFault}
 use Rattle.save_file.specs.Following.{Judges}
 use Rattle.save_file.specs.declared.stage.Stage.TheVariants.{Entries, Lists}
-use Rattle.save_file.proofs.LineSteps.{judged_on, worded}
-use Rattle.save_file.proofs.WordLaws.{not_behind}
+use Rattle.save_file.proofs.Lines.{not_behind}
+use Rattle.save_file.proofs.LoadSteps.{judged_on, worded}
 use Rattle.save_file.proofs.line.take_lists.Goals as goal
 
 pub returns-in-Some : goal.returns-in-Some

@@ -1,5 +1,5 @@
 use Rattle.std.proofs.Common.{refl, sym}
-use Rattle.save_file.proofs.LineSteps.{no_next_number, no_next_word, number_taken}
+use Rattle.save_file.proofs.LoadSteps.{no_next_number, no_next_word, number_taken}
 use Rattle.save_file.proofs.line.take_number.Goals as goal
 
 pub returns-in_default : goal.returns-in_default

@@ -1,5 +1,5 @@
 use Rattle.std.proofs.Common.{◌≡◌, true, false}
-use Rattle.save_file.proofs.LineSteps.{no_opening, opening_taken}
+use Rattle.save_file.proofs.LoadSteps.{no_opening, opening_taken}
 use Rattle.save_file.proofs.line.take_opening.Goals as goal
 
 pub returns-then-is_word : goal.returns-then-is_word

@@ -3,8 +3,8 @@ use Rattle.std.specs.Prelude.{codes}
 use Rattle.dictionary.specs.Accepted.{accepted}
 use Rattle.save_file.specs.SavedText.{side_word}
 use Rattle.save_file.specs.declared.stage.Stage.TheVariants.{Entries}
-use Rattle.save_file.proofs.LineSteps.{worded}
-use Rattle.save_file.proofs.WordLaws.{not_behind}
+use Rattle.save_file.proofs.Lines.{not_behind}
+use Rattle.save_file.proofs.LoadSteps.{worded}
 use Rattle.save_file.proofs.line.take_override.Goals as goal
 
 pub take_end-requires-clause-other : goal.take_end-requires-clause-other

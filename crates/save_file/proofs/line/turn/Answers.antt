@@ -1,7 +1,7 @@
 use Rattle.std.proofs.Common.{refl}
 use Rattle.answers.specs.declared.edit.Side.TheVariants.{Override}
 use Rattle.dictionary.specs.Accepted.{accepted}
-use Rattle.save_file.proofs.LineSteps.{turns}
+use Rattle.save_file.proofs.LoadSteps.{turns}
 use Rattle.save_file.proofs.line.turn.Goals as goal
 
 pub returns-clause-sound : goal.returns-clause-sound

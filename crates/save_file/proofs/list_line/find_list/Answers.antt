@@ -1,6 +1,6 @@
 use Rattle.std.proofs.Common.{◌≡◌, ◌≤◌, true, false, length, arith}
 use Rattle.dictionary.specs.Accepted.{accepted}
-use Rattle.save_file.proofs.ListSteps.{first_fact, no_fact_left, one_more_fact}
+use Rattle.save_file.proofs.LoadSteps.{first_fact, no_fact_left, one_more_fact}
 use Rattle.save_file.proofs.list_line.find_list.Goals as goal
 
 pub returns-then-is_list_at : goal.returns-then-is_list_at

@@ -1,7 +1,7 @@
 use Rattle.std.proofs.Common.{◌≡◌, true}
 use Rattle.dictionary.specs.Accepted.{accepted, names_of}
 use Rattle.dictionary.specs.Fits.{is_list}
-use Rattle.save_file.proofs.EntryLaws.{list_slot}
+use Rattle.save_file.proofs.SlotTexts.{list_slot}
 use Rattle.save_file.proofs.list_line.is_list_at.Goals as goal
 
 pub is_path-requires : goal.is_path-requires

@@ -1,7 +1,7 @@
 use Rattle.std.proofs.Common.{refl}
 use Rattle.answers.specs.declared.edit.Side.TheVariants.{Answer}
 use Rattle.dictionary.specs.Accepted.{accepted}
-use Rattle.save_file.proofs.LineSteps.{opened_lists}
+use Rattle.save_file.proofs.LoadSteps.{opened_lists}
 use Rattle.save_file.proofs.list_line.open_lists.Goals as goal
 
 pub returns-in-Ok-clause-sound : goal.returns-in-Ok-clause-sound

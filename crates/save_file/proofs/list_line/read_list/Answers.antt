@@ -2,7 +2,7 @@ use Rattle.std.proofs.Common.{sym, subst}
 use Rattle.std.specs.List.{AllByRecursion}
 use Rattle.dictionary.specs.Accepted.{accepted, names_of}
 use Rattle.fact_paths.specs.Paths.{IsMemberNumber}
-use Rattle.save_file.proofs.ListSteps.{bad_members, with_members, without_members}
+use Rattle.save_file.proofs.LoadSteps.{bad_members, with_members, without_members}
 use Rattle.fact_paths.proofs.CutLaws.{front_lacks, uncut_lacks}
 use Rattle.save_file.proofs.list_line.read_list.Goals as goal
 

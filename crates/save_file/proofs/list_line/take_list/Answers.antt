@@ -4,7 +4,7 @@ use Rattle.dictionary.specs.Accepted.{accepted, names_of}
 use Rattle.script_lines.specs.declared.fault.LineFault.{LineFault}
 use Rattle.save_file.specs.Following.{Judges}
 use Rattle.save_file.specs.declared.stage.Stage.TheVariants.{Lists}
-use Rattle.save_file.proofs.ListSteps.{bad_list, not_below, not_new, took}
+use Rattle.save_file.proofs.LoadSteps.{bad_list, not_below, not_new, took_list}
 use Rattle.save_file.proofs.list_line.take_list.Goals as goal
 
 pub returns-in-Err : goal.returns-in-Err
@@ -28,5 +28,5 @@ returns-in-Ok-push_list c =
     let new : c.are_new.result ≡ true = cc in
     let low : c.are_below.result ≡ true = cc in
     let opened = c.in-Ok-push_list.ensures.opened in
-    took (names_of c.args.dict.now.checks) (accepted c.args.dict.now) c.source-accepted.ensures.is_accepted c.args.read c.requires c.args.text.now c.in-Ok.fact c.in-Ok.members c.in-Ok.ensures (sym c.are_new.ensures ∙ new) (sym c.are_below.ensures ∙ low)
+    took_list (names_of c.args.dict.now.checks) (accepted c.args.dict.now) c.source-accepted.ensures.is_accepted c.args.read c.requires c.args.text.now c.in-Ok.fact c.in-Ok.members c.in-Ok.ensures (sym c.are_new.ensures ∙ new) (sym c.are_below.ensures ∙ low)
     c.in-Ok-push_list.read opened.0 opened.1 opened.2

@@ -4,7 +4,7 @@ use Rattle.answers.specs.Meaning.{answered}
 use Rattle.dictionary.specs.Accepted.{accepted, names_of}
 use Rattle.save_file.specs.SavedText.{list_lines_of}
 use Rattle.fg_io.specs.Writing.{Wrote}
-use Rattle.save_file.proofs.EntryLaws.{list_slot, open_list, open_list_members}
+use Rattle.save_file.proofs.SlotTexts.{list_slot, open_list, open_list_members}
 use Rattle.save_file.proofs.lists.put_if_open.Goals as goal
 
 pub put_list-requires-clause-collection : goal.put_list-requires-clause-collection

@@ -7,7 +7,7 @@ use Rattle.dictionary.specs.Reading.{slot}
 use Rattle.dictionary.specs.SlotText.{slot_text}
 use Rattle.fg_io.specs.Writing.{Wrote}
 use Rattle.dictionary.proofs.SlotTextLaws.{slot_short}
-use Rattle.save_file.proofs.EntryLaws.{length_behind, members_numbered}
+use Rattle.save_file.proofs.SlotTexts.{length_behind, members_numbered}
 use Rattle.save_file.proofs.lists.put_list.Goals as goal
 
 pub print_members-requires-clause-room : goal.print_members-requires-clause-room

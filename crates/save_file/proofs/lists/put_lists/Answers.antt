@@ -4,10 +4,10 @@ use Rattle.std.specs.List.{flat_map}
 use Rattle.answers.specs.Meaning.{answered}
 use Rattle.dictionary.specs.Accepted.{accepted}
 use Rattle.save_file.specs.SavedText.{counted, list_lines, lists}
-use Rattle.save_file.proofs.CursorLaws.{counted_more}
+use Rattle.save_file.proofs.DroppedLaws.{next_piece}
+use Rattle.save_file.proofs.SlotsLeft.{counted_more}
 use Rattle.fg_io.proofs.SentLaws.{sent_piece}
 use Rattle.fg_io.proofs.WritingLaws.{failed_within}
-use Rattle.save_file.proofs.WritingLaws.{next_piece}
 use Rattle.save_file.proofs.lists.put_lists.Goals as goal
 
 pub returns-in-Err : goal.returns-in-Err

@@ -1,4 +1,4 @@
-use Rattle.save_file.proofs.LineCuts.{last_tells, none_tells}
+use Rattle.save_file.proofs.TextLaws.{last_tells, none_tells}
 use Rattle.save_file.proofs.loading.is_ended.Goals as goal
 
 pub returns-in-None : goal.returns-in-None

@@ -3,9 +3,8 @@ use Rattle.std.proofs.lemmas.Bool.{eqb-true}
 use Rattle.script_lines.specs.Lines.{lines_of}
 use Rattle.value_text.specs.Enums.{AreLists}
 use Rattle.dictionary.specs.Accepted.{accepted, names_of}
-use Rattle.save_file.proofs.LineCuts.{empty_is}
-use Rattle.save_file.proofs.LoadEnds.{finished, refused_next}
-use Rattle.save_file.proofs.StageLaws.{nothing_yet, one_more}
+use Rattle.save_file.proofs.LoadLaws.{finished, nothing_yet, one_more, refused_next}
+use Rattle.save_file.proofs.TextLaws.{empty_is}
 use Rattle.save_file.proofs.loading.load_lines.Goals as goal
 
 pub loop-rest-init : goal.loop-rest-init

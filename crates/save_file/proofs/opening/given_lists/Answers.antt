@@ -3,7 +3,7 @@ use Rattle.std.specs.List.{flat_map}
 use Rattle.graph_session.specs.Rules.{rules, tree_of}
 use Rattle.save_file.specs.Keeping.{opened_at}
 use Rattle.save_file.specs.SavedText.{counted}
-use Rattle.save_file.proofs.CursorLaws.{counted_more}
+use Rattle.save_file.proofs.SlotsLeft.{counted_more}
 use Rattle.save_file.proofs.opening.given_lists.Goals as goal
 
 pub loop-done-preserved : goal.loop-done-preserved

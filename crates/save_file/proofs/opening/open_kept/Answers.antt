@@ -2,7 +2,7 @@ use Rattle.std.proofs.Common.{ap, sym, subst, ◌∙◌}
 use Rattle.answers.specs.GivenLists.{AreApart, AreBelow, FactsRise}
 use Rattle.graph_session.specs.Rules.{rules, tree_of}
 use Rattle.save_file.specs.Keeping.{opened}
-use Rattle.save_file.proofs.OpenedKept.{opened_apart, opened_below, opened_rise}
+use Rattle.save_file.proofs.CarriedAnswers.{opened_apart, opened_below, opened_rise}
 use Rattle.save_file.proofs.opening.open_kept.Goals as goal
 
 pub with_lists-requires-clause-rise : goal.with_lists-requires-clause-rise

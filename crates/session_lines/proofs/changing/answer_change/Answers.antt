@@ -4,7 +4,7 @@ use Rattle.dictionary.specs.Plain.{plain}
 use Rattle.fact_watch.specs.Watching.{Pair, Watching, noted}
 use Rattle.graph_session.specs.Rules.{rules}
 use Rattle.graph_session.specs.SessionView.{course}
-use Rattle.session_lines.specs.Answering.{SteppedAs}
+use Rattle.session_lines.specs.Answering.{KeptAs, SteppedAs}
 use Rattle.session_lines.specs.Stepping.{step_known}
 use Rattle.session_lines.proofs.changing.answer_change.Goals as goal
 
@@ -20,3 +20,12 @@ returns-in-Ok-clause-stepped g c =
     (step_known (rules c.args.session.now.dict) (record { course = course c.args.session.now; relations = (map {B = List ℕ × ℕ} (λ r. (r.name, r.code)) c.args.table.now.relations.items); watched = ps }) c.args.command.now)
     (record { course = course c.answer_noted.new.session; relations = (map {B = List ℕ × ℕ} (λ r. (r.name, r.code)) c.args.table.now.relations.items); watched = c.note.new.self.pairs }) c.answer_noted.result)
     pairs c.answer_noted.ensures.stepped
+
+pub returns-in-Ok-clause-kept : goal.returns-in-Ok-clause-kept
+returns-in-Ok-clause-kept g c =
+    let pairs : c.note.new.self.pairs ≡ c.args.watches.now.pairs = ap (λ (w : Watching). w.pairs) c.in-Ok.ensures.noted in
+    subst (λ (ps : List Pair).
+    KeptAs (step_known (rules c.args.session.now.dict) (record { course = course c.args.session.now; relations = (map {B = List ℕ × ℕ} (λ r. (r.name, r.code)) c.args.table.now.relations.items); watched = ps }) c.args.command.now).state
+    (record { course = course c.args.session.now; relations = (map {B = List ℕ × ℕ} (λ r. (r.name, r.code)) c.args.table.now.relations.items); watched = ps })
+    (record { course = course c.answer_noted.new.session; relations = (map {B = List ℕ × ℕ} (λ r. (r.name, r.code)) c.args.table.now.relations.items); watched = c.note.new.self.pairs }) c.answer_noted.result)
+    pairs c.answer_noted.ensures.kept

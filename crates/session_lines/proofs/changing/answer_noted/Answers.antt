@@ -5,7 +5,7 @@ use Rattle.graph_session.proofs.RunLaws.{step_count}
 use Rattle.session_lines.specs.Answering.{standing_of}
 use Rattle.session_lines.specs.Replies.{reply_text}
 use Rattle.session_lines.specs.Stepping.{said}
-use Rattle.session_lines.proofs.AnsweringLaws.{refusal_steps, reply_steps}
+use Rattle.session_lines.proofs.AnsweringLaws.{refusal_keeps, refusal_steps, reply_keeps, reply_steps}
 use Rattle.dictionary.specs.Accepted.{accepted}
 use Rattle.dictionary.specs.Plain.{plain}
 use Rattle.session_lines.proofs.changing.answer_noted.Goals as goal
@@ -28,4 +28,17 @@ returns-in-Ok-clause-few g c = step_count (rules c.args.session.now.dict) (cours
 pub returns-in-Err-clause-stepped : goal.returns-in-Err-clause-stepped
 returns-in-Err-clause-stepped g c =
     refusal_steps _ _ _ _ (rules c.args.session.now.dict) (standing_of c.args.session.now (map {B = List ℕ × ℕ} (λ r. (r.name, r.code)) c.args.table.now.relations.items) c.args.watches.now) (course c.command.new.self) c.args.command.now c.in-Err.refusal c.write_refusal.result
+    c.in-Err.ensures.refused (ap course c.in-Err.ensures.unchanged) c.write_refusal.ensures.written
+
+pub returns-in-Ok-clause-kept : goal.returns-in-Ok-clause-kept
+returns-in-Ok-clause-kept g c =
+    let r = rules c.args.session.now.dict in
+    let here = standing_of c.args.session.now (map {B = List ℕ × ℕ} (λ r. (r.name, r.code)) c.args.table.now.relations.items) c.args.watches.now in
+    let after = course c.command.new.self in
+    reply_keeps _ _ _ _ r here after c.args.command.now c.in-Ok.reply (said r here c.args.command.now (reply_text r after c.in-Ok.reply) after) c.write_said.result c.in-Ok.ensures.ok
+    (rw c.command.ensures.dict at (c.write_said.ensures.written (plain (accepted c.args.session.now.dict) c.args.session.now.timeline.now) c.requires.noted))
+
+pub returns-in-Err-clause-kept : goal.returns-in-Err-clause-kept
+returns-in-Err-clause-kept g c =
+    refusal_keeps _ _ _ _ (rules c.args.session.now.dict) (standing_of c.args.session.now (map {B = List ℕ × ℕ} (λ r. (r.name, r.code)) c.args.table.now.relations.items) c.args.watches.now) (course c.command.new.self) c.args.command.now c.in-Err.refusal c.write_refusal.result
     c.in-Err.ensures.refused (ap course c.in-Err.ensures.unchanged) c.write_refusal.ensures.written

@@ -2,4 +2,4 @@
 use Rattle.session_tests.proofs.run_tests.run_all.Given as goal
 
 abbrev pub ghosts-run_counted : goal.ghosts-run_counted
-ghosts-run_counted g a = record { name = a.blank.name; parts = a.blank.parts }
+ghosts-run_counted a = record { name = a.blank.name; parts = a.blank.parts }

@@ -4,7 +4,7 @@ use Rattle.std.specs.Map.{lookup}
 use Rattle.answers.proofs.LookUps.{placed}
 use Rattle.answers.proofs.lists.Lists.place.Goals as goal
 
-pub returns-clause-same : goal.returns-clause-same
-returns-clause-same c =
+pub returns-in-Ok-clause-same : goal.returns-in-Ok-clause-same
+returns-in-Ok-clause-same c =
     let none : is_some (lookup (nat_eq c.args.list) c.args.self.now.kept.entries) ≡ false = search rules in
-    placed (λ (o : Option (List ℕ)). o) _ _ c.args.list c.in_ok-listed.listed c.in_ok-listed.ensures none c.in_ok-insert.ensures.updates.0
+    placed (λ (o : Option (List ℕ)). o) _ _ c.args.list c.in_ok-listed.listed c.in_ok-listed.ensures none c.in-Ok.ensures.updates.0

@@ -22,7 +22,7 @@ refresh-requires-clause-fit_now g c =
     let a = answered c.self.inside.answers in
     let fits : Fits (change c.args.edit) a = (rw (← c.self.view_is) at c.requires.made).0 in
     let allowed : IsAllowed (accepted k) a (change c.args.edit) = (rw (← c.self.view_is) at c.requires.made).1 in
-    rw c.in-Ok.ensures.new (allowed_changes_fit (names_of k.checks) (accepted k) c.self.invariant.0.is_accepted a (change c.args.edit) c.self.invariant.0.fit.now fits allowed)
+    rw c.in-Ok-apply.ensures.new (allowed_changes_fit (names_of k.checks) (accepted k) c.self.invariant.0.is_accepted a (change c.args.edit) c.self.invariant.0.fit.now fits allowed)
 
 pub invariant_of-self-in-Ok-refresh : goal.invariant_of-self-in-Ok-refresh
 invariant_of-self-in-Ok-refresh g c =
@@ -32,8 +32,8 @@ invariant_of-self-in-Ok-refresh g c =
     let ch = change c.args.edit in
     let fits : Fits ch p.now = (rw (← c.self.view_is) at c.requires.made).0 in
     let allowed : IsAllowed (accepted k) p.now ch = (rw (← c.self.view_is) at c.requires.made).1 in
-    let back : q.back ≡ inverse ch p.now ∷ p.back = c.keep.ensures.back ∙ ap (λ (x : Change). x ∷ behind c.room.new.self) c.in-Ok.ensures.back ∙ ap (λ (xs : List Change). inverse ch p.now ∷ xs) c.in_ok-room.ensures.back in
-    let same : q ≡ changed p ch = place_changed p q ch back c.in-Ok.ensures.new c.keep.ensures.ahead in (
+    let back : q.back ≡ inverse ch p.now ∷ p.back = c.keep.ensures.back ∙ ap (λ (x : Change). x ∷ behind c.room.new.self) c.in-Ok-apply.ensures.back ∙ ap (λ (xs : List Change). inverse ch p.now ∷ xs) c.in-Ok.ensures.back in
+    let same : q ≡ changed p ch = place_changed p q ch back c.in-Ok-apply.ensures.new c.keep.ensures.ahead in (
       subst (IsSound k) (sym same) (sound_changed k p ch c.self.invariant.0 fits allowed),
       c.in-Ok-refresh.ensures.stands,
       λ offered. (c.in-Ok-refresh.ensures.marked offered).changes ∙ ap (λ n. n + 1) (c.self.invariant.2 offered),
@@ -50,8 +50,8 @@ returns-in-Ok-refresh-clause-ok g c =
     let m = g.E.FactEngine.marks c.self.inside.engine in
     let n = g.E.FactEngine.marks c.refresh.new.self in
     let fits : Fits ch p.now = (rw (← c.self.view_is) at c.requires.made).0 in
-    let back : q.back ≡ inverse ch p.now ∷ p.back = c.keep.ensures.back ∙ ap (λ (x : Change). x ∷ behind c.room.new.self) c.in-Ok.ensures.back ∙ ap (λ (xs : List Change). inverse ch p.now ∷ xs) c.in_ok-room.ensures.back in
-    let same : q ≡ changed p ch = place_changed p q ch back c.in-Ok.ensures.new c.keep.ensures.ahead in
-    let marked : IsTrue offered → AreMarkedBy d p.now q.now m n = λ o. subst (λ (a : Answered). AreMarkedBy d a q.now m n) c.in-Ok.ensures.undoes.1 (c.in-Ok-refresh.ensures.marked o) in
+    let back : q.back ≡ inverse ch p.now ∷ p.back = c.keep.ensures.back ∙ ap (λ (x : Change). x ∷ behind c.room.new.self) c.in-Ok-apply.ensures.back ∙ ap (λ (xs : List Change). inverse ch p.now ∷ xs) c.in-Ok.ensures.back in
+    let same : q ≡ changed p ch = place_changed p q ch back c.in-Ok-apply.ensures.new c.keep.ensures.ahead in
+    let marked : IsTrue offered → AreMarkedBy d p.now q.now m n = λ o. subst (λ (a : Answered). AreMarkedBy d a q.now m n) c.in-Ok-apply.ensures.undoes.1 (c.in-Ok-refresh.ensures.marked o) in
     rw (← c.self.view_is) (shown_moved k (timeline p) (timeline q) c.self.inside.changes offered m n c.self.invariant.2 marked
     ∙ ap (moved_to (shown k (timeline p) c.self.inside.changes offered m)) (ap timeline same ∙ timeline_changed p ch c.self.invariant.0.kept fits))

@@ -6,7 +6,7 @@ use Rattle.dictionary.specs.Reading.{slot}
 use Rattle.dictionary.specs.Slots.{members_of_home}
 use Rattle.save_file.specs.Cursors.{slots_from}
 use Rattle.save_file.specs.SavedText.{counted}
-use Rattle.save_file.proofs.CursorLaws.{next_fact, next_slot}
+use Rattle.save_file.proofs.SlotsLeft.{next_fact, next_slot}
 use Rattle.save_file.proofs.cursor.Cursor.next.Goals as goal
 
 pub returns-then-self-members : goal.returns-then-self-members
