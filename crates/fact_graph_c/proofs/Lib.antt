@@ -1,0 +1,5 @@
+pub mod AnsweringLaws
+pub mod CallLaws
+pub mod OpeningLaws
+pub mod RoomLaws
+mod Values

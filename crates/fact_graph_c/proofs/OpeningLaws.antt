@@ -1,0 +1,91 @@
+-- How sessions are begun, and why they aren't.
+use Rattle.std.proofs.Common.{Box, ◌≡◌, ℕ, true, false, List, [], Result, Ok, Err, IfErr, IfOk, refl, sym, ap, subst, ◌∙◌}
+use Rattle.std.specs.declared.alloc.Global.{Global}
+use Rattle.answers.specs.Answered.{Answered, start}
+use Rattle.dictionary.specs.Accepted.{Kept, accepted, names_of}
+use Rattle.dictionary.specs.Faults.{IsFault, Refuses}
+use Rattle.dictionary.specs.Fits.{AnswersFit}
+use Rattle.dictionary.specs.declared.fault.DictFault.{DictFault}
+use Rattle.dictionary.specs.declared.fault.DictFault.TheVariants.{NoMemory}
+use Rattle.graph_session.specs.Rules.{Rules, rules, tree_of}
+use Rattle.graph_session.specs.SessionView.{SessionView, course, start_at}
+use Rattle.fact_watch.specs.Watching.{Watching, nothing_watched}
+use Rattle.save_file.specs.Carrying.{IsCarry}
+use Rattle.save_file.specs.Dropped.{dropped_text}
+use Rattle.save_file.specs.SavedText.{saved}
+use Rattle.save_file.specs.declared.fault.LoadFault.{LoadFault}
+use Rattle.save_file.specs.declared.fault.LoadFault.TheVariants as loads
+use Rattle.fact_graph_c.specs.Answering.{said}
+use Rattle.fact_graph_c.specs.Openings.{Accepts, CarriesOver, IsBadText, IsBegun, IsFaultOfText, LoadsOver, NotOpened, NotResumed, Opens, RefusesOver}
+use Rattle.fact_graph_c.specs.Tables.{standard_checks, standard_relations}
+use Rattle.fact_graph_c.specs.declared.engine.Engine.{Engine}
+use Rattle.fact_graph_c.specs.declared.fault.NotBegun.{NotBegun}
+use Rattle.fact_graph_c.specs.declared.fault.NotBegun.TheVariants.{Dictionary, Saved}
+
+-- ---- begun
+
+pub is_begun : (k : Kept) (a : Answered) (front : List ℕ) (e : Engine) → e.session ≡ start_at k a true → e.watches ≡ nothing_watched → e.over ≡ false → said e ≡ front → IsBegun (rules k) a front e
+is_begun k a front e session watches over text = record {
+  by = ap (λ (s : SessionView). rules s.dict) session;
+  state = λ i. record { standing = record { course = course (session i); relations = standard_relations; watched = (watches i).pairs }; over = over i };
+  text = text;
+}
+
+-- an engine in its box
+abbrev pub Boxed : Type 0
+Boxed = Box Engine Global
+
+-- nothing but want of memory hinders it
+abbrev pub Begins : Rules → Answered → List ℕ → Result Boxed NotBegun → Type 0
+Begins r a front result = IfOk result (λ x. IsBegun r a front x.value) × IfErr result (λ why. why ≡ Dictionary NoMemory)
+
+-- what holds of an engine holds of it in its box
+pub begins : (r : Rules) (a : Answered) (front : List ℕ) (e : Engine) (result : Result Boxed NotBegun) → IsBegun r a front e → IfOk result (λ x. x.value ≡ e) → IfOk result (λ x. IsBegun r a front x.value)
+begins r a front e (Ok x) begun same = subst (IsBegun r a front) (sym same) begun
+begins r a front e (Err why) begun same = tt
+
+-- whatever was said
+pub begins_with : (r : Rules) (a : Answered) (front text : List ℕ) (result : Result Boxed NotBegun) → front ≡ text → IfOk result (λ x. IsBegun r a front x.value) → IfOk result (λ x. IsBegun r a text x.value)
+begins_with r a front text result same begun = subst (λ (t : List ℕ). IfOk result (λ x. IsBegun r a t x.value)) same begun
+
+pub opens : (bytes : List ℕ) (r : Rules) (a : Answered) (result : Result Boxed NotBegun) → Accepts bytes r → a ≡ start → Begins r a [] result
+    → IfOk result (λ x. Opens bytes x.value) × IfErr result (NotOpened bytes)
+opens bytes r a (Ok x) accepts none begins = ((r, accepts, subst (λ (b : Answered). IsBegun r b [] x.value) none begins.0), tt)
+opens bytes r a (Err why) accepts none begins = (tt, subst (NotOpened bytes) (sym begins.1) tt)
+
+-- a text that is loaded
+pub loads_over : (IsText : List ℕ → Type 0) (r : Rules) (text : List ℕ) (a : Answered) (result : Result Boxed NotBegun) → AnswersFit (tree_of r) a × (text ≡ saved (tree_of r) a) → Begins r a [] result
+    → IfOk result (λ x. LoadsOver r text x.value) × IfErr result (RefusesOver IsText text)
+loads_over IsText r text a (Ok x) is begins = ((a, is.0, is.1, begins.0), tt)
+loads_over IsText r text a (Err why) is begins = (tt, subst (RefusesOver IsText text) (sym begins.1) refl)
+
+-- a text that is carried
+pub carries_over : (r : Rules) (text : List ℕ) (a : Answered) (dropped front : List ℕ) (c : IsCarry r text a dropped) (result : Result Boxed NotBegun) → front ≡ dropped_text r c.0.lines
+    → IfOk result (λ x. IsBegun r a front x.value) → IfOk result (λ x. CarriesOver r text x.value)
+carries_over r text a dropped front c (Ok x) is begun = (a, (dropped, (c, subst (λ (t : List ℕ). IsBegun r a t x.value) is begun)))
+carries_over r text a dropped front c (Err why) is begun = tt
+
+-- over an accepted dictionary
+pub resumes : (Over : Rules → List ℕ → Engine → Type 0) (IsText : Rules → List ℕ → Type 0) (bytes text : List ℕ) (r : Rules) (result : Result Boxed NotBegun) → Accepts bytes r
+    → IfOk result (λ x. Over r text x.value) × IfErr result (RefusesOver (IsText r) text)
+    → IfOk result (λ x. (s : Rules) × Accepts bytes s × Over s text x.value) × IfErr result (NotResumed IsText bytes text)
+resumes Over IsText bytes text r (Ok x) accepts is = ((r, accepts, is.0), tt)
+resumes Over IsText bytes text r (Err (Dictionary fault)) accepts is = (tt, subst (Refuses (IsFault bytes (names_of standard_checks))) (sym is.1) tt)
+resumes Over IsText bytes text r (Err (Saved line)) accepts is = (tt, (r, accepts, is.1))
+
+-- ---- or not
+
+-- a fault of a saved text
+pub refuses_over : (IsText : List ℕ → Type 0) (text : List ℕ) (fault : LoadFault) (why : NotBegun) → ((n : ℕ) → fault ≡ loads.BadSaved n → IsBadText IsText text n) → IsFaultOfText fault why → RefusesOver IsText text why
+refuses_over IsText text (loads.BadSaved n) why bad is = subst (RefusesOver IsText text) (sym is) (bad n refl)
+refuses_over IsText text loads.NoMemory why bad is = subst (RefusesOver IsText text) (sym is) refl
+
+-- want of memory is one of the reasons
+pub memory_refuses : {X : Type 0} (IsText : List ℕ → Type 0) (text : List ℕ) (result : Result X NotBegun) → IfErr result (λ why. why ≡ Dictionary NoMemory) → IfErr result (RefusesOver IsText text)
+memory_refuses IsText text (Ok x) memory = tt
+memory_refuses IsText text (Err why) memory = subst (RefusesOver IsText text) (sym memory) refl
+
+-- a dictionary that isn't accepted
+pub not_resumed : (IsText : Rules → List ℕ → Type 0) (bytes text : List ℕ) (why : NotBegun) → NotOpened bytes why → NotResumed IsText bytes text why
+not_resumed IsText bytes text (Dictionary fault) refused = refused
+not_resumed IsText bytes text (Saved line) refused = absurd refused

@@ -1,0 +1,35 @@
+-- What C is told.
+use Rattle.std.specs.Prelude.{◌≡◌, ◌⊎◌, ℕ, List, length, min, take, drop, ◌++◌, Option, Some}
+use Rattle.fact_graph_c.specs.Answering.{Answers, said}
+use Rattle.fact_graph_c.specs.Faults.{fault_numbers, plain}
+use Rattle.fact_graph_c.specs.Outcomes.{outcome_number}
+use Rattle.fact_graph_c.specs.Saving.{Saves}
+use Rattle.fact_graph_c.specs.declared.engine.Engine.{Engine}
+use Rattle.fact_graph_c.specs.declared.fault.Fault.{Fault}
+use Rattle.fact_graph_c.specs.declared.fault.NotBegun.{NotBegun}
+use Rattle.fact_graph_c.specs.declared.outcome.Outcome.{Outcome}
+use Rattle.fact_graph_c.specs.declared.place.Place.{Place}
+
+-- the place holds such a session, and there is no fault; or it is as before, and the fault has these numbers
+abbrev pub BeginsCall : (Engine → Type 0) → (NotBegun → Type 0) → Place → Place → Fault → Type 0
+BeginsCall Begins IsWhy place place_now fault =
+    ((e : Engine) × Begins e × (place_now.value ≡ Some e) × (fault ≡ plain 0)) ⊎ ((why : NotBegun) × IsWhy why × (place_now ≡ place) × (fault ≡ fault_numbers why))
+
+-- the line was answered so, by the same rules, and the session behind it is handed back
+pub record AnswersCall (old : Engine) (line : List ℕ) (text_size : ℕ) (handed_back : Option Engine) (result : ℕ) : Type 0 where
+  pub new : Engine
+  pub outcome : Outcome
+  pub answered : Answers old new line outcome
+  pub dict : new.session.dict ≡ old.session.dict
+  pub back : handed_back ≡ Some new
+  pub number : result ≡ outcome_number outcome
+  pub size : text_size ≡ length (said new)
+
+-- the answers were saved so
+pub record SavesCall (old : Engine) (text_size : ℕ) (handed_back : Option Engine) (result : ℕ) : Type 0 where
+  pub new : Engine
+  pub outcome : Outcome
+  pub saved : Saves old new outcome
+  pub back : handed_back ≡ Some new
+  pub number : result ≡ outcome_number outcome
+  pub size : text_size ≡ length (said new)

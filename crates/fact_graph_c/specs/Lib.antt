@@ -1,0 +1,11 @@
+pub mod Answering
+pub mod Asking
+pub mod Calls
+pub mod Faults
+pub mod Held
+pub mod Openings
+pub mod Outcomes
+pub mod Room
+pub mod Saving
+pub mod Sound
+pub mod Tables

@@ -1,0 +1,90 @@
+-- How a session is begun, and why it isn't.
+use Rattle.std.specs.Prelude.{◌≡◌, ◌⊎◌, ℕ, ◌<◌, ◌≤◌, true, List, [], length}
+use Rattle.answers.specs.Answered.{Answered, start}
+use Rattle.dictionary.specs.Accepted.{Accepted, accepted, names_of}
+use Rattle.dictionary.specs.Faults.{AreAccepted, IsFault, Refuses}
+use Rattle.dictionary.specs.Fits.{AnswersFit}
+use Rattle.dictionary.specs.declared.fault.DictFault.TheVariants.{NoMemory}
+use Rattle.graph_session.specs.Rules.{Rules, tree_of}
+use Rattle.session_lines.specs.Stepping.{Terms, at_start}
+use Rattle.save_file.specs.CarriedText.{IsCarriedText}
+use Rattle.save_file.specs.Carrying.{IsCarry}
+use Rattle.save_file.specs.Dropped.{dropped_text}
+use Rattle.save_file.specs.Loading.{IsRefusedAt, IsSavedText}
+use Rattle.save_file.specs.SavedText.{saved}
+use Rattle.save_file.specs.declared.fault.LoadFault.{LoadFault}
+use Rattle.save_file.specs.declared.fault.LoadFault.TheVariants as loads
+use Rattle.fact_graph_c.specs.Answering.{rules_of, said, state_of}
+use Rattle.fact_graph_c.specs.Tables.{standard_checks, standard_relations}
+use Rattle.fact_graph_c.specs.declared.engine.Engine.{Engine}
+use Rattle.fact_graph_c.specs.declared.fault.NotBegun.{NotBegun}
+use Rattle.fact_graph_c.specs.declared.fault.NotBegun.TheVariants.{Dictionary, Saved}
+
+-- ---- begun
+
+-- changes are numbered, and slots may be watched by the standard relations
+abbrev pub terms_of : Answered → Terms
+terms_of a = record { answers = a; stamps = true; relations = standard_relations }
+
+-- over these rules from these answers, before any line
+pub record IsBegun (r : Rules) (a : Answered) (front : List ℕ) (e : Engine) : Type 0 where
+  pub by : rules_of e ≡ r
+  pub state : state_of e ≡ at_start r (terms_of a)
+  pub text : said e ≡ front
+
+-- the bytes spell a dictionary that has no fault
+abbrev pub Accepts : List ℕ → Rules → Type 0
+Accepts bytes r = AreAccepted bytes (names_of standard_checks) r.accepted × (r.checks ≡ standard_checks)
+
+-- with no answers
+abbrev pub Opens : List ℕ → Engine → Type 0
+Opens bytes e = (r : Rules) × Accepts bytes r × IsBegun r start [] e
+
+-- over these rules with the answers of which the bytes are the saved text
+abbrev pub LoadsOver : Rules → List ℕ → Engine → Type 0
+LoadsOver r text e = (a : Answered) × AnswersFit (tree_of r) a × (text ≡ saved (tree_of r) a) × IsBegun r a [] e
+
+abbrev pub Loads : List ℕ → List ℕ → Engine → Type 0
+Loads bytes text e = (r : Rules) × Accepts bytes r × LoadsOver r text e
+
+-- with the answers of the lines that are kept of them; of the others it is said that they are dropped
+abbrev pub CarriesOver : Rules → List ℕ → Engine → Type 0
+CarriesOver r text e = (a : Answered) × ((dropped : List ℕ) × ((c : IsCarry r text a dropped) × IsBegun r a (dropped_text r c.0.lines) e))
+
+abbrev pub Carries : List ℕ → List ℕ → Engine → Type 0
+Carries bytes text e = (r : Rules) × Accepts bytes r × CarriesOver r text e
+
+-- ---- or not
+
+abbrev pub saved_limit : ℕ
+saved_limit = 67108864
+
+-- the bytes are no text of the kind, and this is the first line with which they begin none; where they are too long it is 0
+abbrev pub IsBadText : (List ℕ → Type 0) → List ℕ → ℕ → Type 0
+IsBadText IsText bytes n = ((saved_limit < length bytes) × (n ≡ 0)) ⊎ ((length bytes ≤ saved_limit) × IsRefusedAt IsText bytes n)
+
+-- the saved text is refused, or there was no memory
+abbrev pub RefusesOver : (List ℕ → Type 0) → List ℕ → NotBegun → Type 0
+RefusesOver IsText text (Dictionary fault) = fault ≡ NoMemory
+RefusesOver IsText text (Saved line) = IsBadText IsText text line
+
+-- what a fault of a saved text comes to
+abbrev pub IsFaultOfText : LoadFault → NotBegun → Type 0
+IsFaultOfText (loads.BadSaved line) why = why ≡ Saved line
+IsFaultOfText loads.NoMemory why = why ≡ Dictionary NoMemory
+
+-- this is the dictionary's first fault, or there was no memory
+abbrev pub NotOpened : List ℕ → NotBegun → Type 0
+NotOpened bytes (Dictionary fault) = Refuses (IsFault bytes (names_of standard_checks)) fault
+NotOpened bytes (Saved line) = ⊥
+
+-- or the dictionary is accepted, and the text is refused
+abbrev pub NotResumed : (Rules → List ℕ → Type 0) → List ℕ → List ℕ → NotBegun → Type 0
+NotResumed IsText bytes text (Dictionary fault) = Refuses (IsFault bytes (names_of standard_checks)) fault
+NotResumed IsText bytes text (Saved line) = (r : Rules) × Accepts bytes r × IsBadText (IsText r) text line
+
+abbrev pub NotLoaded : List ℕ → List ℕ → NotBegun → Type 0
+NotLoaded bytes text why = NotResumed (λ r. IsSavedText (tree_of r)) bytes text why
+
+abbrev pub NotCarried : List ℕ → List ℕ → NotBegun → Type 0
+NotCarried bytes text why = NotResumed (λ _. IsCarriedText) bytes text why

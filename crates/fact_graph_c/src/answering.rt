@@ -1,0 +1,208 @@
+// Answers lines.
+ghost use Rattle.std.specs.Prelude.{◌≡◌, ◌+◌, ◌-◌, ◌<◌, ◌≤◌, ◌^◌, ◌∷◌, [], ◌++◌, ℕ, List, false, IfOk, OnErr, length, map};
+ghost use Rattle.script_lines.specs.Lines.{ready_lines};
+ghost use Rattle.fact_graph_c.specs.Answering.{Answers, line_given, said};
+ghost use Rattle.fact_graph_c.specs.Sound.{IsSound};
+ghost use Rattle.fact_graph_c.specs.Tables.{standard_checks, standard_relations};
+
+use crate::asking::{answer_get, asked_path};
+use crate::engine::Engine;
+use crate::outcome::Outcome;
+use crate::tables::{add_check, add_relation, standard_checks};
+use fact_watch::{WatchTable, changed, completed, lost, raised};
+use script_lines::Ready;
+use session_lines::{Progress, answer_ready};
+use std::alloc::{AllocError, Global};
+use std::marker::Brand;
+use std::sync::ledger::{Blank, Ledger};
+use steps::Steps;
+use text_checks::{CheckTable, digits, nine_digits, printable_ascii, trimmed};
+use three_state::Res;
+
+/// The most bytes of a line.
+const LINE: usize = 4_096;
+
+/// The most changes that a session makes.
+const MOST_CHANGES: u64 = 1 << 62;
+
+// How the line is ready, and the line where it isn't too long.
+fn readied(line: &[u8]) -> (Ready, &[u8])
+    ensures lines { ready_lines result.0 result.1.now ≡ line_given line.now ∷ [] }
+    ensures short { length result.1.now ≤ 4096 }
+{
+    if line.len() > LINE {
+        (Ready::Long, &[])
+    } else {
+        (Ready::Whole, line)
+    }
+}
+
+// What is true of an engine. Nothing is done.
+fn know(engine: &Engine)
+    ensures { IsSound engine.now }
+{
+    let _accepted = engine.session.dict().source();
+    let _fit = engine.session.answers();
+    let _few = engine.watches.len();
+}
+
+// Answers a line of a script that goes on. Nothing is said yet.
+fn answer_open<L: Ledger>(
+    alloc: Global,
+    engine: &mut Engine,
+    checks: &CheckTable,
+    relations: &WatchTable,
+    line: &[u8],
+    steps: &mut Steps<L>,
+) -> Outcome
+    requires checks { map {B = List ℕ × ℕ} (λ c. (c.name, c.code)) checks.now.checks.items
+        ≡ standard_checks }
+    requires relations { map {B = List ℕ × ℕ} (λ r. (r.name, r.code)) relations.now.relations.items
+        ≡ standard_relations }
+    requires goes_on { engine.old.over ≡ false }
+    requires empty { said engine.old ≡ [] }
+    requires few { engine.old.session.changes < 2 ^ 63 }
+    ensures answered { Answers engine.old engine.new line.now result }
+    ensures dict { engine.new.session.dict ≡ engine.old.session.dict }
+{
+    know(engine);
+    let ready = readied(line);
+    match answer_ready(
+        alloc,
+        &mut engine.session,
+        &mut engine.watches,
+        relations,
+        checks,
+        ready.0,
+        ready.1,
+        &mut engine.text,
+        steps,
+    ) {
+        Progress::More => Outcome::Said,
+        Progress::Over => {
+            engine.over = true;
+            Outcome::Over
+        }
+        Progress::OutOfMemory => {
+            engine.text.clear();
+            Outcome::NoMemory
+        }
+        Progress::Unwritten => {
+            know(engine);
+            engine.text.clear();
+            Outcome::NoMemory
+        }
+    }
+}
+
+// The same with steps that are counted for nobody.
+fn answer_uncounted<L: Ledger>(
+    alloc: Global,
+    engine: &mut Engine,
+    checks: &CheckTable,
+    relations: &WatchTable,
+    line: &[u8],
+    blank: Blank,
+) -> Outcome
+    requires name { blank.name ≡ L.name }
+    requires parts { blank.parts ≡ L.parts }
+    requires some { 0 < blank.parts }
+    requires checks { map {B = List ℕ × ℕ} (λ c. (c.name, c.code)) checks.now.checks.items
+        ≡ standard_checks }
+    requires relations { map {B = List ℕ × ℕ} (λ r. (r.name, r.code)) relations.now.relations.items
+        ≡ standard_relations }
+    requires goes_on { engine.old.over ≡ false }
+    requires empty { said engine.old ≡ [] }
+    requires few { engine.old.session.changes < 2 ^ 63 }
+    ensures answered { Answers engine.old engine.new line.now result }
+    ensures dict { engine.new.session.dict ≡ engine.old.session.dict }
+{
+    let mut steps = Steps::<L>::new(blank);
+    answer_open(alloc, engine, checks, relations, line, &mut steps)
+}
+
+// Answers a line.
+fn answer_by(
+    alloc: Global,
+    engine: &mut Engine,
+    checks: &CheckTable,
+    relations: &WatchTable,
+    line: &[u8],
+) -> Outcome
+    requires checks { map {B = List ℕ × ℕ} (λ c. (c.name, c.code)) checks.now.checks.items
+        ≡ standard_checks }
+    requires relations { map {B = List ℕ × ℕ} (λ r. (r.name, r.code)) relations.now.relations.items
+        ≡ standard_relations }
+    ensures answered { Answers engine.old engine.new line.now result }
+    ensures dict { engine.new.session.dict ≡ engine.old.session.dict }
+{
+    engine.text.clear();
+    if engine.over {
+        return Outcome::Over;
+    }
+    if engine.session.changes() >= MOST_CHANGES {
+        return Outcome::NoMemory;
+    }
+    answer_uncounted::<Brand>(alloc, engine, checks, relations, line, Blank::new(1))
+}
+
+// Makes the table of relations, and answers a line.
+fn try_answer_by(
+    alloc: Global,
+    engine: &mut Engine,
+    checks: &CheckTable,
+    line: &[u8],
+) -> Result<Outcome, AllocError>
+    requires { map {B = List ℕ × ℕ} (λ c. (c.name, c.code)) checks.now.checks.items
+        ≡ standard_checks }
+    ensures answered { IfOk result (Answers engine.old engine.new line.now) }
+    ensures dict { engine.new.session.dict ≡ engine.old.session.dict }
+    ensures unchanged { OnErr result (engine.new ≡ engine.old) }
+{
+    let mut relations = WatchTable::new(alloc);
+    let says = Box::new(alloc, |old: &Res, new: &Res| changed(old, new))?;
+    add_relation(alloc, &mut relations, "changed", 1, says)?;
+    let says = Box::new(alloc, |old: &Res, new: &Res| completed(old, new))?;
+    add_relation(alloc, &mut relations, "completed", 2, says)?;
+    let says = Box::new(alloc, |old: &Res, new: &Res| lost(old, new))?;
+    add_relation(alloc, &mut relations, "lost", 3, says)?;
+    let says = Box::new(alloc, |old: &Res, new: &Res| raised(old, new))?;
+    add_relation(alloc, &mut relations, "raised", 4, says)?;
+    Ok(answer_by(alloc, engine, checks, &relations, line))
+}
+
+// Makes the table of checks, and answers a line.
+fn try_answer(alloc: Global, engine: &mut Engine, line: &[u8]) -> Result<Outcome, AllocError>
+    ensures answered { IfOk result (Answers engine.old engine.new line.now) }
+    ensures dict { engine.new.session.dict ≡ engine.old.session.dict }
+    ensures unchanged { OnErr result (engine.new ≡ engine.old) }
+{
+    let mut checks = CheckTable::new(alloc);
+    standard_checks!(alloc, checks);
+    try_answer_by(alloc, engine, &checks, line)
+}
+
+// Answers a line by the tables.
+fn answer_by_tables(alloc: Global, engine: &mut Engine, line: &[u8]) -> Outcome
+    ensures answered { Answers engine.old engine.new line.now result }
+    ensures dict { engine.new.session.dict ≡ engine.old.session.dict }
+{
+    match try_answer(alloc, engine, line) {
+        Ok(outcome) => outcome,
+        Err(_) => {
+            engine.text.clear();
+            Outcome::NoMemory
+        }
+    }
+}
+
+/// Answers a line, which has no newline.
+pub fn answer(alloc: Global, engine: &mut Engine, line: &[u8]) -> Outcome
+    ensures answered { Answers engine.old engine.new line.now result }
+    ensures dict { engine.new.session.dict ≡ engine.old.session.dict }
+{
+    match asked_path(alloc, engine.over, line) {
+        Some(path) => answer_get(engine, path),
+        None => answer_by_tables(alloc, engine, line),
+    }
+}

@@ -1,0 +1,20 @@
+// What stands behind a handle.
+ghost use Rattle.std.specs.Prelude.{◌≡◌};
+ghost use Rattle.fact_graph_c.specs.Tables.{standard_checks};
+
+use crate::text::Text;
+use fact_watch::Watches;
+use graph_session::Session;
+use recalc::Recalc;
+
+/// A session over a dictionary that was accepted with the standard checks, its watches, and what the last call said.
+#[derive(Drop)]
+pub struct Engine {
+    pub session: Session<Recalc>,
+    pub watches: Watches,
+    /// Whether a line was `quit`.
+    pub over: bool,
+    /// What the last call said.
+    pub text: Text,
+    pub ghost same: { session.dict.checks ≡ standard_checks },
+}

@@ -1,0 +1,147 @@
+// What C calls. fact_graph.h says what C must uphold. Each contract says of the engine that a handle holds what the call answers,
+// and which engine it hands back.
+ghost use Rattle.std.specs.Prelude.{◌≡◌, ◌++◌, ℕ, List, length, take, drop, min, IfOk, IfErr, Some};
+ghost use Rattle.fact_graph_c.specs.Answering.{said};
+ghost use Rattle.fact_graph_c.specs.Calls.{AnswersCall, BeginsCall, SavesCall};
+ghost use Rattle.fact_graph_c.specs.Faults.{fault_numbers, plain};
+ghost use Rattle.fact_graph_c.specs.Openings.{Carries, Loads, NotCarried, NotLoaded, NotOpened, Opens};
+
+use crate::answering::answer;
+use crate::engine::Engine;
+use crate::fault::{Fault, NotBegun, fault_of, no_fault};
+use crate::handle::Handle;
+use crate::opening::{open, open_carried, open_loaded};
+use crate::outcome::number_of;
+use crate::place::{Place, keep};
+use crate::saving::save_answers;
+use std::alloc::Global;
+
+// How long the text of a session is that begins.
+fn size_of_text(begun: &Result<Box<Engine>, NotBegun>) -> usize
+    ensures some { IfOk begun.now (λ e. result ≡ length (said e.value)) }
+    ensures none { IfErr begun.now (λ _. result ≡ 0) }
+{
+    match begun {
+        Ok(engine) => engine.text.len(),
+        Err(_) => 0,
+    }
+}
+
+// Hands a session to C, or tells why there is none.
+fn hand_out(begun: Result<Box<Engine>, NotBegun>, graph: &mut Place, fault: &mut Fault)
+    ensures begun { IfOk begun (λ e. (graph.new.value ≡ Some e.value) × (fault.new ≡ plain 0)) }
+    ensures told { IfErr begun (λ why. (graph.new ≡ graph.old) × (fault.new ≡ fault_numbers why)) }
+{
+    match begun {
+        Ok(engine) => {
+            *graph = keep(engine);
+            *fault = no_fault();
+        }
+        Err(why) => *fault = fault_of(why),
+    }
+}
+
+/// Opens a session over a dictionary.
+#[unsafe(no_mangle)]
+pub extern "C" fn fact_graph_open(
+    alloc: Global,
+    dictionary: &[u8],
+    graph: &mut Place,
+    fault: &mut Fault,
+) -> u32
+    ensures begun { BeginsCall (Opens dictionary.now) (NotOpened dictionary.now) graph.old graph.new fault.new }
+    ensures number { result ≡ fault.new.number }
+{
+    hand_out(open(alloc, dictionary), graph, fault);
+    fault.number
+}
+
+/// Opens a session over a dictionary, with the answers of a saved text.
+#[unsafe(no_mangle)]
+pub extern "C" fn fact_graph_load(
+    alloc: Global,
+    dictionary: &[u8],
+    saved: &[u8],
+    graph: &mut Place,
+    fault: &mut Fault,
+) -> u32
+    ensures begun { BeginsCall (Loads dictionary.now saved.now) (NotLoaded dictionary.now saved.now) graph.old graph.new fault.new }
+    ensures number { result ≡ fault.new.number }
+{
+    hand_out(open_loaded(alloc, dictionary, saved), graph, fault);
+    fault.number
+}
+
+/// Opens a session over a dictionary, with what may stand of a saved text.
+#[unsafe(no_mangle)]
+pub extern "C" fn fact_graph_carry(
+    alloc: Global,
+    dictionary: &[u8],
+    saved: &[u8],
+    graph: &mut Place,
+    text_size: &mut usize,
+    fault: &mut Fault,
+) -> u32
+    ensures begun { BeginsCall (λ e. Carries dictionary.now saved.now e × (text_size.new ≡ length (said e)))
+        (λ why. NotCarried dictionary.now saved.now why × (text_size.new ≡ 0)) graph.old graph.new fault.new }
+    ensures number { result ≡ fault.new.number }
+{
+    let begun = open_carried(alloc, dictionary, saved);
+    *text_size = size_of_text(&begun);
+    hand_out(begun, graph, fault);
+    fault.number
+}
+
+/// Answers a line.
+#[unsafe(no_mangle)]
+pub extern "C" fn fact_graph_answer(
+    alloc: Global,
+    graph: Handle,
+    line: &[u8],
+    text_size: &mut usize,
+    back: &mut Place,
+) -> u32
+    ensures { AnswersCall graph.value line.now text_size.new back.new.value result }
+{
+    let mut engine = graph.into_box();
+    let outcome = answer(alloc, &mut engine, line);
+    *text_size = engine.text.len();
+    *back = keep(engine);
+    number_of(outcome)
+}
+
+/// Makes the saved text.
+#[unsafe(no_mangle)]
+pub extern "C" fn fact_graph_save(graph: Handle, text_size: &mut usize, back: &mut Place) -> u32
+    ensures { SavesCall graph.value text_size.new back.new.value result }
+{
+    let mut engine = graph.into_box();
+    let outcome = save_answers(&mut engine);
+    *text_size = engine.text.len();
+    *back = keep(engine);
+    number_of(outcome)
+}
+
+/// Copies the text from a place on.
+#[unsafe(no_mangle)]
+pub extern "C" fn fact_graph_read(
+    graph: Handle,
+    from: usize,
+    out: &mut [u8],
+    back: &mut Place,
+) -> usize
+    ensures count { result ≡ min (length out.old) (length (drop from (said graph.value))) }
+    ensures copied { out.new ≡ take result (drop from (said graph.value)) ++ drop result out.old }
+    ensures back { back.new.value ≡ Some graph.value }
+{
+    let engine = graph.into_box();
+    let count = engine.text.copy(from, out);
+    *back = keep(engine);
+    count
+}
+
+/// Ends a session.
+#[unsafe(no_mangle)]
+pub extern "C" fn fact_graph_close(graph: Handle) {
+    drop(graph.into_box());
+}

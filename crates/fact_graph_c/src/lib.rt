@@ -1,0 +1,18 @@
+//! The Fact Graph for C: sessions over dictionaries, which are fed lines and hand out replies.
+#![tactic(auto)]
+
+ghost use Rattle.std.specs.Prelude.{◌≡◌};
+
+mod answering;
+mod asking;
+mod engine;
+mod exports;
+mod fault;
+mod handle;
+mod loose;
+mod opening;
+mod outcome;
+mod place;
+mod saving;
+mod tables;
+mod text;

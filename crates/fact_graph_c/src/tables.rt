@@ -1,0 +1,84 @@
+// The checks that a dictionary may name, and the relations by which a slot may be watched. A function makes them for itself,
+// since none may hand them out.
+ghost use Rattle.std.specs.Prelude.{◌≡◌, ℕ, ◌+◌, ◌-◌, ◌<◌, ◌≤◌, ◌^◌, Bool, List, [], ◌∷◌, ◌++◌, OnOk, length, map};
+ghost use Rattle.text_checks.specs.Checks.{IsCode, check_says};
+ghost use Rattle.fact_watch.specs.Says.{IsCode as IsRelation, watch_says};
+
+use fact_paths::Name;
+use fact_watch::{Says, WatchTable};
+use std::alloc::{AllocError, Global};
+use text_checks::{CheckTable, Test};
+
+/// Adds a check under another name than those that are there, so that nothing but want of memory hinders it.
+pub fn add_check(
+    alloc: Global,
+    checks: &mut CheckTable,
+    name: &str,
+    code: u32,
+    check: Test,
+) -> Result<(), AllocError>
+    requires room { length checks.old.checks.items < 2 ^ 32 - 1 }
+    requires code { IsCode code }
+    requires callable { (text : _) → length text.now ≤ 1000 → Test.pre check text }
+    requires says { (text : _) (answer : Bool) → length text.now ≤ 1000
+        → Test.post check text answer → answer ≡ check_says code text.now }
+    ensures added { OnOk result
+        (map {B = List ℕ × ℕ} (λ c. (c.name, c.code)) checks.new.checks.items
+        ≡ map {B = List ℕ × ℕ} (λ c. (c.name, c.code)) checks.old.checks.items
+        ++ (name.now, code) ∷ []) }
+    ensures count { OnOk result
+        (length checks.new.checks.items ≡ length checks.old.checks.items + 1) }
+{
+    let Ok(name) = Name::read(alloc, name) else {
+        return Err(AllocError);
+    };
+    match checks.add(name, code, check) {
+        Ok(()) => Ok(()),
+        Err(_) => Err(AllocError),
+    }
+}
+
+/// Adds a relation under another name than those that are there, so that nothing but want of memory hinders it.
+pub fn add_relation(
+    alloc: Global,
+    relations: &mut WatchTable,
+    name: &str,
+    code: u32,
+    says: Says,
+) -> Result<(), AllocError>
+    requires room { length relations.old.relations.items < 2 ^ 32 - 1 }
+    requires code { IsRelation code }
+    requires callable { (old : _) (new : _) → Says.pre says old new }
+    requires says { (old : _) (new : _) (answer : Bool) → Says.post says old new answer
+        → answer ≡ watch_says code old.now new.now }
+    ensures added { OnOk result
+        (map {B = List ℕ × ℕ} (λ r. (r.name, r.code)) relations.new.relations.items
+        ≡ map {B = List ℕ × ℕ} (λ r. (r.name, r.code)) relations.old.relations.items
+        ++ (name.now, code) ∷ []) }
+    ensures count { OnOk result
+        (length relations.new.relations.items ≡ length relations.old.relations.items + 1) }
+{
+    let Ok(name) = Name::read(alloc, name) else {
+        return Err(AllocError);
+    };
+    match relations.add(name, code, says) {
+        Ok(()) => Ok(()),
+        Err(_) => Err(AllocError),
+    }
+}
+
+/// Adds the four checks to an empty table, in a function that may answer `AllocError`.
+macro_rules! standard_checks {
+    ($alloc:expr, $checks:ident) => {
+        let check = Box::new($alloc, |text: &str| digits(text))?;
+        add_check($alloc, &mut $checks, "digits", 1, check)?;
+        let check = Box::new($alloc, |text: &str| nine_digits(text))?;
+        add_check($alloc, &mut $checks, "nine-digits", 2, check)?;
+        let check = Box::new($alloc, |text: &str| printable_ascii(text))?;
+        add_check($alloc, &mut $checks, "printable-ascii", 3, check)?;
+        let check = Box::new($alloc, |text: &str| trimmed(text))?;
+        add_check($alloc, &mut $checks, "trimmed", 4, check)?;
+    };
+}
+
+pub(crate) use standard_checks;

@@ -1,0 +1,240 @@
+/* A host of the C library: sessions over a dictionary and a script, opened, answered, saved, loaded, carried and closed.
+ *
+ *   sessions DICTIONARY SCRIPT
+ *
+ * Prints the replies to the script. Each reply is read in pieces of every size up to 9 bytes, and in one piece. Where it is
+ * compiled with FAILING, each allocation of each call fails in turn before the call is made once more, and the replies have to be
+ * the same: a session is as before after want of memory. Exits with 1 where anything isn't as the header says. */
+#include "fact_graph.h"
+
+#include <stdio.h>
+#include <stdlib.h>
+#include <string.h>
+
+#define CHECK(condition)                                                     \
+  do {                                                                       \
+    if (!(condition)) {                                                      \
+      fprintf(stderr, "%s:%d: not so: %s\n", __FILE__, __LINE__, #condition); \
+      exit(1);                                                               \
+    }                                                                        \
+  } while (0)
+
+/* ---- allocations that fail */
+
+static long failing = 0; /* the number of the next allocation that fails, from 1, or 0 */
+static long failed = 0;  /* how many did */
+
+#ifdef FAILING
+extern void *__libc_malloc(size_t size);
+extern void *__libc_realloc(void *at, size_t size);
+
+static int fails(void) {
+  if (failing == 0 || --failing != 0) return 0;
+  failed += 1;
+  return 1;
+}
+
+void *malloc(size_t size) { return fails() ? NULL : __libc_malloc(size); }
+void *realloc(void *at, size_t size) { return fails() ? NULL : __libc_realloc(at, size); }
+#endif
+
+/* Makes the call, where FAILING is set first with each of its allocations failing in turn. */
+#define WITH_MEMORY(call, wants_memory, as_before)  \
+  do {                                              \
+    long first_failing = 0;                         \
+    do {                                            \
+      failing = FAILING_FROM(first_failing);        \
+      call;                                         \
+      failing = 0;                                  \
+      if (wants_memory) { as_before; }              \
+    } while (wants_memory);                         \
+  } while (0)
+#ifdef FAILING
+#define FAILING_FROM(n) (++(n))
+#else
+#define FAILING_FROM(n) ((n) * 0)
+#endif
+
+/* ---- texts */
+
+typedef struct {
+  uint8_t *bytes;
+  size_t size;
+} text;
+
+static text file(const char *name) {
+  text t = {malloc(1), 0};
+  FILE *in = fopen(name, "rb");
+  CHECK(in != NULL);
+  for (int byte; (byte = getc(in)) != EOF; t.size += 1) {
+    t.bytes = realloc(t.bytes, t.size + 1);
+    t.bytes[t.size] = (uint8_t)byte;
+  }
+  fclose(in);
+  return t;
+}
+
+/* The session's text, in pieces of this size. */
+static text in_pieces(fact_graph *graph, size_t size, size_t piece) {
+  text t = {malloc(size + piece), 0};
+  for (;;) {
+    size_t count = fact_graph_read(*graph, t.size, t.bytes + t.size, piece, graph);
+    CHECK(count <= piece && t.size + count <= size);
+    t.size += count;
+    if (count < piece) break;
+  }
+  CHECK(t.size == size);
+  return t;
+}
+
+static int same(text a, text b) { return a.size == b.size && memcmp(a.bytes, b.bytes, a.size) == 0; }
+
+static text whole(fact_graph *graph, size_t size) {
+  text t = in_pieces(graph, size, size + 1);
+  for (size_t piece = 1; piece < 10; piece++) {
+    text again = in_pieces(graph, size, piece);
+    CHECK(same(t, again));
+    free(again.bytes);
+  }
+  return t;
+}
+
+/* ---- calls */
+
+static uint32_t answer(fact_graph *graph, const uint8_t *line, size_t line_size, text *reply) {
+  size_t size = 1;
+  uint32_t how;
+  WITH_MEMORY(how = fact_graph_answer(*graph, line, line_size, &size, graph), how == FACT_GRAPH_NO_MEMORY, CHECK(size == 0));
+  *reply = whole(graph, size);
+  return how;
+}
+
+static text saved_text(fact_graph *graph) {
+  size_t size = 1;
+  uint32_t how;
+  WITH_MEMORY(how = fact_graph_save(*graph, &size, graph), how == FACT_GRAPH_NO_MEMORY, CHECK(size == 0));
+  CHECK(how == FACT_GRAPH_SAID);
+  return whole(graph, size);
+}
+
+static fact_graph opened(text dictionary) {
+  fact_graph graph = {NULL};
+  fact_graph_fault fault = {9, 9, 9, 9, 9};
+  uint32_t number;
+  WITH_MEMORY(number = fact_graph_open(dictionary.bytes, dictionary.size, &graph, &fault), number == FACT_GRAPH_FAULT_MEMORY,
+              CHECK(graph.at == NULL && fault.number == FACT_GRAPH_FAULT_MEMORY));
+  CHECK(number == 0 && fault.number == 0 && fault.fact == FACT_GRAPH_ABSENT && graph.at != NULL);
+  return graph;
+}
+
+static fact_graph loaded(text dictionary, text saved) {
+  fact_graph graph = {NULL};
+  fact_graph_fault fault = {0};
+  uint32_t number;
+  WITH_MEMORY(number = fact_graph_load(dictionary.bytes, dictionary.size, saved.bytes, saved.size, &graph, &fault),
+              number == FACT_GRAPH_FAULT_MEMORY, CHECK(graph.at == NULL));
+  CHECK(number == 0);
+  return graph;
+}
+
+static fact_graph carried(text dictionary, text saved, text *dropped) {
+  fact_graph graph = {NULL};
+  fact_graph_fault fault = {0};
+  size_t size = 1;
+  uint32_t number;
+  WITH_MEMORY(number = fact_graph_carry(dictionary.bytes, dictionary.size, saved.bytes, saved.size, &graph, &size, &fault),
+              number == FACT_GRAPH_FAULT_MEMORY, CHECK(graph.at == NULL && size == 0));
+  CHECK(number == 0);
+  *dropped = whole(&graph, size);
+  return graph;
+}
+
+/* ---- the parts of the test */
+
+static void refuses(void) {
+  static const char cyclic[] = "{\"version\":\"1\",\"facts\":[{\"path\":\"/a\",\"derived\":\"Int\",\"is\":[\"Dependency\",\"/a\"]}]}";
+  fact_graph graph = {NULL};
+  fact_graph_fault fault = {0};
+  CHECK(fact_graph_open((const uint8_t *)"", 0, &graph, &fault) == 2 && fault.number == 2 && graph.at == NULL);
+  CHECK(fact_graph_open((const uint8_t *)cyclic, sizeof cyclic - 1, &graph, &fault) == 14 && fault.fact == 1);
+  CHECK(fault.node == FACT_GRAPH_ABSENT && fault.what == FACT_GRAPH_ABSENT && graph.at == NULL);
+}
+
+static void refuses_saved(text dictionary) {
+  fact_graph graph = {NULL};
+  fact_graph_fault fault = {0};
+  size_t size = 1;
+  const uint8_t *bad = (const uint8_t *)"saved 1\nnext one\n";
+  CHECK(fact_graph_load(dictionary.bytes, dictionary.size, bad, 17, &graph, &fault) == FACT_GRAPH_FAULT_SAVED && fault.line == 2);
+  CHECK(fact_graph_carry(dictionary.bytes, dictionary.size, bad, 17, &graph, &size, &fault) == FACT_GRAPH_FAULT_SAVED);
+  CHECK(fault.line == 2 && size == 0 && graph.at == NULL);
+}
+
+static void refuses_long(fact_graph *graph) {
+  static uint8_t line[FACT_GRAPH_LINE_LIMIT + 1];
+  text reply;
+  memset(line, 'x', sizeof line);
+  CHECK(answer(graph, line, sizeof line, &reply) == FACT_GRAPH_SAID);
+  CHECK(reply.size == 19 && memcmp(reply.bytes, "refused 2 LongLine\n", 19) == 0);
+  free(reply.bytes);
+  CHECK(answer(graph, line, sizeof line - 1, &reply) == FACT_GRAPH_SAID);
+  CHECK(reply.size == 18 && memcmp(reply.bytes, "refused 1 BadLine\n", 18) == 0);
+  free(reply.bytes);
+}
+
+/* The lines of the script, and whether one was `quit`. */
+static int answers(fact_graph *graph, text script, FILE *out) {
+  for (size_t at = 0; at < script.size;) {
+    const uint8_t *end = memchr(script.bytes + at, '\n', script.size - at);
+    size_t size = end ? (size_t)(end - script.bytes) - at : script.size - at;
+    text reply;
+    uint32_t how = answer(graph, script.bytes + at, size, &reply);
+    if (out) fwrite(reply.bytes, 1, reply.size, out);
+    free(reply.bytes);
+    if (how == FACT_GRAPH_OVER) return 1;
+    CHECK(how == FACT_GRAPH_SAID);
+    at += size + 1;
+  }
+  return 0;
+}
+
+/* A session that goes on from the saved text has the same. */
+static void goes_on(text dictionary, text saved) {
+  fact_graph graph = loaded(dictionary, saved);
+  text again = saved_text(&graph), dropped;
+  CHECK(same(saved, again));
+  free(again.bytes);
+  fact_graph_close(graph);
+  graph = carried(dictionary, saved, &dropped);
+  if (dropped.size == 0) {
+    again = saved_text(&graph);
+    CHECK(same(saved, again));
+    free(again.bytes);
+  }
+  free(dropped.bytes);
+  fact_graph_close(graph);
+}
+
+int main(int count, char **words) {
+  CHECK(count == 3);
+  text dictionary = file(words[1]), script = file(words[2]);
+  refuses();
+  refuses_saved(dictionary);
+  fact_graph graph = opened(dictionary), other = opened(dictionary);
+  refuses_long(&other);
+  fact_graph_close(other);
+  int over = answers(&graph, script, stdout);
+  text saved = saved_text(&graph);
+  if (over) {
+    text reply;
+    CHECK(answer(&graph, (const uint8_t *)"undo", 4, &reply) == FACT_GRAPH_OVER && reply.size == 0);
+    free(reply.bytes);
+  }
+  fact_graph_close(graph);
+  goes_on(dictionary, saved);
+  free(saved.bytes);
+  free(script.bytes);
+  free(dictionary.bytes);
+  fprintf(stderr, "sessions: %ld allocations failed\n", failed);
+  return 0;
+}
