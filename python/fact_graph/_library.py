@@ -1,0 +1,71 @@
+"""The C library, by ctypes: found, loaded, and its functions with their types, as crates/fact_graph_c/fact_graph.h has them."""
+
+from __future__ import annotations
+
+import ctypes
+import functools
+import os
+from collections.abc import Callable
+from ctypes import c_char_p, c_size_t, c_uint32, c_void_p
+from pathlib import Path
+from typing import Any
+
+from .errors import LibraryMissing
+
+NAME = "libfact_graph.so"
+VARIABLE = "FACT_GRAPH_LIBRARY"
+
+ABSENT = 2**32 - 1
+FAULT_MEMORY = 15
+FAULT_SAVED = 16
+SAID = 0
+OVER = 1
+
+Call = Callable[..., int]
+
+
+class Fault(ctypes.Structure):
+    """Why no session was opened."""
+
+    _fields_ = [(name, c_uint32) for name in ("number", "fact", "node", "what", "line")]
+
+    def place(self, name: str) -> int | None:
+        """The number of this name, or None where the fault has none."""
+        number: int = getattr(self, name)
+        return None if number == ABSENT else number
+
+
+class Library:
+    """The functions of the library."""
+
+    def __init__(self, loaded: ctypes.CDLL) -> None:
+        # a session is a struct of one pointer, which goes as that pointer does; what is written to goes by its address
+        text, graph, at = (c_char_p, c_size_t), c_void_p, c_void_p
+
+        def function(name: str, gives: Any, *takes: Any) -> Any:
+            found = getattr(loaded, f"fact_graph_{name}")
+            found.argtypes, found.restype = takes, gives
+            return found
+
+        self.open: Call = function("open", c_uint32, *text, at, at)
+        self.load: Call = function("load", c_uint32, *text, *text, at, at)
+        self.carry: Call = function("carry", c_uint32, *text, *text, at, at, at)
+        self.answer: Call = function("answer", c_uint32, graph, *text, at, at)
+        self.save: Call = function("save", c_uint32, graph, at, at)
+        self.read: Call = function("read", c_size_t, graph, c_size_t, at, c_size_t, at)
+        self.close: Callable[[c_void_p], None] = function("close", None, graph)
+
+
+def place() -> str:
+    """Where the library is: as the environment says, else beside the package, else where the system finds it."""
+    beside = Path(__file__).with_name(NAME)
+    return os.environ.get(VARIABLE) or (str(beside) if beside.is_file() else NAME)
+
+
+@functools.cache
+def library() -> Library:
+    """The library, loaded at its first use."""
+    try:
+        return Library(ctypes.CDLL(place()))
+    except (OSError, AttributeError) as wrong:
+        raise LibraryMissing(f"no library of the Fact Graph at {place()}: {wrong}; set {VARIABLE} to its path") from wrong

@@ -1,0 +1,98 @@
+"""Values of facts: as Python has them, and as texts.
+
+| Type                     | In Python         |
+|--------------------------|-------------------|
+| Boolean                  | bool              |
+| Int                      | int               |
+| Dollar                   | decimal.Decimal   |
+| Rational                 | fractions.Fraction|
+| Day                      | datetime.date     |
+| Text, Enum               | str               |
+| Collection               | tuple of the members' numbers |
+| Item                     | int, the member's number |
+"""
+
+from __future__ import annotations
+
+from collections.abc import Callable
+from datetime import date, datetime
+from decimal import Context, Decimal, InvalidOperation
+from fractions import Fraction
+from typing import Literal, NamedTuple, Union, get_args
+
+Value = Union[bool, int, Decimal, Fraction, date, str, tuple[int, ...]]
+Kind = Literal["complete", "placeholder", "incomplete", "fault"]
+
+KINDS: dict[str, Kind] = {kind: kind for kind in get_args(Kind)}
+CENT = Decimal("0.01")
+OF_AMOUNTS = Context(prec=40)
+
+
+class Result(NamedTuple):
+    """What a fact comes to.
+
+    `kind` is `complete`, where the value rests on answers alone; `placeholder`, where a value stands in for an answer;
+    `incomplete`, where an answer is missing; or `fault`. `value` is None for the last two, and `fault` is `overflow` or
+    `zero-divide` for the last and else None.
+    """
+
+    kind: Kind
+    value: Value | None = None
+    fault: str | None = None
+
+
+def text_of(value: Value) -> str:
+    """The text of a value that is set or overridden. A str is a text already, whatever the type of the fact."""
+    if isinstance(value, str):
+        return value
+    if isinstance(value, bool):
+        return "true" if value else "false"
+    if isinstance(value, int):
+        return str(value)
+    if isinstance(value, Decimal):
+        return text_of_amount(value)
+    if isinstance(value, Fraction):
+        return f"{value.numerator}/{value.denominator}"
+    if isinstance(value, date) and not isinstance(value, datetime):
+        return value.isoformat()
+    raise TypeError(f"no fact has a value like {value!r}")
+
+
+def text_of_amount(value: Decimal) -> str:
+    """With two digits of cents, where that is the same amount; the session refuses others."""
+    try:
+        cents = value.quantize(CENT, context=OF_AMOUNTS)
+    except InvalidOperation:
+        return str(value)
+    return str(cents if cents == value else value)
+
+
+def _fraction(text: str) -> Fraction:
+    numerator, _, denominator = text.partition("/")
+    return Fraction(int(numerator), int(denominator))
+
+
+def _members(text: str) -> tuple[int, ...]:
+    return tuple(int(member[1:]) for member in text[1:-1].split())
+
+
+def _is_true(text: str) -> bool:
+    return text == "true"
+
+
+def _member(text: str) -> int:
+    return int(text[1:])
+
+
+READERS: dict[str, Callable[[str], Value]] = {
+    "Boolean": _is_true,
+    "Int": int,
+    "Dollar": Decimal,
+    "Rational": _fraction,
+    "Day": date.fromisoformat,
+    "Text": str,
+    "Enum": str,
+    "Collection": _members,
+    "Item": _member,
+}
+"""By the name of a type, what reads the texts that a session prints of its values."""
