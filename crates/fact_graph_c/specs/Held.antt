@@ -3,11 +3,12 @@ use Rattle.std.specs.Prelude.{Option, Some, None}
 use base.Fml.{Fml, ftrue}
 use denote.RawPtr.{Ptr}
 use Rattle.std_alloc.specs.Box.Ownership.{box_owns}
-use Rattle.libc.specs.Heap.{chunk}
+use Rattle.std_heap.specs.declared.Global.{Global}
+use Rattle.std_heap.specs.contracts.GlobalAllocator.TheImpl as heap
 use Rattle.fact_graph_c.specs.declared.engine.Engine.{Engine}
 use Rattle.fact_graph_c.specs.contracts.engine.Engine as engine
 
 -- nothing, or an engine in its box
-abbrev pub held : Ptr → Option Engine → Fml
-held at None = ftrue
-held at (Some e) = box_owns (λ t p. chunk t p) engine.the_row at e
+abbrev pub held : Global → Ptr → Option Engine → Fml
+held alloc at None = ftrue
+held alloc at (Some e) = box_owns (heap.ghosts.dealloc_token alloc) engine.the_row at e

@@ -18,10 +18,10 @@ pub struct Handle {
 
 impl Model for Handle {
     ghost use Rattle.std_alloc.specs.Box.Ownership.{box_owns};
-    ghost use Rattle.libc.specs.Heap.{chunk};
+    ghost use Rattle.std_heap.specs.contracts.GlobalAllocator.TheImpl as heap;
     ghost use Rattle.fact_graph_c.specs.contracts.engine.Engine as inner;
 
-    ghost also_owns = { λ h. box_owns (λ t p. chunk t p) inner.the_row h.at h.value };
+    ghost also_owns = { λ h. box_owns (heap.ghosts.dealloc_token h.alloc) inner.the_row h.at h.value };
 }
 
 impl Handle {

@@ -21,7 +21,7 @@ pub struct Place {
 impl Model for Place {
     ghost use Rattle.fact_graph_c.specs.Held.{held};
 
-    ghost also_owns = { λ p. held p.at p.value };
+    ghost also_owns = { λ p. held p.alloc p.at p.value };
 }
 
 impl Place {
