@@ -24,7 +24,7 @@ use Rattle.session_lines.specs.Answering.{standing_of}
 use Rattle.session_lines.specs.Stepping.{Standing, State, Step, open_at, replies, state_after, step, step_answered, step_command, step_heard}
 use Rattle.fact_graph_c.specs.Answering.{Stays, TakesStep, line_given, rules_of, said, state_of}
 use Rattle.fact_graph_c.specs.Sound.{IsSound}
-use Rattle.fact_graph_c.specs.Tables.{standard_relations}
+use Rattle.session_lines.specs.Tables.{standard_relations}
 use Rattle.fact_graph_c.specs.declared.engine.Engine.{Engine}
 use Rattle.fact_graph_c.specs.declared.text.Text.{Text}
 use Rattle.fact_graph_c.proofs.RoomLaws.{fills_still}

@@ -31,7 +31,7 @@ use Rattle.session_lines.specs.Stepping.{Standing, State, Step, fired, open_at, 
 use Rattle.session_lines.proofs.FiringLaws.{said_stands}
 use Rattle.session_lines.proofs.PrintLaws.{stands_with}
 use Rattle.fact_graph_c.specs.Room.{room}
-use Rattle.fact_graph_c.specs.Tables.{standard_relations}
+use Rattle.session_lines.specs.Tables.{standard_relations}
 
 standard_short : (place : ℕ) → length (name_at standard_relations place) ≤ 9
 standard_short zero = omega arith

@@ -4,7 +4,7 @@ use Rattle.script_lines.specs.Lines.{ScriptLine, whole, long}
 use Rattle.graph_session.specs.Rules.{Rules, rules}
 use Rattle.session_lines.specs.Answering.{standing_of}
 use Rattle.session_lines.specs.Stepping.{State, step}
-use Rattle.fact_graph_c.specs.Tables.{standard_relations}
+use Rattle.session_lines.specs.Tables.{standard_relations}
 use Rattle.fact_graph_c.specs.declared.engine.Engine.{Engine}
 use Rattle.fact_graph_c.specs.declared.outcome.Outcome.{Outcome}
 use Rattle.fact_graph_c.specs.declared.outcome.Outcome.TheVariants.{Said, Over, NoMemory}

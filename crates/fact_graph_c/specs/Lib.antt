@@ -8,4 +8,3 @@ pub mod Outcomes
 pub mod Room
 pub mod Saving
 pub mod Sound
-pub mod Tables

@@ -3,21 +3,19 @@ ghost use Rattle.std.specs.Prelude.{◌≡◌, ◌+◌, ◌-◌, ◌<◌, ◌≤
 ghost use Rattle.script_lines.specs.Lines.{ready_lines};
 ghost use Rattle.fact_graph_c.specs.Answering.{Answers, line_given, said};
 ghost use Rattle.fact_graph_c.specs.Sound.{IsSound};
-ghost use Rattle.fact_graph_c.specs.Tables.{standard_checks, standard_relations};
+ghost use Rattle.session_lines.specs.Tables.{standard_checks, standard_relations};
 
 use crate::asking::{answer_get, asked_path};
 use crate::engine::Engine;
 use crate::outcome::Outcome;
-use crate::tables::{add_check, add_relation, standard_checks};
-use fact_watch::{WatchTable, changed, completed, lost, raised};
+use fact_watch::WatchTable;
 use script_lines::Ready;
-use session_lines::{Progress, answer_ready};
+use session_lines::{Progress, answer_ready, standard_checks, standard_relations};
 use std::alloc::{AllocError, Global};
 use std::marker::Brand;
 use std::sync::ledger::{Blank, Ledger};
 use steps::Steps;
-use text_checks::{CheckTable, digits, nine_digits, printable_ascii, trimmed};
-use three_state::Res;
+use text_checks::CheckTable;
 
 /// The most bytes of a line.
 const LINE: usize = 4_096;
@@ -160,14 +158,7 @@ fn try_answer_by(
     ensures unchanged { OnErr result (engine.new ≡ engine.old) }
 {
     let mut relations = WatchTable::new(alloc);
-    let says = Box::new(alloc, |old: &Res, new: &Res| changed(old, new))?;
-    add_relation(alloc, &mut relations, "changed", 1, says)?;
-    let says = Box::new(alloc, |old: &Res, new: &Res| completed(old, new))?;
-    add_relation(alloc, &mut relations, "completed", 2, says)?;
-    let says = Box::new(alloc, |old: &Res, new: &Res| lost(old, new))?;
-    add_relation(alloc, &mut relations, "lost", 3, says)?;
-    let says = Box::new(alloc, |old: &Res, new: &Res| raised(old, new))?;
-    add_relation(alloc, &mut relations, "raised", 4, says)?;
+    standard_relations!(alloc, relations);
     Ok(answer_by(alloc, engine, checks, &relations, line))
 }
 

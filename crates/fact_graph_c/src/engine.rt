@@ -1,6 +1,6 @@
 // What stands behind a handle.
 ghost use Rattle.std.specs.Prelude.{◌≡◌};
-ghost use Rattle.fact_graph_c.specs.Tables.{standard_checks};
+ghost use Rattle.session_lines.specs.Tables.{standard_checks};
 
 use crate::text::Text;
 use fact_watch::Watches;

@@ -14,5 +14,4 @@ mod opening;
 mod outcome;
 mod place;
 mod saving;
-mod tables;
 mod text;

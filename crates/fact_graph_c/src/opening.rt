@@ -12,12 +12,11 @@ ghost use Rattle.save_file.specs.Loading.{IsSavedText};
 ghost use Rattle.fact_watch.specs.Watching.{nothing_watched};
 ghost use Rattle.fact_graph_c.specs.Answering.{said};
 ghost use Rattle.fact_graph_c.specs.Openings.{Accepts, Carries, CarriesOver, IsBegun, IsFaultOfText, Loads, LoadsOver, NotCarried, NotLoaded, NotOpened, Opens, RefusesOver, saved_limit};
-ghost use Rattle.fact_graph_c.specs.Tables.{standard_checks};
+ghost use Rattle.session_lines.specs.Tables.{standard_checks};
 ghost use Rattle.fact_graph_c.specs.declared.fault.NotBegun.TheVariants.{Dictionary as OfDictionary};
 
 use crate::engine::Engine;
 use crate::fault::NotBegun;
-use crate::tables::{add_check, standard_checks};
 use crate::text::Text;
 use answers::Answers;
 use dictionary::{DictFault, Dictionary, accept};
@@ -27,8 +26,9 @@ use fg_io::Failed;
 use graph_session::Session;
 use recalc::Recalc;
 use save_file::{Carried, LoadFault, carry, load, put_dropped};
+use session_lines::standard_checks;
 use std::alloc::{AllocError, Global};
-use text_checks::{CheckTable, digits, nine_digits, printable_ascii, trimmed};
+use text_checks::CheckTable;
 
 /// The most bytes of a saved text.
 const SAVED_LIMIT: usize = 67_108_864;

@@ -84,17 +84,21 @@ fn numbers_and_amounts_have_their_order(rt: HostRuntime) {
     assert!(rt; Whole::new(-5) < Whole::new(3) && Dollar::new(150) > Dollar::new(15));
 }
 
-// Each of these says whether a value is made of what is given, and gives it back: none where memory is wanting.
-fn is_text(made: Option<Text>, wanted: &str) -> bool {
+// Each of these says whether a value is made of what is given: none where another one is made, or where memory is wanting.
+fn is_text(made: Option<Text>, wanted: &str) -> Option<bool> {
     match made {
-        Some(made) => made.as_str() == wanted,
-        None => false,
+        Some(made) => same_or_none(made.as_str() == wanted),
+        None => Some(false),
     }
+}
+
+fn same_or_none(is_same: bool) -> Option<bool> {
+    if is_same { Some(true) } else { None }
 }
 
 fn makes_text(alloc: Global, of: &str) -> Option<bool> {
     match String::from_str(alloc, of) {
-        Ok(text) => Some(is_text(Text::new(text), of)),
+        Ok(text) => is_text(Text::new(text), of),
         Err(_) => None,
     }
 }
@@ -128,16 +132,16 @@ fn texts_have_1000_bytes_at_most(rt: HostRuntime) {
     assert!(rt; has_1000_bytes_at_most(rt.alloc()));
 }
 
-fn are_members(made: Option<Members>, wanted: &[u32]) -> bool {
+fn are_members(made: Option<Members>, wanted: &[u32]) -> Option<bool> {
     match made {
-        Some(made) => made.as_slice() == wanted,
-        None => false,
+        Some(made) => same_or_none(made.as_slice() == wanted),
+        None => Some(false),
     }
 }
 
 fn makes_members(alloc: Global, numbers: &[u32]) -> Option<bool> {
     match numbers.to_vec(alloc) {
-        Ok(list) => Some(are_members(Members::new(list), numbers)),
+        Ok(list) => are_members(Members::new(list), numbers),
         Err(_) => None,
     }
 }

@@ -1,4 +1,3 @@
-pub mod Tables
 pub mod Codes
 pub mod Words
 pub mod Beginnings

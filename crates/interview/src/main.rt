@@ -2,10 +2,8 @@
 #![tactic(auto)]
 
 ghost use Rattle.std.specs.Prelude.{◌≡◌, ℕ, ◌+◌, ◌-◌, ◌≤◌, ◌<◌, ◌^◌, Bool, List, [], ◌∷◌, ◌++◌, ◌⊎◌, IfOk, OnErr, OnOk, length, map};
-ghost use Rattle.text_checks.specs.Checks.{IsCode, check_says};
 ghost use Rattle.std.specs.Process.{exit_status};
-ghost use Rattle.fact_watch.specs.Says.{watch_says, IsCode as IsRelation};
-ghost use Rattle.interview.specs.Tables.{standard_checks, standard_relations};
+ghost use Rattle.session_lines.specs.Tables.{standard_checks, standard_relations};
 ghost use Rattle.interview.specs.Codes.{code_of};
 
 mod alone;
@@ -29,16 +27,15 @@ mod talk;
 mod top;
 mod words;
 
-use fact_paths::Name;
-use fact_watch::{Says, WatchTable, changed, completed, lost, raised};
+use fact_watch::WatchTable;
 use fg_io::{FolderShelf, StdinSource, StdoutSink};
+use session_lines::{standard_checks, standard_relations};
 pub use status::Status;
 use std::alloc::{AllocError, Global};
 use std::io::ErrorKind;
 use std::process::ExitCode;
 use std::{env, io};
-use text_checks::{CheckTable, Test, digits, nine_digits, printable_ascii, trimmed};
-use three_state::Res;
+use text_checks::CheckTable;
 pub use top::interview;
 
 /// The exit status where the words of the command line can't be had.
@@ -51,64 +48,6 @@ fn given_words(rt: &HostRuntime) -> io::Result<Vec<String>> {
         words.push(word)?;
     }
     Ok(words)
-}
-
-// Adds a check under another name than those that are there, so that nothing but want of memory hinders it.
-fn add_check(
-    alloc: Global,
-    checks: &mut CheckTable,
-    name: &str,
-    code: u32,
-    check: Test,
-) -> Result<(), AllocError>
-    requires room { length checks.old.checks.items < 2 ^ 32 - 1 }
-    requires code { IsCode code }
-    requires callable { (text : _) → length text.now ≤ 1000 → Test.pre check text }
-    requires says { (text : _) (answer : Bool) → length text.now ≤ 1000
-        → Test.post check text answer → answer ≡ check_says code text.now }
-    ensures added { OnOk result
-        (map {B = List ℕ × ℕ} (λ c. (c.name, c.code)) checks.new.checks.items
-        ≡ map {B = List ℕ × ℕ} (λ c. (c.name, c.code)) checks.old.checks.items
-        ++ (name.now, code) ∷ []) }
-    ensures count { OnOk result
-        (length checks.new.checks.items ≡ length checks.old.checks.items + 1) }
-{
-    let Ok(name) = Name::read(alloc, name) else {
-        return Err(AllocError);
-    };
-    match checks.add(name, code, check) {
-        Ok(()) => Ok(()),
-        Err(_) => Err(AllocError),
-    }
-}
-
-// Adds a relation under another name than those that are there, so that nothing but want of memory hinders it.
-fn add_relation(
-    alloc: Global,
-    table: &mut WatchTable,
-    name: &str,
-    code: u32,
-    says: Says,
-) -> Result<(), AllocError>
-    requires room { length table.old.relations.items < 2 ^ 32 - 1 }
-    requires code { IsRelation code }
-    requires callable { (old : _) (new : _) → Says.pre says old new }
-    requires says { (old : _) (new : _) (answer : Bool) → Says.post says old new answer
-        → answer ≡ watch_says code old.now new.now }
-    ensures added { OnOk result
-        (map {B = List ℕ × ℕ} (λ r. (r.name, r.code)) table.new.relations.items
-        ≡ map {B = List ℕ × ℕ} (λ r. (r.name, r.code)) table.old.relations.items
-        ++ (name.now, code) ∷ []) }
-    ensures count { OnOk result
-        (length table.new.relations.items ≡ length table.old.relations.items + 1) }
-{
-    let Ok(name) = Name::read(alloc, name) else {
-        return Err(AllocError);
-    };
-    match table.add(name, code, says) {
-        Ok(()) => Ok(()),
-        Err(_) => Err(AllocError),
-    }
 }
 
 // Runs the program over the words, the current folder and the standard streams. A dictionary may name the four checks,
@@ -150,34 +89,7 @@ fn run_checked(
         ≡ standard_checks }
 {
     let mut table = WatchTable::new(alloc);
-    let says = Box::new(
-        alloc,
-        |old: &Res, new: &Res| -> bool
-            ensures { result ≡ watch_says 1 old.now new.now }
-        { changed(old, new) },
-    )?;
-    add_relation(alloc, &mut table, "changed", 1, says)?;
-    let says = Box::new(
-        alloc,
-        |old: &Res, new: &Res| -> bool
-            ensures { result ≡ watch_says 2 old.now new.now }
-        { completed(old, new) },
-    )?;
-    add_relation(alloc, &mut table, "completed", 2, says)?;
-    let says = Box::new(
-        alloc,
-        |old: &Res, new: &Res| -> bool
-            ensures { result ≡ watch_says 3 old.now new.now }
-        { lost(old, new) },
-    )?;
-    add_relation(alloc, &mut table, "lost", 3, says)?;
-    let says = Box::new(
-        alloc,
-        |old: &Res, new: &Res| -> bool
-            ensures { result ≡ watch_says 4 old.now new.now }
-        { raised(old, new) },
-    )?;
-    add_relation(alloc, &mut table, "raised", 4, says)?;
+    standard_relations!(alloc, table);
     Ok(run_with(rt, alloc, words, checks, &table))
 }
 
@@ -186,34 +98,7 @@ fn run(rt: HostRuntime) -> io::Result<Status> {
     let alloc = rt.alloc();
     let words = given_words(&rt)?;
     let mut checks = CheckTable::new(alloc);
-    let check = Box::new(
-        alloc,
-        |text: &str| -> bool
-            ensures { result ≡ check_says 1 text.now }
-        { digits(text) },
-    )?;
-    add_check(alloc, &mut checks, "digits", 1, check)?;
-    let check = Box::new(
-        alloc,
-        |text: &str| -> bool
-            ensures { result ≡ check_says 2 text.now }
-        { nine_digits(text) },
-    )?;
-    add_check(alloc, &mut checks, "nine-digits", 2, check)?;
-    let check = Box::new(
-        alloc,
-        |text: &str| -> bool
-            ensures { result ≡ check_says 3 text.now }
-        { printable_ascii(text) },
-    )?;
-    add_check(alloc, &mut checks, "printable-ascii", 3, check)?;
-    let check = Box::new(
-        alloc,
-        |text: &str| -> bool
-            ensures { result ≡ check_says 4 text.now }
-        { trimmed(text) },
-    )?;
-    add_check(alloc, &mut checks, "trimmed", 4, check)?;
+    standard_checks!(alloc, checks);
     Ok(run_checked(rt, alloc, &words, &checks)?)
 }
 

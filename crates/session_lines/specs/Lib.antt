@@ -4,3 +4,4 @@ pub mod Stepping
 pub mod Steps
 pub mod Laws
 pub mod Answering
+pub mod Tables

@@ -10,6 +10,7 @@ mod listing;
 mod numbered;
 mod progress;
 mod reply;
+mod tables;
 mod watching;
 mod writing;
 
@@ -18,4 +19,5 @@ pub use laws::{final_lines_stay, undo_restores};
 pub use numbered::print_numbered;
 pub use progress::Progress;
 pub use reply::{print_refusal, print_reply};
+pub use tables::{add_check, add_relation};
 pub use writing::{as_progress, write_text};

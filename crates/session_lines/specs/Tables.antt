@@ -1,4 +1,4 @@
--- What the program brings with it: the checks of texts that a dictionary may name, and the relations by which a slot may be
+-- What a host brings with it: the checks of texts that a dictionary may name, and the relations by which a slot may be
 -- watched. Each has a name and a code.
 use Rattle.std.specs.Prelude.{List, [], ◌∷◌, codes}
 use Rattle.dictionary.specs.Accepted.{Named}

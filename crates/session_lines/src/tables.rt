@@ -1,5 +1,5 @@
-// The checks that a dictionary may name, and the relations by which a slot may be watched. A function makes them for itself,
-// since none may hand them out.
+// The checks that a dictionary may name, and the relations by which a slot may be watched. A host's function makes them for
+// itself, by the macros here, since none may hand out closures that it makes.
 ghost use Rattle.std.specs.Prelude.{◌≡◌, ℕ, ◌+◌, ◌-◌, ◌<◌, ◌≤◌, ◌^◌, Bool, List, [], ◌∷◌, ◌++◌, OnOk, length, map};
 ghost use Rattle.text_checks.specs.Checks.{IsCode, check_says};
 ghost use Rattle.fact_watch.specs.Says.{IsCode as IsRelation, watch_says};
@@ -68,17 +68,31 @@ pub fn add_relation(
 }
 
 /// Adds the four checks to an empty table, in a function that may answer `AllocError`.
+#[macro_export]
 macro_rules! standard_checks {
     ($alloc:expr, $checks:ident) => {
-        let check = Box::new($alloc, |text: &str| digits(text))?;
-        add_check($alloc, &mut $checks, "digits", 1, check)?;
-        let check = Box::new($alloc, |text: &str| nine_digits(text))?;
-        add_check($alloc, &mut $checks, "nine-digits", 2, check)?;
-        let check = Box::new($alloc, |text: &str| printable_ascii(text))?;
-        add_check($alloc, &mut $checks, "printable-ascii", 3, check)?;
-        let check = Box::new($alloc, |text: &str| trimmed(text))?;
-        add_check($alloc, &mut $checks, "trimmed", 4, check)?;
+        let check = Box::new($alloc, |text: &str| text_checks::digits(text))?;
+        $crate::add_check($alloc, &mut $checks, "digits", 1, check)?;
+        let check = Box::new($alloc, |text: &str| text_checks::nine_digits(text))?;
+        $crate::add_check($alloc, &mut $checks, "nine-digits", 2, check)?;
+        let check = Box::new($alloc, |text: &str| text_checks::printable_ascii(text))?;
+        $crate::add_check($alloc, &mut $checks, "printable-ascii", 3, check)?;
+        let check = Box::new($alloc, |text: &str| text_checks::trimmed(text))?;
+        $crate::add_check($alloc, &mut $checks, "trimmed", 4, check)?;
     };
 }
 
-pub(crate) use standard_checks;
+/// Adds the four relations to an empty table, in a function that may answer `AllocError`.
+#[macro_export]
+macro_rules! standard_relations {
+    ($alloc:expr, $relations:ident) => {
+        let says = Box::new($alloc, |old: &three_state::Res, new: &three_state::Res| fact_watch::changed(old, new))?;
+        $crate::add_relation($alloc, &mut $relations, "changed", 1, says)?;
+        let says = Box::new($alloc, |old: &three_state::Res, new: &three_state::Res| fact_watch::completed(old, new))?;
+        $crate::add_relation($alloc, &mut $relations, "completed", 2, says)?;
+        let says = Box::new($alloc, |old: &three_state::Res, new: &three_state::Res| fact_watch::lost(old, new))?;
+        $crate::add_relation($alloc, &mut $relations, "lost", 3, says)?;
+        let says = Box::new($alloc, |old: &three_state::Res, new: &three_state::Res| fact_watch::raised(old, new))?;
+        $crate::add_relation($alloc, &mut $relations, "raised", 4, says)?;
+    };
+}
