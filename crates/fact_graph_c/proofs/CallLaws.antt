@@ -1,5 +1,5 @@
 -- What C is told of a session that is begun, or isn't.
-use Rattle.std.proofs.Common.{◌≡◌, ℕ, Some, Result, Ok, Err, IfErr, IfOk, inl, inr}
+use Rattle.std.proofs.Common.{◌≡◌, Some, Result, Ok, Err, IfErr, IfOk, inl, inr}
 use Rattle.fact_graph_c.specs.Calls.{BeginsCall}
 use Rattle.fact_graph_c.specs.Faults.{fault_numbers, plain}
 use Rattle.fact_graph_c.proofs.OpeningLaws.{Boxed}

@@ -1,15 +1,14 @@
 -- How sessions are begun, and why they aren't.
-use Rattle.std.proofs.Common.{Box, ◌≡◌, ℕ, true, false, List, [], Result, Ok, Err, IfErr, IfOk, refl, sym, ap, subst, ◌∙◌}
+use Rattle.std.proofs.Common.{Box, ◌≡◌, ℕ, true, false, List, [], Result, Ok, Err, IfErr, IfOk, refl, sym, ap, subst}
 use Rattle.std.specs.declared.alloc.Global.{Global}
 use Rattle.answers.specs.Answered.{Answered, start}
-use Rattle.dictionary.specs.Accepted.{Kept, accepted, names_of}
+use Rattle.dictionary.specs.Accepted.{Kept, names_of}
 use Rattle.dictionary.specs.Faults.{IsFault, Refuses}
 use Rattle.dictionary.specs.Fits.{AnswersFit}
-use Rattle.dictionary.specs.declared.fault.DictFault.{DictFault}
 use Rattle.dictionary.specs.declared.fault.DictFault.TheVariants.{NoMemory}
 use Rattle.graph_session.specs.Rules.{Rules, rules, tree_of}
 use Rattle.graph_session.specs.SessionView.{SessionView, course, start_at}
-use Rattle.fact_watch.specs.Watching.{Watching, nothing_watched}
+use Rattle.fact_watch.specs.Watching.{nothing_watched}
 use Rattle.save_file.specs.Carrying.{IsCarry}
 use Rattle.save_file.specs.Dropped.{dropped_text}
 use Rattle.save_file.specs.SavedText.{saved}

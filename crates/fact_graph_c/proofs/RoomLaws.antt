@@ -1,5 +1,5 @@
 -- A step whose text needs more memory than a session keeps changes nothing.
-use Rattle.std.proofs.Common.{◌≡◌, ℕ, ◌+◌, ◌*◌, ◌<◌, ◌≤◌, zero, suc, Bool, true, false, cond, if◌then◌else◌, List, [], ◌∷◌, ◌++◌, length, map, Option, Some, None, refl, sym, ap, subst, ◌∙◌, arith, length-append}
+use Rattle.std.proofs.Common.{◌≡◌, ℕ, ◌*◌, ◌≤◌, zero, suc, Bool, true, false, cond, if◌then◌else◌, List, [], ◌∷◌, ◌++◌, length, map, Option, Some, None, refl, sym, ap, subst, ◌∙◌, arith, length-append}
 use Rattle.std.specs.Prelude.{Result, Ok, Err, codes}
 use Rattle.std.proofs.lemmas.Fmt.{length-decimal-le}
 use Rattle.script_lines.specs.Joined.{joined}
@@ -27,7 +27,7 @@ use Rattle.fact_watch.specs.Watching.{Pair, code_at, without}
 use Rattle.fact_watch.specs.declared.commands.WatchRefusal.{WatchRefusal}
 use Rattle.session_lines.specs.Firing.{firing, firing_lines, name_at, watch_line}
 use Rattle.session_lines.specs.Replies.{bad_line_text, line_with, long_line_text, refusal_text, reply_text, watch_refusal_text}
-use Rattle.session_lines.specs.Stepping.{Standing, State, Step, fired, open_at, place_in, put_watch, cut_watch, said, step, step_answered, step_command, step_heard, step_line, step_writing, missing_answer, watch_decided}
+use Rattle.session_lines.specs.Stepping.{Standing, State, Step, fired, open_at, place_in, put_watch, cut_watch, said, step, step_answered, step_command, step_heard, step_writing, missing_answer, watch_decided}
 use Rattle.session_lines.proofs.FiringLaws.{said_stands}
 use Rattle.session_lines.proofs.PrintLaws.{stands_with}
 use Rattle.fact_graph_c.specs.Room.{room}

@@ -1,5 +1,5 @@
 -- What C is told.
-use Rattle.std.specs.Prelude.{◌≡◌, ◌⊎◌, ℕ, List, length, min, take, drop, ◌++◌, Option, Some}
+use Rattle.std.specs.Prelude.{◌≡◌, ◌⊎◌, ℕ, List, length, Option, Some}
 use Rattle.fact_graph_c.specs.Answering.{Answers, said}
 use Rattle.fact_graph_c.specs.Faults.{fault_numbers, plain}
 use Rattle.fact_graph_c.specs.Outcomes.{outcome_number}

@@ -1,7 +1,7 @@
 -- How a session is begun, and why it isn't.
 use Rattle.std.specs.Prelude.{◌≡◌, ◌⊎◌, ℕ, ◌<◌, ◌≤◌, true, List, [], length}
 use Rattle.answers.specs.Answered.{Answered, start}
-use Rattle.dictionary.specs.Accepted.{Accepted, accepted, names_of}
+use Rattle.dictionary.specs.Accepted.{names_of}
 use Rattle.dictionary.specs.Faults.{AreAccepted, IsFault, Refuses}
 use Rattle.dictionary.specs.Fits.{AnswersFit}
 use Rattle.dictionary.specs.declared.fault.DictFault.TheVariants.{NoMemory}

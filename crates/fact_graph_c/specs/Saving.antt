@@ -2,7 +2,7 @@
 use Rattle.std.specs.Prelude.{◌≡◌, List, ℕ, []}
 use Rattle.graph_session.specs.Rules.{tree_of}
 use Rattle.save_file.specs.SavedText.{saved}
-use Rattle.fact_graph_c.specs.Answering.{rules_of, said, state_of}
+use Rattle.fact_graph_c.specs.Answering.{rules_of, said}
 use Rattle.fact_graph_c.specs.declared.engine.Engine.{Engine}
 use Rattle.fact_graph_c.specs.declared.outcome.Outcome.{Outcome}
 use Rattle.fact_graph_c.specs.declared.outcome.Outcome.TheVariants.{Said, Over, NoMemory}

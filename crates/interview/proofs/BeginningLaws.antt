@@ -9,7 +9,7 @@ use Rattle.graph_session.specs.Rules.{Rules, tree_of}
 use Rattle.save_file.specs.CarriedText.{CarriedText, IsCarriedText}
 use Rattle.save_file.specs.Carrying.{IsCarryOf, dropped_numbers}
 use Rattle.save_file.specs.Dropped.{dropped_text}
-use Rattle.save_file.specs.Loading.{IsRefusedAt, IsSavedText}
+use Rattle.save_file.specs.Loading.{IsSavedText}
 use Rattle.save_file.proofs.CarryLaws.{one_carry, one_text}
 use Rattle.save_file.proofs.RefusedLaws.{refused_at_one}
 use Rattle.save_file.proofs.SameTexts.{one_saved}

@@ -1,4 +1,4 @@
-use Rattle.std.proofs.Common.{List, [], ◌∷◌, sym, ap, arith}
+use Rattle.std.proofs.Common.{[], ◌∷◌, sym, ap, arith}
 use Rattle.script_lines.specs.Lines.{ScriptLine}
 use Rattle.fact_graph_c.proofs.AnsweringLaws.{given_long, given_whole}
 use Rattle.fact_graph_c.proofs.answering.readied.Goals as goal

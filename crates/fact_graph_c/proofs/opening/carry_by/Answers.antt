@@ -1,6 +1,4 @@
-use Rattle.graph_session.specs.Rules.{tree_of}
 use Rattle.save_file.specs.CarriedText.{IsCarriedText}
-use Rattle.save_file.specs.Loading.{IsSavedText}
 use Rattle.fact_graph_c.specs.Openings.{CarriesOver}
 use Rattle.fact_graph_c.proofs.OpeningLaws.{not_resumed, resumes}
 use Rattle.fact_graph_c.proofs.opening.carry_by.Goals as goal

@@ -1,4 +1,4 @@
-use Rattle.std.proofs.Common.{◌≡◌, List, ℕ, ◌++◌, Some, refl, ap, ◌∙◌}
+use Rattle.std.proofs.Common.{◌≡◌, List, ℕ, ◌++◌, refl, ap, ◌∙◌}
 use Rattle.fg_io.proofs.SentLaws.{sent_whole}
 use Rattle.answers.specs.Meaning.{answered}
 use Rattle.dictionary.specs.Accepted.{accepted}

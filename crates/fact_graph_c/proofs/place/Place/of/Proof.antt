@@ -21,7 +21,6 @@ use denote.Triple.Walked.{Stays, stay_dropped, walk_of}
 use Rattle.core.proofs.alloc.Calls.{Goes-blank}
 use Rattle.std.proofs.raw_atomic.Walks.{proved_at, leaves}
 use Rattle.fact_graph_c.proofs.Values.{both, Loose, gR, gZ, loose_good, loose_out, place_in}
-use Rattle.fact_graph_c.specs.contracts.place.Place as place
 use Rattle.fact_graph_c.specs.contracts.engine.Engine as inner
 use Rattle.std_heap.specs.contracts.Global as global
 use Rattle.std_heap.proofs.Global.TheLaws as globals
