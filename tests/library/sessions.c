@@ -5,19 +5,7 @@
  * Prints the replies to the script. Each reply is read in pieces of every size up to 9 bytes, and in one piece. Where it is
  * compiled with FAILING, each allocation of each call fails in turn before the call is made once more, and the replies have to be
  * the same: a session is as before after want of memory. Exits with 1 where anything isn't as the header says. */
-#include "fact_graph.h"
-
-#include <stdio.h>
-#include <stdlib.h>
-#include <string.h>
-
-#define CHECK(condition)                                                     \
-  do {                                                                       \
-    if (!(condition)) {                                                      \
-      fprintf(stderr, "%s:%d: not so: %s\n", __FILE__, __LINE__, #condition); \
-      exit(1);                                                               \
-    }                                                                        \
-  } while (0)
+#include "host.h"
 
 /* ---- allocations that fail */
 
@@ -56,23 +44,6 @@ void *realloc(void *at, size_t size) { return fails() ? NULL : __libc_realloc(at
 #endif
 
 /* ---- texts */
-
-typedef struct {
-  uint8_t *bytes;
-  size_t size;
-} text;
-
-static text file(const char *name) {
-  text t = {malloc(1), 0};
-  FILE *in = fopen(name, "rb");
-  CHECK(in != NULL);
-  for (int byte; (byte = getc(in)) != EOF; t.size += 1) {
-    t.bytes = realloc(t.bytes, t.size + 1);
-    t.bytes[t.size] = (uint8_t)byte;
-  }
-  fclose(in);
-  return t;
-}
 
 /* The session's text, in pieces of this size. */
 static text in_pieces(fact_graph *graph, size_t size, size_t piece) {
