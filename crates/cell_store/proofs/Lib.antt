@@ -1,2 +1,3 @@
+pub mod GlobalLaws
 pub mod PlaceLaws
 pub mod SlotLaws

@@ -78,7 +78,7 @@ same_keys k l h =
     let m : k.1 ≡ l.1 = same_number _ _ (second_so (nat_eq k.0 l.0) (nat_eq k.1 l.1) h) in
     ap (λ f. key f k.1) f ∙ ap (key l.0) m
 
-equal_keys : (k l : Key) → k ≡ l → same_key k l ≡ true
+pub equal_keys : (k l : Key) → k ≡ l → same_key k l ≡ true
 equal_keys k l e = ap (same_key k) (sym e) ∙ (λ i. equal_number k.0 i && equal_number k.1 i)
 
 other_place : {places : Key → Option ℕ} {cells : ℕ → Option Cell} {k : Key} {p : ℕ} → ArePlaced places cells → places k ≡ Some p → (q : Key) → same_key k q ≡ false → places q ≡ Some p → ⊥

@@ -1,4 +1,5 @@
 pub mod Contents
+pub mod Globals
 pub mod Laws
 pub mod Places
 pub mod SlotOrder

@@ -1,4 +1,4 @@
--- How a store keeps its cells: each in a place of its own, which is found by the slot's fact and member.
+-- How cells are kept in places: each in one of its own, which is found by the slot's fact and member.
 use Rattle.std.specs.Prelude.{◌≡◌, ◌≤◌, ℕ, ◌&&◌, Bool, nat_eq, List, [], ◌∷◌, Option, Some, None, IsSome}
 use Rattle.std.specs.HashMap.{get, spare}
 use Rattle.std.specs.FinMap as map
@@ -6,7 +6,7 @@ use Rattle.slab.specs.Slab.{Slab, get as cell_in, HasRoomFor}
 use Rattle.fact_values.specs.declared.slot.Slot.{Slot}
 use Rattle.cell_store.specs.Contents.{Cells, Contents}
 use Rattle.cell_store.specs.declared.cell.Cell.{Cell}
-use Rattle.cell_store.specs.declared.store.Store.TheInside.{Inside}
+use Rattle.cell_store.specs.declared.placed.Placed.TheInside.{Inside}
 
 -- a slot's fact and its member
 abbrev pub Key : Type 0

@@ -3,6 +3,7 @@
 
 mod cell;
 pub mod laws;
+mod placed;
 mod store;
 
 pub use cell::Cell;

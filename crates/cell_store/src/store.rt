@@ -1,14 +1,14 @@
-// The cells of slots, and the room for new ones.
-ghost use Rattle.std.specs.Prelude.{◌≡◌, ◌-◌, ◌<◌, ◌≤◌, None, max, is_some, if◌then◌else◌, option_map, option_copied, OnErr, OnOk, IsOk};
+// The cells of slots: those of global facts by the facts' numbers, and all others in places.
+ghost use Rattle.std.specs.Prelude.{◌≡◌, ◌-◌, ◌<◌, ◌≤◌, ℕ, None, max, is_some, if◌then◌else◌, option_map, option_copied, slice_index_or, IfOk, OnErr, OnOk, IsOk};
 ghost use Rattle.std.specs.FinMap as map;
 ghost use Rattle.cell_store.specs.Contents.{no_cells};
+ghost use Rattle.cell_store.specs.Globals.{is_global};
 ghost use Rattle.cell_store.specs.declared.cell.Cell.{Cell};
 
 use crate::cell::Cell;
+use crate::placed::Placed;
 use fact_values::{NoMemory, Slot};
-use slab::Slab;
 use std::alloc::Global;
-use std::collections::HashMap;
 use std::marker::Model;
 use std::mem;
 use three_state::Res;
@@ -17,37 +17,38 @@ use three_state::Res;
 /// beside it for how many new slots there is room.
 #[derive(Drop)]
 pub struct Store {
-    /// The place of each slot's cell, by its fact and its member.
-    places: HashMap<(u32, u32), usize>,
-    cells: Slab<Cell>,
-    room: u32,
+    /// The cells of global facts, by the facts' numbers.
+    globals: Vec<Option<Cell>>,
+    /// Those of all other slots, and the room.
+    placed: Placed,
 }
 
 impl Model for Store {
     ghost use Rattle.cell_store.specs.Contents.{Contents, contents_code};
+    ghost use Rattle.cell_store.specs.Globals.{with_globals};
 
     ghost Value = { Contents };
 
     ghost coded = { contents_code };
 
-    ghost use Rattle.cell_store.specs.Places.{contents, IsSound};
-
-    ghost view = { contents };
-
-    ghost invariant = { IsSound };
+    ghost view = { λ s. record {
+      cells = with_globals s.globals.items s.placed.cells;
+      room = s.placed.room;
+    } };
 }
 
 impl Store {
-    /// No slot has a cell, and there is no room.
-    pub fn new(alloc: Global) -> Store
-        ensures cells { result.cells ≡ no_cells }
-        ensures room { result.room ≡ 0 }
+    /// No slot has a cell, and there is no room. It is made for facts that are numbered from 1 to
+    /// `facts`: the cell of a global fact beyond them is found as those of members are.
+    #[tactic(auto, using(crate::proofs::GlobalLaws::globals))]
+    pub fn new(alloc: Global, facts: usize) -> Result<Store, NoMemory>
+        ensures cells { IfOk result (λ store. store.cells ≡ no_cells) }
+        ensures room { IfOk result (λ store. store.room ≡ 0) }
     {
-        Store {
-            places: HashMap::new(alloc),
-            cells: Slab::new(alloc),
-            room: 0,
-        }
+        Ok(Store {
+            globals: no_globals(alloc, facts)?,
+            placed: Placed::new(alloc),
+        })
     }
 
     /// Makes room for this many new slots.
@@ -56,16 +57,11 @@ impl Store {
         ensures err { OnErr result (self.new ≡ self.old) }
         ensures has_room { n ≤ self.old.room → IsOk result }
     {
-        if n <= self.room {
-            return Ok(());
-        }
-        self.places.reserve(n as usize)?;
-        self.cells.reserve(n as usize)?;
-        self.room = n;
-        Ok(())
+        self.placed.reserve(n)
     }
 
     /// Puts a cell at a slot, and hands back the result that was there. It takes no memory.
+    #[tactic(auto, using(crate::proofs::GlobalLaws::globals))]
     pub fn put(&mut self, slot: Slot, res: Res, stamp: u64) -> Option<Res>
         requires { map.get self.old.cells slot ≡ None → 0 < self.old.room }
         ensures old { result ≡ option_map (λ c. c.res) (map.get self.old.cells slot) }
@@ -74,29 +70,30 @@ impl Store {
         ensures room { self.new.room
             ≡ (if is_some result then self.old.room else self.old.room - 1) }
     {
-        let key = (slot.fact, slot.member);
+        if !is_global(&self.globals, slot) {
+            return self.placed.put(slot, res, stamp);
+        }
         let cell = Cell { res, stamp };
-        match self.places.get(&key) {
-            Some(place) => {
-                let place = *place;
-                Some(mem::replace(&mut self.cells[place], cell).res)
-            }
+        match mem::replace(&mut self.globals[slot.fact as usize], Some(cell)) {
+            Some(old) => Some(old.res),
             None => {
-                let place = self.cells.insert_reserved(cell);
-                let _ = self.places.insert(key, place);
-                self.room -= 1;
+                self.placed.use_room();
                 None
             }
         }
     }
 
     /// Takes the cell of a slot away, and hands back the result that was there.
+    #[tactic(auto, using(crate::proofs::GlobalLaws::globals))]
     pub fn take(&mut self, slot: Slot) -> Option<Res>
         ensures old { result ≡ option_map (λ c. c.res) (map.get self.old.cells slot) }
         ensures new { self.new ≡ record self.old { cells = map.remove self.old.cells slot } }
     {
-        match self.places.remove(&(slot.fact, slot.member)) {
-            Some(place) => Some(self.cells.remove(place).res),
+        if !is_global(&self.globals, slot) {
+            return self.placed.take(slot);
+        }
+        match mem::replace(&mut self.globals[slot.fact as usize], None) {
+            Some(old) => Some(old.res),
             None => None,
         }
     }
@@ -115,13 +112,33 @@ impl Store {
         Some(self.cell(slot)?.stamp)
     }
 
-    #[tactic(auto, using(crate::proofs::PlaceLaws::get_cells_at))]
+    #[tactic(auto, using(crate::proofs::GlobalLaws::globals))]
     fn cell(&self, slot: Slot) -> Option<&Cell>
         ensures { option_copied result ≡ map.get self.now.cells slot }
     {
-        match self.places.get(&(slot.fact, slot.member)) {
-            Some(place) => self.cells.get(*place),
-            None => None,
+        if !is_global(&self.globals, slot) {
+            return self.placed.cell(slot);
         }
+        self.globals[slot.fact as usize].as_ref()
     }
+}
+
+// Whether the cell of a slot is among those of global facts.
+fn is_global(globals: &[Option<Cell>], slot: Slot) -> bool
+    ensures { result ≡ is_global globals.now slot }
+{
+    (slot.fact as usize) < globals.len() && slot.member == 0
+}
+
+// No cell for any fact up to this number.
+#[tactic(auto, using(crate::proofs::GlobalLaws::globals))]
+fn no_globals(alloc: Global, facts: usize) -> Result<Vec<Option<Cell>>, NoMemory>
+    ensures { IfOk result (λ globals. (fact : ℕ) → slice_index_or globals.items fact None ≡ None) }
+{
+    let count = facts.saturating_add(1);
+    let mut globals = Vec::with_capacity(alloc, count)?;
+    for _n in 0..count {
+        globals.push(None)?;
+    }
+    Ok(globals)
 }

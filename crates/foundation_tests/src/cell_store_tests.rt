@@ -1,9 +1,11 @@
-//! Tests of `cell_store`: a store with room for two slots, filled, emptied and filled again.
+//! Tests of `cell_store`: a store with room for two slots, filled, emptied and filled again. It is
+//! made for no facts, or for those whose global fact's cell is found by its number.
 ghost use Rattle.std.specs.Prelude.{◌≡◌, ◌<◌, IsTrue, None};
 ghost use Rattle.std.specs.FinMap as map;
 
 use cell_store::Store;
 use fact_values::{Slot, ValueFault};
+use std::alloc::Global;
 use three_state::Res;
 
 const WHOLE: Slot = Slot { fact: 3, member: 0 };
@@ -56,13 +58,25 @@ fn is_filled_again(store: &mut Store) -> bool {
     is_new(store, SECOND, 3) && is_new(store, WHOLE, 4) && has_stamps(store, Some(4), None, Some(3))
 }
 
+fn is_left_to_members(store: &mut Store) -> bool {
+    is_taken(store, WHOLE) && !is_taken(store, WHOLE) && has_stamps(store, None, None, Some(3))
+}
+
+fn is_kept(store: &mut Store) -> bool {
+    is_filled(store) && is_emptied(store) && is_filled_again(store) && is_left_to_members(store)
+}
+
+fn keeps(alloc: Global, facts: usize) -> bool {
+    match Store::new(alloc, facts) {
+        Ok(mut store) => store.reserve(2).is_ok() && is_kept(&mut store),
+        Err(_) => false,
+    }
+}
+
 #[test]
 fn what_is_put_is_found_until_it_is_taken(rt: HostRuntime) {
-    let mut store = Store::new(rt.alloc());
-    assert!(rt; store.reserve(2).is_ok());
-    assert!(rt; is_filled(&mut store));
-    assert!(rt; is_emptied(&mut store));
-    assert!(rt; is_filled_again(&mut store));
+    assert!(rt; keeps(rt.alloc(), 0));
+    assert!(rt; keeps(rt.alloc(), 3));
 }
 
 fn is_incomplete(res: &Option<Res>) -> bool {
@@ -78,10 +92,19 @@ fn has_the_new(store: &Store) -> bool {
     matches!(store.get(WHOLE), Some(Res::Fault(_))) && store.stamp(WHOLE) == Some(2)
 }
 
+fn is_replaced(store: &mut Store) -> bool {
+    is_new(store, WHOLE, 1) && hands_back(store) && has_the_new(store)
+}
+
+fn replaces(alloc: Global, facts: usize) -> bool {
+    match Store::new(alloc, facts) {
+        Ok(mut store) => is_replaced(&mut store),
+        Err(_) => false,
+    }
+}
+
 #[test]
 fn a_put_hands_the_old_result_back(rt: HostRuntime) {
-    let mut store = Store::new(rt.alloc());
-    assert!(rt; is_new(&mut store, WHOLE, 1));
-    assert!(rt; hands_back(&mut store));
-    assert!(rt; has_the_new(&store));
+    assert!(rt; replaces(rt.alloc(), 0));
+    assert!(rt; replaces(rt.alloc(), 3));
 }

@@ -61,7 +61,7 @@ impl FactEngine for Recalc {
     {
         let nodes = compile(alloc, dict)?;
         let readers = build(alloc, dict)?;
-        let mut store = Store::new(alloc);
+        let mut store = Store::new(alloc, dict.source().facts().len())?;
         let mut work = Work::new(alloc);
         let mut log = Log::new(alloc);
         start::<Brand>(

@@ -2,7 +2,7 @@ use Rattle.std.proofs.Common.{ap, sym, ◌∙◌, arith, option_map}
 use Rattle.std.specs.FinMap as map
 use Rattle.cell_store.specs.Places.{cells_at}
 use Rattle.cell_store.proofs.PlaceLaws.{cell_found, contents_are, no_cell, nothing_taken, take_away}
-use Rattle.cell_store.proofs.store.Store.take.Goals as goal
+use Rattle.cell_store.proofs.placed.Placed.take.Goals as goal
 
 pub remove-requires-in-Some : goal.remove-requires-in-Some
 remove-requires-in-Some c = c.self.invariant.placed.filled (c.args.slot.fact, c.args.slot.member) c.in-Some.place (sym c.in-Some.ensures.value)

@@ -3,7 +3,7 @@ use Rattle.std.specs.Prelude.{Result, Ok, Err, IsOk, OnOk}
 use Rattle.std.specs.HashMap.{spare}
 use Rattle.std.specs.FinMap as map
 use Rattle.cell_store.proofs.PlaceLaws.{cell_found, no_cell, put_new, put_over, room_left}
-use Rattle.cell_store.proofs.store.Store.put.Goals as goal
+use Rattle.cell_store.proofs.placed.Placed.put.Goals as goal
 
 where_ok : {T E P : Type 0} (r : Result T E) → IsOk r → OnOk r P → P
 where_ok (Ok x) ok h = h

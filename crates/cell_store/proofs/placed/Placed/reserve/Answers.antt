@@ -2,7 +2,7 @@ use Rattle.std.proofs.Common.{◌≡◌, ap, ◌∙◌, arith}
 use Rattle.std.specs.Prelude.{Result, Ok, Err, OnErr}
 use Rattle.slab.specs.Slab.{slab_len, get as cell_in}
 use Rattle.cell_store.proofs.PlaceLaws.{contents_are, same_places, unchanged}
-use Rattle.cell_store.proofs.store.Store.reserve.Goals as goal
+use Rattle.cell_store.proofs.placed.Placed.reserve.Goals as goal
 
 pub invariant_of-self-in_err-reserve-2 : goal.invariant_of-self-in_err-reserve-2
 invariant_of-self-in_err-reserve-2 c =
