@@ -1,5 +1,5 @@
 -- The order of what waits.
-use Rattle.std.proofs.Common.{◌≡◌, ℕ, ◌≤◌, true, false, cond, ◌&&◌, ◌||◌, nat_eq, [], ◌∷◌, refl, sym, ap, ◌∙◌, arith}
+use Rattle.std.proofs.Common.{◌≡◌, ℕ, ◌≤◌, Bool, true, false, not, cond, ◌&&◌, ◌||◌, nat_eq, [], ◌∷◌, refl, sym, ap, ◌∙◌, arith}
 use Rattle.std.specs.List.{list_any}
 use Rattle.std.specs.Ordering.{nat_cmp, is_eq, is_gt, ordering_then}
 use Rattle.std.specs.declared.cmp.Ordering.{Ordering}
@@ -42,6 +42,16 @@ waits_cmp (d ∷ ds) q = rw (same_cmp q d, waits_cmp ds q) refl
 
 pub due_turn : (p q : Due) → due_same p q ≡ due_same q p
 due_turn p q = rw (nat_eq-comm p.rank q.rank, nat_eq-comm p.fact q.fact, nat_eq-comm p.member q.member) refl
+
+and_not : (a b : Bool) → cond a false b ≡ (b && not a)
+and_not true true = refl
+and_not true false = refl
+and_not false true = refl
+and_not false false = refl
+
+-- what is taken out, by the set's own tests
+pub taken : (old new : Dues) (due q : Due) → list_any (λ k. is_eq (due_cmp q k)) new ≡ cond (is_eq (due_cmp due q)) false (list_any (λ k. is_eq (due_cmp q k)) old) → waits new q ≡ (waits old q && not (due_same q due))
+taken old new due q h = waits_cmp new q ∙ h ∙ and_not (is_eq (due_cmp due q)) (list_any (λ k. is_eq (due_cmp q k)) old) ∙ rw (← waits_cmp old q, ← same_cmp due q, due_turn due q) refl
 
 -- an insert, by the set's own tests
 pub added : (old new : Dues) (due q : Due) → list_any (λ k. is_eq (due_cmp q k)) new ≡ cond (is_eq (due_cmp due q)) true (list_any (λ k. is_eq (due_cmp q k)) old) → waits new q ≡ (due_same q due || waits old q)

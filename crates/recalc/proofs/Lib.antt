@@ -4,6 +4,7 @@ pub mod EngineLaws
 pub mod EvaluatingLaws
 pub mod ForgettingLaws
 pub mod MarkingLaws
+pub mod NotedLaws
 pub mod Outcomes
 pub mod PassageLaws
 pub mod ReaderLaws

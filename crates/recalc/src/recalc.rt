@@ -61,8 +61,9 @@ impl FactEngine for Recalc {
     {
         let nodes = compile(alloc, dict)?;
         let readers = build(alloc, dict)?;
-        let mut store = Store::new(alloc, dict.source().facts().len())?;
-        let mut work = Work::new(alloc);
+        let facts = dict.source().facts().len();
+        let mut store = Store::new(alloc, facts)?;
+        let mut work = Work::new(alloc, facts)?;
         let mut log = Log::new(alloc);
         start::<Brand>(
             alloc,
@@ -132,7 +133,7 @@ impl FactEngine for Recalc {
             }
             Err(e) => {
                 self.log.put_back(&mut self.store);
-                self.work = Work::new(self.alloc);
+                self.work.clear();
                 Err(e)
             }
         }
