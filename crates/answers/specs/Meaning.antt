@@ -1,10 +1,12 @@
 -- Which answers the fields of `Answers` stand for, and which change an edit makes.
-use Rattle.std.specs.Prelude.{ℕ, List, Option, option_map}
+use Rattle.std.specs.Prelude.{Box, ℕ, List, [], Option, Some, None, option_map}
+use Rattle.std.specs.declared.alloc.Global.{Global}
 use Rattle.fact_values.specs.declared.value.Value.{Value as Worth}
 use Rattle.answers.specs.Finite.{Numbered, map_of}
 use Rattle.answers.specs.Answered.{Entry, Answered}
 use Rattle.answers.specs.Change.{Change, sets, opens, closes, adds, takes, removes, puts_back}
-use Rattle.answers.specs.declared.entries.Pair.{Pair}
+use Rattle.answers.specs.declared.pairs.Pair.{Pair}
+use Rattle.answers.specs.declared.pairs.Pairs.{Pairs}
 use Rattle.answers.specs.declared.entries.Entries.{Entries}
 use Rattle.answers.specs.declared.edit.Side.{Side}
 use Rattle.answers.specs.declared.edit.Side.TheVariants.{Answer, Override as Overriding}
@@ -19,8 +21,19 @@ abbrev pub side_of : Side → Pair → Option Worth
 side_of Answer p = p.answer
 side_of Overriding p = p.overriding
 
+abbrev pub entry_in : List (ℕ × Pair) → Entry
+entry_in pairs = record { values = map_of (side_of Answer) pairs; overrides = map_of (side_of Overriding) pairs }
+
+-- the pairs by fact: none where no value was put yet
+abbrev pub kept_pairs : Option (Box Pairs Global) → List (ℕ × Pair)
+kept_pairs None = []
+kept_pairs (Some pairs) = pairs.value.by_fact.entries
+
+abbrev pub pairs_of : Entries → List (ℕ × Pair)
+pairs_of e = kept_pairs e.kept
+
 abbrev pub entry_of : Entries → Entry
-entry_of e = record { values = map_of (side_of Answer) e.kept.entries; overrides = map_of (side_of Overriding) e.kept.entries }
+entry_of e = entry_in (pairs_of e)
 
 abbrev pub maybe_entry : Option Entries → Option Entry
 maybe_entry o = option_map entry_of o

@@ -1,10 +1,12 @@
 -- Which collections, members and slots have a place, and which changes need no memory.
-use Rattle.std.specs.Prelude.{ℕ, ◌-◌, Bool, true, false, Option, None, Some, IsSome, nat_eq}
+use Rattle.std.specs.Prelude.{ℕ, List, ◌-◌, Bool, true, false, Option, None, Some, IsSome, nat_eq}
 use Rattle.std.specs.Map.{lookup}
 use Rattle.fact_values.specs.declared.slot.Slot.{Slot}
 use Rattle.answers.specs.Answered.{Answered, value_of}
 use Rattle.answers.specs.Change.{Change, sets, opens, closes, adds, takes, removes, puts_back}
+use Rattle.answers.specs.Meaning.{pairs_of}
 use Rattle.answers.specs.declared.edit.Side.{Side}
+use Rattle.answers.specs.declared.pairs.Pair.{Pair}
 use Rattle.answers.specs.declared.entries.Entries.{Entries}
 use Rattle.answers.specs.declared.lists.Lists.{Lists}
 use Rattle.answers.specs.declared.members.Members.{Members}
@@ -18,9 +20,12 @@ HasList l c = IsSome (lookup (nat_eq c) l.kept.entries)
 abbrev pub HasMember : Members → ℕ → Type 0
 HasMember m k = IsSome (lookup (nat_eq k) m.kept.entries)
 
--- a fact has a place in an entry, for an answer and an override
+-- a fact has a place, for an answer and an override
+abbrev pub HasPair : List (ℕ × Pair) → ℕ → Type 0
+HasPair pairs f = IsSome (lookup (nat_eq f) pairs)
+
 abbrev pub HasFact : Entries → ℕ → Type 0
-HasFact e f = IsSome (lookup (nat_eq f) e.kept.entries)
+HasFact e f = HasPair (pairs_of e) f
 
 -- a fact has a place in the entry of a member that stands
 abbrev pub InEntry : Option Entries → ℕ → Type 0

@@ -3,82 +3,35 @@ ghost use Rattle.std.specs.Prelude.{◌≡◌, ℕ, Option, Some, None, IfOk, On
 ghost use Rattle.std.specs.FinMap as map;
 ghost use Rattle.answers.specs.Answered.{blank, of_side};
 ghost use Rattle.answers.specs.Change.{with_value};
-ghost use Rattle.answers.specs.Meaning.{entry_of, side_of};
+ghost use Rattle.answers.specs.Meaning.{entry_of};
 ghost use Rattle.answers.specs.Room.{HasFact};
 
 use crate::edit::Side;
+use crate::pairs::Pairs;
 use fact_values::Value;
-use indexmap::IndexMap;
 use std::alloc::Global;
-use std::mem;
 
-/// What stands at a slot.
-#[derive(Drop)]
-pub struct Pair {
-    answer: Option<Value>,
-    overriding: Option<Value>,
-}
-
-/// The answers and the overrides of one member, or of the facts that stand once, by fact. A fact
-/// where neither stands any more keeps its place.
+/// The answers and the overrides of one member, or of the facts that stand once. They take memory
+/// from the first value on.
 #[derive(Drop)]
 pub struct Entries {
-    kept: IndexMap<u32, Pair>,
-}
-
-impl Pair {
-    fn only(side: Side, value: Value) -> Pair
-        ensures value { side_of side result ≡ Some value }
-        ensures other { (q : Side) → (q ≡ side → ⊥) → side_of q result ≡ None }
-    {
-        match side {
-            Side::Answer => Pair {
-                answer: Some(value),
-                overriding: None,
-            },
-            Side::Override => Pair {
-                answer: None,
-                overriding: Some(value),
-            },
-        }
-    }
-
-    fn standing(&self, side: Side) -> Option<&Value>
-        ensures { option_copied result ≡ side_of side self.now }
-    {
-        match side {
-            Side::Answer => self.answer.as_ref(),
-            Side::Override => self.overriding.as_ref(),
-        }
-    }
-
-    fn replace(&mut self, side: Side, value: Option<Value>) -> Option<Value>
-        ensures old { result ≡ side_of side self.old }
-        ensures value { side_of side self.new ≡ value }
-        ensures other { (q : Side) → (q ≡ side → ⊥) → side_of q self.new ≡ side_of q self.old }
-    {
-        match side {
-            Side::Answer => mem::replace(&mut self.answer, value),
-            Side::Override => mem::replace(&mut self.overriding, value),
-        }
-    }
+    alloc: Global,
+    kept: Option<Box<Pairs>>,
 }
 
 impl Entries {
     pub fn new(alloc: Global) -> Entries
         ensures { entry_of result ≡ blank }
     {
-        Entries {
-            kept: IndexMap::new(alloc),
-        }
+        Entries { alloc, kept: None }
     }
 
     /// The value that stands at a fact.
     pub fn get(&self, side: Side, fact: u32) -> Option<&Value>
         ensures { option_copied result ≡ map.get (of_side side (entry_of self.now)) fact }
     {
-        match self.kept.get(&fact) {
-            Some(pair) => pair.standing(side),
+        match &self.kept {
+            Some(pairs) => pairs.get(side, fact),
             None => None,
         }
     }
@@ -99,8 +52,8 @@ impl Entries {
         ensures place { IsSome value → OnOk result (HasFact self.new fact) }
         ensures places { (k : ℕ) → HasFact self.old k → HasFact self.new k }
     {
-        match self.kept.get_mut(&fact) {
-            Some(pair) => Ok(pair.replace(side, value)),
+        match &mut self.kept {
+            Some(pairs) => pairs.put(side, fact, value),
             None => match value {
                 Some(value) => self.put_first(side, fact, value),
                 None => Ok(None),
@@ -108,32 +61,26 @@ impl Entries {
         }
     }
 
-    /// Puts a value at a fact where none has stood. For want of memory it comes back.
+    /// Puts the first value. For want of memory it comes back.
     fn put_first(
         &mut self,
         side: Side,
         fact: u32,
         value: Value,
     ) -> Result<Option<Value>, Option<Value>>
-        requires { HasFact self.old fact → ⊥ }
+        requires { self.old.kept ≡ None }
         ensures old { IfOk result (λ old. old ≡ None) }
-        ensures new { OnOk result (entry_of self.new ≡ with_value side fact (Some value) (entry_of self.old)) }
-        ensures err { OnErr result (entry_of self.new ≡ entry_of self.old) }
+        ensures new { OnOk result (entry_of self.new ≡ with_value side fact (Some value) blank) }
+        ensures err { OnErr result (self.new ≡ self.old) }
         ensures value_returned { IfErr result (λ v. v ≡ Some value) }
         ensures place { OnOk result (HasFact self.new fact) }
-        ensures places { (k : ℕ) → HasFact self.old k → HasFact self.new k }
     {
-        match self.kept.insert(fact, Pair::only(side, value)) {
-            Ok(old) => {
-                drop(old);
+        match Pairs::with_first(self.alloc, side, fact, value) {
+            Ok(pairs) => {
+                self.kept = Some(pairs);
                 Ok(None)
             }
-            Err(failed) => {
-                let mut pair = failed.value.1;
-                let value = pair.replace(side, None);
-                drop(pair);
-                Err(value)
-            }
+            Err(value) => Err(value),
         }
     }
 }

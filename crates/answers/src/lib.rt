@@ -8,6 +8,7 @@ pub mod laws;
 mod listed;
 mod lists;
 mod members;
+mod pairs;
 mod parts;
 
 pub use answers::Answers;

@@ -51,6 +51,6 @@ fn an_added_member_goes_and_comes_again(rt: HostRuntime) {
 }
 
 #[test]
-fn an_edit_has_128_bytes(rt: HostRuntime) {
-    assert!(rt; std::mem::size_of::<Edit>() == 128);
+fn an_edit_has_56_bytes(rt: HostRuntime) {
+    assert!(rt; std::mem::size_of::<Edit>() == 56);
 }
