@@ -1,6 +1,6 @@
 // The result of a compiled node, visit by visit.
 ghost use Rattle.std.specs.Prelude.{◌≡◌, ℕ, ◌+◌, ◌<◌, ◌≤◌, ◌^◌, [], ◌∷◌, ◌++◌, sum_by, if◌then◌else◌, IfOk, IsErr, OnOk, Option};
-ghost use Rattle.evaluation.specs.Over.{many_of, over, over_all, over_cases, pick_of, weight, weight_of_all, weight_of_cases};
+ghost use Rattle.evaluation.specs.Over.{many_of, one_of, over, over_all, over_cases, pick_of, two_of, weight, weight_of_all, weight_of_cases};
 ghost use Rattle.fact_values.specs.Values.{HoldsMemory};
 ghost use Rattle.fact_values.specs.declared.fact_type.FactType.{FactType};
 ghost use Rattle.evaluation.specs.SlotsRead.{members_visited, up_to_decider};
@@ -19,7 +19,7 @@ use crate::cells::Cells;
 use crate::node::{Node, NodeCase, NodeRead, Reader};
 use crate::place::Place;
 use crate::reads::{read, read_source, see_dependency};
-use dict_tree::{ManyOp, PickOp};
+use dict_tree::{ManyOp, OneOp, PickOp, TwoOp};
 use fact_values::{NoMemory, Value};
 use operations::{
     CaseStep, FilterFold, ManyFold, case_step, found, members, one, source_verdict, taken, two,
@@ -68,17 +68,10 @@ fn visit<C: Cells, L: Ledger>(
         Node::Read(op, reader) => read(alloc, cells, at, *op, *reader),
         Node::Switch(cases) => eval_cases(alloc, cells, at, cases.as_slice(), steps),
         Node::Many(op, operands) => eval_all(alloc, cells, at, *op, operands.as_slice(), steps),
-        Node::One(op, operand) => {
-            let res = visit(alloc, cells, at, operand, steps)?;
-            Ok(one(*op, res))
-        }
+        Node::One(op, operand) => eval_one(alloc, cells, at, *op, operand, steps),
         Node::Two(op, left, right) => {
             let first = visit(alloc, cells, at, left, steps)?;
-            let second = visit(alloc, cells, at, right, steps)?;
-            let res = two(*op, &first, &second);
-            drop(first);
-            drop(second);
-            Ok(res)
+            eval_second(alloc, cells, at, *op, first, right, steps)
         }
         Node::Pick(op, reader, test) => eval_pick(alloc, cells, at, *op, *reader, test, steps),
     }
@@ -89,6 +82,48 @@ fn constant(alloc: Global, value: &Value) -> Result<Res, NoMemory>
     ensures memory { IsErr result → HoldsMemory value.now }
 {
     Ok(Res::Complete(value.copy(alloc)?))
+}
+
+// A node with one operand.
+#[cycle(eval)]
+fn eval_one<C: Cells, L: Ledger>(
+    alloc: Global,
+    cells: &C,
+    at: Place,
+    op: OneOp,
+    operand: &Node,
+    steps: &mut Steps<L>,
+) -> Result<Res, NoMemory>
+    ensures value { IfOk result (λ r. r ≡ one_of op (over (node_env (C.look cells.now)) at (view operand.now))) }
+    ensures visited { OnOk result (steps.new ≡ steps.old + visits (node_env (C.look cells.now)) at (view operand.now)) }
+    ensures most { steps.new ≤ steps.old + weight (node_env (C.look cells.now)) at (view operand.now) }
+    ensures memory { IsErr result → TakesMemory (node_env (C.look cells.now)) at (view operand.now) }
+{
+    let res = visit(alloc, cells, at, operand, steps)?;
+    Ok(one(op, res))
+}
+
+// A node with two operands, from the result of the first.
+#[cycle(eval)]
+fn eval_second<C: Cells, L: Ledger>(
+    alloc: Global,
+    cells: &C,
+    at: Place,
+    op: TwoOp,
+    first: Res,
+    operand: &Node,
+    steps: &mut Steps<L>,
+) -> Result<Res, NoMemory>
+    ensures value { IfOk result (λ r. r ≡ two_of op first (over (node_env (C.look cells.now)) at (view operand.now))) }
+    ensures visited { OnOk result (steps.new ≡ steps.old + visits (node_env (C.look cells.now)) at (view operand.now)) }
+    ensures most { steps.new ≤ steps.old + weight (node_env (C.look cells.now)) at (view operand.now) }
+    ensures memory { IsErr result → TakesMemory (node_env (C.look cells.now)) at (view operand.now) }
+{
+    let second = visit(alloc, cells, at, operand, steps)?;
+    let res = two(op, &first, &second);
+    drop(first);
+    drop(second);
+    Ok(res)
 }
 
 // A node with a list of operands.
@@ -134,12 +169,29 @@ fn see_operand<C: Cells, L: Ledger>(
         Node::Read(NodeRead::Dependency, reader) => {
             see_dependency(alloc, cells, at, *reader, fold, steps)
         }
-        _ => {
-            let res = visit(alloc, cells, at, operand, steps)?;
-            fold.see(res);
-            Ok(())
-        }
+        _ => see_visited(alloc, cells, at, operand, fold, steps),
     }
+}
+
+// Sees the result of another one.
+#[cycle(eval)]
+fn see_visited<C: Cells, L: Ledger>(
+    alloc: Global,
+    cells: &C,
+    at: Place,
+    operand: &Node,
+    fold: &mut ManyFold,
+    steps: &mut Steps<L>,
+) -> Result<(), NoMemory>
+    requires few { fold.old.count + 1 < 2 ^ 64 }
+    ensures next { OnOk result (fold.new ≡ saw fold.old (over (node_env (C.look cells.now)) at (view operand.now))) }
+    ensures visited { OnOk result (steps.new ≡ steps.old + visits (node_env (C.look cells.now)) at (view operand.now)) }
+    ensures most { steps.new ≤ steps.old + weight (node_env (C.look cells.now)) at (view operand.now) }
+    ensures memory { IsErr result → TakesMemory (node_env (C.look cells.now)) at (view operand.now) }
+{
+    let res = visit(alloc, cells, at, operand, steps)?;
+    fold.see(res);
+    Ok(())
 }
 
 // A Switch: the cases in their order, up to the one that is taken.

@@ -1,9 +1,8 @@
 // What a node that reads gives, from the facts that its reader names.
 ghost use Rattle.std.specs.Prelude.{◌≡◌, ◌+◌, ◌<◌, ◌^◌, IfOk, IsErr, OnOk, Some};
-ghost use Rattle.evaluation.specs.Reads.{collection_size, complete_test, sum_over, through_item};
+ghost use Rattle.evaluation.specs.Reads.{collection_size, complete_test, field_at, sum_over, through_item};
 ghost use Rattle.fact_values.specs.declared.fact_type.FactType.{FactType};
 ghost use Rattle.operations.specs.ManyFolds.{saw};
-ghost use Rattle.three_state.specs.Folds.{down_unless};
 ghost use Rattle.three_state.specs.Results.{ValueHoldsMemory, count_of};
 ghost use Rattle.three_state.specs.declared.res.Res.TheVariants.{Incomplete};
 ghost use Rattle.node_eval.specs.Looks.{result_at};
@@ -13,14 +12,12 @@ ghost use Rattle.node_eval.specs.Reading.{collection, dependency, field, first_o
 use crate::cells::{Cells, result_at};
 use crate::node::{NodeRead, Reader};
 use crate::place::Place;
-use fact_values::{FactType, NoMemory, Value};
-use operations::{
-    CountFold, ItemStep, ManyFold, SumFold, complete_test, item_step, members, size, taken,
-};
+use fact_values::{FactType, NoMemory, Slot, Value};
+use operations::{CountFold, ManyFold, SumFold, complete_test, members, size};
 use std::alloc::Global;
 use std::sync::ledger::Ledger;
 use steps::Steps;
-use three_state::Res;
+use three_state::{Res, down};
 
 // The first fact of a reader.
 fn first_of(reader: Reader) -> u32
@@ -52,24 +49,42 @@ fn second_of(reader: Reader) -> Option<u32>
 
 // ---- a Dependency, and whether it is complete
 
-/// Where a Dependency ends.
-pub enum Reached<'a> {
-    /// At this result. The flag says that no placeholder was passed on the way.
-    At(&'a Res, bool),
-    /// On the way, with this result.
-    End(Res),
+/// Where a Dependency ends: at this result. The flag says that no placeholder was passed on the way.
+#[derive(Clone, Copy)]
+pub struct Reached<'a> {
+    pub res: &'a Res,
+    pub complete: bool,
+}
+
+// The field of the member that a value names.
+fn field_at<'a, C: Cells>(cells: &'a C, missing: &'a Res, value: &Value, second: u32) -> &'a Res
+    requires { missing.now ≡ Incomplete }
+    ensures { result.now ≡ field_at (result_at (C.look cells.now) (Some second)) value.now }
+{
+    match value {
+        Value::Item(member) => result_at(cells, missing, Some(second), *member),
+        _ => missing,
+    }
 }
 
 // From an item to the field of the member that it names.
-fn through<'a, C: Cells>(cells: &'a C, missing: &'a Res, item: &Res, second: u32) -> Reached<'a>
+fn through<'a, C: Cells>(cells: &'a C, missing: &'a Res, item: &'a Res, second: u32) -> Reached<'a>
     requires { missing.now ≡ Incomplete }
     ensures { reached result ≡ through_item item.now (result_at (C.look cells.now) (Some second)) }
 {
-    match item_step(item) {
-        ItemStep::Member(member, complete) => {
-            Reached::At(result_at(cells, missing, Some(second), member), complete)
-        }
-        ItemStep::End(res) => Reached::End(res),
+    match item {
+        Res::Complete(v) => Reached {
+            res: field_at(cells, missing, v, second),
+            complete: true,
+        },
+        Res::Placeholder(v) => Reached {
+            res: field_at(cells, missing, v, second),
+            complete: false,
+        },
+        _ => Reached {
+            res: item,
+            complete: true,
+        },
     }
 }
 
@@ -78,19 +93,23 @@ fn reach<'a, C: Cells>(cells: &'a C, missing: &'a Res, at: Place, reader: Reader
     requires { missing.now ≡ Incomplete }
     ensures { reached result ≡ dependency (C.look cells.now) at reader }
 {
-    match reader {
-        Reader::Global(fact) => Reached::At(result_at(cells, missing, Some(fact), 0), true),
-        Reader::Same(fact) => Reached::At(result_at(cells, missing, Some(fact), at.own), true),
-        Reader::Inner(fact) => Reached::At(result_at(cells, missing, Some(fact), at.inner), true),
-        Reader::Each(_, _) => Reached::End(Res::Incomplete),
+    let res = match reader {
+        Reader::Global(fact) => result_at(cells, missing, Some(fact), 0),
+        Reader::Same(fact) => result_at(cells, missing, Some(fact), at.own),
+        Reader::Inner(fact) => result_at(cells, missing, Some(fact), at.inner),
+        Reader::Each(_, _) => missing,
         Reader::Through(first, second) => {
             let item = result_at(cells, missing, Some(first), 0);
-            through(cells, missing, item, second)
+            return through(cells, missing, item, second);
         }
         Reader::SameThrough(first, second) => {
             let item = result_at(cells, missing, Some(first), at.own);
-            through(cells, missing, item, second)
+            return through(cells, missing, item, second);
         }
+    };
+    Reached {
+        res,
+        complete: true,
     }
 }
 
@@ -99,56 +118,73 @@ fn reached_result(alloc: Global, end: Reached) -> Result<Res, NoMemory>
     ensures value { IfOk result (λ r. r ≡ reached end.entry) }
     ensures memory { IsErr result → ValueHoldsMemory (reached end.entry) }
 {
-    match end {
-        Reached::At(res, complete) => Ok(taken(complete, res.copy(alloc)?)),
-        Reached::End(res) => Ok(res),
+    if end.complete {
+        return end.res.copy(alloc);
     }
+    Ok(down(end.res.copy(alloc)?))
 }
 
 // Whether it is complete.
 fn reached_test(end: Reached) -> Res
     ensures { result ≡ complete_test (reached end.entry) }
 {
-    match end {
-        Reached::At(res, complete) => {
-            if complete {
-                complete_test(res)
-            } else {
-                Res::Complete(Value::Boolean(false))
-            }
-        }
-        Reached::End(res) => complete_test(&res),
+    if end.complete {
+        complete_test(end.res)
+    } else {
+        Res::Complete(Value::Boolean(false))
     }
 }
 
 // ---- a Dependency that is an operand
 
-// Sees a result that stands in a cell, of which the flag says that no placeholder was passed on the way. Then it isn't copied.
-fn see_at(alloc: Global, res: &Res, complete: bool, fold: &mut ManyFold) -> Result<(), NoMemory>
+// Sees what is read of a fact at a member, where it stands.
+fn see_cell<C: Cells>(
+    alloc: Global,
+    cells: &C,
+    fact: u32,
+    member: u32,
+    fold: &mut ManyFold,
+) -> Result<(), NoMemory>
     requires few { fold.old.count + 1 < 2 ^ 64 }
-    ensures next { OnOk result (fold.new ≡ saw fold.old (down_unless complete res.now)) }
-    ensures memory { IsErr result → ValueHoldsMemory (down_unless complete res.now) }
+    ensures next { OnOk result (fold.new ≡ saw fold.old (result_at (C.look cells.now) (Some fact) member)) }
+    ensures memory { IsErr result → ValueHoldsMemory (result_at (C.look cells.now) (Some fact) member) }
 {
-    if complete {
-        return fold.see_lent(alloc, res);
+    match cells.cell(Slot { fact, member }) {
+        Some(res) => fold.see_lent(alloc, res),
+        None => {
+            fold.see(Res::Incomplete);
+            Ok(())
+        }
     }
-    fold.see(taken(complete, res.copy(alloc)?));
-    Ok(())
 }
 
-// Sees the result at which a Dependency ends.
+// Sees the result at which a Dependency ends: a copy, where a placeholder was passed on the way.
 fn see_reached(alloc: Global, end: Reached, fold: &mut ManyFold) -> Result<(), NoMemory>
     requires few { fold.old.count + 1 < 2 ^ 64 }
     ensures next { OnOk result (fold.new ≡ saw fold.old (reached end.entry)) }
     ensures memory { IsErr result → ValueHoldsMemory (reached end.entry) }
 {
-    match end {
-        Reached::At(res, complete) => see_at(alloc, res, complete, fold),
-        Reached::End(res) => {
-            fold.see(res);
-            Ok(())
-        }
+    if end.complete {
+        return fold.see_lent(alloc, end.res);
     }
+    fold.see(reached_result(alloc, end)?);
+    Ok(())
+}
+
+// Sees the result of a Dependency that may go through an item.
+fn see_far<C: Cells>(
+    alloc: Global,
+    cells: &C,
+    at: Place,
+    reader: Reader,
+    fold: &mut ManyFold,
+) -> Result<(), NoMemory>
+    requires few { fold.old.count + 1 < 2 ^ 64 }
+    ensures next { OnOk result (fold.new ≡ saw fold.old (dependency (C.look cells.now) at reader)) }
+    ensures memory { IsErr result → ValueHoldsMemory (dependency (C.look cells.now) at reader) }
+{
+    let missing = Res::Incomplete;
+    see_reached(alloc, reach(cells, &missing, at, reader), fold)
 }
 
 /// Sees the result of a Dependency by this reader as an operand, which is a step: a call of its own, so that it is counted
@@ -168,8 +204,12 @@ pub fn see_dependency<C: Cells, L: Ledger>(
     ensures step { steps.new ≡ steps.old + 1 }
 {
     steps.tick();
-    let missing = Res::Incomplete;
-    see_reached(alloc, reach(cells, &missing, at, reader), fold)
+    match reader {
+        Reader::Global(fact) => see_cell(alloc, cells, fact, 0, fold),
+        Reader::Same(fact) => see_cell(alloc, cells, fact, at.own, fold),
+        Reader::Inner(fact) => see_cell(alloc, cells, fact, at.inner, fold),
+        _ => see_far(alloc, cells, at, reader, fold),
+    }
 }
 
 // ---- the members of a collection
