@@ -4,11 +4,12 @@ use Rattle.fact_values.specs.declared.fault.ValueFault.{ValueFault}
 use Rattle.fact_values.specs.declared.value.Value.{Value}
 use Rattle.dict_tree.specs.declared.operators.ManyOp.{ManyOp}
 use Rattle.dict_tree.specs.declared.operators.ManyOp.TheVariants as many_op
-use Rattle.three_state.specs.Folds.{junction_next, junction_on, verdict_on}
+use Rattle.three_state.specs.Folds.{junction_next, junction_on, verdict_next, verdict_on}
 use Rattle.three_state.specs.Results.{after_verdict, values_of, verdict_of}
 use Rattle.three_state.specs.declared.res.Res.{Res}
 use Rattle.three_state.specs.declared.res.Res.TheVariants.{Complete, Placeholder}
 use Rattle.three_state.specs.declared.strict.Verdict.{Verdict}
+use Rattle.three_state.specs.declared.strict.Verdict.TheVariants as verdict
 use Rattle.three_state.proofs.FoldLaws.{junction_on-start, verdict_on-start}
 use Rattle.evaluation.specs.Operations.{greater, greatest, least, lesser, many_value}
 use Rattle.evaluation.specs.Over.{many_of}
@@ -53,6 +54,12 @@ least-start [] = refl
 least-start (v ∷ vs) = gathered_from-least v vs
 
 -- ---- the operands
+
+-- one that is complete leaves the verdict as it was
+pub complete_leaves_verdict : (so_far : Verdict) (v : Value) → verdict_next so_far (Complete v) ≡ so_far
+complete_leaves_verdict (verdict.Go complete) v = refl
+complete_leaves_verdict verdict.Incomplete v = refl
+complete_leaves_verdict (verdict.Fault fault) v = refl
 
 many_from-all : (count : ℕ) (so_far : Res) (rs : List Res) → many_from (record { count = count; kept = All so_far }) rs ≡ junction_on false so_far rs
 unfolding kept_next kept_end

@@ -37,7 +37,7 @@ impl Gathered {
         }
     }
 
-    /// Sees the next value, which stays where it is: it is copied where it may be kept.
+    /// Sees the next value, which stays where it is: it is copied where it is kept.
     pub fn see_lent(&mut self, alloc: Global, value: &Value) -> Result<(), NoMemory>
         requires few { calls_of self.old < 2 ^ 64 }
         ensures ok { OnOk result (self.new ≡ gathered_next self.old value.now) }
@@ -47,8 +47,8 @@ impl Gathered {
         match self {
             Gathered::Added(sum) => sum.add(value),
             Gathered::Subtracted(sum) => sum.subtract(value),
-            Gathered::Greatest(greatest) => keep_greater(greatest, value.copy(alloc)?),
-            Gathered::Least(least) => keep_lesser(least, value.copy(alloc)?),
+            Gathered::Greatest(greatest) => keep_greater_lent(alloc, greatest, value)?,
+            Gathered::Least(least) => keep_lesser_lent(alloc, least, value)?,
         }
         Ok(())
     }
@@ -95,6 +95,43 @@ fn keep_lesser(least: &mut Option<Value>, value: Value)
         }
         None => *least = Some(value),
     }
+}
+
+/// The same of a value that stays where it is, and is copied where it is kept.
+fn keep_greater_lent(
+    alloc: Global,
+    greatest: &mut Option<Value>,
+    value: &Value,
+) -> Result<(), NoMemory>
+    ensures ok { OnOk result (greatest.new ≡ greater_next greatest.old value.now) }
+    ensures unchanged { OnErr result (greatest.new ≡ greatest.old) }
+    ensures memory { IsErr result → HoldsMemory value.now }
+{
+    match greatest {
+        Some(kept) => {
+            if order(kept, value).is_lt() {
+                *kept = value.copy(alloc)?;
+            }
+        }
+        None => *greatest = Some(value.copy(alloc)?),
+    }
+    Ok(())
+}
+
+fn keep_lesser_lent(alloc: Global, least: &mut Option<Value>, value: &Value) -> Result<(), NoMemory>
+    ensures ok { OnOk result (least.new ≡ lesser_next least.old value.now) }
+    ensures unchanged { OnErr result (least.new ≡ least.old) }
+    ensures memory { IsErr result → HoldsMemory value.now }
+{
+    match least {
+        Some(kept) => {
+            if order(kept, value).is_gt() {
+                *kept = value.copy(alloc)?;
+            }
+        }
+        None => *least = Some(value.copy(alloc)?),
+    }
+    Ok(())
 }
 
 fn or_zero(extreme: Option<Value>) -> Value

@@ -1,4 +1,5 @@
 ghost use Rattle.std.specs.Prelude.{◌≡◌, ◌<◌, ◌^◌, IsErr, OnErr, OnOk};
+ghost use Rattle.three_state.specs.Folds.{verdict_next};
 ghost use Rattle.three_state.specs.Results.{ValueHoldsMemory};
 ghost use Rattle.operations.specs.ManyFolds.{calls_kept, calls_of, gathered_after, kept_end, kept_next, kept_start};
 
@@ -71,11 +72,7 @@ impl Kept {
                 fold.see(operand);
                 Ok(())
             }
-            Kept::Values(verdict, gathered) => {
-                gather_lent(alloc, gathered, operand)?;
-                verdict.see(operand);
-                Ok(())
-            }
+            Kept::Values(verdict, gathered) => see_strict(alloc, verdict, gathered, operand),
         }
     }
 
@@ -104,17 +101,30 @@ fn gather(gathered: &mut Gathered, operand: Res)
     }
 }
 
-/// The same of an operand that stays where it is.
-fn gather_lent(alloc: Global, gathered: &mut Gathered, operand: &Res) -> Result<(), NoMemory>
+/// Sees an operand of a strict operation, which stays where it is. One that is complete leaves the verdict as it was.
+#[tactic(auto, using(crate::proofs::ManyLaws::complete_leaves_verdict))]
+fn see_strict(
+    alloc: Global,
+    verdict: &mut Strict,
+    gathered: &mut Gathered,
+    operand: &Res,
+) -> Result<(), NoMemory>
     requires few { calls_of gathered.old < 2 ^ 64 }
-    ensures ok { OnOk result (gathered.new ≡ gathered_after gathered.old operand.now) }
-    ensures unchanged { OnErr result (gathered.new ≡ gathered.old) }
+    ensures verdict { OnOk result (verdict.new ≡ verdict_next verdict.old operand.now) }
+    ensures gathered { OnOk result (gathered.new ≡ gathered_after gathered.old operand.now) }
+    ensures unchanged { OnErr result ((verdict.new ≡ verdict.old) × (gathered.new ≡ gathered.old)) }
     ensures memory { IsErr result → ValueHoldsMemory operand.now }
 {
     match operand {
         Res::Complete(v) => gathered.see_lent(alloc, v),
-        Res::Placeholder(v) => gathered.see_lent(alloc, v),
-        Res::Incomplete => Ok(()),
-        Res::Fault(_) => Ok(()),
+        Res::Placeholder(v) => {
+            gathered.see_lent(alloc, v)?;
+            verdict.see(operand);
+            Ok(())
+        }
+        _ => {
+            verdict.see(operand);
+            Ok(())
+        }
     }
 }
