@@ -1,6 +1,7 @@
 //! Cuts the bytes of a script into lines, however they come, and reads each line as a command.
 #![tactic(auto)]
 
+mod behind_verb;
 mod command;
 mod cutting;
 mod fault;

@@ -1,14 +1,13 @@
 // Reads a line as a command.
 ghost use Rattle.std.specs.Prelude.{◌≡◌, ◌≤◌, length};
 ghost use Rattle.script_lines.specs.Commands.{without_return as shorn, ReadsLine};
-ghost use Rattle.script_lines.specs.Reading.{Gives, GivesHeard, command_alone, command_with, command_of_text, heard, heard_in};
+ghost use Rattle.script_lines.specs.Reading.{Gives, GivesHeard, command_alone, command_of_text, heard, heard_in};
 
+use crate::behind_verb::read_with;
 use crate::command::Command;
 use crate::fault::LineFault;
-use crate::parts::{
-    at_blank, read_name_and_slot, read_slot, read_slot_and_member, read_slot_and_value,
-};
-use crate::verb::{Verb, verb_of};
+use crate::parts::at_blank;
+use crate::verb::verb_of;
 use std::alloc::Global;
 
 // A command of one word.
@@ -21,42 +20,6 @@ fn read_alone(word: &str) -> Result<Command, LineFault>
         "touched" => Ok(Command::Touched),
         "quit" => Ok(Command::Quit),
         _ => Err(LineFault::BadLine),
-    }
-}
-
-// A command of more words, by its verb and what stands behind the first blank.
-fn read_with(alloc: Global, verb: Verb, rest: &str) -> Result<Command, LineFault>
-    ensures { Gives (command_with verb rest.now) result }
-{
-    match verb {
-        Verb::Set => {
-            let (slot, value) = read_slot_and_value(alloc, rest)?;
-            Ok(Command::Set(slot, value))
-        }
-        Verb::Clear => Ok(Command::Clear(read_slot(alloc, rest)?)),
-        Verb::OpenList => Ok(Command::OpenList(read_slot(alloc, rest)?)),
-        Verb::Add => Ok(Command::Add(read_slot(alloc, rest)?)),
-        Verb::Remove => {
-            let (slot, member) = read_slot_and_member(alloc, rest)?;
-            Ok(Command::Remove(slot, member))
-        }
-        Verb::Override => {
-            let (slot, value) = read_slot_and_value(alloc, rest)?;
-            Ok(Command::Override(slot, value))
-        }
-        Verb::Release => Ok(Command::Release(read_slot(alloc, rest)?)),
-        Verb::Get => Ok(Command::Get(read_slot(alloc, rest)?)),
-        Verb::Final => Ok(Command::Final(read_slot(alloc, rest)?)),
-        Verb::Stamp => Ok(Command::Stamp(read_slot(alloc, rest)?)),
-        Verb::Missing => Ok(Command::Missing(read_slot(alloc, rest)?)),
-        Verb::Watch => {
-            let (name, slot) = read_name_and_slot(alloc, rest)?;
-            Ok(Command::Watch(name, slot))
-        }
-        Verb::Unwatch => {
-            let (name, slot) = read_name_and_slot(alloc, rest)?;
-            Ok(Command::Unwatch(name, slot))
-        }
     }
 }
 
