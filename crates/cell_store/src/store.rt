@@ -38,10 +38,22 @@ impl Model for Store {
 }
 
 impl Store {
-    /// No slot has a cell, and there is no room. It is made for facts that are numbered from 1 to
-    /// `facts`: the cell of a global fact beyond them is found as those of members are.
+    /// No slot has a cell, and there is no room. Each cell is found as those of members are.
     #[tactic(auto, using(crate::proofs::GlobalLaws::globals))]
-    pub fn new(alloc: Global, facts: usize) -> Result<Store, NoMemory>
+    pub fn new(alloc: Global) -> Store
+        ensures cells { result.cells ≡ no_cells }
+        ensures room { result.room ≡ 0 }
+    {
+        Store {
+            globals: Vec::new(alloc),
+            placed: Placed::new(alloc),
+        }
+    }
+
+    /// The same for facts that are numbered from 1 to `facts`: the cells of those that stand once are
+    /// found by their numbers.
+    #[tactic(auto, using(crate::proofs::GlobalLaws::globals))]
+    pub fn with_facts(alloc: Global, facts: usize) -> Result<Store, NoMemory>
         ensures cells { IfOk result (λ store. store.cells ≡ no_cells) }
         ensures room { IfOk result (λ store. store.room ≡ 0) }
     {

@@ -66,17 +66,21 @@ fn is_kept(store: &mut Store) -> bool {
     is_filled(store) && is_emptied(store) && is_filled_again(store) && is_left_to_members(store)
 }
 
-fn keeps(alloc: Global, facts: usize) -> bool {
-    match Store::new(alloc, facts) {
-        Ok(mut store) => store.reserve(2).is_ok() && is_kept(&mut store),
+fn keeps(store: &mut Store) -> bool {
+    store.reserve(2).is_ok() && is_kept(store)
+}
+
+fn keeps_by_numbers(alloc: Global) -> bool {
+    match Store::with_facts(alloc, 3) {
+        Ok(mut store) => keeps(&mut store),
         Err(_) => false,
     }
 }
 
 #[test]
 fn what_is_put_is_found_until_it_is_taken(rt: HostRuntime) {
-    assert!(rt; keeps(rt.alloc(), 0));
-    assert!(rt; keeps(rt.alloc(), 3));
+    assert!(rt; keeps(&mut Store::new(rt.alloc())));
+    assert!(rt; keeps_by_numbers(rt.alloc()));
 }
 
 fn is_incomplete(res: &Option<Res>) -> bool {
@@ -96,8 +100,8 @@ fn is_replaced(store: &mut Store) -> bool {
     is_new(store, WHOLE, 1) && hands_back(store) && has_the_new(store)
 }
 
-fn replaces(alloc: Global, facts: usize) -> bool {
-    match Store::new(alloc, facts) {
+fn replaces_by_numbers(alloc: Global) -> bool {
+    match Store::with_facts(alloc, 3) {
         Ok(mut store) => is_replaced(&mut store),
         Err(_) => false,
     }
@@ -105,6 +109,6 @@ fn replaces(alloc: Global, facts: usize) -> bool {
 
 #[test]
 fn a_put_hands_the_old_result_back(rt: HostRuntime) {
-    assert!(rt; replaces(rt.alloc(), 0));
-    assert!(rt; replaces(rt.alloc(), 3));
+    assert!(rt; is_replaced(&mut Store::new(rt.alloc())));
+    assert!(rt; replaces_by_numbers(rt.alloc()));
 }

@@ -62,7 +62,7 @@ impl FactEngine for Recalc {
         let nodes = compile(alloc, dict)?;
         let readers = build(alloc, dict)?;
         let facts = dict.source().facts().len();
-        let mut store = Store::new(alloc, facts)?;
+        let mut store = Store::with_facts(alloc, facts)?;
         let mut work = Work::new(alloc, facts)?;
         let mut log = Log::new(alloc);
         start::<Brand>(
