@@ -1,10 +1,6 @@
 -- What the commands of a session take and leave.
 use Rattle.std.proofs.Common.{◌≡◌, ℕ, ◌+◌, Bool, true, false, if◌then◌else◌, IsTrue, Option, Some, None, is_some, option_map, refl, sym, ap, ◌∙◌, subst}
-use Rattle.std.specs.Prelude.{Ok}
 use Rattle.fact_values.specs.declared.slot.Slot.{Slot}
-use Rattle.script_lines.specs.declared.command.Command.{Command}
-use Rattle.script_lines.specs.declared.command.Command.TheVariants as commands
-use Rattle.dict_tree.specs.Dictionary.{Dictionary as Tree}
 use Rattle.session_undo.specs.Timeline.{Timeline}
 use Rattle.dictionary.specs.Accepted.{names_of}
 use Rattle.dictionary.specs.Slots.{stands}
@@ -14,9 +10,8 @@ use Rattle.dictionary.proofs.UntouchedLaws.{untouched_keeps}
 use Rattle.graph_session.specs.Counts.{Counts, next_counts, stamp_in, stamp_of}
 use Rattle.graph_session.specs.Rules.{Rules, tree_of}
 use Rattle.graph_session.specs.SessionView.{Course, moved}
-use Rattle.graph_session.specs.Step.{moved_by, refusal, reply, step, steps_to, timeline_by}
+use Rattle.graph_session.specs.Step.{moved_by, refusal, reply, steps_to, timeline_by}
 use Rattle.graph_session.specs.declared.reply.Refusal.{Refusal}
-use Rattle.graph_session.specs.declared.reply.Reply.{Reply}
 use Rattle.graph_session.proofs.CountLaws.{stamp_listed}
 use Rattle.graph_session.proofs.StepLaws.{accepted_step, changes_move, decided_err, most_by, questions_stay}
 use Rattle.recalc.specs.Sessions.{ChangesTakeTouched, QuestionsChangeNone, QuestionsTakeNone, RefusedTakeNone, TouchedHaveNumber, UntouchedKeepAll}

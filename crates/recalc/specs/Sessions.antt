@@ -1,5 +1,5 @@
 -- What the commands of a session take and leave, over an engine that counts.
-use Rattle.std.specs.Prelude.{◌≡◌, ℕ, ◌+◌, Bool, true, false, IsTrue, Some, Ok, Err}
+use Rattle.std.specs.Prelude.{◌≡◌, ℕ, ◌+◌, false, IsTrue, Some, Ok, Err}
 use Rattle.fact_values.specs.declared.slot.Slot.{Slot}
 use Rattle.script_lines.specs.declared.command.Command.{Command}
 use Rattle.answers.specs.Answered.{Answered}

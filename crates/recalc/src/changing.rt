@@ -24,7 +24,7 @@ use crate::course::Course;
 use crate::log::Log;
 use crate::running::run;
 use crate::seeding::{seed, seed_all};
-use crate::undone::is_extended;
+use crate::undone::effect_of;
 use crate::work::Work;
 use answers::{Answers, Edit};
 use cell_store::Store;
@@ -102,12 +102,13 @@ pub fn go_on<'a, L: Ledger>(
     ensures most { steps.new ≤ steps.old + touched_weight (accepted dict.now) (applied (change undo.now) (answered now.now)) (answered now.now) }
 {
     let _source = dict.source();
-    seed(work, dict, now, undo)?;
+    let effect = effect_of(undo, now);
+    seed(work, dict, now, undo, effect.own)?;
     let course = Course {
         dict,
         answers: now,
         undo: Some(undo),
-        extended: is_extended(undo, now),
+        extended: effect.extended,
         gone,
         stamp,
     };

@@ -53,7 +53,7 @@ fn mark_reader(
     let rank = course.dict.rank(reader.fact);
     let home = course.dict.home(reader.fact);
     if home == 0 {
-        return mark_members(work, course, store, slot, reader, rank, &[0]);
+        return mark_member(work, course, store, slot, reader, rank, 0);
     }
     match course.answers.members(home) {
         Some(members) => mark_members(work, course, store, slot, reader, rank, members),

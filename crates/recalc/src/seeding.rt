@@ -6,13 +6,13 @@ ghost use Rattle.dict_tree.specs.Finding.{IsNumber};
 ghost use Rattle.dictionary.specs.Accepted.{accepted};
 ghost use Rattle.dictionary.specs.Homes.{home};
 ghost use Rattle.dictionary.specs.Slots.{members_of_home, stands};
-ghost use Rattle.dictionary.specs.Undone.{is_touched_first, IsUndone};
+ghost use Rattle.dictionary.specs.Undone.{differs, is_touched_first, IsUndone};
 ghost use Rattle.recalc.specs.Running.{AreWaiting};
-ghost use Rattle.recalc.specs.Seeding.{field_at, is_anywhere, is_at, is_came, is_field, is_own};
+ghost use Rattle.recalc.specs.Seeding.{field_at, is_anywhere, is_at, is_came, is_field, is_own, is_slot};
 ghost use Rattle.recalc.specs.Waiting.{waits};
 ghost use Rattle.recalc.specs.declared.work.Due.{Due};
 
-use crate::undone::{Came, newcomer, own_slot};
+use crate::undone::{Came, newcomer};
 use crate::work::{Due, Work};
 use answers::{Answers, Edit};
 use dictionary::Dictionary;
@@ -138,7 +138,14 @@ fn add_own(work: &mut Work, dict: &Dictionary, own: Option<Slot>) -> Result<(), 
 
 /// Lets the slots wait that the change touches by itself: those of a member that came, and the one
 /// whose entry is another than before.
-pub fn seed(work: &mut Work, dict: &Dictionary, now: &Answers, undo: &Edit) -> Result<(), NoMemory>
+pub fn seed(
+    work: &mut Work,
+    dict: &Dictionary,
+    now: &Answers,
+    undo: &Edit,
+    own: Option<Slot>,
+) -> Result<(), NoMemory>
+    requires own { (s : OneSlot) → is_slot own s ≡ differs (change undo.now) (answered now.now) s }
     requires undone { IsUndone (accepted dict.now) (change undo.now) (answered now.now) }
     requires empty { (q : Due) → waits work.old q ≡ false }
     ensures { OnOk result (AreWaiting (accepted dict.now) work.new (λ s. stands (accepted dict.now).tree (answered now.now) s && is_touched_first (change undo.now) (answered now.now) s)) }
@@ -146,5 +153,5 @@ pub fn seed(work: &mut Work, dict: &Dictionary, now: &Answers, undo: &Edit) -> R
     let facts = dict.by_rank();
     let _source = dict.source();
     add_came_if(work, dict, newcomer(undo, now), facts)?;
-    add_own(work, dict, own_slot(undo, now))
+    add_own(work, dict, own)
 }

@@ -1,5 +1,5 @@
 // What a change did, read off the edit that undoes it.
-ghost use Rattle.std.specs.Prelude.{◌≡◌, ◌&&◌, ℕ, not, option_copied};
+ghost use Rattle.std.specs.Prelude.{◌≡◌, ◌&&◌, ℕ, Some, not, option_copied};
 ghost use Rattle.fact_values.specs.declared.slot.Slot.{Slot as OneSlot};
 ghost use Rattle.three_state.specs.Equality.{value_same};
 ghost use Rattle.answers.specs.Change.{Fits};
@@ -52,30 +52,64 @@ fn unless_same(slot: Slot, same: bool) -> Option<Slot>
     if same { None } else { Some(slot) }
 }
 
-/// The slot whose entry is another than before, if there is one.
-pub fn own_slot(undo: &Edit, now: &Answers) -> Option<Slot>
-    ensures { (s : OneSlot) → is_slot result s ≡ differs (change undo.now) (answered now.now) s }
+/// What an edit did to the slot that it names.
+#[derive(Clone, Copy)]
+pub struct Effect {
+    /// The slot, if its entry is another than before.
+    pub own: Option<Slot>,
+    /// Whether the answers extend those before.
+    pub extended: bool,
+}
+
+/// What the change did, from one look at the slot.
+pub fn effect_of(undo: &Edit, now: &Answers) -> Effect
+    ensures own { (s : OneSlot) → is_slot result.own s ≡ differs (change undo.now) (answered now.now) s }
+    ensures extended { result.extended ≡ is_extended (change undo.now) (answered now.now) }
 {
     match undo {
-        Edit::Value(slot, before) => unless_same(*slot, same_values(before, now.value(*slot))),
-        Edit::Override(slot, before) => {
-            unless_same(*slot, same_values(before, now.override_of(*slot)))
-        }
-        Edit::OpenList(list) => Some(of_list(*list)),
-        Edit::CloseList(list) => Some(of_list(*list)),
-        Edit::AddNew(list) => Some(of_list(*list)),
-        Edit::TakeNew(list, _) => Some(of_list(*list)),
-        Edit::Remove(list, _) => Some(of_list(*list)),
-        Edit::PutBack(list, _) => Some(of_list(*list)),
+        Edit::Value(slot, before) => of_value(*slot, before, now.value(*slot)),
+        Edit::Override(slot, before) => of_override(*slot, before, now.override_of(*slot)),
+        Edit::OpenList(list) => of_list(*list, false),
+        Edit::CloseList(list) => of_list(*list, true),
+        Edit::AddNew(list) => of_list(*list, false),
+        Edit::TakeNew(list, closed) => of_list(*list, *closed),
+        Edit::Remove(list, _) => of_list(*list, false),
+        Edit::PutBack(list, _) => of_list(*list, false),
     }
 }
 
-fn of_list(list: u32) -> Slot
-    ensures { result ≡ record { fact = list; member = 0 } }
+fn of_value(slot: Slot, before: &Option<Value>, now: Option<&Value>) -> Effect
+    ensures own { (s : OneSlot) → is_slot result.own s
+        ≡ (slot_same slot s && not (both_same value_same before.now (option_copied now.entry))) }
+    ensures extended { result.extended ≡ is_kept value_same before.now (option_copied now.entry) }
 {
-    Slot {
-        fact: list,
-        member: 0,
+    Effect {
+        own: unless_same(slot, same_values(before, now)),
+        extended: is_kept(before, now),
+    }
+}
+
+fn of_override(slot: Slot, before: &Option<Value>, now: Option<&Value>) -> Effect
+    ensures own { (s : OneSlot) → is_slot result.own s
+        ≡ (slot_same slot s && not (both_same value_same before.now (option_copied now.entry))) }
+    ensures extended { result.extended ≡ both_same value_same before.now (option_copied now.entry) }
+{
+    let same = same_values(before, now);
+    Effect {
+        own: unless_same(slot, same),
+        extended: same,
+    }
+}
+
+fn of_list(list: u32, extended: bool) -> Effect
+    ensures { result ≡ record { own = Some (record { fact = list; member = 0 }); extended = extended } }
+{
+    Effect {
+        own: Some(Slot {
+            fact: list,
+            member: 0,
+        }),
+        extended,
     }
 }
 
@@ -115,21 +149,5 @@ pub fn gone(undo: &Edit, now: &Answers) -> Option<u32>
         Edit::CloseList(_) => None,
         Edit::TakeNew(_, _) => None,
         Edit::Remove(_, _) => None,
-    }
-}
-
-/// Whether the answers extend those before.
-pub fn is_extended(undo: &Edit, now: &Answers) -> bool
-    ensures { result ≡ is_extended (change undo.now) (answered now.now) }
-{
-    match undo {
-        Edit::Value(slot, before) => is_kept(before, now.value(*slot)),
-        Edit::Override(slot, before) => same_values(before, now.override_of(*slot)),
-        Edit::OpenList(_) => false,
-        Edit::CloseList(_) => true,
-        Edit::AddNew(_) => false,
-        Edit::TakeNew(_, closed) => *closed,
-        Edit::Remove(_, _) => false,
-        Edit::PutBack(_, _) => false,
     }
 }

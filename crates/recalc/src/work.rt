@@ -63,6 +63,16 @@ impl Work {
         if is_noted(&self.last, due) {
             return Ok(());
         }
+        self.insert(due)
+    }
+
+    // The same of one that isn't noted. A function of its own, since most slots that are let wait are noted, and a call keeps
+    // room for all that its function may do.
+    #[inline(never)]
+    fn insert(&mut self, due: Due) -> Result<(), NoMemory>
+        ensures ok { OnOk result ((q : Due) → waits self.new q ≡ (due_same q due || waits self.old q)) }
+        ensures err { OnErr result ((q : Due) → waits self.new q ≡ waits self.old q) }
+    {
         self.due.insert(due)?;
         note(&mut self.last, due.fact, Some(due));
         Ok(())

@@ -10,14 +10,14 @@ use Rattle.recalc.proofs.changing.go_on.Goals as goal
 pub run-requires-clause-course : goal.run-requires-clause-course
 run-requires-clause-course g c =
     subst (λ (x : Bool). IsCourse (record { dict = accepted c.args.dict.now; now = answered c.args.now.now; extended = x; gone = c.args.gone; stamp = c.args.stamp }) (between (accepted c.args.dict.now) (applied (change c.args.undo.now) (answered c.args.now.now)) (answered c.args.now.now)) c.args.store.now.cells)
-    (sym c.is_extended.ensures)
+    (sym c.effect_of-effect.ensures.extended)
     (change_course (names_of c.args.dict.now.checks) (accepted c.args.dict.now) c.source-source.ensures.is_accepted (change c.args.undo.now) (answered c.args.now.now) c.requires.undone
     c.args.gone c.requires.gone c.args.stamp c.args.store.now.cells c.requires.results)
 
 pub run-requires-clause-start : goal.run-requires-clause-start
 run-requires-clause-start g c =
     subst (λ (x : Bool). IsRunning (record { dict = accepted c.args.dict.now; now = answered c.args.now.now; extended = x; gone = c.args.gone; stamp = c.args.stamp }) (between (accepted c.args.dict.now) (applied (change c.args.undo.now) (answered c.args.now.now)) (answered c.args.now.now)) c.args.store.now.cells c.seed.new.work [] c.args.store.now.cells)
-    (sym c.is_extended.ensures)
+    (sym c.effect_of-effect.ensures.extended)
     (change_running (names_of c.args.dict.now.checks) (accepted c.args.dict.now) c.source-source.ensures.is_accepted (change c.args.undo.now) (answered c.args.now.now) c.requires.undone
     c.args.gone c.requires.gone c.args.stamp c.args.store.now.cells c.requires.results c.seed.new.work c.in_ok-seed.ensures)
 

@@ -1,6 +1,6 @@
 use Rattle.recalc.proofs.DueLaws.{added}
 use Rattle.recalc.proofs.NotedLaws.{noted_added}
-use Rattle.recalc.proofs.work.Work.add.Goals as goal
+use Rattle.recalc.proofs.work.Work.insert.Goals as goal
 
 pub invariant_of-self-2 : goal.invariant_of-self-2
 invariant_of-self-2 c = rw c.note.ensures (noted_added c.self.inside.due.keys c.insert.new.self.keys c.self.inside.last.items c.args.due c.self.invariant
