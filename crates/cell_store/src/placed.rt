@@ -109,7 +109,8 @@ impl Placed {
         }
     }
 
-    /// The cell of a slot.
+    /// The cell of a slot. It stands apart from the look-up of global facts, which is the more frequent by far and the shorter.
+    #[inline(never)]
     #[tactic(auto, using(crate::proofs::PlaceLaws::get_cells_at))]
     pub fn cell(&self, slot: Slot) -> Option<&Cell>
         ensures { option_copied result ≡ map.get self.now.cells slot }

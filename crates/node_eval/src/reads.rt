@@ -171,7 +171,8 @@ fn see_reached(alloc: Global, end: Reached, fold: &mut ManyFold) -> Result<(), N
     Ok(())
 }
 
-// Sees the result of a Dependency that may go through an item.
+// Sees the result of a Dependency that may go through an item. It stands apart, so that others don't keep room for it.
+#[inline(never)]
 fn see_far<C: Cells>(
     alloc: Global,
     cells: &C,
