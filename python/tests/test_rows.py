@@ -1,9 +1,10 @@
-"""The stored cases of tests/rows whose words the library serves: each line has the stored reply."""
+"""The stored cases of tests/rows whose words the library serves: each line has the stored reply, and so has the call that it is."""
 
 import unittest
 
 from fact_graph import DictionaryRefused, SavedRefused, Session
 
+from .calls import replies
 from .places import script
 
 rows = script("run_rows")
@@ -40,8 +41,12 @@ def begun(case):
     return {"load": Session.load, "carry": Session.carry}.get(case.words[0], Session)(*files(case))
 
 
-def said(case):
-    """The text and the status that the program has by the same words."""
+def by_lines(session, script):
+    return "".join(session.line(line) for line in script.split(b"\n"))
+
+
+def said(case, answered):
+    """The text and the status that the program has by the same words, where the script is answered so."""
     try:
         session = begun(case)
     except DictionaryRefused as refused:
@@ -50,21 +55,27 @@ def said(case):
         return f"{refused}\n", 8
     with session:
         dropped = "".join(f"dropped {kind} {slot}\n" for kind, slot in session.dropped)
-        replies = "".join(session.line(line) for line in case.script.split(b"\n"))
-        return (session.save().decode() if case.words[0] == "save" else dropped + replies), 0
+        text = answered(session, case.script)
+        return (session.save().decode() if case.words[0] == "save" else dropped + text), 0
 
 
 class StoredCases(unittest.TestCase):
-    def test_each_line_has_the_stored_reply(self):
+    def has_the_stored_replies(self, answered):
         count = 0
         for case in found():
             if is_served(case):
                 count += 1
-                text, status = said(case)
+                text, status = said(case, answered)
                 if (text.encode(), status) != (case.due, case.status):
                     with self.subTest(case.place):
                         self.fail(f"{rows.first_difference(case.due, text.encode())}; status {status} for {case.status}")
         self.assertGreater(count, 600)
+
+    def test_each_line_has_the_stored_reply(self):
+        self.has_the_stored_replies(by_lines)
+
+    def test_each_call_has_the_stored_reply(self):
+        self.has_the_stored_replies(replies)
 
 
 if __name__ == "__main__":

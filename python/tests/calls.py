@@ -1,0 +1,121 @@
+"""Lines of a script as the calls that they are, and what these come to as the program writes it."""
+
+import re
+
+from fact_graph import Refused, Session
+from fact_graph.dictionary import path_of
+from fact_graph.values import READERS, text_of
+
+VALUED = {"set": Session.set, "override": Session.override}
+CHANGES = {"clear": Session.clear, "open": Session.open_list, "release": Session.release}
+STEPS = {"undo": Session.undo, "redo": Session.redo}
+WATCHES = {"watch": Session.watch, "unwatch": Session.unwatch}
+# The most bytes of a line, one last byte 13 counted.
+LIMIT = 4_096
+# The forms of commands; any other line is no call.
+FORMS = [
+    re.compile(r"(set|override) ([^ ]*) (.*)", re.DOTALL),
+    re.compile(r"(remove) ([^ ]*) #([1-9][0-9]*)"),
+    re.compile(r"(watch|unwatch) ([^ ]*) (.*)", re.DOTALL),
+    re.compile(r"(clear|open|add|release|get|final|stamp|missing) (.*)", re.DOTALL),
+    re.compile(r"(undo|redo|touched)"),
+]
+
+
+def parts_of(line):
+    """The verb of a line and what stands behind it; nothing where the line is no call."""
+    if len(line) > LIMIT:
+        return None
+    try:
+        text = line.removesuffix(b"\r").decode()
+    except UnicodeDecodeError:
+        return None
+    found = (form.fullmatch(text) for form in FORMS)
+    return next((match.groups() for match in found if match), None)
+
+
+def type_of(session, slot):
+    """The name of a slot's type, where there is one."""
+    fact = session.dictionary.facts.get(path_of(slot))
+    return fact.type.name if fact else None
+
+
+def typed(session, slot, text):
+    """The value of a text, where it is written as a session prints it; else the text itself."""
+    try:
+        value = READERS[type_of(session, slot)](text)
+        return value if text_of(value) == text else text
+    except (ArithmeticError, KeyError, TypeError, ValueError):
+        return text
+
+
+def shown(session, slot, value):
+    """Of any value, also one that can't be written, the text with a blank before it."""
+    if type_of(session, slot) == "Item":
+        return f" #{value}"
+    if isinstance(value, tuple):
+        return " [" + " ".join(f"#{member}" for member in value) + "]"
+    return f" {text_of(value)}"
+
+
+def change(session, verb, rest):
+    """Makes a change, and says what its reply says of it; nothing where the verb makes none."""
+    if verb in VALUED:
+        VALUED[verb](session, rest[0], typed(session, *rest))
+    elif verb in CHANGES:
+        CHANGES[verb](session, *rest)
+    elif verb in STEPS:
+        STEPS[verb](session)
+    elif verb == "remove":
+        session.remove(rest[0], int(rest[1]))
+    elif verb == "add":
+        return f"ok #{session.add(*rest)}"
+    else:
+        return None
+    return "ok"
+
+
+def question(session, verb, rest):
+    """The lines of what a question is answered."""
+    if verb == "get":
+        kind, value, fault = session.get(*rest)
+        return [kind + (f" {fault}" if fault else "" if value is None else shown(session, *rest, value))]
+    if verb == "final":
+        value = session.final(*rest)
+        return ["open" if value is None else "final" + shown(session, *rest, value)]
+    if verb == "missing":
+        slots = session.missing(*rest)
+        return [f"missing {len(slots)}", *slots]
+    if verb == "stamp":
+        return [f"stamp {session.stamp(*rest)}"]
+    if verb == "touched":
+        return [f"touched {session.touched()}"]
+    WATCHES[verb](session, *rest)
+    return ["ok"]
+
+
+def replied(session, verb, rest):
+    said = change(session, verb, rest)
+    return question(session, verb, rest) if said is None else [said, *(f"watch {name} {slot}" for name, slot in session.fired)]
+
+
+def reply(session, line):
+    """What the program writes to a line, from the call that it is; from the line itself where it is none."""
+    parts = parts_of(line)
+    if parts is None:
+        return session.line(line)
+    try:
+        lines = replied(session, parts[0], parts[1:])
+    except Refused as refused:
+        lines = [str(refused)]
+    return "".join(text + "\n" for text in lines)
+
+
+def replies(session, script):
+    """What the program writes to a script, call by call, up to `quit`."""
+    said = []
+    for line in script.split(b"\n"):
+        if line.removesuffix(b"\r") == b"quit":
+            break
+        said.append(reply(session, line))
+    return "".join(said)
