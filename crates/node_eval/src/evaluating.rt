@@ -167,7 +167,7 @@ fn see_operand<C: Cells, L: Ledger>(
 {
     match operand {
         Node::Read(NodeRead::Dependency, reader) => {
-            see_dependency(alloc, cells, at, *reader, fold, steps)
+            see_dependency(alloc, cells, at, reader, fold, steps)
         }
         _ => see_visited(alloc, cells, at, operand, fold, steps),
     }

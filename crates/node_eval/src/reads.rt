@@ -137,7 +137,17 @@ fn reached_test(end: Reached) -> Res
 
 // ---- a Dependency that is an operand
 
+// Sees a slot without a cell, which is rare.
+#[inline(never)]
+fn see_missing(fold: &mut ManyFold)
+    requires few { fold.old.count + 1 < 2 ^ 64 }
+    ensures next { fold.new ≡ saw fold.old Incomplete }
+{
+    fold.see(Res::Incomplete);
+}
+
 // Sees what is read of a fact at a member, where it stands.
+#[inline(always)]
 fn see_cell<C: Cells>(
     alloc: Global,
     cells: &C,
@@ -152,7 +162,7 @@ fn see_cell<C: Cells>(
     match cells.cell(Slot { fact, member }) {
         Some(res) => fold.see_lent(alloc, res),
         None => {
-            fold.see(Res::Incomplete);
+            see_missing(fold);
             Ok(())
         }
     }
@@ -195,22 +205,23 @@ pub fn see_dependency<C: Cells, L: Ledger>(
     alloc: Global,
     cells: &C,
     at: Place,
-    reader: Reader,
+    reader: &Reader,
     fold: &mut ManyFold,
     steps: &mut Steps<L>,
 ) -> Result<(), NoMemory>
     requires few { fold.old.count + 1 < 2 ^ 64 }
-    ensures next { OnOk result (fold.new ≡ saw fold.old (dependency (C.look cells.now) at reader)) }
-    ensures memory { IsErr result → ValueHoldsMemory (dependency (C.look cells.now) at reader) }
+    ensures next { OnOk result (fold.new ≡ saw fold.old (dependency (C.look cells.now) at reader.now)) }
+    ensures memory { IsErr result → ValueHoldsMemory (dependency (C.look cells.now) at reader.now) }
     ensures step { steps.new ≡ steps.old + 1 }
 {
     steps.tick();
-    match reader {
-        Reader::Global(fact) => see_cell(alloc, cells, fact, 0, fold),
-        Reader::Same(fact) => see_cell(alloc, cells, fact, at.own, fold),
-        Reader::Inner(fact) => see_cell(alloc, cells, fact, at.inner, fold),
-        _ => see_far(alloc, cells, at, reader, fold),
-    }
+    let (fact, member) = match reader {
+        Reader::Global(fact) => (*fact, 0),
+        Reader::Same(fact) => (*fact, at.own),
+        Reader::Inner(fact) => (*fact, at.inner),
+        _ => return see_far(alloc, cells, at, *reader, fold),
+    };
+    see_cell(alloc, cells, fact, member, fold)
 }
 
 // ---- the members of a collection

@@ -38,6 +38,7 @@ impl Gathered {
     }
 
     /// Sees the next value, which stays where it is: it is copied where it is kept.
+    #[inline(always)]
     pub fn see_lent(&mut self, alloc: Global, value: &Value) -> Result<(), NoMemory>
         requires few { calls_of self.old < 2 ^ 64 }
         ensures ok { OnOk result (self.new ≡ gathered_next self.old value.now) }
@@ -98,6 +99,7 @@ fn keep_lesser(least: &mut Option<Value>, value: Value)
 }
 
 /// The same of a value that stays where it is, and is copied where it is kept.
+#[inline(never)]
 fn keep_greater_lent(
     alloc: Global,
     greatest: &mut Option<Value>,
@@ -118,6 +120,7 @@ fn keep_greater_lent(
     Ok(())
 }
 
+#[inline(never)]
 fn keep_lesser_lent(alloc: Global, least: &mut Option<Value>, value: &Value) -> Result<(), NoMemory>
     ensures ok { OnOk result (least.new ≡ lesser_next least.old value.now) }
     ensures unchanged { OnErr result (least.new ≡ least.old) }

@@ -56,6 +56,7 @@ impl Kept {
         }
     }
 
+    #[inline(always)]
     #[tactic(auto, unfolding(crate::specs::ManyFolds::kept_next))]
     pub fn see_lent(&mut self, alloc: Global, operand: &Res) -> Result<(), NoMemory>
         requires few { calls_kept self.old < 2 ^ 64 }
@@ -102,6 +103,7 @@ fn gather(gathered: &mut Gathered, operand: Res)
 }
 
 /// Sees an operand of a strict operation, which stays where it is. One that is complete leaves the verdict as it was.
+#[inline(always)]
 #[tactic(auto, using(crate::proofs::ManyLaws::complete_leaves_verdict))]
 fn see_strict(
     alloc: Global,
@@ -117,14 +119,30 @@ fn see_strict(
 {
     match operand {
         Res::Complete(v) => gathered.see_lent(alloc, v),
-        Res::Placeholder(v) => {
-            gathered.see_lent(alloc, v)?;
-            verdict.see(operand);
-            Ok(())
-        }
-        _ => {
-            verdict.see(operand);
-            Ok(())
-        }
+        _ => see_any(alloc, verdict, gathered, operand),
     }
+}
+
+/// The same of any operand. It stands apart, so that one that is complete doesn't keep room for it.
+#[inline(never)]
+fn see_any(
+    alloc: Global,
+    verdict: &mut Strict,
+    gathered: &mut Gathered,
+    operand: &Res,
+) -> Result<(), NoMemory>
+    requires few { calls_of gathered.old < 2 ^ 64 }
+    ensures verdict { OnOk result (verdict.new ≡ verdict_next verdict.old operand.now) }
+    ensures gathered { OnOk result (gathered.new ≡ gathered_after gathered.old operand.now) }
+    ensures unchanged { OnErr result ((verdict.new ≡ verdict.old) × (gathered.new ≡ gathered.old)) }
+    ensures memory { IsErr result → ValueHoldsMemory operand.now }
+{
+    match operand {
+        Res::Complete(v) => gathered.see_lent(alloc, v)?,
+        Res::Placeholder(v) => gathered.see_lent(alloc, v)?,
+        Res::Incomplete => {}
+        Res::Fault(_) => {}
+    }
+    verdict.see(operand);
+    Ok(())
 }

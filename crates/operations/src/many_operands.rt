@@ -55,6 +55,7 @@ impl ManyFold {
     }
 
     /// Sees the next operand, which stays where it is. It wants memory where a text or a list of members may be kept.
+    #[inline(always)]
     #[tactic(auto, unfolding(crate::specs::ManyFolds::kept_next))]
     pub fn see_lent(&mut self, alloc: Global, operand: &Res) -> Result<(), NoMemory>
         requires few { self.old.count + 1 < 2 ^ 64 }

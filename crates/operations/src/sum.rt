@@ -24,6 +24,7 @@ pub enum Summed {
 
 impl Summed {
     /// Adds a value to those seen.
+    #[inline(always)]
     pub fn add(&mut self, value: &Value)
         requires few { calls_in self.old < 2 ^ 64 }
         ensures { self.new ≡ added self.old value.now }
@@ -32,12 +33,13 @@ impl Summed {
             Summed::Nothing => *self = first_summed(value),
             Summed::Ints(total) => total.plus(whole_in(value).get()),
             Summed::Dollars(total) => total.plus(dollar_in(value).cents()),
-            Summed::First(q) => *self = Summed::Two(*q, ratio_in(value)),
+            Summed::First(q) => *self = second_summed(*q, value),
             Summed::Two(_, _) => {}
         }
     }
 
     /// Takes a value away from the first one, which is seen alike.
+    #[inline(always)]
     pub fn subtract(&mut self, value: &Value)
         requires few { calls_in self.old < 2 ^ 64 }
         ensures { self.new ≡ subtracted self.old value.now }
@@ -46,7 +48,7 @@ impl Summed {
             Summed::Nothing => *self = first_summed(value),
             Summed::Ints(total) => total.minus(whole_in(value).get()),
             Summed::Dollars(total) => total.minus(dollar_in(value).cents()),
-            Summed::First(q) => *self = Summed::Two(*q, ratio_in(value)),
+            Summed::First(q) => *self = second_summed(*q, value),
             Summed::Two(_, _) => {}
         }
     }
@@ -79,6 +81,7 @@ impl Summed {
 }
 
 /// What is kept of the first value.
+#[inline(never)]
 fn first_summed(value: &Value) -> Summed
     ensures { result ≡ first_summed value.now }
 {
@@ -87,6 +90,14 @@ fn first_summed(value: &Value) -> Summed
         Value::Rational(q) => Summed::First(*q),
         _ => Summed::Ints(Total::new(whole_in(value).get())),
     }
+}
+
+/// What is kept of the first fraction and the next value.
+#[inline(never)]
+fn second_summed(first: Rational, value: &Value) -> Summed
+    ensures { result ≡ Summed.Two first (ratio_in value.now) }
+{
+    Summed::Two(first, ratio_in(value))
 }
 
 /// The sum as a whole number.

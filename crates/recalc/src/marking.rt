@@ -1,13 +1,17 @@
 // Which slots wait once the result of a slot has moved.
 ghost use Rattle.std.specs.Prelude.{◌≡◌, ◌||◌, ◌&&◌, All, OnOk, is_some, option_copied};
 ghost use Rattle.std.specs.List.{list_any};
+ghost use Rattle.answers.specs.Answered.{value_of};
+ghost use Rattle.answers.specs.Meaning.{answered};
+ghost use Rattle.answers.specs.declared.edit.Side.TheVariants.{Override};
 ghost use Rattle.dict_tree.specs.Finding.{IsNumber};
 ghost use Rattle.dictionary.specs.Accepted.{accepted};
 ghost use Rattle.dictionary.specs.Final.{is_complete_in};
+ghost use Rattle.dictionary.specs.Steady.{steady};
 ghost use Rattle.recalc.specs.Courses.{setting_of};
 ghost use Rattle.recalc.specs.Passages.{is_shielded};
 ghost use Rattle.recalc.specs.Readers.{marks_at, reads_at};
-ghost use Rattle.recalc.specs.Running.{let_by, let_by_all, shielded_in};
+ghost use Rattle.recalc.specs.Running.{let_by, let_by_all, seen, shielded_in};
 ghost use Rattle.recalc.specs.Waiting.{waits};
 ghost use Rattle.recalc.specs.declared.work.Due.{Due};
 
@@ -39,6 +43,7 @@ pub fn mark(
     Ok(())
 }
 
+#[inline(always)]
 fn mark_reader(
     work: &mut Work,
     course: &Course,
@@ -61,6 +66,7 @@ fn mark_reader(
     }
 }
 
+#[inline(never)]
 fn mark_members(
     work: &mut Work,
     course: &Course,
@@ -80,6 +86,7 @@ fn mark_members(
     Ok(())
 }
 
+#[inline(always)]
 fn mark_member(
     work: &mut Work,
     course: &Course,
@@ -112,12 +119,21 @@ fn is_shielded(course: &Course, store: &Store, slot: Slot) -> bool
     requires { IsNumber (accepted course.now.dict.now).tree.facts slot.fact }
     ensures { result ≡ shielded_in (setting_of course.now) store.now.cells slot }
 {
+    course.extended && is_final(course, store, slot)
+}
+
+// It is complete, and either overridden or steady. It stands apart, since most changes extend no answers.
+#[inline(never)]
+fn is_final(course: &Course, store: &Store, slot: Slot) -> bool
+    requires { IsNumber (accepted course.now.dict.now).tree.facts slot.fact }
+    ensures { result ≡ (is_complete_in (seen course.now.gone store.now.cells slot)
+        && (is_some (value_of Override (answered course.now.answers.now) slot) || steady (accepted course.now.dict.now) slot.fact)) }
+{
     let seen = Seen {
         store,
         gone: course.gone,
     };
-    course.extended
-        && is_complete(seen.cell(slot))
+    is_complete(seen.cell(slot))
         && (course.answers.override_of(slot).is_some() || course.dict.steady(slot.fact))
 }
 

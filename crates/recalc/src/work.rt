@@ -56,6 +56,7 @@ impl Work {
     }
 
     /// Lets one more wait, which may wait already.
+    #[inline(always)]
     pub fn add(&mut self, due: Due) -> Result<(), NoMemory>
         ensures ok { OnOk result ((q : Due) → waits self.new q ≡ (due_same q due || waits self.old q)) }
         ensures err { OnErr result ((q : Due) → waits self.new q ≡ waits self.old q) }
