@@ -1,12 +1,15 @@
-// A plain engine to compare `interview run NAME` with: the same commands and replies, in ordinary Rust.
-// Build it by `rustc -O --edition 2021 main.rs`.
+// Plain engines to compare `interview run NAME` with: the same commands and replies, in ordinary Rust.
+// Build them by `rustc -O --edition 2021 main.rs`.
 //
-// It works as the program does where that counts for time: the first get after a set works out every fact anew, and
-// each reply is written out by itself as soon as it is whole (Rust's standard output flushes at each newline).
-// It does less than the program in some ways: it reads a dictionary with the keys in the order of the examples alone,
-// straight into facts, and it knows no limits on the sizes of dictionary and script.
+// By the word `run` the first get after a set works out every fact anew; by `run-incremental` a set works out what it
+// may move, by rank, as the program does. Each reply is written out by itself as soon as it is whole (Rust's standard
+// output flushes at each newline).
+// They do less than the program in some ways: they read a dictionary with the keys in the order of the examples alone,
+// straight into facts, they know sums of amounts and no other value or node, and no limits on the sizes of dictionary
+// and script. check.rs reads whole dictionaries.
 
-use std::collections::HashMap;
+use std::cmp::Reverse;
+use std::collections::{BinaryHeap, HashMap};
 use std::io::{self, BufRead, Write};
 use std::process::exit;
 
@@ -117,7 +120,7 @@ fn amount_in(text: &str) -> Option<i64> {
     Some(if text.starts_with('-') { -size } else { size })
 }
 
-#[derive(Clone, Copy)]
+#[derive(Clone, Copy, PartialEq)]
 enum Res {
     Complete(i64),
     Incomplete,
@@ -140,36 +143,107 @@ fn sum(results: &[Res], operands: &[usize]) -> Res {
     Res::Complete(total as i64)
 }
 
+// The facts that may have moved, the lowest rank first.
+#[derive(Default)]
+struct Waiting {
+    by_rank: BinaryHeap<Reverse<(usize, usize)>>,
+    is_waiting: Vec<bool>,
+    ranks: Vec<usize>,
+    readers: Vec<Vec<usize>>,
+}
+
+impl Waiting {
+    fn of(dictionary: &Dictionary) -> Waiting {
+        let count = dictionary.bodies.len();
+        let mut waiting =
+            Waiting { is_waiting: vec![false; count], readers: vec![Vec::new(); count], ..Waiting::default() };
+        for (place, body) in dictionary.bodies.iter().enumerate() {
+            let mut rank = 0;
+            if let Body::Sum(operands) = body {
+                for operand in operands {
+                    rank = rank.max(waiting.ranks[*operand] + 1);
+                    if waiting.readers[*operand].last() != Some(&place) {
+                        waiting.readers[*operand].push(place);
+                    }
+                }
+            }
+            waiting.ranks.push(rank);
+        }
+        waiting
+    }
+
+    fn push(&mut self, place: usize) {
+        if !self.is_waiting[place] {
+            self.is_waiting[place] = true;
+            self.by_rank.push(Reverse((self.ranks[place], place)));
+        }
+    }
+
+    fn push_readers(&mut self, place: usize) {
+        for at in 0..self.readers[place].len() {
+            self.push(self.readers[place][at]);
+        }
+    }
+
+    fn pop(&mut self) -> Option<usize> {
+        let Reverse((_, place)) = self.by_rank.pop()?;
+        self.is_waiting[place] = false;
+        Some(place)
+    }
+}
+
 struct Session {
     dictionary: Dictionary,
     answers: Vec<Option<i64>>,
     results: Vec<Res>,
     is_current: bool,
+    /// None where each get after a set works all out anew.
+    waiting: Option<Waiting>,
 }
 
 impl Session {
+    fn result_of(&self, place: usize) -> Res {
+        match &self.dictionary.bodies[place] {
+            Body::Writable => self.answers[place].map_or(Res::Incomplete, Res::Complete),
+            Body::Sum(operands) => sum(&self.results, operands),
+        }
+    }
+
     fn refresh(&mut self) {
-        for (place, body) in self.dictionary.bodies.iter().enumerate() {
-            self.results[place] = match body {
-                Body::Writable => self.answers[place].map_or(Res::Incomplete, Res::Complete),
-                Body::Sum(operands) => sum(&self.results, operands),
-            };
+        for place in 0..self.results.len() {
+            self.results[place] = self.result_of(place);
         }
         self.is_current = true;
     }
 
+    // Works out what the answer at this place may move.
+    fn spread(&mut self, place: usize, mut waiting: Waiting) -> Waiting {
+        waiting.push(place);
+        while let Some(place) = waiting.pop() {
+            let result = self.result_of(place);
+            if result != self.results[place] {
+                self.results[place] = result;
+                waiting.push_readers(place);
+            }
+        }
+        waiting
+    }
+
     fn set(&mut self, name: &str, value: &str, out: &mut impl Write) -> io::Result<()> {
-        let Some(place) = self.dictionary.places.get(name) else {
+        let Some(&place) = self.dictionary.places.get(name) else {
             return writeln!(out, "refused 3 UnknownFact");
         };
-        if let Body::Sum(_) = self.dictionary.bodies[*place] {
+        if let Body::Sum(_) = self.dictionary.bodies[place] {
             return writeln!(out, "refused 5 WrongKind");
         }
         let Some(amount) = amount_in(value) else {
             return writeln!(out, "refused 6 BadValue");
         };
-        self.answers[*place] = Some(amount);
-        self.is_current = false;
+        self.answers[place] = Some(amount);
+        match self.waiting.take() {
+            Some(waiting) => self.waiting = Some(self.spread(place, waiting)),
+            None => self.is_current = false,
+        }
         writeln!(out, "ok")
     }
 
@@ -213,11 +287,12 @@ fn command_in(line: &[u8]) -> Option<Command<'_>> {
     }
 }
 
-fn run(dictionary: Dictionary) -> io::Result<()> {
+fn run(dictionary: Dictionary, is_incremental: bool) -> io::Result<()> {
     let count = dictionary.bodies.len();
     let answers = vec![None; count];
     let results = vec![Res::Incomplete; count];
-    let mut session = Session { dictionary, answers, results, is_current: false };
+    let waiting = is_incremental.then(|| Waiting::of(&dictionary));
+    let mut session = Session { dictionary, answers, results, is_current: is_incremental, waiting };
     let mut script = io::stdin().lock();
     let mut out = io::stdout().lock();
     let mut kept = Vec::new();
@@ -246,15 +321,16 @@ fn end(text: &str, status: i32) -> ! {
 
 fn main() {
     let words: Vec<String> = std::env::args().skip(1).collect();
-    let name = match words.as_slice() {
-        [command, name] if command == "run" => name,
+    let (name, is_incremental) = match words.as_slice() {
+        [command, name] if command == "run" => (name, false),
+        [command, name] if command == "run-incremental" => (name, true),
         _ => end("usage: interview COMMAND ARGUMENTS", 2),
     };
     let text = std::fs::read_to_string(name).unwrap_or_else(|_| exit(3));
     let Some(dictionary) = Dictionary::read(&text) else {
         end("dictionary refused 3 Shape fact 0", 1);
     };
-    if run(dictionary).is_err() {
+    if run(dictionary, is_incremental).is_err() {
         exit(5);
     }
 }
