@@ -11,8 +11,6 @@ rows = script("run_rows")
 # The words with which a session begins, and how many there are with them. What the system refuses has no part here.
 SERVED = {"run": 2, "save": 2, "load": 3, "carry": 3}
 STATUSES = {0, 1, 8}
-# Longer scripts are of the program's own limits.
-LONGEST = 4_000_000
 
 
 def found():
@@ -32,8 +30,7 @@ def files(case):
 
 def is_served(case):
     word = case.words[0] if case.words else ""
-    is_short = len(case.words) == SERVED.get(word) and case.status in STATUSES and len(case.script) <= LONGEST
-    return is_short and None not in files(case)
+    return len(case.words) == SERVED.get(word) and case.status in STATUSES and None not in files(case)
 
 
 def begun(case):
