@@ -2,11 +2,16 @@
 // Build them by `rustc -O --edition 2021 main.rs`.
 //
 // By the word `run` the first get after a set works out every fact anew; by `run-incremental` a set works out what it
-// may move, by rank, as the program does. Each reply is written out by itself as soon as it is whole (Rust's standard
-// output flushes at each newline).
+// may move, by rank, as the program does; by `run-differences` it adds what a result moved by to the sums that read it,
+// which differences.rs tells. Each reply is written out by itself as soon as it is whole (Rust's standard output flushes
+// at each newline).
 // They do less than the program in some ways: they read a dictionary with the keys in the order of the examples alone,
 // straight into facts, they know sums of amounts and no other value or node, and no limits on the sizes of dictionary
 // and script. check.rs reads whole dictionaries.
+
+mod differences;
+
+use differences::Differences;
 
 use std::cmp::Reverse;
 use std::collections::{BinaryHeap, HashMap};
@@ -53,7 +58,7 @@ fn name_in(path: &str) -> Option<&str> {
     is_name.then_some(name)
 }
 
-enum Body {
+pub enum Body {
     Writable,
     Sum(Vec<usize>),
 }
@@ -107,7 +112,7 @@ impl Dictionary {
 
 // ---- amounts, in cents, and results
 
-const MOST: u128 = 999_999_999_999_999;
+pub const MOST: u128 = 999_999_999_999_999;
 
 fn amount_in(text: &str) -> Option<i64> {
     let size = text.strip_prefix('-').unwrap_or(text);
@@ -121,7 +126,7 @@ fn amount_in(text: &str) -> Option<i64> {
 }
 
 #[derive(Clone, Copy, PartialEq)]
-enum Res {
+pub enum Res {
     Complete(i64),
     Incomplete,
     Overflow,
@@ -141,6 +146,25 @@ fn sum(results: &[Res], operands: &[usize]) -> Res {
         return Res::Overflow;
     }
     Res::Complete(total as i64)
+}
+
+// What works out the results behind a set.
+enum Engine {
+    /// The next get works all out.
+    Anew,
+    ByRank(Waiting),
+    ByDifferences(Differences),
+}
+
+impl Engine {
+    fn of(word: &str, dictionary: &Dictionary) -> Option<Engine> {
+        match word {
+            "run" => Some(Engine::Anew),
+            "run-incremental" => Some(Engine::ByRank(Waiting::of(dictionary))),
+            "run-differences" => Some(Engine::ByDifferences(Differences::of(&dictionary.bodies))),
+            _ => None,
+        }
+    }
 }
 
 // The facts that may have moved, the lowest rank first.
@@ -197,36 +221,40 @@ struct Session {
     answers: Vec<Option<i64>>,
     results: Vec<Res>,
     is_current: bool,
-    /// None where each get after a set works all out anew.
-    waiting: Option<Waiting>,
+    engine: Engine,
+}
+
+fn evaluate(dictionary: &Dictionary, answers: &[Option<i64>], results: &[Res], place: usize) -> Res {
+    match &dictionary.bodies[place] {
+        Body::Writable => answers[place].map_or(Res::Incomplete, Res::Complete),
+        Body::Sum(operands) => sum(results, operands),
+    }
 }
 
 impl Session {
-    fn result_of(&self, place: usize) -> Res {
-        match &self.dictionary.bodies[place] {
-            Body::Writable => self.answers[place].map_or(Res::Incomplete, Res::Complete),
-            Body::Sum(operands) => sum(&self.results, operands),
-        }
-    }
-
     fn refresh(&mut self) {
         for place in 0..self.results.len() {
-            self.results[place] = self.result_of(place);
+            self.results[place] = evaluate(&self.dictionary, &self.answers, &self.results, place);
         }
         self.is_current = true;
     }
 
-    // Works out what the answer at this place may move.
-    fn spread(&mut self, place: usize, mut waiting: Waiting) -> Waiting {
-        waiting.push(place);
-        while let Some(place) = waiting.pop() {
-            let result = self.result_of(place);
-            if result != self.results[place] {
-                self.results[place] = result;
-                waiting.push_readers(place);
+    // Lets the engine know of the answer at this place.
+    fn spread(&mut self, place: usize, amount: i64) {
+        match &mut self.engine {
+            Engine::Anew => self.is_current = false,
+            Engine::ByRank(waiting) => {
+                waiting.push(place);
+                while let Some(place) = waiting.pop() {
+                    let result = evaluate(&self.dictionary, &self.answers, &self.results, place);
+                    if result != self.results[place] {
+                        self.results[place] = result;
+                        waiting.push_readers(place);
+                    }
+                }
             }
+            Engine::ByDifferences(differences) => differences.change(place, amount),
         }
-        waiting
     }
 
     fn set(&mut self, name: &str, value: &str, out: &mut impl Write) -> io::Result<()> {
@@ -240,21 +268,25 @@ impl Session {
             return writeln!(out, "refused 6 BadValue");
         };
         self.answers[place] = Some(amount);
-        match self.waiting.take() {
-            Some(waiting) => self.waiting = Some(self.spread(place, waiting)),
-            None => self.is_current = false,
-        }
+        self.spread(place, amount);
         writeln!(out, "ok")
+    }
+
+    fn result(&mut self, place: usize) -> Res {
+        if let Engine::ByDifferences(differences) = &self.engine {
+            return differences.result(place);
+        }
+        if !self.is_current {
+            self.refresh();
+        }
+        self.results[place]
     }
 
     fn get(&mut self, name: &str, out: &mut impl Write) -> io::Result<()> {
         let Some(&place) = self.dictionary.places.get(name) else {
             return writeln!(out, "refused 3 UnknownFact");
         };
-        if !self.is_current {
-            self.refresh();
-        }
-        match self.results[place] {
+        match self.result(place) {
             Res::Complete(amount) => {
                 let sign = if amount < 0 { "-" } else { "" };
                 let size = amount.unsigned_abs();
@@ -287,12 +319,11 @@ fn command_in(line: &[u8]) -> Option<Command<'_>> {
     }
 }
 
-fn run(dictionary: Dictionary, is_incremental: bool) -> io::Result<()> {
+fn run(dictionary: Dictionary, engine: Engine) -> io::Result<()> {
     let count = dictionary.bodies.len();
     let answers = vec![None; count];
     let results = vec![Res::Incomplete; count];
-    let waiting = is_incremental.then(|| Waiting::of(&dictionary));
-    let mut session = Session { dictionary, answers, results, is_current: is_incremental, waiting };
+    let mut session = Session { dictionary, answers, results, is_current: true, engine };
     let mut script = io::stdin().lock();
     let mut out = io::stdout().lock();
     let mut kept = Vec::new();
@@ -321,16 +352,17 @@ fn end(text: &str, status: i32) -> ! {
 
 fn main() {
     let words: Vec<String> = std::env::args().skip(1).collect();
-    let (name, is_incremental) = match words.as_slice() {
-        [command, name] if command == "run" => (name, false),
-        [command, name] if command == "run-incremental" => (name, true),
-        _ => end("usage: interview COMMAND ARGUMENTS", 2),
+    let [word, name] = words.as_slice() else {
+        end("usage: interview COMMAND ARGUMENTS", 2);
     };
     let text = std::fs::read_to_string(name).unwrap_or_else(|_| exit(3));
     let Some(dictionary) = Dictionary::read(&text) else {
         end("dictionary refused 3 Shape fact 0", 1);
     };
-    if run(dictionary, is_incremental).is_err() {
+    let Some(engine) = Engine::of(word, &dictionary) else {
+        end("usage: interview COMMAND ARGUMENTS", 2);
+    };
+    if run(dictionary, engine).is_err() {
         exit(5);
     }
 }
