@@ -1,9 +1,10 @@
 // A plain incremental engine that keeps sums by differences: what a result moves by is added to each sum that reads it,
 // and no operand is looked at again. It shows how little a change over many sums can take in ordinary Rust.
 //
-// It has the duties of the program's engine: results of each kind, over values of each type, with a stamp; what a change
-// replaced is kept until it is done; the facts of the lowest rank come first; and what was touched is counted. A sum over
-// a result that is no complete amount is worked out from its operands.
+// Of the duties of the program's engine it has these: room for results of each kind, over values of each type, with a
+// stamp; what a change replaced is kept until it is done; the facts of the lowest rank come first; and what was touched is
+// counted. It has no members of collections and no final results, and never runs out of memory. A sum over a result that
+// is no complete amount is worked out from its operands.
 
 use crate::{Body, Res, MOST};
 use std::mem;
@@ -24,32 +25,33 @@ enum Value {
 
 #[derive(PartialEq)]
 #[allow(dead_code)]
-enum Result {
+enum Outcome {
     Complete(Value),
     Placeholder(Value),
     Incomplete,
     Overflow,
 }
 
-fn complete(amount: i64) -> Result {
-    Result::Complete(Value::Dollar(amount))
+fn complete(amount: i64) -> Outcome {
+    Outcome::Complete(Value::Dollar(amount))
 }
 
 // The amount of a complete result. Others count apart.
-fn amount_of(result: &Result) -> Option<i64> {
+fn amount_of(result: &Outcome) -> Option<i64> {
     match result {
-        Result::Complete(Value::Dollar(amount)) => Some(*amount),
+        Outcome::Complete(Value::Dollar(amount)) => Some(*amount),
         _ => None,
     }
 }
 
+// The result of a fact, and the number of the last change that touched it.
 #[allow(dead_code)]
 struct Cell {
-    result: Result,
+    result: Outcome,
     stamp: u64,
 }
 
-// A fact: what its operands add up to, and how many of them have no complete amount.
+// What the operands of a fact add up to, and how many of them have no complete amount. A writable fact has none.
 #[derive(Clone, Copy)]
 struct Sum {
     total: i128,
@@ -110,7 +112,7 @@ impl Differences {
             let rank = operands.iter().map(|operand| all.sums[*operand].rank + 1).max().unwrap_or(0);
             all.waiting.resize_with(all.waiting.len().max(rank as usize + 1), Vec::new);
             all.sums.push(Sum { total: 0, others: operands.len() as i32, rank, is_waiting: false });
-            all.cells.push(Cell { result: Result::Incomplete, stamp: 0 });
+            all.cells.push(Cell { result: Outcome::Incomplete, stamp: 0 });
             all.operands.push(operands);
             all.readers.push(Vec::new());
         }
@@ -119,8 +121,8 @@ impl Differences {
 
     pub fn result(&self, place: usize) -> Res {
         match &self.cells[place].result {
-            Result::Complete(Value::Dollar(amount)) => Res::Complete(*amount),
-            Result::Overflow => Res::Overflow,
+            Outcome::Complete(Value::Dollar(amount)) => Res::Complete(*amount),
+            Outcome::Overflow => Res::Overflow,
             _ => Res::Incomplete,
         }
     }
@@ -142,23 +144,23 @@ impl Differences {
         self.replaced.clear();
     }
 
-    fn sum(&self, place: usize) -> Result {
+    fn sum(&self, place: usize) -> Outcome {
         let sum = &self.sums[place];
         if sum.others == 0 {
             return match sum.total.unsigned_abs() <= MOST {
                 true => complete(sum.total as i64),
-                false => Result::Overflow,
+                false => Outcome::Overflow,
             };
         }
-        let is_incomplete = |operand: &usize| self.cells[*operand].result == Result::Incomplete;
+        let is_incomplete = |operand: &usize| self.cells[*operand].result == Outcome::Incomplete;
         match self.operands[place].iter().any(is_incomplete) {
-            true => Result::Incomplete,
-            false => Result::Overflow,
+            true => Outcome::Incomplete,
+            false => Outcome::Overflow,
         }
     }
 
     // Puts a fact's new result. Where it moved, its readers wait.
-    fn put(&mut self, place: usize, result: Result) {
+    fn put(&mut self, place: usize, result: Outcome) {
         let cell = mem::replace(&mut self.cells[place], Cell { result, stamp: self.stamp });
         let new = &self.cells[place].result;
         if cell.result != *new {

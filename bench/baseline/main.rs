@@ -12,7 +12,6 @@
 mod differences;
 
 use differences::Differences;
-
 use std::cmp::Reverse;
 use std::collections::{BinaryHeap, HashMap};
 use std::io::{self, BufRead, Write};
@@ -239,8 +238,9 @@ impl Session {
         self.is_current = true;
     }
 
-    // Lets the engine know of the answer at this place.
-    fn spread(&mut self, place: usize, amount: i64) {
+    // Answers the fact at this place, and lets the engine know.
+    fn answer(&mut self, place: usize, amount: i64) {
+        self.answers[place] = Some(amount);
         match &mut self.engine {
             Engine::Anew => self.is_current = false,
             Engine::ByRank(waiting) => {
@@ -267,8 +267,7 @@ impl Session {
         let Some(amount) = amount_in(value) else {
             return writeln!(out, "refused 6 BadValue");
         };
-        self.answers[place] = Some(amount);
-        self.spread(place, amount);
+        self.answer(place, amount);
         writeln!(out, "ok")
     }
 
@@ -350,18 +349,18 @@ fn end(text: &str, status: i32) -> ! {
     exit(status)
 }
 
+fn refuse_words() -> ! {
+    end("usage: interview COMMAND ARGUMENTS", 2)
+}
+
 fn main() {
     let words: Vec<String> = std::env::args().skip(1).collect();
-    let [word, name] = words.as_slice() else {
-        end("usage: interview COMMAND ARGUMENTS", 2);
-    };
+    let [word, name] = words.as_slice() else { refuse_words() };
     let text = std::fs::read_to_string(name).unwrap_or_else(|_| exit(3));
     let Some(dictionary) = Dictionary::read(&text) else {
         end("dictionary refused 3 Shape fact 0", 1);
     };
-    let Some(engine) = Engine::of(word, &dictionary) else {
-        end("usage: interview COMMAND ARGUMENTS", 2);
-    };
+    let Some(engine) = Engine::of(word, &dictionary) else { refuse_words() };
     if run(dictionary, engine).is_err() {
         exit(5);
     }
