@@ -1,13 +1,14 @@
 -- What cutting a text gives.
-use Rattle.std.proofs.Common.{◌≡◌, ◌≢◌, ℕ, suc, ◌<◌, Bool, true, false, List, [], ◌∷◌, ◌++◌, length, drop, get_or, Option, Some, None, eqb, eq-eqb, cond, refl, sym, ap, subst, ◌∙◌, arith}
-use Rattle.std.specs.Prelude.{MatchOption, option_map, option_copied}
+use Rattle.std.proofs.Common.{◌≡◌, ◌≢◌, ℕ, suc, ◌+◌, ◌-◌, ◌<◌, Bool, true, false, List, [], ◌∷◌, ◌++◌, length, take, drop, get_or, Option, Some, None, eqb, eq-eqb, cond, refl, sym, ap, subst, ◌∙◌, arith}
+use Rattle.std.specs.Prelude.{All, MatchOption, option_map, option_copied, slice_range}
 use Rattle.std.proofs.lemmas.Bool.{eqb-true}
 use Rattle.std.proofs.lemmas.Bool.Decides.{nat_tests}
+use Rattle.std.proofs.lemmas.List.{drop_more, take-append-drop}
 use Rattle.std.proofs.lemmas.Option.{some_pair_parts}
 use Rattle.std.proofs.lemmas.Str.Pattern.{split_parts, IsSplitOnceResult}
 use Rattle.std.specs.Str.Pattern.{FindsTextPrefix, StripsPrefix}
 use Rattle.common_lemmas.proofs.Options.{mapped}
-use Rattle.fact_paths.specs.Cuts.{Lacks, cut, after}
+use Rattle.fact_paths.specs.Cuts.{IsFirstAt, Lacks, cut, after}
 use denote.Ref.{Bor}
 
 -- a byte that is at no place is nowhere
@@ -40,6 +41,24 @@ cut-lacks c (b ∷ bs) h = other_byte b c _ _ h.0 ∙ ap (option_map (λ p. (b �
 pub cut-append : (c : ℕ) (front rest : List ℕ) → Lacks c front → cut c (front ++ c ∷ rest) ≡ Some (front, rest)
 cut-append c [] rest h = same_byte c _ _
 cut-append c (b ∷ bs) rest h = other_byte b c _ _ h.0 ∙ ap (option_map (λ p. (b ∷ p.0, p.1))) (cut-append c bs rest h.1)
+
+lacks_all : (c : ℕ) (text : List ℕ) → All (λ b. b ≢ c) text → Lacks c text
+lacks_all c text none = Lacks-at c text (λ i lt. none i 0 lt)
+
+pub cut-none : (c : ℕ) (text : List ℕ) → All (λ b. b ≢ c) text → cut c text ≡ None
+cut-none c text none = cut-lacks c text (lacks_all c text none)
+
+-- so it is at a place that is known
+pub cut-first : (c : ℕ) (text front back : List ℕ) (at : ℕ) → IsFirstAt c text at → front ≡ slice_range text 0 at → back ≡ drop (at + 1) text
+    → cut c text ≡ Some (front, back)
+cut-first c text front back at first front_is back_is =
+    let rest = drop (at + 1) text in
+    let parts : text ≡ take at text ++ c ∷ rest =
+    sym (take-append-drop at text) ∙ ap (λ l. take at text ++ l) (drop_more text at 0 first.within ∙ ap (λ b. b ∷ rest) first.here) in
+    let size : at - 0 ≡ at = omega arith in
+    ap (cut c) parts
+    ∙ cut-append c (take at text) rest (lacks_all c (take at text) first.first)
+    ∙ sym (ap (λ (f : List ℕ). Some (f, back)) (front_is ∙ ap (λ (n : ℕ). take n text) size) ∙ ap (λ (b : List ℕ). Some (take at text, b)) back_is)
 
 -- a cut with a byte put in front of it comes from a cut without it
 prepended : (b : ℕ) (o : Option (List ℕ × List ℕ)) (front rest : List ℕ) → option_map {U = List ℕ × List ℕ} (λ p. (b ∷ p.0, p.1)) o ≡ Some (front, rest)

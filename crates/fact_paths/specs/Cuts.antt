@@ -1,10 +1,16 @@
 -- A text and its parts.
-use Rattle.std.specs.Prelude.{◌≢◌, ℕ, ◌==◌, List, [], ◌∷◌, Option, Some, None, option_map, if◌then◌else◌}
+use Rattle.std.specs.Prelude.{◌≡◌, ◌≢◌, ℕ, ◌<◌, ◌==◌, All, length, take, slice_index, List, [], ◌∷◌, Option, Some, None, option_map, if◌then◌else◌}
 
 -- the byte c is nowhere in the text
 abbrev pub Lacks : ℕ → List ℕ → Type 0
 Lacks c [] = Unit {0}
 Lacks c (b ∷ bs) = (b ≢ c) × Lacks c bs
+
+-- the first byte c is here
+pub record IsFirstAt (c : ℕ) (text : List ℕ) (at : ℕ) : Type 0 where
+  pub within : at < length text
+  pub here : slice_index text at ≡ c
+  pub first : All (λ b. b ≢ c) (take at text)
 
 -- what stands before the first byte c, and what stands behind it
 abbrev pub cut : ℕ → List ℕ → Option (List ℕ × List ℕ)

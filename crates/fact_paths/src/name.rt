@@ -45,6 +45,7 @@ fn is_name_text(text: &[u8]) -> bool
 
 impl Name {
     /// The name that the text spells. It takes memory for a copy of the text.
+    #[inline(always)]
     pub fn read(alloc: Global, text: &str) -> Result<Name, PathFault>
         ensures name { IfOk result (λ n. n ≡ text.now) }
         ensures good { IfOk result (λ _. IsName text.now) }

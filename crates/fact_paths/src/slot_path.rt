@@ -92,6 +92,7 @@ fn read_rooted(alloc: Global, text: &str) -> Result<SlotPath, PathFault>
 }
 
 /// The path that the text spells.
+#[inline(always)]
 pub fn read_slot_path(alloc: Global, text: &str) -> Result<SlotPath, PathFault>
     ensures { Reads SpellsSlotPath text.now result }
 {

@@ -114,6 +114,7 @@ fn edit_release(dict: &Dictionary, answers: &Answers, path: &SlotPath) -> Result
 }
 
 /// The edit that the command makes, or its first refusal.
+#[inline(always)]
 pub fn edit_of(
     alloc: Global,
     dict: &Dictionary,

@@ -81,6 +81,7 @@ fn refused_by_limits(
 }
 
 /// The value that the text spells, where it may be the fact's answer.
+#[inline(always)]
 pub fn judge_value(
     alloc: Global,
     dict: &Dictionary,

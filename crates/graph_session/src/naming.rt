@@ -56,6 +56,7 @@ fn member_of(path: &SlotPath) -> u32
 }
 
 /// The slot that the path names, where it stands.
+#[inline(always)]
 pub fn find_slot(dict: &Dictionary, answers: &Answers, path: &SlotPath) -> Result<Slot, Refusal>
     ensures { result ≡ slot_found (rules dict.now) (answered answers.now) path.now }
 {

@@ -334,6 +334,7 @@ fn restore(answers: &mut Answers, undo: Edit)
 }
 
 // Adds a change, for which there is room.
+#[inline(always)]
 fn keep(history: &mut History, undo: Edit)
     requires { CanPush history.old }
     ensures back { behind history.new ≡ change undo ∷ behind history.old }

@@ -1,31 +1,20 @@
 -- The parts of a command behind its first word: what is read of a text is what it spells.
-use Rattle.std.proofs.Common.{◌≡◌, ℕ, List, ◌∷◌, ◌++◌, Option, Some, None, refl, sym, ap, subst, ◌∙◌, arith, Bor}
-use Rattle.std.specs.Prelude.{codes, decimal, option_map, MatchOption}
+use Rattle.std.proofs.Common.{◌≡◌, ℕ, List, ◌∷◌, ◌++◌, Option, Some, None, refl, sym, ap, subst, ◌∙◌}
+use Rattle.std.specs.Prelude.{codes, decimal}
 use Rattle.std.proofs.lemmas.Option.{cond_some, same_Some}
-use Rattle.std.proofs.lemmas.Str.Pattern.{IsSplitOnceResult}
 use Rattle.common_lemmas.proofs.Options.{both_some}
 use Rattle.fact_paths.specs.Cuts.{Lacks, cut, after}
 use Rattle.fact_paths.specs.Names.{is_name, IsName}
 use Rattle.fact_paths.specs.Paths.{IsMemberNumber, IsSlotPath, SpellsSlotPath, slot_path_text}
 use Rattle.fact_paths.specs.Reading.{◌>>=◌, name_of, member_number_of}
 use Rattle.fact_paths.specs.declared.slot_path.SlotPath.{SlotPath}
-use Rattle.fact_paths.proofs.CutLaws.{cut-append, cut_some, cut_from_split, after_some}
+use Rattle.fact_paths.proofs.CutLaws.{cut-append, cut_some, after_some}
 use Rattle.fact_paths.proofs.MemberNumbers.{member_number_some, member_number-decimal}
 use Rattle.fact_paths.proofs.NameLaws.{name_lacks}
 use Rattle.fact_paths.proofs.SlotPathLaws.{slot_lacks_blank, slot_path_reading}
 use Rattle.script_lines.specs.Reading.{at_blank, slot_of, slot_and_value_of, member_of, slot_and_member_of, name_and_slot_of}
 
 -- ---- blanks
-
--- what `split_once` says of a blank
-pub cut_is : (text : List ℕ) (parts : Option (Bor (List ℕ) × Bor (List ℕ))) → IsSplitOnceResult 32 text parts
-    → option_map {T = Bor (List ℕ) × Bor (List ℕ)} {U = List ℕ × List ℕ} (λ p. (p.0.now, p.1.now)) parts ≡ at_blank text
-cut_is text parts is = by_cases parts (cut_from_split 32 text parts (omega arith) is)
-  where
-    by_cases : (parts : Option (Bor (List ℕ) × Bor (List ℕ))) → MatchOption parts (cut 32 text ≡ None) (λ p. cut 32 text ≡ Some (p.0.now, p.1.now))
-        → option_map {T = Bor (List ℕ) × Bor (List ℕ)} {U = List ℕ × List ℕ} (λ p. (p.0.now, p.1.now)) parts ≡ at_blank text
-    by_cases None e = sym e
-    by_cases (Some p) e = sym e
 
 pub name_lacks_blank : (n : List ℕ) → IsName n → Lacks 32 n
 name_lacks_blank n is = name_lacks 32 refl n is

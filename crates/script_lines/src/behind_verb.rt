@@ -1,5 +1,5 @@
 // The commands of more words, each from what stands behind its verb. Each has a function of its own, since a call clears all that
-// its function may hold, whichever arm is taken.
+// its function may hold, whichever arm is taken. The commonest is written out where it is called.
 ghost use Rattle.std.specs.Prelude.{◌≡◌};
 ghost use Rattle.script_lines.specs.Reading.{Gives, command_with};
 ghost use Rattle.script_lines.specs.declared.verb.Verb.TheVariants as verbs;
@@ -10,6 +10,7 @@ use crate::parts::{read_name_and_slot, read_slot, read_slot_and_member, read_slo
 use crate::verb::Verb;
 use std::alloc::Global;
 
+#[inline(always)]
 fn read_set(alloc: Global, rest: &str) -> Result<Command, LineFault>
     ensures { Gives (command_with verbs.Set rest.now) result }
 {

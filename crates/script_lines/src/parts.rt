@@ -1,6 +1,6 @@
 // The parts of a command behind its first word.
-ghost use Rattle.std.specs.Prelude.{◌≡◌, IfOk, IfErr, codes, option_copied, option_map};
-ghost use Rattle.fact_paths.specs.Cuts.{after};
+ghost use Rattle.std.specs.Prelude.{◌≡◌, ◌≢◌, All, IfOk, IfErr, IfNone, IfSome, codes, option_copied, option_map};
+ghost use Rattle.fact_paths.specs.Cuts.{IsFirstAt, after};
 ghost use Rattle.fact_paths.specs.Reading.{name_of};
 ghost use Rattle.script_lines.specs.Reading.{Gives, at_blank as cut_at_blank, slot_of, member_of as member_in, slot_and_value_of, slot_and_member_of, name_and_slot_of};
 ghost use Rattle.script_lines.specs.declared.fault.LineFault.TheVariants.{NoMemory};
@@ -10,11 +10,20 @@ use crate::value::ValueText;
 use fact_paths::{Name, PathFault, SlotPath, read_member_number, read_slot_path};
 use std::alloc::Global;
 
-/// Cuts the text at its first blank.
+// The place of the first blank.
+fn blank_at(text: &[u8]) -> Option<usize>
+    ensures found { IfSome result (IsFirstAt 32 text.now) }
+    ensures none { IfNone result (All (λ b. b ≢ 32) text.now) }
+{
+    text.iter().position(|byte| *byte == b' ')
+}
+
+/// Cuts the text at its first blank. It goes byte by byte, which takes less for a short text than std's search does.
 pub fn at_blank(text: &str) -> Option<(&str, &str)>
     ensures { option_map (λ parts. (parts.0.now, parts.1.now)) result ≡ cut_at_blank text.now }
 {
-    text.split_once(' ')
+    let at = blank_at(text.as_bytes())?;
+    Some((&text[..at], &text[at + 1..]))
 }
 
 /// `SLOT`
@@ -47,6 +56,7 @@ fn copy_value(alloc: Global, text: &str) -> Result<ValueText, LineFault>
 }
 
 /// `SLOT VALUE`
+#[inline(always)]
 pub fn read_slot_and_value(alloc: Global, text: &str) -> Result<(SlotPath, ValueText), LineFault>
     ensures { Gives (slot_and_value_of text.now) result }
 {

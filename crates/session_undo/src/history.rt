@@ -31,6 +31,7 @@ impl History {
     }
 
     /// Takes the memory that the next `push` needs.
+    #[inline(always)]
     pub fn room(&mut self) -> Result<(), NoMemory>
         ensures back { behind self.new ≡ behind self.old }
         ensures ahead { ahead_of self.new ≡ ahead_of self.old }
