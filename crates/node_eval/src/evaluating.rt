@@ -42,6 +42,7 @@ pub fn eval<C: Cells, L: Ledger>(
     ensures value { IfOk result (λ r. r ≡ over (node_env (C.look cells.now)) (record { own = own; inner = inner }) (view node.now)) }
     ensures visited { OnOk result (steps.new ≡ steps.old + visits (node_env (C.look cells.now)) (record { own = own; inner = inner }) (view node.now)) }
     ensures most { steps.new ≤ steps.old + weight (node_env (C.look cells.now)) (record { own = own; inner = inner }) (view node.now) }
+    ensures least { steps.old + 1 ≤ steps.new }
     ensures memory { IsErr result → (d : Domains) (facts : ℕ → Option FactType) → IsTyped d facts (C.look cells.now) (record { own = own; inner = inner }) (view node.now) → SomeGivesTextOrList facts (view node.now) }
 {
     visit(alloc, cells, Place { own, inner }, node, steps)
@@ -60,6 +61,7 @@ fn visit<C: Cells, L: Ledger>(
     ensures value { IfOk result (λ r. r ≡ over (node_env (C.look cells.now)) at (view node.now)) }
     ensures visited { OnOk result (steps.new ≡ steps.old + visits (node_env (C.look cells.now)) at (view node.now)) }
     ensures most { steps.new ≤ steps.old + weight (node_env (C.look cells.now)) at (view node.now) }
+    ensures least { steps.old + 1 ≤ steps.new }
     ensures memory { IsErr result → TakesMemory (node_env (C.look cells.now)) at (view node.now) }
 {
     steps.tick();
@@ -97,6 +99,7 @@ fn eval_one<C: Cells, L: Ledger>(
     ensures value { IfOk result (λ r. r ≡ one_of op (over (node_env (C.look cells.now)) at (view operand.now))) }
     ensures visited { OnOk result (steps.new ≡ steps.old + visits (node_env (C.look cells.now)) at (view operand.now)) }
     ensures most { steps.new ≤ steps.old + weight (node_env (C.look cells.now)) at (view operand.now) }
+    ensures least { steps.old ≤ steps.new }
     ensures memory { IsErr result → TakesMemory (node_env (C.look cells.now)) at (view operand.now) }
 {
     let res = visit(alloc, cells, at, operand, steps)?;
@@ -117,6 +120,7 @@ fn eval_second<C: Cells, L: Ledger>(
     ensures value { IfOk result (λ r. r ≡ two_of op first (over (node_env (C.look cells.now)) at (view operand.now))) }
     ensures visited { OnOk result (steps.new ≡ steps.old + visits (node_env (C.look cells.now)) at (view operand.now)) }
     ensures most { steps.new ≤ steps.old + weight (node_env (C.look cells.now)) at (view operand.now) }
+    ensures least { steps.old ≤ steps.new }
     ensures memory { IsErr result → TakesMemory (node_env (C.look cells.now)) at (view operand.now) }
 {
     let second = visit(alloc, cells, at, operand, steps)?;
@@ -139,6 +143,7 @@ fn eval_all<C: Cells, L: Ledger>(
     ensures value { IfOk result (λ r. r ≡ many_of op (over_all (node_env (C.look cells.now)) at (trees_view operands.now))) }
     ensures visited { OnOk result (steps.new ≡ steps.old + visits_of_all (node_env (C.look cells.now)) at (trees_view operands.now)) }
     ensures most { steps.new ≤ steps.old + weight_of_all (node_env (C.look cells.now)) at (trees_view operands.now) }
+    ensures least { steps.old ≤ steps.new }
     ensures memory { IsErr result → TakesInAll (node_env (C.look cells.now)) at (trees_view operands.now) }
 {
     let mut fold = ManyFold::new(op);
@@ -163,6 +168,7 @@ fn see_operand<C: Cells, L: Ledger>(
     ensures next { OnOk result (fold.new ≡ saw fold.old (over (node_env (C.look cells.now)) at (view operand.now))) }
     ensures visited { OnOk result (steps.new ≡ steps.old + visits (node_env (C.look cells.now)) at (view operand.now)) }
     ensures most { steps.new ≤ steps.old + weight (node_env (C.look cells.now)) at (view operand.now) }
+    ensures least { steps.old + 1 ≤ steps.new }
     ensures memory { IsErr result → TakesMemory (node_env (C.look cells.now)) at (view operand.now) }
 {
     match operand {
@@ -187,6 +193,7 @@ fn see_visited<C: Cells, L: Ledger>(
     ensures next { OnOk result (fold.new ≡ saw fold.old (over (node_env (C.look cells.now)) at (view operand.now))) }
     ensures visited { OnOk result (steps.new ≡ steps.old + visits (node_env (C.look cells.now)) at (view operand.now)) }
     ensures most { steps.new ≤ steps.old + weight (node_env (C.look cells.now)) at (view operand.now) }
+    ensures least { steps.old + 1 ≤ steps.new }
     ensures memory { IsErr result → TakesMemory (node_env (C.look cells.now)) at (view operand.now) }
 {
     let res = visit(alloc, cells, at, operand, steps)?;
@@ -206,6 +213,7 @@ fn eval_cases<C: Cells, L: Ledger>(
     ensures value { IfOk result (λ r. r ≡ switch_of (over_cases (node_env (C.look cells.now)) at (cases_view cases.now))) }
     ensures visited { OnOk result (steps.new ≡ steps.old + visits_of_cases (node_env (C.look cells.now)) at (cases_view cases.now)) }
     ensures most { steps.new ≤ steps.old + weight_of_cases (node_env (C.look cells.now)) at (cases_view cases.now) }
+    ensures least { steps.old ≤ steps.new }
     ensures memory { IsErr result → TakesInCases (node_env (C.look cells.now)) at (cases_view cases.now) }
 {
     let mut complete = true;
@@ -239,6 +247,7 @@ fn eval_pick<C: Cells, L: Ledger>(
     ensures value { IfOk result (λ r. r ≡ pick_of op (collection (C.look cells.now) reader) (condition_at (C.look cells.now) at (view test.now))) }
     ensures visited { OnOk result (steps.new ≡ steps.old + sum_by (visits_at (C.look cells.now) at (view test.now)) (members_visited op (condition_at (C.look cells.now) at (view test.now)) (collection (C.look cells.now) reader))) }
     ensures most { steps.new ≤ steps.old + sum_by (work_at (C.look cells.now) at (view test.now)) (members_of (collection (C.look cells.now) reader)) }
+    ensures least { steps.old ≤ steps.new }
     ensures memory { IsErr result → PickTakes op (condition_at (C.look cells.now) at (view test.now)) (TakesAt (C.look cells.now) at (view test.now)) (members_of (collection (C.look cells.now) reader)) }
 {
     let missing = Res::Incomplete;
@@ -272,6 +281,7 @@ fn eval_filter<C: Cells, L: Ledger>(
     ensures value { IfOk result (λ r. r ≡ filter_of source.now (condition_at (C.look cells.now) at (view test.now))) }
     ensures visited { OnOk result (steps.new ≡ steps.old + sum_by (visits_at (C.look cells.now) at (view test.now)) (members_of source.now)) }
     ensures most { steps.new ≤ steps.old + sum_by (work_at (C.look cells.now) at (view test.now)) (members_of source.now) }
+    ensures least { steps.old ≤ steps.new }
 {
     let mut fold = FilterFold::new(source);
     let mut kept = Vec::new(alloc);
@@ -297,6 +307,7 @@ fn eval_find<C: Cells, L: Ledger>(
     ensures value { IfOk result (λ r. r ≡ find_of source.now (condition_at (C.look cells.now) at (view test.now))) }
     ensures visited { OnOk result (steps.new ≡ steps.old + sum_by (visits_at (C.look cells.now) at (view test.now)) (up_to_decider (condition_at (C.look cells.now) at (view test.now)) (members_of source.now))) }
     ensures most { steps.new ≤ steps.old + sum_by (work_at (C.look cells.now) at (view test.now)) (members_of source.now) }
+    ensures least { steps.old ≤ steps.new }
     ensures memory { IsErr result → SomeOf (TakesAt (C.look cells.now) at (view test.now)) (up_to_decider (condition_at (C.look cells.now) at (view test.now)) (members_of source.now)) }
 {
     match source_verdict(source) {
@@ -322,6 +333,7 @@ fn find_among<C: Cells, L: Ledger>(
     ensures value { IfOk result (λ r. r ≡ find_from (condition_at (C.look cells.now) at (view test.now)) complete members.now) }
     ensures visited { OnOk result (steps.new ≡ steps.old + sum_by (visits_at (C.look cells.now) at (view test.now)) (up_to_decider (condition_at (C.look cells.now) at (view test.now)) members.now)) }
     ensures most { steps.new ≤ steps.old + sum_by (work_at (C.look cells.now) at (view test.now)) members.now }
+    ensures least { steps.old ≤ steps.new }
     ensures memory { IsErr result → SomeOf (TakesAt (C.look cells.now) at (view test.now)) (up_to_decider (condition_at (C.look cells.now) at (view test.now)) members.now) }
 {
     let mut complete = complete;

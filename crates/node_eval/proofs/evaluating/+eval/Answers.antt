@@ -67,6 +67,7 @@ eval_all-loop-operand-preserved g t c =
       count = ap (λ s. s.count) c.in_ok-see_operand.ensures.next ∙ ap (λ n. n + 1) c.loop-operand.invariant.count;
       visited = omega (arith, visit, c.in_ok-see_operand.ensures.visited, c.loop-operand.invariant.visited);
       most = omega (arith, weigh, c.in_ok-see_operand.ensures.most, c.loop-operand.invariant.most);
+      least = omega (arith, c.in_ok-see_operand.ensures.least, c.loop-operand.invariant.least);
       memory = λ h. c.loop-operand.invariant.memory (all_take view env c.args.at c.args.operands.now i c.operand-item.result c.loop-operand-test.true c.operand-item.is (inr h));
     }
 
@@ -93,6 +94,7 @@ eval_cases-loop-case-init g t c = record {
   value = switch_from-start (over_cases (node_env (g.C.Cells.look c.args.cells.now)) c.args.at (cases_of (map case_view c.args.cases.now)));
   visited = omega arith;
   most = omega arith;
+  least = omega arith;
   memory = λ h. h;
 }
 
@@ -162,6 +164,7 @@ eval_cases-loop-case-preserved g t c =
           ∙ c.loop-case.invariant.value;
       visited = omega (arith, visit, c.in_ok-condition.ensures.visited, c.loop-case.invariant.visited);
       most = omega (arith, weigh, c.in_ok-condition.ensures.most, c.loop-case.invariant.most);
+      least = omega (arith, c.in_ok-condition.ensures.least, c.loop-case.invariant.least);
       memory = λ h. c.loop-case.invariant.memory (case_takes case_view env c.args.at c.args.cases.now i c.case-item.result c.loop-case-test.true c.case-item.is c.loop-case.complete c.in_ok-condition.condition (Next c.in-Next.still) c.in_ok-condition.ensures.value (sym c.in-Next.is ∙ c.case_step-step.ensures) h);
     }
 
@@ -201,6 +204,7 @@ eval_filter-loop-member-init g t c =
       kept = ap (λ (l : List ℕ). l ++ kept condition c.members-member-items.result.now) c.new-kept.ensures.items ∙ ap (kept condition) same;
       visited = omega (arith, ap (sum_by (visits_at look c.args.at test)) same);
       most = omega (arith, ap (sum_by (work_at look c.args.at test)) same);
+      least = omega arith;
     }
 
 pub eval_filter-loop-member-preserved : goal.eval_filter-loop-member-preserved
@@ -223,6 +227,7 @@ eval_filter-loop-member-preserved g t c =
           ∙ c.loop-member.invariant.kept;
       visited = omega (arith, visit, ap (λ (p : Place). visits env p test) c.at.ensures, c.in_ok-condition.ensures.visited, c.loop-member.invariant.visited);
       most = omega (arith, weigh, ap (λ (p : Place). weight env p test) c.at.ensures, c.in_ok-condition.ensures.most, c.loop-member.invariant.most);
+      least = omega (arith, c.in_ok-condition.ensures.least, c.loop-member.invariant.least);
     }
 
 pub eval_filter-end-requires : goal.eval_filter-end-requires
@@ -285,6 +290,7 @@ find_among-loop-member-preserved g t c =
       value = find_at c.args.members.now i c.loop-member-test.true condition c.in_ok-condition.condition is c.loop-member.complete (Next c.in-Next.still) step ∙ c.loop-member.invariant.value;
       visited = omega (arith, visit, ap (λ (p : Place). visits env p test) c.at.ensures, c.in_ok-condition.ensures.visited, c.loop-member.invariant.visited);
       most = omega (arith, weigh, ap (λ (p : Place). weight env p test) c.at.ensures, c.in_ok-condition.ensures.most, c.loop-member.invariant.most);
+      least = omega (arith, c.in_ok-condition.ensures.least, c.loop-member.invariant.least);
       memory = λ h. c.loop-member.invariant.memory (find_takes c.args.members.now i c.loop-member-test.true condition c.in_ok-condition.condition is c.loop-member.complete (Next c.in-Next.still) step (TakesAt look c.args.at test) h);
     }
 

@@ -22,6 +22,7 @@ invariant-eval_all-loop-operand g l =
       count : l.fold.count ≡ l.operand-index;
       visited : l.steps + visits_of_all env l.at (trees_of (drop l.operand-index all)) ≡ l.fn.steps + visits_of_all env l.at (trees_of all);
       most : l.steps + weight_of_all env l.at (trees_of (drop l.operand-index all)) ≤ l.fn.steps + weight_of_all env l.at (trees_of all);
+      least : l.fn.steps ≤ l.steps;
       memory : TakesInAll env l.at (trees_of (drop l.operand-index all)) → TakesInAll env l.at (trees_of all);
     }
 
@@ -33,6 +34,7 @@ invariant-eval_cases-loop-case g l =
       value : switch_from l.complete (over_cases env l.at (cases_of (drop l.case-index all))) ≡ switch_of (over_cases env l.at (cases_of all));
       visited : l.steps + visits_of_cases env l.at (cases_of (drop l.case-index all)) ≡ l.fn.steps + visits_of_cases env l.at (cases_of all);
       most : l.steps + weight_of_cases env l.at (cases_of (drop l.case-index all)) ≤ l.fn.steps + weight_of_cases env l.at (cases_of all);
+      least : l.fn.steps ≤ l.steps;
       memory : TakesInCases env l.at (cases_of (drop l.case-index all)) → TakesInCases env l.at (cases_of all);
     }
 
@@ -45,6 +47,7 @@ invariant-eval_filter-loop-member g l =
       kept : l.kept.items ++ kept condition (drop l.member-index l.member-items) ≡ kept condition (members_of l.source);
       visited : l.steps + sum_by (visits_at look l.at (view l.test)) (drop l.member-index l.member-items) ≡ l.fn.steps + sum_by (visits_at look l.at (view l.test)) (members_of l.source);
       most : l.steps + sum_by (work_at look l.at (view l.test)) (drop l.member-index l.member-items) ≤ l.fn.steps + sum_by (work_at look l.at (view l.test)) (members_of l.source);
+      least : l.fn.steps ≤ l.steps;
     }
 
 abbrev pub invariant-find_among-loop-member : goal.invariant-find_among-loop-member
@@ -55,5 +58,6 @@ invariant-find_among-loop-member g l =
       value : find_from condition l.complete (drop l.member-index l.members) ≡ find_from condition l.fn.complete l.members;
       visited : l.steps + sum_by (visits_at look l.at (view l.test)) (up_to_decider condition (drop l.member-index l.members)) ≡ l.fn.steps + sum_by (visits_at look l.at (view l.test)) (up_to_decider condition l.members);
       most : l.steps + sum_by (work_at look l.at (view l.test)) (drop l.member-index l.members) ≤ l.fn.steps + sum_by (work_at look l.at (view l.test)) l.members;
+      least : l.fn.steps ≤ l.steps;
       memory : SomeOf (TakesAt look l.at (view l.test)) (up_to_decider condition (drop l.member-index l.members)) → SomeOf (TakesAt look l.at (view l.test)) (up_to_decider condition l.members);
     }
