@@ -1,4 +1,7 @@
 // Texts that end an interview.
+ghost use Rattle.std.specs.Prelude.{[], List, ℕ, OnOk};
+ghost use Rattle.fg_io.specs.Outside.{HasCause};
+ghost use Rattle.fg_io.specs.Sent.{Sent};
 ghost use Rattle.interview.specs.StepEnds.{EndedBy};
 ghost use Rattle.interview.specs.FaultLines.{fault_line, saved_refused_line};
 ghost use Rattle.interview.specs.declared.status.Status.TheVariants.{DictionaryRefused, SavedRefused};
@@ -7,6 +10,7 @@ use crate::Status;
 use crate::fault_line::{print_fault, print_saved_refused};
 use dictionary::DictFault;
 use fg_io::{Failed, Sink, put_all};
+use script_lines::cut_line;
 use value_text::Line;
 
 /// Writes a text that ends the interview with this status.
@@ -16,6 +20,35 @@ pub fn end_by<K: Sink>(out: &mut K, text: &[u8], status: Status) -> Status
         text.now status result }
 {
     match put_all(out, text) {
+        Ok(()) => status,
+        Err(Failed) => Status::WriteFault,
+    }
+}
+
+// Puts a text line by line: a line with its newline is one piece.
+fn put_lines<K: Sink>(out: &mut K, text: &[u8]) -> Result<(), Failed>
+    ensures whole { OnOk result (Sent (K.taken out.old) (K.taken out.new) text.now []) }
+    ensures part { (rest : List ℕ) × Sent (K.taken out.old) (K.taken out.new) text.now rest }
+    ensures cause { HasCause (K.faults out.old) (K.faults out.new) result }
+{
+    let mut rest = text;
+    while !rest.is_empty() {
+        let size = rest.len() - cut_line(rest).1.len();
+        match put_all(out, &rest[..size]) {
+            Ok(()) => rest = &rest[size..],
+            Err(failed) => return Err(failed),
+        }
+    }
+    Ok(())
+}
+
+/// Writes a text of several lines that ends the interview with this status, each line as one piece.
+pub fn end_by_lines<K: Sink>(out: &mut K, text: &[u8], status: Status) -> Status
+    ensures { EndedBy
+        (K.taken out.old) (K.taken out.new) (K.faults out.old) (K.faults out.new)
+        text.now status result }
+{
+    match put_lines(out, text) {
         Ok(()) => status,
         Err(Failed) => Status::WriteFault,
     }

@@ -12,7 +12,7 @@ ghost use Rattle.interview.specs.declared.words.Mode.TheVariants.{Incremental};
 use crate::Status;
 use crate::alone::Alone;
 use crate::counting::line_count;
-use crate::ending::end_by;
+use crate::ending::end_by_lines;
 use crate::script::run;
 use crate::summary::summary;
 use dict_gen::make;
@@ -114,7 +114,7 @@ pub fn run_load<K: Sink>(alloc: Global, n: u32, table: &WatchTable, out: &mut K)
         result }
 {
     match summary_of_load(alloc, n, table) {
-        Ok(text) => end_by(out, text.as_slice(), Status::Done),
+        Ok(text) => end_by_lines(out, text.as_slice(), Status::Done),
         Err(NoMemory) => Status::NoMemory,
     }
 }

@@ -1,5 +1,5 @@
 -- What is written, and what is said of the lines that carrying drops.
-use Rattle.std.proofs.Common.{Bool, Err, List, Ok, Option, Result, [], ap, append_assoc, arith, drop, false, filter, inl, inr, length, length-drop, map, nat_eq, not, refl, subst, suc, sym, take, true, ℕ, ◌++◌, ◌+◌, ◌-◌, ◌<◌, ◌∙◌, ◌∷◌, ◌≡◌, ◌≢◌, ◌≤◌}
+use Rattle.std.proofs.Common.{All, Bool, Err, List, Ok, Option, Result, [], ap, append_assoc, arith, drop, false, filter, inl, inr, length, length-drop, map, nat_eq, not, refl, subst, suc, sym, take, true, ℕ, ◌++◌, ◌+◌, ◌-◌, ◌<◌, ◌∙◌, ◌∷◌, ◌≡◌, ◌≢◌, ◌≤◌}
 use Rattle.std.proofs.lemmas.Bool.Decides.{nat_tests}
 use Rattle.std.proofs.lemmas.List.Elements.{All-head, All-tail}
 use Rattle.std.proofs.lemmas.Result.{err_from_is_err_and}
@@ -11,7 +11,7 @@ use Rattle.answers.specs.Answered.{Answered}
 use Rattle.answers.specs.declared.edit.Side.TheVariants.{Answer, Override}
 use Rattle.dict_tree.specs.Dictionary.{Dictionary as Tree}
 use Rattle.fact_paths.proofs.SlotPathLaws.{slot_lacks_blank}
-use Rattle.fact_paths.specs.Cuts.{Lacks}
+use Rattle.fact_paths.specs.Cuts.{IsFirstAt, Lacks}
 use Rattle.fact_paths.specs.Paths.{slot_path_text}
 use Rattle.fg_io.proofs.SentLaws.{sent_none, sent_piece}
 use Rattle.fg_io.proofs.WritingLaws.{failed_within}
@@ -24,7 +24,7 @@ use Rattle.save_file.proofs.SlotTexts.{Tail, tail_of}
 use Rattle.save_file.proofs.TextLaws.{empty_is, whole_lines}
 use Rattle.save_file.specs.CarriedText.{CarriedLine, CarriedText, HasItsForm, IsCarried, carried_lines, collection, entry, line_text}
 use Rattle.save_file.specs.Carrying.{IsCarry, dropped_numbers, keeps, numbers_failing}
-use Rattle.save_file.specs.Dropped.{HasNoBlank, IsBlankAt, IsDroppedText, behind_word, dropped_line, dropped_lines, dropped_text, is_next, past, said_at, said_if, said_of, word_of}
+use Rattle.save_file.specs.Dropped.{IsDroppedText, behind_word, dropped_line, dropped_lines, dropped_text, is_next, past, said, said_at, said_if, said_of, word_of}
 use Rattle.save_file.specs.SavedText.{end_line, entries, lists, next_line, opening_line, saved}
 use Rattle.script_lines.proofs.Bytes.{at_byte, at_other}
 use Rattle.script_lines.proofs.JoinedLaws.{joined-append}
@@ -120,27 +120,27 @@ word_before word tail none (inr some) = ap (λ (t : List ℕ). word_of (word ++ 
 
 -- ---- how they are cut
 
-lacks_of : (text : List ℕ) → HasNoBlank text → Lacks 32 text
+lacks_of : (text : List ℕ) → All (λ b. b ≢ 32) text → Lacks 32 text
 lacks_of [] none = tt
 lacks_of (b ∷ text) none = (All-head (λ c. c ≢ 32) b text none, lacks_of text (All-tail (λ c. c ≢ 32) b text none))
 
-parts_at : (text : List ℕ) (at : ℕ) → IsBlankAt text at → text ≡ take at text ++ 32 ∷ drop (at + 1) text
+parts_at : (text : List ℕ) (at : ℕ) → IsFirstAt 32 text at → text ≡ take at text ++ 32 ∷ drop (at + 1) text
 parts_at text at blank =
     sym (take-append-drop at text) ∙ ap (λ l. take at text ++ l) (drop_more text at 0 blank.within ∙ ap (λ b. b ∷ drop (at + 1) text) blank.here)
 
-pub word_at : (text : List ℕ) (at : ℕ) → IsBlankAt text at → take at text ≡ word_of text
+pub word_at : (text : List ℕ) (at : ℕ) → IsFirstAt 32 text at → take at text ≡ word_of text
 word_at text at blank =
     sym (ap word_of (parts_at text at blank) ∙ word_front (take at text) (drop (at + 1) text) (lacks_of (take at text) blank.first))
 
-pub behind_at : (text : List ℕ) (at : ℕ) → IsBlankAt text at → take (length text - (at + 1)) (drop (at + 1) text) ≡ behind_word text
+pub behind_at : (text : List ℕ) (at : ℕ) → IsFirstAt 32 text at → take (length text - (at + 1)) (drop (at + 1) text) ≡ behind_word text
 behind_at text at blank =
     take_all (length text - (at + 1)) (drop (at + 1) text) (omega (arith, length-drop (at + 1) text))
     ∙ sym (ap behind_word (parts_at text at blank) ∙ behind_front (take at text) (drop (at + 1) text) (lacks_of (take at text) blank.first))
 
-pub word_uncut : (text : List ℕ) → HasNoBlank text → text ≡ word_of text
+pub word_uncut : (text : List ℕ) → All (λ b. b ≢ 32) text → text ≡ word_of text
 word_uncut text none = sym (word_alone text (lacks_of text none))
 
-pub behind_uncut : (text : List ℕ) → HasNoBlank text → [] ≡ behind_word text
+pub behind_uncut : (text : List ℕ) → All (λ b. b ≢ 32) text → [] ≡ behind_word text
 behind_uncut text none = sym (none_behind text (lacks_of text none))
 
 -- ---- what is said of a line
@@ -156,16 +156,19 @@ said_line (entry Override path text) form =
     ap (λ (word : List ℕ). codes "dropped " ++ (codes "override" ++ (codes " " ++ word)))
     (word_front (slot_path_text path) text (slot_lacks_blank path form.0))
 
--- its two words, in pieces
-pub said_left : (line kind behind name : List ℕ) (a : Option (List ℕ)) (f : ℕ) → kind ≡ word_of line → behind ≡ behind_word line → name ≡ word_of behind
-    → IsLeft a a f f (said_of line ++ 10 ∷ []) (codes "dropped " ∷ kind ∷ codes " " ∷ name ∷ (10 ∷ []) ∷ [])
-said_left line kind behind name a f k b n =
-    all_left a f (said_of line ++ 10 ∷ []) _
-    (ap (λ (w : List ℕ). codes "dropped " ++ (w ++ 32 ∷ (name ++ 10 ∷ []))) k ∙ ap (λ (w : List ℕ). codes "dropped " ++ (word_of line ++ 32 ∷ (w ++ 10 ∷ []))) (n ∙ ap word_of b)
-    ∙ pieces (codes "dropped ") (word_of line) (word_of (behind_word line)))
+-- two words, in pieces
+pub said_left : (kind name : List ℕ) (a : Option (List ℕ)) (f : ℕ) → IsLeft a a f f (said kind name ++ 10 ∷ []) (codes "dropped " ∷ kind ∷ codes " " ∷ name ∷ (10 ∷ []) ∷ [])
+said_left kind name a f = all_left a f (said kind name ++ 10 ∷ []) _ (pieces (codes "dropped ") kind name)
   where
     pieces : (front word next : List ℕ) → front ++ (word ++ 32 ∷ (next ++ 10 ∷ [])) ≡ (front ++ (word ++ (codes " " ++ next))) ++ 10 ∷ []
     pieces front word next = simp append_assoc
+
+-- in one piece
+pub said_whole : (kind name : List ℕ) → (((([] ++ codes "dropped ") ++ kind) ++ codes " ") ++ name) ++ 10 ∷ [] ≡ said kind name ++ 10 ∷ []
+said_whole kind name = pieces (codes "dropped ") kind (codes " ") name
+  where
+    pieces : (front word gap next : List ℕ) → (((front ++ word) ++ gap) ++ next) ++ 10 ∷ [] ≡ (front ++ (word ++ (gap ++ next))) ++ 10 ∷ []
+    pieces front word gap next = simp append_assoc
 
 -- ---- numbers that rise
 

@@ -1,5 +1,5 @@
 -- What is said of the lines that carrying drops.
-use Rattle.std.specs.Prelude.{◌≡◌, ◌≢◌, ℕ, suc, ◌<◌, ◌==◌, Bool, false, not, nat_eq, List, [], ◌∷◌, ◌++◌, map, filter, length, take, slice_index, All, codes, refl, if◌then◌else◌}
+use Rattle.std.specs.Prelude.{◌≡◌, ℕ, suc, ◌==◌, Bool, false, not, nat_eq, List, [], ◌∷◌, ◌++◌, map, filter, codes, refl, if◌then◌else◌}
 use Rattle.fact_paths.specs.declared.slot_path.SlotPath.TheVariants.{Global}
 use Rattle.answers.specs.declared.edit.Side.TheVariants.{Override}
 use Rattle.graph_session.specs.Rules.{Rules}
@@ -37,19 +37,13 @@ abbrev pub behind_word : List ℕ → List ℕ
 behind_word [] = []
 behind_word (b ∷ bytes) = if b == 32 then bytes else behind_word bytes
 
--- no byte is a blank
-abbrev pub HasNoBlank : List ℕ → Type 0
-HasNoBlank bytes = All (λ b. b ≢ 32) bytes
+-- with these two words
+abbrev pub said : List ℕ → List ℕ → List ℕ
+said kind name = codes "dropped " ++ (kind ++ (codes " " ++ name))
 
--- the first blank is here
-pub record IsBlankAt (bytes : List ℕ) (at : ℕ) : Type 0 where
-  pub within : at < length bytes
-  pub here : slice_index bytes at ≡ 32
-  pub first : HasNoBlank (take at bytes)
-
--- with the first two words of a line
+-- the first two of a line
 abbrev pub said_of : List ℕ → List ℕ
-said_of line = codes "dropped " ++ (word_of line ++ (codes " " ++ word_of (behind_word line)))
+said_of line = said (word_of line) (word_of (behind_word line))
 
 -- this number is the next of those that rise
 abbrev pub is_next : ℕ → List ℕ → Bool

@@ -1,18 +1,20 @@
 // Tells which lines of a carried text are dropped.
-ghost use Rattle.std.specs.Prelude.{◌≡◌, ◌<◌, ◌++◌, ◌∷◌, [], List, ℕ, IfNone, IfSome, length};
+ghost use Rattle.std.specs.Prelude.{◌≡◌, ◌≢◌, All, ◌<◌, ◌++◌, ◌∷◌, [], List, ℕ, IfNone, IfSome, length, ◌≤◌};
+ghost use Rattle.fact_paths.specs.Cuts.{IsFirstAt};
 ghost use Rattle.fg_io.specs.Outside.{HasCause};
 ghost use Rattle.fg_io.specs.Writing.{Wrote};
 ghost use Rattle.script_lines.specs.Joined.{joined};
 ghost use Rattle.script_lines.specs.Lines.{lines_of};
-ghost use Rattle.save_file.specs.Dropped.{HasNoBlank, IsBlankAt, IsDroppedText, behind_word as bytes_behind_word, is_next as is_next_of, past as past_of, said_at, said_if, said_of, word_of};
+ghost use Rattle.save_file.specs.Dropped.{IsDroppedText, behind_word as bytes_behind_word, is_next as is_next_of, past as past_of, said, said_at, said_if, said_of, word_of};
 
 use fg_io::{Failed, Sink, put_text};
 use script_lines::cut_line;
+use value_text::Line;
 
 // The place of the first blank.
 fn blank_at(text: &[u8]) -> Option<usize>
-    ensures found { IfSome result (IsBlankAt text.now) }
-    ensures none { IfNone result (HasNoBlank text.now) }
+    ensures found { IfSome result (IsFirstAt 32 text.now) }
+    ensures none { IfNone result (All (λ b. b ≢ 32) text.now) }
 {
     text.iter().position(|byte| *byte == b' ')
 }
@@ -28,17 +30,42 @@ fn cut_word(text: &[u8]) -> (&[u8], &[u8])
     }
 }
 
-// Puts what is said of a line: its first two words.
+// Puts what is said of a line, of its first two words, as one piece.
+fn put_piece<K: Sink>(kind: &[u8], name: &[u8], out: &mut K) -> Result<(), Failed>
+    requires kind { length kind.now ≤ 500 }
+    requires name { length name.now ≤ 500 }
+    ensures { Wrote (K.taken out.old) (K.taken out.new) (K.faults out.old) (K.faults out.new) (said kind.now name.now ++ 10 ∷ []) result }
+{
+    let mut piece = Line::new();
+    piece.push(b"dropped ");
+    piece.push(kind);
+    piece.push(b" ");
+    piece.push(name);
+    piece.push(b"\n");
+    put_text(piece.bytes(), out)
+}
+
+// The same in several pieces, of words of any length.
+fn put_pieces<K: Sink>(kind: &[u8], name: &[u8], out: &mut K) -> Result<(), Failed>
+    ensures { Wrote (K.taken out.old) (K.taken out.new) (K.faults out.old) (K.faults out.new) (said kind.now name.now ++ 10 ∷ []) result }
+{
+    put_text(b"dropped ", out)?;
+    put_text(kind, out)?;
+    put_text(b" ", out)?;
+    put_text(name, out)?;
+    put_text(b"\n", out)
+}
+
+// The same of a line. Those of a carried text have at most 150 bytes together, so it is one piece.
 fn put_line<K: Sink>(line: &[u8], out: &mut K) -> Result<(), Failed>
     ensures { Wrote (K.taken out.old) (K.taken out.new) (K.faults out.old) (K.faults out.new) (joined (said_of line.now ∷ [])) result }
 {
     let kind = cut_word(line);
     let name = cut_word(kind.1);
-    put_text(b"dropped ", out)?;
-    put_text(kind.0, out)?;
-    put_text(b" ", out)?;
-    put_text(name.0, out)?;
-    put_text(b"\n", out)
+    if kind.0.len() > 500 || name.0.len() > 500 {
+        return put_pieces(kind.0, name.0, out);
+    }
+    put_piece(kind.0, name.0, out)
 }
 
 // Whether this number is the next of those that rise.
@@ -100,7 +127,7 @@ fn put_lines<K: Sink>(bytes: &[u8], dropped: &[u32], out: &mut K) -> Result<(), 
 }
 
 /// Puts a line for each line of a carried text that carrying dropped, as `dropped value /n`, of the text's bytes and of the numbers
-/// that `carry` gave. A line may be put in several pieces; after a failure a part of the text was taken. It takes no memory.
+/// that `carry` gave. A line is one piece; after a failure a part of the text was taken. It takes no memory.
 pub fn put_dropped<K: Sink>(bytes: &[u8], dropped: &[u32], out: &mut K) -> Result<(), Failed>
     requires { length bytes.now < 4294967295 }
     ensures text { (text : List ℕ) → IsDroppedText bytes.now dropped.now text → Wrote (K.taken out.old) (K.taken out.new) (K.faults out.old) (K.faults out.new) text result }

@@ -1,5 +1,13 @@
-use Rattle.script_lines.proofs.PartLaws.{cut_is}
+use Rattle.std.proofs.Common.{Bor, ◌≡◌, ℕ, List, Option, Some, None, sym, arith}
+use Rattle.std.specs.Prelude.{MatchOption, option_map}
+use Rattle.fact_paths.specs.Cuts.{cut}
+use Rattle.fact_paths.proofs.CutLaws.{cut_from_split}
 use Rattle.save_file.proofs.reading.at_blank.Goals as goal
 
+by_cases : (text : List ℕ) (parts : Option (Bor (List ℕ) × Bor (List ℕ))) → MatchOption parts (cut 32 text ≡ None) (λ p. cut 32 text ≡ Some (p.0.now, p.1.now))
+    → option_map {T = Bor (List ℕ) × Bor (List ℕ)} {U = List ℕ × List ℕ} (λ p. (p.0.now, p.1.now)) parts ≡ cut 32 text
+by_cases text None e = sym e
+by_cases text (Some p) e = sym e
+
 pub returns : goal.returns
-returns c = cut_is c.args.text.now c.split_once.result c.split_once.ensures.cases
+returns c = by_cases c.args.text.now c.split_once.result (cut_from_split 32 c.args.text.now c.split_once.result (omega arith) c.split_once.ensures.cases)
