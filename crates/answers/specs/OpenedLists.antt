@@ -1,4 +1,4 @@
--- MayOpen collections one after another, each with its members.
+-- Opening collections one after another, each with its members.
 use Rattle.std.specs.Prelude.{◌≡◌, ℕ, List, [], ◌∷◌, Some, None}
 use Rattle.std.specs.List.{All}
 use Rattle.std.specs.FinMap as map

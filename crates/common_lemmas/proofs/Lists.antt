@@ -1,9 +1,10 @@
 -- Elements of lists by their place, and tests of them.
-use Rattle.std.proofs.Common.{◌≡◌, ℕ, zero, suc, ◌≤◌, ◌<◌, Bool, true, false, ◌&&◌, IsTrue, List, [], ◌∷◌, ◌++◌, Some, filter, length, refl, sym, ap, ◌∙◌, subst, append_assoc, arith}
+use Rattle.std.proofs.Common.{◌≡◌, ℕ, zero, suc, ◌≤◌, ◌<◌, Bool, true, false, IsTrue, List, [], ◌∷◌, ◌++◌, Some, filter, length, refl, sym, ap, ◌∙◌, subst, append_assoc, arith}
 use Rattle.std.specs.Prelude.{nat_eq, ◌==◌, ◌||◌, if◌then◌else◌}
 use Rattle.std.specs.List.{All, list_all, list_any, slice_get}
 use Rattle.std.proofs.lemmas.List.Elements.{All-head, All-tail}
-use Rattle.common_lemmas.proofs.Bools.{and_assoc, both}
+use Rattle.std.proofs.lemmas.List.Folds.{list_all-append}
+use Rattle.common_lemmas.proofs.Bools.{both}
 use Rattle.common_lemmas.proofs.Numbers.{nat_eq-comm}
 
 -- what holds of all holds of the one at a place
@@ -39,12 +40,8 @@ kept_one false xs x ys = refl
 
 -- ---- tests of all elements
 
-pub all_append : {X : Type 0} (test : X → Bool) (xs ys : List X) → list_all test (xs ++ ys) ≡ (list_all test xs && list_all test ys)
-all_append test [] ys = refl
-all_append test (x ∷ xs) ys = rw (all_append test xs ys) (sym (and_assoc (test x) (list_all test xs) (list_all test ys)))
-
 pub all_parts : {X : Type 0} (test : X → Bool) (xs ys : List X) → IsTrue (list_all test (xs ++ ys)) → IsTrue (list_all test xs) × IsTrue (list_all test ys)
-all_parts test xs ys h = both (list_all test xs) (list_all test ys) (sym (all_append test xs ys) ∙ h)
+all_parts test xs ys h = both (list_all test xs) (list_all test ys) (sym (list_all-append test xs ys) ∙ h)
 
 -- two tests that say the same of each element leave the same
 pub same_filter : {X : Type 0} (p q : X → Bool) → ((x : X) → p x ≡ q x) → (xs : List X) → filter p xs ≡ filter q xs

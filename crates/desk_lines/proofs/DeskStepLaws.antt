@@ -5,7 +5,6 @@ use Rattle.answers.specs.Answered.{Answered}
 use Rattle.dictionary.specs.Accepted.{Accepted}
 use Rattle.graph_session.specs.Rules.{Rules}
 use Rattle.graph_session.specs.SessionView.{Course, course}
-use Rattle.session_lines.proofs.StepLaws.{first_of_all}
 use Rattle.shared_desk.specs.Desk.{Desk}
 use Rattle.shared_desk.specs.DeskView.{DeskView, StandsFor}
 use Rattle.desk_lines.specs.DeskStepping.{DeskState, desk_line_step, desk_open, desk_state_after}
@@ -18,10 +17,6 @@ module _ (most : Accepted → Answered → Answered → ℕ) where
   desk_steps-append r state (x ∷ xs) ys =
       let rest = desk_steps-append r (desk_line_step r state x).state xs ys in
       omega (arith, rest)
-
-  -- the first lines take no more than all
-  pub first_desk_steps : (r : Rules) (state : DeskState) (all xs ys : List ScriptLine) → all ≡ xs ++ ys → steps_of_desk_lines most r state xs ≤ steps_of_desk_lines most r state all
-  first_desk_steps = first_of_all DeskState (steps_of_desk_lines most) desk_state_after desk_steps-append
 
   -- one line, of the desk that what is kept stands for
   pub steps_of_one : (r : Rules) (v : DeskView) (d : Desk) (line : ScriptLine) (steps steps_now : ℕ) → StandsFor v d

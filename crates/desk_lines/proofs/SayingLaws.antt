@@ -60,6 +60,3 @@ said_of_part line part spoken is = said_spoken (without_return line) spoken ∙ 
 
 pub said_of_none : (line : List ℕ) → is_silent (without_return line) ≡ false → party_of line ≡ None → party_said (without_return line) ≡ NoParty
 said_of_none line spoken is = said_spoken (without_return line) spoken ∙ ap said_behind (party_of-no_return line is)
-
-pub said_nothing : (line : List ℕ) → is_silent (without_return line) ≡ true → party_said (without_return line) ≡ Silent
-said_nothing line is = said_silent (without_return line) is

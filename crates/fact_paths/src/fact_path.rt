@@ -1,4 +1,3 @@
-ghost use Rattle.std.specs.Prelude.{◌≡◌, ◌↔◌, IsTrue};
 ghost use Rattle.fact_paths.specs.Cuts.{at_slash};
 ghost use Rattle.fact_paths.specs.Paths.{Reads, SpellsFactPath};
 ghost use Rattle.fact_paths.specs.Reading.{Gives, fact_path_from};
@@ -41,15 +40,6 @@ pub fn read_fact_path(alloc: Global, text: &str) -> Result<FactPath, PathFault>
     match strip(text, "/") {
         None => Err(PathFault::BadPath),
         Some(rest) => read_rooted(alloc, rest),
-    }
-}
-
-impl FactPath {
-    /// Whether the two are one path.
-    pub fn same(&self, other: &FactPath) -> bool
-        ensures { IsTrue result ↔ (self.now ≡ other.now) }
-    {
-        self == other
     }
 }
 

@@ -2,8 +2,6 @@ ghost use Rattle.std.specs.Prelude.{◌≡◌};
 ghost use Rattle.fact_paths.specs.declared.fault.PathFault.TheVariants.{NoMemory};
 
 use std::alloc::AllocError;
-use std::error::Error;
-use std::fmt;
 
 /// Why no name or path was read.
 #[derive(Clone, Copy, Debug, PartialEq, Eq)]
@@ -21,14 +19,3 @@ impl From<AllocError> for PathFault {
         PathFault::NoMemory
     }
 }
-
-impl fmt::Display for PathFault {
-    fn fmt<W: fmt::Write>(&self, f: &mut fmt::Formatter<W>) -> fmt::Result {
-        match self {
-            PathFault::BadPath => write!(f, "not a path"),
-            PathFault::NoMemory => write!(f, "out of memory"),
-        }
-    }
-}
-
-impl Error for PathFault {}

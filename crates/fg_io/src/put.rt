@@ -1,4 +1,4 @@
-// Puts a text, and tells how much of it was taken.
+// A text that is put whole, as most of what the program writes is.
 ghost use Rattle.fg_io.specs.Writing.{Wrote};
 
 use crate::write::put_all;

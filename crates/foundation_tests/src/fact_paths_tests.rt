@@ -1,6 +1,6 @@
 //! Tests of `fact_paths`: of the texts that are printed. What each kind of path spells is shown by stored cases.
 
-use fact_paths::{FactPath, Name, PathFault, read_fact_path, read_slot_path, read_use_path};
+use fact_paths::{FactPath, Name, read_fact_path, read_slot_path, read_use_path};
 use std::alloc::Global;
 
 fn is_text(printed: Option<String>, text: &str) -> bool {
@@ -36,14 +36,14 @@ fn a_name_is_copied_and_gives_its_text(rt: HostRuntime) {
 
 fn is_fact_path(alloc: Global, text: &str) -> bool {
     match read_fact_path(alloc, text) {
-        Ok(path) => path.same(&path) && is_text(path.to_string(alloc).ok(), text),
+        Ok(path) => path == path && is_text(path.to_string(alloc).ok(), text),
         Err(_) => false,
     }
 }
 
 fn is_same(alloc: Global, path: &FactPath, text: &str) -> bool {
     match read_fact_path(alloc, text) {
-        Ok(other) => path.same(&other),
+        Ok(other) => *path == other,
         Err(_) => true,
     }
 }
@@ -79,14 +79,4 @@ fn are_printed_and_compared(alloc: Global) -> bool {
 #[test]
 fn paths_are_printed_and_compared(rt: HostRuntime) {
     assert!(rt; are_printed_and_compared(rt.alloc()));
-}
-
-fn is_said(alloc: Global, fault: PathFault, text: &str) -> bool {
-    is_text(fault.to_string(alloc).ok(), text)
-}
-
-#[test]
-fn faults_are_printed(rt: HostRuntime) {
-    assert!(rt; is_said(rt.alloc(), PathFault::BadPath, "not a path"));
-    assert!(rt; is_said(rt.alloc(), PathFault::NoMemory, "out of memory"));
 }

@@ -1,7 +1,5 @@
 -- What a check comes to, and how it ends.
 use Rattle.std.proofs.Common.{◌≡◌, ℕ, false, List, inl, inr, refl, sym, ap, subst, ◌∙◌}
-use Rattle.std.specs.Io.KnownBytes.{Keeps}
-use Rattle.std.proofs.KnownBytes.{Keeps-refl}
 use Rattle.fg_io.specs.Outside.{Told}
 use Rattle.dictionary.specs.declared.fault.DictFault.{DictFault}
 use Rattle.dictionary.specs.declared.fault.DictFault.TheVariants as faults
@@ -16,7 +14,7 @@ use Rattle.interview.specs.Words.{IsCheck}
 use Rattle.interview.specs.FaultLines.{is_memory}
 use Rattle.interview.specs.Interview.{Defined, defined_accepted, defined_fault, OneEndOfCheck}
 use Rattle.interview.specs.Devices.{SentWhole}
-use Rattle.interview.specs.StepEnds.{CheckDid, CheckEnds, EndedBy, FetchedAs, JudgedAs, NotFetched, defined_fetched}
+use Rattle.interview.specs.StepEnds.{CheckDid, CheckEnds, EndedBy, FetchedAs, JudgedAs, defined_fetched}
 use Rattle.interview.specs.Given.{Did, Given, Unread}
 use Rattle.interview.specs.Ends.{Check, Ends}
 
@@ -54,11 +52,6 @@ module _ (told : Told) (checks : List Named) (name : List ℕ) (did : CheckDid) 
   pub ends_fetched : (fetched : Fetched) (status : Status) → FetchedAs told checks fetched
       → EndedBy did.taken.before did.taken.after did.sink.before did.sink.after (defined_fetched fetched).text (defined_fetched fetched).status status → CheckEnds told checks name did status
   ends_fetched fetched status found ended = ends_judged (defined_fetched fetched).text (defined_fetched fetched).status status (judged fetched found) ended
-
-  pub ends_unjudged : (status : Status) → did.taken.before ≡ did.taken.after → NotFetched name did.shelf.before did.shelf.after did.failed_name status → CheckEnds told checks name did status
-  ends_unjudged FetchFault still not = (not.0, not.1, subst (Keeps did.taken.before) still (Keeps-refl did.taken.before))
-  ends_unjudged NoMemory still not = subst (Keeps did.taken.before) still (Keeps-refl did.taken.before)
-  ends_unjudged status still not = absurd not
 
 module _ (given : Given) (did : Did) (name : List ℕ) (asked : IsCheck given.words name) (unread : Unread did) where
   abbrev check_did : CheckDid

@@ -1,7 +1,6 @@
 -- The ends of an interview from those of its steps.
-use Rattle.std.proofs.Common.{◌≡◌, ℕ, ◌<◌, ◌≤◌, List, [], ◌∷◌, length, get_or, String, string_bytes, inl, inr, refl, sym, subst, arith}
+use Rattle.std.proofs.Common.{◌≡◌, ℕ, ◌≤◌, List, inl, inr, refl, sym, subst}
 use Rattle.fg_io.specs.Outside.{Told}
-use Rattle.std.specs.declared.alloc.Global.{Global}
 use Rattle.std.specs.Io.KnownBytes.{Keeps}
 use Rattle.std.proofs.KnownBytes.{Keeps-refl}
 use Rattle.fg_io.proofs.SentLaws.{rose_before}
@@ -9,7 +8,7 @@ use Rattle.dictionary.specs.declared.fault.DictFault.{DictFault}
 use Rattle.graph_session.specs.Rules.{Rules}
 use Rattle.interview.specs.declared.status.Status.{Status}
 use Rattle.interview.specs.declared.status.Status.TheVariants.{Done, DictionaryRefused, FetchFault, ReadFault, WriteFault, ScriptTooLong, NoMemory, SavedRefused}
-use Rattle.interview.specs.Words.{Beginning, IsFrom, IsRun, Origin, by_carry, by_load, file, program, texts, unanswered}
+use Rattle.interview.specs.Words.{Beginning, IsFrom, IsRun, Origin, by_carry, by_load, file, program, unanswered}
 use Rattle.interview.specs.Beginnings.{Basis, IsRefusedStart, IsStart, MayBring, Start}
 use Rattle.interview.specs.Dictionaries.{Content, HasFault, IsAcceptedAs, MayGive}
 use Rattle.interview.specs.Interview.{defined_fault, defined_saved_refused}
@@ -17,23 +16,6 @@ use Rattle.interview.specs.ScriptEnds.{EndsBefore, EndsBehind}
 use Rattle.interview.specs.StepEnds.{EndedBy, NotFetched, NotObtained, NotResumed, RunDid, RunEnds, StartEnds}
 use Rattle.interview.specs.Given.{Did, Given, Unread}
 use Rattle.interview.specs.Ends.{AcceptedRun, BegunRun, Ends, RefusedRun, SavedRefusedRun, meaning_in}
-
--- ---- words
-
-pub two_words : (words : List (String Global)) (a b : String Global) → 2 ≤ length words → length words < 3 → a ≡ get_or words 0 a → b ≡ get_or words 1 b
-    → texts words ≡ string_bytes a ∷ string_bytes b ∷ []
-two_words [] a b low high is_a is_b = absurd (omega arith)
-two_words (x ∷ []) a b low high is_a is_b = absurd (omega arith)
-two_words (x ∷ y ∷ []) a b low high is_a is_b = λ i. string_bytes (sym is_a i) ∷ string_bytes (sym is_b i) ∷ []
-two_words (x ∷ y ∷ z ∷ words) a b low high is_a is_b = absurd (omega arith)
-
-pub three_words : (words : List (String Global)) (a b c : String Global) → 3 ≤ length words → length words < 4 → a ≡ get_or words 0 a → b ≡ get_or words 1 b → c ≡ get_or words 2 c
-    → texts words ≡ string_bytes a ∷ string_bytes b ∷ string_bytes c ∷ []
-three_words [] a b c low high is_a is_b is_c = absurd (omega arith)
-three_words (x ∷ []) a b c low high is_a is_b is_c = absurd (omega arith)
-three_words (x ∷ y ∷ []) a b c low high is_a is_b is_c = absurd (omega arith)
-three_words (x ∷ y ∷ z ∷ []) a b c low high is_a is_b is_c = λ i. string_bytes (sym is_a i) ∷ string_bytes (sym is_b i) ∷ string_bytes (sym is_c i) ∷ []
-three_words (x ∷ y ∷ z ∷ u ∷ words) a b c low high is_a is_b is_c = absurd (omega arith)
 
 -- ---- ends
 

@@ -1,5 +1,5 @@
 -- Words ask for one thing at most.
-use Rattle.std.proofs.Common.{◌≡◌, ℕ, ◌≤◌, List, [], ◌∷◌, length, Option, Some, None, option_map, inl, inr, refl, sym, ap, ◌∙◌, arith}
+use Rattle.std.proofs.Common.{◌≡◌, ℕ, ◌≤◌, List, [], ◌∷◌, Option, Some, None, option_map, inl, inr, refl, sym, ap, ◌∙◌, arith}
 use Rattle.std.specs.Prelude.{bytes_eq, codes, decimal, false, if◌then◌else◌}
 use Rattle.std.proofs.lemmas.Bool.{false_from_ne_true}
 use Rattle.common_lemmas.proofs.Bytes.{same_bytes}
@@ -221,61 +221,9 @@ no_number number none = (
 is_other : (a b : List ℕ) → (a ≡ b → ⊥) → bytes_eq a b ≡ false
 is_other a b apart = false_from_ne_true _ (λ e. apart (same_bytes a b e))
 
--- no command is followed by one word
-pub others_of_two : (command word : List ℕ) → (command ≡ codes "run" → ⊥) → (command ≡ codes "run-plain" → ⊥) → (command ≡ codes "desk" → ⊥) → (command ≡ codes "check" → ⊥) → (command ≡ codes "year" → ⊥)
-    → (command ≡ codes "gen" → ⊥) → (command ≡ codes "income" → ⊥) → (command ≡ codes "save" → ⊥) → (command ≡ codes "save-year" → ⊥) → HasNoForm (command ∷ word ∷ [])
-others_of_two command word not_run not_plain not_desk not_check not_year not_gen not_income not_save not_save_year =
-    no_form (command ∷ word ∷ []) (
-    none_of (is_other command (codes "run") not_run) (is_other command (codes "run-plain") not_plain) (is_other command (codes "desk") not_desk) (is_other command (codes "check") not_check) (is_other command (codes "year") not_year)
-    (is_other command (codes "gen") not_gen) (is_other command (codes "income") not_income) (is_other command (codes "save") not_save) (is_other command (codes "save-year") not_save_year)
-    )
-  where
-    none_of : bytes_eq command (codes "run") ≡ false → bytes_eq command (codes "run-plain") ≡ false → bytes_eq command (codes "desk") ≡ false → bytes_eq command (codes "check") ≡ false → bytes_eq command (codes "year") ≡ false
-        → bytes_eq command (codes "gen") ≡ false → bytes_eq command (codes "income") ≡ false → bytes_eq command (codes "save") ≡ false → bytes_eq command (codes "save-year") ≡ false → asked_by_two command word ≡ None
-    none_of a b c d e f g h i = rw (a, b, c, d, e, f, g, h, i) refl
-
-no_year : (text : List ℕ) → (text ≡ codes "2023" → ⊥) → (text ≡ codes "2024" → ⊥) → year_named text ≡ None
-no_year text first second = none_of (is_other text (codes "2023") first) (is_other text (codes "2024") second)
-  where
-    none_of : bytes_eq text (codes "2023") ≡ false → bytes_eq text (codes "2024") ≡ false → year_named text ≡ None
-    none_of a b = rw (a, b) refl
-
-no_income : (text : List ℕ) → (text ≡ codes "2023" → ⊥) → income_named text ≡ None
-no_income text first = none_of (is_other text (codes "2023") first)
-  where
-    none_of : bytes_eq text (codes "2023") ≡ false → income_named text ≡ None
-    none_of a = rw a refl
-
--- behind `year` stands no year
-pub year_of_two : (year : List ℕ) → (year ≡ codes "2023" → ⊥) → (year ≡ codes "2024" → ⊥) → HasNoForm (codes "year" ∷ year ∷ [])
-year_of_two year first second = no_form (codes "year" ∷ year ∷ []) (ap (option_map run_of) (no_year year first second))
-
--- nor behind `income`
-pub income_of_two : (year : List ℕ) → (year ≡ codes "2023" → ⊥) → HasNoForm (codes "income" ∷ year ∷ [])
-income_of_two year first = no_form (codes "income" ∷ year ∷ []) (ap (option_map run_of) (no_income year first))
-
--- nor behind `save-year`
-pub save_of_two : (year : List ℕ) → (year ≡ codes "2023" → ⊥) → (year ≡ codes "2024" → ⊥) → HasNoForm (codes "save-year" ∷ year ∷ [])
-save_of_two year first second = no_form (codes "save-year" ∷ year ∷ []) (ap (option_map save_of) (no_year year first second))
-
 -- no command is followed by these two words
 pub others_of_three : (command word saved : List ℕ) → (command ≡ codes "load" → ⊥) → (command ≡ codes "carry" → ⊥) → (command ≡ codes "carry-year" → ⊥) → HasNoForm (command ∷ word ∷ saved ∷ [])
 others_of_three command word saved load carry year = no_form (command ∷ word ∷ saved ∷ []) (none_of (is_other command (codes "load") load) (is_other command (codes "carry") carry) (is_other command (codes "carry-year") year))
   where
     none_of : bytes_eq command (codes "load") ≡ false → bytes_eq command (codes "carry") ≡ false → bytes_eq command (codes "carry-year") ≡ false → asked_by_three command word saved ≡ None
     none_of a b c = rw (a, b, c) refl
-
--- behind `carry-year` stands no year
-pub year_of_three : (year saved : List ℕ) → (year ≡ codes "2023" → ⊥) → (year ≡ codes "2024" → ⊥) → HasNoForm (codes "carry-year" ∷ year ∷ saved ∷ [])
-year_of_three year saved first second = no_form (codes "carry-year" ∷ year ∷ saved ∷ []) (ap (option_map (carried_to saved)) (no_year year first second))
-
--- neither two words nor three
-asks_none : (words : List (List ℕ)) → (length words ≡ 2 → ⊥) → (length words ≡ 3 → ⊥) → asked_by words ≡ None
-asks_none [] two three = refl
-asks_none (a ∷ []) two three = refl
-asks_none (a ∷ b ∷ []) two three = absurd (two refl)
-asks_none (a ∷ b ∷ c ∷ []) two three = absurd (three refl)
-asks_none (a ∷ b ∷ c ∷ d ∷ words) two three = refl
-
-pub others_ask_none : (words : List (List ℕ)) → (length words ≡ 2 → ⊥) → (length words ≡ 3 → ⊥) → HasNoForm words
-others_ask_none words two three = no_form words (asks_none words two three)

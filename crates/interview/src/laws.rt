@@ -21,7 +21,7 @@ pub fn engines_agree()
 {}
 
 /// A load of so many sums comes to one text at most.
-pub fn a_load_has_one_end()
+pub fn a_gen_has_one_end()
     ensures { OneEndOfGen }
 {}
 

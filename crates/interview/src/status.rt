@@ -4,7 +4,7 @@ ghost use Rattle.interview.specs.Codes.{code_of, name_of};
 /// How an interview ended.
 #[derive(Clone, Copy, Debug, PartialEq, Eq)]
 pub enum Status {
-    /// The script was read to its end, or to `quit`.
+    /// The script was read to its end, or to `quit`; or a check or a `gen` ended.
     Done,
     /// The dictionary has a fault, which was printed.
     DictionaryRefused,

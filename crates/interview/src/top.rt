@@ -259,7 +259,7 @@ fn attempt<H: Shelf, S: Source, K: Sink>(
 /// that a dictionary may name, and the relations of the table those by which a slot may be watched.
 ///
 /// A dictionary has at most 8,388,608 bytes, a saved text and a script at most 67,108,864 each. For a dictionary of the program's
-/// own without a saved text, and for a load, nothing is fetched: the shelf is as it was.
+/// own without a saved text, and for `gen N`, nothing is fetched: the shelf is as it was.
 pub fn interview<H: Shelf, S: Source, K: Sink>(
     alloc: Global,
     words: &[String],

@@ -23,10 +23,6 @@ env_of k = source_env k.tree k.look k.fact
 abbrev pub reads_of : Known → ReadBy Reading Use Place Slot
 reads_of k = reads_by k.tree k.look k.fact
 
--- under a condition over a base
-abbrev pub at_base : Place → ℕ → Place
-at_base at base = record { base = base; own = at.own; inner = 0 }
-
 -- under the same condition, at another member
 abbrev pub at_member : Place → ℕ → Place
 at_member at m = record { base = at.base; own = at.own; inner = m }

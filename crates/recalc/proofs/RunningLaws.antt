@@ -1,5 +1,5 @@
 -- Turn by turn, the loop keeps its work, its log and its cells in step.
-use Rattle.std.proofs.Common.{◌≡◌, ◌≤◌, ◌<◌, ℕ, ◌+◌, ◌-◌, Bool, true, false, cond, not, ◌&&◌, ◌||◌, nat_eq, if◌then◌else◌, IsTrue, List, [], ◌∷◌, ◌++◌, length, sum_by, Option, Some, None, option_map, is_some, IsSome, refl, sym, ap, subst, ◌∙◌, arith}
+use Rattle.std.proofs.Common.{◌≡◌, ◌≤◌, ◌<◌, ℕ, ◌+◌, ◌-◌, Bool, true, false, cond, not, ◌&&◌, ◌||◌, nat_eq, if◌then◌else◌, IsTrue, List, [], ◌∷◌, ◌++◌, length, sum_by, Option, Some, None, option_map, refl, sym, ap, subst, ◌∙◌, arith}
 use Rattle.std.specs.FinMap as finite
 use Rattle.std.proofs.lemmas.List.{length-append, length-map}
 use Rattle.std.proofs.lemmas.List.Sums.{sum_by-append, sum_by-cons}
@@ -18,13 +18,12 @@ use Rattle.dictionary.specs.Feeds.{feeds}
 use Rattle.dictionary.specs.Plain.{IsPlainBelow, plain, rank}
 use Rattle.dictionary.specs.Slots.{slot_same, stands}
 use Rattle.dictionary.specs.Weights.{slot_weight}
-use Rattle.dictionary.proofs.PlainLaws.{standing_have_results}
 use Rattle.dictionary.proofs.SlotLaws.{slot_same-equal}
 use Rattle.recalc.specs.Laws.{touched_of}
 use Rattle.recalc.specs.Marking.{IsLeast, IsMarked, IsNext}
 use Rattle.recalc.specs.Passages.{AreResults, is_shielded, moves}
 use Rattle.recalc.specs.Readers.{due_of, marks}
-use Rattle.recalc.specs.Replacing.{CanPutBack, slots_of}
+use Rattle.recalc.specs.Replacing.{slots_of}
 use Rattle.recalc.specs.Running.{AreCells, course_weight, HasTurned, IsCourse, IsPopped, IsRunning, is_that, marks_now, seen_in, Setting, slot_of, stamped_cell, waits_in}
 use Rattle.recalc.specs.Spread.{is_in, Spread}
 use Rattle.recalc.specs.Waiting.{due_same, Dues, waits}
@@ -73,19 +72,6 @@ module _ (k : Setting) (c : Spread) (first : Cells) (course : IsCourse k c first
       at false e =
           ap (λ (o : Option Cell). if is_that k.gone s.member then None else option_map (λ (t : Cell). t.res) o)
           (run.kept s ∙ ap (λ y. if y then option_map (stamped_cell k.stamp) (plain k.dict k.now s) else finite.get first s) e)
-
-  -- each done slot has a cell, so all can be put back
-  pub can_put_back : CanPutBack log cells
-  can_put_back = record {
-    once = run.marked.once;
-    there = λ s i. subst (λ (o : Option Cell). IsSome o)
-        (sym (run.kept s ∙ ap (λ y. if y then option_map (stamped_cell k.stamp) (plain k.dict k.now s) else finite.get first s) i))
-        (still_some (plain k.dict k.now s) (standing_have_results k.dict k.now s ∙ stands_done s i));
-  }
-    where
-      still_some : (o : Option Res) → is_some o ≡ true → IsSome (option_map (stamped_cell k.stamp) o)
-      still_some (Some r) h = refl
-      still_some None h = absurd (cc)
 
   -- ---- the slot that was taken out
 

@@ -2,7 +2,6 @@
 use Rattle.std.specs.Prelude.{◌≡◌, ◌≢◌, ℕ, ◌<◌, ◌≤◌, Bool, not, nat_eq, nat_lt, IsTrue, List, [], ◌∷◌, ◌++◌, Option, Some, None, Result, Ok, Err, Vec}
 use Rattle.std.specs.List.{AllByRecursion, list_all, list_any}
 use Rattle.std.specs.declared.alloc.Global.{Global}
-use Rattle.fact_paths.specs.Cuts.{Lacks}
 use Rattle.fact_paths.specs.Paths.{IsMemberNumber}
 use Rattle.fact_values.specs.Members.{IsMemberList}
 use Rattle.fact_values.specs.declared.slot.Slot.{Slot}
@@ -36,15 +35,6 @@ abbrev pub ReadsMembers : List ℕ → Result (Vec ℕ Global) LineFault → Typ
 ReadsMembers tail (Ok found) = (printed_rest found.items ≡ tail) × AllByRecursion IsMemberNumber found.items
 ReadsMembers tail (Err BadLine) = (ms : List ℕ) → AllByRecursion IsMemberNumber ms → printed_rest ms ≢ tail
 ReadsMembers tail (Err NoMemory) = Unit {0}
-
--- what stands behind the path of a list: nothing, or a blank and the members
-abbrev pub tail_text : Option (List ℕ) → List ℕ
-tail_text None = []
-tail_text (Some members) = 32 ∷ members
-
--- the path, in which is no blank, and what stands behind it
-abbrev pub ArePathAndTail : List ℕ → List ℕ → Option (List ℕ) → Type 0
-ArePathAndTail text path members = (text ≡ path ++ tail_text members) × Lacks 32 path
 
 -- ---- lists
 

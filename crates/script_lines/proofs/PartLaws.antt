@@ -1,5 +1,5 @@
 -- The parts of a command behind its first word: what is read of a text is what it spells.
-use Rattle.std.proofs.Common.{◌≡◌, ℕ, List, ◌∷◌, ◌++◌, Option, Some, None, refl, sym, ap, subst, ◌∙◌}
+use Rattle.std.proofs.Common.{◌≡◌, ℕ, List, ◌∷◌, ◌++◌, Option, Some, None, refl, ap, subst, ◌∙◌}
 use Rattle.std.specs.Prelude.{codes, decimal}
 use Rattle.std.proofs.lemmas.Option.{cond_some, same_Some}
 use Rattle.common_lemmas.proofs.Options.{both_some}

@@ -2,8 +2,6 @@ ghost use Rattle.std.specs.Prelude.{◌≡◌};
 ghost use Rattle.script_lines.specs.declared.fault.LineFault.TheVariants.{NoMemory};
 
 use std::alloc::AllocError;
-use std::error::Error;
-use std::fmt;
 
 /// Why a line gives no command.
 #[derive(Clone, Copy, Debug, PartialEq, Eq)]
@@ -21,14 +19,3 @@ impl From<AllocError> for LineFault {
         LineFault::NoMemory
     }
 }
-
-impl fmt::Display for LineFault {
-    fn fmt<W: fmt::Write>(&self, f: &mut fmt::Formatter<W>) -> fmt::Result {
-        match self {
-            LineFault::BadLine => write!(f, "not a command"),
-            LineFault::NoMemory => write!(f, "out of memory"),
-        }
-    }
-}
-
-impl Error for LineFault {}

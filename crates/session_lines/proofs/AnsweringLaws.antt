@@ -41,14 +41,6 @@ module _ (taken taken_now : Option (List ℕ)) (faults faults_now : ℕ) where
   text_step text after Unwritten written = written
   text_step text after OutOfMemory written = absurd written
 
-  -- so is one for which there may have been no memory
-  pub told_step : (text : List ℕ) (after : Standing) (progress : Progress) → ToldAs taken taken_now faults faults_now text progress
-      → SteppedAs taken taken_now faults faults_now (record { text = text; state = open_at after }) after progress
-  told_step text after More told = (told, refl)
-  told_step text after Over told = absurd told
-  told_step text after Unwritten told = told
-  told_step text after OutOfMemory told = told
-
   pub written_told : (text : List ℕ) (progress : Progress) → WrittenAs taken taken_now faults faults_now text progress → ToldAs taken taken_now faults faults_now text progress
   written_told text More written = written
   written_told text Over written = absurd written

@@ -100,10 +100,6 @@ module _ (d : Tree) (relations : List Named) (before after : Look) where
       ap (λ (b : Bool). joined (map (watch_line d relations) (cond b (q ∷ []) []))) says
       ∙ ap (λ (o : Option Pair). watch_line d relations (unwrap_or o q) ++ 10 ∷ []) e
 
-  pub line_unsaid : (o : Option Pair) → pair_says (code_at (λ (r : Named). r.1) relations) o before after ≡ false → joined (firing_lines_at d relations before after o) ≡ []
-  line_unsaid None says = refl
-  line_unsaid (Some q) says = ap (λ (b : Bool). joined (map (watch_line d relations) (cond b (q ∷ []) []))) says
-
   -- and a slot of which it says yes has a result
   pub said_stands : (p : Pair) → pair_says (code_at (λ (r : Named). r.1) relations) (Some p) before after ≡ true → (r : Res) × (after p.1 ≡ Some r)
   said_stands p says = at (before p.1) (after p.1) refl says
@@ -112,7 +108,3 @@ module _ (d : Tree) (relations : List Named) (before after : Look) where
       at None new e h = absurd cc
       at (Some old) None e h = absurd cc
       at (Some old) (Some new) e h = (new, e)
-
--- the name at a place, of the list that comes first
-pub name_by_names : {R : Type 0} (rs : List R) (name : R → List ℕ) (code : R → ℕ) (place : ℕ) → name_at (map {B = List ℕ × ℕ} (λ r. (name r, code r)) rs) place ≡ unwrap_or (option_map name (slice_get rs place)) []
-name_by_names rs name code place = name_same name code rs place

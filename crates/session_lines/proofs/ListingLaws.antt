@@ -1,8 +1,7 @@
 -- Slots that are missing stand, and their paths are lines.
-use Rattle.std.proofs.Common.{◌≡◌, ℕ, ◌+◌, ◌<◌, ◌≤◌, zero, suc, Bool, IsTrue, List, [], ◌∷◌, ◌++◌, length, map, drop, get_or, refl, sym, ap, ◌∙◌, arith, append_assoc}
+use Rattle.std.proofs.Common.{◌≡◌, ℕ, ◌+◌, ◌<◌, zero, suc, Bool, IsTrue, List, [], ◌∷◌, ◌++◌, length, map, drop, get_or, refl, sym, ap, ◌∙◌, arith, append_assoc}
 use Rattle.std.specs.Prelude.{All}
 use Rattle.std.specs.List.{list_any}
-use Rattle.std.proofs.lemmas.List.{drop_all}
 use Rattle.std.proofs.lemmas.List.Elements.{All-cons, All-filter, All-nil}
 use Rattle.script_lines.specs.Joined.{joined}
 use Rattle.fact_values.specs.declared.slot.Slot.{Slot}
@@ -44,9 +43,6 @@ module _ {X : Type 0} (f : X → List ℕ) where
   next_line xs i x low =
       let next : suc i ≡ i + 1 = omega arith in
       at_place xs i x low ∙ ap (λ (k : ℕ). (f (get_or xs i x) ++ 10 ∷ []) ++ joined (map f (drop k xs))) next
-
-  pub no_line : (xs : List X) (i : ℕ) → length xs ≤ i → joined (map f (drop i xs)) ≡ []
-  no_line xs i past = ap (λ (l : List X). joined (map f l)) (drop_all i xs past)
 
 -- the first of some lines, and those behind it
 pub first_line : (line : List ℕ) (lines : List (List ℕ)) → (line ++ 10 ∷ []) ++ joined lines ≡ joined (line ∷ lines)

@@ -141,6 +141,7 @@ fn move_newest(
     ensures has_room { NewestRoom (stack from.old.items) answers.old × (vec_len to.old < vec_capacity to.old) → IsOk result }
 {
     to.reserve(1)?;
+    // What is popped leaves room: a vector is no longer than its capacity.
     let _ = from.capacity();
     match from.pop() {
         None => Ok(()),

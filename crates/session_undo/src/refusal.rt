@@ -1,8 +1,3 @@
-ghost use Rattle.std.specs.Prelude.{◌≡◌};
-ghost use Rattle.session_undo.specs.declared.refusal.UndoRefusal.TheVariants.{NoMemory as WantOfMemory};
-
-use fact_values::NoMemory;
-
 /// Why nothing was undone or redone.
 #[derive(Clone, Copy, Debug, Drop, PartialEq, Eq)]
 pub enum UndoRefusal {
@@ -12,12 +7,4 @@ pub enum UndoRefusal {
     NothingToRedo,
     /// There was no memory left.
     NoMemory,
-}
-
-impl From<NoMemory> for UndoRefusal {
-    fn from(_error: NoMemory) -> UndoRefusal
-        ensures { result ≡ WantOfMemory }
-    {
-        UndoRefusal::NoMemory
-    }
 }

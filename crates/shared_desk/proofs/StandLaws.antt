@@ -22,7 +22,7 @@ use Rattle.shared_desk.specs.declared.refusal.DeskRefusal.TheVariants.{Session}
 use Rattle.shared_desk.proofs.AfterLaws.{after_by, after_change, after_question}
 use Rattle.shared_desk.proofs.LookLaws.{and_false, kept_asked, kept_changed, looked_low}
 use Rattle.shared_desk.proofs.OrderLaws.{order_stays, touch_at}
-use Rattle.shared_desk.proofs.StepLaws.{early_refusal, late_refusal, late_step, refused_self}
+use Rattle.shared_desk.proofs.StepLaws.{late_refusal, late_step}
 
 -- ---- the same refusals
 
@@ -158,7 +158,3 @@ module _ (v w : DeskView) (d : Desk) (p : ℕ) (c : Command) (f : StandsFor v d)
       by : (x : Result Reply DeskRefusal) → IfErr x (λ q. Refused q (option_map Session (refusal (rules_of v) (course v.session) c))) → IfErr x (λ q. Refused q (desk_refusal (rules_of v) d p c))
       by (Ok said) err = tt
       by (Err q) err = subst (λ (o : Option DeskRefusal). Refused q o) same err
-
--- or it is refused early
-pub line_refused_early : (v : DeskView) (d : Desk) (p : ℕ) (c : Command) (q : DeskRefusal) → StandsFor v d → early (rules_of v) (kept_desk v) p c ≡ Some q → Refused q (desk_refusal (rules_of v) d p c)
-line_refused_early v d p c q f e = refused_self q (desk_refusal (rules_of v) d p c) (early_refusal (rules_of v) d p c q (sym (early_same v d p f c) ∙ e))

@@ -3,7 +3,6 @@ use Rattle.std.proofs.Common.{◌≡◌, ℕ, ◌+◌, ◌≤◌, Bool, true, fa
 use Rattle.std.specs.Prelude.{IfOk, OnErr, Result, Ok, Err, option_map}
 use Rattle.std.specs.FinMap as map
 use Rattle.fact_paths.specs.declared.slot_path.SlotPath.{SlotPath}
-use Rattle.fact_values.specs.declared.slot.Slot.{Slot}
 use Rattle.script_lines.specs.declared.command.Command.{Command}
 use Rattle.script_lines.specs.declared.command.Command.TheVariants as commands
 use Rattle.dict_tree.specs.Dictionary.{Dictionary as Tree}
@@ -12,15 +11,15 @@ use Rattle.answers.specs.declared.edit.Side.TheVariants.{Answer, Override}
 use Rattle.dictionary.specs.Fits.{is_answered_by, is_list, is_overridden_by}
 use Rattle.session_undo.specs.Timeline.{Timeline}
 use Rattle.graph_session.specs.Kinds.{value_spelled}
-use Rattle.graph_session.specs.Refusals.{Refused as SessionRefused, first_of as first_session, slot_found, slot_refusals, value_refusals, when}
+use Rattle.graph_session.specs.Refusals.{first_of as first_session, slot_refusals, value_refusals, when}
 use Rattle.graph_session.specs.Naming.{fact_of, slot_of}
 use Rattle.graph_session.specs.Rules.{Rules, tree_of}
 use Rattle.graph_session.specs.SessionView.{Course, SessionView, course, moved, view_at}
 use Rattle.graph_session.specs.Step.{is_change, moved_by, refusal, reply, step, timeline_by}
 use Rattle.graph_session.specs.declared.reply.Refusal.{Refusal}
-use Rattle.graph_session.specs.declared.reply.Refusal.TheVariants.{AlreadyOpen, BadValue, NoMemory, NoOverride, NoStamps, NotAnswered, WrongKind}
+use Rattle.graph_session.specs.declared.reply.Refusal.TheVariants.{AlreadyOpen, BadValue, NoOverride, NotAnswered, WrongKind}
 use Rattle.graph_session.specs.declared.reply.Reply.{Reply}
-use Rattle.graph_session.proofs.StepLaws.{accepted_step, changes_move, decided_err, decided_ok, questions_stay}
+use Rattle.graph_session.proofs.StepLaws.{accepted_step, changes_move, questions_stay}
 use Rattle.shared_desk.specs.Desk.{Desk, absent_refusals, appends, course_after, desk_after, desk_refusal, desk_step, early, place_of, shown}
 use Rattle.shared_desk.specs.Refusals.{Refused, RefusedBut, decided, first_of, wants_memory}
 use Rattle.shared_desk.specs.declared.refusal.DeskRefusal.{DeskRefusal}
@@ -96,11 +95,6 @@ refused_but false q o e = e
 pub refused_self : (q : DeskRefusal) (o : Option DeskRefusal) → o ≡ Some q → Refused q o
 refused_self q o e = refused_but (wants_memory q) q o e
 
--- a session's refusal, as a desk gives it
-pub refused_session : (q : Refusal) (o : Option Refusal) → SessionRefused q o → Refused (Session q) (option_map Session o)
-refused_session NoMemory o h = tt
-refused_session q o h = ap (option_map Session) h
-
 -- where no early refusal holds, it is the session's
 pub late_refusal : (r : Rules) (d : Desk) (p : ℕ) (c : Command) → early r d p c ≡ None → desk_refusal r d p c ≡ option_map Session (refusal r d.course c)
 late_refusal r d p c e = ap (λ (o : Option DeskRefusal). first_of (o ∷ option_map Session (refusal r d.course c) ∷ [])) e ∙ first_one (option_map Session (refusal r d.course c))
@@ -122,22 +116,6 @@ first_after : (xs ys : List (Option Refusal)) (q : Refusal) → first_session xs
 first_after [] ys q e = absurd cc
 first_after (None ∷ xs) ys q e = first_after xs ys q e
 first_after (Some x ∷ xs) ys q e = e
-
--- what shows a slot is refused where the slot isn't there
-pub shown_absent : (r : Rules) (s : Course) (c : Command) (path : SlotPath) (q : Refusal) → shown c ≡ Some path → ◌≡◌ {A = Result Slot Refusal} (Err q) (slot_found r s.timeline.now path) → refusal r s c ≡ Some q
-shown_absent r s c path q is e = by c is
-  where
-    absent : first_session (slot_refusals r s.timeline.now path) ≡ Some q
-    absent = decided_err (first_session (slot_refusals r s.timeline.now path)) (slot_of (tree_of r) path) q e
-
-    named : (x : SlotPath) → x ≡ path → first_session (slot_refusals r s.timeline.now x) ≡ Some q
-    named x same = ap (λ (y : SlotPath). first_session (slot_refusals r s.timeline.now y)) same ∙ absent
-
-    by : (c : Command) → shown c ≡ Some path → refusal r s c ≡ Some q
-    by (commands.Get x) is = named x cc
-    by (commands.Final x) is = named x cc
-    by (commands.Stamp x) is = first_after (slot_refusals r s.timeline.now x) (when (is_none s.counts) NoStamps ∷ []) q (named x cc)
-    by c is = absurd cc
 
 -- an edit of a slot or a member that isn't there is refused for that by the session too
 pub absent_first : (r : Rules) (s : Course) (c : Command) (q : Refusal) → first_session (absent_refusals r s.timeline.now c) ≡ Some q → refusal r s c ≡ Some q

@@ -8,11 +8,11 @@ use std::alloc::Global;
 /// The result of a fact, or of a part of its rule.
 #[derive(Debug, Drop)]
 pub enum Res {
-    /// The value, which rests on answers and overrides alone.
+    /// The value, which no placeholder decided.
     Complete(Value),
     /// The value, which rests on a placeholder.
     Placeholder(Value),
-    /// An answer is missing.
+    /// None yet: an answer is missing, no case applies, or no member was found.
     Incomplete,
     Fault(ValueFault),
 }

@@ -1,5 +1,5 @@
 -- What is printed spells the amount, and is short.
-use Rattle.std.proofs.Common.{◌≡◌, ℕ, suc, ◌+◌, ◌*◌, ◌/◌, ◌%◌, ◌^◌, ◌<◌, ◌≤◌, true, [], ◌∷◌, length, Some, inl, inr, refl, arith, ltb-true, length-append}
+use Rattle.std.proofs.Common.{◌≡◌, ℕ, suc, ◌+◌, ◌*◌, ◌/◌, ◌%◌, ◌^◌, ◌<◌, ◌≤◌, true, [], ◌∷◌, length, inl, inr, refl, arith, ltb-true}
 use Rattle.std.specs.Prelude.{decimal, ℤ, pos, negsuc}
 use Rattle.std.specs.Int.{IsInRange as IsBetween}
 use Rattle.std.specs.Str.{all_ascii_digits}
@@ -9,9 +9,8 @@ use Rattle.std.proofs.lemmas.Str.{digit_value_digit}
 use Rattle.std.proofs.lemmas.Str.Parse.{tells_all_ascii_digits}
 use Rattle.fact_values.specs.Range.{IsInRange}
 use Rattle.value_text.specs.Digits.{AreDigits}
-use Rattle.value_text.specs.Dollars.{point, SpellsSize, SpellsDollar, dollar_at, printed_size, printed_dollar}
+use Rattle.value_text.specs.Dollars.{SpellsSize, SpellsDollar, printed_size, printed_dollar}
 use Rattle.value_text.proofs.DigitLemmas.{own}
-use Rattle.value_text.proofs.SpellingLaws.{dollar_found}
 
 -- ---- two digits of cents
 
@@ -63,20 +62,6 @@ pub printed_spells : (amount : ℤ) → IsInRange amount → SpellsDollar (print
 printed_spells (pos n) range = inl (n, printed_spells_size n (ltb-true n 1000000000000000 range), refl)
 printed_spells (negsuc n) range = inr (printed_size (suc n), suc n, refl, printed_spells_size (suc n) (ltb-true (suc n) 1000000000000000 range), refl)
 
--- reading what was printed gives the amount back
-pub dollar_at-printed_dollar : (amount : ℤ) → IsInRange amount → dollar_at (printed_dollar amount) ≡ Some amount
-dollar_at-printed_dollar amount range = dollar_found (printed_dollar amount) amount (printed_spells amount range)
-
 -- the dollars of an amount in range have at most 13 digits
 pub dollars_short : (size : ℕ) → size < 10 ^ 15 → length (decimal (size / 100)) ≤ 13
 dollars_short size small = let dollars = dollars_are_digits (size / 100) (omega arith) in dollars.1
-
--- a point and two digits more
-length-printed_size : (size : ℕ) → size < 10 ^ 15 → length (printed_size size) ≤ 16
-length-printed_size size small =
-    omega (arith, dollars_short size small, length-append (decimal (size / 100)) (point ∷ (48 + size / 10 % 10) ∷ (48 + size % 10) ∷ []))
-
--- no printed text is longer than that of -9999999999999.99
-pub length-printed_dollar : (amount : ℤ) → IsInRange amount → length (printed_dollar amount) ≤ 17
-length-printed_dollar (pos n) range = let short = length-printed_size n (ltb-true n 1000000000000000 range) in omega (arith, short)
-length-printed_dollar (negsuc n) range = let short = length-printed_size (suc n) (ltb-true (suc n) 1000000000000000 range) in omega (arith, short)

@@ -104,13 +104,6 @@ dollar_again (b ∷ rest) amount e =
           inl (m.0, size_again (b ∷ rest) m.0 m.1, m.2)
     ]
 
--- a text spells at most one amount
-pub spelled_once : (text : List ℕ) (a b : ℤ) → SpellsDollar text a → SpellsDollar text b → a ≡ b
-spelled_once text a b h k =
-    let at_a = dollar_found text a h in
-    let at_b = dollar_found text b k in
-    cc
-
 -- the clause of a reader that gives `dollar_at`
 pub spelled_by : (text : List ℕ) (r : Option ℤ) → r ≡ dollar_at text → MatchOption r ((amount : ℤ) → SpellsDollar text amount → ⊥) (λ amount. SpellsDollar text amount)
 spelled_by text None e = λ amount spelled. let found = dollar_found text amount spelled in cc

@@ -1,7 +1,5 @@
-pub use Rattle.fact_values.specs.Range
 pub mod Dates
 pub mod Digits
-pub mod DollarLaws
 pub mod Dollars
 pub mod Enums
 pub mod Fractions

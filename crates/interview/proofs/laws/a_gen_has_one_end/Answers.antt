@@ -1,5 +1,5 @@
 use Rattle.interview.proofs.LoadLaws.{one_gen}
-use Rattle.interview.proofs.laws.a_load_has_one_end.Goals as goal
+use Rattle.interview.proofs.laws.a_gen_has_one_end.Goals as goal
 
 pub returns : goal.returns
 returns c = one_gen
