@@ -21,6 +21,11 @@ def deep(depth):
     return '["Not",' * (depth - 1) + '["True"]' + "]" * (depth - 1)
 
 
+def switched(depth):
+    """An expression so deep, of Switches: a Case is no node."""
+    return '["Switch",["Case",["True"],' * (depth - 1) + '["True"]' + "]]" * (depth - 1)
+
+
 def of_nodes(last):
     """So many nodes more than 38,000, of which the last are those of a placeholder."""
     facts = ['{"path":"/f%d","derived":"Boolean","is":%s}' % (k, wide(2000)) for k in range(19)]
@@ -51,6 +56,23 @@ PLACES = [
     ("the test of a conditional", '{"path":"/b","derived":"Boolean","is":["True"],"conditional":[%s,["True"]]}', 2),
     ("the value of a conditional", '{"path":"/b","derived":"Boolean","is":["True"],"conditional":[["True"],%s]}', 2),
     ("a placeholder", '{"path":"/b","writable":"Boolean","placeholder":%s}', 0),
+]
+
+
+# Facts with a fault each: that of each is to be named before those of the facts above it.
+LADDER = [
+    ('{"path":"/a","derived":"Int","is":["Dependency","/a"]}', b"14 Cycle fact 1"),
+    ('{"path":"/b","writable":"Int","limits":[["Min","x"]]}', b"13 BadLimit fact 2"),
+    ('{"path":"/d","derived":"Int","is":["Int","x"]}', b"12 IllTyped fact 3 node 1"),
+    ('{"path":"/e","writable":"Text","limits":[["Check","x"]]}', b"11 UnknownCheck fact 4"),
+    ('{"path":"/f","derived":"Int","is":["Dependency","x"]}', b"10 WrongPlace fact 5"),
+    ('{"path":"/g","derived":"Int","is":["Dependency","/x"]}', b"9 UnknownPath fact 6"),
+    ('{"path":"/x/*/h","writable":"Int"}', b"8 NoCollection fact 7"),
+    ('{"path":"/a","writable":"Int"}', b"7 DuplicatePath fact 8"),
+    ('{"path":"i","writable":"Int"}', b"6 BadPath fact 9"),
+    ('{"path":"/j","derived":"Boolean","is":%s}' % deep(49), b"5 TooDeep fact 10"),
+    ('{"path":"/k","writable":"Text","limits":[%s]}' % ",".join(['["Check","digits"]'] * 9), b"4 TooMany what 6"),
+    ("{}", b"3 Shape fact 12"),
 ]
 
 
@@ -90,4 +112,12 @@ def cases():
     for where, form, others in PLACES:
         found.append(accepted("depth 48 in " + where, dictionary([FACT, form % deep(48)]), 2, 48 + others))
         found.append(refused("depth 49 in " + where, dictionary([FACT, form % deep(49)]), b"5 TooDeep fact 2"))
+    found.append(accepted("depth 48 of Switches", dictionary([FACT, PLACES[2][1] % switched(48)]), 2, 97))
+    found.append(refused("depth 49 of Switches", dictionary([FACT, PLACES[2][1] % switched(49)]), b"5 TooDeep fact 2"))
+    facts = [fact for fact, _ in LADDER]
+    for count, (_, line) in enumerate(LADDER, 1):
+        found.append(refused(f"the first of {count} faults", dictionary(facts[:count]), line))
+    found.append(refused("what is no JSON comes before all other faults", dictionary(facts)[:-1], b"2 NotJson"))
+    found.append(refused("a byte behind the dictionary", dictionary([FACT]) + b"x", b"2 NotJson"))
+    found.append(refused("a description that isn't UTF-8", b'{"version":"1","facts":[],"description":"\xff"}', b"2 NotJson"))
     return found

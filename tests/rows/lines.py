@@ -22,3 +22,7 @@ def cases():
     yield case("a text has no control character", b"".join(b"set /text " + text + b"\n" for text in controls), b"refused 6 BadValue\n" * len(controls))
     text = b"a" * 1000
     yield case("a text has 1000 bytes at most", b"set /text " + text + b"\nset /text " + text + b"a\nget /text\n", b"ok\nrefused 6 BadValue\ncomplete " + text + b"\n")
+    yield case("a line of 4096 bytes, of which the last is a byte 13", longest[:-1] + b"\r\n", b"refused 6 BadValue\n")
+    yield case("the first and the last control character of two bytes, and what stands behind them", b"set /text \xc2\x80\nset /text \xc2\x9f\nset /text \xc2\xa0\nget /text\n", b"refused 6 BadValue\nrefused 6 BadValue\nok\ncomplete \xc2\xa0\n")
+    yield case("a text is counted in bytes", b"set /text " + b"a" * 999 + b"\xc3\xa9\nset /text " + b"a" * 998 + b"\xc3\xa9\n", b"refused 6 BadValue\nok\n")
+    yield case("a name has 64 bytes at most", b"get /" + b"b" * 64 + b"\nget /" + b"b" * 65 + b"\n", b"refused 3 UnknownFact\nrefused 1 BadLine\n")

@@ -72,3 +72,9 @@ def cases():
     yield ("a name that isn't there", ["save", "nowhere"], None, b"set /a 5\n", b"", 3)
     for words in (["save"], ["save-year"], ["save-year", "2022"], ["save-year", "2025"], ["save-year", "02023"], ["save", "two_amounts.json", "2"], ["save-plain", "two_amounts.json"]):
         yield (f"{' '.join(words)!r} has no form", words, None, b"", text([USAGE]), 2)
+    yield save(
+        "values of all kinds, an empty text among them",
+        "kinds.json",
+        ["set /e red", "set /t ", "set /d 2024-02-29", "set /r 4/6", "override /o green"],
+        ["saved 1", "next 1", "value /r 2/3", "value /d 2024-02-29", "value /t ", "value /e red", "override /o green", "end"],
+    )
