@@ -316,7 +316,10 @@ async function begin() {
   paint(said);
 }
 
+const LARGEST_SAVED = 4194304; // as serve.py has it, which doesn't read a longer one
+
 function goOn(file) {
+  if (file.size > LARGEST_SAVED) return say("The file is too large to go on from.");
   waiting = waiting.then(async () => {
     const said = await post("saved", await file.arrayBuffer(), "application/octet-stream");
     if (said.refused) return refuse(said.refused);

@@ -83,7 +83,11 @@ class Server(ThreadingHTTPServer):
 
     def process_request(self, request, client_address):
         self.calls.acquire()
-        super().process_request(request, client_address)
+        try:
+            super().process_request(request, client_address)
+        except BaseException:  # no thread was begun that lets go
+            self.calls.release()
+            raise
 
     def process_request_thread(self, request, client_address):
         try:
@@ -150,7 +154,9 @@ class Handler(BaseHTTPRequestHandler):
             words = {name: asked[name] for name in ("do", "slot", "value") if name in asked}
             "".join(words.values()).encode()
             self.answer_json(self.known().change(asked["version"], **words))
-        except (ValueError, KeyError, TypeError) as wrong:
+        except SessionClosed:  # a ValueError that serve answers
+            raise
+        except (ValueError, KeyError, TypeError, RecursionError) as wrong:
             raise Wrong(HTTPStatus.BAD_REQUEST) from wrong
 
     def saved(self):

@@ -52,7 +52,8 @@ class Session:
     """What `carry` didn't keep."""
 
     fired: tuple[Watch, ...] = ()
-    """The watches that fired at the last change that was accepted, in the order in which they were put."""
+    """The watches that fired at the last accepted change that a method other than `line` made, in the order in which they were
+    put. Where threads share the session it may be another thread's change."""
 
     def __init__(self, dictionary: bytes | str) -> None:
         text = _bytes_of(dictionary)
@@ -93,6 +94,7 @@ class Session:
         # addresses are passed in less time than references
         self._graph, self._back = graph, ctypes.addressof(graph)
         self._end = weakref.finalize(self, calls.close, graph)
+        self._end.atexit = False  # a daemon thread may be in a call then, and the system takes the memory back
         self._is_open = True
         self._lock = threading.Lock()
         self._size = ctypes.c_size_t()

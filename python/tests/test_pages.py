@@ -11,7 +11,7 @@ from pathlib import Path
 
 from .places import TOP
 
-BLOCKS = re.compile(r"^```(\w+)\n(.*?)^```\n\n```text\n(.*?)^```$", re.MULTILINE | re.DOTALL)
+BLOCKS = re.compile(r"^```(\w+)\n((?:(?!```).*\n)*)```\n\n```text\n((?:(?!```).*\n)*)```$", re.MULTILINE)
 LIBRARY = os.environ.get("FACT_GRAPH_LIBRARY", "")
 
 
@@ -27,7 +27,9 @@ def printed(words, **more):
 class Pages(unittest.TestCase):
     def test_in_python(self):
         for page in ("docs/EMBEDDING.md", "python/README.md"):
-            for code, text in blocks(page, "python"):
+            found = blocks(page, "python")
+            self.assertTrue(found, page)
+            for code, text in found:
                 with self.subTest(page):
                     self.assertEqual(printed([sys.executable, "-c", code], env={**os.environ, "PYTHONPATH": str(TOP / "python")}), text)
 

@@ -26,17 +26,24 @@ void *malloc(size_t size) { return fails() ? NULL : __libc_malloc(size); }
 void *realloc(void *at, size_t size) { return fails() ? NULL : __libc_realloc(at, size); }
 #endif
 
-/* Makes the call, where FAILING is set first with each of its allocations failing in turn. */
-#define WITH_MEMORY(call, wants_memory, as_before)  \
-  do {                                              \
-    long first_failing = 0;                         \
-    do {                                            \
-      failing = FAILING_FROM(first_failing);        \
-      call;                                         \
-      failing = 0;                                  \
-      if (wants_memory) { as_before; }              \
-    } while (wants_memory);                         \
-  } while (0)
+/* Makes the call, where FAILING is set first with each of its allocations failing in turn. A list that is collected does with less
+ * room, so a call may end well in spite of an allocation that failed: then take_back stands before the next one fails. It is
+ * `break` where nothing can be taken back. */
+#define WITH_MEMORY(call, wants_memory, as_before, take_back) \
+  for (long first_failing = 0;;) {                            \
+    failing = FAILING_FROM(first_failing);                    \
+    long due = failing;                                       \
+    call;                                                     \
+    int has_failed = due != 0 && failing == 0;                \
+    failing = 0;                                              \
+    if (wants_memory) {                                       \
+      as_before;                                              \
+      continue;                                               \
+    }                                                         \
+    if (!has_failed) break;                                   \
+    take_back;                                                \
+  }
+#define CLOSE(graph) (fact_graph_close(graph), (graph).at = NULL)
 #ifdef FAILING
 #define FAILING_FROM(n) (++(n))
 #else
@@ -75,7 +82,7 @@ static text whole(fact_graph *graph, size_t size) {
 static uint32_t answer(fact_graph *graph, const uint8_t *line, size_t line_size, text *reply) {
   size_t size = 1;
   uint32_t how;
-  WITH_MEMORY(how = fact_graph_answer(*graph, line, line_size, &size, graph), how == FACT_GRAPH_NO_MEMORY, CHECK(size == 0));
+  WITH_MEMORY(how = fact_graph_answer(*graph, line, line_size, &size, graph), how == FACT_GRAPH_NO_MEMORY, CHECK(size == 0), break);
   *reply = whole(graph, size);
   return how;
 }
@@ -83,7 +90,7 @@ static uint32_t answer(fact_graph *graph, const uint8_t *line, size_t line_size,
 static text saved_text(fact_graph *graph) {
   size_t size = 1;
   uint32_t how;
-  WITH_MEMORY(how = fact_graph_save(*graph, &size, graph), how == FACT_GRAPH_NO_MEMORY, CHECK(size == 0));
+  WITH_MEMORY(how = fact_graph_save(*graph, &size, graph), how == FACT_GRAPH_NO_MEMORY, CHECK(size == 0), (void)0);
   CHECK(how == FACT_GRAPH_SAID);
   return whole(graph, size);
 }
@@ -93,7 +100,7 @@ static fact_graph opened(text dictionary) {
   fact_graph_fault fault = {9, 9, 9, 9, 9};
   uint32_t number;
   WITH_MEMORY(number = fact_graph_open(dictionary.bytes, dictionary.size, &graph, &fault), number == FACT_GRAPH_FAULT_MEMORY,
-              CHECK(graph.at == NULL && fault.number == FACT_GRAPH_FAULT_MEMORY));
+              CHECK(graph.at == NULL && fault.number == FACT_GRAPH_FAULT_MEMORY), CLOSE(graph));
   CHECK(number == 0 && fault.number == 0 && fault.fact == FACT_GRAPH_ABSENT && graph.at != NULL);
   return graph;
 }
@@ -103,7 +110,7 @@ static fact_graph loaded(text dictionary, text saved) {
   fact_graph_fault fault = {0};
   uint32_t number;
   WITH_MEMORY(number = fact_graph_load(dictionary.bytes, dictionary.size, saved.bytes, saved.size, &graph, &fault),
-              number == FACT_GRAPH_FAULT_MEMORY, CHECK(graph.at == NULL));
+              number == FACT_GRAPH_FAULT_MEMORY, CHECK(graph.at == NULL), CLOSE(graph));
   CHECK(number == 0);
   return graph;
 }
@@ -114,7 +121,7 @@ static fact_graph carried(text dictionary, text saved, text *dropped) {
   size_t size = 1;
   uint32_t number;
   WITH_MEMORY(number = fact_graph_carry(dictionary.bytes, dictionary.size, saved.bytes, saved.size, &graph, &size, &fault),
-              number == FACT_GRAPH_FAULT_MEMORY, CHECK(graph.at == NULL && size == 0));
+              number == FACT_GRAPH_FAULT_MEMORY, CHECK(graph.at == NULL && size == 0), CLOSE(graph));
   CHECK(number == 0);
   *dropped = whole(&graph, size);
   return graph;
@@ -207,5 +214,8 @@ int main(int count, char **words) {
   free(script.bytes);
   free(dictionary.bytes);
   fprintf(stderr, "sessions: %ld allocations failed\n", failed);
+#ifdef FAILING
+  CHECK(failed > 0);
+#endif
   return 0;
 }
