@@ -8,7 +8,7 @@
 // They do less than the program in some ways: they read a dictionary with the keys in the order of the examples alone,
 // straight into facts, they know sums of amounts and no other value or node, and no limits on the sizes of dictionary
 // and script. They keep no changes to undo; `run` and `run-incremental` keep no stamps, and a set by `run` evaluates
-// nothing. check.rs reads whole dictionaries.
+// nothing. tests/plain_check.rs reads whole dictionaries.
 
 mod differences;
 

@@ -26,8 +26,20 @@
 extern "C" {
 #endif
 
+/* The version, by semantic versioning: a host runs with each library of its major number and no lower minor one. */
+#define FACT_GRAPH_VERSION_MAJOR 1
+#define FACT_GRAPH_VERSION_MINOR 0
+#define FACT_GRAPH_VERSION_PATCH 0
+
+/* The same as one number, for `#if FACT_GRAPH_VERSION_NUMBER >= 10200`, and as a text, "1.0.0". */
+#define FACT_GRAPH_VERSION_NUMBER (FACT_GRAPH_VERSION_MAJOR * 10000 + FACT_GRAPH_VERSION_MINOR * 100 + FACT_GRAPH_VERSION_PATCH)
+#define FACT_GRAPH_VERSION \
+  FACT_GRAPH_DOTTED(FACT_GRAPH_VERSION_MAJOR, FACT_GRAPH_VERSION_MINOR, FACT_GRAPH_VERSION_PATCH)
+#define FACT_GRAPH_DOTTED(major, minor, patch) FACT_GRAPH_DOTTED_TEXT(major, minor, patch)
+#define FACT_GRAPH_DOTTED_TEXT(major, minor, patch) #major "." #minor "." #patch
+
 /* A session. Its field is for the library alone. */
-typedef struct {
+typedef struct fact_graph {
   void *at;
 } fact_graph;
 
@@ -35,7 +47,7 @@ typedef struct {
 #define FACT_GRAPH_ABSENT UINT32_MAX
 
 /* Why no session was opened: as the program's line `dictionary refused 12 IllTyped fact 3 node 2` says it, in numbers. */
-typedef struct {
+typedef struct fact_graph_fault {
   /* 0 where there is no fault; 1 to 14, that of the dictionary; or one of the next two. */
   uint32_t number;
   uint32_t fact;
@@ -45,10 +57,45 @@ typedef struct {
   uint32_t line;
 } fact_graph_fault;
 
+/* The faults of a dictionary: docs/FAULTS.md says of each what is wrong and how to mend it. */
+#define FACT_GRAPH_FAULT_TOO_LONG 1u
+#define FACT_GRAPH_FAULT_NOT_JSON 2u
+#define FACT_GRAPH_FAULT_SHAPE 3u
+#define FACT_GRAPH_FAULT_TOO_MANY 4u
+#define FACT_GRAPH_FAULT_TOO_DEEP 5u
+#define FACT_GRAPH_FAULT_BAD_PATH 6u
+#define FACT_GRAPH_FAULT_DUPLICATE_PATH 7u
+#define FACT_GRAPH_FAULT_NO_COLLECTION 8u
+#define FACT_GRAPH_FAULT_UNKNOWN_PATH 9u
+#define FACT_GRAPH_FAULT_WRONG_PLACE 10u
+#define FACT_GRAPH_FAULT_UNKNOWN_CHECK 11u
+#define FACT_GRAPH_FAULT_ILL_TYPED 12u
+#define FACT_GRAPH_FAULT_BAD_LIMIT 13u
+#define FACT_GRAPH_FAULT_CYCLE 14u
 /* There was no memory. */
 #define FACT_GRAPH_FAULT_MEMORY 15u
 /* The dictionary is accepted, and the saved text is refused. */
 #define FACT_GRAPH_FAULT_SAVED 16u
+
+/* Why a command changed nothing: the number in a reply such as `refused 5 WrongKind`. */
+#define FACT_GRAPH_REFUSED_BAD_LINE 1u
+#define FACT_GRAPH_REFUSED_LONG_LINE 2u
+#define FACT_GRAPH_REFUSED_UNKNOWN_FACT 3u
+#define FACT_GRAPH_REFUSED_NO_MEMBER 4u
+#define FACT_GRAPH_REFUSED_WRONG_KIND 5u
+#define FACT_GRAPH_REFUSED_BAD_VALUE 6u
+#define FACT_GRAPH_REFUSED_LIMIT 7u
+#define FACT_GRAPH_REFUSED_CHECK 8u
+#define FACT_GRAPH_REFUSED_FULL 9u
+#define FACT_GRAPH_REFUSED_ALREADY_OPEN 10u
+#define FACT_GRAPH_REFUSED_NOT_ANSWERED 11u
+#define FACT_GRAPH_REFUSED_NO_OVERRIDE 12u
+#define FACT_GRAPH_REFUSED_NOTHING_TO_UNDO 13u
+#define FACT_GRAPH_REFUSED_NOTHING_TO_REDO 14u
+#define FACT_GRAPH_REFUSED_UNKNOWN_WATCH 16u
+#define FACT_GRAPH_REFUSED_WATCH_THERE 17u
+#define FACT_GRAPH_REFUSED_WATCHES_FULL 18u
+#define FACT_GRAPH_REFUSED_NOT_WATCHED 19u
 
 /* How a call on a session ended. */
 /* What it has to say is the session's text. */

@@ -1,23 +1,36 @@
 """The Fact Graph: interviews over a dictionary of facts, whose figures follow from the answers given so far.
 
-    from decimal import Decimal
-    from fact_graph import Session
-
-    with Session.open("screener.json") as session:
-        session.set("/bill", Decimal("1240.50"))
-        session.get("/help")       # Result(kind='incomplete', value=None, fault=None)
-        session.missing("/help")   # ['/tenure', '/savings', '/people']
+>>> from fact_graph import Session
+>>> with Session.open("screener.json") as session:
+...     session["/bill"] = "1240.50"
+...     session.get("/help"), session.missing("/help")
+(Result(kind='incomplete', value=None, fault=None), ['/tenure', '/savings', '/people'])
 
 `Session` has a method for each command of a script; docs/COMMANDS.md says what each does, docs/DICTIONARIES.md how a
-dictionary is written, and docs/FAULTS.md what each refusal means. What is refused is raised, and changes nothing.
+dictionary is written, and docs/FAULTS.md what each refusal means. What is refused is raised, and changes nothing. The
+examples here and below are over the dictionary examples/screener.json.
 """
 
 from .dictionary import Dictionary, Fact, FactType, Limit
-from .errors import DictionaryRefused, FactGraphError, LibraryMissing, OutOfMemory, Refused, SavedRefused, SessionClosed
+from .errors import (
+    DictionaryRefused,
+    FactGraphError,
+    LibraryMissing,
+    OutOfMemory,
+    Refused,
+    SavedRefused,
+    SessionBusy,
+    SessionClosed,
+    SessionForked,
+    UnknownSlot,
+)
 from .session import Dropped, Session, Watch
-from .values import Kind, Result, Value
+from .values import Answer, Kind, Result, Value
+
+__version__ = "1.0.0"
 
 __all__ = [
+    "Answer",
     "Dictionary",
     "DictionaryRefused",
     "Dropped",
@@ -32,7 +45,11 @@ __all__ = [
     "Result",
     "SavedRefused",
     "Session",
+    "SessionBusy",
     "SessionClosed",
+    "SessionForked",
+    "UnknownSlot",
     "Value",
     "Watch",
+    "__version__",
 ]

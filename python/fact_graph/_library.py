@@ -10,9 +10,11 @@ from ctypes import c_char_p, c_size_t, c_uint32, c_void_p
 from pathlib import Path
 from typing import Any
 
-from .errors import LibraryMissing
+from .errors import DictionaryRefused, FactGraphError, LibraryMissing, OutOfMemory, SavedRefused
 
 NAME = "libfact_graph.so"
+# By this name the system has a library of this version.
+INSTALLED = "libfact_graph.so.1"
 VARIABLE = "FACT_GRAPH_LIBRARY"
 
 ABSENT = 2**32 - 1
@@ -20,6 +22,7 @@ FAULT_MEMORY = 15
 FAULT_SAVED = 16
 SAID = 0
 OVER = 1
+NO_MEMORY = 2
 
 Call = Callable[..., int]
 
@@ -33,6 +36,14 @@ class Fault(ctypes.Structure):
         """The number of this name, or None where the fault has none."""
         number: int = getattr(self, name)
         return None if number == ABSENT else number
+
+    def error(self) -> FactGraphError:
+        """What is raised for it."""
+        if self.number == FAULT_MEMORY:
+            return OutOfMemory("no memory for a session")
+        if self.number == FAULT_SAVED:
+            return SavedRefused(self.line)
+        return DictionaryRefused(self.number, self.place("fact"), self.place("node"), self.place("what"))
 
 
 class Library:
@@ -59,7 +70,7 @@ class Library:
 def place() -> str:
     """Where the library is: as the environment says, else beside the package, else where the system finds it."""
     beside = Path(__file__).with_name(NAME)
-    return os.environ.get(VARIABLE) or (str(beside) if beside.is_file() else NAME)
+    return os.environ.get(VARIABLE) or (str(beside) if beside.is_file() else INSTALLED)
 
 
 @functools.cache

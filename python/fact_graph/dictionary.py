@@ -7,27 +7,45 @@ from typing import Any, NamedTuple
 
 
 class FactType(NamedTuple):
-    """A type: its name, as `Dollar`, and what it is of, as the list of options of an Enum; None for most."""
+    """A type: its name, as `Dollar`, and what it is of, as the list of options of an Enum; None for most.
+
+    >>> FactType("Enum", "tenure")
+    FactType(name='Enum', of='tenure')
+    """
 
     name: str
     of: str | None = None
 
     @classmethod
     def of_text(cls, text: str) -> FactType:
-        """Of its text, as `Dollar`, `Enum(tenure)` or `Item(/people)`."""
+        """Of its text, as `Dollar`, `Enum(tenure)` or `Item(/people)`.
+
+        >>> FactType.of_text("Item(/people)")
+        FactType(name='Item', of='/people')
+        """
         name, _, of = text.partition("(")
         return cls(name, of[:-1] or None)
 
 
 class Limit(NamedTuple):
-    """A limit: `Min`, `Max`, `MaxLength` or `Check`, and the text of the bound or the name of the check."""
+    """A limit: `Min`, `Max`, `MaxLength` or `Check`, and the text of the bound or the name of the check.
+
+    >>> Limit("Max", "5000.00")
+    Limit(name='Max', text='5000.00')
+    """
 
     name: str
     text: str
 
 
 class Fact(NamedTuple):
-    """A fact of a dictionary. That of a collection's members has a path like `/people/*/born`."""
+    """A fact of a dictionary. That of a collection's members has a path like `/people/*/born`.
+
+    >>> from fact_graph import Session
+    >>> bill = Session.open("screener.json").dictionary.facts["/bill"]
+    >>> bill.type, bill.limits, bill.description
+    (FactType(name='Dollar', of=None), (Limit(name='Min', text='0'), Limit(name='Max', text='5000.00')), 'The heating bill of a year.')
+    """
 
     path: str
     type: FactType
@@ -38,13 +56,28 @@ class Fact(NamedTuple):
 
     @property
     def collection(self) -> str | None:
-        """The path of the collection whose members have the fact, or None where it stands once."""
+        """The path of the collection whose members have the fact, or None where it stands once.
+
+        >>> from fact_graph import Session
+        >>> Session.open("screener.json").dictionary.facts["/people/*/born"].collection
+        '/people'
+        """
         front, star, _ = self.path.partition("/*/")
         return front if star else None
 
 
 class Dictionary(NamedTuple):
-    """A dictionary that was accepted: its facts by their paths, in its order, and its lists of options by their names."""
+    """A dictionary that was accepted: its facts by their paths, in its order, and its lists of options by their names.
+
+    >>> from fact_graph import Session
+    >>> dictionary = Session.open("screener.json").dictionary
+    >>> dictionary.description
+    'May a household get help with its heating bill?'
+    >>> dictionary.options["tenure"]
+    ('rents', 'owns', 'other')
+    >>> [path for path, fact in dictionary.facts.items() if fact.has_placeholder]
+    ['/savings']
+    """
 
     facts: dict[str, Fact]
     options: dict[str, tuple[str, ...]]
@@ -52,7 +85,11 @@ class Dictionary(NamedTuple):
 
     @classmethod
     def of_json(cls, text: bytes) -> Dictionary:
-        """Of the bytes of a dictionary that has no fault."""
+        """Of the bytes of a dictionary that has no fault.
+
+        >>> list(Dictionary.of_json(b'{"version":"1","facts":[{"path":"/rent","writable":"Dollar"}]}').facts)
+        ['/rent']
+        """
         stated = json.loads(text)
         return cls(
             {fact["path"]: _fact(fact) for fact in stated["facts"]},
@@ -61,12 +98,21 @@ class Dictionary(NamedTuple):
         )
 
     def fact_at(self, slot: str) -> Fact:
-        """The fact of a slot, as `/people/*/born` of `/people/#2/born`. Raises KeyError where there is none."""
+        """The fact of a slot. Raises KeyError where there is none.
+
+        >>> from fact_graph import Session
+        >>> Session.open("screener.json").dictionary.fact_at("/people/#2/born").path
+        '/people/*/born'
+        """
         return self.facts[path_of(slot)]
 
 
 def path_of(slot: str) -> str:
-    """The path of a slot's fact."""
+    """The path of a slot's fact.
+
+    >>> path_of("/people/#2/born"), path_of("/bill")
+    ('/people/*/born', '/bill')
+    """
     parts = slot.split("/")
     return f"/{parts[1]}/*/{parts[3]}" if len(parts) == 4 and parts[2].startswith("#") else slot
 

@@ -2,45 +2,67 @@
 
 from __future__ import annotations
 
+import contextlib
 import ctypes
 import os
 import threading
 import weakref
-from collections.abc import Callable
+from collections.abc import Callable, Iterator
 from pathlib import Path
 from typing import Any, NamedTuple, NoReturn
 
-from ._library import FAULT_MEMORY, FAULT_SAVED, OVER, SAID, Fault, library
+from ._library import NO_MEMORY, OVER, SAID, Fault, library
 from .dictionary import Dictionary, path_of
-from .errors import DictionaryRefused, OutOfMemory, Refused, SavedRefused, SessionClosed
-from .values import KINDS, READERS, Result, Value, text_of
+from .errors import FactGraphError, OutOfMemory, Refused, SessionBusy, SessionClosed, SessionForked
+from .values import KINDS, READERS, Answer, Result, Value, text_of, text_of_int
 
 # A reply of so many bytes is read in place; a longer one gets room of its own.
 ROOM = 1280
+# What the size of a text is until the call says it.
+UNSAID = ctypes.c_size_t(-1).value
+# By the verb of a line, how many changes more `undo` can take back where it is answered by ok.
+STEPS = dict.fromkeys((b"set", b"clear", b"open", b"add", b"remove", b"override", b"release", b"redo"), 1)
+NOTHING_TO_UNDO = "refused 13 NothingToUndo\n"
 
 
 class Watch(NamedTuple):
-    """A watch: `changed`, `completed`, `lost` or `raised`, and the slot whose result is watched."""
+    """A watch: `changed`, `completed`, `lost` or `raised`, and the slot whose result is watched.
+
+    >>> Watch("completed", "/help")
+    Watch(name='completed', slot='/help')
+    """
 
     name: str
     slot: str
 
 
 class Dropped(NamedTuple):
-    """A line of a saved text that isn't carried: `list`, `value` or `override`, and what it names."""
+    """A line of a saved text that isn't carried: `list`, `value` or `override`, and what it names.
+
+    >>> Dropped("value", "/people/#2/born")
+    Dropped(kind='value', slot='/people/#2/born')
+    """
 
     kind: str
     slot: str
 
 
-class Session:
+class Session:  # pylint: disable=too-many-instance-attributes # what its calls are made with is at hand
     """An interview over a dictionary, whose text is given as bytes, or as a str that is encoded as UTF-8.
+
+    >>> session = Session('{"version":"1","facts":[{"path":"/rent","writable":"Dollar"}]}')
+    >>> session["/rent"] = 800
+    >>> session["/rent"]
+    Decimal('800.00')
 
     A slot is `/rent`, a fact that stands once, or `/people/#2/age`, that of a collection's member. A value is a bool, int,
     Decimal, Fraction, date or str, by the type of its fact, or in any case a str as a script has it: `"2.50"` for an amount.
+    What is refused is raised as `Refused`, and changes nothing.
 
     A session is closed by `close`, at the end of a `with` block, or when nothing refers to it any more. Threads may share
-    it: one call is made at a time, and another waits for it. A forked child may not use it.
+    it: one call is made at a time, and another waits for it. A call from a signal's handler, while one of the same thread hasn't
+    ended, raises `SessionBusy`; each call in a forked child raises `SessionForked`. A copy of a session, or one that was pickled,
+    is a session of its own, which goes on from the same answers as `load` does.
 
     Raises `DictionaryRefused` where the dictionary has a fault.
     """
@@ -60,13 +82,23 @@ class Session:
         self._begin(text, lambda graph, fault: library().open(text, len(text), graph, fault))
 
     @classmethod
-    def open(cls, path: str | os.PathLike[str]) -> Session:
-        """A session over the dictionary in a file, without answers."""
-        return cls(Path(path).read_bytes())
+    def open(cls, source: bytes | str | os.PathLike[str]) -> Session:
+        """A session without answers, over the dictionary in the file at a path, or over one that is given as bytes.
+
+        >>> session = Session.open("screener.json")
+        >>> session.missing("/help")
+        ['/tenure', '/savings', '/people']
+        """
+        return cls(source if isinstance(source, bytes) else Path(source).read_bytes())
 
     @classmethod
     def load(cls, dictionary: bytes | str, saved: bytes | str) -> Session:
-        """A session that goes on from what `save` gave over the same dictionary. Raises `SavedRefused` for another text."""
+        """A session that goes on from what `save` gave over the same dictionary. Raises `SavedRefused` for another text.
+
+        >>> dictionary = '{"version":"1","facts":[{"path":"/rent","writable":"Dollar"}]}'
+        >>> Session.load(dictionary, "saved 1\\nnext 1\\nvalue /rent 800.00\\nend\\n")["/rent"]
+        Decimal('800.00')
+        """
         session, text, kept = cls.__new__(cls), _bytes_of(dictionary), _bytes_of(saved)
         session._begin(text, lambda graph, fault: library().load(text, len(text), kept, len(kept), graph, fault))
         return session
@@ -74,7 +106,12 @@ class Session:
     @classmethod
     def carry(cls, dictionary: bytes | str, saved: bytes | str) -> Session:
         """A session that goes on from what `save` gave over another dictionary, as far as its answers may stand over this
-        one; `dropped` has the others. Raises `SavedRefused` for what is no such text."""
+        one; `dropped` has the others. Raises `SavedRefused` for what is no such text.
+
+        >>> dictionary = '{"version":"1","facts":[{"path":"/income","writable":"Dollar"}]}'
+        >>> Session.carry(dictionary, "saved 1\\nnext 1\\nvalue /rent 800.00\\nend\\n").dropped
+        (Dropped(kind='value', slot='/rent'),)
+        """
         session, text, kept = cls.__new__(cls), _bytes_of(dictionary), _bytes_of(saved)
         size = ctypes.c_size_t()
         session._begin(text, lambda graph, fault: library().carry(text, len(text), kept, len(kept), graph, ctypes.byref(size), fault))
@@ -84,171 +121,425 @@ class Session:
 
     def _begin(self, dictionary: bytes, begin: Callable[..., int]) -> None:
         calls, graph, fault = library(), ctypes.c_void_p(), Fault()
-        number = begin(ctypes.byref(graph), ctypes.byref(fault))
-        if number == FAULT_MEMORY:
-            raise OutOfMemory("no memory for a session")
-        if number == FAULT_SAVED:
-            raise SavedRefused(fault.line)
-        if number:
-            raise DictionaryRefused(number, fault.place("fact"), fault.place("node"), fault.place("what"))
+        if begin(ctypes.byref(graph), ctypes.byref(fault)):
+            raise fault.error()
         # addresses are passed in less time than references
         self._graph, self._back = graph, ctypes.addressof(graph)
         self._end = weakref.finalize(self, calls.close, graph)
         self._end.atexit = False  # a daemon thread may be in a call then, and the system takes the memory back
         self._is_open = True
-        self._lock = threading.Lock()
+        # (a thread that holds it may come again, from a signal's handler: it is told so and doesn't wait for itself)
+        self._lock: Any = threading.RLock()
+        self._is_busy = False
+        self._depth = 0  # how many changes `undo` can take back
+        self._step = 0  # how many more it can where the last line made a change, as long as that isn't counted
+        self._floor = -1  # how many it leaves within the block of changes that is open
         self._size = ctypes.c_size_t()
         self._size_at = ctypes.addressof(self._size)
         self._room: Any = ctypes.create_string_buffer(ROOM)
         self._room_at = ctypes.addressof(self._room)
         self._answer, self._read, self._save = calls.answer, calls.read, calls.save
+        self._source = dictionary
         self.dictionary = Dictionary.of_json(dictionary)
         self._readers = {path: READERS[fact.type.name] for path, fact in self.dictionary.facts.items()}
+        _sessions.add(self)
 
     # ---- changes
 
-    def set(self, slot: str, value: Value) -> None:
-        """Answers a writable fact."""
+    def set(self, slot: str, value: Answer) -> None:
+        """Answers a writable fact; `session[slot] = value` does the same.
+
+        >>> session = Session.open("screener.json")
+        >>> session.set("/bill", "1240.50")
+        >>> session.set("/bill", 6000)
+        Traceback (most recent call last):
+        fact_graph.errors.Refused: refused 7 Limit 2
+        """
         self._put("set", slot, value)
 
     def clear(self, slot: str) -> None:
-        """Takes an answer away."""
-        self._change(f"clear {slot}")
+        """Takes an answer away; `del session[slot]` does the same.
+
+        >>> session = Session.open("screener.json")
+        >>> session.set("/bill", 900)
+        >>> session.clear("/bill")
+        >>> session.get("/bill").kind
+        'incomplete'
+        """
+        self._change("clear " + slot)
 
     def open_list(self, slot: str) -> None:
-        """Opens a collection that has no members yet: that there are none is then an answer."""
-        self._change(f"open {slot}")
+        """Opens a collection that has no members yet: that there are none is then an answer.
+
+        >>> session = Session.open("screener.json")
+        >>> session.open_list("/people")
+        >>> session["/size"]
+        0
+        """
+        self._change("open " + slot)
 
     def add(self, slot: str) -> int:
-        """Adds a member to a collection, which is opened where it isn't. Returns the member's number."""
-        return int(self._change(f"add {slot}")[4:])
+        """Adds a member to a collection, which is opened where it isn't. Returns the member's number.
+
+        >>> session = Session.open("screener.json")
+        >>> session.add("/people"), session.add("/people")
+        (1, 2)
+        """
+        return int(self._change("add " + slot)[4:])
 
     def remove(self, slot: str, member: int) -> None:
-        """Takes a member out of a collection, with its answers and overrides."""
-        self._change(f"remove {slot} #{member}")
+        """Takes a member out of a collection, with its answers and overrides.
 
-    def override(self, slot: str, value: Value) -> None:
-        """Gives a derived fact this value, whatever follows for it."""
+        >>> session = Session.open("screener.json")
+        >>> session.remove("/people", session.add("/people"))
+        >>> session.members("/people")
+        ()
+        """
+        self._change("remove " + slot + " #" + text_of_int(member))
+
+    def override(self, slot: str, value: Answer) -> None:
+        """Gives a derived fact this value, whatever follows for it.
+
+        >>> session = Session.open("screener.json")
+        >>> session.override("/size", 3)
+        >>> session["/size"]
+        3
+        """
         self._put("override", slot, value)
 
     def release(self, slot: str) -> None:
-        """Takes an override away."""
-        self._change(f"release {slot}")
+        """Takes an override away.
+
+        >>> session = Session.open("screener.json")
+        >>> session.override("/size", 3)
+        >>> session.release("/size")
+        >>> session["/size"] is None
+        True
+        """
+        self._change("release " + slot)
 
     def undo(self) -> None:
-        """Goes back to the answers before the last change."""
-        self._change("undo")
+        """Goes back to the answers before the last change; within a block of `changes` not behind its beginning.
+
+        >>> session = Session.open("screener.json")
+        >>> session["/bill"] = 900
+        >>> session.undo()
+        >>> session["/bill"] is None
+        True
+        """
+        self._change("undo", -1)
 
     def redo(self) -> None:
-        """Goes forth again."""
+        """Goes forth again.
+
+        >>> session = Session.open("screener.json")
+        >>> session["/bill"] = 900
+        >>> session.undo()
+        >>> session.redo()
+        >>> session["/bill"]
+        Decimal('900.00')
+        """
         self._change("redo")
+
+    @contextlib.contextmanager
+    def changes(self) -> Iterator[None]:
+        """A block whose changes stand together: where it ends by an exception, all of them are undone.
+
+        >>> session = Session.open("screener.json")
+        >>> with session.changes():
+        ...     session["/bill"] = 900
+        ...     session["/tenure"] = "leases"
+        Traceback (most recent call last):
+        fact_graph.errors.Refused: refused 6 BadValue
+        >>> session["/bill"] is None
+        True
+
+        Blocks may stand in each other. Within one, `undo` goes back to its beginning and no further. Behind it the changes are
+        undone one by one as any others, and those that it undid can be made again by `redo`. Calls of other threads wait until
+        the block ends, so a block doesn't wait for them. Where the session was closed or quit within, nothing is undone.
+        """
+        with self._lock:
+            self._hold()
+            outer, self._floor = self._floor, self._depth
+            try:
+                yield
+            except BaseException:
+                with contextlib.suppress(SessionClosed, SessionForked):
+                    self._take_back()
+                raise
+            finally:
+                self._floor = outer
 
     # ---- questions
 
     def get(self, slot: str) -> Result:
-        """The result of a fact."""
+        """The result of a fact.
+
+        >>> session = Session.open("screener.json")
+        >>> session.get("/bill")
+        Result(kind='incomplete', value=None, fault=None)
+        >>> session.get("/savings")
+        Result(kind='placeholder', value=Decimal('0.00'), fault=None)
+        """
         word, _, text = self._ask("get " + slot)[:-1].partition(" ")
         kind = KINDS[word]
-        if kind == "complete" or kind == "placeholder":
+        if kind == "complete" or kind == "placeholder":  # pylint: disable=consider-using-in # which tells mypy nothing of the kind
             return Result(kind, self._reader(slot)(text))
         return Result(kind, None, text or None)
 
     def final(self, slot: str) -> Value | None:
-        """The value of a fact that no further answer can change; None where one can, or where there is none yet."""
+        """The value of a fact that no further answer can change; None where one can, or where there is none yet.
+
+        >>> session = Session.open("screener.json")
+        >>> session.final("/savings") is None  # 0.00 stands in for an answer
+        True
+        >>> session["/savings"] = 0
+        >>> session.final("/savings")
+        Decimal('0.00')
+        """
         word, _, text = self._ask("final " + slot)[:-1].partition(" ")
         return self._reader(slot)(text) if word == "final" else None
 
     def missing(self, slot: str) -> list[str]:
-        """The slots whose answers a result still wants, in the order of the dictionary."""
+        """The slots whose answers a result still wants, in the order of the dictionary.
+
+        >>> session = Session.open("screener.json")
+        >>> session.missing("/means")
+        ['/savings', '/people']
+        """
         return self._ask("missing " + slot).splitlines()[1:]
 
+    def members(self, slot: str) -> tuple[int, ...]:
+        """The numbers of a collection's members, or of those that a Filter finds; none while there is no such list.
+
+        >>> session = Session.open("screener.json")
+        >>> session.add("/people")
+        1
+        >>> session.members("/people"), session.members("/adults")
+        ((1,), ())
+        """
+        value = self.get(slot).value
+        return value if isinstance(value, tuple) else ()
+
     def stamp(self, slot: str) -> int:
-        """The number of the last change that touched a slot, or 0. Changes, undo and redo among them, are numbered from 1."""
+        """The number of the last change that touched a slot, or 0. Changes, undo and redo among them, are numbered from 1.
+
+        >>> session = Session.open("screener.json")
+        >>> session["/bill"] = 900
+        >>> session["/savings"] = 50
+        >>> session.stamp("/bill"), session.stamp("/means"), session.stamp("/tenure")
+        (1, 2, 0)
+        """
         return int(self._ask("stamp " + slot)[6:])
 
     def touched(self) -> int:
-        """How many slots the last change touched, or 0 before the first."""
+        """How many slots the last change touched, or 0 before the first.
+
+        >>> session = Session.open("screener.json")
+        >>> session["/caseNumber"] = "123456789"
+        >>> session.touched()  # the number, and whether one may file
+        2
+        """
         return int(self._ask("touched")[8:])
 
     def watch(self, name: str, slot: str) -> None:
-        """Asks for a place in `fired` when the slot's result moves so: `changed`, `completed`, `lost` or `raised`."""
-        self._ask(f"watch {name} {slot}")
+        """Asks for a place in `fired` when the slot's result moves so: `changed`, `completed`, `lost` or `raised`.
+
+        >>> session = Session.open("screener.json")
+        >>> session.watch("completed", "/size")
+        >>> session.open_list("/people")
+        >>> session.fired
+        (Watch(name='completed', slot='/size'),)
+        """
+        self._ask("watch " + name + " " + slot)
 
     def unwatch(self, name: str, slot: str) -> None:
-        """Ends a watch."""
-        self._ask(f"unwatch {name} {slot}")
+        """Ends a watch.
+
+        >>> session = Session.open("screener.json")
+        >>> session.watch("completed", "/size")
+        >>> session.unwatch("completed", "/size")
+        >>> session.open_list("/people")
+        >>> session.fired
+        ()
+        """
+        self._ask("unwatch " + name + " " + slot)
+
+    # ---- as a container of slots
+
+    def __getitem__(self, slot: str) -> Value | None:
+        """The value of a fact, complete or a placeholder; None where there is none, and `get` says why.
+
+        >>> session = Session.open("screener.json")
+        >>> session["/savings"]
+        Decimal('0.00')
+        >>> session["/nowhere"]
+        Traceback (most recent call last):
+        fact_graph.errors.UnknownSlot: refused 3 UnknownFact
+        """
+        return self.get(slot).value
+
+    def __setitem__(self, slot: str, value: Answer) -> None:
+        """Answers a writable fact.
+
+        >>> session = Session.open("screener.json")
+        >>> session["/tenure"] = "rents"
+        """
+        self.set(slot, value)
+
+    def __delitem__(self, slot: str) -> None:
+        """Takes an answer away.
+
+        >>> session = Session.open("screener.json")
+        >>> session["/tenure"] = "rents"
+        >>> del session["/tenure"]
+        """
+        self.clear(slot)
+
+    def __contains__(self, slot: object) -> bool:
+        """Whether a slot stands: a fact that stands once, or that of a member who is there.
+
+        >>> session = Session.open("screener.json")
+        >>> "/bill" in session, "/nowhere" in session, "/people/#1/born" in session
+        (True, False, False)
+        """
+        if not isinstance(slot, str):
+            return False
+        try:
+            self.get(slot)
+        except Refused:
+            return False
+        return True
+
+    def __iter__(self) -> Iterator[str]:
+        """The slots that stand now, in the order of the dictionary, and of a fact in the order of its members.
+
+        >>> session = Session.open("screener.json")
+        >>> session.add("/people"), session.add("/people")
+        (1, 2)
+        >>> [slot for slot in session if slot.endswith("born")]
+        ['/people/#1/born', '/people/#2/born']
+        """
+        slots = []
+        for path, fact in self.dictionary.facts.items():
+            if fact.collection is None:
+                slots.append(path)
+            else:
+                slots += [path.replace("*", f"#{member}") for member in self.members(fact.collection)]
+        return iter(slots)
 
     # ---- the whole
 
     def save(self) -> bytes:
-        """The answers that stand, as a text for `load` and `carry`."""
+        """The answers that stand, as a text for `load` and `carry`.
+
+        >>> session = Session.open("screener.json")
+        >>> session["/bill"] = 900
+        >>> session.save()
+        b'saved 1\\nnext 1\\nvalue /bill 900.00\\nend\\n'
+        """
         with self._lock:
             self._hold()
-            if self._save(self._graph, self._size_at, self._back) != SAID:
-                raise OutOfMemory("no memory for the saved text")
-            return self._text(self._size.value)
+            self._is_busy = True
+            try:
+                how = self._save(self._graph, self._size_at, self._back)
+                if how == SAID:
+                    return self._text(self._size.value)
+            finally:
+                self._is_busy = False
+        raise _unsaid(how)
 
     def line(self, line: str | bytes) -> str:
         """Answers a line of a script, and returns its reply as the program writes it: all lines of it, with their newlines.
 
-        A line without a reply, and each one from `quit` on, has an empty text. A refusal is a reply, and isn't raised."""
+        >>> session = Session.open("screener.json")
+        >>> session.line("get /savings")
+        'placeholder 0.00\\n'
+
+        A line without a reply, and each one from `quit` on, has an empty text. A refusal is a reply, and isn't raised.
+        """
         given = _bytes_of(line).removesuffix(b"\n")
         if b"\n" in given:
             raise ValueError("a line of a script has no newline within")
-        return self._say(given) or ""
+        command = given.removesuffix(b"\r")
+        step = -1 if command == b"undo" else STEPS.get(command.partition(b" ")[0], 0)
+        return self._say(given, step) or ""
 
     def close(self) -> None:
-        """Ends the session, and frees its memory. All other calls raise `SessionClosed` from then on."""
+        """Ends the session, and frees its memory. All other calls raise `SessionClosed` from then on.
+
+        >>> session = Session.open("screener.json")
+        >>> session.close()
+        >>> session
+        <Session over 19 facts, closed>
+        """
         with self._lock:
+            self._keep_out()
             self._is_open = False
             self._end()
 
     def __enter__(self) -> Session:
-        self._hold()
+        with self._lock:
+            if not self._is_open:
+                raise SessionClosed("the session is closed")
         return self
 
     def __exit__(self, *raised: object) -> None:
-        self.close()
+        with contextlib.suppress(SessionForked):
+            self.close()
 
-    def __reduce__(self) -> NoReturn:
-        raise TypeError("a session isn't copied or pickled: save() it, and load() the text")
+    def __reduce__(self) -> tuple[Callable[[bytes, bytes], Session], tuple[bytes, bytes]]:
+        return type(self).load, (self._source, self.save())
+
+    def __repr__(self) -> str:
+        return f"<{type(self).__name__} over {len(self.dictionary.facts)} facts{'' if self._is_open else ', closed'}>"
 
     # ---- how a line is said
 
-    def _put(self, verb: str, slot: str, value: Value) -> None:
+    def _put(self, verb: str, slot: str, value: Answer) -> None:
         # the value is all behind the second blank, so one in the slot would become a part of it
         if " " in slot:
             raise Refused(1, "BadLine")
-        self._change(f"{verb} {slot} {text_of(value)}")
+        self._change(verb + " " + slot + " " + text_of(value))
 
-    def _change(self, line: str) -> str:
-        reply, *fired = self._ask(line).splitlines()
+    def _change(self, line: str, step: int = 1) -> str:
+        reply, *fired = self._ask(line, step).splitlines()
         self.fired = tuple(Watch(*line.split(" ")[1:]) for line in fired)
         return reply
 
-    def _ask(self, line: str) -> str:
+    def _ask(self, line: str, step: int = 0) -> str:
         """The reply to a command that isn't refused."""
-        given = line.encode()
-        said = self._say(given + b"\r" if given.endswith(b"\r") else given)  # one last byte 13 is dropped
+        given = _bytes_of(line)
+        said = self._say(given + b"\r" if given.endswith(b"\r") else given, step)  # one last byte 13 is dropped
         if said is None:
             raise SessionClosed("the session was quit")
         if said.startswith("refused "):
             raise Refused.of_reply(said)
         return said
 
-    def _say(self, line: bytes) -> str | None:
-        """The text of a line, or None where the script is over."""
+    def _say(self, line: bytes, step: int = 0) -> str | None:
+        """The text of a line, or None where the script is over. The step is that of the changes where it makes one."""
         with self._lock:
             self._hold()
-            how = self._answer(self._graph, line, len(line), self._size_at, self._back)
-            if how == SAID:
-                # most replies fit the room, and a call that asks nothing else is the quickest
-                size = self._read(self._graph, 0, self._room_at, ROOM, self._back)
-                text: bytes = self._room[:size] if size < ROOM else self._text(self._size.value)
-                return text.decode()
+            if step < 0 and self._depth == self._floor:
+                return NOTHING_TO_UNDO
+            self._is_busy = True
+            if step:
+                self._step, self._size.value = step, UNSAID
+            try:
+                how = self._answer(self._graph, line, len(line), self._size_at, self._back)
+                if how == SAID:
+                    # most replies fit the room, and a call that asks nothing else is the quickest
+                    size = self._read(self._graph, 0, self._room_at, ROOM, self._back)
+                    text: bytes = self._room[:size] if size < ROOM else self._text(self._size.value)
+                    if step:
+                        self._count(text)
+                    return text.decode()
+            finally:
+                self._is_busy = False
         if how == OVER:
             return None
-        raise OutOfMemory("no memory for the reply")
+        raise _unsaid(how)
 
     def _text(self, size: int) -> bytes:
         """The text of the last call, of which the size is known."""
@@ -257,12 +548,73 @@ class Session:
         return room.raw[:size]
 
     def _hold(self) -> None:
+        """Makes sure, under the lock, that a call may be made."""
+        self._keep_out()
         if not self._is_open:
             raise SessionClosed("the session is closed")
+        if self._step:  # the exception of a signal's handler came between the last line and its count
+            self._count(self._text(self._size.value) if self._size.value != UNSAID else b"")
+
+    def _keep_out(self) -> None:
+        """Lets no call begin while one of the same thread hasn't ended."""
+        if self._is_busy:
+            raise SessionBusy("a call of this thread on the session hasn't ended")
+
+    def _count(self, reply: bytes) -> None:
+        """Counts the change of the last line, where it made one."""
+        is_made = reply.startswith(b"ok")
+        # (nothing is called in between, so no handler of a signal comes between the two)
+        self._depth, self._step = self._depth + self._step * is_made, 0
+
+    def _take_back(self) -> None:
+        """Undoes all changes of the block that is open."""
+        with self._lock:
+            self._hold()
+            while self._depth > self._floor:
+                self.undo()
+
+    def _leave(self) -> None:
+        """Leaves the session to the process that this one was forked from."""
+        self._end.detach()
+        self._lock = _LeftToParent()
 
     def _reader(self, slot: str) -> Callable[[str], Value]:
         return self._readers.get(slot) or self._readers[path_of(slot)]
 
 
-def _bytes_of(text: bytes | str) -> bytes:
-    return text.encode() if isinstance(text, str) else bytes(text)
+class _LeftToParent:
+    """The lock of a session in a forked child, where none of its calls begins."""
+
+    def __enter__(self) -> NoReturn:
+        raise SessionForked("the session belongs to the process that this one was forked from: save() it there, and load() the text")
+
+    def __exit__(self, *raised: object) -> None:
+        """Is never come to."""
+
+
+def _leave_all() -> None:
+    for session in _sessions:
+        session._leave()  # pylint: disable=protected-access # of this module's own class
+
+
+_sessions: weakref.WeakSet[Session] = weakref.WeakSet()
+os.register_at_fork(after_in_child=_leave_all)
+
+
+def _unsaid(how: int) -> FactGraphError:
+    """What is raised where a call has no text."""
+    if how == NO_MEMORY:
+        return OutOfMemory("no memory for the reply")
+    return FactGraphError(f"the library ended a call with {how}, of which this package doesn't know")
+
+
+def _bytes_of(text: bytes | bytearray | memoryview | str) -> bytes:
+    """The bytes of a text. Half of a character that takes two is no text, and the library refuses what it comes to."""
+    if isinstance(text, str):
+        try:
+            return text.encode()
+        except UnicodeEncodeError:
+            return text.encode("utf-8", "surrogatepass")
+    if isinstance(text, (bytes, bytearray, memoryview)):
+        return bytes(text)
+    raise TypeError(f"a text is a str or bytes, and no {type(text).__name__}")

@@ -20,7 +20,8 @@ from decimal import Context, Decimal, InvalidOperation
 from fractions import Fraction
 from typing import Literal, NamedTuple, Union, get_args
 
-Value = Union[bool, int, Decimal, Fraction, date, str, tuple[int, ...]]
+Answer = Union[bool, int, Decimal, Fraction, date, str]
+Value = Union[Answer, tuple[int, ...]]
 Kind = Literal["complete", "placeholder", "incomplete", "fault"]
 
 KINDS: dict[str, Kind] = {kind: kind for kind in get_args(Kind)}
@@ -34,6 +35,11 @@ class Result(NamedTuple):
     `kind` is `complete`, where the value rests on answers alone; `placeholder`, where a value stands in for an answer;
     `incomplete`, where an answer is missing; or `fault`. `value` is None for the last two, and `fault` is `overflow` or
     `zero-divide` for the last and else None.
+
+    >>> Result("complete", Decimal("1240.50"))
+    Result(kind='complete', value=Decimal('1240.50'), fault=None)
+    >>> Result("fault", None, "overflow").value is None
+    True
     """
 
     kind: Kind
@@ -41,25 +47,45 @@ class Result(NamedTuple):
     fault: str | None = None
 
 
-def text_of(value: Value) -> str:
-    """The text of a value that is set or overridden. A str is a text already, whatever the type of the fact."""
+def text_of(value: Answer) -> str:
+    """The text of a value that is set or overridden. A str is a text already, whatever the type of the fact.
+
+    >>> text_of(Decimal("2.5")), text_of(Fraction(2, 6)), text_of(date(2024, 2, 29)), text_of(True), text_of("rents")
+    ('2.50', '1/3', '2024-02-29', 'true', 'rents')
+    """
     if isinstance(value, str):
-        return value
+        return str.__str__(value)
     if isinstance(value, bool):
         return "true" if value else "false"
     if isinstance(value, int):
-        return str(value)
+        return text_of_int(value)
     if isinstance(value, Decimal):
         return text_of_amount(value)
     if isinstance(value, Fraction):
-        return f"{value.numerator}/{value.denominator}"
+        return f"{text_of_int(value.numerator)}/{text_of_int(value.denominator)}"
     if isinstance(value, date) and not isinstance(value, datetime):
         return value.isoformat()
     raise TypeError(f"no fact has a value like {value!r}")
 
 
+def text_of_int(value: int) -> str:
+    """All its digits. There is no limit to their number here, since the session refuses what is too long.
+
+    >>> text_of_int(-5), len(text_of_int(10**5000))
+    ('-5', 5001)
+    """
+    try:
+        return int.__repr__(value)
+    except ValueError:
+        return f"{Decimal(value):f}"
+
+
 def text_of_amount(value: Decimal) -> str:
-    """With two digits of cents, where that is the same amount; the session refuses others."""
+    """With two digits of cents, where that is the same amount; the session refuses others.
+
+    >>> text_of_amount(Decimal("1E+3")), text_of_amount(Decimal("1.999"))
+    ('1000.00', '1.999')
+    """
     try:
         cents = value.quantize(CENT, context=OF_AMOUNTS)
     except InvalidOperation:

@@ -1,1 +1,1 @@
-"""The tests of the package, over the library that FACT_GRAPH_LIBRARY names: `scripts/test_python` runs them."""
+"""The tests of the package, over the library that FACT_GRAPH_LIBRARY names: `tests/test_python.py` runs them."""

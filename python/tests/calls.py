@@ -1,13 +1,16 @@
 """Lines of a script as the calls that they are, and what these come to as the program writes it."""
 
-import re
+from __future__ import annotations
 
-from fact_graph import Refused, Session
+import re
+from collections.abc import Callable
+
+from fact_graph import Answer, Refused, Session, Value
 from fact_graph.dictionary import path_of
 from fact_graph.values import READERS, text_of
 
 VALUED = {"set": Session.set, "override": Session.override}
-CHANGES = {"clear": Session.clear, "open": Session.open_list, "release": Session.release}
+CHANGES: dict[str, Callable[[Session, str], None]] = {"clear": Session.clear, "open": Session.open_list, "release": Session.release}
 STEPS = {"undo": Session.undo, "redo": Session.redo}
 WATCHES = {"watch": Session.watch, "unwatch": Session.unwatch}
 # The most bytes of a line, one last byte 13 counted.
@@ -22,43 +25,43 @@ FORMS = [
 ]
 
 
-def parts_of(line):
+def parts_of(line: bytes) -> list[str]:
     """The verb of a line and what stands behind it; nothing where the line is no call."""
     if len(line) > LIMIT:
-        return None
+        return []
     try:
         text = line.removesuffix(b"\r").decode()
     except UnicodeDecodeError:
-        return None
+        return []
     found = (form.fullmatch(text) for form in FORMS)
-    return next((match.groups() for match in found if match), None)
+    return next((list(match.groups()) for match in found if match), [])
 
 
-def type_of(session, slot):
+def type_of(session: Session, slot: str) -> str:
     """The name of a slot's type, where there is one."""
     fact = session.dictionary.facts.get(path_of(slot))
-    return fact.type.name if fact else None
+    return fact.type.name if fact else ""
 
 
-def typed(session, slot, text):
+def typed(session: Session, slot: str, text: str) -> Answer:
     """The value of a text, where it is written as a session prints it; else the text itself."""
     try:
         value = READERS[type_of(session, slot)](text)
-        return value if text_of(value) == text else text
+        return value if not isinstance(value, tuple) and text_of(value) == text else text
     except (ArithmeticError, KeyError, TypeError, ValueError):
         return text
 
 
-def shown(session, slot, value):
-    """Of any value, also one that can't be written, the text with a blank before it."""
+def shown(session: Session, slot: str, value: Value) -> str:
+    """Of any value, also one that can't be written, the text."""
     if type_of(session, slot) == "Item":
-        return f" #{value}"
+        return f"#{value}"
     if isinstance(value, tuple):
-        return " [" + " ".join(f"#{member}" for member in value) + "]"
-    return f" {text_of(value)}"
+        return "[" + " ".join(f"#{member}" for member in value) + "]"
+    return text_of(value)
 
 
-def change(session, verb, rest):
+def change(session: Session, verb: str, rest: list[str]) -> str:
     """Makes a change, and says what its reply says of it; nothing where the verb makes none."""
     if verb in VALUED:
         VALUED[verb](session, rest[0], typed(session, *rest))
@@ -71,18 +74,19 @@ def change(session, verb, rest):
     elif verb == "add":
         return f"ok #{session.add(*rest)}"
     else:
-        return None
+        return ""
     return "ok"
 
 
-def question(session, verb, rest):
+def question(session: Session, verb: str, rest: list[str]) -> list[str]:
     """The lines of what a question is answered."""
     if verb == "get":
         kind, value, fault = session.get(*rest)
-        return [kind + (f" {fault}" if fault else "" if value is None else shown(session, *rest, value))]
+        more = fault if value is None else shown(session, rest[0], value)
+        return [kind if more is None else f"{kind} {more}"]
     if verb == "final":
         value = session.final(*rest)
-        return ["open" if value is None else "final" + shown(session, *rest, value)]
+        return ["open" if value is None else f"final {shown(session, rest[0], value)}"]
     if verb == "missing":
         slots = session.missing(*rest)
         return [f"missing {len(slots)}", *slots]
@@ -94,15 +98,16 @@ def question(session, verb, rest):
     return ["ok"]
 
 
-def replied(session, verb, rest):
+def replied(session: Session, verb: str, rest: list[str]) -> list[str]:
+    """The lines of the reply to a call."""
     said = change(session, verb, rest)
-    return question(session, verb, rest) if said is None else [said, *(f"watch {name} {slot}" for name, slot in session.fired)]
+    return [said, *(f"watch {name} {slot}" for name, slot in session.fired)] if said else question(session, verb, rest)
 
 
-def reply(session, line):
+def reply(session: Session, line: bytes) -> str:
     """What the program writes to a line, from the call that it is; from the line itself where it is none."""
     parts = parts_of(line)
-    if parts is None:
+    if not parts:
         return session.line(line)
     try:
         lines = replied(session, parts[0], parts[1:])
@@ -111,7 +116,7 @@ def reply(session, line):
     return "".join(text + "\n" for text in lines)
 
 
-def replies(session, script):
+def replies(session: Session, script: bytes) -> str:
     """What the program writes to a script, call by call, up to `quit`."""
     said = []
     for line in script.split(b"\n"):

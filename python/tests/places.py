@@ -1,19 +1,15 @@
-"""Where the repository keeps what the tests read, and its scripts as modules."""
+"""Where the repository keeps what the tests read."""
 
-import importlib.machinery
-import importlib.util
-import sys
+from __future__ import annotations
+
 from pathlib import Path
 
 TOP = Path(__file__).resolve().parent.parent.parent
 EXAMPLES = TOP / "examples"
 DICTIONARIES = TOP / "tests" / "dictionaries"
 
-
-def script(name):
-    """A script of the repository, as a module."""
-    sys.dont_write_bytecode = True
-    loader = importlib.machinery.SourceFileLoader(name, str(TOP / "scripts" / name))
-    module = importlib.util.module_from_spec(importlib.util.spec_from_loader(name, loader))
-    loader.exec_module(module)
-    return module
+# The dictionary of README.md.
+SUM = """{"version":"1","facts":[
+  {"path":"/a","writable":"Dollar"},
+  {"path":"/b","writable":"Dollar","placeholder":["Dollar","0"]},
+  {"path":"/s","derived":"Dollar","is":["Add",["Dependency","/a"],["Dependency","/b"]]}]}"""

@@ -1,48 +1,66 @@
-"""The examples of the pages run, and print what stands below them."""
+"""The examples of the pages run where the wheel is installed, away from the repository, and print what stands below them."""
 
-import os
+from __future__ import annotations
+
 import re
-import shutil
 import subprocess
-import sys
-import tempfile
-import unittest
 from pathlib import Path
+from typing import NamedTuple
+
+import pytest
 
 from .places import TOP
 
+# A block of code with a block of text behind it, which is what it prints.
 BLOCKS = re.compile(r"^```(\w+)\n((?:(?!```).*\n)*)```\n\n```text\n((?:(?!```).*\n)*)```$", re.MULTILINE)
-LIBRARY = os.environ.get("FACT_GRAPH_LIBRARY", "")
+PAGES = ("README.md", "docs", "python", "examples")
 
 
-def blocks(page, kind):
-    """The blocks of this kind with a block of text behind them: code, and what it prints."""
-    return [(code, text) for word, code, text in BLOCKS.findall((TOP / page).read_text()) if word == kind]
+def pages() -> list[Path]:
+    """The pages that may have examples."""
+    return sorted(page for place in PAGES for page in ([TOP / place] if place.endswith(".md") else (TOP / place).rglob("*.md")))
 
 
-def printed(words, **more):
-    return subprocess.run(words, capture_output=True, text=True, cwd=TOP, check=True, **more).stdout
+class Block(NamedTuple):
+    """A block of code, where it stands, and what it prints."""
+
+    place: str
+    code: str
+    text: str
 
 
-class Pages(unittest.TestCase):
-    def test_in_python(self):
-        for page in ("docs/EMBEDDING.md", "python/README.md"):
-            found = blocks(page, "python")
-            self.assertTrue(found, page)
-            for code, text in found:
-                with self.subTest(page):
-                    self.assertEqual(printed([sys.executable, "-c", code], env={**os.environ, "PYTHONPATH": str(TOP / "python")}), text)
-
-    @unittest.skipUnless(shutil.which("cc") and Path(LIBRARY).is_file(), "no C compiler, or the library isn't named")
-    def test_in_c(self):
-        [(code, text)] = blocks("docs/EMBEDDING.md", "c")
-        with tempfile.TemporaryDirectory() as folder:
-            source, host = Path(folder, "host.c"), Path(folder, "host")
-            source.write_text(code)
-            library = Path(LIBRARY).resolve()
-            printed(["cc", "-std=c11", "-Wall", "-Wextra", "-Werror", "-Icrates/fact_graph_c", source, library, f"-Wl,-rpath,{library.parent}", "-o", host])
-            self.assertEqual(printed([host]), text)
+def blocks(kind: str) -> list[Block]:
+    """The blocks of all pages in this language that have a text behind them."""
+    found = []
+    for page in pages():
+        text = page.read_text()
+        for block in BLOCKS.finditer(text):
+            if block[1] == kind:
+                place = f"{page.relative_to(TOP)}:{text.count(chr(10), 0, block.start()) + 1}"
+                found.append(Block(place, block[2], block[3]))
+    return found
 
 
-if __name__ == "__main__":
-    unittest.main()
+def place_of(block: Block) -> str:
+    """The name of the block's test."""
+    return block.place
+
+
+@pytest.mark.parametrize("block", blocks("python"), ids=place_of)
+def test_in_python(block: Block, installed: Path, outside: Path, bare: dict[str, str]) -> None:
+    ended = subprocess.run([installed, "-c", block.code], capture_output=True, text=True, cwd=outside, env=bare, check=False)
+    assert (ended.stdout, ended.stderr) == (block.text, "")
+
+
+@pytest.mark.parametrize("block", blocks("c"), ids=place_of)
+def test_in_c(block: Block, library: Path, tmp_path: Path) -> None:
+    source, host = tmp_path / "host.c", tmp_path / "host"
+    source.write_text(block.code)
+    header = TOP / "crates" / "fact_graph_c"
+    flags = ["-std=c11", "-Wall", "-Wextra", "-Werror", f"-I{header}", f"-Wl,-rpath,{library.parent}"]
+    subprocess.run(["cc", *flags, source, library, "-o", host], check=True)
+    assert subprocess.run([host], capture_output=True, text=True, check=True).stdout == block.text
+
+
+def test_the_pages_of_the_package_have_examples() -> None:
+    assert {"docs/PYTHON.md", "docs/EMBEDDING.md"} <= {block.place.partition(":")[0] for block in blocks("python")}

@@ -1,11 +1,13 @@
 """The load that anyone can repeat, by how many sums its dictionary has."""
+from collections.abc import Iterator
 
+from stored_cases import Made
 
-def usage(words):
+def usage(words: list[str]) -> Made:
     return (f"{' '.join(words)!r} has no form", words, None, b"", b"usage: interview COMMAND ARGUMENTS\n", 2)
 
 
-def load(n, lines, complete, last, script=b""):
+def load(n: int, lines: int, complete: int, last: int, script: bytes = b"") -> Made:
     """The first hundred sums each bring a member, and each round asks for the last sum while the members behind its own are unanswered."""
     incomplete = min(n, 100)
     text = (
@@ -15,7 +17,7 @@ def load(n, lines, complete, last, script=b""):
     return (f"a load of {n} sums", ["gen", str(n)], None, script, text.encode(), 0)
 
 
-def cases():
+def cases() -> Iterator[Made]:
     # one member, answered 1; undone, it is unanswered
     yield load(1, 7, 2, 2)
     yield load(2, 12, 2, 6)

@@ -1,7 +1,10 @@
 """The tax of the 2023 rate schedules at each end of each band, a cent and a few cents on either side, for each filing status; the reduction of
 the child tax credit around its limits. What is due is worked out from the printed schedules (the tax of the bands below, and the rate of
 what is over them), and in whole cents."""
+from collections.abc import Iterator
 from fractions import Fraction
+
+from stored_cases import Made
 
 # Over this amount: the tax of what is not over it, and the percent of the rest.
 SINGLE = [(0, "0", 10), (11000, "1100", 12), (44725, "5147", 22), (95375, "16290", 24), (182100, "37104", 32), (231250, "52832", 35)]
@@ -35,30 +38,30 @@ ANSWERS = {
 COMMON = ["canBeClaimed false", "dateOfBirth 1980-01-01", "blind false", "otherIncome 0"]
 
 
-def dollars(cents):
+def dollars(cents: int) -> str:
     return "%d.%02d" % divmod(cents, 100)
 
 
-def half_up(amount):
+def half_up(amount: Fraction) -> int:
     return int(amount + Fraction(1, 2))
 
 
-def tax(status, taxable):
+def tax(status: str, taxable: int) -> int:
     """In cents, of so many cents."""
-    for over, base, percent in reversed(SCHEDULES[status]):
-        if taxable > 100 * over or over == 0:
-            return half_up(Fraction(base) * 100 + Fraction((taxable - 100 * over) * percent, 100))
+    over, base, percent = next(band for band in reversed(SCHEDULES[status]) if taxable > 100 * band[0] or band[0] == 0)
+    return half_up(Fraction(base) * 100 + Fraction((taxable - 100 * over) * percent, 100))
 
 
-def begun(status):
+def begun(status: str) -> list[str]:
     return ["set /" + answer for answer in ANSWERS[status] + COMMON]
 
 
-def case(name, lines, replies):
+def case(name: str, lines: list[str], replies: list[str]) -> Made:
     return name, "income 2023", None, "".join(line + "\n" for line in lines).encode(), "".join(reply + "\n" for reply in replies).encode(), 0
 
 
-def schedule_case(status):
+def schedule_case(status: str) -> Made:
+    """The tax at both ends of each band, and beside them."""
     lines = begun(status) + ["get /filingStatus"]
     replies = ["ok"] * (len(lines) - 1) + ["complete " + status]
     amounts = [0, 1, 4, 5]
@@ -70,7 +73,8 @@ def schedule_case(status):
     return case("the schedule at the ends of its bands, " + status, lines, replies)
 
 
-def reduction_case(status):
+def reduction_case(status: str) -> Made:
+    """The reduction at its limit, and at each thousand beside it."""
     limit = 40000000 if status == "marriedFilingJointly" else 20000000
     lines = begun(status)
     replies = ["ok"] * len(lines)
@@ -82,7 +86,7 @@ def reduction_case(status):
     return case("the reduction around its limit, " + status, lines, replies)
 
 
-def cases():
+def cases() -> Iterator[Made]:
     for status in SCHEDULES:
         yield schedule_case(status)
         yield reduction_case(status)

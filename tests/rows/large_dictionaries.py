@@ -1,4 +1,7 @@
 """Dictionaries as large as they may be, and larger by one."""
+from collections.abc import Iterable, Iterator
+
+from stored_cases import Made
 
 AMOUNTS = (
     b'{"version":"1","facts":[{"path":"/a","writable":"Dollar"},{"path":"/b","writable":"Dollar"},'
@@ -7,20 +10,20 @@ AMOUNTS = (
 LONGEST = 8_388_608
 
 
-def dictionary(facts, enums=()):
-    lists = ',"enums":[%s]' % ",".join(enums) if enums else ""
+def dictionary(facts: Iterable[str], declared: Iterable[str] = ()) -> bytes:
+    lists = ',"enums":[%s]' % ",".join(declared) if declared else ""
     return ('{"version":"1","facts":[%s]%s}' % (",".join(facts), lists)).encode()
 
 
-def booleans(count):
+def booleans(count: int) -> bytes:
     return dictionary('{"path":"/f%d","writable":"Boolean"}' % k for k in range(1, count + 1))
 
 
-def collections(count):
+def collections(count: int) -> bytes:
     return dictionary('{"path":"/c%d","writable":"Collection"}' % k for k in range(1, count + 1))
 
 
-def sums(last):
+def sums(last: int) -> bytes:
     """Twenty sums of 1,999 constants, the last of this many."""
     return dictionary(
         '{"path":"/f%d","derived":"Int","is":["Add"%s]}' % (k, ',["Int","1"]' * (1999 if k < 20 else last))
@@ -28,50 +31,50 @@ def sums(last):
     )
 
 
-def nots(count):
+def nots(count: int) -> bytes:
     return dictionary(['{"path":"/x","derived":"Boolean","is":%s["True"]%s}' % ('["Not",' * count, "]" * count)])
 
 
-def limits(count):
+def limits(count: int) -> bytes:
     return dictionary(['{"path":"/z","writable":"Text","limits":[%s]}' % ",".join(['["Check","digits"]'] * count)])
 
 
-def enums(lists, options):
+def enums(lists: int, options: int) -> bytes:
     """So many lists of one option, and one of so many."""
     small = ['{"name":"e%d","options":["o"]}' % k for k in range(lists - 1)]
     large = '{"name":"e","options":[%s]}' % ",".join('"o%d"' % k for k in range(options))
     return dictionary([], [*small, large])
 
 
-def chain():
+def chain() -> bytes:
     """Two thousand facts, each one more than the next."""
     facts = ['{"path":"/f%d","derived":"Int","is":["Add",["Dependency","/f%d"],["Int","1"]]}' % (k, k + 1) for k in range(1, 2000)]
     return dictionary([*facts, '{"path":"/f2000","derived":"Int","is":["Int","1"]}'])
 
 
-def crowd():
+def crowd() -> bytes:
     """Two thousand facts, each a sum of nineteen of those behind it, the next one again behind the last."""
-    def behind(k):
+    def behind(k: int) -> str:
         return ",".join('["Dependency","/f%d"]' % (k + 1 + j % (2000 - k)) for j in range(19))
 
     facts = ['{"path":"/f%d","derived":"Int","is":["Add",%s]}' % (k, behind(k)) for k in range(1, 2000)]
     return dictionary([*facts, '{"path":"/f2000","derived":"Int","is":["Int","1"]}'])
 
 
-def chain_to_itself():
+def chain_to_itself() -> bytes:
     """Two thousand facts, each the next one, and the last itself."""
     return dictionary('{"path":"/f%d","derived":"Int","is":["Dependency","/f%d"]}' % (k, min(k + 1, 2000)) for k in range(1, 2001))
 
 
-def accepted(name, of, facts, nodes):
+def accepted(name: str, of: bytes, facts: int, nodes: int) -> Made:
     return name, "check d", of, b"", b"dictionary accepted %d facts %d nodes\n" % (facts, nodes), 0
 
 
-def refused(name, of, line):
+def refused(name: str, of: bytes, line: bytes) -> Made:
     return name, "check d", of, b"", b"dictionary refused " + line + b"\n", 1
 
 
-def cases():
+def cases() -> Iterator[Made]:
     yield accepted("2,000 facts", booleans(2000), 2000, 0)
     yield refused("2,001 facts", booleans(2001), b"4 TooMany what 1")
     yield accepted("40,000 nodes", sums(1999), 20, 40000)

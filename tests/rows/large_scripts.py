@@ -1,4 +1,7 @@
 """Scripts as long as they may be, lines as long as they may be, and bytes that a row can't show."""
+from collections.abc import Iterator
+
+from stored_cases import Made
 
 AMOUNTS = (
     b'{"version":"1","facts":[{"path":"/a","writable":"Dollar"},{"path":"/b","writable":"Dollar"},'
@@ -9,15 +12,15 @@ LONGEST_SCRIPT = 67_108_864
 USAGE = b"usage: interview COMMAND ARGUMENTS\n"
 
 
-def run(name, script, text, status=0, dictionary=AMOUNTS):
+def run(name: str, script: bytes, text: bytes, status: int = 0, dictionary: bytes = AMOUNTS) -> Made:
     return name, "run d", dictionary, script, text, status
 
 
-def filled(script, length):
+def filled(script: bytes, length: int) -> bytes:
     return script + b"x" * (length - len(script))
 
 
-def cases():
+def cases() -> Iterator[Made]:
     # the whole script
     yield "no words", [], None, b"", USAGE, 2
     yield run("the longest script", filled(b"get /a\n", LONGEST_SCRIPT), b"incomplete\nrefused 2 LongLine\n")

@@ -1,51 +1,54 @@
 """Dictionaries at the limits of what is read, and past them by one."""
+from collections.abc import Iterable
+
+from stored_cases import Made
 
 FACT = '{"path":"/a","writable":"Int"}'
 
 
-def dictionary(facts, enums=()):
+def dictionary(facts: Iterable[str], enums: Iterable[str] = ()) -> bytes:
     return ('{"version":"2","enums":[%s],"facts":[%s]}' % (",".join(enums), ",".join(facts))).encode()
 
 
-def writable(count, kind="Int"):
+def writable(count: int, kind: str = "Int") -> list[str]:
     return ['{"path":"/f%d","writable":"%s"}' % (k, kind) for k in range(count)]
 
 
-def wide(nodes):
+def wide(nodes: int) -> str:
     """An expression of so many nodes."""
     return '["All",%s]' % ",".join(['["True"]'] * (nodes - 1))
 
 
-def deep(depth):
+def deep(depth: int) -> str:
     """An expression so deep."""
     return '["Not",' * (depth - 1) + '["True"]' + "]" * (depth - 1)
 
 
-def switched(depth):
+def switched(depth: int) -> str:
     """An expression so deep, of Switches: a Case is no node."""
     return '["Switch",["Case",["True"],' * (depth - 1) + '["True"]' + "]]" * (depth - 1)
 
 
-def of_nodes(last):
+def of_nodes(last: int) -> bytes:
     """So many nodes more than 38,000, of which the last are those of a placeholder."""
     facts = ['{"path":"/f%d","derived":"Boolean","is":%s}' % (k, wide(2000)) for k in range(19)]
     return dictionary([*facts, '{"path":"/p","writable":"Boolean","placeholder":%s}' % wide(last)])
 
 
-def of_lists(count):
+def of_lists(count: int) -> bytes:
     return dictionary([FACT], ['{"name":"n%d","options":["a"]}' % k for k in range(count)])
 
 
-def of_options(count):
+def of_options(count: int) -> bytes:
     return dictionary([FACT], ['{"name":"n","options":[%s]}' % ",".join('"o%d"' % k for k in range(count))])
 
 
-def of_limits(count):
+def of_limits(count: int) -> bytes:
     limits = ",".join(['["Check","digits"]'] * count)
     return dictionary([FACT, '{"path":"/b","writable":"Text","limits":[%s]}' % limits])
 
 
-def of_bytes(count):
+def of_bytes(count: int) -> bytes:
     front, back = b'{"version":"1","facts":[],"description":"', b'"}'
     return front + b"x" * (count - len(front) - len(back)) + back
 
@@ -76,15 +79,15 @@ LADDER = [
 ]
 
 
-def accepted(name, of, facts, nodes):
+def accepted(name: str, of: bytes, facts: int, nodes: int) -> Made:
     return name, "check d", of, b"", b"dictionary accepted %d facts %d nodes\n" % (facts, nodes), 0
 
 
-def refused(name, of, line):
+def refused(name: str, of: bytes, line: bytes) -> Made:
     return name, "check d", of, b"", b"dictionary refused " + line + b"\n", 1
 
 
-def cases():
+def cases() -> list[Made]:
     too_deep = PLACES[0][1] % deep(49)
     found = [
         refused("no bytes are no JSON", b"", b"2 NotJson"),

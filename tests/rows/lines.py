@@ -1,13 +1,16 @@
 """Lines that no text shows: long ones, bytes that are no UTF-8, and a last line without a newline."""
+from collections.abc import Iterator
+
+from stored_cases import Made
 
 DICTIONARY = b'{"version":"1","facts":[{"path":"/text","writable":"Text"},{"path":"/number","writable":"Int"}]}'
 
 
-def case(name, script, text):
+def case(name: str, script: bytes, text: bytes) -> Made:
     return name, "run d", DICTIONARY, script, text, 0
 
 
-def cases():
+def cases() -> Iterator[Made]:
     longest = b"set /number " + b"1" * 4084
     note = b"#" + b"1" * 4095
     yield case("a line of 4096 bytes is read, and one of 4097 is long", longest + b"\n" + longest + b"1\nget /number", b"refused 6 BadValue\nrefused 2 LongLine\nincomplete\n")

@@ -1,10 +1,12 @@
 """The missing answers of a chain in which each fact mentions the last one twice."""
 import json
+from collections.abc import Iterator
 
+from stored_cases import Made
 
-def cases():
+def cases() -> Iterator[Made]:
     """A walk that follows each mention anew would take 2^40 steps."""
-    facts = [{"path": "/x0", "writable": "Int"}]
+    facts: list[dict[str, object]] = [{"path": "/x0", "writable": "Int"}]
     for k in range(1, 41):
         before = ["Dependency", f"/x{k - 1}"]
         facts.append({"path": f"/x{k}", "derived": "Int", "is": ["Add", before, before]})

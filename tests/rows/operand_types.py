@@ -1,4 +1,7 @@
 """Each operation over each type of its operands: which have a type, and which are refused at their node."""
+from collections.abc import Iterable, Iterator
+
+from stored_cases import Made
 
 OPERANDS = {
     "Boolean": '["True"]',
@@ -13,7 +16,7 @@ OPERANDS = {
 ORDERED = ("Int", "Dollar", "Rational", "Day")
 
 
-def same(types, of=None):
+def same(types: Iterable[str], of: str | None = None) -> dict[tuple[str, str], str]:
     """Two operands of one of the types, and what they give: that type where no other is told."""
     return {(kind, kind): of or kind for kind in types}
 
@@ -75,7 +78,7 @@ CONDITIONS = {
 }
 
 
-def case(name, kind, nodes, expression):
+def case(name: str, kind: str | None, nodes: int, expression: str) -> Made:
     """An expression that has this type, or none."""
     dictionary = (
         '{"version":"1","enums":[{"name":"n","options":["a"]},{"name":"m","options":["a"]}],"facts":'
@@ -85,14 +88,14 @@ def case(name, kind, nodes, expression):
     return name, "check d", dictionary.encode(), b"", text, 0 if kind else 1
 
 
-def cases():
+def cases() -> Iterator[Made]:
     for name, types in PAIRS.items():
         for a, first in OPERANDS.items():
             for b, second in OPERANDS.items():
                 yield case(f"{name} of {a} and {b}", types.get((a, b)), 3, '["%s",%s,%s]' % (name, first, second))
-    for name, types in SINGLES.items():
+    for name, gives in SINGLES.items():
         for a, first in OPERANDS.items():
-            yield case(f"{name} of {a}", types.get(a), 2, '["%s",%s]' % (name, first))
+            yield case(f"{name} of {a}", gives.get(a), 2, '["%s",%s]' % (name, first))
     for form, (kind, nodes) in CONDITIONS.items():
         for a, first in OPERANDS.items():
             yield case(form % a, kind if a == "Boolean" else None, nodes, form % first)

@@ -1,18 +1,21 @@
 """Saves: a script runs without its replies, and the answers that stand at its end are written."""
+from collections.abc import Iterable, Iterator
+
+from stored_cases import Made
 
 USAGE = "usage: interview COMMAND ARGUMENTS"
 EMPTY = ["saved 1", "next 1", "end"]
 
 
-def text(lines):
+def text(lines: Iterable[str]) -> bytes:
     return "".join(line + "\n" for line in lines).encode()
 
 
-def save(name, dictionary, script, due, status=0):
+def save(name: str, dictionary: str, script: list[str], due: list[str], status: int = 0) -> Made:
     return (name, ["save", dictionary], None, text(script), text(due), status)
 
 
-def cases():
+def cases() -> Iterator[Made]:
     yield save(
         "an answer and an override",
         "two_amounts.json",
@@ -48,7 +51,10 @@ def cases():
     yield save(
         "questions and refused lines say nothing",
         "two_amounts.json",
-        ["get /a", "no command", "set /x 1", "set /a text", "missing /s", "watch changed /s", "set /a 5", "touched", "stamp /s", "final /s", "redo", "0" * 4097, "# note", ""],
+        [
+            "get /a", "no command", "set /x 1", "set /a text", "missing /s", "watch changed /s", "set /a 5", "touched", "stamp /s", "final /s", "redo",
+            "0" * 4097, "# note", "",
+        ],
         ["saved 1", "next 1", "value /a 5.00", "end"],
     )
     yield (
@@ -70,7 +76,8 @@ def cases():
     refused = b'{"version":"1","facts":[{"path":"/x","derived":"Int","is":["Add",["Int","1"],["Dollar","1"]]}]}'
     yield ("a refused dictionary comes to its line", ["save", "d"], refused, b"set /x 1\n", b"dictionary refused 12 IllTyped fact 1 node 1\n", 1)
     yield ("a name that isn't there", ["save", "nowhere"], None, b"set /a 5\n", b"", 3)
-    for words in (["save"], ["save-year"], ["save-year", "2022"], ["save-year", "2025"], ["save-year", "02023"], ["save", "two_amounts.json", "2"], ["save-plain", "two_amounts.json"]):
+    years = [["save-year"], ["save-year", "2022"], ["save-year", "2025"], ["save-year", "02023"]]
+    for words in [["save"], *years, ["save", "two_amounts.json", "2"], ["save-plain", "two_amounts.json"]]:
         yield (f"{' '.join(words)!r} has no form", words, None, b"", text([USAGE]), 2)
     yield save(
         "values of all kinds, an empty text among them",

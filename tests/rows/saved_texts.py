@@ -1,10 +1,14 @@
 """Saved texts at the limits of their bytes, lines, lists and members, and one that is cut at every byte."""
+from collections.abc import Iterable, Iterator
+
+from stored_cases import Made
+
 LIMIT = 67_108_864
 DICTIONARY = b'{"version":"1","facts":[{"path":"/t","writable":"Text"}]}'
 FRONT = b"saved 1\nnext 1\n"
 
 
-def refused(line):
+def refused(line: int) -> bytes:
     return b"saved refused line %d\n" % line
 
 
@@ -15,7 +19,7 @@ LINES = [b"saved 1", b"next 3", b"list /c #2", b"value /c/#2/v 7", b"override /c
 FRONTS = {"load": {2: [b"list /c"]}, "carry": {2: [b"list /c"], 3: [b"value /c/#2/v "], 4: [b"override /c/#2/w "]}}
 
 
-def cut(word):
+def cut(word: str) -> Iterator[Made]:
     """The text up to each byte: refused at the line that is cut, or one past it where only more is wanting."""
     text = b"".join(line + b"\n" for line in LINES)
     words = [word, "two_collections.json", "s"]
@@ -29,15 +33,15 @@ def cut(word):
         yield f"{word} of a text with {more!r} behind it", words, None, b"get /c\n", refused(7), 8, text + more
 
 
-def of_lines(*lines):
+def of_lines(*lines: str) -> bytes:
     return b"".join(line.encode() + b"\n" for line in lines)
 
 
-def listed(numbers):
+def listed(numbers: Iterable[int]) -> str:
     return "list /c" + "".join(f" #{number}" for number in numbers)
 
 
-def limits():
+def limits() -> Iterator[Made]:
     """What a text names of lists, members and numbers, at the most and one more."""
     words = {word: [word, "two_collections.json", "s"] for word in ("load", "carry")}
     for word in words:
@@ -92,7 +96,7 @@ def limits():
     yield "carry of lists in another order", words["carry"], None, b"get /c\nget /d\n", b"complete [#1]\ncomplete [#2]\n", 0, turned
 
 
-def cases():
+def cases() -> Iterator[Made]:
     yield from cut("load")
     yield from cut("carry")
     yield from limits()

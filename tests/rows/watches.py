@@ -1,18 +1,21 @@
 """A thousand watches, and one more."""
 import json
+from collections.abc import Iterator
+
+from stored_cases import Made
 
 RELATIONS = ("changed", "completed", "lost", "raised")
 FACTS = 250
 
 
-def cases():
+def cases() -> Iterator[Made]:
     """Of each of 250 facts the four watches, one behind the other, so that a thousand stand."""
     facts = [{"path": f"/f{n}", "writable": "Int"} for n in range(1, FACTS + 2)]
     dictionary = json.dumps({"version": "1", "facts": facts}).encode()
-    script = []
-    replies = []
+    script: list[str] = []
+    replies: list[str] = []
 
-    def say(command, *lines):
+    def say(command: str, *lines: str) -> None:
         script.append(command)
         replies.extend(lines)
 

@@ -1,4 +1,4 @@
--- Finite maps that are told by their pairs, for examples.
+-- Finite maps that are given as lists of pairs, for examples.
 use Rattle.std.proofs.Common.{◌≡◌, ℕ, cond, List, [], ◌∷◌, Option, Some, None, ap, ◌∙◌}
 use Rattle.std.specs.Prelude.{nat_eq}
 use Rattle.std.specs.FinMap as map

@@ -1,3 +1,4 @@
+// What the store keeps for a slot: its result and its stamp.
 use three_state::Res;
 
 /// What is kept at a slot.

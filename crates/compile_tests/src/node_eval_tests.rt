@@ -20,7 +20,7 @@ struct Row {
 impl Cells for Row {
     ghost use Rattle.std.specs.Prelude.{◌≡◌, ◌+◌, option_copied, slice_get};
 
-    ghost look = { λ r s. slice_get r.cells.items (s.fact + s.member) };
+    ghost results = { λ r s. slice_get r.cells.items (s.fact + s.member) };
 
     fn cell(&self, slot: Slot) -> Option<&Res>
         ensures { option_copied result ≡ slice_get self.now.cells.items (slot.fact + slot.member) }

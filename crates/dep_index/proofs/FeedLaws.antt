@@ -37,17 +37,17 @@ read_by d t s (r ∷ rs) same = at (is_reader s.fact r) refl (read_by d t s rs (
 
 -- the rule of feeding, as a test
 rule_of_feeding : (some same equal fed : Bool) (p : Type 0) → (IsTrue fed ↔ (IsTrue some × (IsTrue same → p))) → (IsTrue equal ↔ p) → (some && (not same || equal)) ≡ fed
-rule_of_feeding some same equal fed p told members = both_ways (some && (not same || equal)) fed (forth some same equal told.1 members.0) (λ h. back some same equal (told.0 h) members.1)
+rule_of_feeding some same equal fed p by_rule members = both_ways (some && (not same || equal)) fed (forth some same equal by_rule.1 members.0) (λ h. back some same equal (by_rule.0 h) members.1)
   where
     forth : (some same equal : Bool) → (IsTrue some × (IsTrue same → p) → IsTrue fed) → (IsTrue equal → p) → (some && (not same || equal)) ≡ true → fed ≡ true
-    forth true true equal told members h = told (refl, λ _. members h)
-    forth true false equal told members h = told (refl, λ e. absurd (true≢false (sym e)))
-    forth false same equal told members h = absurd (true≢false (sym h))
+    forth true true equal by_rule members h = by_rule (refl, λ _. members h)
+    forth true false equal by_rule members h = by_rule (refl, λ e. absurd (true≢false (sym e)))
+    forth false same equal by_rule members h = absurd (true≢false (sym h))
 
     back : (some same equal : Bool) → IsTrue some × (IsTrue same → p) → (p → IsTrue equal) → (some && (not same || equal)) ≡ true
-    back true true equal told members = members (told.1 refl)
-    back true false equal told members = refl
-    back false same equal told members = absurd (true≢false (sym told.0))
+    back true true equal by_rule members = members (by_rule.1 refl)
+    back true false equal by_rule members = refl
+    back false same equal by_rule members = absurd (true≢false (sym by_rule.0))
 
 pub feeds_by_readers : FeedsByReaders
 feeds_by_readers d t s rs are =

@@ -24,10 +24,10 @@ unfolding digits
 not_yours = refl
 
 -- what isn't a command is told to the party, where there is one; behind `quit` nothing is answered
-told : (r : Rules) (d : Desk) → desk_replies r (desk_open d) (whole (codes "# note") ∷ long ∷ whole (codes "quit") ∷ whole (codes "@3 stop") ∷ whole (codes "@4 quit") ∷ whole (codes "@3 stop") ∷ [])
+output : (r : Rules) (d : Desk) → desk_replies r (desk_open d) (whole (codes "# note") ∷ long ∷ whole (codes "quit") ∷ whole (codes "@3 stop") ∷ whole (codes "@4 quit") ∷ whole (codes "@3 stop") ∷ [])
     ≡ codes "refused 2 LongLine" ++ 10 ∷ codes "refused 1 BadLine" ++ 10 ∷ codes "@3 refused 1 BadLine" ++ 10 ∷ []
 unfolding digits is_utf8 chars encode
-told r d = refl
+output r d = refl
 
 left : (r : Rules) (d : Desk) → desk_state_after r (desk_open d) (whole (codes "@3 stop") ∷ whole (codes "@4 quit") ∷ whole (codes "@3 undo") ∷ []) ≡ desk_quit d
 unfolding is_utf8 chars encode

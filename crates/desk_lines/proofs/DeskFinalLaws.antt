@@ -10,7 +10,7 @@ use Rattle.graph_session.specs.Step.{refusal, reply}
 use Rattle.graph_session.specs.declared.reply.Refusal.{Refusal}
 use Rattle.session_lines.specs.Laws.{final_line}
 use Rattle.session_lines.specs.Replies.{line_with, refusal_text, reply_text}
-use Rattle.session_lines.specs.Stepping.{Standing, step_answered, step_command}
+use Rattle.session_lines.specs.Stepping.{LineState, step_answered, step_command}
 use Rattle.session_lines.proofs.FinalLineLaws.{final_lines_stay}
 use Rattle.shared_desk.specs.Desk.{Desk, desk_after}
 use Rattle.shared_desk.specs.Refusals.{decided, first_of}
@@ -20,29 +20,29 @@ use Rattle.desk_lines.specs.DeskStepping.{marked_lines, step_asked, step_decided
 use Rattle.desk_lines.specs.PartyLines.{party_mark}
 
 -- the desk's session, with no watches
-abbrev session_of : Desk → Standing
-session_of d = record { course = d.course; relations = []; watched = [] }
+abbrev session_of : Desk → LineState
+session_of d = record { session_state = d.session_state; relations = []; watched = [] }
 
 -- a line with a mark is the mark and the line
 line_marked : (p : ℕ) (line : List ℕ) → marked_lines p (line ∷ []) ≡ party_mark p ++ line_with line
 line_marked p line = append_assoc (party_mark p) line (10 ∷ [])
 
 -- a party that asks whether a result is final is told what the session says
-told_final : (r : Rules) (d : Desk) (p : ℕ) (path : SlotPath) → (step_asked r d p (Final path)).text ≡ party_mark p ++ (step_command r (session_of d) (Final path)).text
-told_final r d p path = by_cases (refusal r d.course (Final path))
+output_final : (r : Rules) (d : Desk) (p : ℕ) (path : SlotPath) → (step_asked r d p (Final path)).text ≡ party_mark p ++ (step_command r (session_of d) (Final path)).text
+output_final r d p path = by_cases (refusal r d.session_state (Final path))
   where
     by_cases : (o : Option Refusal)
-        → (step_decided r d p (decided (first_of (option_map Session o ∷ [])) (reply r d.course (Final path), desk_after r d p (Final path)))).text
-        ≡ party_mark p ++ (step_answered r (session_of d) (Final path) (session_decided o (reply r d.course (Final path), d.course))).text
-    by_cases None = line_marked p (reply_text r d.course (reply r d.course (Final path)))
+        → (step_decided r d p (decided (first_of (option_map Session o ∷ [])) (reply r d.session_state (Final path), desk_after r d p (Final path)))).text
+        ≡ party_mark p ++ (step_answered r (session_of d) (Final path) (session_decided o (reply r d.session_state (Final path), d.session_state))).text
+    by_cases None = line_marked p (reply_text r d.session_state (reply r d.session_state (Final path)))
     by_cases (Some why) = line_marked p (refusal_text why)
 
 pub desk_final_lines_stay : DeskFinalLinesStay
 desk_final_lines_stay names r accepted d p path text is =
-    let says = append_cancel_left (party_mark p) (step_command r (session_of d) (Final path)).text (final_line text) (sym (told_final r d p path) ∙ is ∙ line_marked p (codes "final " ++ text)) in
+    let says = append_cancel_left (party_mark p) (step_command r (session_of d) (Final path)).text (final_line text) (sym (output_final r d p path) ∙ is ∙ line_marked p (codes "final " ++ text)) in
     let held = final_lines_stay names r accepted (session_of d) path text says in
     record {
       stays = held.stays;
       printed_so = held.printed_so;
-      again = λ e q ext. told_final r e q path ∙ ap (λ (l : List ℕ). party_mark q ++ l) (held.again (session_of e) ext) ∙ sym (line_marked q (codes "final " ++ text));
+      again = λ e q ext. output_final r e q path ∙ ap (λ (l : List ℕ). party_mark q ++ l) (held.again (session_of e) ext) ∙ sym (line_marked q (codes "final " ++ text));
     }

@@ -4,7 +4,7 @@ use Rattle.script_lines.specs.Lines.{ScriptLine}
 use Rattle.answers.specs.Answered.{Answered}
 use Rattle.dictionary.specs.Accepted.{Accepted}
 use Rattle.graph_session.specs.Rules.{Rules}
-use Rattle.graph_session.specs.SessionView.{Course, course}
+use Rattle.graph_session.specs.SessionView.{SessionState, session_state}
 use Rattle.shared_desk.specs.Desk.{Desk}
 use Rattle.shared_desk.specs.DeskView.{DeskView, StandsFor}
 use Rattle.desk_lines.specs.DeskStepping.{DeskState, desk_line_step, desk_open, desk_state_after}
@@ -20,7 +20,7 @@ module _ (most : Accepted → Answered → Answered → ℕ) where
 
   -- one line, of the desk that what is kept stands for
   pub steps_of_one : (r : Rules) (v : DeskView) (d : Desk) (line : ScriptLine) (steps steps_now : ℕ) → StandsFor v d
-      → steps_now ≤ steps + steps_of_party_line most r (course v.session) line → steps_now ≤ steps + steps_of_desk_lines most r (desk_open d) (line ∷ [])
+      → steps_now ≤ steps + steps_of_party_line most r (session_state v.session) line → steps_now ≤ steps + steps_of_desk_lines most r (desk_open d) (line ∷ [])
   steps_of_one r v d line steps steps_now stands took =
-      let same = ap (λ (c : Course). steps_of_party_line most r c line) stands.course in
+      let same = ap (λ (c : SessionState). steps_of_party_line most r c line) stands.session_state in
       omega (arith, took, same)

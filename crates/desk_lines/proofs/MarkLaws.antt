@@ -10,11 +10,11 @@ use Rattle.std.proofs.lemmas.Option.{cond_some, none-some, same_Some}
 use Rattle.std.proofs.lemmas.Str.{IsUtf8-from_ascii}
 use Rattle.common_lemmas.proofs.Options.{both_some}
 use Rattle.fact_paths.specs.Cuts.{Lacks, after}
-use Rattle.fact_paths.specs.Reading.{◌>>=◌, member_number_of}
+use Rattle.fact_paths.specs.Parsing.{◌>>=◌, member_number_of}
 use Rattle.fact_paths.proofs.CutLaws.{after_some, cut-append, cut-lacks, cut_some}
 use Rattle.fact_paths.proofs.MemberNumbers.{decimal_lacks, member_number_some, member_number-decimal}
 use Rattle.script_lines.specs.Commands.{without_return}
-use Rattle.script_lines.specs.Reading.{at_blank}
+use Rattle.script_lines.specs.Parsing.{at_blank}
 use Rattle.desk_lines.specs.PartyLines.{IsBlankAt, IsParty, party_mark, party_number_of, party_of}
 use Rattle.desk_lines.proofs.ReturnLaws.{dropped, without_return-blanked}
 

@@ -19,16 +19,16 @@ StandsAt v state over = StandsFor v state.desk × (state.over ≡ over)
 
 -- A text was told and a state left: the text was written whole, and the script goes on or is over; or it was written in part, after
 -- a fault; or there was no memory for it, and then nothing was written, and what is kept is as before.
-abbrev pub DeskTold : Option (List ℕ) → Option (List ℕ) → ℕ → ℕ → DeskView → DeskView → List ℕ → DeskState → Progress → Type 0
-DeskTold taken taken_now faults faults_now v v_now text state More = Sent taken taken_now text [] × StandsAt v_now state false
-DeskTold taken taken_now faults faults_now v v_now text state Over = Sent taken taken_now text [] × StandsAt v_now state true
-DeskTold taken taken_now faults faults_now v v_now text state Unwritten = Rose faults faults_now × ((rest : List ℕ) × Sent taken taken_now text rest)
-DeskTold taken taken_now faults faults_now v v_now text state OutOfMemory = (taken_now ≡ taken) × (v_now ≡ v)
+abbrev pub DeskOutput : Option (List ℕ) → Option (List ℕ) → ℕ → ℕ → DeskView → DeskView → List ℕ → DeskState → Progress → Type 0
+DeskOutput taken taken_now faults faults_now v v_now text state More = Sent taken taken_now text [] × StandsAt v_now state false
+DeskOutput taken taken_now faults faults_now v v_now text state Over = Sent taken taken_now text [] × StandsAt v_now state true
+DeskOutput taken taken_now faults faults_now v v_now text state Unwritten = Rose faults faults_now × ((rest : List ℕ) × Sent taken taken_now text rest)
+DeskOutput taken taken_now faults faults_now v v_now text state OutOfMemory = (taken_now ≡ taken) × (v_now ≡ v)
 
 -- a line, or none, was answered
 abbrev pub DeskAnsweredAs : Rules → Option (List ℕ) → Option (List ℕ) → ℕ → ℕ → DeskView → DeskView → Desk → List ScriptLine → Progress → Type 0
 DeskAnsweredAs r taken taken_now faults faults_now v v_now here lines progress =
-    DeskTold taken taken_now faults faults_now v v_now (desk_replies r (desk_open here) lines) (desk_state_after r (desk_open here) lines) progress
+    DeskOutput taken taken_now faults faults_now v v_now (desk_replies r (desk_open here) lines) (desk_state_after r (desk_open here) lines) progress
 
 -- want of memory ends the script, and every other refusal is written
 abbrev pub DeskRefusedAs : Option (List ℕ) → Option (List ℕ) → ℕ → ℕ → ℕ → DeskRefusal → Progress → Type 0

@@ -8,7 +8,7 @@ use Rattle.script_lines.specs.declared.command.Command.TheVariants as commands
 use Rattle.answers.specs.Answered.{Answered}
 use Rattle.graph_session.specs.Refusals.{slot_found}
 use Rattle.graph_session.specs.Rules.{Rules}
-use Rattle.graph_session.specs.SessionView.{Course}
+use Rattle.graph_session.specs.SessionView.{SessionState}
 use Rattle.graph_session.specs.declared.reply.Refusal.{Refusal}
 use Rattle.graph_session.specs.declared.reply.Reply.{Reply}
 use Rattle.shared_desk.specs.Desk.{Desk, desk_begun, desk_step}
@@ -58,23 +58,23 @@ step_telling d p lines = record { text = marked_lines p lines; state = desk_open
 
 -- a desk's reply and the desk after it, or its refusal
 abbrev pub step_decided : Rules → Desk → ℕ → Result (Reply × Desk) DeskRefusal → DeskStep
-step_decided r d p (Ok answer) = record { text = marked_lines p (reply_text r answer.1.course answer.0 ∷ []); state = desk_open answer.1 }
+step_decided r d p (Ok answer) = record { text = marked_lines p (reply_text r answer.1.session_state answer.0 ∷ []); state = desk_open answer.1 }
 step_decided r d p (Err refusal) = step_telling d p (desk_refusal_text refusal ∷ [])
 
 -- what is missing of a slot, or why the slot isn't there
-abbrev pub missing_told : Rules → Course → Result Slot Refusal → List (List ℕ)
-missing_told r c (Ok slot) = missing_lines r c slot
-missing_told r c (Err refusal) = refusal_text refusal ∷ []
+abbrev pub missing_output : Rules → SessionState → Result Slot Refusal → List (List ℕ)
+missing_output r c (Ok slot) = missing_lines r c slot
+missing_output r c (Err refusal) = refusal_text refusal ∷ []
 
 -- the desk itself answers it
-abbrev pub is_known : Command → Bool
-is_known (commands.Missing path) = false
-is_known commands.Quit = false
-is_known _ = true
+abbrev pub is_session_command : Command → Bool
+is_session_command (commands.Missing path) = false
+is_session_command commands.Quit = false
+is_session_command _ = true
 
 abbrev pub step_asked : Rules → Desk → ℕ → Command → DeskStep
 step_asked r d p commands.Quit = record { text = []; state = desk_quit d }
-step_asked r d p (commands.Missing path) = step_telling d p (missing_told r d.course (slot_found r d.course.timeline.now path))
+step_asked r d p (commands.Missing path) = step_telling d p (missing_output r d.session_state (slot_found r d.session_state.timeline.now path))
 step_asked r d p asked = step_decided r d p (desk_step r d p asked)
 
 -- ---- lines in order

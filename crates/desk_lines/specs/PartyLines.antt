@@ -1,9 +1,9 @@
 -- The lines of several parties: which party a line is of, and what it says.
 use Rattle.std.specs.Prelude.{◌≡◌, ◌≢◌, ℕ, ◌<◌, ◌≤◌, ◌==◌, All, Bool, true, false, nat_le, List, [], ◌∷◌, ◌++◌, codes, decimal, length, slice_index, take, Option, Some, None, if◌then◌else◌}
 use Rattle.fact_paths.specs.Cuts.{after}
-use Rattle.fact_paths.specs.Reading.{◌>>=◌, member_number_of}
+use Rattle.fact_paths.specs.Parsing.{◌>>=◌, member_number_of}
 use Rattle.script_lines.specs.Commands.{IsSilent, without_return}
-use Rattle.script_lines.specs.Reading.{Heard, nothing, bad_line, command, at_blank, heard}
+use Rattle.script_lines.specs.Parsing.{Heard, nothing, bad_line, command, at_blank, heard}
 use Rattle.script_lines.specs.declared.command.Command.{Command}
 use Rattle.script_lines.specs.declared.command.Command.TheVariants as commands
 use Rattle.desk_lines.specs.declared.party_line.PartyLine.{PartyLine}

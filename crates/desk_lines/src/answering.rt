@@ -1,11 +1,12 @@
 // Answers the lines of a script of several parties while its bytes come.
-ghost use Rattle.std.specs.Prelude.{◌≡◌, ℕ, List, ◌+◌, ◌<◌, ◌≤◌, ◌^◌, ◌∷◌, ◌++◌, [], length, map};
+ghost use Rattle.std.specs.Prelude.{◌≡◌, ◌+◌, ◌<◌, ◌≤◌, ◌^◌, ◌∷◌, ◌++◌, [], length};
 ghost use Rattle.script_lines.specs.Lines.{ended_lines, ready_lines, whole, HasNoNewline};
+ghost use Rattle.text_checks.specs.Tables.{named_checks};
 ghost use Rattle.graph_session.specs.Refusals.{SameChecks};
-ghost use Rattle.graph_session.specs.SessionView.{course};
+ghost use Rattle.graph_session.specs.SessionView.{session_state};
 ghost use Rattle.shared_desk.specs.Desk.{Desk as Defined};
 ghost use Rattle.shared_desk.specs.DeskView.{StandsFor, rules_of};
-ghost use Rattle.desk_lines.specs.DeskAnswering.{DeskAnsweredAs, DeskPieceAnsweredAs, DeskTold};
+ghost use Rattle.desk_lines.specs.DeskAnswering.{DeskAnsweredAs, DeskPieceAnsweredAs, DeskOutput};
 ghost use Rattle.desk_lines.specs.DeskStepping.{desk_open, step_said};
 ghost use Rattle.desk_lines.specs.DeskSteps.{steps_of_desk_lines, steps_of_party_line, steps_of_said};
 
@@ -33,14 +34,14 @@ fn answer_said<E: FactEngine, L: Ledger, K: Sink>(
     steps: &mut Steps<L>,
 ) -> Progress
     requires same_checks { SameChecks (rules_of desk.old)
-        (map {B = List ℕ × ℕ} (λ c. (c.name, c.code)) checks.now.checks.items) }
+        (named_checks checks.now) }
     requires few { desk.old.session.changes < 2 ^ 63 }
-    ensures told { (d : Defined) → StandsFor desk.old d → DeskTold (K.taken out.old) (K.taken out.new) (K.faults out.old) (K.faults out.new) desk.old desk.new
+    ensures output { (d : Defined) → StandsFor desk.old d → DeskOutput (K.taken out.old) (K.taken out.new) (K.faults out.old) (K.faults out.new) desk.old desk.new
         (step_said (rules_of desk.old) d said.now).text (step_said (rules_of desk.old) d said.now).state result }
     ensures dict { desk.new.session.dict ≡ desk.old.session.dict }
     ensures few { desk.new.session.changes ≤ desk.old.session.changes + 1 }
     ensures later { K.faults out.old ≤ K.faults out.new }
-    ensures steps { steps.new ≤ steps.old + steps_of_said E.most (rules_of desk.old) (course desk.old.session) said.now }
+    ensures steps { steps.new ≤ steps.old + steps_of_said E.most (rules_of desk.old) (session_state desk.old.session) said.now }
 {
     match said {
         PartyLine::Silent => Progress::More,
@@ -63,14 +64,14 @@ fn answer_line<E: FactEngine, L: Ledger, K: Sink>(
 ) -> Progress
     requires short { length line.now ≤ 4096 }
     requires same_checks { SameChecks (rules_of desk.old)
-        (map {B = List ℕ × ℕ} (λ c. (c.name, c.code)) checks.now.checks.items) }
+        (named_checks checks.now) }
     requires few { desk.old.session.changes < 2 ^ 63 }
     ensures answered { (d : Defined) → StandsFor desk.old d → DeskAnsweredAs (rules_of desk.old)
         (K.taken out.old) (K.taken out.new) (K.faults out.old) (K.faults out.new) desk.old desk.new d (whole line.now ∷ []) result }
     ensures dict { desk.new.session.dict ≡ desk.old.session.dict }
     ensures few { desk.new.session.changes ≤ desk.old.session.changes + 1 }
     ensures later { K.faults out.old ≤ K.faults out.new }
-    ensures steps { steps.new ≤ steps.old + steps_of_party_line E.most (rules_of desk.old) (course desk.old.session) (whole line.now) }
+    ensures steps { steps.new ≤ steps.old + steps_of_party_line E.most (rules_of desk.old) (session_state desk.old.session) (whole line.now) }
 {
     match read_party_line(alloc, line) {
         Ok(said) => {
@@ -94,7 +95,7 @@ pub fn answer_ready<E: FactEngine, L: Ledger, K: Sink>(
 ) -> Progress
     requires short { length line.now ≤ 4096 }
     requires same_checks { SameChecks (rules_of desk.old)
-        (map {B = List ℕ × ℕ} (λ c. (c.name, c.code)) checks.now.checks.items) }
+        (named_checks checks.now) }
     requires few { desk.old.session.changes < 2 ^ 63 }
     ensures answered { (d : Defined) → StandsFor desk.old d → DeskAnsweredAs (rules_of desk.old)
         (K.taken out.old) (K.taken out.new) (K.faults out.old) (K.faults out.new) desk.old desk.new d (ready_lines ready line.now) result }
@@ -123,7 +124,7 @@ pub fn answer_piece<E: FactEngine, L: Ledger, K: Sink>(
 ) -> Progress
     requires unended { HasNoNewline lines.old.so_far }
     requires same_checks { SameChecks (rules_of desk.old)
-        (map {B = List ℕ × ℕ} (λ c. (c.name, c.code)) checks.now.checks.items) }
+        (named_checks checks.now) }
     requires few { desk.old.session.changes + length bytes.now < 2 ^ 63 }
     ensures answered { (d : Defined) → StandsFor desk.old d → DeskPieceAnsweredAs (rules_of desk.old)
         (K.taken out.old) (K.taken out.new) (K.faults out.old) (K.faults out.new) desk.new d lines.old.so_far lines.new.so_far bytes.now result }

@@ -1,12 +1,13 @@
 // Answers a party's command.
-ghost use Rattle.std.specs.Prelude.{◌≡◌, ◌≤◌, ◌<◌, ◌+◌, ◌^◌, ℕ, List, false, map};
+ghost use Rattle.std.specs.Prelude.{◌≡◌, ◌≤◌, ◌<◌, ◌+◌, ◌^◌, false};
+ghost use Rattle.text_checks.specs.Tables.{named_checks};
 ghost use Rattle.graph_session.specs.Refusals.{SameChecks};
-ghost use Rattle.graph_session.specs.SessionView.{course};
+ghost use Rattle.graph_session.specs.SessionView.{session_state};
 ghost use Rattle.graph_session.specs.Step.{most_steps};
 ghost use Rattle.shared_desk.specs.Desk.{Desk as Defined, desk_step};
 ghost use Rattle.shared_desk.specs.DeskView.{StandsFor, rules_of};
-ghost use Rattle.desk_lines.specs.DeskAnswering.{DeskTold};
-ghost use Rattle.desk_lines.specs.DeskStepping.{is_known as known, step_asked, step_decided};
+ghost use Rattle.desk_lines.specs.DeskAnswering.{DeskOutput};
+ghost use Rattle.desk_lines.specs.DeskStepping.{is_session_command as known, step_asked, step_decided};
 
 use crate::listing::answer_missing;
 use crate::writing::{write_refusal, write_reply};
@@ -21,7 +22,7 @@ use steps::Steps;
 use text_checks::CheckTable;
 
 // Whether the desk itself answers it.
-fn is_known(command: &Command) -> bool
+fn is_session_command(command: &Command) -> bool
     ensures { result ≡ known command.now }
 {
     match command {
@@ -45,7 +46,7 @@ fn is_known(command: &Command) -> bool
 }
 
 // Answers a command of the desk.
-fn answer_known<E: FactEngine, L: Ledger, K: Sink>(
+fn answer_session_command<E: FactEngine, L: Ledger, K: Sink>(
     desk: &mut Desk<E>,
     party: u32,
     command: &Command,
@@ -54,15 +55,15 @@ fn answer_known<E: FactEngine, L: Ledger, K: Sink>(
     steps: &mut Steps<L>,
 ) -> Progress
     requires same_checks { SameChecks (rules_of desk.old)
-        (map {B = List ℕ × ℕ} (λ c. (c.name, c.code)) checks.now.checks.items) }
+        (named_checks checks.now) }
     requires few { desk.old.session.changes < 2 ^ 63 }
-    ensures told { (d : Defined) → StandsFor desk.old d → DeskTold (K.taken out.old) (K.taken out.new) (K.faults out.old) (K.faults out.new) desk.old desk.new
+    ensures output { (d : Defined) → StandsFor desk.old d → DeskOutput (K.taken out.old) (K.taken out.new) (K.faults out.old) (K.faults out.new) desk.old desk.new
         (step_decided (rules_of desk.old) d party (desk_step (rules_of desk.old) d party command.now)).text
         (step_decided (rules_of desk.old) d party (desk_step (rules_of desk.old) d party command.now)).state result }
     ensures dict { desk.new.session.dict ≡ desk.old.session.dict }
     ensures few { desk.new.session.changes ≤ desk.old.session.changes + 1 }
     ensures later { K.faults out.old ≤ K.faults out.new }
-    ensures steps { steps.new ≤ steps.old + most_steps (E.most (rules_of desk.old).accepted) (rules_of desk.old) (course desk.old.session) command.now }
+    ensures steps { steps.new ≤ steps.old + most_steps (E.most (rules_of desk.old).accepted) (rules_of desk.old) (session_state desk.old.session) command.now }
 {
     match desk.line(party, command, checks, steps) {
         Ok(reply) => write_reply(desk.session(), party, reply, out),
@@ -71,7 +72,7 @@ fn answer_known<E: FactEngine, L: Ledger, K: Sink>(
 }
 
 // Answers a command that the desk itself doesn't answer.
-fn answer_other<E: FactEngine, K: Sink>(
+fn answer_host_command<E: FactEngine, K: Sink>(
     alloc: Global,
     desk: &Desk<E>,
     party: u32,
@@ -79,7 +80,7 @@ fn answer_other<E: FactEngine, K: Sink>(
     out: &mut K,
 ) -> Progress
     requires { known command.now ≡ false }
-    ensures told { (d : Defined) → StandsFor desk.now d → DeskTold (K.taken out.old) (K.taken out.new) (K.faults out.old) (K.faults out.new) desk.now desk.now
+    ensures output { (d : Defined) → StandsFor desk.now d → DeskOutput (K.taken out.old) (K.taken out.new) (K.faults out.old) (K.faults out.new) desk.now desk.now
         (step_asked (rules_of desk.now) d party command.now).text (step_asked (rules_of desk.now) d party command.now).state result }
     ensures later { K.faults out.old ≤ K.faults out.new }
 {
@@ -100,18 +101,18 @@ pub fn answer_command<E: FactEngine, L: Ledger, K: Sink>(
     steps: &mut Steps<L>,
 ) -> Progress
     requires same_checks { SameChecks (rules_of desk.old)
-        (map {B = List ℕ × ℕ} (λ c. (c.name, c.code)) checks.now.checks.items) }
+        (named_checks checks.now) }
     requires few { desk.old.session.changes < 2 ^ 63 }
-    ensures told { (d : Defined) → StandsFor desk.old d → DeskTold (K.taken out.old) (K.taken out.new) (K.faults out.old) (K.faults out.new) desk.old desk.new
+    ensures output { (d : Defined) → StandsFor desk.old d → DeskOutput (K.taken out.old) (K.taken out.new) (K.faults out.old) (K.faults out.new) desk.old desk.new
         (step_asked (rules_of desk.old) d party command.now).text (step_asked (rules_of desk.old) d party command.now).state result }
     ensures dict { desk.new.session.dict ≡ desk.old.session.dict }
     ensures few { desk.new.session.changes ≤ desk.old.session.changes + 1 }
     ensures later { K.faults out.old ≤ K.faults out.new }
-    ensures steps { steps.new ≤ steps.old + most_steps (E.most (rules_of desk.old).accepted) (rules_of desk.old) (course desk.old.session) command.now }
+    ensures steps { steps.new ≤ steps.old + most_steps (E.most (rules_of desk.old).accepted) (rules_of desk.old) (session_state desk.old.session) command.now }
 {
-    if is_known(command) {
-        answer_known(desk, party, command, checks, out, steps)
+    if is_session_command(command) {
+        answer_session_command(desk, party, command, checks, out, steps)
     } else {
-        answer_other(alloc, desk, party, command, out)
+        answer_host_command(alloc, desk, party, command, out)
     }
 }

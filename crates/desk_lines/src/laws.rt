@@ -11,6 +11,6 @@ pub fn a_line_is_of_one_party()
 /// A value that a party is told as final is that of a complete result, and both stay so under every extension of the answers then
 /// standing.
 #[tactic(auto, using(crate::proofs::DeskFinalLaws::desk_final_lines_stay))]
-pub fn what_is_told_as_final_stays()
+pub fn what_is_printed_as_final_stays()
     ensures { DeskFinalLinesStay }
 {}

@@ -11,5 +11,5 @@ mod reply;
 mod writing;
 
 pub use answering::{answer_piece, answer_ready};
-pub use laws::{a_line_is_of_one_party, what_is_told_as_final_stays};
+pub use laws::{a_line_is_of_one_party, what_is_printed_as_final_stays};
 pub use party_line::PartyLine;

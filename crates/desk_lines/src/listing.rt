@@ -7,10 +7,10 @@ ghost use Rattle.dictionary.specs.Slots.{stands};
 ghost use Rattle.fg_io.specs.Writing.{Wrote};
 ghost use Rattle.graph_session.specs.Refusals.{slot_found};
 ghost use Rattle.graph_session.specs.Rules.{rules};
-ghost use Rattle.graph_session.specs.SessionView.{course};
-ghost use Rattle.session_lines.specs.Answering.{ToldAs};
+ghost use Rattle.graph_session.specs.SessionView.{session_state};
+ghost use Rattle.session_lines.specs.Answering.{OutputAs};
 ghost use Rattle.session_lines.specs.Replies.{missing_count, missing_lines, numbered};
-ghost use Rattle.desk_lines.specs.DeskStepping.{marked, marked_lines, missing_told};
+ghost use Rattle.desk_lines.specs.DeskStepping.{marked, marked_lines, missing_output};
 
 use crate::writing::{put_marked, write_refusal};
 use dictionary::FactEngine;
@@ -99,8 +99,8 @@ fn write_missing<E: FactEngine, K: Sink>(
     out: &mut K,
 ) -> Progress
     requires { IsTrue (stands (accepted session.now.dict).tree session.now.timeline.now slot) }
-    ensures told { ToldAs (K.taken out.old) (K.taken out.new) (K.faults out.old) (K.faults out.new)
-        (marked_lines party (missing_lines (rules session.now.dict) (course session.now) slot)) result }
+    ensures output { OutputAs (K.taken out.old) (K.taken out.new) (K.faults out.old) (K.faults out.new)
+        (marked_lines party (missing_lines (rules session.now.dict) (session_state session.now) slot)) result }
     ensures later { K.faults out.old ≤ K.faults out.new }
 {
     match missing(alloc, session, slot) {
@@ -117,8 +117,8 @@ pub fn answer_missing<E: FactEngine, K: Sink>(
     path: &SlotPath,
     out: &mut K,
 ) -> Progress
-    ensures told { ToldAs (K.taken out.old) (K.taken out.new) (K.faults out.old) (K.faults out.new)
-        (marked_lines party (missing_told (rules session.now.dict) (course session.now)
+    ensures output { OutputAs (K.taken out.old) (K.taken out.new) (K.faults out.old) (K.faults out.new)
+        (marked_lines party (missing_output (rules session.now.dict) (session_state session.now)
         (slot_found (rules session.now.dict) session.now.timeline.now path.now))) result }
     ensures later { K.faults out.old ≤ K.faults out.new }
 {

@@ -1,7 +1,7 @@
 // The mark of a party, which stands before each of its lines.
 ghost use Rattle.std.specs.Prelude.{◌≡◌, ◌≢◌, ◌≤◌, All, IfNone, IfSome, codes, length, option_copied, option_map};
 ghost use Rattle.fact_paths.specs.Cuts.{after};
-ghost use Rattle.script_lines.specs.Reading.{at_blank as cut_at_blank};
+ghost use Rattle.script_lines.specs.Parsing.{at_blank as cut_at_blank};
 ghost use Rattle.desk_lines.specs.PartyLines.{IsBlankAt, party_number_of, party_of as party_in};
 
 use fact_paths::read_member_number;

@@ -1,7 +1,7 @@
 // What a line of a script says.
 ghost use Rattle.std.specs.Prelude.{◌≡◌, ◌≤◌, IfOk, length};
 ghost use Rattle.script_lines.specs.Commands.{without_return};
-ghost use Rattle.script_lines.specs.Reading.{command as of_command, heard_in};
+ghost use Rattle.script_lines.specs.Parsing.{command as of_command, heard_in};
 ghost use Rattle.desk_lines.specs.PartyLines.{is_silent as is_silent_text, is_watching as watches, party_said_in, said_by};
 
 use crate::mark::party_of;

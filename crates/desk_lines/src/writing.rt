@@ -2,7 +2,7 @@
 ghost use Rattle.std.specs.Prelude.{◌≡◌, ◌∷◌, ◌≤◌, [], length};
 ghost use Rattle.fg_io.specs.Writing.{Wrote};
 ghost use Rattle.graph_session.specs.Rules.{rules};
-ghost use Rattle.graph_session.specs.SessionView.{course};
+ghost use Rattle.graph_session.specs.SessionView.{session_state};
 ghost use Rattle.session_lines.specs.Answering.{WrittenAs};
 ghost use Rattle.session_lines.specs.Replies.{reply_text};
 ghost use Rattle.shared_desk.specs.Refusals.{wants_memory};
@@ -58,7 +58,7 @@ pub fn write_reply<E: FactEngine, K: Sink>(
     out: &mut K,
 ) -> Progress
     ensures written { WrittenAs (K.taken out.old) (K.taken out.new) (K.faults out.old) (K.faults out.new)
-        (marked_lines party (reply_text (rules session.now.dict) (course session.now) reply ∷ [])) result }
+        (marked_lines party (reply_text (rules session.now.dict) (session_state session.now) reply ∷ [])) result }
     ensures later { K.faults out.old ≤ K.faults out.new }
 {
     let mut line = Line::new();

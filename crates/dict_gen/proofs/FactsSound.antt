@@ -10,7 +10,7 @@ use Rattle.dict_tree.specs.declared.operators.ReadOp.TheVariants.{CollectionSum,
 use Rattle.dict_tree.specs.Dictionary.{Dictionary}
 use Rattle.dict_tree.specs.Facts.{Fact, scalar, writable_list}
 use Rattle.dict_tree.specs.Finding.{fact_at, find_path}
-use Rattle.dict_tree.specs.Reading.{use_of}
+use Rattle.dict_tree.specs.Parsing.{use_of}
 use Rattle.dict_tree.specs.Tree.{Source, Use, literal, literal_int, many, no_trees, read, tree}
 use Rattle.dict_types.specs.StatedTypes.{base_number}
 use Rattle.written_facts.specs.Rows.{asked, derived, fact_with}

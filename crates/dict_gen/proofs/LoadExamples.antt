@@ -6,7 +6,7 @@ use Rattle.fact_values.specs.declared.fact_type.FactType.TheVariants.{Int}
 use Rattle.dict_tree.specs.declared.operators.ManyOp.TheVariants.{Add}
 use Rattle.dict_tree.specs.declared.operators.ReadOp.TheVariants.{CollectionSum, Dependency}
 use Rattle.dict_tree.specs.Facts.{scalar}
-use Rattle.dict_tree.specs.Reading.{use_of}
+use Rattle.dict_tree.specs.Parsing.{use_of}
 use Rattle.dict_tree.specs.Tree.{literal, literal_int, many, no_trees, read, tree}
 use Rattle.written_facts.specs.Rows.{derived}
 use Rattle.dict_gen.specs.Chain.{chain, member_facts}

@@ -7,7 +7,7 @@ use Rattle.std.proofs.lemmas.List.Folds.{list_any-append}
 use Rattle.std.proofs.lemmas.List.Sums.{sum_by_push}
 use Rattle.common_lemmas.proofs.Bools.{and_intro}
 use Rattle.common_lemmas.proofs.Bytes.{equal_bytes}
-use Rattle.fact_paths.specs.Reading.{fact_path_of, use_path_of}
+use Rattle.fact_paths.specs.Parsing.{fact_path_of, use_path_of}
 use Rattle.fact_paths.specs.declared.fact_path.FactPath.{FactPath}
 use Rattle.fact_paths.specs.declared.use_path.UsePath.{UsePath}
 use Rattle.fact_paths.specs.declared.use_path.UsePath.TheVariants.{Global, Sibling, Inner, Each, Through, SiblingThrough}
@@ -19,7 +19,7 @@ use Rattle.dict_tree.specs.declared.operators.ReadOp.TheVariants.{Dependency}
 use Rattle.dict_tree.specs.Dictionary.{Dictionary, Written, dictionary_view, is_collection, number_from, too_deep, too_many, with_fact}
 use Rattle.dict_tree.proofs.SourceLaws.{not_over}
 use Rattle.dict_tree.specs.Facts.{Fact, fact_size, fact_within, scalar}
-use Rattle.dict_tree.specs.Reading.{use_of}
+use Rattle.dict_tree.specs.Parsing.{use_of}
 use Rattle.dict_tree.specs.Tree.{Source, literal, literal_int, many, no_trees, read, tree}
 use Rattle.dict_tree.proofs.FindingLaws.{same_path-same}
 use Rattle.written_facts.specs.Figures.{Named}

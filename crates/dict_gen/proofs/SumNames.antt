@@ -12,7 +12,7 @@ use Rattle.common_lemmas.proofs.Bytes.{same_bytes}
 use Rattle.value_text.proofs.Decimals.{decimal_of_member}
 use Rattle.value_text.proofs.DigitLemmas.{own}
 use Rattle.fact_paths.specs.Names.{IsName, is_name_byte}
-use Rattle.fact_paths.specs.Reading.{fact_path_of, use_path_of}
+use Rattle.fact_paths.specs.Parsing.{fact_path_of, use_path_of}
 use Rattle.fact_paths.specs.declared.fact_path.FactPath.TheVariants as facts
 use Rattle.fact_paths.specs.declared.use_path.UsePath.TheVariants as uses
 use Rattle.fact_paths.proofs.FactPathLaws.{fact_path_reading}

@@ -7,7 +7,7 @@ use Rattle.dict_tree.specs.declared.operators.ReadOp.TheVariants.{CollectionSum,
 use Rattle.dict_tree.specs.Tree.{Source, literal, literal_int, many, no_trees, read, tree}
 use Rattle.dict_tree.specs.Facts.{Fact, scalar, writable_list}
 use Rattle.dict_tree.specs.Dictionary.{Dictionary}
-use Rattle.dict_tree.specs.Reading.{use_of}
+use Rattle.dict_tree.specs.Parsing.{use_of}
 use Rattle.written_facts.specs.Rows.{asked, derived}
 
 -- one more than the fact with this path

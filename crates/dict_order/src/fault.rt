@@ -1,3 +1,4 @@
+// Why the facts of a dictionary have no order.
 ghost use Rattle.std.specs.Prelude.{◌≡◌};
 ghost use Rattle.dict_order.specs.declared.fault.OrderFault.TheVariants as faults;
 

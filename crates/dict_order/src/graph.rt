@@ -1,3 +1,4 @@
+// Graphs of facts: which fact mentions which.
 ghost use Rattle.std.specs.Prelude.{◌≡◌, ◌↔◌, IsTrue, length};
 ghost use Rattle.dict_order.specs.Graph.{AreFacts, IsFact, MentionsFacts, graph_of, mentioned};
 

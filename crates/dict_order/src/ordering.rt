@@ -1,3 +1,4 @@
+// The ranks of facts, or the first fact on a cycle.
 ghost use Rattle.std.specs.Prelude.{◌<◌, ◌^◌, length, IfOk};
 ghost use Rattle.dict_tree.specs.Dictionary.{dictionary_view};
 ghost use Rattle.dict_order.specs.Graph.{HasCycle, IsFirstCycle, MentionsFacts, graph_of};

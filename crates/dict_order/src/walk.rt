@@ -1,3 +1,4 @@
+// Which facts one fact reaches.
 ghost use Rattle.std.specs.Prelude.{◌≡◌, ◌↔◌, ℕ, ◌+◌, ◌<◌, ◌^◌, length, IfOk, IsTrue, OnOk};
 ghost use Rattle.dict_order.specs.Graph.{Has, IsFact, MentionsFacts, Reaches, graph_of};
 ghost use Rattle.dict_order.specs.Walking.{IsSeen, see as state_after, see_all as state_after_all};

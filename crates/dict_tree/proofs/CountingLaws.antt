@@ -16,7 +16,7 @@ use Rattle.serde_json.specs.Read.{number_of, of_json, of_items, of_members, max_
 use Rattle.serde_json.specs.View.{items_view}
 use Rattle.serde_json.specs.declared.value.Value.{Value}
 use Rattle.dict_tree.specs.Counting.{count_of, HasFewFacts}
-use Rattle.dict_tree.specs.DictReading.{IsJson, max_bytes}
+use Rattle.dict_tree.specs.DictParsing.{IsJson, max_bytes}
 use Rattle.dict_tree.proofs.MemberLaws.{array_found}
 
 -- ---- the parts of a value

@@ -9,9 +9,9 @@ use Rattle.serde_json.specs.Find.{as_str, as_array, as_object, get}
 use Rattle.value_text.specs.Enums.{Listed}
 use Rattle.dict_tree.specs.Facts.{Fact}
 use Rattle.dict_tree.specs.FactJson.{SpellsFact}
-use Rattle.dict_tree.specs.FactReading.{has_no_other, is_optional_text, text_at, fact_of}
+use Rattle.dict_tree.specs.FactParsing.{has_no_other, is_optional_text, text_at, fact_of}
 use Rattle.dict_tree.specs.Dictionary.{Dictionary, too_many, too_deep}
-use Rattle.dict_tree.specs.DictReading.{facts_step, facts_of, version_names, version_of, version_with, version_in, enums_in, shallow, few, with_facts, from_parts, dictionary_with, dictionary_of}
+use Rattle.dict_tree.specs.DictParsing.{facts_step, facts_of, version_names, version_of, version_with, version_in, enums_in, shallow, few, with_facts, from_parts, dictionary_with, dictionary_of}
 use Rattle.dict_tree.specs.DictJson.{AreSpelled, version_text, top_keys, SpellsTop, SpellsDictionary, IsTopWrong, IsFactWrong, IsFirstWrong, IsWrongAt, ValueGives}
 use Rattle.dict_tree.specs.declared.fault.TreeFault.{TreeFault}
 use Rattle.dict_tree.specs.declared.fault.TreeFault.TheVariants as faults

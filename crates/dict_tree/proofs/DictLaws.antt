@@ -4,7 +4,7 @@ use Rattle.std.specs.Prelude.{IfOk, IfErr}
 use Rattle.serde_json.specs.Data.{Data}
 use Rattle.dict_tree.specs.Dictionary.{Dictionary, Written, IsValid, dictionary_view}
 use Rattle.dict_tree.specs.DictJson.{ValueGives}
-use Rattle.dict_tree.specs.DictReading.{dictionary_of, Yields, IsJson, IsOfShape, BytesGive, max_bytes, seen}
+use Rattle.dict_tree.specs.DictParsing.{dictionary_of, Yields, IsJson, IsOfShape, BytesGive, max_bytes, seen}
 use Rattle.dict_tree.specs.declared.fault.TreeFault.{TreeFault}
 use Rattle.dict_tree.specs.declared.fault.TreeFault.TheVariants as faults
 use Rattle.dict_tree.proofs.DictJsonLaws.{read_given}

@@ -8,7 +8,7 @@ use Rattle.common_lemmas.proofs.Options.{both_some, mapped}
 use Rattle.serde_json.specs.Data.{Data, string, array, Items, no_items, item}
 use Rattle.serde_json.specs.Find.{as_str}
 use Rattle.fact_paths.specs.declared.use_path.UsePath.{UsePath}
-use Rattle.fact_paths.specs.Reading.{use_path_of}
+use Rattle.fact_paths.specs.Parsing.{use_path_of}
 use Rattle.dict_tree.specs.declared.operators.ManyOp.{ManyOp}
 use Rattle.dict_tree.specs.declared.operators.ManyOp.TheVariants.{Subtract}
 use Rattle.dict_tree.specs.declared.node_name.ConstantName.{ConstantName}
@@ -20,7 +20,7 @@ use Rattle.dict_tree.specs.Tree.{Literal, literal_true, literal_false, literal_i
 use Rattle.dict_tree.specs.View.{trees_of, cases_of}
 use Rattle.dict_tree.specs.Forms.{HasForm, HaveForms, HaveCaseForms, AreEnough, AreSome, AreCases, IsUse}
 use Rattle.dict_tree.specs.Json.{node_json, text_json, literal_json, json_of, json_of_trees, json_of_cases, Spells}
-use Rattle.dict_tree.specs.Reading.{use_of, no_operand, one_text, two_texts, constant_of, fewest, at_least, case_if, is_text, node_of, tree_of, array_tree, only_tree, pair_tree, picked_tree, tree_list, case_of, case_list}
+use Rattle.dict_tree.specs.Parsing.{use_of, no_operand, one_text, two_texts, constant_of, fewest, at_least, case_if, is_text, node_of, tree_of, array_tree, only_tree, pair_tree, picked_tree, tree_list, case_of, case_list}
 use Rattle.dict_tree.proofs.NameLaws.{node_named-node_name, node_named_some}
 use Rattle.dict_tree.proofs.UseLaws.{use_path_given, use_path_from}
 

@@ -5,7 +5,7 @@ use Rattle.std.proofs.lemmas.Option.{same_Some}
 use Rattle.common_lemmas.proofs.Options.{both_some, mapped}
 use Rattle.serde_json.specs.Data.{Data, string, array, object, Items, no_items, item, Members}
 use Rattle.serde_json.specs.Find.{as_str, as_array, as_object, get, get_member}
-use Rattle.fact_paths.specs.Reading.{fact_path_of}
+use Rattle.fact_paths.specs.Parsing.{fact_path_of}
 use Rattle.dict_tree.specs.declared.limits_json.LimitName.{LimitName}
 use Rattle.dict_tree.specs.declared.limits_json.LimitName.TheVariants as names
 use Rattle.dict_tree.specs.Tree.{Source, SourceCase}
@@ -13,9 +13,9 @@ use Rattle.dict_tree.specs.Facts.{Fact, Stated, Bound, least}
 use Rattle.dict_tree.specs.Forms.{IsWritableType, IsDerivedType}
 use Rattle.dict_tree.specs.Json.{text_json}
 use Rattle.dict_tree.specs.FactJson.{items_from, stated_text, limit_json, IsNamed, SpellLimits, SpellsOptional, SpellsRequired, SpellsConditional, SpellsWritable, SpellsDerived, SpellsFact}
-use Rattle.dict_tree.specs.Reading.{two_texts, pair_tree, tree_of}
-use Rattle.dict_tree.specs.StatedReading.{writable_stated, derived_stated}
-use Rattle.dict_tree.specs.FactReading.{is_optional_text, has_no_other, limit_names, limit_name, bound_under, limit_of, limit_list, limits_in, main_in, tree_in, conditional_in, fact_from, writable_keys, derived_keys, writable_fact, derived_fact, fact_with, fact_of}
+use Rattle.dict_tree.specs.Parsing.{two_texts, pair_tree, tree_of}
+use Rattle.dict_tree.specs.StatedParsing.{writable_stated, derived_stated}
+use Rattle.dict_tree.specs.FactParsing.{is_optional_text, has_no_other, limit_names, limit_name, bound_under, limit_of, limit_list, limits_in, main_in, tree_in, conditional_in, fact_from, writable_keys, derived_keys, writable_fact, derived_fact, fact_with, fact_of}
 use Rattle.dict_tree.proofs.ExprLaws.{two_texts_are, found, pair_found, again, spelled_again}
 use Rattle.dict_tree.proofs.NameLaws.{named_so}
 use Rattle.dict_tree.proofs.MemberLaws.{guarded, object_is, is_object, array_is, optional_text_found, optional_text_again, text_found, key_is_known}

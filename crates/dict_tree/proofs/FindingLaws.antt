@@ -11,9 +11,9 @@ use Rattle.common_lemmas.proofs.Bools.{same_test}
 use Rattle.fact_paths.specs.Paths.{IsFactPath, SpellsFactPath, fact_path_text}
 use Rattle.fact_paths.specs.declared.fact_path.FactPath.{FactPath}
 use Rattle.fact_paths.specs.declared.fact_path.FactPath.TheVariants.{Global, Member}
-use Rattle.fact_paths.specs.Reading.{fact_path_of}
+use Rattle.fact_paths.specs.Parsing.{fact_path_of}
 use Rattle.fact_paths.proofs.FactPathLaws.{fact_path_reading}
-use Rattle.fact_paths.proofs.ReadingLaws.{one_path_from}
+use Rattle.fact_paths.proofs.ParsingLaws.{one_path_from}
 use Rattle.dict_tree.specs.Dictionary.{number_from}
 use Rattle.dict_tree.specs.Facts.{Fact, fact_view}
 use Rattle.dict_tree.specs.declared.fact_source.FactSource.{FactSource}

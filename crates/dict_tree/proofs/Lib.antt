@@ -14,11 +14,11 @@ pub mod MentionLaws
 pub mod NameLaws
 pub mod OperandLaws
 pub mod PathIndexLaws
-pub mod ReadingLaws
+pub mod ParsingLaws
 pub mod SourceExamples
 pub mod SourceLaws
 pub mod StatedLaws
-pub mod StatedReadingLaws
+pub mod StatedParsingLaws
 pub mod TargetsLaws
 pub mod TreeExamples
 pub mod UseLaws

@@ -15,7 +15,7 @@ use Rattle.common_lemmas.proofs.Options.{both_some}
 use Rattle.serde_json.specs.Data.{Data, string, array, object, Items, Members, no_members, member}
 use Rattle.serde_json.specs.Find.{as_str, as_array, as_object, get_member}
 use Rattle.dict_tree.specs.FactJson.{IsObjectOf, IsOptionalText}
-use Rattle.dict_tree.specs.FactReading.{has_no_other, is_optional_text}
+use Rattle.dict_tree.specs.FactParsing.{has_no_other, is_optional_text}
 use Rattle.dict_tree.proofs.ExprLaws.{text_is}
 
 -- what is there under a test

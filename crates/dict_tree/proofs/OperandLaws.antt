@@ -5,7 +5,7 @@ use Rattle.serde_json.specs.View.{view as json, items_view}
 use Rattle.serde_json.specs.Find.{as_str}
 use Rattle.dict_tree.specs.Tree.{Source, SourceCase, Use}
 use Rattle.std.proofs.lemmas.Option.{same_Some}
-use Rattle.dict_tree.specs.Reading.{Gives, use_of, picked_of, no_operand, one_text, two_texts, only_tree, pair_tree, picked_tree, tree_of}
+use Rattle.dict_tree.specs.Parsing.{Gives, use_of, picked_of, no_operand, one_text, two_texts, only_tree, pair_tree, picked_tree, tree_of}
 use Rattle.dict_tree.specs.declared.fault.ReadFault.{ReadFault}
 use Rattle.dict_tree.specs.declared.fault.ReadFault.TheVariants.{Shape, NoMemory}
 

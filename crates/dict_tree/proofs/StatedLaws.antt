@@ -14,11 +14,11 @@ use Rattle.fact_values.specs.declared.fact_type.FactType.TheVariants as types
 use Rattle.dict_tree.specs.Facts.{Stated, scalar, enum_of, writable_list, list_of, item_of}
 use Rattle.dict_tree.specs.FactJson.{scalar_text, stated_text, IsNamed}
 use Rattle.dict_tree.specs.Forms.{IsScalar, IsWritableType, IsDerivedType}
-use Rattle.dict_tree.specs.Reading.{use_of}
-use Rattle.dict_tree.specs.StatedReading.{before_close, between, scalar_names, scalar_named, enum_named, enum_stated, list_stated, scalar_or, writable_stated, item_or, list_or, pathed_stated, derived_stated}
+use Rattle.dict_tree.specs.Parsing.{use_of}
+use Rattle.dict_tree.specs.StatedParsing.{before_close, between, scalar_names, scalar_named, enum_named, enum_stated, list_stated, scalar_or, writable_stated, item_or, list_or, pathed_stated, derived_stated}
 use Rattle.dict_tree.proofs.ExprLaws.{is_use, use_again}
 use Rattle.dict_tree.proofs.NameLaws.{named_so}
-use Rattle.dict_tree.proofs.StatedReadingLaws.{before_close-close, before_close_some}
+use Rattle.dict_tree.proofs.StatedParsingLaws.{before_close-close, before_close_some}
 
 -- ---- what stands between
 

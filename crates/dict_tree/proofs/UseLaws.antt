@@ -6,12 +6,12 @@ use Rattle.fact_paths.specs.declared.fault.PathFault.{PathFault}
 use Rattle.fact_paths.specs.declared.fault.PathFault.TheVariants.{BadPath, NoMemory}
 use Rattle.fact_paths.specs.declared.fact_path.FactPath.{FactPath}
 use Rattle.fact_paths.specs.declared.use_path.UsePath.{UsePath}
-use Rattle.fact_paths.proofs.ReadingLaws.{IsReading}
-use Rattle.fact_paths.specs.Reading.{use_path_of, fact_path_of}
+use Rattle.fact_paths.proofs.ParsingLaws.{IsReading}
+use Rattle.fact_paths.specs.Parsing.{use_path_of, fact_path_of}
 use Rattle.fact_paths.proofs.UsePathLaws.{use_path_reading}
 use Rattle.fact_paths.proofs.FactPathLaws.{fact_path_reading}
 use Rattle.dict_tree.specs.Forms.{IsReadFrom}
-use Rattle.dict_tree.specs.Reading.{use_of}
+use Rattle.dict_tree.specs.Parsing.{use_of}
 use Rattle.dict_tree.specs.Tree.{Use}
 
 abbrev pub made : List ℕ → Option UsePath → Use

@@ -10,7 +10,7 @@ use Rattle.dict_tree.specs.Tree.{Source, SourceCase}
 use Rattle.dict_tree.specs.Facts.{Fact, Stated, scalar, enum_of, writable_list, list_of, item_of, Bound, least, greatest, max_length, check}
 use Rattle.dict_tree.specs.Forms.{IsReadFrom, HasForm, IsWritableType, IsDerivedType}
 use Rattle.dict_tree.specs.Json.{text_json, json_of, Spells}
-use Rattle.dict_tree.specs.FactReading.{has_no_other, writable_keys, derived_keys}
+use Rattle.dict_tree.specs.FactParsing.{has_no_other, writable_keys, derived_keys}
 
 -- ---- members of an object
 

@@ -6,12 +6,12 @@ use Rattle.dict_tree.specs.Tree.{Source}
 use Rattle.dict_tree.specs.Json.{Spells}
 use Rattle.dict_tree.specs.FactJson.{SpellsFact}
 use Rattle.dict_tree.specs.DictJson.{SpellsEnum, ValueGives}
-use Rattle.dict_tree.specs.Reading.{tree_of}
+use Rattle.dict_tree.specs.Parsing.{tree_of}
 use Rattle.dict_tree.specs.Facts.{Fact}
 use Rattle.dict_tree.specs.Forms.{IsWellFormed}
-use Rattle.dict_tree.specs.FactReading.{fact_of}
+use Rattle.dict_tree.specs.FactParsing.{fact_of}
 use Rattle.dict_tree.specs.Dictionary.{Dictionary}
-use Rattle.dict_tree.specs.DictReading.{enum_of, dictionary_of}
+use Rattle.dict_tree.specs.DictParsing.{enum_of, dictionary_of}
 use Rattle.dict_tree.specs.declared.fault.TreeFault.{TreeFault}
 
 -- ---- expressions

@@ -1,9 +1,9 @@
 pub mod Counting
 pub mod DictJson
-pub mod DictReading
+pub mod DictParsing
 pub mod Dictionary
 pub mod FactJson
-pub mod FactReading
+pub mod FactParsing
 pub mod Facts
 pub mod Finding
 pub mod Forms
@@ -15,8 +15,8 @@ pub mod Names
 pub mod OperandTypes
 pub mod PathIndex
 pub mod PathLaws
-pub mod Reading
-pub mod StatedReading
+pub mod Parsing
+pub mod StatedParsing
 pub mod Sources
 pub mod Targets
 pub mod Tree

@@ -1,3 +1,4 @@
+// Constants as a dictionary writes them.
 /// A constant as it is written: its text, which may be no value of the type.
 #[derive(Drop)]
 pub enum Constant {

@@ -7,7 +7,7 @@ ghost use Rattle.dict_tree.specs.Counting.{HasFewFacts};
 ghost use Rattle.dict_tree.specs.Facts.{fact_view};
 ghost use Rattle.dict_tree.specs.Dictionary.{IsValid, dictionary_view};
 ghost use Rattle.dict_tree.specs.declared.fault.TreeFault.TheVariants.{NoMemory};
-ghost use Rattle.dict_tree.specs.DictReading.{BytesAre, BytesGive, IsOfShape, listed_view, seen, Yields, dictionary_of, facts_of, read_view, version_in, version_of, version_with};
+ghost use Rattle.dict_tree.specs.DictParsing.{BytesAre, BytesGive, IsOfShape, listed_view, seen, Yields, dictionary_of, facts_of, read_view, version_in, version_of, version_with};
 ghost use Rattle.dict_tree.specs.Listing.{may_follow, may_all_follow};
 
 use crate::dict_source::DictSource;
@@ -87,7 +87,7 @@ fn read_facts(alloc: Global, later: bool, items: &[Value]) -> Result<Vec<FactSou
     Ok(facts)
 }
 
-#[tactic(auto, unfolding(crate::specs::DictReading::dictionary_of))]
+#[tactic(auto, unfolding(crate::specs::DictParsing::dictionary_of))]
 fn read_value(alloc: Global, value: &Value) -> Result<Found, TreeFault>
     requires { HasFewFacts (json value.now) }
     ensures exact { Yields read_view result (dictionary_of (json value.now)) }

@@ -1,3 +1,4 @@
+// Dictionaries as they are written: enums and numbered facts, found by path.
 ghost use Rattle.std.specs.Prelude.{◌≡◌, ◌+◌, ◌<◌, ◌≤◌, ◌^◌, [], ◌∷◌, ◌++◌, length, map, slice_get, option_copied, option_map, vec_len, IfErr, IfOk, IfSome, OnErr, OnOk};
 ghost use Rattle.std.specs.List.{All};
 ghost use Rattle.fact_paths.specs.declared.fact_path.FactPath.TheVariants as paths;

@@ -1,3 +1,4 @@
+// Expressions as they are written.
 use crate::constant::Constant;
 use crate::operators::{ManyOp, OneOp, PickOp, ReadOp, TwoOp};
 use crate::path_use::PathUse;

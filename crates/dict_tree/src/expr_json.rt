@@ -4,7 +4,7 @@ ghost use Rattle.serde_json.specs.Find.{as_str};
 ghost use Rattle.serde_json.specs.View.{view as json, items_view};
 ghost use Rattle.dict_tree.specs.View.{view, box_view, pair_view, picked_view, case_view, literal_of, use_view};
 ghost use Rattle.dict_tree.specs.Names.{node_named};
-ghost use Rattle.dict_tree.specs.Reading.{Gives, use_of, one_text, two_texts, constant_of, fewest as fewest_of, at_least, is_text, no_operand, node_of, picked_of, tree_of, array_tree, only_tree, pair_tree, picked_tree, tree_list, case_of, case_in, case_list};
+ghost use Rattle.dict_tree.specs.Parsing.{Gives, use_of, one_text, two_texts, constant_of, fewest as fewest_of, at_least, is_text, no_operand, node_of, picked_of, tree_of, array_tree, only_tree, pair_tree, picked_tree, tree_list, case_of, case_in, case_list};
 
 use crate::constant::Constant;
 use crate::expr::{Case, Expr};

@@ -2,12 +2,12 @@
 ghost use Rattle.std.specs.Prelude.{◌≡◌, map, option_map, option_and_then, string_bytes, codes, Some};
 ghost use Rattle.serde_json.specs.Find.{as_array, get};
 ghost use Rattle.serde_json.specs.View.{view as json, items_view, members_view};
-ghost use Rattle.fact_paths.specs.Reading.{fact_path_of};
+ghost use Rattle.fact_paths.specs.Parsing.{fact_path_of};
 ghost use Rattle.dict_tree.specs.View.{view, box_view, pair_view};
 ghost use Rattle.dict_tree.specs.Facts.{fact_view, stated_view, conditional_view};
-ghost use Rattle.dict_tree.specs.Reading.{Gives, pair_tree, tree_of};
-ghost use Rattle.dict_tree.specs.StatedReading.{writable_stated, derived_stated};
-ghost use Rattle.dict_tree.specs.FactReading.{conditional_in, derived_keys as keys_of_derived, fact_of, fact_with, has_no_other as only, text_at, tree_in, writable_fact, derived_fact, writable_keys};
+ghost use Rattle.dict_tree.specs.Parsing.{Gives, pair_tree, tree_of};
+ghost use Rattle.dict_tree.specs.StatedParsing.{writable_stated, derived_stated};
+ghost use Rattle.dict_tree.specs.FactParsing.{conditional_in, derived_keys as keys_of_derived, fact_of, fact_with, has_no_other as only, text_at, tree_in, writable_fact, derived_fact, writable_keys};
 
 use crate::expr::Expr;
 use crate::expr_json::read_boxed;
@@ -126,7 +126,7 @@ fn read_main(alloc: Global, value: &Value) -> Result<Box<Expr>, ReadFault>
     }
 }
 
-#[tactic(auto, unfolding(crate::specs::FactReading::writable_fact))]
+#[tactic(auto, unfolding(crate::specs::FactParsing::writable_fact))]
 fn read_writable(alloc: Global, value: &Value) -> Result<FactSource, ReadFault>
     ensures { Gives fact_view result (writable_fact (json value.now)) }
 {
@@ -146,7 +146,7 @@ fn read_writable(alloc: Global, value: &Value) -> Result<FactSource, ReadFault>
     })
 }
 
-#[tactic(auto, unfolding(crate::specs::FactReading::derived_fact))]
+#[tactic(auto, unfolding(crate::specs::FactParsing::derived_fact))]
 fn read_derived(alloc: Global, value: &Value) -> Result<FactSource, ReadFault>
     ensures { Gives fact_view result (derived_fact (json value.now)) }
 {

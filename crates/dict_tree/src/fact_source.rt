@@ -1,3 +1,4 @@
+// Facts as they are written: path, type, expressions and limits.
 use crate::expr::Expr;
 use crate::path_use::PathUse;
 use fact_paths::{FactPath, Name};

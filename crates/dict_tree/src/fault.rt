@@ -1,3 +1,4 @@
+// Why bytes spell no dictionary.
 ghost use Rattle.std.specs.Prelude.{◌≡◌};
 ghost use Rattle.dict_tree.specs.declared.fault.TreeFault.TheVariants.{NoMemory};
 ghost use Rattle.dict_tree.specs.declared.fault.ReadFault.TheVariants as read_faults;

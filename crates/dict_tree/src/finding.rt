@@ -1,3 +1,4 @@
+// The texts of paths, by which facts are found.
 ghost use Rattle.std.specs.Prelude.{◌≡◌};
 ghost use Rattle.fact_paths.specs.Names.{IsName};
 ghost use Rattle.fact_paths.specs.Paths.{fact_path_text};

@@ -5,7 +5,7 @@ ghost use Rattle.dict_tree.specs.Tree.{size, size_of_trees, size_of_cases, depth
 ghost use Rattle.dict_tree.specs.View.{view, trees_view, cases_view};
 ghost use Rattle.dict_tree.specs.Facts.{fact_view, fact_size, fact_within, conditional_view, conditional_size, conditional_within, option_size, option_within};
 ghost use Rattle.dict_tree.specs.Dictionary.{is_collection, number_from, too_many};
-ghost use Rattle.dict_tree.specs.DictReading.{listed_view, dictionary_with};
+ghost use Rattle.dict_tree.specs.DictParsing.{listed_view, dictionary_with};
 
 use crate::enums_json::EnumSource;
 use crate::expr::{Case, Expr};

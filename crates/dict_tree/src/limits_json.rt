@@ -2,8 +2,8 @@
 ghost use Rattle.std.specs.Prelude.{◌≡◌, map, option_map, string_bytes};
 ghost use Rattle.serde_json.specs.View.{view as json, items_view};
 ghost use Rattle.dict_tree.specs.Facts.{limit_view};
-ghost use Rattle.dict_tree.specs.Reading.{Gives};
-ghost use Rattle.dict_tree.specs.FactReading.{limit_name, bound_under, limit_of, limit_list, limits_in};
+ghost use Rattle.dict_tree.specs.Parsing.{Gives};
+ghost use Rattle.dict_tree.specs.FactParsing.{limit_name, bound_under, limit_of, limit_list, limits_in};
 
 use crate::fact_source::LimitText;
 use crate::fault::ReadFault;

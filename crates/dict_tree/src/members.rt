@@ -3,8 +3,8 @@ ghost use Rattle.std.specs.Prelude.{◌≡◌, map, option_map, string_bytes};
 ghost use Rattle.std.specs.List.{list_any};
 ghost use Rattle.std.specs.Str.{bytes_eq};
 ghost use Rattle.serde_json.specs.View.{view as json, items_view, members_view};
-ghost use Rattle.dict_tree.specs.Reading.{Gives, two_texts};
-ghost use Rattle.dict_tree.specs.FactReading.{has_no_other as only, is_optional_text, text_at};
+ghost use Rattle.dict_tree.specs.Parsing.{Gives, two_texts};
+ghost use Rattle.dict_tree.specs.FactParsing.{has_no_other as only, is_optional_text, text_at};
 
 use crate::fault::ReadFault;
 use serde_json::{Map, Value};

@@ -1,3 +1,4 @@
+// Which facts an expression reads, and whether of the same member alone.
 ghost use Rattle.std.specs.Prelude.{◌≡◌, ◌++◌, option_map, IfOk, OnOk};
 ghost use Rattle.dict_tree.specs.Dictionary.{dictionary_view};
 ghost use Rattle.dict_tree.specs.Facts.{conditional_view, fact_view};

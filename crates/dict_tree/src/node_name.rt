@@ -1,3 +1,4 @@
+// The names of nodes in JSON.
 ghost use Rattle.std.specs.Prelude.{◌≡◌, drop};
 ghost use Rattle.dict_tree.specs.Names.{node_named, node_names, under_name};
 

@@ -1,3 +1,4 @@
+// The operations of nodes.
 /// What a node that reads a path asks of the facts that the path names.
 #[derive(Clone, Copy, PartialEq, Eq)]
 pub enum ReadOp {

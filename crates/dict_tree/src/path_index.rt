@@ -1,3 +1,4 @@
+// The index of facts by path.
 ghost use Rattle.std.specs.Prelude.{◌≡◌, [], ◌++◌, OnErr, OnOk, None};
 ghost use Rattle.dict_tree.specs.PathIndex.{noted, place_of};
 

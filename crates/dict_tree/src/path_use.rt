@@ -1,6 +1,7 @@
+// Paths in expressions, with what they spell.
 ghost use Rattle.std.specs.Prelude.{◌≡◌, IfOk};
 ghost use Rattle.dict_tree.specs.View.{use_view};
-ghost use Rattle.dict_tree.specs.Reading.{use_of};
+ghost use Rattle.dict_tree.specs.Parsing.{use_of};
 
 use fact_paths::{PathFault, UsePath, read_use_path};
 use fact_values::NoMemory;

@@ -2,8 +2,8 @@
 ghost use Rattle.std.specs.Prelude.{◌≡◌, option_copied};
 ghost use Rattle.fact_paths.specs.Cuts.{after};
 ghost use Rattle.dict_tree.specs.Facts.{stated_view};
-ghost use Rattle.dict_tree.specs.Reading.{Gives};
-ghost use Rattle.dict_tree.specs.StatedReading.{before_close as before, between as found_between, scalar_named, enum_named, enum_stated, list_stated, pathed_stated, writable_stated, derived_stated};
+ghost use Rattle.dict_tree.specs.Parsing.{Gives};
+ghost use Rattle.dict_tree.specs.StatedParsing.{before_close as before, between as found_between, scalar_named, enum_named, enum_stated, list_stated, pathed_stated, writable_stated, derived_stated};
 
 use crate::expr_json::use_in;
 use crate::fact_source::TypeText;

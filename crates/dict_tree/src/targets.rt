@@ -1,3 +1,4 @@
+// The facts that a path in an expression names.
 ghost use Rattle.std.specs.Prelude.{◌≡◌, option_copied, option_and_then, IfSome};
 ghost use Rattle.dict_tree.specs.Dictionary.{dictionary_view};
 ghost use Rattle.dict_tree.specs.Facts.{stated_view};

@@ -1,5 +1,7 @@
-ghost use Rattle.std.specs.Prelude.{◌≡◌, ℕ, List, map};
+// The limits of facts, and the first that doesn't fit.
+ghost use Rattle.std.specs.Prelude.{◌≡◌, map};
 ghost use Rattle.std.specs.List.{list_any};
+ghost use Rattle.text_checks.specs.Tables.{check_names};
 ghost use Rattle.value_text.specs.Values as values;
 ghost use Rattle.dict_tree.specs.Facts.{fact_view, limit_view, stated_view};
 ghost use Rattle.dict_types.specs.BadLimit.{Gives, bound_value as value_of_bound, fact_limits as limits_of_fact, has_twice as twice, is_again as again, is_greatest as greatest, is_least as least, is_max_length as longest, is_text as text_type, length_at as length_of_text, length_in as length_within, limit_at, limits_at, ordered_value as value_in_order, takes_text as takes, value_length as length_of_value};
@@ -177,7 +179,7 @@ fn read_limit(
     stated: &TypeText,
     limit: &LimitText,
 ) -> Result<Limit, LimitFault>
-    ensures { Gives (λ l. l) (limit_at (map {B = List ℕ} (λ c. c.name) checks.now.checks.items) enums.now (stated_view stated.now) (limit_view limit.now)) result }
+    ensures { Gives (λ l. l) (limit_at (check_names checks.now) enums.now (stated_view stated.now) (limit_view limit.now)) result }
 {
     match limit {
         LimitText::Min(text) => Ok(Limit::Min(bound_value(alloc, enums, stated, text.as_str())?)),
@@ -204,7 +206,7 @@ fn read_limits(
     stated: &TypeText,
     limits: &[LimitText],
 ) -> Result<Vec<Limit>, LimitFault>
-    ensures { Gives (λ list. list.items) (limits_at (map {B = List ℕ} (λ c. c.name) checks.now.checks.items) enums.now (stated_view stated.now) (map limit_view limits.now)) result }
+    ensures { Gives (λ list. list.items) (limits_at (check_names checks.now) enums.now (stated_view stated.now) (map limit_view limits.now)) result }
 {
     let mut out = Vec::new(alloc);
     for limit in limits {
@@ -289,7 +291,7 @@ pub fn fact_limits(
     enums: &EnumLists,
     fact: &FactSource,
 ) -> Result<Vec<Limit>, LimitFault>
-    ensures { Gives (λ list. list.items) (limits_of_fact (map {B = List ℕ} (λ c. c.name) checks.now.checks.items) enums.now (fact_view fact.now)) result }
+    ensures { Gives (λ list. list.items) (limits_of_fact (check_names checks.now) enums.now (fact_view fact.now)) result }
 {
     if has_twice(fact.limits.as_slice()) {
         return Err(LimitFault::BadLimit);

@@ -1,3 +1,4 @@
+// The rule that paths are of the grammar.
 ghost use Rattle.std.specs.Prelude.{◌≡◌, is_none};
 ghost use Rattle.dict_tree.specs.Dictionary.{dictionary_view};
 ghost use Rattle.dict_tree.specs.Facts.{fact_view, stated_view};

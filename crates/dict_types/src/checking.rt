@@ -1,4 +1,6 @@
-ghost use Rattle.std.specs.Prelude.{◌≡◌, ◌≤◌, ℕ, List, IfErr, IfOk, length, map};
+// All rules of types in their order: a typed dictionary, or its first fault.
+ghost use Rattle.std.specs.Prelude.{◌≡◌, ◌≤◌, IfErr, IfOk, length};
+ghost use Rattle.text_checks.specs.Tables.{check_names};
 ghost use Rattle.dict_tree.specs.Dictionary.{dictionary_view};
 ghost use Rattle.dict_tree.specs.Facts.{fact_size, fact_view};
 ghost use Rattle.dict_types.specs.BadLimit.{fact_limits as limits_in};
@@ -21,7 +23,7 @@ use text_checks::CheckTable;
 
 // The fault of the first rule of paths and checks that is broken.
 fn first_of_rules(source: &DictSource, checks: &CheckTable) -> Option<TypeFault>
-    ensures { result ≡ fault_by_rules (dictionary_view source.now) (map {B = List ℕ} (λ c. c.name) checks.now.checks.items) rule_order }
+    ensures { result ≡ fault_by_rules (dictionary_view source.now) (check_names checks.now) rule_order }
 {
     first_fault(
         source,
@@ -86,7 +88,7 @@ fn limits_of_fact(
     number: u32,
     fact: &FactSource,
 ) -> Result<Limits, TypeFault>
-    ensures { Finds (λ l. l) (or_bad_limit number (limits_in (map {B = List ℕ} (λ c. c.name) checks.now.checks.items) (dictionary_view source.now).enums (fact_view fact.now))) result }
+    ensures { Finds (λ l. l) (or_bad_limit number (limits_in (check_names checks.now) (dictionary_view source.now).enums (fact_view fact.now))) result }
 {
     match fact_limits(alloc, checks, source.enums(), fact) {
         Ok(list) => Ok(Limits::new(list)),
@@ -100,7 +102,7 @@ fn limits_of_facts(
     source: &DictSource,
     checks: &CheckTable,
 ) -> Result<Vec<Limits>, TypeFault>
-    ensures { Finds (λ list. list.items) (limits_of (map {B = List ℕ} (λ c. c.name) checks.now.checks.items) (dictionary_view source.now) 1 (dictionary_view source.now).facts) result }
+    ensures { Finds (λ list. list.items) (limits_of (check_names checks.now) (dictionary_view source.now) 1 (dictionary_view source.now).facts) result }
 {
     let facts = source.facts();
     let mut out = Vec::new(alloc);
@@ -113,7 +115,7 @@ fn limits_of_facts(
 
 // What is found of the dictionary: rules of paths and checks first, then types, then limits.
 fn judge(alloc: Global, source: &DictSource, checks: &CheckTable) -> Result<Typed, TypeFault>
-    ensures { Finds (λ t. t) (typed_dictionary (dictionary_view source.now) (map {B = List ℕ} (λ c. c.name) checks.now.checks.items)) result }
+    ensures { Finds (λ t. t) (typed_dictionary (dictionary_view source.now) (check_names checks.now)) result }
 {
     if let Some(fault) = first_of_rules(source, checks) {
         return Err(fault);
@@ -126,8 +128,8 @@ fn judge(alloc: Global, source: &DictSource, checks: &CheckTable) -> Result<Type
 /// The types, constants and limits of a dictionary, or its first fault: paths and checks first, rule by rule, then types,
 /// then limits; of one kind the first fact's, and of a fact its first node's.
 pub fn check(alloc: Global, source: &DictSource, checks: &CheckTable) -> Result<Typed, TypeFault>
-    ensures typed { IfOk result (IsTypedDictionary (dictionary_view source.now) (map {B = List ℕ} (λ c. c.name) checks.now.checks.items)) }
-    ensures refused { IfErr result (Refuses (IsFirstFault (dictionary_view source.now) (map {B = List ℕ} (λ c. c.name) checks.now.checks.items))) }
+    ensures typed { IfOk result (IsTypedDictionary (dictionary_view source.now) (check_names checks.now)) }
+    ensures refused { IfErr result (Refuses (IsFirstFault (dictionary_view source.now) (check_names checks.now))) }
     ensures facts { IfOk result (λ typed. length typed.facts ≡ length source.now.facts) }
     ensures limits { IfOk result (λ typed. length typed.limits ≡ length source.now.facts) }
 {

@@ -1,3 +1,4 @@
+// The types and values of constants.
 ghost use Rattle.std.specs.Prelude.{◌≡◌, ◌++◌, ◌∷◌, [], option_map, IfOk, None, OnOk};
 ghost use Rattle.value_text.specs.Enums.{list_place};
 ghost use Rattle.value_text.specs.Values.{Gives};

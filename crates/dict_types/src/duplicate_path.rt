@@ -1,3 +1,4 @@
+// The rule that no two facts have one path.
 ghost use Rattle.std.specs.Prelude.{◌≡◌};
 ghost use Rattle.dict_tree.specs.Dictionary.{dictionary_view};
 ghost use Rattle.dict_tree.specs.Facts.{fact_view};

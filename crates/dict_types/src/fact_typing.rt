@@ -1,3 +1,4 @@
+// The types of a fact's expressions beside the type that it states.
 ghost use Rattle.std.specs.Prelude.{◌≡◌, ◌+◌, ◌<◌, ◌≤◌, ◌^◌, ⊤, option_map, OnOk};
 ghost use Rattle.dict_tree.specs.Dictionary.{dictionary_view};
 ghost use Rattle.dict_tree.specs.Facts.{conditional_size, conditional_view, fact_size, fact_view, option_size};

@@ -1,3 +1,4 @@
+// Why the types of a dictionary are refused.
 ghost use Rattle.std.specs.Prelude.{◌≡◌};
 ghost use Rattle.dict_types.specs.declared.fault.TypeFault.TheVariants as faults;
 

@@ -1,3 +1,4 @@
+// The type of an expression, or its first node at fault.
 ghost use Rattle.std.specs.Prelude.{◌≡◌, ◌+◌, ◌<◌, ◌^◌, OnOk};
 ghost use Rattle.dict_tree.specs.Dictionary.{dictionary_view};
 ghost use Rattle.dict_tree.specs.Tree.{size, size_of_cases, size_of_trees};

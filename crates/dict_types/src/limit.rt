@@ -1,3 +1,4 @@
+// Limits on the answers of a fact.
 use fact_values::Value;
 
 /// A limit on the answers of a writable fact.

@@ -1,3 +1,4 @@
+// The rule that a path through members names a collection or an item.
 ghost use Rattle.std.specs.Prelude.{◌≡◌, option_copied, option_map, Some};
 ghost use Rattle.dict_tree.specs.Dictionary.{dictionary_view, is_collection};
 ghost use Rattle.dict_tree.specs.Facts.{fact_view, stated_view};

@@ -1,3 +1,4 @@
+// Why an expression has no type.
 ghost use Rattle.std.specs.Prelude.{◌≡◌};
 ghost use Rattle.dict_types.specs.declared.node_fault.NodeFault.TheVariants.{NoMemory};
 

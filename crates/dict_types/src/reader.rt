@@ -1,3 +1,4 @@
+// What uses a path, for the rule of where a path may stand.
 use dict_tree::{PickOp, ReadOp};
 
 /// What uses a path.

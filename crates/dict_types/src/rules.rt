@@ -1,4 +1,6 @@
-ghost use Rattle.std.specs.Prelude.{◌≡◌, ℕ, List, map};
+// The rules of paths and checks, and the first that is broken.
+ghost use Rattle.std.specs.Prelude.{◌≡◌};
+ghost use Rattle.text_checks.specs.Tables.{check_names};
 ghost use Rattle.dict_tree.specs.Dictionary.{dictionary_view};
 ghost use Rattle.dict_tree.specs.Facts.{fact_view};
 ghost use Rattle.dict_types.specs.Rules.{breaks as is_broken, fault_of as rule_fault, first_breaking as first_broken, first_fault as first_found};
@@ -32,7 +34,7 @@ fn breaks(
     number: u32,
     fact: &FactSource,
 ) -> bool
-    ensures { result ≡ is_broken (dictionary_view source.now) (map {B = List ℕ} (λ c. c.name) checks.now.checks.items) rule number (fact_view fact.now) }
+    ensures { result ≡ is_broken (dictionary_view source.now) (check_names checks.now) rule number (fact_view fact.now) }
 {
     match rule {
         Rule::BadPath => is_bad_path(source, number, fact),
@@ -60,7 +62,7 @@ fn fault_of(rule: Rule, number: u32) -> TypeFault
 
 // The first fact that breaks the rule.
 fn first_breaking(source: &DictSource, checks: &CheckTable, rule: Rule) -> Option<u32>
-    ensures { result ≡ first_broken (dictionary_view source.now) (map {B = List ℕ} (λ c. c.name) checks.now.checks.items) rule }
+    ensures { result ≡ first_broken (dictionary_view source.now) (check_names checks.now) rule }
 {
     let facts = source.facts();
     for (i, fact) in facts.iter().enumerate() {
@@ -74,7 +76,7 @@ fn first_breaking(source: &DictSource, checks: &CheckTable, rule: Rule) -> Optio
 
 /// The fault of the first of the rules that a fact breaks, for the first fact that breaks it.
 pub fn first_fault(source: &DictSource, checks: &CheckTable, rules: &[Rule]) -> Option<TypeFault>
-    ensures { result ≡ first_found (dictionary_view source.now) (map {B = List ℕ} (λ c. c.name) checks.now.checks.items) rules.now }
+    ensures { result ≡ first_found (dictionary_view source.now) (check_names checks.now) rules.now }
 {
     for rule in rules {
         match first_breaking(source, checks, *rule) {

@@ -1,3 +1,4 @@
+// The types that facts state.
 ghost use Rattle.std.specs.Prelude.{◌≡◌, option_and_then, option_copied, option_map, Some};
 ghost use Rattle.fact_values.specs.declared.fact_type.FactType.TheVariants as types;
 ghost use Rattle.value_text.specs.Enums.{list_place};

@@ -1,3 +1,4 @@
+// The types, constants and limits of a dictionary.
 ghost use Rattle.std.specs.Prelude.{◌≡◌, option_and_then, option_copied, option_map, slice_get, Some};
 ghost use Rattle.dict_types.specs.Typed.{IsThere, constant_at, numbered};
 

@@ -1,3 +1,4 @@
+// The rule that a path in an expression names a fact.
 ghost use Rattle.std.specs.Prelude.{◌≡◌, is_some, option_and_then, option_copied, option_map, Some};
 ghost use Rattle.dict_tree.specs.Dictionary.{dictionary_view};
 ghost use Rattle.dict_tree.specs.Facts.{fact_view, stated_view};

@@ -1,3 +1,4 @@
+// The uses of paths in a fact, each with what uses it.
 ghost use Rattle.std.specs.Prelude.{◌≡◌, option_map};
 ghost use Rattle.dict_tree.specs.Dictionary.{dictionary_view};
 ghost use Rattle.dict_tree.specs.Facts.{conditional_view, fact_view};

@@ -1,3 +1,4 @@
+// The rule that each path and node stands where it may.
 ghost use Rattle.std.specs.Prelude.{◌≡◌, option_copied, option_map, Some};
 ghost use Rattle.dict_tree.specs.Dictionary.{dictionary_view};
 ghost use Rattle.dict_tree.specs.Facts.{fact_view};

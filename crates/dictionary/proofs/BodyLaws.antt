@@ -17,7 +17,7 @@ use Rattle.dict_order.specs.MentionGraph.{facts_of}
 use Rattle.common_lemmas.proofs.Bools.{and_true}
 use Rattle.evaluation.specs.Order.{has_no_complete_test, is_value_read, reads_pass_in_all, reads_pass_in_cases}
 use Rattle.dictionary.specs.Steady.{bodies_from, body_graph, body_mentions, body_untested, conditional_untested, is_untested, option_untested, steady_over}
-use Rattle.dictionary.specs.SteadyReading.{steady_body, steady_cases, steady_conditional, steady_option, steady_source, steady_target, steady_trees, steady_use}
+use Rattle.dictionary.specs.SteadyDependencies.{steady_body, steady_cases, steady_conditional, steady_option, steady_source, steady_target, steady_trees, steady_use}
 
 -- ---- tests in a row
 

@@ -9,7 +9,7 @@ use Rattle.fact_values.specs.declared.value.Value.TheVariants as values
 use Rattle.value_text.specs.Enums.{Listed, list_place, option_at}
 use Rattle.value_text.specs.Values.{value_at}
 use Rattle.value_text.specs.ValueLaws.{IsValueOf}
-use Rattle.value_text.proofs.ReadingLaws.{value_again}
+use Rattle.value_text.proofs.ParsingLaws.{value_again}
 use Rattle.value_text.proofs.TypeLaws.{of_type}
 use Rattle.dict_tree.specs.Dictionary.{Dictionary as Tree}
 use Rattle.dict_tree.specs.Tree.{Literal, literal_true, literal_false, literal_int, literal_dollar, literal_rational, literal_day, literal_text, literal_choice}
@@ -17,7 +17,7 @@ use Rattle.dict_types.specs.Constants.{choice_value, literal_type, literal_value
 use Rattle.evaluation.specs.Typed.{IsOfType}
 use Rattle.answers.specs.Answered.{Answered}
 use Rattle.dictionary.specs.Fits.{domains}
-use Rattle.dictionary.specs.Reading.{constant_value}
+use Rattle.dictionary.specs.Dependencies.{constant_value}
 
 -- ---- options
 

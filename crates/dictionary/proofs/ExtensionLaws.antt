@@ -26,7 +26,7 @@ use Rattle.dictionary.specs.Accepted.{Accepted, IsAccepted}
 use Rattle.dictionary.specs.Extension.{Extends, both_same, extends, is_kept, keeps_given, same_override}
 use Rattle.dictionary.specs.Fits.{AnswersFit, is_list, opens_of, takes}
 use Rattle.dictionary.specs.Homes.{home}
-use Rattle.dictionary.specs.Reading.{slot}
+use Rattle.dictionary.specs.Dependencies.{slot}
 use Rattle.dictionary.specs.Slots.{slot_same, standing, stands, stands_of}
 use Rattle.dictionary.proofs.SlotLaws.{listed_stand, slot_same-equal}
 
@@ -113,12 +113,12 @@ same_overrides : (d : Tree) (a b : Answered) → AnswersFit d a → AnswersFit d
     → IsTrue (list_all (same_override a b) (standing d a)) → IsTrue (list_all (same_override a b) (standing d b)) → (s : Slot) → value_of Override b s ≡ value_of Override a s
 same_overrides d a b fa fb ha hb s = by (value_of Override a s) (value_of Override b s) refl refl
   where
-    told : IsTrue (same_override a b s) → value_of Override b s ≡ value_of Override a s
-    told h = sym (same_option value_same (λ v w. (value_same-Decides v w).0) (value_of Override a s) (value_of Override b s) h)
+    shown : IsTrue (same_override a b s) → value_of Override b s ≡ value_of Override a s
+    shown h = sym (same_option value_same (λ v w. (value_same-Decides v w).0) (value_of Override a s) (value_of Override b s) h)
 
     by : (o p : Option Value) → value_of Override a s ≡ o → value_of Override b s ≡ p → value_of Override b s ≡ value_of Override a s
-    by (Some v) p e k = told (test_standing d a (same_override a b) ha s (is_placed d a fa Override s v e))
-    by None (Some w) e k = told (test_standing d b (same_override a b) hb s (is_placed d b fb Override s w k))
+    by (Some v) p e k = shown (test_standing d a (same_override a b) ha s (is_placed d a fa Override s v e))
+    by None (Some w) e k = shown (test_standing d b (same_override a b) hb s (is_placed d b fb Override s w k))
     by None None e k = k ∙ sym e
 
 given_parts : (a b : Answered) (s : Slot) → IsTrue (keeps_given a b s) → IsTrue (is_kept value_same (value_of Answer a s) (value_of Answer b s)) × IsTrue (is_kept bytes_eq (map.get a.lists s.fact) (map.get b.lists s.fact))
@@ -126,15 +126,15 @@ given_parts a b s h = both (is_kept value_same (value_of Answer a s) (value_of A
 
 kept_answers : (d : Tree) (a b : Answered) → AnswersFit d a → IsTrue (list_all (keeps_given a b) (standing d a)) → (s : Slot) (v : Value) → value_of Answer a s ≡ Some v → value_of Answer b s ≡ Some v
 kept_answers d a b fits h s v e =
-    let told = test_standing d a (keeps_given a b) h s (is_placed d a fits Answer s v e) in
-    kept_equal value_same value_same-Decides (value_of Answer a s) (value_of Answer b s) (given_parts a b s told).0 v e
+    let shown = test_standing d a (keeps_given a b) h s (is_placed d a fits Answer s v e) in
+    kept_equal value_same value_same-Decides (value_of Answer a s) (value_of Answer b s) (given_parts a b s shown).0 v e
 
 kept_lists : (names : List (List ℕ)) (d : Accepted) → IsAccepted names d → (a b : Answered) → AnswersFit d.tree a → IsTrue (list_all (keeps_given a b) (standing d.tree a)) → (c : ℕ) (ms : List ℕ)
     → map.get a.lists c ≡ Some ms → map.get b.lists c ≡ Some ms
 kept_lists names d accepted a b fits h c ms e =
     let there = list_stands names d accepted a c (fits.lists c (rw e refl)) in
-    let told = test_standing d.tree a (keeps_given a b) h (slot c 0) there in
-    kept_equal bytes_eq bytes_eq-Decides (map.get a.lists c) (map.get b.lists c) (given_parts a b (slot c 0) told).1 ms e
+    let shown = test_standing d.tree a (keeps_given a b) h (slot c 0) there in
+    kept_equal bytes_eq bytes_eq-Decides (map.get a.lists c) (map.get b.lists c) (given_parts a b (slot c 0) shown).1 ms e
 
 overrides_pass : (a b : Answered) → Extends a b → (s : Slot) → IsTrue (same_override a b s)
 overrides_pass a b h s = rw (h.overrides s) (equal_same value_same value_same-Decides (value_of Override a s))

@@ -42,9 +42,9 @@ some_there fact (m ∷ ms) h = at (is_of fact m) h (some_there fact ms)
     at false h rest = rest h
 
 by_parts : (any all equal : Bool) (p : Type 0) → (all ≡ false → IsTrue any) → (IsTrue equal ↔ p) → IsTrue (not all || (any && equal)) ↔ (IsTrue any × (IsTrue all → p))
-by_parts any false equal p some told = (λ h. (some refl, λ k. absurd (cc)), λ h. refl)
-by_parts true true equal p some told = (λ h. (refl, λ k. told.0 h), λ h. told.1 (h.1 refl))
-by_parts false true equal p some told = (λ h. absurd (cc), λ h. absurd (let no : false ≡ true = h.0 in cc))
+by_parts any false equal p some shown = (λ h. (some refl, λ k. absurd (cc)), λ h. refl)
+by_parts true true equal p some shown = (λ h. (refl, λ k. shown.0 h), λ h. shown.1 (h.1 refl))
+by_parts false true equal p some shown = (λ h. absurd (cc), λ h. absurd (let no : false ≡ true = h.0 in cc))
 
 pub feeds_by_mentions : (d : Tree) (t s : Slot) → IsTrue (feeds d t s) ↔ (IsTrue (list_any (is_of t.fact) (mentions_of d s.fact)) × (IsTrue (are_same t.fact (mentions_of d s.fact)) → t.member ≡ s.member))
 feeds_by_mentions d t s =

@@ -26,7 +26,7 @@ use Rattle.dictionary.specs.Extension.{Extends, IsExtension}
 use Rattle.dictionary.specs.Final.{is_complete_in, is_final}
 use Rattle.dictionary.specs.Homes.{home}
 use Rattle.dictionary.specs.Plain.{answer_result, at_fact, body, conditional_body, expression, given_value, main_result, open_list, or_override, or_placeholder, plain, rank, slot_result, table}
-use Rattle.dictionary.specs.Reading.{Look}
+use Rattle.dictionary.specs.Dependencies.{Results}
 use Rattle.dictionary.specs.Slots.{is_member, stands, stands_of}
 use Rattle.dictionary.specs.Steady.{body_graph, body_mentions, body_untested, conditional_untested, option_untested, steady}
 use Rattle.dictionary.proofs.KeepsLaws.{KeepsMaybe, KeepsOf, OfFact, expression_keeps}
@@ -101,18 +101,18 @@ override_keeps : (o : Option Value) (r r' : Res) → (is_some o ≡ false → Ke
 override_keeps None r r' h = h refl
 override_keeps (Some v) r r' h = kept_itself (Complete v)
 
-main_keeps : (P : ℕ → Type 0) (d : Tree) (a b : Answered) → Extends a b → (look look' : Look) → KeepsOf P look look' → (s : Slot) (stated : Stated) (main : Option Source)
-    → (is_some (value_of Override a s) ≡ false → BodyIs P d s.fact main) → Keeps (main_result d a look s stated main) (main_result d b look' s stated main)
-main_keeps P d a b ext look look' h s stated None is = given_keeps a b ext s stated
-main_keeps P d a b ext look look' h s stated (Some t) is =
-    rw (ext.overrides s) (override_keeps (value_of Override a s) (expression d look s t) (expression d look' s t) (λ e. expression_keeps P d look look' h s t (is e).0 (is e).1))
+main_keeps : (P : ℕ → Type 0) (d : Tree) (a b : Answered) → Extends a b → (results results' : Results) → KeepsOf P results results' → (s : Slot) (stated : Stated) (main : Option Source)
+    → (is_some (value_of Override a s) ≡ false → BodyIs P d s.fact main) → Keeps (main_result d a results s stated main) (main_result d b results' s stated main)
+main_keeps P d a b ext results results' h s stated None is = given_keeps a b ext s stated
+main_keeps P d a b ext results results' h s stated (Some t) is =
+    rw (ext.overrides s) (override_keeps (value_of Override a s) (expression d results s t) (expression d results' s t) (λ e. expression_keeps P d results results' h s t (is e).0 (is e).1))
 
-placeholder_keeps : (d : Tree) (look look' : Look) (s : Slot) (p : Option Source) (r r' : Res) → Keeps r r' → Keeps (or_placeholder d look s p r) (or_placeholder d look' s p r')
-placeholder_keeps d look look' s None r r' k = k
-placeholder_keeps d look look' s (Some t) (Complete w) r' k = rw (k.keeps w refl) (kept_itself (Complete w))
-placeholder_keeps d look look' s (Some t) (Placeholder w) r' k = record { keeps = λ v e. absurd (cc) }
-placeholder_keeps d look look' s (Some t) Incomplete r' k = record { keeps = λ v e. absurd (down-never-complete (expression d look s t) v e) }
-placeholder_keeps d look look' s (Some t) (Fault fault) r' k = record { keeps = λ v e. absurd (cc) }
+placeholder_keeps : (d : Tree) (results results' : Results) (s : Slot) (p : Option Source) (r r' : Res) → Keeps r r' → Keeps (or_placeholder d results s p r) (or_placeholder d results' s p r')
+placeholder_keeps d results results' s None r r' k = k
+placeholder_keeps d results results' s (Some t) (Complete w) r' k = rw (k.keeps w refl) (kept_itself (Complete w))
+placeholder_keeps d results results' s (Some t) (Placeholder w) r' k = record { keeps = λ v e. absurd (cc) }
+placeholder_keeps d results results' s (Some t) Incomplete r' k = record { keeps = λ v e. absurd (down-never-complete (expression d results s t) v e) }
+placeholder_keeps d results results' s (Some t) (Fault fault) r' k = record { keeps = λ v e. absurd (cc) }
 
 -- ---- slots that stand stay
 
@@ -146,14 +146,14 @@ not_overridden : (x y : Bool) → IsTrue (x || y) → x ≡ false → IsTrue y
 not_overridden true y h e = absurd (cc)
 not_overridden false y h e = h
 
-step_keeps : (names : List (List ℕ)) (d : Accepted) → IsAccepted names d → (a b : Answered) → Extends a b → (low : Bool) (look look' : Look) → KeepsOf (IsSteadyFact d) look look' → (s : Slot) → IsFinalSlot d a s
+step_keeps : (names : List (List ℕ)) (d : Accepted) → IsAccepted names d → (a b : Answered) → Extends a b → (low : Bool) (results results' : Results) → KeepsOf (IsSteadyFact d) results results' → (s : Slot) → IsFinalSlot d a s
     → (o : Option Fact) → fact_at d.tree.facts s.fact ≡ o
-    → KeepsMaybe (at_fact o None (λ f. if low && stands d.tree a s then Some (slot_result d.tree a look s f) else None)) (at_fact o None (λ f. if low && stands d.tree b s then Some (slot_result d.tree b look' s f) else None))
-step_keeps names d accepted a b ext low look look' h s final None e = λ v x. absurd (cc)
-step_keeps names d accepted a b ext low look look' h s final (Some f) e =
-    row_keeps low (stands d.tree a s) (stands d.tree b s) (slot_result d.tree a look s f) (slot_result d.tree b look' s f) (standing_stays d.tree a b ext s)
-    (placeholder_keeps d.tree look look' s f.placeholder (main_result d.tree a look s f.stated (body f)) (main_result d.tree b look' s f.stated (body f))
-    (main_keeps (IsSteadyFact d) d.tree a b ext look look' h s f.stated (body f)
+    → KeepsMaybe (at_fact o None (λ f. if low && stands d.tree a s then Some (slot_result d.tree a results s f) else None)) (at_fact o None (λ f. if low && stands d.tree b s then Some (slot_result d.tree b results' s f) else None))
+step_keeps names d accepted a b ext low results results' h s final None e = λ v x. absurd (cc)
+step_keeps names d accepted a b ext low results results' h s final (Some f) e =
+    row_keeps low (stands d.tree a s) (stands d.tree b s) (slot_result d.tree a results s f) (slot_result d.tree b results' s f) (standing_stays d.tree a b ext s)
+    (placeholder_keeps d.tree results results' s f.placeholder (main_result d.tree a results s f.stated (body f)) (main_result d.tree b results' s f.stated (body f))
+    (main_keeps (IsSteadyFact d) d.tree a b ext results results' h s f.stated (body f)
     (λ off. steady_body names d accepted s.fact f e (not_overridden (is_some (value_of Override a s)) (steady d s.fact) final off))))
 
 pub tables_keep : (names : List (List ℕ)) (d : Accepted) → IsAccepted names d → (a b : Answered) → Extends a b → (n : ℕ) (s : Slot) → IsFinalSlot d a s → KeepsMaybe (table d a n s) (table d b n s)

@@ -29,7 +29,7 @@ use Rattle.evaluation.specs.Reads.{field_at, sum_over, through_item}
 use Rattle.common_lemmas.proofs.Bools.{both}
 use Rattle.evaluation.proofs.Mentions.{all-left, all-right, over_keeps_in}
 use Rattle.dictionary.specs.Plain.{expression}
-use Rattle.dictionary.specs.Reading.{Look, Place, collection, dependency, field_type, outermost, read_by, read_result, result_at, slot, source_env, source_result}
+use Rattle.dictionary.specs.Dependencies.{Results, EvalPosition, collection, dependency, field_type, outermost, read_by, read_result, result_at, slot, source_env, source_result}
 use Rattle.dictionary.proofs.MentionedLaws.{ReadIs, SourceIs, base_under, each_mentioned}
 
 -- ---- of each mention's fact
@@ -52,16 +52,16 @@ abbrev pub KeepsMaybe : Option Res → Option Res → Type 0
 KeepsMaybe o p = (v : Value) → o ≡ Some (Complete v) → p ≡ Some (Complete v)
 
 -- of the slots of these facts
-abbrev pub KeepsOf : (ℕ → Type 0) → Look → Look → Type 0
-KeepsOf P look look' = (s : Slot) → P s.fact → KeepsMaybe (look s) (look' s)
+abbrev pub KeepsOf : (ℕ → Type 0) → Results → Results → Type 0
+KeepsOf P results results' = (s : Slot) → P s.fact → KeepsMaybe (results s) (results' s)
 
 at_keeps : (o p : Option Res) → KeepsMaybe o p → Keeps (unwrap_or o Incomplete) (unwrap_or p Incomplete)
 at_keeps None p h = record { keeps = λ v e. absurd (cc) }
 at_keeps (Some r) p h = record { keeps = λ v e. rw (h v (ap (λ x. Some x) e)) refl }
 
-result_keeps : (P : ℕ → Type 0) (look look' : Look) → KeepsOf P look look' → (target : Option ℕ) → IsMaybe P target → (m : ℕ) → Keeps (result_at look target m) (result_at look' target m)
-result_keeps P look look' h None is m = kept_itself Incomplete
-result_keeps P look look' h (Some fact) is m = at_keeps (look (slot fact m)) (look' (slot fact m)) (h (slot fact m) is)
+result_keeps : (P : ℕ → Type 0) (results results' : Results) → KeepsOf P results results' → (target : Option ℕ) → IsMaybe P target → (m : ℕ) → Keeps (result_at results target m) (result_at results' target m)
+result_keeps P results results' h None is m = kept_itself Incomplete
+result_keeps P results results' h (Some fact) is m = at_keeps (results (slot fact m)) (results' (slot fact m)) (h (slot fact m) is)
 
 -- ---- nodes that read
 
@@ -72,54 +72,54 @@ field_keeps f g h _ = kept_itself Incomplete
 item_keeps : (r r' : Res) (f g : ℕ → Res) → Keeps r r' → ((m : ℕ) → Keeps (f m) (g m)) → Keeps (through_item r f) (through_item r' g)
 item_keeps r r' f g k h = through_keeps r r' (field_at f) (field_at g) k (field_keeps f g h)
 
-dependency_keeps : (P : ℕ → Type 0) (look look' : Look) → KeepsOf P look look' → (t : Targets) → IsMaybe P t.first → IsMaybe P t.second → (at : Place) (path : UsePath)
-    → Keeps (dependency look t at path) (dependency look' t at path)
-dependency_keeps P look look' h t first second at (Global n) = result_keeps P look look' h t.first first 0
-dependency_keeps P look look' h t first second at (Sibling n) = result_keeps P look look' h t.first first at.own
-dependency_keeps P look look' h t first second at (Inner n) = result_keeps P look look' h t.first first at.inner
-dependency_keeps P look look' h t first second at (EachOf n m) = kept_itself Incomplete
-dependency_keeps P look look' h t first second at (Through n m) =
-    item_keeps (result_at look t.first 0) (result_at look' t.first 0) (result_at look t.second) (result_at look' t.second)
-    (result_keeps P look look' h t.first first 0) (result_keeps P look look' h t.second second)
-dependency_keeps P look look' h t first second at (SiblingThrough n m) =
-    item_keeps (result_at look t.first at.own) (result_at look' t.first at.own) (result_at look t.second) (result_at look' t.second)
-    (result_keeps P look look' h t.first first at.own) (result_keeps P look look' h t.second second)
+dependency_keeps : (P : ℕ → Type 0) (results results' : Results) → KeepsOf P results results' → (t : Targets) → IsMaybe P t.first → IsMaybe P t.second → (at : EvalPosition) (path : UsePath)
+    → Keeps (dependency results t at path) (dependency results' t at path)
+dependency_keeps P results results' h t first second at (Global n) = result_keeps P results results' h t.first first 0
+dependency_keeps P results results' h t first second at (Sibling n) = result_keeps P results results' h t.first first at.own
+dependency_keeps P results results' h t first second at (Inner n) = result_keeps P results results' h t.first first at.inner
+dependency_keeps P results results' h t first second at (EachOf n m) = kept_itself Incomplete
+dependency_keeps P results results' h t first second at (Through n m) =
+    item_keeps (result_at results t.first 0) (result_at results' t.first 0) (result_at results t.second) (result_at results' t.second)
+    (result_keeps P results results' h t.first first 0) (result_keeps P results results' h t.second second)
+dependency_keeps P results results' h t first second at (SiblingThrough n m) =
+    item_keeps (result_at results t.first at.own) (result_at results' t.first at.own) (result_at results t.second) (result_at results' t.second)
+    (result_keeps P results results' h t.first first at.own) (result_keeps P results results' h t.second second)
 
 sum_keeps : (t : FactType) (r r' : Res) (f g : ℕ → Res) → Keeps r r' → ((m : ℕ) → Keeps (f m) (g m)) → Keeps (sum_over t r f) (sum_over t r' g)
 sum_keeps types.Dollar r r' f g k h = fields_keep sum_of_dollars r r' f g k h
 sum_keeps _ r r' f g k h = fields_keep sum_of_ints r r' f g k h
 
-read_by_keeps : (P : ℕ → Type 0) (d : Tree) (look look' : Look) → KeepsOf P look look' → (t : Targets) → IsMaybe P t.first → IsMaybe P t.second → (at : Place) (path : UsePath) (op : ReadOp)
-    → IsTrue (is_value_read op) → Keeps (read_by op d look t at path) (read_by op d look' t at path)
-read_by_keeps P d look look' h t first second at path read_op.Dependency is = dependency_keeps P look look' h t first second at path
-read_by_keeps P d look look' h t first second at path read_op.IsComplete is = absurd (cc)
-read_by_keeps P d look look' h t first second at path read_op.CollectionSize is =
-    strict_keeps (on_one size_value) (collection look t ∷ []) (collection look' t ∷ []) (result_keeps P look look' h t.first first 0, tt)
-read_by_keeps P d look look' h t first second at path read_op.CollectionSum is =
-    sum_keeps (field_type d t) (collection look t) (collection look' t) (result_at look t.second) (result_at look' t.second)
-    (result_keeps P look look' h t.first first 0) (result_keeps P look look' h t.second second)
-read_by_keeps P d look look' h t first second at path read_op.Count is =
-    fields_keep (λ (fields : List Value). Ok (Int (pos (count_by truth fields)))) (collection look t) (collection look' t) (result_at look t.second) (result_at look' t.second)
-    (result_keeps P look look' h t.first first 0) (result_keeps P look look' h t.second second)
+read_by_keeps : (P : ℕ → Type 0) (d : Tree) (results results' : Results) → KeepsOf P results results' → (t : Targets) → IsMaybe P t.first → IsMaybe P t.second → (at : EvalPosition) (path : UsePath) (op : ReadOp)
+    → IsTrue (is_value_read op) → Keeps (read_by op d results t at path) (read_by op d results' t at path)
+read_by_keeps P d results results' h t first second at path read_op.Dependency is = dependency_keeps P results results' h t first second at path
+read_by_keeps P d results results' h t first second at path read_op.IsComplete is = absurd (cc)
+read_by_keeps P d results results' h t first second at path read_op.CollectionSize is =
+    strict_keeps (on_one size_value) (collection results t ∷ []) (collection results' t ∷ []) (result_keeps P results results' h t.first first 0, tt)
+read_by_keeps P d results results' h t first second at path read_op.CollectionSum is =
+    sum_keeps (field_type d t) (collection results t) (collection results' t) (result_at results t.second) (result_at results' t.second)
+    (result_keeps P results results' h t.first first 0) (result_keeps P results results' h t.second second)
+read_by_keeps P d results results' h t first second at path read_op.Count is =
+    fields_keep (λ (fields : List Value). Ok (Int (pos (count_by truth fields)))) (collection results t) (collection results' t) (result_at results t.second) (result_at results' t.second)
+    (result_keeps P results results' h t.first first 0) (result_keeps P results results' h t.second second)
 
-read_keeps : (P : ℕ → Type 0) (d : Tree) (fact : ℕ) (look look' : Look) → KeepsOf P look look' → (at : Place) (op : ReadOp) (path : Option UsePath)
-    → IsTrue (is_value_read op) → AllOf (OfFact P) (use_mentions d fact at.base path) → Keeps (read_result d look fact at op path) (read_result d look' fact at op path)
-read_keeps P d fact look look' h at op None is m = kept_itself Incomplete
-read_keeps P d fact look look' h at op (Some path) is m =
+read_keeps : (P : ℕ → Type 0) (d : Tree) (fact : ℕ) (results results' : Results) → KeepsOf P results results' → (at : EvalPosition) (op : ReadOp) (path : Option UsePath)
+    → IsTrue (is_value_read op) → AllOf (OfFact P) (use_mentions d fact at.base path) → Keeps (read_result d results fact at op path) (read_result d results' fact at op path)
+read_keeps P d fact results results' h at op None is m = kept_itself Incomplete
+read_keeps P d fact results results' h at op (Some path) is m =
     let t = targets d fact at.base path in
     let firsts = mention_of (is_same path) t.first in
     let seconds = mention_of false t.second in
-    read_by_keeps P d look look' h t
+    read_by_keeps P d results results' h t
     (of_target P (is_same path) t.first (all-left (OfFact P) firsts seconds m))
     (of_target P false t.second (all-right (OfFact P) firsts seconds m))
     at path op is
 
-source_keeps : (P : ℕ → Type 0) (d : Tree) (fact : ℕ) (look look' : Look) → KeepsOf P look look' → (at : Place) (path : Option UsePath)
-    → AllOf (OfFact P) (use_mentions d fact at.base path) → Keeps (source_result d look fact at path) (source_result d look' fact at path)
-source_keeps P d fact look look' h at None m = kept_itself Incomplete
-source_keeps P d fact look look' h at (Some path) m =
+source_keeps : (P : ℕ → Type 0) (d : Tree) (fact : ℕ) (results results' : Results) → KeepsOf P results results' → (at : EvalPosition) (path : Option UsePath)
+    → AllOf (OfFact P) (use_mentions d fact at.base path) → Keeps (source_result d results fact at path) (source_result d results' fact at path)
+source_keeps P d fact results results' h at None m = kept_itself Incomplete
+source_keeps P d fact results results' h at (Some path) m =
     let t = targets d fact at.base path in
-    result_keeps P look look' h t.first (of_target P (is_same path) t.first (all-left (OfFact P) (mention_of (is_same path) t.first) (mention_of false t.second) m)) 0
+    result_keeps P results results' h t.first (of_target P (is_same path) t.first (all-left (OfFact P) (mention_of (is_same path) t.first) (mention_of false t.second) m)) 0
 
 -- ---- each read passes a test, and what holds of it holds too
 
@@ -156,24 +156,24 @@ mutual
 abbrev KeptRead : Tree → ℕ → (ℕ → Type 0) → ℕ → Reading → Type 0
 KeptRead d fact P base r = IsTrue (is_value_read r.0) × ReadIs d fact (OfFact P) base r
 
-abbrev HasBase : ℕ → Place → Type 0
+abbrev HasBase : ℕ → EvalPosition → Type 0
 HasBase base at = at.base ≡ base
 
-env_keeps : (P : ℕ → Type 0) (d : Tree) (fact : ℕ) (look look' : Look) → KeepsOf P look look'
-    → KeepsIn (KeptRead d fact P) (SourceIs d fact (OfFact P)) (base_under d fact) HasBase (source_env d look fact) (source_env d look' fact)
-env_keeps P d fact look look' h = record {
+env_keeps : (P : ℕ → Type 0) (d : Tree) (fact : ℕ) (results results' : Results) → KeepsOf P results results'
+    → KeepsIn (KeptRead d fact P) (SourceIs d fact (OfFact P)) (base_under d fact) HasBase (source_env d results fact) (source_env d results' fact)
+env_keeps P d fact results results' h = record {
   constant = λ c. refl;
-  reads = λ b at e r k. read_keeps P d fact look look' h at r.0 r.1.path k.0 (subst (λ (base : ℕ). AllOf (OfFact P) (use_mentions d fact base r.1.path)) (sym e) k.1);
-  source = λ b at e u k. source_keeps P d fact look look' h at u.path (subst (λ (base : ℕ). AllOf (OfFact P) (use_mentions d fact base u.path)) (sym e) k);
+  reads = λ b at e r k. read_keeps P d fact results results' h at r.0 r.1.path k.0 (subst (λ (base : ℕ). AllOf (OfFact P) (use_mentions d fact base r.1.path)) (sym e) k.1);
+  source = λ b at e u k. source_keeps P d fact results results' h at u.path (subst (λ (base : ℕ). AllOf (OfFact P) (use_mentions d fact base u.path)) (sym e) k);
   enter = λ b at e u k m. refl;
   reach = λ b at e u k m. ap (λ (base : ℕ). base_under d fact base u) e;
 }
 
 -- of an expression that mentions such facts alone
-pub expression_keeps : (P : ℕ → Type 0) (d : Tree) (look look' : Look) → KeepsOf P look look' → (s : Slot) (t : Source) → IsTrue (has_no_complete_test t) → AllOf (OfFact P) (mentions d s.fact 0 t)
-    → Keeps (expression d look s t) (expression d look' s t)
-expression_keeps P d look look' h s t untested m =
-    over_keeps_in (KeptRead d s.fact P) (SourceIs d s.fact (OfFact P)) (base_under d s.fact) HasBase (source_env d look s.fact) (source_env d look' s.fact)
-    (env_keeps P d s.fact look look' h) t 0
+pub expression_keeps : (P : ℕ → Type 0) (d : Tree) (results results' : Results) → KeepsOf P results results' → (s : Slot) (t : Source) → IsTrue (has_no_complete_test t) → AllOf (OfFact P) (mentions d s.fact 0 t)
+    → Keeps (expression d results s t) (expression d results' s t)
+expression_keeps P d results results' h s t untested m =
+    over_keeps_in (KeptRead d s.fact P) (SourceIs d s.fact (OfFact P)) (base_under d s.fact) HasBase (source_env d results s.fact) (source_env d results' s.fact)
+    (env_keeps P d s.fact results results' h) t 0
     (each_tested (λ r. is_value_read r.0) (ReadIs d s.fact (OfFact P)) (SourceIs d s.fact (OfFact P)) (base_under d s.fact) t 0 untested (each_mentioned d s.fact (OfFact P) t 0 m))
     (outermost s.member) refl

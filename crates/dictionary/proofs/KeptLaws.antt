@@ -4,7 +4,7 @@ use Rattle.std.specs.Prelude.{◌↔◌, option_and_then, unwrap_or, IfErr, IfOk
 use Rattle.std.proofs.lemmas.List.{get_or_default, length-map}
 use Rattle.dict_tree.specs.Facts.{Fact}
 use Rattle.dict_tree.specs.Dictionary.{Dictionary as Tree}
-use Rattle.dict_tree.specs.DictReading.{BytesGive}
+use Rattle.dict_tree.specs.DictParsing.{BytesGive}
 use Rattle.dict_tree.specs.Finding.{IsNumber}
 use Rattle.dict_tree.specs.Targets.{find_global, member_collection}
 use Rattle.dict_order.specs.Ranks.{rank_of}
@@ -13,7 +13,7 @@ use Rattle.dictionary.specs.Accepted.{Accepted, IsAccepted, Kept, Named, accepte
 use Rattle.dictionary.specs.Faults.{IsFault, IsFaultOf, Refuses}
 use Rattle.dictionary.specs.Homes.{fact_home, home, homes}
 use Rattle.dictionary.specs.Steady.{steady_by_rank}
-use Rattle.dictionary.specs.SteadyReading.{TellsSteady, known_at}
+use Rattle.dictionary.specs.SteadyDependencies.{TellsSteady, known_at}
 use Rattle.dictionary.specs.declared.fault.DictFault.{DictFault}
 use Rattle.dictionary.proofs.FaultLaws.{refused_read}
 

@@ -22,7 +22,7 @@ use Rattle.dictionary.specs.Accepted.{Accepted}
 use Rattle.dictionary.specs.Extension.{extends}
 use Rattle.dictionary.specs.Final.{is_final}
 use Rattle.dictionary.specs.Plain.{plain, table}
-use Rattle.dictionary.specs.Reading.{slot}
+use Rattle.dictionary.specs.Dependencies.{slot}
 use Rattle.dictionary.specs.Slots.{standing}
 use Rattle.dictionary.specs.Steady.{steady_by_rank}
 use Rattle.dictionary.specs.Touched.{touched}

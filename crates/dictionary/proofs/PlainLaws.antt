@@ -16,7 +16,7 @@ use Rattle.answers.specs.Answered.{Answered}
 use Rattle.dictionary.specs.Accepted.{Accepted, IsAccepted}
 use Rattle.dictionary.specs.Homes.{home}
 use Rattle.dictionary.specs.Plain.{HasKnown, IsPlainBelow, at_fact, plain, plain_step, rank, slot_result, table}
-use Rattle.dictionary.specs.Reading.{Look, Place, slot}
+use Rattle.dictionary.specs.Dependencies.{Results, EvalPosition, slot}
 use Rattle.dictionary.specs.Slots.{stands, stands_of}
 use Rattle.dictionary.proofs.RankLaws.{IsLower, IsLowerMention, lower_uses}
 use Rattle.dictionary.proofs.ReadAgreement.{AgreeOn, AgreeUnder, IsSameAt, slot_same}
@@ -24,27 +24,27 @@ use Rattle.common_lemmas.proofs.Options.{nothing}
 
 -- ---- maps that agree on the facts of lower rank
 
-abbrev pub AgreeBelow : Accepted → ℕ → Look → Look → Type 0
-AgreeBelow d fact look look' = (s : Slot) → IsLower d fact s.fact → look s ≡ look' s
+abbrev pub AgreeBelow : Accepted → ℕ → Results → Results → Type 0
+AgreeBelow d fact results results' = (s : Slot) → IsLower d fact s.fact → results s ≡ results' s
 
-same_target : (d : Accepted) (fact : ℕ) (look look' : Look) → AgreeBelow d fact look look' → (same : Bool) (target : Option ℕ) → AllOf (IsLowerMention d fact) (mention_of same target) → (m : ℕ) → IsSameAt look look' target m
-same_target d fact look look' h same None k m = refl
-same_target d fact look look' h same (Some n) k m = ap (λ r. unwrap_or r Incomplete) (h (slot n m) k.0)
+same_target : (d : Accepted) (fact : ℕ) (results results' : Results) → AgreeBelow d fact results results' → (same : Bool) (target : Option ℕ) → AllOf (IsLowerMention d fact) (mention_of same target) → (m : ℕ) → IsSameAt results results' target m
+same_target d fact results results' h same None k m = refl
+same_target d fact results results' h same (Some n) k m = ap (λ r. unwrap_or r Incomplete) (h (slot n m) k.0)
 
-pub agree_under : (d : Accepted) (fact : ℕ) (look look' : Look) → AgreeBelow d fact look look' → AgreeUnder d.tree fact (IsLowerMention d fact) (λ at. Unit {0}) look look'
-agree_under d fact look look' h = record { reads = reads; enter = λ at j path k m i. tt }
+pub agree_under : (d : Accepted) (fact : ℕ) (results results' : Results) → AgreeBelow d fact results results' → AgreeUnder d.tree fact (IsLowerMention d fact) (λ at. Unit {0}) results results'
+agree_under d fact results results' h = record { reads = reads; enter = λ at j path k m i. tt }
   where
-    reads : (at : Place) → Unit {0} → (path : UsePath) → AllOf (IsLowerMention d fact) (use_mentions d.tree fact at.base (Some path)) → AgreeOn look look' (targets d.tree fact at.base path) at path
+    reads : (at : EvalPosition) → Unit {0} → (path : UsePath) → AllOf (IsLowerMention d fact) (use_mentions d.tree fact at.base (Some path)) → AgreeOn results results' (targets d.tree fact at.base path) at path
     reads at j path k =
         let t = targets d.tree fact at.base path in
-        let first = same_target d fact look look' h (is_same path) t.first (all-left (IsLowerMention d fact) (mention_of (is_same path) t.first) (mention_of false t.second) k) in
-        let second = same_target d fact look look' h false t.second (all-right (IsLowerMention d fact) (mention_of (is_same path) t.first) (mention_of false t.second) k) in
+        let first = same_target d fact results results' h (is_same path) t.first (all-left (IsLowerMention d fact) (mention_of (is_same path) t.first) (mention_of false t.second) k) in
+        let second = same_target d fact results results' h false t.second (all-right (IsLowerMention d fact) (mention_of (is_same path) t.first) (mention_of false t.second) k) in
         record { once = first 0; first = first _; second = λ k e m i. second m }
 
 -- a slot's result rests on the facts of lower rank alone
-pub slot_agrees : (names : List (List ℕ)) (d : Accepted) → IsAccepted names d → (a : Answered) (look look' : Look) (s : Slot) (f : Fact) → fact_at d.tree.facts s.fact ≡ Some f → AgreeBelow d s.fact look look' → slot_result d.tree a look s f ≡ slot_result d.tree a look' s f
-slot_agrees names d accepted a look look' s f e h =
-    slot_same d.tree a a look look' s (IsLowerMention d s.fact) (λ at. Unit {0}) (agree_under d s.fact look look' h) tt f (record { value = refl; override = refl }) (lower_uses names d accepted s.fact f e)
+pub slot_agrees : (names : List (List ℕ)) (d : Accepted) → IsAccepted names d → (a : Answered) (results results' : Results) (s : Slot) (f : Fact) → fact_at d.tree.facts s.fact ≡ Some f → AgreeBelow d s.fact results results' → slot_result d.tree a results s f ≡ slot_result d.tree a results' s f
+slot_agrees names d accepted a results results' s f e h =
+    slot_same d.tree a a results results' s (IsLowerMention d s.fact) (λ at. Unit {0}) (agree_under d s.fact results results' h) tt f (record { value = refl; override = refl }) (lower_uses names d accepted s.fact f e)
 
 -- ---- cases of a fact
 
@@ -64,12 +64,12 @@ below r n h = grind (arith, nat_tests)
 
 module _ (names : List (List ℕ)) (d : Accepted) (accepted : IsAccepted names d) (a : Answered) where
   -- one row, over any map that agrees with the table below
-  row : (n : ℕ) (s : Slot) (look : Look) → rank d s.fact < suc n → AgreeBelow d s.fact (table d a n) look → table d a (suc n) s ≡ plain_step d a look s
+  row : (n : ℕ) (s : Slot) (results : Results) → rank d s.fact < suc n → AgreeBelow d s.fact (table d a n) results → table d a (suc n) s ≡ plain_step d a results s
   unfolding table
-  row n s look low h =
+  row n s results low h =
       at_fact_same (fact_at d.tree.facts s.fact) None _ _ (λ f e.
-      if_both (nat_lt (rank d s.fact) (suc n)) (stands d.tree a s) (Some (slot_result d.tree a (table d a n) s f)) (Some (slot_result d.tree a look s f))
-      (below (rank d s.fact) n low) (ap (λ (r : Res). Some r) (slot_agrees names d accepted a (table d a n) look s f e h)))
+      if_both (nat_lt (rank d s.fact) (suc n)) (stands d.tree a s) (Some (slot_result d.tree a (table d a n) s f)) (Some (slot_result d.tree a results s f))
+      (below (rank d s.fact) n low) (ap (λ (r : Res). Some r) (slot_agrees names d accepted a (table d a n) results s f e h)))
 
   tables_agree : (n m : ℕ) (s : Slot) → rank d s.fact < n → rank d s.fact < m → table d a n s ≡ table d a m s
   tables_agree zero m s h k = absurd (omega arith)
@@ -89,16 +89,16 @@ module _ (names : List (List ℕ)) (d : Accepted) (accepted : IsAccepted names d
 
   -- ---- maps that have plain evaluation below a rank
 
-  step_agrees : (look look' : Look) (s : Slot) → AgreeBelow d s.fact look look' → plain_step d a look s ≡ plain_step d a look' s
-  step_agrees look look' s h = at_fact_same (fact_at d.tree.facts s.fact) None _ _ (λ f e. ap (λ (r : Res). if stands d.tree a s then Some r else None) (slot_agrees names d accepted a look look' s f e h))
+  step_agrees : (results results' : Results) (s : Slot) → AgreeBelow d s.fact results results' → plain_step d a results s ≡ plain_step d a results' s
+  step_agrees results results' s h = at_fact_same (fact_at d.tree.facts s.fact) None _ _ (λ f e. ap (λ (r : Res). if stands d.tree a s then Some r else None) (slot_agrees names d accepted a results results' s f e h))
 
-  pub step_over_lower : (look : Look) (s : Slot) → IsPlainBelow d a (rank d s.fact) look → plain_step d a look s ≡ plain d a s
-  step_over_lower look s h = step_agrees look (plain d a) s (λ t low. h t low.0 low.1) ∙ sym (plain_is_recursive s)
+  pub step_over_lower : (results : Results) (s : Slot) → IsPlainBelow d a (rank d s.fact) results → plain_step d a results s ≡ plain d a s
+  step_over_lower results s h = step_agrees results (plain d a) s (λ t low. h t low.0 low.1) ∙ sym (plain_is_recursive s)
 
   -- ---- known values
 
   abbrev IsStep : (Slot → Option Value) → Type 0
-  IsStep known = (s : Slot) (v : Value) → known s ≡ Some v → (look : Look) → HasKnown d known (rank d s.fact) look → plain_step d a look s ≡ Some (Complete v)
+  IsStep known = (s : Slot) (v : Value) → known s ≡ Some v → (results : Results) → HasKnown d known (rank d s.fact) results → plain_step d a results s ≡ Some (Complete v)
 
   known_below : (known : Slot → Option Value) → IsStep known → (n : ℕ) → HasKnown d known n (plain d a)
   known_below known step zero s v e low = absurd (omega arith)

@@ -26,13 +26,13 @@ use Rattle.evaluation.specs.Typed.{Domains, IsResOfType, IsTypedAt}
 use Rattle.evaluation.proofs.TypedLaws.{count-typed, down-type, size-typed, sum-typed}
 use Rattle.answers.specs.Answered.{Answered}
 use Rattle.dictionary.specs.Fits.{domains}
-use Rattle.dictionary.specs.Reading.{Look, Place, collection, dependency, read_by, read_result, result_at, slot, source_env, source_result}
+use Rattle.dictionary.specs.Dependencies.{Results, EvalPosition, collection, dependency, read_by, read_result, result_at, slot, source_env, source_result}
 use Rattle.dictionary.proofs.ConstantTypes.{constant_typed}
 use Rattle.dictionary.proofs.PlacedReads.{placed_types, suited}
 
 -- each result is of its fact's type
-abbrev pub IsTypedLook : Tree → Answered → Look → Type 0
-IsTypedLook d a look = (s : Slot) (r : Res) → look s ≡ Some r → (t : FactType) → type_at d s.fact ≡ Some t → IsResOfType (domains d a) r t
+abbrev pub AreTypedResults : Tree → Answered → Results → Type 0
+AreTypedResults d a results = (s : Slot) (r : Res) → results s ≡ Some r → (t : FactType) → type_at d s.fact ≡ Some t → IsResOfType (domains d a) r t
 
 -- the type of a target
 abbrev pub type_of_target : Tree → Option ℕ → Option FactType
@@ -44,9 +44,9 @@ or_incomplete : (dom : Domains) (o : Option Res) (t : FactType) → ((r : Res) �
 or_incomplete dom None t h = tt
 or_incomplete dom (Some r) t h = h r refl
 
-pub result_typed : (d : Tree) (a : Answered) (look : Look) → IsTypedLook d a look → (o : Option ℕ) (m : ℕ) (t : FactType) → type_of_target d o ≡ Some t → IsResOfType (domains d a) (result_at look o m) t
-result_typed d a look h None m t e = tt
-result_typed d a look h (Some n) m t e = or_incomplete (domains d a) (look (slot n m)) t (λ r k. h (slot n m) r k t e)
+pub result_typed : (d : Tree) (a : Answered) (results : Results) → AreTypedResults d a results → (o : Option ℕ) (m : ℕ) (t : FactType) → type_of_target d o ≡ Some t → IsResOfType (domains d a) (result_at results o m) t
+result_typed d a results h None m t e = tt
+result_typed d a results h (Some n) m t e = or_incomplete (domains d a) (results (slot n m)) t (λ r k. h (slot n m) r k t e)
 
 -- ---- through an item
 
@@ -107,23 +107,23 @@ base_by d o (Some b) e c k = list_target d o b e ∙ ap (λ (n : ℕ). Some (typ
 
 -- ---- a collection
 
-pub source_typed : (d : Tree) (a : Answered) (look : Look) → IsTypedLook d a look → (fact : ℕ) (at : Place) (path : Option UsePath) (c : ℕ) → known (condition_base d fact at.base path) ≡ Some c → IsResOfType (domains d a) (source_result d look fact at path) (types.Collection c)
-source_typed d a look h fact at None c e = tt
-source_typed d a look h fact at (Some path) c e =
+pub source_typed : (d : Tree) (a : Answered) (results : Results) → AreTypedResults d a results → (fact : ℕ) (at : EvalPosition) (path : Option UsePath) (c : ℕ) → known (condition_base d fact at.base path) ≡ Some c → IsResOfType (domains d a) (source_result d results fact at path) (types.Collection c)
+source_typed d a results h fact at None c e = tt
+source_typed d a results h fact at (Some path) c e =
     let first = first_target d fact at.base path in
-    result_typed d a look h first 0 (types.Collection c) (base_by d first (option_and_then (list_base_at d) first) refl c e)
+    result_typed d a results h first 0 (types.Collection c) (base_by d first (option_and_then (list_base_at d) first) refl c e)
 
 -- ---- the reads
 
-dependency_typed : (d : Tree) (a : Answered) (look : Look) → IsTypedLook d a look → (ts : Targets) (at : Place) (path : UsePath) (t : FactType) → target_type d Dependency (last_target path ts) ≡ Some t → IsResOfType (domains d a) (dependency look ts at path) t
-dependency_typed d a look h ts at (Global n) t e = result_typed d a look h ts.first 0 t (from_target d ts.first t e)
-dependency_typed d a look h ts at (Sibling n) t e = result_typed d a look h ts.first at.own t (from_target d ts.first t e)
-dependency_typed d a look h ts at (Inner n) t e = result_typed d a look h ts.first at.inner t (from_target d ts.first t e)
-dependency_typed d a look h ts at (Each n m) t e = tt
-dependency_typed d a look h ts at (Through n m) t e =
-    item_typed (domains d a) (result_at look ts.first 0) (result_at look ts.second) t (λ k. result_typed d a look h ts.second k t (from_target d ts.second t e))
-dependency_typed d a look h ts at (SiblingThrough n m) t e =
-    item_typed (domains d a) (result_at look ts.first at.own) (result_at look ts.second) t (λ k. result_typed d a look h ts.second k t (from_target d ts.second t e))
+dependency_typed : (d : Tree) (a : Answered) (results : Results) → AreTypedResults d a results → (ts : Targets) (at : EvalPosition) (path : UsePath) (t : FactType) → target_type d Dependency (last_target path ts) ≡ Some t → IsResOfType (domains d a) (dependency results ts at path) t
+dependency_typed d a results h ts at (Global n) t e = result_typed d a results h ts.first 0 t (from_target d ts.first t e)
+dependency_typed d a results h ts at (Sibling n) t e = result_typed d a results h ts.first at.own t (from_target d ts.first t e)
+dependency_typed d a results h ts at (Inner n) t e = result_typed d a results h ts.first at.inner t (from_target d ts.first t e)
+dependency_typed d a results h ts at (Each n m) t e = tt
+dependency_typed d a results h ts at (Through n m) t e =
+    item_typed (domains d a) (result_at results ts.first 0) (result_at results ts.second) t (λ k. result_typed d a results h ts.second k t (from_target d ts.second t e))
+dependency_typed d a results h ts at (SiblingThrough n m) t e =
+    item_typed (domains d a) (result_at results ts.first at.own) (result_at results ts.second) t (λ k. result_typed d a results h ts.second k t (from_target d ts.second t e))
 
 test_typed : (d : Tree) (a : Answered) (r : Res) (o : Option ℕ) (t : FactType) → target_type d IsComplete o ≡ Some t → IsResOfType (domains d a) (complete_test r) t
 test_typed d a r None t e = absurd cc
@@ -134,9 +134,9 @@ size_by dom r None h t e = absurd cc
 size_by dom r (Some (types.Collection c)) h t e = let same : types.Int ≡ t = cc in subst (IsResOfType dom (collection_size r)) same (size-typed dom r c (h c refl))
 size_by dom r (Some _) h t e = absurd cc
 
-size_typed : (d : Tree) (a : Answered) (look : Look) → IsTypedLook d a look → (o : Option ℕ) (t : FactType) → target_type d CollectionSize o ≡ Some t → IsResOfType (domains d a) (collection_size (result_at look o 0)) t
-size_typed d a look h None t e = absurd cc
-size_typed d a look h (Some n) t e = size_by (domains d a) (result_at look (Some n) 0) (type_at d n) (λ c k. result_typed d a look h (Some n) 0 (types.Collection c) k) t e
+size_typed : (d : Tree) (a : Answered) (results : Results) → AreTypedResults d a results → (o : Option ℕ) (t : FactType) → target_type d CollectionSize o ≡ Some t → IsResOfType (domains d a) (collection_size (result_at results o 0)) t
+size_typed d a results h None t e = absurd cc
+size_typed d a results h (Some n) t e = size_by (domains d a) (result_at results (Some n) 0) (type_at d n) (λ c k. result_typed d a results h (Some n) 0 (types.Collection c) k) t e
 
 sum_by : (dom : Domains) (source : Res) (field : ℕ → Res) (u : Option FactType) (t : FactType) → option_and_then field_sum_type u ≡ Some t → IsResOfType dom (sum_over (unwrap_or u types.Int) source field) t
 sum_by dom source field None t e = absurd cc
@@ -154,12 +154,12 @@ count_is (Some types.Boolean) t e = cc
 count_is (Some _) t e = absurd cc
 
 -- a field is found through the base of a list alone
-count_by : (d : Tree) (a : Answered) (look : Look) → IsTypedLook d a look → (m : List ℕ) (first : Option ℕ) (b : Option (List ℕ)) → option_and_then (list_base_at d) first ≡ b → (field : ℕ → Res) (t : FactType) → target_type d Count (find_member d m b) ≡ Some t → IsResOfType (domains d a) (count_of (result_at look first 0) field) t
-count_by d a look h m first None e field t k = absurd cc
-count_by d a look h m first (Some b) e field t k =
+count_by : (d : Tree) (a : Answered) (results : Results) → AreTypedResults d a results → (m : List ℕ) (first : Option ℕ) (b : Option (List ℕ)) → option_and_then (list_base_at d) first ≡ b → (field : ℕ → Res) (t : FactType) → target_type d Count (find_member d m b) ≡ Some t → IsResOfType (domains d a) (count_of (result_at results first 0) field) t
+count_by d a results h m first None e field t k = absurd cc
+count_by d a results h m first (Some b) e field t k =
     let c = base_number d (Some b) in
-    subst (IsResOfType (domains d a) (count_of (result_at look first 0) field)) (int_of (find_member d m (Some b)) k)
-    (count-typed (domains d a) (result_at look first 0) field c (result_typed d a look h first 0 (types.Collection c) (list_target d first b e)))
+    subst (IsResOfType (domains d a) (count_of (result_at results first 0) field)) (int_of (find_member d m (Some b)) k)
+    (count-typed (domains d a) (result_at results first 0) field c (result_typed d a results h first 0 (types.Collection c) (list_target d first b e)))
   where
     int_of : (o : Option ℕ) → target_type d Count o ≡ Some t → types.Int ≡ t
     int_of None l = absurd cc
@@ -167,29 +167,29 @@ count_by d a look h m first (Some b) e field t k =
 
 -- ---- any read by a path that suits
 
-path_typed : (d : Tree) (a : Answered) (look : Look) → IsTypedLook d a look → (fact : ℕ) (at : Place) (op : ReadOp) (path : UsePath) (t : FactType) → suited op (Some path) (path_type d fact at.base op (Some path)) ≡ Some t → IsResOfType (domains d a) (read_by op d look (targets d fact at.base path) at path) t
-path_typed d a look h fact at Dependency path t e = dependency_typed d a look h (targets d fact at.base path) at path t e
-path_typed d a look h fact at IsComplete path t e =
-    test_typed d a (dependency look (targets d fact at.base path) at path) (last_target path (targets d fact at.base path)) t e
-path_typed d a look h fact at CollectionSize (Global n) t e = size_typed d a look h (find_global d n) t e
-path_typed d a look h fact at CollectionSum (Each n m) t e =
+path_typed : (d : Tree) (a : Answered) (results : Results) → AreTypedResults d a results → (fact : ℕ) (at : EvalPosition) (op : ReadOp) (path : UsePath) (t : FactType) → suited op (Some path) (path_type d fact at.base op (Some path)) ≡ Some t → IsResOfType (domains d a) (read_by op d results (targets d fact at.base path) at path) t
+path_typed d a results h fact at Dependency path t e = dependency_typed d a results h (targets d fact at.base path) at path t e
+path_typed d a results h fact at IsComplete path t e =
+    test_typed d a (dependency results (targets d fact at.base path) at path) (last_target path (targets d fact at.base path)) t e
+path_typed d a results h fact at CollectionSize (Global n) t e = size_typed d a results h (find_global d n) t e
+path_typed d a results h fact at CollectionSum (Each n m) t e =
     let ts = targets d fact at.base (Each n m) in
-    sum_typed d a (collection look ts) (result_at look ts.second) ts.second t e
-path_typed d a look h fact at Count (Each n m) t e =
+    sum_typed d a (collection results ts) (result_at results ts.second) ts.second t e
+path_typed d a results h fact at Count (Each n m) t e =
     let first = find_global d n in
     let base = option_and_then (list_base_at d) first in
-    count_by d a look h m first base refl (result_at look (find_member d m base)) t e
-path_typed d a look h fact at _ _ t e = absurd cc
+    count_by d a results h m first base refl (result_at results (find_member d m base)) t e
+path_typed d a results h fact at _ _ t e = absurd cc
 
-pub read_typed : (d : Tree) (a : Answered) (look : Look) → IsTypedLook d a look → (fact : ℕ) (at : Place) (op : ReadOp) (path : Option UsePath) (t : FactType) → suited op path (path_type d fact at.base op path) ≡ Some t → IsResOfType (domains d a) (read_result d look fact at op path) t
-read_typed d a look h fact at op None t e = absurd cc
-read_typed d a look h fact at op (Some path) t e = path_typed d a look h fact at op path t e
+pub read_typed : (d : Tree) (a : Answered) (results : Results) → AreTypedResults d a results → (fact : ℕ) (at : EvalPosition) (op : ReadOp) (path : Option UsePath) (t : FactType) → suited op path (path_type d fact at.base op path) ≡ Some t → IsResOfType (domains d a) (read_result d results fact at op path) t
+read_typed d a results h fact at op None t e = absurd cc
+read_typed d a results h fact at op (Some path) t e = path_typed d a results h fact at op path t e
 
 -- ---- where an expression of a fact stands
 
-pub is_typed_at : (d : Tree) (a : Answered) (look : Look) → IsTypedLook d a look → (fact : ℕ) (at : Place) → IsTypedAt (domains d a) (placed_types d fact) (source_env d look fact) at.base at
-is_typed_at d a look h fact at = record {
+pub is_typed_at : (d : Tree) (a : Answered) (results : Results) → AreTypedResults d a results → (fact : ℕ) (at : EvalPosition) → IsTypedAt (domains d a) (placed_types d fact) (source_env d results fact) at.base at
+is_typed_at d a results h fact at = record {
   constant = constant_typed d a;
-  reads = λ r t e. read_typed d a look h fact at r.0 r.1.path t e;
-  source = λ u c e. source_typed d a look h fact at u.path c e;
+  reads = λ r t e. read_typed d a results h fact at r.0 r.1.path t e;
+  source = λ u c e. source_typed d a results h fact at u.path c e;
 }

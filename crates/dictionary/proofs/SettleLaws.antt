@@ -9,7 +9,7 @@ use Rattle.dict_order.specs.MentionGraph.{mention_graph}
 use Rattle.dict_order.specs.Ranks.{AreRanks}
 use Rattle.dictionary.specs.ByRank.{AreByRank}
 use Rattle.dictionary.specs.Steady.{body_graph, steady_by_rank}
-use Rattle.dictionary.specs.SteadyReading.{TellsSteady, known_at, steady_body}
+use Rattle.dictionary.specs.SteadyDependencies.{TellsSteady, known_at, steady_body}
 use Rattle.dictionary.proofs.BodyLaws.{steady_body_is}
 use Rattle.dict_order.proofs.DictionaryLaws.{length_mention_graph}
 use Rattle.dictionary.proofs.ByRankLaws.{mentioned_first, place_of_fact}

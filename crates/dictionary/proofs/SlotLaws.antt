@@ -13,7 +13,7 @@ use Rattle.common_lemmas.proofs.Bools.{both_left, both_right, neither_or, or_lef
 use Rattle.evaluation.proofs.Coincide.{is_behind, is_head}
 use Rattle.answers.specs.Answered.{Answered, list_of}
 use Rattle.dictionary.specs.Homes.{home}
-use Rattle.dictionary.specs.Reading.{slot}
+use Rattle.dictionary.specs.Dependencies.{slot}
 use Rattle.dictionary.specs.Slots.{is_member, slot_same, slots_of, slots_up_to, standing, stands, stands_at, stands_of}
 use Rattle.dictionary.proofs.NumberLaws.{fact_there, fact_within}
 use Rattle.common_lemmas.proofs.Numbers.{nat_eq-comm}

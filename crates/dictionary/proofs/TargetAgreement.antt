@@ -27,7 +27,7 @@ use Rattle.dictionary.specs.Feeds.{speaks_of}
 use Rattle.dictionary.specs.Fits.{AnswersFit, domains}
 use Rattle.dictionary.specs.Homes.{home}
 use Rattle.dictionary.specs.Plain.{plain}
-use Rattle.dictionary.specs.Reading.{Place, result_at, slot}
+use Rattle.dictionary.specs.Dependencies.{EvalPosition, result_at, slot}
 use Rattle.dictionary.specs.Slots.{is_member, stands, stands_at}
 use Rattle.dictionary.proofs.TargetHomes.{base_named, global_there, member_home, member_there}
 use Rattle.dictionary.proofs.MemberLaws.{member_stands, named_by_item, named_by_list, zero_is_none}
@@ -67,7 +67,7 @@ abbrev pub StandsInBoth : Answered → Answered → ℕ → ℕ → Type 0
 StandsInBoth a b h m = IsTrue (stands_at a h m) × IsTrue (stands_at b h m)
 
 -- the places that are reached: the condition's member is one of the condition's collection
-pub record IsReached (d : Accepted) (a b : Answered) (s : Slot) (at : Place) : Type 0 where
+pub record IsReached (d : Accepted) (a b : Answered) (s : Slot) (at : EvalPosition) : Type 0 where
   pub own : at.own ≡ s.member
   pub inner : (c : List ℕ) → global_at d.tree at.base ≡ Some c → StandsInBoth a b (base_number d.tree (Some c)) at.inner
 
@@ -123,7 +123,7 @@ module _ (checks : List (List ℕ)) (d : Accepted) (accepted : IsAccepted checks
         there n m f.0 f.1 (stays m own_is) here,
       )
 
-  of_inner : (name : List ℕ) (n : ℕ) (at : Place) → IsReached d a b s at → find_member d.tree name (global_at d.tree at.base) ≡ Some n → M (record { fact = n; same = false }) → SameAt (Some n) 0 × SameAt (Some n) at.inner
+  of_inner : (name : List ℕ) (n : ℕ) (at : EvalPosition) → IsReached d a b s at → find_member d.tree name (global_at d.tree at.base) ≡ Some n → M (record { fact = n; same = false }) → SameAt (Some n) 0 × SameAt (Some n) at.inner
   of_inner name n at j e h =
       let f = member_there d.tree name (global_at d.tree at.base) n e in
       (any_once n f.0 f.1 h, any_there n at.inner f.0 f.1 h (inner_stands (global_at d.tree at.base) refl e))
@@ -132,7 +132,7 @@ module _ (checks : List (List ℕ)) (d : Accepted) (accepted : IsAccepted checks
       inner_stands None is e = absurd (let none : None ≡ Some n = e in cc)
       inner_stands (Some c) is e = rw (member_home d.tree name (Some c) n e) (j.inner c is)
 
-  first_same : (at : Place) → IsReached d a b s at → (path : UsePath) (o : Option ℕ) → first_target d.tree s.fact at.base path ≡ o → AllOf M (mention_of (is_same path) o) → SameAt o 0 × SameAt o (first_member at path)
+  first_same : (at : EvalPosition) → IsReached d a b s at → (path : UsePath) (o : Option ℕ) → first_target d.tree s.fact at.base path ≡ o → AllOf M (mention_of (is_same path) o) → SameAt o 0 × SameAt o (first_member at path)
   first_same at j path None e h = (refl, refl)
   first_same at j (Global n) (Some t) e h = let same = of_global n t e h.0 in (same, same)
   first_same at j (Sibling n) (Some t) e h = of_sibling n t at.own e h.0 j.own
@@ -187,7 +187,7 @@ module _ (checks : List (List ℕ)) (d : Accepted) (accepted : IsAccepted checks
   enters None m same i c e = absurd (cc)
   enters (Some n) m same i c e = by_list n 0 same m (listed_in (result_at (plain d a) (Some n) 0) m i) c (base_named d.tree (list_base_at d.tree n) c e)
 
-  agree_on : (at : Place) → IsReached d a b s at → (path : UsePath) → AllOf M (use_mentions d.tree s.fact at.base (Some path)) → AgreeOn (plain d a) (plain d b) (targets d.tree s.fact at.base path) at path
+  agree_on : (at : EvalPosition) → IsReached d a b s at → (path : UsePath) → AllOf M (use_mentions d.tree s.fact at.base (Some path)) → AgreeOn (plain d a) (plain d b) (targets d.tree s.fact at.base path) at path
   agree_on at j path h =
       let t = targets d.tree s.fact at.base path in
       let first = first_same at j path t.first refl (all-left M (mention_of (is_same path) t.first) (mention_of false t.second) h) in

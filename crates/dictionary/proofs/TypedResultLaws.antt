@@ -22,13 +22,13 @@ use Rattle.answers.specs.declared.edit.Side.TheVariants.{Answer, Override}
 use Rattle.dictionary.specs.Accepted.{Accepted, IsAccepted}
 use Rattle.dictionary.specs.Fits.{AnswersFit, domains}
 use Rattle.dictionary.specs.Plain.{answer_result, at_fact, body, expression, given_value, main_result, open_list, or_override, or_placeholder, plain, rank, slot_result, table}
-use Rattle.dictionary.specs.Reading.{Look, outermost, result_at, source_env}
+use Rattle.dictionary.specs.Dependencies.{Results, outermost, result_at, source_env}
 use Rattle.dictionary.specs.Slots.{stands}
 use Rattle.dictionary.specs.TypedResults.{TypedResults}
 use Rattle.dictionary.proofs.FactTypes.{HasOptionType, IsTypedAs, type_of_number, typed_fact}
 use Rattle.dictionary.proofs.ListTypes.{open_members, own_number}
 use Rattle.dictionary.proofs.PlacedReads.{placed_types}
-use Rattle.dictionary.proofs.ReadTypes.{IsTypedLook, is_typed_at, result_typed, type_of_target}
+use Rattle.dictionary.proofs.ReadTypes.{AreTypedResults, is_typed_at, result_typed, type_of_target}
 
 -- ---- what is given
 
@@ -65,29 +65,29 @@ override_typed dom (Some v) r t h k = h v refl
 
 -- ---- one slot, over typed results
 
-expression_typed : (d : Tree) (a : Answered) (look : Look) → IsTypedLook d a look → (s : Slot) (t : Source) (u : FactType) → HasType (placed_types d s.fact) 0 t u → IsResOfType (domains d a) (expression d look s t) u
-expression_typed d a look h s t u k =
-    typed (domains d a) (placed_types d s.fact) (source_env d look s.fact) 0 (outermost s.member) (is_typed_at d a look h s.fact (outermost s.member)) t u k
+expression_typed : (d : Tree) (a : Answered) (results : Results) → AreTypedResults d a results → (s : Slot) (t : Source) (u : FactType) → HasType (placed_types d s.fact) 0 t u → IsResOfType (domains d a) (expression d results s t) u
+expression_typed d a results h s t u k =
+    typed (domains d a) (placed_types d s.fact) (source_env d results s.fact) 0 (outermost s.member) (is_typed_at d a results h s.fact (outermost s.member)) t u k
 
-main_typed : (d : Tree) (a : Answered) → AnswersFit d a → (look : Look) → IsTypedLook d a look → (s : Slot) (f : Fact) (t : FactType) → fact_at d.facts s.fact ≡ Some f → IsTypedAs d s.fact f t → (main : Option Source) → HasOptionType (placed_types d s.fact) t main → IsResOfType (domains d a) (main_result d a look s f.stated main) t
-main_typed d a fit look h s f t there k None m =
+main_typed : (d : Tree) (a : Answered) → AnswersFit d a → (results : Results) → AreTypedResults d a results → (s : Slot) (f : Fact) (t : FactType) → fact_at d.facts s.fact ≡ Some f → IsTypedAs d s.fact f t → (main : Option Source) → HasOptionType (placed_types d s.fact) t main → IsResOfType (domains d a) (main_result d a results s f.stated main) t
+main_typed d a fit results h s f t there k None m =
     answer_typed (domains d a) (given_value f.stated a s) t (value_by d a fit s f t there k f.stated refl)
-main_typed d a fit look h s f t there k (Some x) m =
-    override_typed (domains d a) (value_of Override a s) (expression d look s x) t
-    (λ v e. given_typed d a fit Override s v t (type_of_number d s.fact f t there k.stated) e) (expression_typed d a look h s x t m)
+main_typed d a fit results h s f t there k (Some x) m =
+    override_typed (domains d a) (value_of Override a s) (expression d results s x) t
+    (λ v e. given_typed d a fit Override s v t (type_of_number d s.fact f t there k.stated) e) (expression_typed d a results h s x t m)
 
-placeholder_typed : (d : Tree) (a : Answered) (look : Look) → IsTypedLook d a look → (s : Slot) (o : Option Source) (t : FactType) → HasOptionType (placed_types d s.fact) t o → (r : Res) → IsResOfType (domains d a) r t → IsResOfType (domains d a) (or_placeholder d look s o r) t
-placeholder_typed d a look h s None t k r m = m
-placeholder_typed d a look h s (Some x) t k (Complete v) m = m
-placeholder_typed d a look h s (Some x) t k (Placeholder v) m = m
-placeholder_typed d a look h s (Some x) t k Incomplete m = down-type (domains d a) (expression d look s x) t (expression_typed d a look h s x t k)
-placeholder_typed d a look h s (Some x) t k (Fault fault) m = tt
+placeholder_typed : (d : Tree) (a : Answered) (results : Results) → AreTypedResults d a results → (s : Slot) (o : Option Source) (t : FactType) → HasOptionType (placed_types d s.fact) t o → (r : Res) → IsResOfType (domains d a) r t → IsResOfType (domains d a) (or_placeholder d results s o r) t
+placeholder_typed d a results h s None t k r m = m
+placeholder_typed d a results h s (Some x) t k (Complete v) m = m
+placeholder_typed d a results h s (Some x) t k (Placeholder v) m = m
+placeholder_typed d a results h s (Some x) t k Incomplete m = down-type (domains d a) (expression d results s x) t (expression_typed d a results h s x t k)
+placeholder_typed d a results h s (Some x) t k (Fault fault) m = tt
 
 -- the result of a slot over typed results is of its fact's type
-pub slot_typed : (d : Tree) (a : Answered) → AnswersFit d a → (look : Look) → IsTypedLook d a look → (s : Slot) (f : Fact) (t : FactType) → fact_at d.facts s.fact ≡ Some f → IsTypedAs d s.fact f t → IsResOfType (domains d a) (slot_result d a look s f) t
-slot_typed d a fit look h s f t there k =
-    placeholder_typed d a look h s f.placeholder t k.placeholder (main_result d a look s f.stated (body f))
-    (main_typed d a fit look h s f t there k (body f) k.body)
+pub slot_typed : (d : Tree) (a : Answered) → AnswersFit d a → (results : Results) → AreTypedResults d a results → (s : Slot) (f : Fact) (t : FactType) → fact_at d.facts s.fact ≡ Some f → IsTypedAs d s.fact f t → IsResOfType (domains d a) (slot_result d a results s f) t
+slot_typed d a fit results h s f t there k =
+    placeholder_typed d a results h s f.placeholder t k.placeholder (main_result d a results s f.stated (body f))
+    (main_typed d a fit results h s f t there k (body f) k.body)
 
 -- ---- all slots
 
@@ -111,15 +111,15 @@ res_as : (dom : Domains) (r : Res) (o : Option FactType) (t u : FactType) → o 
 res_as dom r o t u e k h = let same : t ≡ u = cc in subst (IsResOfType dom r) same h
 
 -- one step over typed results, where the fact is there and the slot stands
-step_typed : (names : List (List ℕ)) (d : Accepted) → IsAccepted names d → (a : Answered) → AnswersFit d.tree a → (look : Look) → IsTypedLook d.tree a look → (s : Slot) (b : Bool) (o : Option Fact) → fact_at d.tree.facts s.fact ≡ o → (r : Res) → at_fact o None (λ (f : Fact). if b then Some (slot_result d.tree a look s f) else None) ≡ Some r → (t : FactType) → type_at d.tree s.fact ≡ Some t → IsResOfType (domains d.tree a) r t
-step_typed names d good a fit look h s b None there r e t k = absurd cc
-step_typed names d good a fit look h s b (Some f) there r e t k =
-    let same = only_so b (slot_result d.tree a look s f) r e in
+step_typed : (names : List (List ℕ)) (d : Accepted) → IsAccepted names d → (a : Answered) → AnswersFit d.tree a → (results : Results) → AreTypedResults d.tree a results → (s : Slot) (b : Bool) (o : Option Fact) → fact_at d.tree.facts s.fact ≡ o → (r : Res) → at_fact o None (λ (f : Fact). if b then Some (slot_result d.tree a results s f) else None) ≡ Some r → (t : FactType) → type_at d.tree s.fact ≡ Some t → IsResOfType (domains d.tree a) r t
+step_typed names d good a fit results h s b None there r e t k = absurd cc
+step_typed names d good a fit results h s b (Some f) there r e t k =
+    let same = only_so b (slot_result d.tree a results s f) r e in
     let has = typed_fact d.tree names d.typed good.typed s.fact f there in
     res_as (domains d.tree a) r (type_at d.tree s.fact) has.0 t (type_of_number d.tree s.fact f has.0 there has.1.stated) k
-    (subst (λ (x : Res). IsResOfType (domains d.tree a) x has.0) same (slot_typed d.tree a fit look h s f has.0 there has.1))
+    (subst (λ (x : Res). IsResOfType (domains d.tree a) x has.0) same (slot_typed d.tree a fit results h s f has.0 there has.1))
 
-pub table_typed : (names : List (List ℕ)) (d : Accepted) → IsAccepted names d → (a : Answered) → AnswersFit d.tree a → (n : ℕ) → IsTypedLook d.tree a (table d a n)
+pub table_typed : (names : List (List ℕ)) (d : Accepted) → IsAccepted names d → (a : Answered) → AnswersFit d.tree a → (n : ℕ) → AreTypedResults d.tree a (table d a n)
 table_typed names d good a fit zero s r e t k = absurd (let none : None ≡ Some r = sym (none_below d a s) ∙ e in cc)
 table_typed names d good a fit (suc n) s r e t k =
     step_typed names d good a fit (table d a n) (table_typed names d good a fit n) s (nat_lt (rank d s.fact) (suc n) && stands d.tree a s) (fact_at d.tree.facts s.fact) refl r (sym (table_step d a n s) ∙ e) t k
@@ -129,7 +129,7 @@ pub typed_results : TypedResults
 typed_results names d good a fit s r e t k = table_typed names d good a fit (suc (rank d s.fact)) s r (sym (plain_is d a s) ∙ e) t k
 
 -- plain evaluation is typed at every slot
-pub plain_typed : (names : List (List ℕ)) (d : Accepted) → IsAccepted names d → (a : Answered) → AnswersFit d.tree a → IsTypedLook d.tree a (plain d a)
+pub plain_typed : (names : List (List ℕ)) (d : Accepted) → IsAccepted names d → (a : Answered) → AnswersFit d.tree a → AreTypedResults d.tree a (plain d a)
 plain_typed names d good a fit = typed_results names d good a fit
 
 -- the result of a target with this type, at any member

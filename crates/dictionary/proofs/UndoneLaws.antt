@@ -30,7 +30,7 @@ use Rattle.dictionary.specs.Accepted.{Accepted, IsAccepted}
 use Rattle.dictionary.specs.Extension.{Extends, both_same, extends, is_kept}
 use Rattle.dictionary.specs.Fits.{AnswersFit, is_list}
 use Rattle.dictionary.specs.Homes.{home}
-use Rattle.dictionary.specs.Reading.{slot}
+use Rattle.dictionary.specs.Dependencies.{slot}
 use Rattle.dictionary.specs.Slots.{slot_same, stands, stands_of}
 use Rattle.dictionary.specs.Touched.{same_entry}
 use Rattle.dictionary.specs.Undone.{CameTells, DiffersTells, ExtendedTells, FirstTells, IsUndone, WentTells, came, differs, is_extended, went}
@@ -214,21 +214,21 @@ own_value : (side : Side) (now : Answered) (s : Slot) (v : Option Value) (b : Bo
 own_value side now s v true e h = h
 own_value side now s v false e h = absurd (cc)
 
-told : (undo : Change) (now : Answered) → Fits undo now → WellFormed now → Extends (applied undo now) now → IsTrue (is_extended undo now)
-told (sets Answer s v) now can well h =
+shown : (undo : Change) (now : Answered) → Fits undo now → WellFormed now → Extends (applied undo now) now → IsTrue (is_extended undo now)
+shown (sets Answer s v) now can well h =
     let own = own_value Answer now s v (slot_same s s) (slot_same-itself s) (set_is Answer Answer now s s v (entry_stands now s.member well can)) in
     equal_kept value_same value_same-Decides v (value_of Answer now s) (λ w e. h.values s w (own ∙ e))
-told (sets Override s v) now can well h =
+shown (sets Override s v) now can well h =
     let own = own_value Override now s v (slot_same s s) (slot_same-itself s) (set_is Override Override now s s v (entry_stands now s.member well can)) in
     value_same_if v (value_of Override now s) (sym own ∙ sym (h.overrides s))
-told (opens c) now can well h = absurd (open_differs now c can (kept_list _ now h c [] (get_put_own now.lists c (Some []))))
-told (closes c) now can well h = refl
-told (adds c) now can well h = absurd (add_differs now c (kept_list _ now h c (list_of now c ++ now.next ∷ []) (get_put_own now.lists c (Some (list_of now c ++ now.next ∷ [])))))
-told (takes c true) now can well h = refl
-told (takes c false) now can well h =
+shown (opens c) now can well h = absurd (open_differs now c can (kept_list _ now h c [] (get_put_own now.lists c (Some []))))
+shown (closes c) now can well h = refl
+shown (adds c) now can well h = absurd (add_differs now c (kept_list _ now h c (list_of now c ++ now.next ∷ []) (get_put_own now.lists c (Some (list_of now c ++ now.next ∷ [])))))
+shown (takes c true) now can well h = refl
+shown (takes c false) now can well h =
     absurd (take_differs now c false can (kept_list _ now h c (without_last (list_of now c)) (get_put_own now.lists c (Some (without_last (list_of now c))))))
-told (removes c m) now can well h = absurd (remove_differs now c m can (kept_list _ now h c (without m (list_of now c)) (get_put_own now.lists c (Some (without m (list_of now c))))))
-told (puts_back c place m e) now can well h =
+shown (removes c m) now can well h = absurd (remove_differs now c m can (kept_list _ now h c (without m (list_of now c)) (get_put_own now.lists c (Some (without m (list_of now c))))))
+shown (puts_back c place m e) now can well h =
     absurd (back_differs now c place m e can (kept_list _ now h c (insert (list_of now c) place m) (get_put_own now.lists c (Some (insert (list_of now c) place m)))))
 
 -- a collection that was closed
@@ -286,5 +286,5 @@ pub extended_tells : ExtendedTells
 extended_tells names d accepted undo now u =
     let test = test_tells_extends names d accepted (applied undo now) now u.before u.after in
     same_test (extends d.tree (applied undo now) now) (is_extended undo now)
-    (λ h. told undo now u.can u.after.well (test.0 h))
+    (λ h. shown undo now u.can u.after.well (test.0 h))
     (λ k. test.1 (tells undo now u.can u.after.well k))

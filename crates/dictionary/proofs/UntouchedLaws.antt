@@ -23,7 +23,7 @@ use Rattle.dictionary.specs.Final.{is_final}
 use Rattle.dictionary.specs.Fits.{AnswersFit}
 use Rattle.dictionary.specs.Homes.{home}
 use Rattle.dictionary.specs.Plain.{at_fact, body, given_value, open_list, plain, plain_step, slot_result}
-use Rattle.dictionary.specs.Reading.{outermost}
+use Rattle.dictionary.specs.Dependencies.{outermost}
 use Rattle.dictionary.specs.Slots.{stands}
 use Rattle.dictionary.specs.Touched.{has_moved, is_fed, same_entry, UntouchedKeeps}
 use Rattle.dictionary.proofs.ExtensionLaws.{same_option, test_tells_extends}

@@ -1,7 +1,7 @@
 -- The first fault of a dictionary: by its kind, then by the fact, then by the node.
 use Rattle.std.specs.Prelude.{◌≡◌, ℕ, List, Ok, Err}
 use Rattle.dict_tree.specs.Dictionary.{Dictionary as Tree}
-use Rattle.dict_tree.specs.DictReading.{BytesGive}
+use Rattle.dict_tree.specs.DictParsing.{BytesGive}
 use Rattle.dict_tree.specs.declared.fault.TreeFault.{TreeFault}
 use Rattle.dict_tree.specs.declared.fault.TreeFault.TheVariants as trees
 use Rattle.dict_types.specs.TypedParts.{TypedDictionary}

@@ -11,11 +11,11 @@ pub mod Fits
 pub mod Homes
 pub mod Keeping
 pub mod Plain
-pub mod Reading
+pub mod Dependencies
 pub mod Slots
 pub mod SlotText
 pub mod Steady
-pub mod SteadyReading
+pub mod SteadyDependencies
 pub mod Touched
 pub mod TypedResults
 pub mod Undone

@@ -16,7 +16,7 @@ use Rattle.evaluation.specs.Over.{over}
 use Rattle.answers.specs.Answered.{Answered, value_of}
 use Rattle.answers.specs.declared.edit.Side.TheVariants.{Answer, Override}
 use Rattle.dictionary.specs.Accepted.{Accepted, IsAccepted}
-use Rattle.dictionary.specs.Reading.{Look, outermost, source_env}
+use Rattle.dictionary.specs.Dependencies.{Results, outermost, source_env}
 use Rattle.dictionary.specs.Slots.{stands}
 
 -- ---- one slot, over any map of results
@@ -52,24 +52,24 @@ or_override None r = r
 or_override (Some v) r = Complete v
 
 -- the result of an expression of the slot's fact
-abbrev pub expression : Tree → Look → Slot → Source → Res
-expression d look s t = over (source_env d look s.fact) (outermost s.member) t
+abbrev pub expression : Tree → Results → Slot → Source → Res
+expression d results s t = over (source_env d results s.fact) (outermost s.member) t
 
-abbrev pub main_result : Tree → Answered → Look → Slot → Stated → Option Source → Res
-main_result d a look s stated None = answer_result (given_value stated a s)
-main_result d a look s stated (Some t) = or_override (value_of Override a s) (expression d look s t)
+abbrev pub main_result : Tree → Answered → Results → Slot → Stated → Option Source → Res
+main_result d a results s stated None = answer_result (given_value stated a s)
+main_result d a results s stated (Some t) = or_override (value_of Override a s) (expression d results s t)
 
 -- an incomplete result gives way to the placeholder
-abbrev pub or_placeholder : Tree → Look → Slot → Option Source → Res → Res
-or_placeholder d look s None r = r
-or_placeholder d look s (Some t) (Complete v) = Complete v
-or_placeholder d look s (Some t) (Placeholder v) = Placeholder v
-or_placeholder d look s (Some t) Incomplete = down (expression d look s t)
-or_placeholder d look s (Some t) (Fault fault) = Fault fault
+abbrev pub or_placeholder : Tree → Results → Slot → Option Source → Res → Res
+or_placeholder d results s None r = r
+or_placeholder d results s (Some t) (Complete v) = Complete v
+or_placeholder d results s (Some t) (Placeholder v) = Placeholder v
+or_placeholder d results s (Some t) Incomplete = down (expression d results s t)
+or_placeholder d results s (Some t) (Fault fault) = Fault fault
 
 -- the result of a slot of this fact, given those of the slots that it reads
-abbrev pub slot_result : Tree → Answered → Look → Slot → Fact → Res
-slot_result d a look s f = or_placeholder d look s f.placeholder (main_result d a look s f.stated (body f))
+abbrev pub slot_result : Tree → Answered → Results → Slot → Fact → Res
+slot_result d a results s f = or_placeholder d results s f.placeholder (main_result d a results s f.stated (body f))
 
 -- ---- all slots
 
@@ -81,21 +81,21 @@ at_fact None none f = none
 at_fact (Some fact) none f = f fact
 
 -- the results of the slots of facts of rank below n
-unfoldable pub table : Accepted → Answered → ℕ → Look
+unfoldable pub table : Accepted → Answered → ℕ → Results
 table d a zero s = None
 table d a (suc n) s =
     at_fact (fact_at d.tree.facts s.fact) None
     (λ f. if nat_lt (rank d s.fact) (suc n) && stands d.tree a s then Some (slot_result d.tree a (table d a n) s f) else None)
 
 -- the result of a slot, and none where it doesn't stand
-unfoldable pub plain : Accepted → Answered → Look
+unfoldable pub plain : Accepted → Answered → Results
 plain d a s = table d a (suc (rank d s.fact)) s
 
 -- ---- laws
 
 -- a slot's result over a map, where it stands
-abbrev pub plain_step : Accepted → Answered → Look → Slot → Option Res
-plain_step d a look s = at_fact (fact_at d.tree.facts s.fact) None (λ f. if stands d.tree a s then Some (slot_result d.tree a look s f) else None)
+abbrev pub plain_step : Accepted → Answered → Results → Slot → Option Res
+plain_step d a results s = at_fact (fact_at d.tree.facts s.fact) None (λ f. if stands d.tree a s then Some (slot_result d.tree a results s f) else None)
 
 -- plain evaluation is one step over itself
 abbrev pub PlainIsRecursive : Type 0
@@ -106,22 +106,22 @@ abbrev pub StandingHaveResults : Type 0
 StandingHaveResults = (d : Accepted) (a : Answered) (s : Slot) → is_some (plain d a s) ≡ stands d.tree a s
 
 -- a map that has plain evaluation of the facts of rank below n
-abbrev pub IsPlainBelow : Accepted → Answered → ℕ → Look → Type 0
-IsPlainBelow d a n look = (s : Slot) → IsSome (fact_at d.tree.facts s.fact) → rank d s.fact < n → look s ≡ plain d a s
+abbrev pub IsPlainBelow : Accepted → Answered → ℕ → Results → Type 0
+IsPlainBelow d a n results = (s : Slot) → IsSome (fact_at d.tree.facts s.fact) → rank d s.fact < n → results s ≡ plain d a s
 
 -- over such a map, a slot's result is plain evaluation
 abbrev pub StepOverLower : Type 0
 StepOverLower =
-    (names : List (List ℕ)) (d : Accepted) → IsAccepted names d → (a : Answered) (look : Look) (s : Slot)
-    → IsPlainBelow d a (rank d s.fact) look → plain_step d a look s ≡ plain d a s
+    (names : List (List ℕ)) (d : Accepted) → IsAccepted names d → (a : Answered) (results : Results) (s : Slot)
+    → IsPlainBelow d a (rank d s.fact) results → plain_step d a results s ≡ plain d a s
 
 -- a map that has what is known of the facts of rank below n
-abbrev pub HasKnown : Accepted → (Slot → Option Value) → ℕ → Look → Type 0
-HasKnown d known n look = (s : Slot) (v : Value) → known s ≡ Some v → rank d s.fact < n → look s ≡ Some (Complete v)
+abbrev pub HasKnown : Accepted → (Slot → Option Value) → ℕ → Results → Type 0
+HasKnown d known n results = (s : Slot) (v : Value) → known s ≡ Some v → rank d s.fact < n → results s ≡ Some (Complete v)
 
 -- where each slot has its known value over known values of lower rank, plain evaluation has them all
 abbrev pub JoinedByRank : Type 0
 JoinedByRank =
     (names : List (List ℕ)) (d : Accepted) → IsAccepted names d → (a : Answered) (known : Slot → Option Value)
-    → ((s : Slot) (v : Value) → known s ≡ Some v → (look : Look) → HasKnown d known (rank d s.fact) look → plain_step d a look s ≡ Some (Complete v))
+    → ((s : Slot) (v : Value) → known s ≡ Some v → (results : Results) → HasKnown d known (rank d s.fact) results → plain_step d a results s ≡ Some (Complete v))
     → (s : Slot) (v : Value) → known s ≡ Some v → plain d a s ≡ Some (Complete v)

@@ -7,7 +7,7 @@ use Rattle.dict_tree.specs.Dictionary.{Dictionary as Tree}
 use Rattle.dict_tree.specs.Finding.{fact_at}
 use Rattle.answers.specs.Answered.{Answered, list_of}
 use Rattle.dictionary.specs.Homes.{home}
-use Rattle.dictionary.specs.Reading.{slot}
+use Rattle.dictionary.specs.Dependencies.{slot}
 
 -- the member is one of the collection of this fact
 abbrev pub is_member : Answered → ℕ → ℕ → Bool

@@ -8,7 +8,7 @@ use Rattle.answers.specs.declared.edit.Side.TheVariants.{Answer, Override}
 use Rattle.dictionary.specs.Accepted.{Accepted, IsAccepted}
 use Rattle.dictionary.specs.Extension.{both_same, extends, is_kept}
 use Rattle.dictionary.specs.Fits.{AnswersFit}
-use Rattle.dictionary.specs.Reading.{slot}
+use Rattle.dictionary.specs.Dependencies.{slot}
 use Rattle.dictionary.specs.Slots.{slot_same, stands}
 use Rattle.dictionary.specs.Touched.{same_entry}
 

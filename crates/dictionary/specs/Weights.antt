@@ -10,7 +10,7 @@ use Rattle.evaluation.specs.Over.{weight}
 use Rattle.answers.specs.Answered.{Answered}
 use Rattle.dictionary.specs.Accepted.{Accepted}
 use Rattle.dictionary.specs.Plain.{at_fact, body, plain}
-use Rattle.dictionary.specs.Reading.{Look, Place, entered, outermost, source_env, source_result}
+use Rattle.dictionary.specs.Dependencies.{Results, EvalPosition, entered, outermost, source_env, source_result}
 use Rattle.dictionary.specs.Slots.{standing}
 use Rattle.dictionary.specs.Touched.{touched}
 
@@ -36,6 +36,6 @@ touched_weight d a b = sum_by (slot_weight d b) (touched d a b)
 -- a Filter and a Find weigh 1, and what their condition weighs at any member as often as there are members
 abbrev pub PickWeighs : Type 0
 PickWeighs =
-    (d : Tree) (look : Look) (fact : ℕ) (at : Place) (op : PickOp) (u : Use) (t : Source) (m : ℕ)
-    → weight (source_env d look fact) at (pick op u t)
-    ≡ suc (length (members_of (source_result d look fact at u.path)) * weight (source_env d look fact) (entered d fact at u.path m) t)
+    (d : Tree) (results : Results) (fact : ℕ) (at : EvalPosition) (op : PickOp) (u : Use) (t : Source) (m : ℕ)
+    → weight (source_env d results fact) at (pick op u t)
+    ≡ suc (length (members_of (source_result d results fact at u.path)) * weight (source_env d results fact) (entered d fact at u.path m) t)

@@ -1,4 +1,6 @@
-ghost use Rattle.std.specs.Prelude.{◌≡◌, ℕ, List, map, IfErr, IfOk};
+// Accepting a dictionary, or naming its first fault.
+ghost use Rattle.std.specs.Prelude.{◌≡◌, IfErr, IfOk};
+ghost use Rattle.text_checks.specs.Tables.{check_names, named_checks};
 ghost use Rattle.dict_tree.specs.Dictionary.{dictionary_view};
 ghost use Rattle.dict_types.specs.DictFaults.{IsTypedDictionary};
 ghost use Rattle.dict_order.specs.MentionGraph.{mention_graph};
@@ -16,8 +18,8 @@ use text_checks::CheckTable;
 
 // The types, constants and limits, or the first fault of paths, checks, types and limits.
 fn type_source(alloc: Global, source: &DictSource, checks: &CheckTable) -> Result<Typed, DictFault>
-    ensures typed { IfOk result (IsTypedDictionary (dictionary_view source.now) (map {B = List ℕ} (λ c. c.name) checks.now.checks.items)) }
-    ensures refused { IfErr result (Refuses (IsFaultOf (dictionary_view source.now) (map {B = List ℕ} (λ c. c.name) checks.now.checks.items))) }
+    ensures typed { IfOk result (IsTypedDictionary (dictionary_view source.now) (check_names checks.now)) }
+    ensures refused { IfErr result (Refuses (IsFaultOf (dictionary_view source.now) (check_names checks.now))) }
 {
     match check(alloc, source, checks) {
         Ok(typed) => Ok(typed),
@@ -44,10 +46,10 @@ pub fn of_source(
     source: DictSource,
     checks: &CheckTable,
 ) -> Result<Dictionary, DictFault>
-    ensures is_accepted { IfOk result (λ d. IsAccepted (map {B = List ℕ} (λ c. c.name) checks.now.checks.items) (accepted d)) }
+    ensures is_accepted { IfOk result (λ d. IsAccepted (check_names checks.now) (accepted d)) }
     ensures source { IfOk result (λ d. d.source ≡ source) }
-    ensures checks { IfOk result (λ d. d.checks ≡ map {B = List ℕ × ℕ} (λ c. (c.name, c.code)) checks.now.checks.items) }
-    ensures refused { IfErr result (Refuses (IsFaultOf (dictionary_view source) (map {B = List ℕ} (λ c. c.name) checks.now.checks.items))) }
+    ensures checks { IfOk result (λ d. d.checks ≡ named_checks checks.now) }
+    ensures refused { IfErr result (Refuses (IsFaultOf (dictionary_view source) (check_names checks.now))) }
 {
     // That the source is valid is what its facts say.
     let _ = source.facts();
@@ -70,9 +72,9 @@ pub fn of_source(
 /// The dictionary that the bytes spell, or its first fault: the bytes and their shape first, then the limits, then what
 /// [`of_source`] names.
 pub fn accept(alloc: Global, bytes: &[u8], checks: &CheckTable) -> Result<Dictionary, DictFault>
-    ensures is_accepted { IfOk result (λ d. AreAccepted bytes.now (map {B = List ℕ} (λ c. c.name) checks.now.checks.items) (accepted d)) }
-    ensures checks { IfOk result (λ d. d.checks ≡ map {B = List ℕ × ℕ} (λ c. (c.name, c.code)) checks.now.checks.items) }
-    ensures refused { IfErr result (Refuses (IsFault bytes.now (map {B = List ℕ} (λ c. c.name) checks.now.checks.items))) }
+    ensures is_accepted { IfOk result (λ d. AreAccepted bytes.now (check_names checks.now) (accepted d)) }
+    ensures checks { IfOk result (λ d. d.checks ≡ named_checks checks.now) }
+    ensures refused { IfErr result (Refuses (IsFault bytes.now (check_names checks.now))) }
 {
     match read(alloc, bytes) {
         Ok(source) => of_source(alloc, source, checks),

@@ -1,4 +1,6 @@
-ghost use Rattle.std.specs.Prelude.{◌≡◌, ◌↔◌, ◌⊎◌, ℕ, List, false, length, map, IfErr, IfOk, IsTrue};
+// Dictionaries without a fault.
+ghost use Rattle.std.specs.Prelude.{◌≡◌, ◌↔◌, ◌⊎◌, false, length, IfErr, IfOk, IsTrue};
+ghost use Rattle.text_checks.specs.Tables.{check_names, named_checks};
 ghost use Rattle.dict_tree.specs.Dictionary.{dictionary_view};
 ghost use Rattle.dict_tree.specs.Finding.{IsNumber};
 ghost use Rattle.dict_order.specs.Ranks.{rank_of};
@@ -12,7 +14,7 @@ ghost use Rattle.dictionary.specs.declared.fault.DictFault.TheVariants.{NoMemory
 
 use crate::fault::DictFault;
 use crate::kept_check::{KeptCheck, are_of_table, keep_checks};
-use crate::worked::{Worked, work_out};
+use crate::precomputed::{Precomputed, precompute};
 use dict_tree::DictSource;
 use dict_types::Typed;
 use std::alloc::Global;
@@ -26,7 +28,7 @@ pub struct Dictionary {
     typed: Typed,
     ranks: Vec<u32>,
     checks: Vec<KeptCheck>,
-    worked: Worked,
+    precomputed: Precomputed,
 }
 
 impl Model for Dictionary {
@@ -41,7 +43,7 @@ impl Model for Dictionary {
 
     ghost view = { λ d. record { source = d.source; typed = d.typed; ranks = d.ranks.items; checks = d.checks.items } };
 
-    ghost invariant = { λ d. IsKept (record { source = d.source; typed = d.typed; ranks = d.ranks.items; checks = d.checks.items }) d.worked };
+    ghost invariant = { λ d. IsKept (record { source = d.source; typed = d.typed; ranks = d.ranks.items; checks = d.checks.items }) d.precomputed };
 }
 
 impl Dictionary {
@@ -53,18 +55,18 @@ impl Dictionary {
         ranks: Vec<u32>,
         table: &CheckTable,
     ) -> Result<Dictionary, DictFault>
-        requires { IsAccepted (map {B = List ℕ} (λ c. c.name) table.now.checks.items) (record { tree = dictionary_view source; typed = typed; ranks = ranks.items }) }
-        ensures kept { IfOk result (λ d. d ≡ record { source = source; typed = typed; ranks = ranks.items; checks = map {B = List ℕ × ℕ} (λ c. (c.name, c.code)) table.now.checks.items }) }
+        requires { IsAccepted (check_names table.now) (record { tree = dictionary_view source; typed = typed; ranks = ranks.items }) }
+        ensures kept { IfOk result (λ d. d ≡ record { source = source; typed = typed; ranks = ranks.items; checks = named_checks table.now }) }
         ensures memory { IfErr result (λ fault. fault ≡ NoMemory) }
     {
         match keep_checks(alloc, table) {
-            Ok(checks) => match work_out(alloc, &source, ranks.as_slice()) {
-                Ok(worked) => Ok(Dictionary {
+            Ok(checks) => match precompute(alloc, &source, ranks.as_slice()) {
+                Ok(precomputed) => Ok(Dictionary {
                     source,
                     typed,
                     ranks,
                     checks,
-                    worked,
+                    precomputed,
                 }),
                 Err(_) => {
                     drop(source);
@@ -111,14 +113,14 @@ impl Dictionary {
         requires { IsNumber (accepted self.now).tree.facts fact }
         ensures { result ≡ home (accepted self.now).tree fact }
     {
-        self.worked.homes[fact as usize - 1]
+        self.precomputed.homes[fact as usize - 1]
     }
 
     /// Each fact once, by rising rank, and those of one rank by rising number. What a fact mentions comes before it.
     pub fn by_rank(&self) -> &[u32]
         ensures { AreByRank self.now.ranks result.now }
     {
-        self.worked.by_rank.as_slice()
+        self.precomputed.by_rank.as_slice()
     }
 
     /// Whether no IsComplete stands in the body of the fact, nor in that of any fact that is reached from it by mentions of
@@ -128,7 +130,7 @@ impl Dictionary {
         ensures tells { IsTrue result ↔ IsSteady (accepted self.now).tree fact }
         ensures value { result ≡ steady (accepted self.now) fact }
     {
-        self.worked.steady[fact as usize - 1]
+        self.precomputed.steady[fact as usize - 1]
     }
 
     /// How many facts there are.
@@ -142,15 +144,15 @@ impl Dictionary {
     pub fn node_count(&self) -> u32
         ensures { result ≡ node_count (accepted self.now).tree }
     {
-        self.worked.nodes
+        self.precomputed.nodes
     }
 
     /// Whether the table has the checks with which the dictionary was accepted, by name and code and in their order, or no
     /// fact has a check.
     pub fn same_checks(&self, table: &CheckTable) -> bool
-        ensures { IsTrue result ↔ ((self.now.checks ≡ map {B = List ℕ × ℕ} (λ c. (c.name, c.code)) table.now.checks.items) ⊎ (has_check (accepted self.now).tree ≡ false)) }
+        ensures { IsTrue result ↔ ((self.now.checks ≡ named_checks table.now) ⊎ (has_check (accepted self.now).tree ≡ false)) }
     {
-        if !self.worked.checked {
+        if !self.precomputed.checked {
             return true;
         }
         are_of_table(self.checks.as_slice(), table)

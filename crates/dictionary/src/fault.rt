@@ -1,3 +1,4 @@
+// The faults of dictionaries, in the order in which they are named.
 ghost use Rattle.std.specs.Prelude.{◌≡◌};
 ghost use Rattle.dictionary.specs.Faults.{of_trees, of_types};
 

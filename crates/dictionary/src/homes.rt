@@ -1,3 +1,4 @@
+// The collection that each fact belongs to.
 ghost use Rattle.std.specs.Prelude.{◌≡◌, IfOk, option_and_then, unwrap_or};
 ghost use Rattle.dict_tree.specs.Dictionary.{dictionary_view};
 ghost use Rattle.dict_tree.specs.Facts.{fact_view};

@@ -1,6 +1,7 @@
 // The checks with which a dictionary was accepted.
 ghost use Rattle.std.specs.Prelude.{◌≡◌, ◌==◌, ◌<◌, ◌^◌, ℕ, List, length, map, IfOk};
 ghost use Rattle.std.specs.List.{list_any};
+ghost use Rattle.text_checks.specs.Tables.{named_checks};
 ghost use Rattle.dict_tree.specs.Facts.{fact_view, limit_view};
 ghost use Rattle.dictionary.specs.Checks.{fact_has_check, is_check, same_checks, same_named};
 
@@ -45,7 +46,7 @@ impl KeptCheck {
 
 /// The names and codes of a table.
 pub fn keep_checks(alloc: Global, checks: &CheckTable) -> Result<Vec<KeptCheck>, NoMemory>
-    ensures { IfOk result (λ list. list.items ≡ map {B = List ℕ × ℕ} (λ c. (c.name, c.code)) checks.now.checks.items) }
+    ensures { IfOk result (λ list. list.items ≡ named_checks checks.now) }
 {
     let mut list = Vec::new(alloc);
     for check in &checks.checks {
@@ -68,7 +69,7 @@ fn are_of(kept: &[KeptCheck], checks: &[Check]) -> bool
 
 /// Whether these are the names and codes of the table.
 pub fn are_of_table(kept: &[KeptCheck], table: &CheckTable) -> bool
-    ensures { result ≡ same_checks kept.now (map {B = List ℕ × ℕ} (λ c. (c.name, c.code)) table.now.checks.items) }
+    ensures { result ≡ same_checks kept.now (named_checks table.now) }
 {
     if kept.len() != table.checks.len() {
         return false;

@@ -5,6 +5,7 @@ mod accepting;
 mod by_rank;
 mod dictionary;
 mod engine;
+mod eval_position;
 mod extension_laws;
 mod fault;
 mod faultless;
@@ -15,8 +16,8 @@ mod given;
 mod homes;
 mod kept_check;
 mod laws;
-mod place;
 mod plain_laws;
+mod precomputed;
 mod sizes;
 mod slot_laws;
 mod slot_text;
@@ -25,11 +26,11 @@ mod touched_laws;
 mod typed_laws;
 mod undone_laws;
 mod weight_laws;
-mod worked;
 
 pub use accepting::{accept, of_source};
 pub use dictionary::Dictionary;
 pub use engine::FactEngine;
+pub use eval_position::EvalPosition;
 pub use extension_laws::extensions_are_tested;
 pub use fault::DictFault;
 pub use faultless::of_faultless_source;
@@ -41,7 +42,6 @@ pub use laws::{
     homes_are_collections, mentions_come_first, slot_texts_spell_paths, the_dictionary_is_one,
     the_fault_is_one, the_test_tells_steady,
 };
-pub use place::Place;
 pub use plain_laws::{
     known_values_are_joined_by_rank, lower_facts_are_enough, plain_evaluation_is_recursive,
     standing_slots_have_results,

@@ -1,3 +1,4 @@
+// The paths of slots, printed.
 ghost use Rattle.std.specs.Prelude.{◌≡◌, ◌+◌, ◌≤◌, ◌++◌, codes, decimal, length, option_map};
 ghost use Rattle.fact_paths.specs.Paths.{slot_path_text};
 ghost use Rattle.dictionary.specs.Accepted.{accepted};

@@ -9,7 +9,7 @@ ghost use Rattle.dict_order.specs.MentionGraph.{mention_graph};
 ghost use Rattle.dict_order.specs.Ranks.{AreRanks};
 ghost use Rattle.evaluation.specs.Order.{is_value_read};
 ghost use Rattle.dictionary.specs.ByRank.{AreByRank};
-ghost use Rattle.dictionary.specs.SteadyReading.{TellsSteady, known_at, steady_body, steady_cases, steady_conditional, steady_option, steady_source, steady_target, steady_trees, steady_use};
+ghost use Rattle.dictionary.specs.SteadyDependencies.{TellsSteady, known_at, steady_body, steady_cases, steady_conditional, steady_option, steady_source, steady_target, steady_trees, steady_use};
 
 use dict_tree::{Case, Conditional, DictSource, Expr, FactSource, PathUse, ReadOp};
 use fact_paths::UsePath;

@@ -15,7 +15,7 @@ use Rattle.three_state.specs.declared.strict.Verdict.TheVariants as verdict
 use Rattle.three_state.specs.Results.{filter_members, find_member, find_of, first_fault, is_complete, is_complete_at, is_incomplete, is_placeholder, is_placeholder_at, junction, kept, outcome, strict, switch_case, switch_of, truth, values_of, verdict_of}
 use Rattle.evaluation.specs.Operations.{all_from, all_true, any_from, any_true, many_value, on_one, on_two, one_value, two_value}
 use Rattle.evaluation.specs.Over.{over, over_all, over_cases, many_of, one_of, pick_of}
-use Rattle.evaluation.specs.Sure.{Known, IsKnown, value_of, first_found, first_member, picked, worth, worth_of_all, worth_of_cases, has_pick, is_sure, is_sure_of_all, is_sure_of_cases}
+use Rattle.evaluation.specs.Sure.{KnownValues, IsKnown, value_of, first_found, first_member, picked, worth, worth_of_all, worth_of_cases, has_pick, is_sure, is_sure_of_all, is_sure_of_cases}
 use Rattle.common_lemmas.proofs.Bools.{and_assoc, and_true, both_left, both_right, or_assoc, or_false}
 
 -- ---- rules on complete operands
@@ -153,7 +153,7 @@ pick_sure Find source ms f g sure e h k p = rw e (find_sure f g sure h ms k ∙ 
 -- ---- expressions
 
 mutual
-  pub sure : {C R P S : Type 0} (k : Known C R P S) → IsKnown k → (t : Tree C R P) (at : S) → IsTrue (is_sure k at t) → over k.env at t ≡ Complete (worth k at t)
+  pub sure : {C R P S : Type 0} (k : KnownValues C R P S) → IsKnown k → (t : Tree C R P) (at : S) → IsTrue (is_sure k at t) → over k.env at t ≡ Complete (worth k at t)
   sure k h (literal c) at s = refl
   sure k h (read r) at s = h.reads at r s
   sure k h (switch cs) at s = sure_cases k h cs at s
@@ -175,11 +175,11 @@ mutual
       pick_sure op (k.env.source at p) (k.members at p) (λ m. over k.env (k.env.enter at p m) t) (λ m. worth k (k.env.enter at p m) t) (λ m. is_sure k (k.env.enter at p m) t)
       (h.source at p (both_left (k.has_members at p) (each && some) s)) (λ m. sure k h t (k.env.enter at p m)) (both_left each some rest) (both_right each some rest)
 
-  pub sure_all : {C R P S : Type 0} (k : Known C R P S) → IsKnown k → (ts : Trees C R P) (at : S) → IsTrue (is_sure_of_all k at ts) → over_all k.env at ts ≡ map Complete (worth_of_all k at ts)
+  pub sure_all : {C R P S : Type 0} (k : KnownValues C R P S) → IsKnown k → (ts : Trees C R P) (at : S) → IsTrue (is_sure_of_all k at ts) → over_all k.env at ts ≡ map Complete (worth_of_all k at ts)
   sure_all k h no_trees at s = refl
   sure_all k h (tree t ts) at s = rw (sure k h t at (both_left (is_sure k at t) (is_sure_of_all k at ts) s), sure_all k h ts at (both_right (is_sure k at t) (is_sure_of_all k at ts) s)) refl
 
-  pub sure_cases : {C R P S : Type 0} (k : Known C R P S) → IsKnown k → (cs : Cases C R P) (at : S) → IsTrue (is_sure_of_cases k at cs) → switch_of (over_cases k.env at cs) ≡ Complete (worth_of_cases k at cs)
+  pub sure_cases : {C R P S : Type 0} (k : KnownValues C R P S) → IsKnown k → (cs : Cases C R P) (at : S) → IsTrue (is_sure_of_cases k at cs) → switch_of (over_cases k.env at cs) ≡ Complete (worth_of_cases k at cs)
   sure_cases k h no_cases at s = absurd (cc)
   sure_cases k h (a_case t o cs) at s =
       let last = is_sure_of_cases k at cs || truth (worth k at t) in
@@ -187,7 +187,7 @@ mutual
       case_sure (over k.env at t) (over k.env at o) (switch_of (over_cases k.env at cs)) (worth k at t) (worth k at o) (worth_of_cases k at cs) (is_sure_of_cases k at cs)
       (sure k h t at (both_left (is_sure k at t) (is_sure k at o && last) s)) (sure k h o at (both_left (is_sure k at o) last rest)) (sure_cases k h cs at) (both_right (is_sure k at o) last rest)
 
-pub sure-find : {C R P S : Type 0} (k : Known C R P S) → IsKnown k → (p : P) (t : Tree C R P) (at : S) → IsTrue (k.has_members at p) → IsTrue (list_all (λ m. is_sure k (k.env.enter at p m) t) (k.members at p))
+pub sure-find : {C R P S : Type 0} (k : KnownValues C R P S) → IsKnown k → (p : P) (t : Tree C R P) (at : S) → IsTrue (k.has_members at p) → IsTrue (list_all (λ m. is_sure k (k.env.enter at p m) t) (k.members at p))
     → over k.env at (pick Find p t) ≡ first_found (filter (λ m. truth (worth k (k.env.enter at p m) t)) (k.members at p))
 sure-find k h p t at has each =
     ap (λ source. find_of source (λ m. over k.env (k.env.enter at p m) t)) (h.source at p has)

@@ -37,7 +37,7 @@ use Rattle.dictionary.specs.Accepted.{Accepted, IsAccepted}
 use Rattle.dictionary.specs.Extension.{Extends, IsExtension, both_same}
 use Rattle.dictionary.specs.Fits.{is_writable}
 use Rattle.dictionary.specs.Plain.{answer_result, at_fact, body, conditional_body, expression, given_value, main_result, open_list, or_override, or_placeholder, plain, rank, slot_result}
-use Rattle.dictionary.specs.Reading.{Look, Place, collection, dependency, field_type, outermost, read_by, read_result, result_at, source_env, source_result, slot}
+use Rattle.dictionary.specs.Dependencies.{Results, EvalPosition, collection, dependency, field_type, outermost, read_by, read_result, result_at, source_env, source_result, slot}
 use Rattle.dictionary.specs.Slots.{standing, stands}
 use Rattle.dictionary.proofs.ExtensionLaws.{equal_same, same_option}
 use Rattle.dictionary.proofs.PlainLaws.{plain_is_recursive}
@@ -54,37 +54,37 @@ use Rattle.explain.proofs.SlotLists.{all_at, all_where, in_filter, test_all, tes
 -- ---- two maps that give the slots that are read alike
 
 -- the maps give the slot alike
-abbrev pub alike : Look → Look → Slot → Bool
-alike look look' t = both_same res_same (look t) (look' t)
+abbrev pub alike : Results → Results → Slot → Bool
+alike results results' t = both_same res_same (results t) (results' t)
 
-same_there : (look look' : Look) (t : Slot) → IsTrue (alike look look' t) → look t ≡ look' t
-same_there look look' t h = same_option res_same (λ r s. (res_same-Decides r s).0) (look t) (look' t) h
+same_there : (results results' : Results) (t : Slot) → IsTrue (alike results results' t) → results t ≡ results' t
+same_there results results' t h = same_option res_same (λ r s. (res_same-Decides r s).0) (results t) (results' t) h
 
-there_same : (look look' : Look) (t : Slot) → look t ≡ look' t → IsTrue (alike look look' t)
-there_same look look' t e = rw e (equal_same res_same res_same-Decides (look' t))
+there_same : (results results' : Results) (t : Slot) → results t ≡ results' t → IsTrue (alike results results' t)
+there_same results results' t e = rw e (equal_same res_same res_same-Decides (results' t))
 
-module _ (look look' : Look) where
+module _ (results results' : Results) where
   abbrev test : Slot → Bool
-  test = alike look look'
+  test = alike results results'
 
-  target_same : (o : Option ℕ) (m : ℕ) → IsTrue (list_all test (target_slot o m)) → result_at look o m ≡ result_at look' o m
+  target_same : (o : Option ℕ) (m : ℕ) → IsTrue (list_all test (target_slot o m)) → result_at results o m ≡ result_at results' o m
   target_same None m h = refl
-  target_same (Some n) m h = ap (λ r. unwrap_or r Incomplete) (same_there look look' (slot n m) (both (test (slot n m)) true h).0)
+  target_same (Some n) m h = ap (λ r. unwrap_or r Incomplete) (same_there results results' (slot n m) (both (test (slot n m)) true h).0)
 
   through_same : (item : Res) (field field' : ℕ → Res) → ((m : ℕ) → IsIn (member_read item) m → field m ≡ field' m) → through_item item field ≡ through_item item field'
   through_same (Complete (Item m)) field field' h = h m (is_first m [])
   through_same (Placeholder (Item m)) field field' h = ap down (h m (is_first m []))
   through_same _ field field' h = refl
 
-  item_same : (first second : Option ℕ) (m : ℕ) → IsTrue (list_all test (item_read (result_at look first m) (target_slot first m) (target_slot second)))
-      → through_item (result_at look first m) (result_at look second) ≡ through_item (result_at look' first m) (result_at look' second)
+  item_same : (first second : Option ℕ) (m : ℕ) → IsTrue (list_all test (item_read (result_at results first m) (target_slot first m) (target_slot second)))
+      → through_item (result_at results first m) (result_at results second) ≡ through_item (result_at results' first m) (result_at results' second)
   item_same first second m h =
-      let item = result_at look first m in
+      let item = result_at results first m in
       let parts = all_parts test (target_slot first m) (flat_map (target_slot second) (member_read item)) h in
-      through_same item (result_at look second) (result_at look' second) (λ n i. target_same second n (all_at_member test (target_slot second) (member_read item) parts.1 n i))
-      ∙ ap (λ r. through_item r (result_at look' second)) (target_same first m parts.0)
+      through_same item (result_at results second) (result_at results' second) (λ n i. target_same second n (all_at_member test (target_slot second) (member_read item) parts.1 n i))
+      ∙ ap (λ r. through_item r (result_at results' second)) (target_same first m parts.0)
 
-  dependency_same : (t : Targets) (at : Place) (path : UsePath) → IsTrue (list_all test (dependency_reads look t at path)) → dependency look t at path ≡ dependency look' t at path
+  dependency_same : (t : Targets) (at : EvalPosition) (path : UsePath) → IsTrue (list_all test (dependency_reads results t at path)) → dependency results t at path ≡ dependency results' t at path
   dependency_same t at (Global n) h = target_same t.first 0 h
   dependency_same t at (Sibling n) h = target_same t.first at.own h
   dependency_same t at (Inner n) h = target_same t.first at.inner h
@@ -92,12 +92,12 @@ module _ (look look' : Look) where
   dependency_same t at (Through n m) h = item_same t.first t.second 0 h
   dependency_same t at (SiblingThrough n m) h = item_same t.first t.second at.own h
 
-  fields_same : (t : Targets) → IsTrue (list_all test (field_reads look t)) → (collection look t ≡ collection look' t) × (map (result_at look t.second) (members_of (collection look t)) ≡ map (result_at look' t.second) (members_of (collection look t)))
+  fields_same : (t : Targets) → IsTrue (list_all test (field_reads results t)) → (collection results t ≡ collection results' t) × (map (result_at results t.second) (members_of (collection results t)) ≡ map (result_at results' t.second) (members_of (collection results t)))
   fields_same t h =
-      let ms = members_of (collection look t) in
+      let ms = members_of (collection results t) in
       let parts = all_parts test (target_slot t.first 0) (flat_map (target_slot t.second) ms) h in (
         target_same t.first 0 parts.0,
-        map_same (result_at look t.second) (result_at look' t.second) ms (λ n i. target_same t.second n (all_at_member test (target_slot t.second) ms parts.1 n i)),
+        map_same (result_at results t.second) (result_at results' t.second) ms (λ n i. target_same t.second n (all_at_member test (target_slot t.second) ms parts.1 n i)),
       )
 
   sum_same : (t : FactType) (source source' : Res) (field field' : ℕ → Res) → source ≡ source' → map field (members_of source) ≡ map field' (members_of source) → sum_over t source field ≡ sum_over t source' field'
@@ -107,24 +107,24 @@ module _ (look look' : Look) where
   count_same : (source source' : Res) (field field' : ℕ → Res) → source ≡ source' → map field (members_of source) ≡ map field' (members_of source) → count_of source field ≡ count_of source' field'
   count_same source source' field field' e h = rw (h, e) refl
 
-  op_same : (op : ReadOp) (d : Tree) (t : Targets) (at : Place) (path : UsePath) → IsTrue (list_all test (reads_of_op op look t at path)) → read_by op d look t at path ≡ read_by op d look' t at path
+  op_same : (op : ReadOp) (d : Tree) (t : Targets) (at : EvalPosition) (path : UsePath) → IsTrue (list_all test (reads_of_op op results t at path)) → read_by op d results t at path ≡ read_by op d results' t at path
   op_same read_op.Dependency d t at path h = dependency_same t at path h
   op_same read_op.IsComplete d t at path h = ap complete_test (dependency_same t at path h)
   op_same read_op.CollectionSize d t at path h = ap collection_size (target_same t.first 0 h)
   op_same read_op.CollectionSum d t at path h =
-      let same = fields_same t h in sum_same (field_type d t) (collection look t) (collection look' t) (result_at look t.second) (result_at look' t.second) same.0 same.1
+      let same = fields_same t h in sum_same (field_type d t) (collection results t) (collection results' t) (result_at results t.second) (result_at results' t.second) same.0 same.1
   op_same read_op.Count d t at path h =
-      let same = fields_same t h in count_same (collection look t) (collection look' t) (result_at look t.second) (result_at look' t.second) same.0 same.1
+      let same = fields_same t h in count_same (collection results t) (collection results' t) (result_at results t.second) (result_at results' t.second) same.0 same.1
 
-  node_same : (d : Tree) (fact : ℕ) (at : Place) (op : ReadOp) (path : Option UsePath) → IsTrue (list_all test (node_reads d look fact at op path)) → read_result d look fact at op path ≡ read_result d look' fact at op path
+  node_same : (d : Tree) (fact : ℕ) (at : EvalPosition) (op : ReadOp) (path : Option UsePath) → IsTrue (list_all test (node_reads d results fact at op path)) → read_result d results fact at op path ≡ read_result d results' fact at op path
   node_same d fact at op None h = refl
   node_same d fact at op (Some path) h = op_same op d (targets d fact at.base path) at path h
 
-  source_same : (d : Tree) (fact : ℕ) (at : Place) (path : Option UsePath) → IsTrue (list_all test (source_reads d fact at path)) → source_result d look fact at path ≡ source_result d look' fact at path
+  source_same : (d : Tree) (fact : ℕ) (at : EvalPosition) (path : Option UsePath) → IsTrue (list_all test (source_reads d fact at path)) → source_result d results fact at path ≡ source_result d results' fact at path
   source_same d fact at None h = refl
   source_same d fact at (Some path) h = target_same (targets d fact at.base path).first 0 h
 
-  answer_alike : (d : Tree) (fact : ℕ) → AnswerAlike (reads_by d look fact) test (source_env d look fact) (source_env d look' fact)
+  answer_alike : (d : Tree) (fact : ℕ) → AnswerAlike (reads_by d results fact) test (source_env d results fact) (source_env d results' fact)
   answer_alike d fact = record {
     constant = λ c. refl;
     enter = λ at p m. refl;
@@ -133,10 +133,10 @@ module _ (look look' : Look) where
   }
 
   -- an expression of which all that is read is given alike
-  expression_same : (d : Tree) (s : Slot) (t : Source) → AllOf (λ u. look u ≡ look' u) (expression_reads d look s t) → expression d look s t ≡ expression d look' s t
+  expression_same : (d : Tree) (s : Slot) (t : Source) → AllOf (λ u. results u ≡ results' u) (expression_reads d results s t) → expression d results s t ≡ expression d results' s t
   expression_same d s t h =
-      reads-decide (reads_by d look s.fact) test (source_env d look s.fact) (source_env d look' s.fact) (answer_alike d s.fact) t (outermost s.member)
-      (test_all test (expression_reads d look s t) (all_where (λ u. IsTrue (test u)) (expression_reads d look s t) (λ u i. there_same look look' u (all_at (λ u. look u ≡ look' u) (expression_reads d look s t) h u i))))
+      reads-decide (reads_by d results s.fact) test (source_env d results s.fact) (source_env d results' s.fact) (answer_alike d s.fact) t (outermost s.member)
+      (test_all test (expression_reads d results s t) (all_where (λ u. IsTrue (test u)) (expression_reads d results s t) (λ u i. there_same results results' u (all_at (λ u. results u ≡ results' u) (expression_reads d results s t) h u i))))
 
 -- ---- a slot
 
@@ -157,32 +157,32 @@ no_main : (f : Fact) (main : Option Source) → option_map (conditional_body f.c
 no_main f None e = refl
 no_main f (Some t) e = absurd (cc)
 
-module _ (d : Tree) (a b : Answered) (look look' : Look) (s : Slot) where
+module _ (d : Tree) (a b : Answered) (results results' : Results) (s : Slot) where
   abbrev SameAt : Slot → Type 0
-  SameAt u = look u ≡ look' u
+  SameAt u = results u ≡ results' u
 
-  overridden : (o : Option Value) (t : Source) → AllOf SameAt (if is_some o then [] else expression_reads d look s t) → or_override o (expression d look s t) ≡ or_override o (expression d look' s t)
-  overridden None t h = expression_same look look' d s t h
+  overridden : (o : Option Value) (t : Source) → AllOf SameAt (if is_some o then [] else expression_reads d results s t) → or_override o (expression d results s t) ≡ or_override o (expression d results' s t)
+  overridden None t h = expression_same results results' d s t h
   overridden (Some v) t h = refl
 
-  main_same : (f : Fact) (t : Option Source) → body f ≡ t → SameGiven a b s f → AllOf SameAt (main_reads d a look s t) → main_result d a look s f.stated t ≡ main_result d b look' s f.stated t
+  main_same : (f : Fact) (t : Option Source) → body f ≡ t → SameGiven a b s f → AllOf SameAt (main_reads d a results s t) → main_result d a results s f.stated t ≡ main_result d b results' s f.stated t
   main_same f None e g h = ap answer_result (g.value (no_main f f.main e))
-  main_same f (Some t) e g h = overridden (value_of Override a s) t h ∙ ap (λ v. or_override v (expression d look' s t)) (sym g.override)
+  main_same f (Some t) e g h = overridden (value_of Override a s) t h ∙ ap (λ v. or_override v (expression d results' s t)) (sym g.override)
 
-  placeholder_same : (t : Option Source) (r : Res) → AllOf SameAt (placeholder_reads d look s t (is_incomplete r)) → or_placeholder d look s t r ≡ or_placeholder d look' s t r
+  placeholder_same : (t : Option Source) (r : Res) → AllOf SameAt (placeholder_reads d results s t (is_incomplete r)) → or_placeholder d results s t r ≡ or_placeholder d results' s t r
   placeholder_same None r h = refl
-  placeholder_same (Some t) Incomplete h = ap down (expression_same look look' d s t h)
+  placeholder_same (Some t) Incomplete h = ap down (expression_same results results' d s t h)
   placeholder_same (Some t) (Complete v) h = refl
   placeholder_same (Some t) (Placeholder v) h = refl
   placeholder_same (Some t) (Fault fault) h = refl
 
-  pub slot_same : (f : Fact) → SameGiven a b s f → AllOf SameAt (fact_reads d a look s f) → slot_result d a look s f ≡ slot_result d b look' s f
+  pub slot_same : (f : Fact) → SameGiven a b s f → AllOf SameAt (fact_reads d a results s f) → slot_result d a results s f ≡ slot_result d b results' s f
   slot_same f g h =
-      let main = main_result d a look s f.stated (body f) in
-      let first = main_reads d a look s (body f) in
-      let rest = placeholder_reads d look s f.placeholder (is_incomplete main) in
+      let main = main_result d a results s f.stated (body f) in
+      let first = main_reads d a results s (body f) in
+      let rest = placeholder_reads d results s f.placeholder (is_incomplete main) in
       placeholder_same f.placeholder main (right_of SameAt first rest h)
-      ∙ ap (or_placeholder d look' s f.placeholder) (main_same f (body f) refl g (left_of SameAt first rest h))
+      ∙ ap (or_placeholder d results' s f.placeholder) (main_same f (body f) refl g (left_of SameAt first rest h))
 
 -- ---- what was given is given later, and what is missing isn't
 

@@ -18,7 +18,7 @@ use Rattle.dictionary.specs.Accepted.{Accepted, IsAccepted}
 use Rattle.dictionary.specs.Fits.{AnswersFit}
 use Rattle.dictionary.specs.Homes.{home}
 use Rattle.dictionary.specs.Plain.{at_fact, plain}
-use Rattle.dictionary.specs.Reading.{Place, outermost, result_at, slot}
+use Rattle.dictionary.specs.Dependencies.{EvalPosition, outermost, result_at, slot}
 use Rattle.dictionary.specs.Slots.{stands, stands_at}
 use Rattle.dictionary.proofs.FactMentions.{uses_of_fact}
 use Rattle.dictionary.proofs.MemberLaws.{member_stands, named_by_item, named_by_list, zero_is_none}
@@ -78,7 +78,7 @@ module _ (checks : List (List ℕ)) (d : Accepted) (accepted : IsAccepted checks
       let here : IsTrue (stands_at a (home d.tree n) m) = rw (same, own_is) own in
       (once n f.0 f.1, there n m f.0 f.1 here)
 
-  of_inner : (name : List ℕ) (n : ℕ) (at : Place) → IsReached d a a s at → find_member d.tree name (global_at d.tree at.base) ≡ Some n → H (slot n 0) × H (slot n at.inner)
+  of_inner : (name : List ℕ) (n : ℕ) (at : EvalPosition) → IsReached d a a s at → find_member d.tree name (global_at d.tree at.base) ≡ Some n → H (slot n 0) × H (slot n at.inner)
   of_inner name n at j e =
       let f = member_there d.tree name (global_at d.tree at.base) n e in
       (once n f.0 f.1, there n at.inner f.0 f.1 (inner_stands (global_at d.tree at.base) refl e))
@@ -90,7 +90,7 @@ module _ (checks : List (List ℕ)) (d : Accepted) (accepted : IsAccepted checks
   abbrev OfTarget : Option ℕ → ℕ → Type 0
   OfTarget o m = AllOf H (target_slot o m)
 
-  of_first : (at : Place) → IsReached d a a s at → (path : UsePath) (o : Option ℕ) → first_target d.tree s.fact at.base path ≡ o → OfTarget o 0 × OfTarget o (first_member at path)
+  of_first : (at : EvalPosition) → IsReached d a a s at → (path : UsePath) (o : Option ℕ) → first_target d.tree s.fact at.base path ≡ o → OfTarget o 0 × OfTarget o (first_member at path)
   of_first at j path None e = (tt, tt)
   of_first at j (Global n) (Some t) e = let h = of_global n t e in ((h, tt), (h, tt))
   of_first at j (Sibling n) (Some t) e = let h = of_sibling n t at.own e j.own in ((h.0, tt), (h.1, tt))

@@ -12,7 +12,7 @@ use Rattle.answers.specs.Answered.{Answered}
 use Rattle.common_lemmas.proofs.Bools.{and_intro, both, or_right}
 use Rattle.dictionary.specs.Accepted.{Accepted, IsAccepted}
 use Rattle.dictionary.specs.Plain.{at_fact, plain, rank}
-use Rattle.dictionary.specs.Reading.{Place}
+use Rattle.dictionary.specs.Dependencies.{EvalPosition}
 use Rattle.dictionary.specs.Slots.{slot_same, stands}
 use Rattle.dictionary.proofs.RankLaws.{IsLowerMention, lower_uses}
 use Rattle.dictionary.proofs.ReadAgreement.{first_member}
@@ -35,7 +35,7 @@ module _ (d : Accepted) (s : Slot) where
   below_under : (a : Answered) → HoldsUnder d.tree s.fact (IsLowerMention d s.fact) (λ at. Unit {0}) (plain d a) IsBelow
   below_under a = record { reads = reads; enter = λ at j path k m i. tt }
     where
-      reads : (at : Place) → Unit {0} → (path : UsePath) → AllOf (IsLowerMention d s.fact) (use_mentions d.tree s.fact at.base (Some path)) → HoldsOf (plain d a) (targets d.tree s.fact at.base path) at path IsBelow
+      reads : (at : EvalPosition) → Unit {0} → (path : UsePath) → AllOf (IsLowerMention d s.fact) (use_mentions d.tree s.fact at.base (Some path)) → HoldsOf (plain d a) (targets d.tree s.fact at.base path) at path IsBelow
       reads at j path k =
           let t = targets d.tree s.fact at.base path in
           let first = target_below (is_same path) t.first (all-left (IsLowerMention d s.fact) (mention_of (is_same path) t.first) (mention_of false t.second) k) in

@@ -1,5 +1,5 @@
 pub mod Found
-pub mod Ground
+pub mod SessionContext
 pub mod Listing
 pub mod Missing
 pub mod Reads

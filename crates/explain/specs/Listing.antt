@@ -4,7 +4,7 @@ use Rattle.fact_values.specs.declared.slot.Slot.{Slot}
 use Rattle.graph_session.specs.SessionView.{SessionView}
 use Rattle.explain.specs.declared.found.Found.{Found}
 use Rattle.explain.specs.Found.{has}
-use Rattle.explain.specs.Ground.{tree_of}
+use Rattle.explain.specs.SessionContext.{tree_of}
 use Rattle.explain.specs.Missing.{is_unanswered}
 
 abbrev pub is_listed : SessionView → Found → Slot → Bool

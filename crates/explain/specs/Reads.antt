@@ -12,28 +12,28 @@ use Rattle.answers.specs.Answered.{Answered, value_of}
 use Rattle.answers.specs.declared.edit.Side.TheVariants.{Override}
 use Rattle.dictionary.specs.Accepted.{Accepted}
 use Rattle.dictionary.specs.Plain.{at_fact, body, main_result, plain, rank}
-use Rattle.dictionary.specs.Reading.{Look, outermost, source_env}
+use Rattle.dictionary.specs.Dependencies.{Results, outermost, source_env}
 use Rattle.dictionary.specs.Slots.{slot_same, stands}
 use Rattle.plain_table.specs.NodeReads.{reads_by}
 
 -- ---- what a slot reads
 
 -- what an expression of the slot's fact reads
-abbrev pub expression_reads : Tree → Look → Slot → Source → List Slot
-expression_reads d look s t = slots_read (source_env d look s.fact) (reads_by d look s.fact) (outermost s.member) t
+abbrev pub expression_reads : Tree → Results → Slot → Source → List Slot
+expression_reads d results s t = slots_read (source_env d results s.fact) (reads_by d results s.fact) (outermost s.member) t
 
 -- a derived slot reads what its body reads, and nothing where it is overridden
-abbrev pub main_reads : Tree → Answered → Look → Slot → Option Source → List Slot
-main_reads d a look s None = []
-main_reads d a look s (Some t) = if is_some (value_of Override a s) then [] else expression_reads d look s t
+abbrev pub main_reads : Tree → Answered → Results → Slot → Option Source → List Slot
+main_reads d a results s None = []
+main_reads d a results s (Some t) = if is_some (value_of Override a s) then [] else expression_reads d results s t
 
 -- a slot whose main result is incomplete reads what its placeholder reads
-abbrev pub placeholder_reads : Tree → Look → Slot → Option Source → Bool → List Slot
-placeholder_reads d look s None incomplete = []
-placeholder_reads d look s (Some t) incomplete = if incomplete then expression_reads d look s t else []
+abbrev pub placeholder_reads : Tree → Results → Slot → Option Source → Bool → List Slot
+placeholder_reads d results s None incomplete = []
+placeholder_reads d results s (Some t) incomplete = if incomplete then expression_reads d results s t else []
 
-abbrev pub fact_reads : Tree → Answered → Look → Slot → Fact → List Slot
-fact_reads d a look s f = main_reads d a look s (body f) ++ placeholder_reads d look s f.placeholder (is_incomplete (main_result d a look s f.stated (body f)))
+abbrev pub fact_reads : Tree → Answered → Results → Slot → Fact → List Slot
+fact_reads d a results s f = main_reads d a results s (body f) ++ placeholder_reads d results s f.placeholder (is_incomplete (main_result d a results s f.stated (body f)))
 
 -- in the order in which the evaluation meets them, each as often as it is met
 abbrev pub slot_reads : Accepted → Answered → Slot → List Slot

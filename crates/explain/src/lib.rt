@@ -1,8 +1,8 @@
 //! Which answers are missing: what the evaluation of a slot reads that isn't answered.
 #![tactic(auto)]
 
+mod context;
 mod found;
-mod ground;
 mod laws;
 mod listing;
 mod missing_answers;

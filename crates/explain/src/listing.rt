@@ -1,9 +1,9 @@
 // The slots that stand, in order, of which those are taken that were found and are unanswered.
 ghost use Rattle.std.specs.Prelude.{◌≡◌, ◌++◌, ◌∷◌, [], IfOk, OnOk, filter, map};
 ghost use Rattle.dict_tree.specs.Finding.{IsNumber};
-ghost use Rattle.dictionary.specs.Reading.{slot as slot_at};
+ghost use Rattle.dictionary.specs.Dependencies.{slot as slot_at};
 ghost use Rattle.dictionary.specs.Slots.{slots_of, standing};
-ghost use Rattle.explain.specs.Ground.{tree_of};
+ghost use Rattle.explain.specs.SessionContext.{tree_of};
 ghost use Rattle.explain.specs.Listing.{is_listed as listed};
 
 use crate::found::{Found, push_if};

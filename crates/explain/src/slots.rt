@@ -7,15 +7,15 @@ ghost use Rattle.dict_tree.specs.Facts.{fact_view, stated_view};
 ghost use Rattle.dict_tree.specs.View.{view};
 ghost use Rattle.dictionary.specs.Accepted.{accepted};
 ghost use Rattle.dictionary.specs.Plain.{body, given_value, main_result};
-ghost use Rattle.explain.specs.Ground.{look_of, tree_of};
+ghost use Rattle.explain.specs.SessionContext.{results_of, tree_of};
 ghost use Rattle.explain.specs.Missing.{is_unanswered as lacks};
 ghost use Rattle.explain.specs.Reads.{fact_reads, main_reads, placeholder_reads, slot_reads as reads_of};
 ghost use Rattle.three_state.specs.Results.{is_incomplete as incomplete};
 
-use crate::ground::{ReadSlots, SessionGround};
+use crate::context::{ReadSlots, SessionContext};
 use answers::Answers;
 use dict_tree::{Expr, FactSource, TypeText};
-use dictionary::{FactEngine, Place};
+use dictionary::{EvalPosition, FactEngine};
 use fact_values::{NoMemory, Slot};
 use graph_session::Session;
 use plain_table::{eval, eval_body};
@@ -67,8 +67,8 @@ fn visit_main<E: FactEngine, L: Ledger>(
     reads: &mut ReadSlots,
     steps: &mut Steps<L>,
 ) -> Result<bool, NoMemory>
-    ensures value { IfOk result (λ b. b ≡ incomplete (main_result (tree_of session.now) session.now.timeline.now (look_of session.now) slot (fact_view fact.now).stated (body (fact_view fact.now)))) }
-    ensures reads { OnOk result (reads.new.slots.items ≡ reads.old.slots.items ++ main_reads (tree_of session.now) session.now.timeline.now (look_of session.now) slot (body (fact_view fact.now))) }
+    ensures value { IfOk result (λ b. b ≡ incomplete (main_result (tree_of session.now) session.now.timeline.now (results_of session.now) slot (fact_view fact.now).stated (body (fact_view fact.now)))) }
+    ensures reads { OnOk result (reads.new.slots.items ≡ reads.old.slots.items ++ main_reads (tree_of session.now) session.now.timeline.now (results_of session.now) slot (body (fact_view fact.now))) }
 {
     match &fact.main {
         None => Ok(lacks_value(session.answers(), slot, &fact.stated)),
@@ -76,9 +76,9 @@ fn visit_main<E: FactEngine, L: Ledger>(
             if session.answers().override_of(slot).is_some() {
                 return Ok(false);
             }
-            let at = Place::outermost(slot.member);
-            let ground = SessionGround::new(session, slot.fact);
-            let res = eval_body(alloc, &ground, at, &fact.conditional, main, reads, steps)?;
+            let at = EvalPosition::outermost(slot.member);
+            let context = SessionContext::new(session, slot.fact);
+            let res = eval_body(alloc, &context, at, &fact.conditional, main, reads, steps)?;
             Ok(is_incomplete(&res))
         }
     }
@@ -94,7 +94,7 @@ fn visit_placeholder<E: FactEngine, L: Ledger>(
     reads: &mut ReadSlots,
     steps: &mut Steps<L>,
 ) -> Result<(), NoMemory>
-    ensures { OnOk result (reads.new.slots.items ≡ reads.old.slots.items ++ placeholder_reads (tree_of session.now) (look_of session.now) slot (option_map view placeholder.now) stands_in) }
+    ensures { OnOk result (reads.new.slots.items ≡ reads.old.slots.items ++ placeholder_reads (tree_of session.now) (results_of session.now) slot (option_map view placeholder.now) stands_in) }
 {
     let Some(expr) = placeholder else {
         return Ok(());
@@ -102,9 +102,9 @@ fn visit_placeholder<E: FactEngine, L: Ledger>(
     if !stands_in {
         return Ok(());
     }
-    let at = Place::outermost(slot.member);
-    let ground = SessionGround::new(session, slot.fact);
-    eval(alloc, &ground, at, expr, reads, steps)?;
+    let at = EvalPosition::outermost(slot.member);
+    let context = SessionContext::new(session, slot.fact);
+    eval(alloc, &context, at, expr, reads, steps)?;
     Ok(())
 }
 
@@ -117,7 +117,7 @@ fn visit_fact<E: FactEngine, L: Ledger>(
     reads: &mut ReadSlots,
     steps: &mut Steps<L>,
 ) -> Result<(), NoMemory>
-    ensures { OnOk result (reads.new.slots.items ≡ reads.old.slots.items ++ fact_reads (tree_of session.now) session.now.timeline.now (look_of session.now) slot (fact_view fact.now)) }
+    ensures { OnOk result (reads.new.slots.items ≡ reads.old.slots.items ++ fact_reads (tree_of session.now) session.now.timeline.now (results_of session.now) slot (fact_view fact.now)) }
 {
     let stands_in = visit_main(alloc, session, slot, fact, reads, steps)?;
     visit_placeholder(

@@ -4,7 +4,7 @@ ghost use Rattle.fact_values.specs.declared.slot.Slot.{Slot};
 ghost use Rattle.dictionary.specs.Accepted.{accepted};
 ghost use Rattle.dictionary.specs.Slots.{stands};
 ghost use Rattle.explain.specs.Found.{has};
-ghost use Rattle.explain.specs.Ground.{tree_of};
+ghost use Rattle.explain.specs.SessionContext.{tree_of};
 ghost use Rattle.explain.specs.Reads.{is_read};
 ghost use Rattle.explain.specs.Walk.{AddsReads};
 

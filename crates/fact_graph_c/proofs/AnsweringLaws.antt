@@ -6,7 +6,7 @@ use Rattle.fg_io.specs.Outside.{Rose}
 use Rattle.fg_io.specs.Sent.{Sent}
 use Rattle.fg_io.proofs.SentLaws.{sent_whole}
 use Rattle.script_lines.specs.Lines.{ScriptLine, whole, long}
-use Rattle.script_lines.specs.Reading.{command, heard_in}
+use Rattle.script_lines.specs.Parsing.{command, heard_in}
 use Rattle.script_lines.specs.declared.command.Command.TheVariants.{Get}
 use Rattle.fact_paths.specs.declared.slot_path.SlotPath.{SlotPath}
 use Rattle.graph_session.specs.Naming.{slot_of}
@@ -18,10 +18,10 @@ use Rattle.session_lines.specs.Replies.{line_with}
 use Rattle.fact_graph_c.specs.Asking.{text_of_found, text_of_get}
 use Rattle.dictionary.specs.Accepted.{Kept, Named, accepted}
 use Rattle.dictionary.specs.Fits.{AnswersFit}
-use Rattle.graph_session.specs.SessionView.{SessionView, course}
+use Rattle.graph_session.specs.SessionView.{SessionView, session_state}
 use Rattle.fact_watch.specs.Watching.{Watching}
-use Rattle.session_lines.specs.Answering.{standing_of}
-use Rattle.session_lines.specs.Stepping.{Standing, State, Step, open_at, replies, state_after, step, step_answered, step_command, step_heard}
+use Rattle.session_lines.specs.Answering.{line_state_of}
+use Rattle.session_lines.specs.Stepping.{LineState, State, Step, open_at, replies, state_after, step, step_answered, step_command, step_heard}
 use Rattle.fact_graph_c.specs.Answering.{Stays, TakesStep, line_given, rules_of, said, state_of}
 use Rattle.fact_graph_c.specs.Sound.{IsSound}
 use Rattle.session_lines.specs.Tables.{standard_relations}
@@ -45,16 +45,16 @@ module _ (old new : Engine) (line : List ℕ) where
   pub takes_step : (over : Bool) (relations : List Named) (lines : List ScriptLine)
       → relations ≡ standard_relations → lines ≡ line_given line ∷ []
       → old.over ≡ false → said old ≡ [] → new.over ≡ over
-      → Sent (Some (said old)) (Some (said new)) (replies (rules_of old) (open_at (standing_of old.session relations old.watches)) lines) []
-      → state_after (rules_of old) (open_at (standing_of old.session relations old.watches)) lines ≡ record { standing = standing_of new.session relations new.watches; over = over }
+      → Sent (Some (said old)) (Some (said new)) (replies (rules_of old) (open_at (line_state_of old.session relations old.watches)) lines) []
+      → state_after (rules_of old) (open_at (line_state_of old.session relations old.watches)) lines ≡ record { standing = line_state_of new.session relations new.watches; over = over }
       → TakesStep old new line over
   takes_step over relations lines standard given goes_on empty ends sent left =
       let r = rules_of old in
-      let here = open_at (standing_of old.session relations old.watches) in
-      let stands : here ≡ state_of old = λ i. record { standing = standing_of old.session (standard i) old.watches; over = sym goes_on i } in
+      let here = open_at (line_state_of old.session relations old.watches) in
+      let stands : here ≡ state_of old = λ i. record { standing = line_state_of old.session (standard i) old.watches; over = sym goes_on i } in
       let text : replies r here lines ≡ replies r (state_of old) (line_given line ∷ []) = λ i. replies r (stands i) (given i) in
       let state : state_after r here lines ≡ (step r (state_of old) (line_given line)).state = λ i. state_after r (stands i) (given i) in
-      let now : state_of new ≡ record { standing = standing_of new.session relations new.watches; over = over } = λ i. record { standing = standing_of new.session (sym standard i) new.watches; over = ends i } in
+      let now : state_of new ≡ record { standing = line_state_of new.session relations new.watches; over = over } = λ i. record { standing = line_state_of new.session (sym standard i) new.watches; over = ends i } in
       record {
         text = sent_whole (Some (said old)) (Some (said new)) (replies r here lines) sent ∙ ap (λ (t : List ℕ). t ++ replies r here lines) empty ∙ text ∙ append-nil (step r (state_of old) (line_given line)).text;
         state = now ∙ sym left ∙ state;
@@ -64,10 +64,10 @@ module _ (old new : Engine) (line : List ℕ) where
   -- nothing follows `quit`
   pub stays_over : old.over ≡ true → said new ≡ [] → new.session ≡ old.session → new.watches ≡ old.watches → new.over ≡ true → TakesStep old new line true
   stays_over quit empty session watches ends =
-      let here : State = record { standing = standing_of old.session standard_relations old.watches; over = true } in
+      let here : State = record { standing = line_state_of old.session standard_relations old.watches; over = true } in
       let stays : step (rules_of old) (state_of old) (line_given line) ≡ record { text = []; state = here } =
-      λ i. step (rules_of old) (record { standing = standing_of old.session standard_relations old.watches; over = quit i }) (line_given line) in
-      let now : state_of new ≡ here = λ i. record { standing = standing_of (session i) standard_relations (watches i); over = ends i } in
+      λ i. step (rules_of old) (record { standing = line_state_of old.session standard_relations old.watches; over = quit i }) (line_given line) in
+      let now : state_of new ≡ here = λ i. record { standing = line_state_of (session i) standard_relations (watches i); over = ends i } in
       record {
         text = empty ∙ sym (ap (λ (s : Step). s.text) stays);
         state = now ∙ sym (ap (λ (s : Step). s.state) stays);
@@ -77,47 +77,47 @@ module _ (old new : Engine) (line : List ℕ) where
 -- ---- no memory
 
 -- the script stands where it stood
-pub stays : (old new : Engine) (relations : List Named) → relations ≡ standard_relations → said new ≡ [] → standing_of new.session relations new.watches ≡ standing_of old.session relations old.watches → new.over ≡ old.over → Stays old new
+pub stays : (old new : Engine) (relations : List Named) → relations ≡ standard_relations → said new ≡ [] → line_state_of new.session relations new.watches ≡ line_state_of old.session relations old.watches → new.over ≡ old.over → Stays old new
 stays old new relations standard empty kept over =
-    let stands : standing_of new.session standard_relations new.watches ≡ standing_of old.session standard_relations old.watches =
-    subst (λ (ns : List Named). standing_of new.session ns new.watches ≡ standing_of old.session ns old.watches) standard kept in
+    let stands : line_state_of new.session standard_relations new.watches ≡ line_state_of old.session standard_relations old.watches =
+    subst (λ (ns : List Named). line_state_of new.session ns new.watches ≡ line_state_of old.session ns old.watches) standard kept in
     record { text = empty; state = λ i. record { standing = stands i; over = over i } }
 
 -- the text was longer than the room for it, so that its step changes nothing
 pub stays_full : (old : Engine) (line : List ℕ) (session : SessionView) (watches : Watching) (text : Text) (relations : List Named) (lines : List ScriptLine) (rest : List ℕ)
     → IsSound old → AnswersFit (accepted session.dict).tree session.timeline.now → session.dict ≡ old.session.dict
     → relations ≡ standard_relations → lines ≡ line_given line ∷ [] → said old ≡ [] → Rose old.text.faults text.faults
-    → Sent (Some (said old)) (Some text.bytes.items) (replies (rules_of old) (open_at (standing_of old.session relations old.watches)) lines) rest
-    → state_after (rules_of old) (open_at (standing_of old.session relations old.watches)) lines ≡ open_at (standing_of session relations watches)
-    → standing_of session relations watches ≡ standing_of old.session relations old.watches
+    → Sent (Some (said old)) (Some text.bytes.items) (replies (rules_of old) (open_at (line_state_of old.session relations old.watches)) lines) rest
+    → state_after (rules_of old) (open_at (line_state_of old.session relations old.watches)) lines ≡ open_at (line_state_of session relations watches)
+    → line_state_of session relations watches ≡ line_state_of old.session relations old.watches
 stays_full old line session watches text relations lines rest sound fit same standard given empty rose sent left =
     let r = rules_of old in
-    let here : Standing = standing_of old.session relations old.watches in
+    let here : LineState = line_state_of old.session relations old.watches in
     let made : Step = step r (open_at here) (line_given line) in
     let fits : AnswersFit (accepted old.session.dict).tree session.timeline.now = subst (λ (k : Kept). AnswersFit (accepted k).tree session.timeline.now) same fit in
     let whole_text : replies r (open_at here) lines ≡ made.text = ap (replies r (open_at here)) given ∙ append-nil made.text in
     let filled : 262144 ≤ length text.bytes.items = text.full (omega (arith, rose)) in
     let long_text : 262144 ≤ length made.text = omega (arith, filled, ap length sent.took, length-append (said old) sent.front, ap length empty, ap length sent.split, length-append sent.front rest, ap length whole_text) in
-    fills_still r here (standing_of session relations watches) sound.is_accepted sound.fit.well fits standard sound.few (line_given line) (ap (state_after r (open_at here)) (sym given) ∙ left) long_text
+    fills_still r here (line_state_of session relations watches) sound.is_accepted sound.fit.well fits standard sound.few (line_given line) (ap (state_after r (open_at here)) (sym given) ∙ left) long_text
 
 -- ---- `get`
 
 -- it says the result of the slot, or why there is none, and changes nothing
-step_get : (r : Rules) (s : Standing) (path : SlotPath) → step_command r s (Get path) ≡ record { text = line_with (text_of_get r s.course path); state = open_at s }
-step_get r s path = by (first_of (slot_refusals r s.course.timeline.now path))
+step_get : (r : Rules) (s : LineState) (path : SlotPath) → step_command r s (Get path) ≡ record { text = line_with (text_of_get r s.session_state path); state = open_at s }
+step_get r s path = by (first_of (slot_refusals r s.session_state.timeline.now path))
   where
-    by : (o : Option Refusal) → step_answered r s (Get path) (decided o (Answer (slot_of (tree_of r) path), s.course)) ≡ record { text = line_with (text_of_found r s.course (decided o (slot_of (tree_of r) path))); state = open_at s }
+    by : (o : Option Refusal) → step_answered r s (Get path) (decided o (Answer (slot_of (tree_of r) path), s.session_state)) ≡ record { text = line_with (text_of_found r s.session_state (decided o (slot_of (tree_of r) path))); state = open_at s }
     by None = refl
     by (Some refusal) = refl
 
 pub takes_get : (old new : Engine) (line : List ℕ) (path : SlotPath) → old.over ≡ false → length line ≤ 4096 → heard_in line ≡ command (Get path)
-    → new.session ≡ old.session → new.watches ≡ old.watches → new.over ≡ old.over → said new ≡ line_with (text_of_get (rules_of old) (course old.session) path) → TakesStep old new line false
+    → new.session ≡ old.session → new.watches ≡ old.watches → new.over ≡ old.over → said new ≡ line_with (text_of_get (rules_of old) (session_state old.session) path) → TakesStep old new line false
 takes_get old new line path goes_on short heard session watches over text =
     let r = rules_of old in
-    let here : Standing = standing_of old.session standard_relations old.watches in
-    let made : step r (state_of old) (line_given line) ≡ record { text = line_with (text_of_get r (course old.session) path); state = open_at here } =
+    let here : LineState = line_state_of old.session standard_relations old.watches in
+    let made : step r (state_of old) (line_given line) ≡ record { text = line_with (text_of_get r (session_state old.session) path); state = open_at here } =
     (λ i. step r (record { standing = here; over = goes_on i }) (given_whole line short i)) ∙ ap (step_heard r here) heard ∙ step_get r here path in
-    let now : state_of new ≡ open_at here = λ i. record { standing = standing_of (session i) standard_relations (watches i); over = (over ∙ goes_on) i } in
+    let now : state_of new ≡ open_at here = λ i. record { standing = line_state_of (session i) standard_relations (watches i); over = (over ∙ goes_on) i } in
     record {
       text = text ∙ sym (ap (λ (s : Step). s.text) made);
       state = now ∙ sym (ap (λ (s : Step). s.state) made);

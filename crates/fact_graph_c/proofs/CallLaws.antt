@@ -6,13 +6,13 @@ use Rattle.fact_graph_c.proofs.OpeningLaws.{Boxed}
 use Rattle.fact_graph_c.specs.declared.engine.Engine.{Engine}
 use Rattle.fact_graph_c.specs.declared.fault.Fault.{Fault}
 use Rattle.fact_graph_c.specs.declared.fault.NotBegun.{NotBegun}
-use Rattle.fact_graph_c.specs.declared.place.Place.{Place}
+use Rattle.fact_graph_c.specs.declared.session_slot.SessionSlot.{SessionSlot}
 
 -- a session that is begun is handed out, and else its fault is told
-pub tells : (Begins : Engine → Type 0) (IsWhy : NotBegun → Type 0) (place place_now : Place) (fault : Fault) (result : Result Boxed NotBegun) → IfOk result (λ x. Begins x.value) → IfErr result IsWhy
+pub tells : (Begins : Engine → Type 0) (IsWhy : NotBegun → Type 0) (place place_now : SessionSlot) (fault : Fault) (result : Result Boxed NotBegun) → IfOk result (λ x. Begins x.value) → IfErr result IsWhy
     → IfOk result (λ x. (place_now.value ≡ Some x.value) × (fault ≡ plain 0)) → IfErr result (λ why. (place_now ≡ place) × (fault ≡ fault_numbers why)) → BeginsCall Begins IsWhy place place_now fault
-tells Begins IsWhy place place_now fault (Ok x) begins why handed told = inl (x.value, begins, handed.0, handed.1)
-tells Begins IsWhy place place_now fault (Err reason) begins why handed told = inr (reason, why, told.0, told.1)
+tells Begins IsWhy place place_now fault (Ok x) begins why handed output = inl (x.value, begins, handed.0, handed.1)
+tells Begins IsWhy place place_now fault (Err reason) begins why handed output = inr (reason, why, output.0, output.1)
 
 -- with a text of this size
 pub sized : (Begins : Engine → Type 0) (Size : Engine → Type 0) (result : Result Boxed NotBegun) → IfOk result (λ x. Begins x.value) → IfOk result (λ x. Size x.value) → IfOk result (λ x. Begins x.value × Size x.value)

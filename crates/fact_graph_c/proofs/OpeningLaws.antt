@@ -7,7 +7,7 @@ use Rattle.dictionary.specs.Faults.{IsFault, Refuses}
 use Rattle.dictionary.specs.Fits.{AnswersFit}
 use Rattle.dictionary.specs.declared.fault.DictFault.TheVariants.{NoMemory}
 use Rattle.graph_session.specs.Rules.{Rules, rules, tree_of}
-use Rattle.graph_session.specs.SessionView.{SessionView, course, start_at}
+use Rattle.graph_session.specs.SessionView.{SessionView, session_state, start_at}
 use Rattle.fact_watch.specs.Watching.{nothing_watched}
 use Rattle.save_file.specs.Carrying.{IsCarry}
 use Rattle.save_file.specs.Dropped.{dropped_text}
@@ -26,7 +26,7 @@ use Rattle.fact_graph_c.specs.declared.fault.NotBegun.TheVariants.{Dictionary, S
 pub is_begun : (k : Kept) (a : Answered) (front : List ℕ) (e : Engine) → e.session ≡ start_at k a true → e.watches ≡ nothing_watched → e.over ≡ false → said e ≡ front → IsBegun (rules k) a front e
 is_begun k a front e session watches over text = record {
   by = ap (λ (s : SessionView). rules s.dict) session;
-  state = λ i. record { standing = record { course = course (session i); relations = standard_relations; watched = (watches i).pairs }; over = over i };
+  state = λ i. record { standing = record { session_state = session_state (session i); relations = standard_relations; watched = (watches i).pairs }; over = over i };
   text = text;
 }
 

@@ -4,7 +4,7 @@ use Rattle.std.specs.Prelude.{Result, Ok, Err, codes}
 use Rattle.std.proofs.lemmas.Fmt.{length-decimal-le}
 use Rattle.script_lines.specs.Joined.{joined}
 use Rattle.script_lines.specs.Lines.{ScriptLine, whole, long}
-use Rattle.script_lines.specs.Reading.{Heard, nothing, bad_line, command, heard_in}
+use Rattle.script_lines.specs.Parsing.{Heard, nothing, bad_line, command, heard_in}
 use Rattle.script_lines.specs.declared.command.Command.{Command}
 use Rattle.script_lines.specs.declared.command.Command.TheVariants as commands
 use Rattle.fact_values.specs.declared.slot.Slot.{Slot}
@@ -12,12 +12,12 @@ use Rattle.answers.specs.WellFormed.{WellFormed}
 use Rattle.dictionary.specs.Accepted.{IsAccepted, Named, names_of}
 use Rattle.dictionary.specs.Fits.{AnswersFit}
 use Rattle.dictionary.specs.Plain.{plain}
-use Rattle.dictionary.specs.Reading.{Look}
+use Rattle.dictionary.specs.Dependencies.{Results}
 use Rattle.dictionary.specs.SlotText.{slot_text}
 use Rattle.dictionary.proofs.SlotTextLaws.{slot_short, standing_slot}
 use Rattle.graph_session.specs.Refusals.{decided, slot_found}
 use Rattle.graph_session.specs.Rules.{Rules, tree_of}
-use Rattle.graph_session.specs.SessionView.{Course}
+use Rattle.graph_session.specs.SessionView.{SessionState}
 use Rattle.graph_session.specs.Step as session
 use Rattle.graph_session.specs.declared.reply.Refusal.{Refusal}
 use Rattle.graph_session.specs.declared.reply.Reply.{Reply}
@@ -27,7 +27,7 @@ use Rattle.fact_watch.specs.Watching.{Pair, code_at, without}
 use Rattle.fact_watch.specs.declared.commands.WatchRefusal.{WatchRefusal}
 use Rattle.session_lines.specs.Firing.{firing, firing_lines, name_at, watch_line}
 use Rattle.session_lines.specs.Replies.{bad_line_text, line_with, long_line_text, refusal_text, reply_text, watch_refusal_text}
-use Rattle.session_lines.specs.Stepping.{Standing, State, Step, fired, open_at, place_in, put_watch, cut_watch, said, step, step_answered, step_command, step_heard, step_writing, missing_answer, watch_decided}
+use Rattle.session_lines.specs.Stepping.{LineState, State, Step, fired, open_at, place_in, put_watch, cut_watch, said, step, step_answered, step_command, step_heard, step_writing, missing_answer, watch_decided}
 use Rattle.session_lines.proofs.FiringLaws.{said_stands}
 use Rattle.session_lines.proofs.PrintLaws.{stands_with}
 use Rattle.fact_graph_c.specs.Room.{room}
@@ -41,18 +41,18 @@ standard_short (suc (suc (suc zero))) = omega arith
 standard_short (suc (suc (suc (suc place)))) = omega arith
 
 -- what the session goes by, and where it stands before a step and behind it
-module _ (r : Rules) (s now : Standing) (is_accepted : IsAccepted (names_of r.checks) r.accepted) (well : WellFormed s.course.timeline.now) (fit : AnswersFit (tree_of r) now.course.timeline.now)
+module _ (r : Rules) (s now : LineState) (is_accepted : IsAccepted (names_of r.checks) r.accepted) (well : WellFormed s.session_state.timeline.now) (fit : AnswersFit (tree_of r) now.session_state.timeline.now)
     (standard : s.relations ≡ standard_relations) (few : length s.watched ≤ 1000) where
   -- ---- the lines of the watches
 
-  abbrev look : Look
-  look = plain r.accepted s.course.timeline.now
+  abbrev results : Results
+  results = plain r.accepted s.session_state.timeline.now
 
-  abbrev look_now : Look
-  look_now = plain r.accepted now.course.timeline.now
+  abbrev results_now : Results
+  results_now = plain r.accepted now.session_state.timeline.now
 
   abbrev says : Pair → Bool
-  says p = slot_says (code_at (λ (n : Named). n.1) s.relations p.0) (look p.1) (look_now p.1)
+  says p = slot_says (code_at (λ (n : Named). n.1) s.relations p.0) (results p.1) (results_now p.1)
 
   named_short : (place : ℕ) → length (name_at s.relations place) ≤ 9
   named_short place = subst (λ (ns : List Named). length (name_at ns place) ≤ 9) (sym standard) (standard_short place)
@@ -60,33 +60,33 @@ module _ (r : Rules) (s now : Standing) (is_accepted : IsAccepted (names_of r.ch
   -- a slot that has a result stands, and its path is short
   slot_said : (p : Pair) → says p ≡ true → length (slot_text (tree_of r) p.1) ≤ 140
   slot_said p said_so =
-      let there = said_stands (tree_of r) s.relations look look_now p said_so in
-      let stand = stands_with r.accepted now.course.timeline.now p.1 there.0 there.1 in
-      slot_short (names_of r.checks) r.accepted is_accepted p.1 (standing_slot (tree_of r) now.course.timeline.now fit.well fit.from_one p.1 stand)
+      let there = said_stands (tree_of r) s.relations results results_now p said_so in
+      let stand = stands_with r.accepted now.session_state.timeline.now p.1 there.0 there.1 in
+      slot_short (names_of r.checks) r.accepted is_accepted p.1 (standing_slot (tree_of r) now.session_state.timeline.now fit.well fit.from_one p.1 stand)
 
   line_short : (p : Pair) → says p ≡ true → length (watch_line (tree_of r) s.relations p) ≤ 160
   line_short p said_so =
       omega (arith, slot_said p said_so, named_short p.0, length-append (name_at s.relations p.0) (codes " " ++ slot_text (tree_of r) p.1))
 
   abbrev lines : List Pair → List ℕ
-  lines pairs = joined (firing_lines (tree_of r) s.relations look look_now pairs)
+  lines pairs = joined (firing_lines (tree_of r) s.relations results results_now pairs)
 
   lines_short : (pairs : List Pair) → length (lines pairs) ≤ 161 * length pairs
   lines_short [] = omega arith
   lines_short (p ∷ ps) = by (says p) refl (lines_short ps)
     where
       by : (b : Bool) → says p ≡ b → length (lines ps) ≤ 161 * length ps
-          → length (joined (map (watch_line (tree_of r) s.relations) (cond b (p ∷ firing s.relations look look_now ps) (firing s.relations look look_now ps)))) ≤ 161 * suc (length ps)
+          → length (joined (map (watch_line (tree_of r) s.relations) (cond b (p ∷ firing s.relations results results_now ps) (firing s.relations results results_now ps)))) ≤ 161 * suc (length ps)
       by true said_so rest = omega (arith, line_short p said_so, rest, length-append (watch_line (tree_of r) s.relations p) (10 ∷ lines ps))
       by false unsaid rest = omega (arith, rest)
 
   -- ---- the replies of changes
 
-  reply_short : (asked : Command) → session.is_change asked ≡ true → (c : Course) → length (reply_text r c (session.reply r s.course asked)) ≤ 11
+  reply_short : (asked : Command) → session.is_change asked ≡ true → (c : SessionState) → length (reply_text r c (session.reply r s.session_state asked)) ≤ 11
   reply_short (commands.Set path text) change c = omega arith
   reply_short (commands.Clear path) change c = omega arith
   reply_short (commands.OpenList path) change c = omega arith
-  reply_short (commands.Add path) change c = omega (arith, length-decimal-le 7 s.course.timeline.now.next (omega arith) (omega (arith, well.high)) (omega (arith, well.high)))
+  reply_short (commands.Add path) change c = omega (arith, length-decimal-le 7 s.session_state.timeline.now.next (omega arith) (omega (arith, well.high)) (omega (arith, well.high)))
   reply_short (commands.Remove path member) change c = omega arith
   reply_short (commands.Override path text) change c = omega arith
   reply_short (commands.Release path) change c = omega arith
@@ -95,7 +95,7 @@ module _ (r : Rules) (s now : Standing) (is_accepted : IsAccepted (names_of r.ch
   reply_short _ change c = absurd cc
 
   -- every other command leaves the session where it is
-  unmoved : (asked : Command) → session.is_change asked ≡ false → session.moved_by r s.course (session.timeline_by (tree_of r) s.course.timeline asked) ≡ s.course
+  unmoved : (asked : Command) → session.is_change asked ≡ false → session.moved_by r s.session_state (session.timeline_by (tree_of r) s.session_state.timeline asked) ≡ s.session_state
   unmoved (commands.Set path text) question = absurd cc
   unmoved (commands.Clear path) question = absurd cc
   unmoved (commands.OpenList path) question = absurd cc
@@ -119,18 +119,18 @@ module _ (r : Rules) (s now : Standing) (is_accepted : IsAccepted (names_of r.ch
   writing : (text : List ℕ) → FillsStill (step_writing s text)
   writing text = still (line_with text)
 
-  answered : (asked : Command) (o : Option Refusal) (reply : Reply) (c : Course) → (session.is_change asked ≡ false → c ≡ s.course) → (session.is_change asked ≡ true → length (reply_text r c reply) ≤ 11)
+  answered : (asked : Command) (o : Option Refusal) (reply : Reply) (c : SessionState) → (session.is_change asked ≡ false → c ≡ s.session_state) → (session.is_change asked ≡ true → length (reply_text r c reply) ≤ 11)
       → FillsStill (step_answered r s asked (decided o (reply, c)))
   answered asked (Some refusal) reply c same short = writing (refusal_text refusal)
   answered asked None reply c same short = λ is full. by (ap (λ (t : State). t.standing) is) full (session.is_change asked) refl
     where
-      by : record s { course = c } ≡ now → room ≤ length (said r s asked (reply_text r c reply) c) → (b : Bool) → session.is_change asked ≡ b → now ≡ s
+      by : record s { session_state = c } ≡ now → room ≤ length (said r s asked (reply_text r c reply) c) → (b : Bool) → session.is_change asked ≡ b → now ≡ s
       by at full true change =
-          let here : c ≡ now.course = ap (λ (t : Standing). t.course) at in
-          let lines_here : length (fired r s c) ≤ 161 * length s.watched = subst (λ (d : Course). length (fired r s d) ≤ 161 * length s.watched) (sym here) (lines_short s.watched) in
+          let here : c ≡ now.session_state = ap (λ (t : LineState). t.session_state) at in
+          let lines_here : length (fired r s c) ≤ 161 * length s.watched = subst (λ (d : SessionState). length (fired r s d) ≤ 161 * length s.watched) (sym here) (lines_short s.watched) in
           let whole_text : said r s asked (reply_text r c reply) c ≡ line_with (reply_text r c reply) ++ fired r s c = ap (λ (b : Bool). if b then line_with (reply_text r c reply) ++ fired r s c else line_with (reply_text r c reply)) change in
           absurd (omega (arith, full, ap length whole_text, length-append (line_with (reply_text r c reply)) (fired r s c), length-append (reply_text r c reply) (10 ∷ []), short change, lines_here, few))
-      by at full false question = sym at ∙ ap (λ (d : Course). record s { course = d }) (same question)
+      by at full false question = sym at ∙ ap (λ (d : SessionState). record s { session_state = d }) (same question)
 
   -- of a watch
   watched : (pairs : List Pair) (o : Option WatchRefusal) → FillsStill (watch_decided s pairs o)
@@ -147,12 +147,12 @@ module _ (r : Rules) (s now : Standing) (is_accepted : IsAccepted (names_of r.ch
 
   commanded : (asked : Command) → FillsStill (step_command r s asked)
   commanded commands.Quit = λ is full. absurd (let over : true ≡ false = ap (λ (t : State). t.over) is in cc)
-  commanded (commands.Missing path) = still (missing_answer r s.course (slot_found r s.course.timeline.now path))
-  commanded (commands.Watch name path) = put name (slot_found r s.course.timeline.now path)
-  commanded (commands.Unwatch name path) = cut name (slot_found r s.course.timeline.now path)
+  commanded (commands.Missing path) = still (missing_answer r s.session_state (slot_found r s.session_state.timeline.now path))
+  commanded (commands.Watch name path) = put name (slot_found r s.session_state.timeline.now path)
+  commanded (commands.Unwatch name path) = cut name (slot_found r s.session_state.timeline.now path)
   commanded asked =
-      let c : Course = session.moved_by r s.course (session.timeline_by (tree_of r) s.course.timeline asked) in
-      answered asked (session.refusal r s.course asked) (session.reply r s.course asked) c (unmoved asked) (λ change. reply_short asked change c)
+      let c : SessionState = session.moved_by r s.session_state (session.timeline_by (tree_of r) s.session_state.timeline asked) in
+      answered asked (session.refusal r s.session_state asked) (session.reply r s.session_state asked) c (unmoved asked) (λ change. reply_short asked change c)
 
   heard : (h : Heard) → FillsStill (step_heard r s h)
   heard nothing = still []

@@ -25,7 +25,7 @@ use Rattle.std_alloc.specs.Box.Ownership.{box_owns}
 use Rattle.std_alloc.proofs.ResultValues.{and_tt}
 use Rattle.fact_graph_c.specs.contracts.loose.Loose as loose
 use Rattle.fact_graph_c.specs.contracts.handle.Handle as handle
-use Rattle.fact_graph_c.specs.contracts.place.Place as place
+use Rattle.fact_graph_c.specs.contracts.session_slot.SessionSlot as place
 use Rattle.fact_graph_c.specs.contracts.engine.Engine as inner
 use Rattle.std_heap.specs.contracts.Global as global
 use Rattle.std_heap.proofs.Global.TheLaws as globals

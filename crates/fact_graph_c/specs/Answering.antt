@@ -2,7 +2,7 @@
 use Rattle.std.specs.Prelude.{◌≡◌, ℕ, Bool, true, false, nat_le, List, [], length, if◌then◌else◌}
 use Rattle.script_lines.specs.Lines.{ScriptLine, whole, long}
 use Rattle.graph_session.specs.Rules.{Rules, rules}
-use Rattle.session_lines.specs.Answering.{standing_of}
+use Rattle.session_lines.specs.Answering.{line_state_of}
 use Rattle.session_lines.specs.Stepping.{State, step}
 use Rattle.session_lines.specs.Tables.{standard_relations}
 use Rattle.fact_graph_c.specs.declared.engine.Engine.{Engine}
@@ -16,7 +16,7 @@ rules_of e = rules e.session.dict
 
 -- where its script stands
 abbrev pub state_of : Engine → State
-state_of e = record { standing = standing_of e.session standard_relations e.watches; over = e.over }
+state_of e = record { standing = line_state_of e.session standard_relations e.watches; over = e.over }
 
 abbrev pub said : Engine → List ℕ
 said e = e.text.bytes.items

@@ -8,10 +8,10 @@ use Rattle.fact_graph_c.specs.declared.engine.Engine.{Engine}
 use Rattle.fact_graph_c.specs.declared.fault.Fault.{Fault}
 use Rattle.fact_graph_c.specs.declared.fault.NotBegun.{NotBegun}
 use Rattle.fact_graph_c.specs.declared.outcome.Outcome.{Outcome}
-use Rattle.fact_graph_c.specs.declared.place.Place.{Place}
+use Rattle.fact_graph_c.specs.declared.session_slot.SessionSlot.{SessionSlot}
 
 -- the place holds such a session, and there is no fault; or it is as before, and the fault has these numbers
-abbrev pub BeginsCall : (Engine → Type 0) → (NotBegun → Type 0) → Place → Place → Fault → Type 0
+abbrev pub BeginsCall : (Engine → Type 0) → (NotBegun → Type 0) → SessionSlot → SessionSlot → Fault → Type 0
 BeginsCall Begins IsWhy place place_now fault =
     ((e : Engine) × Begins e × (place_now.value ≡ Some e) × (fault ≡ plain 0)) ⊎ ((why : NotBegun) × IsWhy why × (place_now ≡ place) × (fault ≡ fault_numbers why))
 

@@ -1,6 +1,8 @@
 // Answers lines.
-ghost use Rattle.std.specs.Prelude.{◌≡◌, ◌+◌, ◌-◌, ◌<◌, ◌≤◌, ◌^◌, ◌∷◌, [], ◌++◌, ℕ, List, false, IfOk, OnErr, length, map};
+ghost use Rattle.std.specs.Prelude.{◌≡◌, ◌+◌, ◌-◌, ◌<◌, ◌≤◌, ◌^◌, ◌∷◌, [], ◌++◌, false, IfOk, OnErr, length};
 ghost use Rattle.script_lines.specs.Lines.{ready_lines};
+ghost use Rattle.text_checks.specs.Tables.{named_checks};
+ghost use Rattle.fact_watch.specs.Tables.{named_relations};
 ghost use Rattle.fact_graph_c.specs.Answering.{Answers, line_given, said};
 ghost use Rattle.fact_graph_c.specs.Sound.{IsSound};
 ghost use Rattle.session_lines.specs.Tables.{standard_checks, standard_relations};
@@ -53,9 +55,9 @@ fn answer_open<L: Ledger>(
     line: &[u8],
     steps: &mut Steps<L>,
 ) -> Outcome
-    requires checks { map {B = List ℕ × ℕ} (λ c. (c.name, c.code)) checks.now.checks.items
+    requires checks { named_checks checks.now
         ≡ standard_checks }
-    requires relations { map {B = List ℕ × ℕ} (λ r. (r.name, r.code)) relations.now.relations.items
+    requires relations { named_relations relations.now
         ≡ standard_relations }
     requires goes_on { engine.old.over ≡ false }
     requires empty { said engine.old ≡ [] }
@@ -105,9 +107,9 @@ fn answer_uncounted<L: Ledger>(
     requires name { blank.name ≡ L.name }
     requires parts { blank.parts ≡ L.parts }
     requires some { 0 < blank.parts }
-    requires checks { map {B = List ℕ × ℕ} (λ c. (c.name, c.code)) checks.now.checks.items
+    requires checks { named_checks checks.now
         ≡ standard_checks }
-    requires relations { map {B = List ℕ × ℕ} (λ r. (r.name, r.code)) relations.now.relations.items
+    requires relations { named_relations relations.now
         ≡ standard_relations }
     requires goes_on { engine.old.over ≡ false }
     requires empty { said engine.old ≡ [] }
@@ -127,9 +129,9 @@ fn answer_by(
     relations: &WatchTable,
     line: &[u8],
 ) -> Outcome
-    requires checks { map {B = List ℕ × ℕ} (λ c. (c.name, c.code)) checks.now.checks.items
+    requires checks { named_checks checks.now
         ≡ standard_checks }
-    requires relations { map {B = List ℕ × ℕ} (λ r. (r.name, r.code)) relations.now.relations.items
+    requires relations { named_relations relations.now
         ≡ standard_relations }
     ensures answered { Answers engine.old engine.new line.now result }
     ensures dict { engine.new.session.dict ≡ engine.old.session.dict }
@@ -151,7 +153,7 @@ fn try_answer_by(
     checks: &CheckTable,
     line: &[u8],
 ) -> Result<Outcome, AllocError>
-    requires { map {B = List ℕ × ℕ} (λ c. (c.name, c.code)) checks.now.checks.items
+    requires { named_checks checks.now
         ≡ standard_checks }
     ensures answered { IfOk result (Answers engine.old engine.new line.now) }
     ensures dict { engine.new.session.dict ≡ engine.old.session.dict }

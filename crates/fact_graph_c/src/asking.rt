@@ -1,9 +1,9 @@
 // Answers `get`. It changes nothing, so it needs none of the tables, which cost more to make than it takes.
 ghost use Rattle.std.specs.Prelude.{◌≡◌, ◌+◌, ◌≤◌, ◌<◌, ◌++◌, ℕ, List, [], false, IfSome, length};
-ghost use Rattle.script_lines.specs.Reading.{command, heard_in};
+ghost use Rattle.script_lines.specs.Parsing.{command, heard_in};
 ghost use Rattle.script_lines.specs.declared.command.Command.TheVariants.{Get};
 ghost use Rattle.graph_session.specs.Rules.{rules};
-ghost use Rattle.graph_session.specs.SessionView.{course};
+ghost use Rattle.graph_session.specs.SessionView.{session_state};
 ghost use Rattle.fact_graph_c.specs.Answering.{Answers};
 ghost use Rattle.fact_graph_c.specs.Asking.{text_of_get};
 
@@ -54,7 +54,7 @@ pub fn asked_path(alloc: Global, over: bool, line: &[u8]) -> Option<SlotPath>
 // Prints into an empty line what `get` says, without its newline.
 fn print_get(session: &Session<Recalc>, path: &SlotPath, line: &mut Line)
     requires { line.old ≡ [] }
-    ensures text { line.new ≡ text_of_get (rules session.now.dict) (course session.now) path.now }
+    ensures text { line.new ≡ text_of_get (rules session.now.dict) (session_state session.now) path.now }
     ensures short { length line.new ≤ 1050 }
 {
     match session.slot_of(path) {

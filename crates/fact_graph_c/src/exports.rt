@@ -12,8 +12,8 @@ use crate::fault::{Fault, NotBegun, fault_of, no_fault};
 use crate::handle::Handle;
 use crate::opening::{open, open_carried, open_loaded};
 use crate::outcome::number_of;
-use crate::place::{Place, keep};
 use crate::saving::save_answers;
+use crate::session_slot::{SessionSlot, keep};
 use std::alloc::Global;
 
 // How long the text of a session is that begins.
@@ -28,9 +28,9 @@ fn size_of_text(begun: &Result<Box<Engine>, NotBegun>) -> usize
 }
 
 // Hands a session to C, or tells why there is none.
-fn hand_out(begun: Result<Box<Engine>, NotBegun>, graph: &mut Place, fault: &mut Fault)
+fn hand_out(begun: Result<Box<Engine>, NotBegun>, graph: &mut SessionSlot, fault: &mut Fault)
     ensures begun { IfOk begun (λ e. (graph.new.value ≡ Some e.value) × (fault.new ≡ plain 0)) }
-    ensures told { IfErr begun (λ why. (graph.new ≡ graph.old) × (fault.new ≡ fault_numbers why)) }
+    ensures output { IfErr begun (λ why. (graph.new ≡ graph.old) × (fault.new ≡ fault_numbers why)) }
 {
     match begun {
         Ok(engine) => {
@@ -46,7 +46,7 @@ fn hand_out(begun: Result<Box<Engine>, NotBegun>, graph: &mut Place, fault: &mut
 pub extern "C" fn fact_graph_open(
     alloc: Global,
     dictionary: &[u8],
-    graph: &mut Place,
+    graph: &mut SessionSlot,
     fault: &mut Fault,
 ) -> u32
     ensures begun { BeginsCall (Opens dictionary.now) (NotOpened dictionary.now) graph.old graph.new fault.new }
@@ -62,7 +62,7 @@ pub extern "C" fn fact_graph_load(
     alloc: Global,
     dictionary: &[u8],
     saved: &[u8],
-    graph: &mut Place,
+    graph: &mut SessionSlot,
     fault: &mut Fault,
 ) -> u32
     ensures begun { BeginsCall (Loads dictionary.now saved.now) (NotLoaded dictionary.now saved.now) graph.old graph.new fault.new }
@@ -78,7 +78,7 @@ pub extern "C" fn fact_graph_carry(
     alloc: Global,
     dictionary: &[u8],
     saved: &[u8],
-    graph: &mut Place,
+    graph: &mut SessionSlot,
     text_size: &mut usize,
     fault: &mut Fault,
 ) -> u32
@@ -99,7 +99,7 @@ pub extern "C" fn fact_graph_answer(
     graph: Handle,
     line: &[u8],
     text_size: &mut usize,
-    back: &mut Place,
+    back: &mut SessionSlot,
 ) -> u32
     ensures { AnswersCall graph.value line.now text_size.new back.new.value result }
 {
@@ -112,7 +112,11 @@ pub extern "C" fn fact_graph_answer(
 
 /// Makes the saved text.
 #[unsafe(no_mangle)]
-pub extern "C" fn fact_graph_save(graph: Handle, text_size: &mut usize, back: &mut Place) -> u32
+pub extern "C" fn fact_graph_save(
+    graph: Handle,
+    text_size: &mut usize,
+    back: &mut SessionSlot,
+) -> u32
     ensures { SavesCall graph.value text_size.new back.new.value result }
 {
     let mut engine = graph.into_box();
@@ -128,7 +132,7 @@ pub extern "C" fn fact_graph_read(
     graph: Handle,
     from: usize,
     out: &mut [u8],
-    back: &mut Place,
+    back: &mut SessionSlot,
 ) -> usize
     ensures count { result ≡ min (length out.old) (length (drop from (said graph.value))) }
     ensures copied { out.new ≡ take result (drop from (said graph.value)) ++ drop result out.old }

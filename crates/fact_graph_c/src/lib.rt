@@ -12,6 +12,6 @@ mod handle;
 mod loose;
 mod opening;
 mod outcome;
-mod place;
 mod saving;
+mod session_slot;
 mod text;

@@ -1,6 +1,7 @@
 // Begins sessions.
-ghost use Rattle.std.specs.Prelude.{◌≡◌, ◌<◌, ◌≤◌, ℕ, List, [], IfErr, IfOk, false, length, map};
+ghost use Rattle.std.specs.Prelude.{◌≡◌, ◌<◌, ◌≤◌, ℕ, List, [], IfErr, IfOk, false, length};
 ghost use Rattle.answers.specs.Meaning.{answered};
+ghost use Rattle.text_checks.specs.Tables.{named_checks};
 ghost use Rattle.dictionary.specs.Accepted.{accepted};
 ghost use Rattle.dictionary.specs.Fits.{AnswersFit};
 ghost use Rattle.dictionary.specs.declared.fault.DictFault.TheVariants.{NoMemory as WantsMemory};
@@ -102,7 +103,7 @@ fn accepted_dictionary(
     checks: &CheckTable,
     bytes: &[u8],
 ) -> Result<Dictionary, NotBegun>
-    requires { map {B = List ℕ × ℕ} (λ c. (c.name, c.code)) checks.now.checks.items
+    requires { named_checks checks.now
         ≡ standard_checks }
     ensures accepted { IfOk result (λ d. Accepts bytes.now (rules d)) }
     ensures refused { IfErr result (NotOpened bytes.now) }
@@ -178,7 +179,7 @@ fn begin_carried(
     saved: &[u8],
 ) -> Result<Box<Engine>, NotBegun>
     requires same { dict.checks ≡ standard_checks }
-    requires checks { map {B = List ℕ × ℕ} (λ c. (c.name, c.code)) checks.now.checks.items
+    requires checks { named_checks checks.now
         ≡ standard_checks }
     ensures carried { IfOk result (λ e. CarriesOver (rules dict) saved.now e.value) }
     ensures refused { IfErr result (RefusesOver IsCarriedText saved.now) }
@@ -193,7 +194,7 @@ fn begin_carried(
 }
 
 fn open_by(alloc: Global, checks: &CheckTable, bytes: &[u8]) -> Result<Box<Engine>, NotBegun>
-    requires { map {B = List ℕ × ℕ} (λ c. (c.name, c.code)) checks.now.checks.items
+    requires { named_checks checks.now
         ≡ standard_checks }
     ensures opened { IfOk result (λ e. Opens bytes.now e.value) }
     ensures refused { IfErr result (NotOpened bytes.now) }
@@ -210,7 +211,7 @@ fn load_by(
     bytes: &[u8],
     saved: &[u8],
 ) -> Result<Box<Engine>, NotBegun>
-    requires { map {B = List ℕ × ℕ} (λ c. (c.name, c.code)) checks.now.checks.items
+    requires { named_checks checks.now
         ≡ standard_checks }
     ensures loaded { IfOk result (λ e. Loads bytes.now saved.now e.value) }
     ensures refused { IfErr result (NotLoaded bytes.now saved.now) }
@@ -227,7 +228,7 @@ fn carry_by(
     bytes: &[u8],
     saved: &[u8],
 ) -> Result<Box<Engine>, NotBegun>
-    requires { map {B = List ℕ × ℕ} (λ c. (c.name, c.code)) checks.now.checks.items
+    requires { named_checks checks.now
         ≡ standard_checks }
     ensures carried { IfOk result (λ e. Carries bytes.now saved.now e.value) }
     ensures refused { IfErr result (NotCarried bytes.now saved.now) }

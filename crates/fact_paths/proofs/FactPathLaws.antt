@@ -4,12 +4,12 @@ use Rattle.std.specs.Prelude.{codes}
 use Rattle.std.proofs.lemmas.Option.{option_and_then_some}
 use Rattle.fact_paths.specs.Cuts.{cut, after}
 use Rattle.fact_paths.specs.Paths.{SpellsFactPath}
-use Rattle.fact_paths.specs.Reading.{of_names, fact_path_from, fact_path_of}
+use Rattle.fact_paths.specs.Parsing.{of_names, fact_path_from, fact_path_of}
 use Rattle.fact_paths.specs.declared.fact_path.FactPath.{FactPath}
 use Rattle.fact_paths.specs.declared.fact_path.FactPath.TheVariants as facts
 use Rattle.fact_paths.proofs.CutLaws.{cut-lacks, cut-append, cut_some, after_some}
 use Rattle.fact_paths.proofs.NameLaws.{name_lacks_slash}
-use Rattle.fact_paths.proofs.ReadingLaws.{IsReading, of_name_some, of_name-name, of_names_some, of_names-names}
+use Rattle.fact_paths.proofs.ParsingLaws.{IsReading, of_name_some, of_name-name, of_names_some, of_names-names}
 
 -- what is read behind the first slash is spelled
 rooted : (text : List ℕ) (o : Option (List ℕ × List ℕ)) → cut 47 text ≡ o → (p : FactPath) → fact_path_from text o ≡ Some p → SpellsFactPath (47 ∷ text) p

@@ -2,6 +2,6 @@ pub mod CutLaws
 pub mod FactPathLaws
 pub mod MemberNumbers
 pub mod NameLaws
-pub mod ReadingLaws
+pub mod ParsingLaws
 pub mod SlotPathLaws
 pub mod UsePathLaws

@@ -12,7 +12,7 @@ use Rattle.std.proofs.lemmas.Str.Parse.{IsNumeralModel, numerals_by_value, tells
 use Rattle.fact_paths.specs.Cuts.{Lacks}
 use Rattle.fact_paths.proofs.NameLaws.{passed_lack}
 use Rattle.fact_paths.specs.Paths.{IsMemberNumber, SpellsMemberNumber}
-use Rattle.fact_paths.specs.Reading.{is_numeral, member_number_of}
+use Rattle.fact_paths.specs.Parsing.{is_numeral, member_number_of}
 
 -- the digits of `parse`, and their value
 own : IsNumeralModel (λ ds. all_ascii_digits ds ≡ true) (digits_value 10)

@@ -5,13 +5,13 @@ use Rattle.std.proofs.lemmas.Option.{none-some, option_and_then_some}
 use Rattle.fact_paths.specs.Cuts.{Lacks, cut, after}
 use Rattle.fact_paths.specs.Names.{IsName}
 use Rattle.fact_paths.specs.Paths.{IsMemberNumber, IsSlotPath, SpellsSlotPath, slot_path_text}
-use Rattle.fact_paths.specs.Reading.{◌>>=◌, of_names, member_number_of, slot_member_from, slot_path_from, slot_path_of}
+use Rattle.fact_paths.specs.Parsing.{◌>>=◌, of_names, member_number_of, slot_member_from, slot_path_from, slot_path_of}
 use Rattle.fact_paths.specs.declared.slot_path.SlotPath.{SlotPath}
 use Rattle.fact_paths.specs.declared.slot_path.SlotPath.TheVariants as slots
 use Rattle.fact_paths.proofs.CutLaws.{Lacks-append, cut-lacks, cut-append, cut_some, after_some}
 use Rattle.fact_paths.proofs.MemberNumbers.{member_number_some, member_number-decimal, decimal_lacks}
 use Rattle.fact_paths.proofs.NameLaws.{name_lacks, name_lacks_slash}
-use Rattle.fact_paths.proofs.ReadingLaws.{IsReading, of_name_some, of_name-name, of_names_some, of_names-names}
+use Rattle.fact_paths.proofs.ParsingLaws.{IsReading, of_name_some, of_name-name, of_names_some, of_names-names}
 
 -- a member's path, and its number
 abbrev Numbered : List ℕ → List ℕ → SlotPath → Type 0

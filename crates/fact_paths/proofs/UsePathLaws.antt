@@ -4,12 +4,12 @@ use Rattle.std.specs.Prelude.{codes}
 use Rattle.fact_paths.specs.Cuts.{cut, after}
 use Rattle.fact_paths.specs.Names.{IsName}
 use Rattle.fact_paths.specs.Paths.{SpellsUsePath}
-use Rattle.fact_paths.specs.Reading.{sibling_path_from, pair_path_from, rooted_path_from, use_path_from, use_path_of}
+use Rattle.fact_paths.specs.Parsing.{sibling_path_from, pair_path_from, rooted_path_from, use_path_from, use_path_of}
 use Rattle.fact_paths.specs.declared.use_path.UsePath.{UsePath}
 use Rattle.fact_paths.specs.declared.use_path.UsePath.TheVariants as uses
 use Rattle.fact_paths.proofs.CutLaws.{cut-lacks, cut-append, cut_some, after_some, after-lacks}
 use Rattle.fact_paths.proofs.NameLaws.{name_lacks, name_lacks_slash}
-use Rattle.fact_paths.proofs.ReadingLaws.{IsReading, of_name_some, of_name-name, of_names_some, of_names-names}
+use Rattle.fact_paths.proofs.ParsingLaws.{IsReading, of_name_some, of_name-name, of_names_some, of_names-names}
 
 -- ---- what is read is spelled
 

@@ -2,4 +2,4 @@ pub mod Cuts
 pub mod Laws
 pub mod Names
 pub mod Paths
-pub mod Reading
+pub mod Parsing

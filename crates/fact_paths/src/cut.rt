@@ -1,3 +1,4 @@
+// Cutting a text at its first slash, and behind a given beginning.
 ghost use Rattle.std.specs.Prelude.{◌≡◌, ◌≢◌, All, IfNone, IfSome, MatchOption, option_copied};
 ghost use Rattle.fact_paths.specs.Cuts.{IsFirstAt, at_slash, after};
 

@@ -1,6 +1,7 @@
+// The paths by which a dictionary names its facts.
 ghost use Rattle.fact_paths.specs.Cuts.{at_slash};
 ghost use Rattle.fact_paths.specs.Paths.{Reads, SpellsFactPath};
-ghost use Rattle.fact_paths.specs.Reading.{Gives, fact_path_from};
+ghost use Rattle.fact_paths.specs.Parsing.{Gives, fact_path_from};
 
 use crate::cut::{cut_at_slash, strip};
 use crate::fault::PathFault;

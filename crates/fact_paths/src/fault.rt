@@ -1,3 +1,4 @@
+// Why a text is no name or path.
 ghost use Rattle.std.specs.Prelude.{◌≡◌};
 ghost use Rattle.fact_paths.specs.declared.fault.PathFault.TheVariants.{NoMemory};
 

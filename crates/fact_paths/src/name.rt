@@ -1,7 +1,8 @@
+// Names of facts, members, enums and their options.
 ghost use Rattle.std.specs.Prelude.{◌≡◌, IfOk, IsErrOf, string_bytes};
 ghost use Rattle.std.specs.List.{list_all};
 ghost use Rattle.fact_paths.specs.Names.{is_name, is_name_byte, IsName};
-ghost use Rattle.fact_paths.specs.Reading.{Gives, name_of};
+ghost use Rattle.fact_paths.specs.Parsing.{Gives, name_of};
 
 use crate::fault::PathFault;
 use std::alloc::{AllocError, Global};

@@ -1,8 +1,9 @@
+// The paths by which a command names a slot.
 ghost use Rattle.std.specs.Prelude.{◌≡◌, ℕ, MatchOption};
 ghost use Rattle.std.specs.Str.{all_ascii_digits};
 ghost use Rattle.fact_paths.specs.Cuts.{at_slash};
 ghost use Rattle.fact_paths.specs.Paths.{Reads, SpellsMemberNumber, SpellsSlotPath};
-ghost use Rattle.fact_paths.specs.Reading.{Gives, is_numeral, member_number_of, slot_member_from, slot_path_from};
+ghost use Rattle.fact_paths.specs.Parsing.{Gives, is_numeral, member_number_of, slot_member_from, slot_path_from};
 
 use crate::cut::{cut_at_slash, strip};
 use crate::fault::PathFault;

@@ -1,6 +1,7 @@
+// The paths by which an expression names the fact that it reads.
 ghost use Rattle.fact_paths.specs.Cuts.{at_slash};
 ghost use Rattle.fact_paths.specs.Paths.{Reads, SpellsUsePath};
-ghost use Rattle.fact_paths.specs.Reading.{Gives, of_name, rooted_path_from, sibling_path_from};
+ghost use Rattle.fact_paths.specs.Parsing.{Gives, of_name, rooted_path_from, sibling_path_from};
 ghost use Rattle.fact_paths.specs.declared.use_path.UsePath.TheVariants.{Inner};
 
 use crate::cut::{cut_at_slash, strip};

@@ -1,3 +1,4 @@
+// Days of the Gregorian calendar, as numbers, and a day so many days later.
 ghost use Rattle.std.specs.Prelude.{◌≡◌, ◌↔◌, ℤ, pos, IsSome, IfSome, IfErr};
 ghost use Rattle.jiff_core.specs.Calendar.{IsDate};
 ghost use Rattle.jiff_core.specs.Date.{IsYmd, epoch_day};

@@ -1,3 +1,4 @@
+// Amounts of money, in whole cents.
 ghost use Rattle.std.specs.Prelude.{◌≡◌, ◌↔◌, IsSome, IfSome};
 ghost use Rattle.fact_values.specs.Range.{IsInRange};
 

@@ -1,3 +1,4 @@
+// The types that a fact may have.
 /// The type of a fact.
 #[derive(Clone, Copy, Debug, PartialEq, Eq)]
 pub enum FactType {

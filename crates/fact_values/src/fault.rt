@@ -1,3 +1,4 @@
+// Why an operation on values has no result.
 /// Why an operation on values has no result.
 #[derive(Clone, Copy, Debug, PartialEq, Eq)]
 pub enum ValueFault {

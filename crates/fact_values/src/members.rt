@@ -1,3 +1,4 @@
+// Lists of a collection's members.
 ghost use Rattle.std.specs.Prelude.{◌≡◌, ◌↔◌, IsSome, IfSome, IfOk};
 ghost use Rattle.std.specs.List.{list_all};
 ghost use Rattle.fact_values.specs.Members.{IsMemberList, are_distinct as distinct, is_member as member_number, is_member_list as member_list};

@@ -1,3 +1,4 @@
+// The answer of a call that found no memory.
 use std::alloc::{AllocError, AllocFailed};
 
 /// There was no memory left for what a call had to keep.

@@ -1,3 +1,4 @@
+// Products and quotients of whole numbers, amounts and fractions.
 ghost use Rattle.std.specs.Prelude.{◌≡◌, ◌≤◌, ◌<◌, ◌^◌, ◌↔◌, ◌*ℤ◌, unsigned_abs, IfErr};
 ghost use Rattle.fact_values.specs.Numbers.{IsDivided, IsMultiplied, IsZero, checked_dollar, checked_int, checked_rational, as_rational, product, quotient, rounded_quotient};
 ghost use Rattle.fact_values.specs.Rationals.{checked_ratio};

@@ -1,3 +1,4 @@
+// The range of whole numbers and of amounts.
 ghost use Rattle.std.specs.Prelude.{◌≡◌};
 ghost use Rattle.fact_values.specs.Range.{is_in_range as in_range};
 

@@ -1,3 +1,4 @@
+// Fractions in lowest terms, their sum and their difference.
 ghost use Rattle.std.specs.Prelude.{◌≡◌, ◌*◌, ◌<◌, ◌≤◌, ◌^◌, pos, ◌*ℤ◌, unsigned_abs, int_div, IfErr};
 ghost use Rattle.std.specs.Int.{IsGcd};
 ghost use Rattle.fact_values.specs.Rationals.{IsRational, checked_lowest, checked_ratio, checked_small, difference_of_ratios, gcd as greatest_divisor, sum_of_ratios};

@@ -1,3 +1,4 @@
+// Rounding to the nearest whole number, and of an amount to whole dollars.
 ghost use Rattle.std.specs.Prelude.{◌≡◌, ◌≤◌, ◌^◌, unsigned_abs};
 ghost use Rattle.fact_values.specs.Rounding.{rounded, rounded_dollar};
 

@@ -1,3 +1,4 @@
+// Slots: a fact, and the member that it is asked of.
 /// The place of one value: a fact, and the member that it belongs to.
 #[derive(Clone, Copy, Debug, PartialEq, Eq)]
 pub struct Slot {

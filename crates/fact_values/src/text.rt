@@ -1,3 +1,4 @@
+// Texts that a value may hold.
 ghost use Rattle.std.specs.Prelude.{◌≡◌, ◌↔◌, IsSome, IfSome, IfOk, string_bytes};
 ghost use Rattle.fact_values.specs.Texts.{IsPlainText, has_control as text_has_control, is_plain_text as text_is_plain};
 

@@ -1,3 +1,4 @@
+// Sums that are exact on the way, and tested against the range once, at their end.
 ghost use Rattle.std.specs.Prelude.{◌≡◌, ◌+◌, ◌+ℤ◌, ◌-ℤ◌, ◌<◌, ◌^◌};
 ghost use Rattle.fact_values.specs.Range.{IsInRange};
 ghost use Rattle.fact_values.specs.Totals.{checked};

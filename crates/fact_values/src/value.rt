@@ -1,3 +1,4 @@
+// Values of all types: their copies, equality and order.
 ghost use Rattle.std.specs.Prelude.{◌≡◌, ◌↔◌, IsErr, IsTrue, IfOk};
 ghost use Rattle.fact_values.specs.Values.{AreOrdered, HoldsMemory, order_of, ratio_cmp};
 

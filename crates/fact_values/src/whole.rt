@@ -1,3 +1,4 @@
+// Whole numbers in the range of a value.
 ghost use Rattle.std.specs.Prelude.{◌≡◌, ◌↔◌, IsSome, IfSome};
 ghost use Rattle.fact_values.specs.Range.{IsInRange};
 

@@ -1,3 +1,4 @@
 pub mod Refusals
 pub mod Says
+pub mod Tables
 pub mod Watching

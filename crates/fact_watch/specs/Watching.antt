@@ -5,7 +5,7 @@ use Rattle.std.specs.Coded.{Coded, code_by, coded×, coded_ℕ, coded_list, code
 use Rattle.fact_values.specs.declared.slot.Slot.{Slot}
 use Rattle.three_state.specs.declared.res.Res.{Res}
 use Rattle.three_state.specs.contracts.res.Res as res
-use Rattle.dictionary.specs.Reading.{Look}
+use Rattle.dictionary.specs.Dependencies.{Results}
 use Rattle.dictionary.specs.Slots.{slot_same}
 use Rattle.graph_session.specs.SessionView.{coded_slot}
 use Rattle.fact_watch.specs.Says.{slot_says}
@@ -28,8 +28,8 @@ abbrev pub unnoted : List Pair → Watching
 unnoted pairs = record { pairs = pairs; notes = [] }
 
 -- with these results noted
-abbrev pub noted : List Pair → Look → Watching
-noted pairs look = record { pairs = pairs; notes = map (λ (p : Pair). look p.1) pairs }
+abbrev pub noted : List Pair → Results → Watching
+noted pairs results = record { pairs = pairs; notes = map (λ (p : Pair). results p.1) pairs }
 
 abbrev pub pair_same : Pair → Pair → Bool
 pair_same p q = nat_eq p.0 q.0 && slot_same p.1 q.1
@@ -52,16 +52,16 @@ abbrev pub code_at : {R : Type 0} → (R → ℕ) → List R → ℕ → ℕ
 code_at code relations place = unwrap_or (option_map code (slice_get relations place)) 0
 
 -- the relation of the pair, whose code is that of its place, says yes of its slot
-abbrev pub pair_says : (ℕ → ℕ) → Option Pair → (Slot → Option Res) → Look → Bool
+abbrev pub pair_says : (ℕ → ℕ) → Option Pair → (Slot → Option Res) → Results → Bool
 pair_says codes None before after = false
 pair_says codes (Some p) before after = slot_says (codes p.0) (before p.1) (after p.1)
 
 -- Of the pair at n, from 0: its slot stands before and after, and its relation says yes of the results before and after.
-abbrev pub fires_between : (ℕ → ℕ) → List Pair → Look → Look → ℕ → Bool
+abbrev pub fires_between : (ℕ → ℕ) → List Pair → Results → Results → ℕ → Bool
 fires_between codes pairs before after n = pair_says codes (slice_get pairs n) before after
 
 -- the same, with what was noted of the pair as the result before
-abbrev pub fires_now : (ℕ → ℕ) → Watching → Look → ℕ → Bool
+abbrev pub fires_now : (ℕ → ℕ) → Watching → Results → ℕ → Bool
 fires_now codes w now n = pair_says codes (slice_get w.pairs n) (λ s. unwrap_or (slice_get w.notes n) None) now
 
 -- ---- codes

@@ -4,7 +4,7 @@ ghost use Rattle.text_checks.specs.Places.{place_of};
 ghost use Rattle.fact_watch.specs.Refusals.{Refused, pair_of, unwatch_refusal, watch_refusal};
 ghost use Rattle.fact_watch.specs.Watching.{unnoted, without};
 
-use crate::table::WatchTable;
+use crate::relation::WatchTable;
 use crate::watches::{PutFault, Watches};
 use fact_paths::Name;
 use fact_values::Slot;

@@ -8,7 +8,7 @@ mod table;
 mod watches;
 
 pub use commands::{WatchRefusal, unwatch, watch};
-pub use relation::{Relation, Says};
+pub use relation::{Relation, Says, WatchTable};
 pub use relations::{changed, completed, lost, raised};
-pub use table::{TableFault, WatchTable};
+pub use table::TableFault;
 pub use watches::{PutFault, Watches};

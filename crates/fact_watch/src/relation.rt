@@ -1,4 +1,5 @@
-ghost use Rattle.std.specs.Prelude.{◌≡◌, Bool};
+// A relation of results: its name, its code and the closure that it runs; and the table of the relations that a host brings.
+ghost use Rattle.std.specs.Prelude.{◌≡◌, ◌<◌, ◌^◌, Bool, length};
 ghost use Rattle.fact_watch.specs.Says.{watch_says};
 
 use fact_paths::Name;
@@ -34,4 +35,11 @@ impl Relation {
     {
         (self.says)(old, new)
     }
+}
+
+/// Relations by name, in the order in which they were added. Contracts see their names and codes.
+#[derive(Drop)]
+pub struct WatchTable {
+    pub relations: Vec<Relation>,
+    pub ghost few: { length relations.items < 2 ^ 32 },
 }

@@ -1,9 +1,11 @@
-ghost use Rattle.std.specs.Prelude.{◌≡◌, ◌↔◌, ◌+◌, ◌-◌, ◌<◌, ◌^◌, ◌∷◌, [], ◌++◌, Bool, ℕ, List, OnOk, OnErr, IsErrOf, IsSome, IfSome, length, map, slice_get, option_map};
+// Adding relations to a table, finding them by name and running them by place.
+ghost use Rattle.std.specs.Prelude.{◌≡◌, ◌↔◌, ◌+◌, ◌-◌, ◌<◌, ◌^◌, ◌∷◌, [], ◌++◌, Bool, OnOk, OnErr, IsErrOf, IsSome, IfSome, length, slice_get, option_map};
 ghost use Rattle.std.specs.Option.{option_copied};
 ghost use Rattle.text_checks.specs.Places.{place_of};
 ghost use Rattle.fact_watch.specs.Says.{IsCode, watch_says};
+ghost use Rattle.fact_watch.specs.Tables.{named_relations};
 
-use crate::relation::{Relation, Says};
+use crate::relation::{Relation, Says, WatchTable};
 use fact_paths::Name;
 use std::alloc::Global;
 use three_state::Res;
@@ -14,13 +16,6 @@ pub enum TableFault {
     /// The table has a relation of this name.
     Same,
     NoMemory,
-}
-
-/// Relations by name, in the order in which they were added. Contracts see their names and codes.
-#[derive(Drop)]
-pub struct WatchTable {
-    pub relations: Vec<Relation>,
-    pub ghost few: { length relations.items < 2 ^ 32 },
 }
 
 impl WatchTable {
@@ -39,8 +34,8 @@ impl WatchTable {
         requires code { IsCode code }
         requires callable { (old : _) (new : _) → Says.pre says old new }
         requires answers { (old : _) (new : _) (answer : Bool) → Says.post says old new answer → answer ≡ watch_says code old.now new.now }
-        ensures added { OnOk result (map {B = List ℕ × ℕ} (λ r. (r.name, r.code)) self.new.relations.items
-            ≡ map {B = List ℕ × ℕ} (λ r. (r.name, r.code)) self.old.relations.items ++ (name, code) ∷ []) }
+        ensures added { OnOk result (named_relations self.new
+            ≡ named_relations self.old ++ (name, code) ∷ []) }
         ensures count { OnOk result (length self.new.relations.items ≡ length self.old.relations.items + 1) }
         ensures same { IsErrOf result TableFault.Same ↔ IsSome (place_of self.old.relations.items (λ r. r.name) name) }
         ensures unchanged { OnErr result (self.new.relations.items ≡ self.old.relations.items) }

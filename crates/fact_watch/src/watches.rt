@@ -4,11 +4,11 @@ ghost use Rattle.std.specs.Bool.{OnFalse, OnTrue};
 ghost use Rattle.std.specs.Option.{option_copied};
 ghost use Rattle.dictionary.specs.Accepted.{accepted};
 ghost use Rattle.dictionary.specs.Plain.{plain};
-ghost use Rattle.dictionary.specs.Reading.{Look};
+ghost use Rattle.dictionary.specs.Dependencies.{Results};
 ghost use Rattle.fact_watch.specs.Says.{slot_says};
 ghost use Rattle.fact_watch.specs.Watching.{code_at, fires_between, fires_now, is_full, is_put, nothing_watched, noted, pair_same, unnoted, without};
 
-use crate::table::WatchTable;
+use crate::relation::WatchTable;
 use dictionary::FactEngine;
 use fact_values::{NoMemory, Slot};
 use graph_session::Session;
@@ -226,7 +226,7 @@ impl Watches {
     pub fn fires<E: FactEngine>(&self, table: &WatchTable, session: &Session<E>, n: u32) -> bool
         requires { IfSome (slice_get self.now.pairs n) (λ p. p.0 < length table.now.relations.items) }
         ensures now { result ≡ fires_now (code_at (λ r. r.code) table.now.relations.items) self.now (plain (accepted session.now.dict) session.now.timeline.now) n }
-        ensures since { (before : Look) → self.now ≡ noted self.now.pairs before
+        ensures since { (before : Results) → self.now ≡ noted self.now.pairs before
             → result ≡ fires_between (code_at (λ r. r.code) table.now.relations.items) self.now.pairs before (plain (accepted session.now.dict) session.now.timeline.now) n }
     {
         self.fires_as_noted(table, session, n)

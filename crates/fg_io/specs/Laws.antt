@@ -11,14 +11,14 @@ use Rattle.fg_io.specs.declared.error.FetchFault.TheVariants.{Failed, TooLong, N
 abbrev pub RoseWhereItGrew : Type 0
 RoseWhereItGrew = (before now : ℕ) → Rose before now ↔ ((before < now) ⊎ (2 ^ 64 - 1 ≤ now))
 
--- a fetch of told contents answers these and no others, and that they are too long exactly where it is so
-pub record AnswersTold (bytes : List ℕ) (at_most : ℕ) (result : Result (Vec ℕ Global) FetchFault) : Type 0 where
+-- a fetch of known contents answers these and no others, and that they are too long exactly where it is so
+pub record AnswersContents (bytes : List ℕ) (at_most : ℕ) (result : Result (Vec ℕ Global) FetchFault) : Type 0 where
   pub contents : IfOk result (λ v. (v.items ≡ bytes) × (length bytes ≤ at_most))
   pub too_long : IsErrOf result TooLong → at_most < length bytes
   pub longer : at_most < length bytes → IsErrOf result TooLong ⊎ IsErrOf result Failed ⊎ IsErrOf result NoMemory
 
-abbrev pub ToldIsAnswered : Type 0
-ToldIsAnswered = (bytes : List ℕ) (at_most : ℕ) (result : Result (Vec ℕ Global) FetchFault) → Fetches (holds bytes) at_most result → AnswersTold bytes at_most result
+abbrev pub ContentsAreAnswered : Type 0
+ContentsAreAnswered = (bytes : List ℕ) (at_most : ℕ) (result : Result (Vec ℕ Global) FetchFault) → Fetches (holds bytes) at_most result → AnswersContents bytes at_most result
 
 -- a name that isn't there is a fault, unless memory runs out
 abbrev pub MissingIsFault : Type 0

@@ -7,7 +7,7 @@ use Rattle.std.specs.FinMap.{FinMap, code, get, from_entries}
 use Rattle.std.specs.Ordering.{nat_cmp}
 use Rattle.std.specs.declared.alloc.Global.{Global}
 use Rattle.fg_io.specs.Calls.{next_count, Fails}
-use Rattle.fg_io.specs.Outside.{Told, missing, holds}
+use Rattle.fg_io.specs.Outside.{Contents, missing, holds}
 use Rattle.fg_io.specs.declared.error.FetchFault.{FetchFault}
 use Rattle.fg_io.specs.declared.error.FetchFault.TheVariants.{Failed, TooLong, NoMemory}
 
@@ -36,13 +36,13 @@ shelf_code = code_by (Files × (List ℕ × (ℕ × (ℕ × List ℕ)))) (coded�
 abbrev pub files_of : BTreeMap (String Global) (Vec ℕ Global) → Files
 files_of kept = from_entries (map {B = List ℕ × List ℕ} (λ e. (string_bytes e.0, e.1.items)) kept.entries)
 
--- what is told of a name whose contents are these
-abbrev pub told_by : Option (List ℕ) → Told
-told_by None = missing
-told_by (Some bytes) = holds bytes
+-- what a name shows whose contents are these
+abbrev pub contents_by : Option (List ℕ) → Contents
+contents_by None = missing
+contents_by (Some bytes) = holds bytes
 
-abbrev pub told_in : ShelfState → List ℕ → Told
-told_in shelf name = told_by (get shelf.files name)
+abbrev pub contents_in : ShelfState → List ℕ → Contents
+contents_in shelf name = contents_by (get shelf.files name)
 
 -- after a fetch that didn't fail
 abbrev pub after_answering : ShelfState → ShelfState

@@ -1,3 +1,4 @@
+// The failures of devices.
 ghost use Rattle.std.specs.Prelude.{◌≡◌};
 ghost use Rattle.fg_io.specs.declared.error.FetchFault.TheVariants.{NoMemory as FetchNoMemory};
 

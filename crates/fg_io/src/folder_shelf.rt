@@ -1,7 +1,8 @@
+// The shelf of the system: the files of the folder in which the program runs.
 ghost use Rattle.std.specs.Prelude.{◌≡◌, ◌+◌, ◌≤◌, [], IfOk, IsErrOf, length};
 ghost use Rattle.std.specs.Io.KnownBytes.{Consumes};
 ghost use Rattle.fg_io.specs.Calls.{next_count};
-ghost use Rattle.fg_io.specs.Outside.{untold, MayBe, Fetches, FetchCause};
+ghost use Rattle.fg_io.specs.Outside.{hidden, MayBe, Fetches, FetchCause};
 
 use crate::{Failed, FetchFault, Shelf};
 use std::alloc::{AllocError, Global};
@@ -83,16 +84,16 @@ fn read_file<R: Files>(
 }
 
 impl<R: Files + Drop> Shelf for FolderShelf<R> {
-    ghost use Rattle.fg_io.specs.Outside.{untold};
+    ghost use Rattle.fg_io.specs.Outside.{hidden};
 
-    ghost told = { λ _ _. untold };
+    ghost contents = { λ _ _. hidden };
 
     ghost faults = { λ shelf. shelf.faults };
 
     ghost failed_name = { λ shelf. shelf.failed_name };
 
     fn fetch(&mut self, name: &str, at_most: u64) -> Result<Vec<u8>, FetchFault>
-        ensures content { Fetches untold at_most result }
+        ensures content { Fetches hidden at_most result }
         ensures cause { FetchCause name.now self.old.faults self.new.faults
             self.old.failed_name self.new.failed_name result }
         ensures failed { IsErrOf result FetchFault.Failed → self.new ≡ record {

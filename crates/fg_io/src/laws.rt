@@ -1,14 +1,14 @@
 //! What the definitions come to. The contract of each function is a law about them.
-ghost use Rattle.fg_io.specs.Laws.{RoseWhereItGrew, ToldIsAnswered, MissingIsFault, SentWithoutRestIsWhole};
+ghost use Rattle.fg_io.specs.Laws.{RoseWhereItGrew, ContentsAreAnswered, MissingIsFault, SentWithoutRestIsWhole};
 
 /// A count rose where it grew, or stands at the greatest `u64` now.
 pub fn rose_where_it_grew()
     ensures { RoseWhereItGrew }
 {}
 
-/// Told contents are answered as they are, or refused as too long exactly where they are so.
-pub fn told_is_answered()
-    ensures { ToldIsAnswered }
+/// Contents contents are answered as they are, or refused as too long exactly where they are so.
+pub fn contents_are_answered()
+    ensures { ContentsAreAnswered }
 {}
 
 /// A name that isn't there is a fault, unless memory runs out.

@@ -1,7 +1,8 @@
+// A fake shelf in memory, for tests.
 ghost use Rattle.std.specs.Prelude.{◌≡◌, ◌⊎◌, [], None, Some, Contains, OnOk, OnErr, MatchOption, string_bytes};
 ghost use Rattle.std.specs.FinMap as map;
 ghost use Rattle.fg_io.specs.Outside.{Fetches, FetchCause};
-ghost use Rattle.fg_io.specs.ShelfState.{files_of, told_in, FetchEnds};
+ghost use Rattle.fg_io.specs.ShelfState.{files_of, contents_in, FetchEnds};
 
 use crate::{FetchFault, Shelf};
 use fact_values::NoMemory;
@@ -9,7 +10,7 @@ use std::alloc::Global;
 use std::collections::BTreeMap;
 use std::marker::Model;
 
-/// Files in memory, which fail where they are told to.
+/// Files in memory, which fail where they are asked to.
 /// A fetch that finds no memory changes nothing, and isn't counted among the calls.
 #[derive(Drop)]
 pub struct MemShelf {
@@ -97,17 +98,17 @@ impl MemShelf {
 }
 
 impl Shelf for MemShelf {
-    ghost use Rattle.fg_io.specs.ShelfState.{told_in};
+    ghost use Rattle.fg_io.specs.ShelfState.{contents_in};
 
-    ghost told = { told_in };
+    ghost contents = { contents_in };
 
     ghost faults = { λ shelf. shelf.faults };
 
     ghost failed_name = { λ shelf. shelf.failed_name };
 
     fn fetch(&mut self, name: &str, at_most: u64) -> Result<Vec<u8>, FetchFault>
-        ensures content { Fetches (told_in self.old name.now) at_most result }
-        ensures kept { told_in self.new ≡ told_in self.old }
+        ensures content { Fetches (contents_in self.old name.now) at_most result }
+        ensures kept { contents_in self.new ≡ contents_in self.old }
         ensures cause { FetchCause name.now self.old.faults self.new.faults
             self.old.failed_name self.new.failed_name result }
         ensures ends { FetchEnds self.old self.new name.now result }

@@ -1,3 +1,4 @@
+// A fake sink in memory, for tests.
 ghost use Rattle.std.specs.Prelude.{◌≡◌, ◌⊎◌, ◌↔◌, ◌<◌, ◌≤◌, length, [], Contains, IsTrue, IsErr, IfOk, OnErr};
 ghost use Rattle.std.specs.Io.{WritesAtMost};
 ghost use Rattle.std.specs.Io.KnownBytes.{WriteAppends};
@@ -12,7 +13,7 @@ use std::marker::Model;
 
 const ROOM: usize = 1_000_000;
 
-/// A sink in memory, which takes a few bytes at a time and fails where it is told to.
+/// A sink in memory, which takes a few bytes at a time and fails where it is asked to.
 /// It has room for 1,000,000 bytes, so a put takes no memory.
 #[derive(Drop)]
 pub struct MemSink {

@@ -1,3 +1,4 @@
+// A fake source in memory, for tests.
 ghost use Rattle.std.specs.Prelude.{◌≡◌, ◌↔◌, ◌<◌, ◌++◌, length, take, drop, IsErr, IfOk, OnErr};
 ghost use Rattle.std.specs.Io.{ReadsAtMost};
 ghost use Rattle.std.specs.Io.KnownBytes.{ReadConsumes};
@@ -8,7 +9,7 @@ ghost use Rattle.fg_io.specs.SourceState.{given_count, after_giving, after_faili
 use crate::{Failed, Source};
 use std::marker::Model;
 
-/// A source in memory, which gives a few bytes at a time and fails where it is told to.
+/// A source in memory, which gives a few bytes at a time and fails where it is asked to.
 #[derive(Drop)]
 pub struct MemSource {
     bytes: Vec<u8>,

@@ -1,3 +1,4 @@
+// Standard input as a source, and standard output as a sink.
 ghost use Rattle.std.specs.Prelude.{◌≡◌, ◌<◌, None, IfOk, MatchResult, length};
 ghost use Rattle.std.specs.Io.{ReadsAtMost, WritesAtMost};
 ghost use Rattle.std.specs.Io.KnownBytes.{ReadConsumes, WriteAppends};

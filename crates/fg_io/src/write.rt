@@ -1,3 +1,4 @@
+// Writing a whole piece to a sink that may take a part at a time.
 ghost use Rattle.std.specs.Prelude.{◌≡◌, [], List, ℕ, OnOk};
 ghost use Rattle.fg_io.specs.Outside.{HasCause};
 ghost use Rattle.fg_io.specs.Sent.{Sent};

@@ -61,10 +61,10 @@ fn lines_are_the_same_however_a_script_is_cut(rt: HostRuntime) {
 // Whether so many bytes of the piece are taken, and give this line or none.
 fn gives(lines: &mut Lines, piece: &str, taken: usize, line: Option<&str>) -> bool {
     let fed = lines.feed(piece.as_bytes());
-    fed.taken == taken && is_told(lines, fed.ready, line)
+    fed.taken == taken && is_ready_as(lines, fed.ready, line)
 }
 
-fn is_told(lines: &Lines, ready: Ready, line: Option<&str>) -> bool {
+fn is_ready_as(lines: &Lines, ready: Ready, line: Option<&str>) -> bool {
     match line {
         Some(line) => ready == Ready::Whole && lines.line() == line.as_bytes(),
         None => ready == Ready::NotYet,
@@ -73,7 +73,7 @@ fn is_told(lines: &Lines, ready: Ready, line: Option<&str>) -> bool {
 
 fn ends(lines: &mut Lines, line: Option<&str>) -> bool {
     let ready = lines.finish();
-    is_told(lines, ready, line)
+    is_ready_as(lines, ready, line)
 }
 
 fn are_told(lines: &mut Lines) -> bool {

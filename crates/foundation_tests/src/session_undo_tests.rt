@@ -4,7 +4,7 @@ ghost use Rattle.answers.specs.Meaning.{answered};
 ghost use Rattle.session_undo.specs.History.{behind, NewestFits};
 
 use answers::{Answers, Edit};
-use session_undo::{History, UndoRefusal};
+use session_undo::{Direction, History, UndoRefusal};
 
 const LIST: u32 = 5;
 
@@ -43,7 +43,7 @@ fn an_added_member_goes_and_comes_again(rt: HostRuntime) {
     let mut history = History::new(rt.alloc());
     assert!(rt; history.room().is_ok());
     assert!(rt; add(&mut history, &mut answers));
-    assert!(rt; history.newest(false).is_some());
+    assert!(rt; history.returning(Direction::Forth).is_some());
     assert!(rt; history.back(&mut answers).is_ok());
     assert!(rt; stands(&answers, false, 1));
     assert!(rt; history.forth(&mut answers).is_ok());

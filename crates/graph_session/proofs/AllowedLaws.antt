@@ -12,7 +12,7 @@ use Rattle.fact_values.specs.declared.fact_type.FactType.{FactType}
 use Rattle.fact_values.specs.declared.slot.Slot.{Slot}
 use Rattle.fact_values.specs.declared.value.Value.{Value}
 use Rattle.value_text.specs.Values.{value_at}
-use Rattle.value_text.proofs.ReadingLaws.{value_again}
+use Rattle.value_text.proofs.ParsingLaws.{value_again}
 use Rattle.value_text.proofs.TypeLaws.{of_type}
 use Rattle.dict_tree.specs.Dictionary.{Dictionary as Tree}
 use Rattle.dict_types.specs.StatedTypes.{type_at}

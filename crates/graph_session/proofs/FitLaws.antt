@@ -6,6 +6,7 @@ use Rattle.script_lines.specs.declared.command.Command.TheVariants as commands
 use Rattle.answers.specs.Answered.{start}
 use Rattle.answers.specs.Change.{applied}
 use Rattle.session_undo.specs.Timeline.{Timeline}
+use Rattle.session_undo.specs.declared.direction.Direction.TheVariants.{Back, Forth}
 use Rattle.dictionary.specs.Accepted.{IsAccepted, names_of}
 use Rattle.dictionary.proofs.FitChangeLaws.{allowed_changes_fit}
 use Rattle.dictionary.proofs.FitStart.{start_fits}
@@ -15,7 +16,7 @@ use Rattle.graph_session.specs.Moves.{timeline_stepped}
 use Rattle.graph_session.specs.Refusals.{decided}
 use Rattle.graph_session.specs.Rules.{Rules, tree_of}
 use Rattle.graph_session.specs.Run.{CommandsLeadToFit, ended, next}
-use Rattle.graph_session.specs.SessionView.{Course, begun}
+use Rattle.graph_session.specs.SessionView.{SessionState, begun}
 use Rattle.graph_session.specs.Step.{moved_by, refusal, reply, step, timeline_by, with_change}
 use Rattle.graph_session.specs.declared.reply.Refusal.{Refusal}
 use Rattle.graph_session.proofs.AllowedLaws.{can_be_made}
@@ -23,16 +24,16 @@ use Rattle.graph_session.proofs.SoundLaws.{fit_change, fit_start, fit_stepped}
 use Rattle.graph_session.proofs.StepLaws.{refusal_of_change}
 
 module _ (r : Rules) (is : IsAccepted (names_of r.checks) r.accepted) where
-  pub timeline_fits : (s : Course) (c : Command) (t : Timeline) → AllFit (tree_of r) s.timeline → refusal r s c ≡ None → timeline_by (tree_of r) s.timeline c ≡ Some t → AllFit (tree_of r) t
-  timeline_fits s commands.Undo t all h e = let same : timeline_stepped false s.timeline ≡ t = cc in subst (AllFit (tree_of r)) same (fit_stepped (tree_of r) false s.timeline all)
-  timeline_fits s commands.Redo t all h e = let same : timeline_stepped true s.timeline ≡ t = cc in subst (AllFit (tree_of r)) same (fit_stepped (tree_of r) true s.timeline all)
+  pub timeline_fits : (s : SessionState) (c : Command) (t : Timeline) → AllFit (tree_of r) s.timeline → refusal r s c ≡ None → timeline_by (tree_of r) s.timeline c ≡ Some t → AllFit (tree_of r) t
+  timeline_fits s commands.Undo t all h e = let same : timeline_stepped Back s.timeline ≡ t = cc in subst (AllFit (tree_of r)) same (fit_stepped (tree_of r) Back s.timeline all)
+  timeline_fits s commands.Redo t all h e = let same : timeline_stepped Forth s.timeline ≡ t = cc in subst (AllFit (tree_of r)) same (fit_stepped (tree_of r) Forth s.timeline all)
   timeline_fits s c t all h e =
       let made = mapped (with_change s.timeline) (change_of (tree_of r) c) t e in
       let can = can_be_made r s.timeline.now all.now c made.0 made.1 (sym (refusal_of_change r s c (ap is_some made.1)) ∙ h) in
       let fit = allowed_changes_fit (names_of r.checks) r.accepted is s.timeline.now made.0 all.now can.0 can.1 in
       subst (AllFit (tree_of r)) (sym made.2) (fit_change (tree_of r) s.timeline (applied made.0 s.timeline.now) all fit)
 
-  pub step_fits : (s : Course) (c : Command) → AllFit (tree_of r) s.timeline → AllFit (tree_of r) (next s (step r s c)).timeline
+  pub step_fits : (s : SessionState) (c : Command) → AllFit (tree_of r) s.timeline → AllFit (tree_of r) (next s (step r s c)).timeline
   step_fits s c all = at (refusal r s c) refl
     where
       by : (o : Option Timeline) → refusal r s c ≡ None → timeline_by (tree_of r) s.timeline c ≡ o → AllFit (tree_of r) (moved_by r s o).timeline
@@ -43,7 +44,7 @@ module _ (r : Rules) (is : IsAccepted (names_of r.checks) r.accepted) where
       at None h = by (timeline_by (tree_of r) s.timeline c) h refl
       at (Some q) h = all
 
-  run_fits : (s : Course) (cs : List Command) → AllFit (tree_of r) s.timeline → AllFit (tree_of r) (ended r s cs).timeline
+  run_fits : (s : SessionState) (cs : List Command) → AllFit (tree_of r) s.timeline → AllFit (tree_of r) (ended r s cs).timeline
   run_fits s [] all = all
   run_fits s (c ∷ cs) all = run_fits (next s (step r s c)) cs (step_fits s c all)
 

@@ -13,7 +13,7 @@ use Rattle.dict_tree.proofs.FindingLaws.{find_path-first, first_is_there}
 use Rattle.answers.specs.Answered.{Answered}
 use Rattle.dictionary.specs.Fits.{AnswersFit, is_list}
 use Rattle.dictionary.specs.Homes.{home}
-use Rattle.dictionary.specs.Reading.{slot}
+use Rattle.dictionary.specs.Dependencies.{slot}
 use Rattle.dictionary.specs.Slots.{is_member, stands, stands_at, stands_of}
 use Rattle.graph_session.specs.Naming.{lacks_member, member_of, named_fact, path_of}
 

@@ -1,7 +1,7 @@
 -- What contracts see of a session after a change, and after one that failed.
 use Rattle.std.proofs.Common.{◌≡◌, ℕ, ◌+◌, Bool, IsTrue, if◌then◌else◌, [], ◌∷◌, Some, None}
 use Rattle.answers.specs.Change.{Change, applied, inverse}
-use Rattle.session_undo.specs.Place.{Place, changed}
+use Rattle.session_undo.specs.UndoState.{UndoState, changed}
 use Rattle.session_undo.specs.Timeline.{Timeline}
 use Rattle.dictionary.specs.Accepted.{Kept, accepted}
 use Rattle.dictionary.specs.Engines.{AreMarkedBy, AreSameMarks, Marks}
@@ -21,5 +21,5 @@ pub shown_same : (k : Kept) (t : Timeline) (n : ℕ) (offered : Bool) (m m' : Ma
 shown_same k t n offered m m' f = λ i. record { dict = k; timeline = t; changes = n; counts = same_offered (accepted k) t.now m m' offered f i }
 
 -- the place after a change, by its parts
-pub place_changed : (p q : Place) (c : Change) → q.back ≡ inverse c p.now ∷ p.back → q.now ≡ applied c p.now → q.ahead ≡ [] → q ≡ changed p c
+pub place_changed : (p q : UndoState) (c : Change) → q.back ≡ inverse c p.now ∷ p.back → q.now ≡ applied c p.now → q.ahead ≡ [] → q ≡ changed p c
 place_changed p q c b n a = λ i. record { back = b i; now = n i; ahead = a i }

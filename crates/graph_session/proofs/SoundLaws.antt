@@ -1,5 +1,5 @@
 -- What a session keeps goes on to hold, after a change and after a step back or forth.
-use Rattle.std.proofs.Common.{◌≡◌, ℕ, ◌+◌, ◌≤◌, Bool, true, false, not, if◌then◌else◌, List, [], ◌∷◌, Option, Some, refl, sym, ap, ◌∙◌, subst}
+use Rattle.std.proofs.Common.{◌≡◌, ℕ, ◌+◌, ◌≤◌, Bool, true, false, List, [], ◌∷◌, Option, Some, refl, sym, ap, ◌∙◌, subst}
 use Rattle.std.specs.List.{All}
 use Rattle.std.proofs.lemmas.List.Elements.{All-cons, All-head, All-nil, All-tail}
 use Rattle.dict_tree.specs.Dictionary.{Dictionary as Tree}
@@ -9,9 +9,12 @@ use Rattle.answers.specs.WellFormed.{WellFormed}
 use Rattle.answers.proofs.ChangeLaws.{fits_inverse_undoes}
 use Rattle.answers.proofs.FitsLaws.{inverse_fits}
 use Rattle.answers.specs.declared.parts.Parts.{Parts}
+use Rattle.session_undo.specs.Directions.{changes_of, reversed}
+use Rattle.session_undo.specs.declared.direction.Direction.{Direction}
+use Rattle.session_undo.specs.declared.direction.Direction.TheVariants.{Back, Forth}
 use Rattle.session_undo.specs.declared.history.History.{History}
-use Rattle.session_undo.specs.History.{ahead_of, behind, first, place}
-use Rattle.session_undo.specs.Place.{FitInTurn, Kept as KeptPlace, Place, changed, moved, moved_back, turned}
+use Rattle.session_undo.specs.History.{first, place}
+use Rattle.session_undo.specs.UndoState.{FitInTurn, Kept as IsKeptState, UndoState, changed, moved, moved_back, turned}
 use Rattle.session_undo.specs.Timeline.{Timeline, back_to, timeline, timeline_back, timeline_change, timeline_forth, timeline_turned, trace}
 use Rattle.session_undo.proofs.TimelineLaws.{kept_changed, kept_moved_back, timeline_changed, timeline_moved_back, timeline_moved_forth}
 use Rattle.dictionary.specs.Accepted.{Kept, accepted, names_of}
@@ -45,13 +48,13 @@ module _ (d : Tree) where
   fit_turned : (t : Timeline) → AllFit d t → AllFit d (timeline_turned t)
   fit_turned t all = record { before = all.after; now = all.now; after = all.before }
 
-  pub fit_stepped : (forth : Bool) (t : Timeline) → AllFit d t → AllFit d (timeline_stepped forth t)
-  fit_stepped true t all = fit_turned (timeline_back (timeline_turned t)) (fit_back (timeline_turned t) (fit_turned t all))
-  fit_stepped false t all = fit_back t all
+  pub fit_stepped : (direction : Direction) (t : Timeline) → AllFit d t → AllFit d (timeline_stepped direction t)
+  fit_stepped Forth t all = fit_turned (timeline_back (timeline_turned t)) (fit_back (timeline_turned t) (fit_turned t all))
+  fit_stepped Back t all = fit_back t all
 
 -- ---- what a session keeps
 
-pub sound_changed : (k : Kept) (p : Place) (c : Change) → IsSound k p → Fits c p.now → IsAllowed (accepted k) p.now c → IsSound k (changed p c)
+pub sound_changed : (k : Kept) (p : UndoState) (c : Change) → IsSound k p → Fits c p.now → IsAllowed (accepted k) p.now c → IsSound k (changed p c)
 sound_changed k p c s fits allowed =
     let d = (accepted k).tree in
     record {
@@ -60,29 +63,29 @@ sound_changed k p c s fits allowed =
       fit = subst (AllFit d) (sym (timeline_changed p c s.kept fits)) (fit_change d (timeline p) (applied c p.now) s.fit (allowed_changes_fit (names_of k.checks) (accepted k) s.is_accepted p.now c s.fit.now fits allowed));
     }
 
-sound_turned : (k : Kept) (p : Place) → IsSound k p → IsSound k (turned p)
+sound_turned : (k : Kept) (p : UndoState) → IsSound k p → IsSound k (turned p)
 sound_turned k p s = record {
   is_accepted = s.is_accepted;
   kept = record { well = s.kept.well; back = s.kept.ahead; ahead = s.kept.back };
   fit = fit_turned (accepted k).tree (timeline p) s.fit;
 }
 
-sound_back : (k : Kept) (p : Place) → IsSound k p → IsSound k (moved_back p)
+sound_back : (k : Kept) (p : UndoState) → IsSound k p → IsSound k (moved_back p)
 sound_back k p s = record {
   is_accepted = s.is_accepted;
   kept = kept_moved_back p s.kept;
-  fit = subst (AllFit (accepted k).tree) (sym (timeline_moved_back p s.kept)) (fit_stepped (accepted k).tree false (timeline p) s.fit);
+  fit = subst (AllFit (accepted k).tree) (sym (timeline_moved_back p s.kept)) (fit_stepped (accepted k).tree Back (timeline p) s.fit);
 }
 
-sound_stepped : (k : Kept) (forth : Bool) (p : Place) → IsSound k p → IsSound k (stepped forth p)
-sound_stepped k true p s = sound_turned k (moved_back (turned p)) (sound_back k (turned p) (sound_turned k p s))
-sound_stepped k false p s = sound_back k p s
+sound_stepped : (k : Kept) (direction : Direction) (p : UndoState) → IsSound k p → IsSound k (stepped direction p)
+sound_stepped k Forth p s = sound_turned k (moved_back (turned p)) (sound_back k (turned p) (sound_turned k p s))
+sound_stepped k Back p s = sound_back k p s
 
 -- ---- steps back and forth
 
-timeline_of_stepped : (forth : Bool) (p : Place) → KeptPlace p → timeline (stepped forth p) ≡ timeline_stepped forth (timeline p)
-timeline_of_stepped true p k = timeline_moved_forth p k
-timeline_of_stepped false p k = timeline_moved_back p k
+timeline_of_stepped : (direction : Direction) (p : UndoState) → IsKeptState p → timeline (stepped direction p) ≡ timeline_stepped direction (timeline p)
+timeline_of_stepped Forth p k = timeline_moved_forth p k
+timeline_of_stepped Back p k = timeline_moved_back p k
 
 -- the change that leads back to where a step came from
 undoes_step : (cs : List Change) (a : Answered) (ds : List Change) (d : Change) → WellFormed a → FitInTurn cs a → is_empty (trace cs a) ≡ false → Some d ≡ first (moved cs a ds).ahead
@@ -92,51 +95,51 @@ undoes_step (c ∷ cs) a ds d well fit some e =
     let same : d ≡ inverse c a = cc in
     (subst (λ (x : Change). Fits x (applied c a)) (sym same) (inverse_fits c a well fit.0), ap (λ (x : Change). applied x (applied c a)) same ∙ fits_inverse_undoes c a well fit.0)
 
-undoes_stepped : (forth : Bool) (p : Place) (d : Change) → KeptPlace p → is_end forth (timeline p) ≡ false → Some d ≡ first (changes_along (not forth) (stepped forth p))
-    → Fits d (stepped forth p).now × (applied d (stepped forth p).now ≡ p.now)
-undoes_stepped true p d k some e = undoes_step p.ahead p.now p.back d k.well k.ahead some e
-undoes_stepped false p d k some e = undoes_step p.back p.now p.ahead d k.well k.back some e
+undoes_stepped : (direction : Direction) (p : UndoState) (d : Change) → IsKeptState p → is_end direction (timeline p) ≡ false → Some d ≡ first (changes_along (reversed direction) (stepped direction p))
+    → Fits d (stepped direction p).now × (applied d (stepped direction p).now ≡ p.now)
+undoes_stepped Forth p d k some e = undoes_step p.ahead p.now p.back d k.well k.ahead some e
+undoes_stepped Back p d k some e = undoes_step p.back p.now p.ahead d k.well k.back some e
 
 forth_again : (before : List Answered) (a : Answered) (after : List Answered) → is_empty before ≡ false → timeline_forth (back_to before a after) ≡ record { before = before; now = a; after = after }
 forth_again [] a after some = absurd cc
 forth_again (b ∷ bs) a after some = refl
 
-there_and_back : (forth : Bool) (t : Timeline) → is_end forth t ≡ false → timeline_stepped (not forth) (timeline_stepped forth t) ≡ t
-there_and_back true t some = ap timeline_turned (forth_again t.after t.now t.before some)
-there_and_back false t some = forth_again t.before t.now t.after some
+there_and_back : (direction : Direction) (t : Timeline) → is_end direction t ≡ false → timeline_stepped (reversed direction) (timeline_stepped direction t) ≡ t
+there_and_back Forth t some = ap timeline_turned (forth_again t.after t.now t.before some)
+there_and_back Back t some = forth_again t.before t.now t.after some
 
 -- ---- at a place that was stepped to
 
 -- the newest change of a direction, as it is shown
-pub newest_shown : (forth : Bool) (h : History) (a : Parts) (o : Option Change) → o ≡ first (if forth then ahead_of h else behind h) → o ≡ first (changes_along forth (place h a))
-newest_shown true h a o e = e
-newest_shown false h a o e = e
+pub newest_shown : (direction : Direction) (h : History) (a : Parts) (o : Option Change) → o ≡ first (changes_of direction h) → o ≡ first (changes_along direction (place h a))
+newest_shown Forth h a o e = e
+newest_shown Back h a o e = e
 
-module _ (k : Kept) (forth : Bool) (p q : Place) (s : IsSound k p) (moved_there : q ≡ stepped forth p) (some : is_end forth (timeline p) ≡ false) where
+module _ (k : Kept) (direction : Direction) (p q : UndoState) (s : IsSound k p) (moved_there : q ≡ stepped direction p) (some : is_end direction (timeline p) ≡ false) where
   pub there_sound : IsSound k q
-  there_sound = subst (IsSound k) (sym moved_there) (sound_stepped k forth p s)
+  there_sound = subst (IsSound k) (sym moved_there) (sound_stepped k direction p s)
 
-  pub there_timeline : timeline q ≡ timeline_stepped forth (timeline p)
-  there_timeline = ap timeline moved_there ∙ timeline_of_stepped forth p s.kept
+  pub there_timeline : timeline q ≡ timeline_stepped direction (timeline p)
+  there_timeline = ap timeline moved_there ∙ timeline_of_stepped direction p s.kept
 
-  pub again : (r : Place) → r ≡ stepped (not forth) q → IsSound k r × (timeline r ≡ timeline p)
+  pub again : (r : UndoState) → r ≡ stepped (reversed direction) q → IsSound k r × (timeline r ≡ timeline p)
   again r e = (
-    subst (IsSound k) (sym e) (sound_stepped k (not forth) q there_sound),
-    ap timeline e ∙ timeline_of_stepped (not forth) q there_sound.kept ∙ ap (timeline_stepped (not forth)) there_timeline ∙ there_and_back forth (timeline p) some,
+    subst (IsSound k) (sym e) (sound_stepped k (reversed direction) q there_sound),
+    ap timeline e ∙ timeline_of_stepped (reversed direction) q there_sound.kept ∙ ap (timeline_stepped (reversed direction)) there_timeline ∙ there_and_back direction (timeline p) some,
   )
 
-  module _ (d : Change) (newest : Some d ≡ first (changes_along (not forth) q)) where
+  module _ (d : Change) (newest : Some d ≡ first (changes_along (reversed direction) q)) where
     pub there_undoes : Fits d q.now × (applied d q.now ≡ p.now)
     there_undoes =
-        let here : Some d ≡ first (changes_along (not forth) (stepped forth p)) = newest ∙ ap (λ (z : Place). first (changes_along (not forth) z)) moved_there in
-        subst (λ (z : Place). Fits d z.now × (applied d z.now ≡ p.now)) (sym moved_there) (undoes_stepped forth p d s.kept some here)
+        let here : Some d ≡ first (changes_along (reversed direction) (stepped direction p)) = newest ∙ ap (λ (z : UndoState). first (changes_along (reversed direction) z)) moved_there in
+        subst (λ (z : UndoState). Fits d z.now × (applied d z.now ≡ p.now)) (sym moved_there) (undoes_stepped direction p d s.kept some here)
 
     -- how much work it is to get there
     pub there_steps : (most : Answered → Answered → ℕ) (n : ℕ) (counts : Option Counts) (old new : ℕ) → new ≤ old + most (applied d q.now) q.now
-        → new ≤ old + most_steps most (rules k) (record { timeline = timeline p; changes = n; counts = counts }) (step_command forth)
+        → new ≤ old + most_steps most (rules k) (record { timeline = timeline p; changes = n; counts = counts }) (step_command direction)
     there_steps most n counts old new few =
         subst (λ (work : ℕ). new ≤ old + work) (
         ap (λ (a : Answered). most a q.now) there_undoes.1
         ∙ ap (λ (t : Timeline). most p.now t.now) there_timeline
-        ∙ sym (move_steps most (rules k) (record { timeline = timeline p; changes = n; counts = counts }) forth some)
+        ∙ sym (move_steps most (rules k) (record { timeline = timeline p; changes = n; counts = counts }) direction some)
         ) few

@@ -1,7 +1,7 @@
 -- What every session keeps.
 use Rattle.std.specs.List.{All}
 use Rattle.dict_tree.specs.Dictionary.{Dictionary as Tree}
-use Rattle.session_undo.specs.Place.{Place, Kept as KeptPlace}
+use Rattle.session_undo.specs.UndoState.{UndoState, Kept as IsKeptState}
 use Rattle.session_undo.specs.Timeline.{Timeline, timeline}
 use Rattle.dictionary.specs.Accepted.{IsAccepted, Kept, accepted, names_of}
 use Rattle.dictionary.specs.Fits.{AnswersFit}
@@ -13,7 +13,7 @@ pub record AllFit (d : Tree) (t : Timeline) : Type 0 where
   pub after : All (AnswersFit d) t.after
 
 -- the dictionary has no fault, and the edits that lead back and forth fit one after another, and lead through answers that fit
-pub record IsSound (k : Kept) (p : Place) : Type 0 where
+pub record IsSound (k : Kept) (p : UndoState) : Type 0 where
   pub is_accepted : IsAccepted (names_of k.checks) (accepted k)
-  pub kept : KeptPlace p
+  pub kept : IsKeptState p
   pub fit : AllFit (accepted k).tree (timeline p)

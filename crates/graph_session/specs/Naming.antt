@@ -9,7 +9,7 @@ use Rattle.dict_tree.specs.Dictionary.{Dictionary as Tree}
 use Rattle.dict_tree.specs.Finding.{find_path}
 use Rattle.dict_tree.specs.Targets.{find_global}
 use Rattle.answers.specs.Answered.{Answered}
-use Rattle.dictionary.specs.Reading.{slot}
+use Rattle.dictionary.specs.Dependencies.{slot}
 use Rattle.dictionary.specs.Slots.{is_member}
 
 -- the fact's path: `/N` of `/N`, and `/N/*/M` of `/N/#K/M`

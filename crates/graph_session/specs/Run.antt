@@ -6,34 +6,34 @@ use Rattle.dictionary.specs.Accepted.{IsAccepted, names_of}
 use Rattle.dictionary.specs.Extension.{IsExtension}
 use Rattle.dictionary.specs.Fits.{AnswersFit}
 use Rattle.graph_session.specs.Rules.{Rules, tree_of}
-use Rattle.graph_session.specs.SessionView.{Course, begun}
+use Rattle.graph_session.specs.SessionView.{SessionState, begun}
 use Rattle.graph_session.specs.Step.{step}
 use Rattle.graph_session.specs.declared.reply.Refusal.{Refusal}
 use Rattle.graph_session.specs.declared.reply.Refusal.TheVariants.{UnknownFact, NoMember, WrongKind, BadValue, Limit, Check, Full, AlreadyOpen, NotAnswered, NoOverride, NothingToUndo, NothingToRedo, NoStamps, NoMemory}
 use Rattle.graph_session.specs.declared.reply.Reply.{Reply}
 
 -- what a step answers
-abbrev pub said : Result (Reply × Course) Refusal → Result Reply Refusal
+abbrev pub said : Result (Reply × SessionState) Refusal → Result Reply Refusal
 said (Ok p) = Ok p.0
 said (Err r) = Err r
 
 -- the session after it: the same after a refusal
-abbrev pub next : Course → Result (Reply × Course) Refusal → Course
+abbrev pub next : SessionState → Result (Reply × SessionState) Refusal → SessionState
 next s (Ok p) = p.1
 next s (Err r) = s
 
 -- the answer to each command, in order
-abbrev pub replies : Rules → Course → List Command → List (Result Reply Refusal)
+abbrev pub replies : Rules → SessionState → List Command → List (Result Reply Refusal)
 replies r s [] = []
 replies r s (c ∷ cs) = said (step r s c) ∷ replies r (next s (step r s c)) cs
 
 -- the session after all of them
-abbrev pub ended : Rules → Course → List Command → Course
+abbrev pub ended : Rules → SessionState → List Command → SessionState
 ended r s [] = s
 ended r s (c ∷ cs) = ended r (next s (step r s c)) cs
 
 -- the session after some first of them
-abbrev pub IsAfterSome : Rules → Course → List Command → Course → Type 0
+abbrev pub IsAfterSome : Rules → SessionState → List Command → SessionState → Type 0
 IsAfterSome r s cs t = (n : ℕ) × (t ≡ ended r s (take n cs))
 
 abbrev pub is_memory : Refusal → Bool

@@ -21,16 +21,16 @@ pub record SessionView : Type 0 where
   pub counts : Option Counts
 
 -- the same without the dictionary
-pub record Course : Type 0 where
+pub record SessionState : Type 0 where
   pub timeline : Timeline
   pub changes : ℕ
   pub counts : Option Counts
 
-abbrev pub course : SessionView → Course
-course s = record { timeline = s.timeline; changes = s.changes; counts = s.counts }
+abbrev pub session_state : SessionView → SessionState
+session_state s = record { timeline = s.timeline; changes = s.changes; counts = s.counts }
 
 -- over these answers, before any change
-abbrev pub begun : Accepted → Answered → Bool → Course
+abbrev pub begun : Accepted → Answered → Bool → SessionState
 begun d a offered = record {
   timeline = record { before = []; now = a; after = [] };
   changes = 0;
@@ -38,21 +38,21 @@ begun d a offered = record {
 }
 
 -- after one more change, to this place
-abbrev pub moved : Accepted → Course → Timeline → Course
+abbrev pub moved : Accepted → SessionState → Timeline → SessionState
 moved d c t = record {
   timeline = t;
   changes = c.changes + 1;
   counts = option_map (next_counts d c.timeline.now t.now (c.changes + 1)) c.counts;
 }
 
-abbrev pub view_at : Kept → Course → SessionView
+abbrev pub view_at : Kept → SessionState → SessionView
 view_at k c = record { dict = k; timeline = c.timeline; changes = c.changes; counts = c.counts }
 
 abbrev pub start_at : Kept → Answered → Bool → SessionView
 start_at k a offered = view_at k (begun (accepted k) a offered)
 
 abbrev pub moved_to : SessionView → Timeline → SessionView
-moved_to s t = view_at s.dict (moved (accepted s.dict) (course s) t)
+moved_to s t = view_at s.dict (moved (accepted s.dict) (session_state s) t)
 
 -- ---- codes
 

@@ -11,7 +11,7 @@ use Rattle.graph_session.specs.Counts.{stamp_of, touched_of}
 use Rattle.graph_session.specs.Naming.{slot_of}
 use Rattle.graph_session.specs.Refusals.{decided, first_of, is_empty, slot_refusals, stamp_refusals, when}
 use Rattle.graph_session.specs.Rules.{Rules, tree_of}
-use Rattle.graph_session.specs.SessionView.{Course, moved}
+use Rattle.graph_session.specs.SessionView.{SessionState, moved}
 use Rattle.graph_session.specs.declared.reply.Refusal.{Refusal}
 use Rattle.graph_session.specs.declared.reply.Refusal.TheVariants.{NothingToUndo, NothingToRedo, NoStamps}
 use Rattle.graph_session.specs.declared.reply.Reply.{Reply}
@@ -33,7 +33,7 @@ is_change _ = false
 -- ---- refusals
 
 -- of each command, in their order
-abbrev pub refusals : Rules → Course → Command → List (Option Refusal)
+abbrev pub refusals : Rules → SessionState → Command → List (Option Refusal)
 refusals r s (commands.Set path text) = change_refusals r s.timeline.now (commands.Set path text)
 refusals r s (commands.Clear path) = change_refusals r s.timeline.now (commands.Clear path)
 refusals r s (commands.OpenList path) = change_refusals r s.timeline.now (commands.OpenList path)
@@ -53,7 +53,7 @@ refusals r s (commands.Unwatch name path) = slot_refusals r s.timeline.now path
 refusals r s commands.Quit = []
 
 -- the first that holds
-abbrev pub refusal : Rules → Course → Command → Option Refusal
+abbrev pub refusal : Rules → SessionState → Command → Option Refusal
 refusal r s c = first_of (refusals r s c)
 
 -- ---- what comes of a command that isn't refused
@@ -68,11 +68,11 @@ timeline_by d t commands.Undo = Some (timeline_back t)
 timeline_by d t commands.Redo = Some (timeline_forth t)
 timeline_by d t c = option_map (with_change t) (change_of d c)
 
-abbrev pub moved_by : Rules → Course → Option Timeline → Course
+abbrev pub moved_by : Rules → SessionState → Option Timeline → SessionState
 moved_by r s None = s
 moved_by r s (Some t) = moved r.accepted s t
 
-abbrev pub reply : Rules → Course → Command → Reply
+abbrev pub reply : Rules → SessionState → Command → Reply
 reply r s (commands.Set path text) = change_reply s.timeline.now.next (commands.Set path text)
 reply r s (commands.Clear path) = change_reply s.timeline.now.next (commands.Clear path)
 reply r s (commands.OpenList path) = change_reply s.timeline.now.next (commands.OpenList path)
@@ -94,7 +94,7 @@ reply r s commands.Quit = replies.Quit
 -- ---- the step
 
 -- the reply, and the session after it; or the refusal
-abbrev pub step : Rules → Course → Command → Result (Reply × Course) Refusal
+abbrev pub step : Rules → SessionState → Command → Result (Reply × SessionState) Refusal
 step r s c = decided (refusal r s c) (reply r s c, moved_by r s (timeline_by (tree_of r) s.timeline c))
 
 -- ---- how much work it is
@@ -105,5 +105,5 @@ steps_to most a None = 0
 steps_to most a (Some t) = most a t.now
 
 -- a change takes so many, and every other command none, nor does one that is refused
-abbrev pub most_steps : (Answered → Answered → ℕ) → Rules → Course → Command → ℕ
+abbrev pub most_steps : (Answered → Answered → ℕ) → Rules → SessionState → Command → ℕ
 most_steps most r s c = if is_some (refusal r s c) then 0 else steps_to most s.timeline.now (timeline_by (tree_of r) s.timeline c)

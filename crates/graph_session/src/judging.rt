@@ -1,6 +1,7 @@
 // Whether a text spells a value that may be a fact's answer.
-ghost use Rattle.std.specs.Prelude.{◌≡◌, ◌≤◌, ℕ, List, length, None, Some, map, IfErr, IfOk, IsTrue};
+ghost use Rattle.std.specs.Prelude.{◌≡◌, ◌≤◌, length, None, Some, IfErr, IfOk, IsTrue};
 ghost use Rattle.std.specs.List.{All};
+ghost use Rattle.text_checks.specs.Tables.{named_checks};
 ghost use Rattle.value_text.specs.Values.{Gives};
 ghost use Rattle.dict_tree.specs.Finding.{IsNumber};
 ghost use Rattle.dict_types.specs.StatedTypes.{type_at};
@@ -52,7 +53,7 @@ pub fn read_value(
 // The place of the first limit whose check says no.
 fn failed_check(dict: &Dictionary, checks: &CheckTable, fact: u32, value: &Value) -> Option<u32>
     requires number { IsNumber (tree_of (rules dict.now)).facts fact }
-    requires same_checks { SameChecks (rules dict.now) (map {B = List ℕ × ℕ} (λ c. (c.name, c.code)) checks.now.checks.items) }
+    requires same_checks { SameChecks (rules dict.now) (named_checks checks.now) }
     ensures { result ≡ first_failing dict.now.checks (kept_limits dict.now.typed fact) (Some value.now) }
 {
     let _accepted = dict.source();
@@ -68,7 +69,7 @@ fn refused_by_limits(
 ) -> Option<Refusal>
     requires number { IsNumber (tree_of (rules dict.now)).facts fact }
     requires measured { All (IsMeasured value.now) (kept_limits dict.now.typed fact) }
-    requires same_checks { SameChecks (rules dict.now) (map {B = List ℕ × ℕ} (λ c. (c.name, c.code)) checks.now.checks.items) }
+    requires same_checks { SameChecks (rules dict.now) (named_checks checks.now) }
     ensures { result ≡ first_of (limit_refusals (rules dict.now) fact (Some value.now)) }
 {
     if let Some(place) = first_broken(limits_of(dict, fact), value) {
@@ -91,7 +92,7 @@ pub fn judge_value(
 ) -> Result<Value, Refusal>
     requires number { IsNumber (tree_of (rules dict.now)).facts fact }
     requires answered { IsTrue (is_answered_by (tree_of (rules dict.now)) fact) }
-    requires same_checks { SameChecks (rules dict.now) (map {B = List ℕ × ℕ} (λ c. (c.name, c.code)) checks.now.checks.items) }
+    requires same_checks { SameChecks (rules dict.now) (named_checks checks.now) }
     ensures value { IfOk result (λ v. value_spelled (tree_of (rules dict.now)) fact text.now ≡ Some v) }
     ensures allowed { IfOk result (λ _. first_of (value_refusals (rules dict.now) fact text.now) ≡ None) }
     ensures refused { IfErr result (λ r. Refused r (first_of (value_refusals (rules dict.now) fact text.now))) }

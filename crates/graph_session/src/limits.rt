@@ -1,6 +1,7 @@
 // The limits of a fact, and what they say of a value.
-ghost use Rattle.std.specs.Prelude.{◌≡◌, ◌<◌, ◌≤◌, ◌^◌, ℕ, List, length, map};
+ghost use Rattle.std.specs.Prelude.{◌≡◌, ◌<◌, ◌≤◌, ◌^◌, length};
 ghost use Rattle.std.specs.List.{All};
+ghost use Rattle.text_checks.specs.Tables.{named_checks};
 ghost use Rattle.dict_tree.specs.Dictionary.{number_from};
 ghost use Rattle.graph_session.specs.Kinds.{HasCheck, IsMeasured, breaks as breaks_limit, fails as fails_check, text_of as bytes_of};
 
@@ -55,7 +56,7 @@ pub fn first_broken(limits: &[Limit], value: &Value) -> Option<u32>
 
 fn fails(checks: &CheckTable, value: &Value, limit: &Limit) -> bool
     requires { HasCheck (length checks.now.checks.items) limit.now }
-    ensures { result ≡ fails_check (map {B = List ℕ × ℕ} (λ c. (c.name, c.code)) checks.now.checks.items) value.now limit.now }
+    ensures { result ≡ fails_check (named_checks checks.now) value.now limit.now }
 {
     match limit {
         Limit::Min(_) => false,
@@ -69,7 +70,7 @@ fn fails(checks: &CheckTable, value: &Value, limit: &Limit) -> bool
 pub fn first_failed(checks: &CheckTable, limits: &[Limit], value: &Value) -> Option<u32>
     requires there { All (HasCheck (length checks.now.checks.items)) limits.now }
     requires few { length limits.now < 2 ^ 32 }
-    ensures { result ≡ number_from (fails_check (map {B = List ℕ × ℕ} (λ c. (c.name, c.code)) checks.now.checks.items) value.now) 1 limits.now }
+    ensures { result ≡ number_from (fails_check (named_checks checks.now) value.now) 1 limits.now }
 {
     for (i, limit) in limits.iter().enumerate() {
         if fails(checks, value, limit) {

@@ -1,22 +1,24 @@
 // Steps along the history.
-ghost use Rattle.std.specs.Prelude.{◌≡◌, [], Bool, true, false, not, IfErr, OnErr, OnOk};
+ghost use Rattle.std.specs.Prelude.{◌≡◌, [], false, IfErr, OnErr, OnOk};
 ghost use Rattle.answers.specs.Meaning.{answered};
+ghost use Rattle.session_undo.specs.Directions.{reversed};
 ghost use Rattle.session_undo.specs.History.{place};
-ghost use Rattle.session_undo.specs.Place.{Kept as KeptPlace};
+ghost use Rattle.session_undo.specs.UndoState.{Kept as IsKeptState};
 ghost use Rattle.session_undo.specs.Timeline.{timeline};
+ghost use Rattle.session_undo.specs.declared.direction.Direction.TheVariants.{Back, Forth};
 ghost use Rattle.graph_session.specs.Moves.{CanStep, changes_along, end_refusal, is_end, stepped};
 ghost use Rattle.graph_session.specs.Refusals.{Refused, when};
 
 use crate::reply::Refusal;
 use answers::Answers;
-use session_undo::{History, UndoRefusal};
+use session_undo::{Direction, History, UndoRefusal};
 
 fn step_back(history: &mut History, answers: &mut Answers) -> Result<(), Refusal>
-    requires { KeptPlace (place history.old answers.old) }
-    ensures moved { OnOk result (place history.new answers.new ≡ stepped false (place history.old answers.old)) }
-    ensures some { OnOk result (is_end false (timeline (place history.old answers.old)) ≡ false) }
-    ensures can_return { OnOk result (CanStep true history.new answers.new) }
-    ensures refused { IfErr result (λ r. Refused r (when (is_end false (timeline (place history.old answers.old))) (end_refusal false))) }
+    requires { IsKeptState (place history.old answers.old) }
+    ensures moved { OnOk result (place history.new answers.new ≡ stepped Back (place history.old answers.old)) }
+    ensures some { OnOk result (is_end Back (timeline (place history.old answers.old)) ≡ false) }
+    ensures can_return { OnOk result (CanStep Forth history.new answers.new) }
+    ensures refused { IfErr result (λ r. Refused r (when (is_end Back (timeline (place history.old answers.old))) (end_refusal Back))) }
     ensures unchanged { OnErr result (place history.new answers.new ≡ place history.old answers.old) }
 {
     match history.back(answers) {
@@ -28,11 +30,11 @@ fn step_back(history: &mut History, answers: &mut Answers) -> Result<(), Refusal
 }
 
 fn step_forth(history: &mut History, answers: &mut Answers) -> Result<(), Refusal>
-    requires { KeptPlace (place history.old answers.old) }
-    ensures moved { OnOk result (place history.new answers.new ≡ stepped true (place history.old answers.old)) }
-    ensures some { OnOk result (is_end true (timeline (place history.old answers.old)) ≡ false) }
-    ensures can_return { OnOk result (CanStep false history.new answers.new) }
-    ensures refused { IfErr result (λ r. Refused r (when (is_end true (timeline (place history.old answers.old))) (end_refusal true))) }
+    requires { IsKeptState (place history.old answers.old) }
+    ensures moved { OnOk result (place history.new answers.new ≡ stepped Forth (place history.old answers.old)) }
+    ensures some { OnOk result (is_end Forth (timeline (place history.old answers.old)) ≡ false) }
+    ensures can_return { OnOk result (CanStep Back history.new answers.new) }
+    ensures refused { IfErr result (λ r. Refused r (when (is_end Forth (timeline (place history.old answers.old))) (end_refusal Forth))) }
     ensures unchanged { OnErr result (place history.new answers.new ≡ place history.old answers.old) }
 {
     match history.forth(answers) {
@@ -44,31 +46,37 @@ fn step_forth(history: &mut History, answers: &mut Answers) -> Result<(), Refusa
 }
 
 /// Goes to the answers after the place, or to those before it.
-pub fn step_along(history: &mut History, answers: &mut Answers, forth: bool) -> Result<(), Refusal>
-    requires { KeptPlace (place history.old answers.old) }
-    ensures moved { OnOk result (place history.new answers.new ≡ stepped forth (place history.old answers.old)) }
-    ensures some { OnOk result (is_end forth (timeline (place history.old answers.old)) ≡ false) }
-    ensures can_return { OnOk result (CanStep (not forth) history.new answers.new) }
-    ensures refused { IfErr result (λ r. Refused r (when (is_end forth (timeline (place history.old answers.old))) (end_refusal forth))) }
+pub fn step_along(
+    history: &mut History,
+    answers: &mut Answers,
+    direction: Direction,
+) -> Result<(), Refusal>
+    requires { IsKeptState (place history.old answers.old) }
+    ensures moved { OnOk result (place history.new answers.new ≡ stepped direction (place history.old answers.old)) }
+    ensures some { OnOk result (is_end direction (timeline (place history.old answers.old)) ≡ false) }
+    ensures can_return { OnOk result (CanStep (reversed direction) history.new answers.new) }
+    ensures refused { IfErr result (λ r. Refused r (when (is_end direction (timeline (place history.old answers.old))) (end_refusal direction))) }
     ensures unchanged { OnErr result (place history.new answers.new ≡ place history.old answers.old) }
 {
-    if forth {
-        step_forth(history, answers)
-    } else {
-        step_back(history, answers)
+    match direction {
+        Direction::Back => step_back(history, answers),
+        Direction::Forth => step_forth(history, answers),
     }
 }
 
-/// Takes back a step that was just made: forth, where that was one back, or back.
-pub fn step_again(history: &mut History, answers: &mut Answers, forth: bool)
-    requires kept { KeptPlace (place history.old answers.old) }
-    requires can { CanStep forth history.old answers.old }
-    requires some { changes_along forth (place history.old answers.old) ≡ [] → ⊥ }
-    ensures { place history.new answers.new ≡ stepped forth (place history.old answers.old) }
+/// Takes back a step that was just made in this direction.
+pub fn step_against(history: &mut History, answers: &mut Answers, direction: Direction)
+    requires kept { IsKeptState (place history.old answers.old) }
+    requires can { CanStep (reversed direction) history.old answers.old }
+    requires some { changes_along (reversed direction) (place history.old answers.old) ≡ [] → ⊥ }
+    ensures { place history.new answers.new ≡ stepped (reversed direction) (place history.old answers.old) }
 {
-    if forth {
-        let _ = history.forth(answers);
-    } else {
-        let _ = history.back(answers);
+    match direction {
+        Direction::Back => {
+            let _ = history.forth(answers);
+        }
+        Direction::Forth => {
+            let _ = history.back(answers);
+        }
     }
 }

@@ -1,6 +1,7 @@
 // Whether a command may be carried out: the first refusal, or what it is carried out with.
-ghost use Rattle.std.specs.Prelude.{◌≡◌, ℕ, List, None, Some, map, IfErr, IfOk};
+ghost use Rattle.std.specs.Prelude.{◌≡◌, None, Some, IfErr, IfOk};
 ghost use Rattle.answers.specs.Meaning.{answered};
+ghost use Rattle.text_checks.specs.Tables.{named_checks};
 ghost use Rattle.graph_session.specs.Kinds.{is_full as full, value_spelled};
 ghost use Rattle.graph_session.specs.Naming.{fact_of, slot_of};
 ghost use Rattle.graph_session.specs.Refusals.{Refused, SameChecks, add_refusals, clear_refusals, decided, first_of, open_refusals, override_refusals, release_refusals, remove_refusals, set_refusals};
@@ -113,7 +114,7 @@ pub fn judge_set(
     path: &SlotPath,
     text: &str,
 ) -> Result<(Slot, Value), Refusal>
-    requires { SameChecks (rules dict.now) (map {B = List ℕ × ℕ} (λ c. (c.name, c.code)) checks.now.checks.items) }
+    requires { SameChecks (rules dict.now) (named_checks checks.now) }
     ensures slot { IfOk result (λ p. p.0 ≡ slot_of (tree_of (rules dict.now)) path.now) }
     ensures value { IfOk result (λ p. value_spelled (tree_of (rules dict.now)) p.0.fact text.now ≡ Some p.1) }
     ensures allowed { IfOk result (λ _. first_of (set_refusals (rules dict.now) (answered answers.now) path.now text.now) ≡ None) }

@@ -1,3 +1,4 @@
+// What a session answers to a command.
 use fact_values::Slot;
 
 /// What an accepted command answers.

@@ -1,9 +1,10 @@
 // A list of commands, one after another.
-ghost use Rattle.std.specs.Prelude.{◌≡◌, ℕ, ◌+◌, ◌≤◌, ◌^◌, List, length, map, IfOk, OnErr, OnOk};
+ghost use Rattle.std.specs.Prelude.{◌≡◌, ◌+◌, ◌≤◌, ◌^◌, length, IfOk, OnErr, OnOk};
+ghost use Rattle.text_checks.specs.Tables.{named_checks};
 ghost use Rattle.graph_session.specs.Refusals.{SameChecks};
 ghost use Rattle.graph_session.specs.Rules.{rules};
 ghost use Rattle.graph_session.specs.Run.{IsAfterSome, ended, is_memory as wants_memory, memory_said, replies};
-ghost use Rattle.graph_session.specs.SessionView.{course};
+ghost use Rattle.graph_session.specs.SessionView.{session_state};
 
 use crate::reply::{Refusal, Reply};
 use crate::session::Session;
@@ -55,11 +56,11 @@ pub fn run<E: FactEngine, L: Ledger>(
     checks: &CheckTable,
     steps: &mut Steps<L>,
 ) -> Result<Vec<Result<Reply, Refusal>>, NoMemory>
-    requires same_checks { SameChecks (rules session.old.dict) (map {B = List ℕ × ℕ} (λ c. (c.name, c.code)) checks.now.checks.items) }
+    requires same_checks { SameChecks (rules session.old.dict) (named_checks checks.now) }
     requires few { session.old.changes + length commands.now ≤ 2 ^ 63 }
-    ensures replies { IfOk result (λ rs. rs.items ≡ replies (rules session.old.dict) (course session.old) commands.now) }
-    ensures ended { OnOk result (course session.new ≡ ended (rules session.old.dict) (course session.old) commands.now) }
-    ensures stopped { OnErr result (IsAfterSome (rules session.old.dict) (course session.old) commands.now (course session.new)) }
+    ensures replies { IfOk result (λ rs. rs.items ≡ replies (rules session.old.dict) (session_state session.old) commands.now) }
+    ensures ended { OnOk result (session_state session.new ≡ ended (rules session.old.dict) (session_state session.old) commands.now) }
+    ensures stopped { OnErr result (IsAfterSome (rules session.old.dict) (session_state session.old) commands.now (session_state session.new)) }
     ensures dict { session.new.dict ≡ session.old.dict }
 {
     let mut all = Vec::new(alloc);

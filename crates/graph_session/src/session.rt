@@ -1,9 +1,10 @@
 // A session: a dictionary, answers with their history, and an engine that has the results.
-ghost use Rattle.std.specs.Prelude.{◌≡◌, ℕ, ◌+◌, ◌<◌, ◌≤◌, ◌^◌, List, [], ◌∷◌, map, IfErr, IfOk, IsSome, IsTrue, OnErr, OnOk, option_copied, is_none, None, Ok};
+ghost use Rattle.std.specs.Prelude.{◌≡◌, ◌+◌, ◌<◌, ◌≤◌, ◌^◌, [], ◌∷◌, IfErr, IfOk, IsSome, IsTrue, OnErr, OnOk, option_copied, is_none, None, Ok};
 ghost use Rattle.answers.specs.Answered.{start};
 ghost use Rattle.answers.specs.Change.{Fits, applied};
 ghost use Rattle.answers.specs.Room.{HasRoom};
 ghost use Rattle.answers.specs.Meaning.{answered, change};
+ghost use Rattle.text_checks.specs.Tables.{named_checks};
 ghost use Rattle.session_undo.specs.History.{CanPush, ahead_of, behind};
 ghost use Rattle.dictionary.specs.Accepted.{accepted};
 ghost use Rattle.dictionary.specs.Fits.{AnswersFit};
@@ -15,13 +16,13 @@ ghost use Rattle.graph_session.specs.Moves.{step_command};
 ghost use Rattle.graph_session.specs.Naming.{slot_of as slot_named};
 ghost use Rattle.graph_session.specs.Refusals.{Refused, SameChecks, decided, first_of, slot_found, stamp_refusals, when};
 ghost use Rattle.graph_session.specs.Rules.{rules, tree_of};
-ghost use Rattle.graph_session.specs.SessionView.{course, moved_to, start_at};
+ghost use Rattle.graph_session.specs.SessionView.{session_state, moved_to, start_at};
 ghost use Rattle.graph_session.specs.Step.{most_steps, refusal, reply, step, timeline_by, with_change};
 ghost use Rattle.graph_session.specs.declared.reply.Refusal.TheVariants.{NoStamps};
 ghost use Rattle.graph_session.specs.declared.reply.Reply.TheVariants as replies;
 
 use crate::changes::{change_reply, edit_of};
-use crate::moves::{step_again, step_along};
+use crate::moves::{step_against, step_along};
 use crate::naming::find_slot;
 use crate::questions::{ask_answer, ask_final, ask_missing, ask_unwatch, ask_watch};
 use crate::reply::{Refusal, Reply};
@@ -30,7 +31,7 @@ use dictionary::{Dictionary, FactEngine};
 use fact_paths::SlotPath;
 use fact_values::{NoMemory, Slot};
 use script_lines::Command;
-use session_undo::History;
+use session_undo::{Direction, History};
 use std::alloc::Global;
 use std::marker::Model;
 use std::sync::ledger::Ledger;
@@ -184,13 +185,13 @@ impl<E: FactEngine> Session<E> {
         steps: &mut Steps<L>,
     ) -> Result<Reply, Refusal>
         requires makes_one { IsSome (change_of (tree_of (rules self.old.dict)) command.now) }
-        requires same_checks { SameChecks (rules self.old.dict) (map {B = List ℕ × ℕ} (λ c. (c.name, c.code)) checks.now.checks.items) }
+        requires same_checks { SameChecks (rules self.old.dict) (named_checks checks.now) }
         requires few { self.old.changes < 2 ^ 63 }
-        ensures ok { IfOk result (λ r. step (rules self.old.dict) (course self.old) command.now ≡ Ok (r, course self.new)) }
+        ensures ok { IfOk result (λ r. step (rules self.old.dict) (session_state self.old) command.now ≡ Ok (r, session_state self.new)) }
         ensures dict { self.new.dict ≡ self.old.dict }
-        ensures refused { IfErr result (λ r. Refused r (refusal (rules self.old.dict) (course self.old) command.now)) }
+        ensures refused { IfErr result (λ r. Refused r (refusal (rules self.old.dict) (session_state self.old) command.now)) }
         ensures unchanged { OnErr result (self.new ≡ self.old) }
-        ensures steps { steps.new ≤ steps.old + most_steps (E.most (accepted self.old.dict)) (rules self.old.dict) (course self.old) command.now }
+        ensures steps { steps.new ≤ steps.old + most_steps (E.most (accepted self.old.dict)) (rules self.old.dict) (session_state self.old) command.now }
     {
         let number = self.answers.next_number();
         match edit_of(self.alloc, &self.dict, &self.answers, checks, command) {
@@ -202,18 +203,22 @@ impl<E: FactEngine> Session<E> {
         }
     }
 
-    // Goes forth or back by one change.
-    fn go<L: Ledger>(&mut self, forth: bool, steps: &mut Steps<L>) -> Result<Reply, Refusal>
+    // Goes by one change in this direction.
+    fn go<L: Ledger>(
+        &mut self,
+        direction: Direction,
+        steps: &mut Steps<L>,
+    ) -> Result<Reply, Refusal>
         requires few { self.old.changes < 2 ^ 63 }
-        ensures ok { IfOk result (λ r. step (rules self.old.dict) (course self.old) (step_command forth) ≡ Ok (r, course self.new)) }
+        ensures ok { IfOk result (λ r. step (rules self.old.dict) (session_state self.old) (step_command direction) ≡ Ok (r, session_state self.new)) }
         ensures dict { self.new.dict ≡ self.old.dict }
-        ensures refused { IfErr result (λ r. Refused r (refusal (rules self.old.dict) (course self.old) (step_command forth))) }
+        ensures refused { IfErr result (λ r. Refused r (refusal (rules self.old.dict) (session_state self.old) (step_command direction))) }
         ensures unchanged { OnErr result (self.new ≡ self.old) }
-        ensures steps { steps.new ≤ steps.old + most_steps (E.most (accepted self.old.dict)) (rules self.old.dict) (course self.old) (step_command forth) }
+        ensures steps { steps.new ≤ steps.old + most_steps (E.most (accepted self.old.dict)) (rules self.old.dict) (session_state self.old) (step_command direction) }
     {
-        match step_along(&mut self.history, &mut self.answers, forth) {
+        match step_along(&mut self.history, &mut self.answers, direction) {
             Err(refusal) => Err(refusal),
-            Ok(()) => match self.history.newest(!forth) {
+            Ok(()) => match self.history.returning(direction) {
                 None => unreachable!(),
                 Some(undo) => match self.engine.refresh(&self.dict, &self.answers, undo, steps) {
                     Ok(()) => {
@@ -221,7 +226,7 @@ impl<E: FactEngine> Session<E> {
                         Ok(Reply::Done)
                     }
                     Err(NoMemory) => {
-                        step_again(&mut self.history, &mut self.answers, !forth);
+                        step_against(&mut self.history, &mut self.answers, direction);
                         Err(Refusal::NoMemory)
                     }
                 },
@@ -263,7 +268,7 @@ impl<E: FactEngine> Session<E> {
     // The answer to a command that makes no change.
     fn ask(&self, command: &Command) -> Result<Reply, Refusal>
         requires { timeline_by (tree_of (rules self.now.dict)) self.now.timeline command.now ≡ None }
-        ensures { result ≡ decided (refusal (rules self.now.dict) (course self.now) command.now) (reply (rules self.now.dict) (course self.now) command.now) }
+        ensures { result ≡ decided (refusal (rules self.now.dict) (session_state self.now) command.now) (reply (rules self.now.dict) (session_state self.now) command.now) }
     {
         match command {
             Command::Get(path) => ask_answer(&self.dict, &self.answers, path),
@@ -294,13 +299,13 @@ impl<E: FactEngine> Session<E> {
         checks: &CheckTable,
         steps: &mut Steps<L>,
     ) -> Result<Reply, Refusal>
-        requires same_checks { SameChecks (rules self.old.dict) (map {B = List ℕ × ℕ} (λ c. (c.name, c.code)) checks.now.checks.items) }
+        requires same_checks { SameChecks (rules self.old.dict) (named_checks checks.now) }
         requires few { self.old.changes < 2 ^ 63 }
-        ensures ok { IfOk result (λ r. step (rules self.old.dict) (course self.old) command.now ≡ Ok (r, course self.new)) }
+        ensures ok { IfOk result (λ r. step (rules self.old.dict) (session_state self.old) command.now ≡ Ok (r, session_state self.new)) }
         ensures dict { self.new.dict ≡ self.old.dict }
-        ensures refused { IfErr result (λ r. Refused r (refusal (rules self.old.dict) (course self.old) command.now)) }
+        ensures refused { IfErr result (λ r. Refused r (refusal (rules self.old.dict) (session_state self.old) command.now)) }
         ensures unchanged { OnErr result (self.new ≡ self.old) }
-        ensures steps { steps.new ≤ steps.old + most_steps (E.most (accepted self.old.dict)) (rules self.old.dict) (course self.old) command.now }
+        ensures steps { steps.new ≤ steps.old + most_steps (E.most (accepted self.old.dict)) (rules self.old.dict) (session_state self.old) command.now }
     {
         match command {
             Command::Set(..)
@@ -310,8 +315,8 @@ impl<E: FactEngine> Session<E> {
             | Command::Remove(..)
             | Command::Override(..)
             | Command::Release(_) => self.edit(command, checks, steps),
-            Command::Undo => self.go(false, steps),
-            Command::Redo => self.go(true, steps),
+            Command::Undo => self.go(Direction::Back, steps),
+            Command::Redo => self.go(Direction::Forth, steps),
             Command::Get(_)
             | Command::Final(_)
             | Command::Stamp(_)

@@ -1,6 +1,6 @@
 -- The answers at the start of a run: what they come from, and that they come to one end.
 use Rattle.std.proofs.Common.{◌≡◌, ℕ, ◌≤◌, List, length, inl, inr, refl, sym, ap, subst, ◌∙◌, arith}
-use Rattle.fg_io.specs.Outside.{MayHold, Told, missing}
+use Rattle.fg_io.specs.Outside.{MayHold, Contents, missing}
 use Rattle.value_text.specs.Enums.{AreLists}
 use Rattle.dictionary.specs.Accepted.{IsAccepted}
 use Rattle.dictionary.specs.Fits.{AnswersFit}
@@ -18,8 +18,8 @@ use Rattle.interview.specs.Words.{Beginning, IsFrom, by_carry, by_load, unanswer
 
 -- ---- what they come from
 
-module _ (told : List ℕ → Told) where
-  pub known_basis : (b : Beginning) (known may : Basis) → Brings told b known → MayBring told b may → may ≡ known
+module _ (contents : List ℕ → Contents) where
+  pub known_basis : (b : Beginning) (known may : Basis) → Brings contents b known → MayBring contents b may → may ≡ known
   known_basis unanswered no_text no_text is held = refl
   known_basis unanswered no_text may is held = absurd held
   known_basis unanswered known may is held = absurd is
@@ -31,15 +31,15 @@ module _ (told : List ℕ → Told) where
   known_basis (by_carry name) known may is held = absurd is
 
   -- nothing comes from a text that isn't there
-  pub nothing_brought : (b : Beginning) (name : List ℕ) (may : Basis) → IsFrom b name → told name ≡ missing → MayBring told b may → ⊥
-  nothing_brought (by_load saved) name (to_load bytes) from none held = subst (λ t. MayHold t bytes) (ap told from ∙ none) held
-  nothing_brought (by_carry saved) name (to_carry bytes) from none held = subst (λ t. MayHold t bytes) (ap told from ∙ none) held
+  pub nothing_brought : (b : Beginning) (name : List ℕ) (may : Basis) → IsFrom b name → contents name ≡ missing → MayBring contents b may → ⊥
+  nothing_brought (by_load saved) name (to_load bytes) from none held = subst (λ t. MayHold t bytes) (ap contents from ∙ none) held
+  nothing_brought (by_carry saved) name (to_carry bytes) from none held = subst (λ t. MayHold t bytes) (ap contents from ∙ none) held
   nothing_brought unanswered name may from none held = from
   nothing_brought (by_load saved) name may from none held = held
   nothing_brought (by_carry saved) name may from none held = held
 
   -- where no saved text is named, none is refused
-  pub none_refused : (b : Beginning) (may : Basis) (r : Rules) (n : ℕ) → b ≡ unanswered → MayBring told b may → IsRefusedStart r may n → ⊥
+  pub none_refused : (b : Beginning) (may : Basis) (r : Rules) (n : ℕ) → b ≡ unanswered → MayBring contents b may → IsRefusedStart r may n → ⊥
   none_refused unanswered no_text r n is held refused = refused
   none_refused unanswered may r n is held refused = absurd held
   none_refused (by_load name) may r n is held refused = cc

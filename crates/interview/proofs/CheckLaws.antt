@@ -1,6 +1,6 @@
 -- What a check comes to, and how it ends.
 use Rattle.std.proofs.Common.{◌≡◌, ℕ, false, List, inl, inr, refl, sym, ap, subst, ◌∙◌}
-use Rattle.fg_io.specs.Outside.{Told}
+use Rattle.fg_io.specs.Outside.{Contents}
 use Rattle.dictionary.specs.declared.fault.DictFault.{DictFault}
 use Rattle.dictionary.specs.declared.fault.DictFault.TheVariants as faults
 use Rattle.dictionary.specs.Accepted.{Named, accepted, names_of}
@@ -33,31 +33,31 @@ refused_for bytes names fault none h = h
 
 -- ---- how it ends
 
-module _ (told : Told) (checks : List Named) (name : List ℕ) (did : CheckDid) where
-  ends_whole : (text : List ℕ) (whole : Status) → JudgedAs told checks text whole → SentWhole did.taken text → CheckEnds told checks name did whole
+module _ (contents : Contents) (checks : List Named) (name : List ℕ) (did : CheckDid) where
+  ends_whole : (text : List ℕ) (whole : Status) → JudgedAs contents checks text whole → SentWhole did.taken text → CheckEnds contents checks name did whole
   ends_whole text whole (bytes, held, inl (dict, is, to)) wrote =
-      subst (λ w. JudgedAs told checks text w → CheckEnds told checks name did w) (sym (ap (λ (d : Defined). d.status) to)) (λ judged. (text, judged, wrote)) (bytes, held, inl (dict, is, to))
+      subst (λ w. JudgedAs contents checks text w → CheckEnds contents checks name did w) (sym (ap (λ (d : Defined). d.status) to)) (λ judged. (text, judged, wrote)) (bytes, held, inl (dict, is, to))
   ends_whole text whole (bytes, held, inr (fault, is, to)) wrote =
-      subst (λ w. JudgedAs told checks text w → CheckEnds told checks name did w) (sym (ap (λ (d : Defined). d.status) to)) (λ judged. (text, judged, wrote)) (bytes, held, inr (fault, is, to))
+      subst (λ w. JudgedAs contents checks text w → CheckEnds contents checks name did w) (sym (ap (λ (d : Defined). d.status) to)) (λ judged. (text, judged, wrote)) (bytes, held, inr (fault, is, to))
 
-  ends_judged : (text : List ℕ) (whole status : Status) → JudgedAs told checks text whole → EndedBy did.taken.before did.taken.after did.sink.before did.sink.after text whole status → CheckEnds told checks name did status
-  ends_judged text whole status judged (inl (is, wrote)) = subst (CheckEnds told checks name did) (sym is) (ends_whole text whole judged wrote)
-  ends_judged text whole status judged (inr (is, rose, part)) = subst (CheckEnds told checks name did) (sym is) (rose, (text, (whole, (judged, part))))
+  ends_judged : (text : List ℕ) (whole status : Status) → JudgedAs contents checks text whole → EndedBy did.taken.before did.taken.after did.sink.before did.sink.after text whole status → CheckEnds contents checks name did status
+  ends_judged text whole status judged (inl (is, wrote)) = subst (CheckEnds contents checks name did) (sym is) (ends_whole text whole judged wrote)
+  ends_judged text whole status judged (inr (is, rose, part)) = subst (CheckEnds contents checks name did) (sym is) (rose, (text, (whole, (judged, part))))
 
   -- a dictionary, or its fault, that was fetched
-  judged : (fetched : Fetched) → FetchedAs told checks fetched → JudgedAs told checks (defined_fetched fetched).text (defined_fetched fetched).status
+  judged : (fetched : Fetched) → FetchedAs contents checks fetched → JudgedAs contents checks (defined_fetched fetched).text (defined_fetched fetched).status
   judged (fetches.Accepted dict) (bytes, held, is) = (bytes, held, inl (accepted dict, is.0, refl))
   judged (fetches.Refused fault) (bytes, held, is) = (bytes, held, inr (fault, is, refl))
 
-  pub ends_fetched : (fetched : Fetched) (status : Status) → FetchedAs told checks fetched
-      → EndedBy did.taken.before did.taken.after did.sink.before did.sink.after (defined_fetched fetched).text (defined_fetched fetched).status status → CheckEnds told checks name did status
+  pub ends_fetched : (fetched : Fetched) (status : Status) → FetchedAs contents checks fetched
+      → EndedBy did.taken.before did.taken.after did.sink.before did.sink.after (defined_fetched fetched).text (defined_fetched fetched).status status → CheckEnds contents checks name did status
   ends_fetched fetched status found ended = ends_judged (defined_fetched fetched).text (defined_fetched fetched).status status (judged fetched found) ended
 
 module _ (given : Given) (did : Did) (name : List ℕ) (asked : IsCheck given.words name) (unread : Unread did) where
   abbrev check_did : CheckDid
   check_did = record { shelf = did.shelf; failed_name = did.failed_name; taken = did.script.taken; sink = did.script.sink }
 
-  abbrev of_judged : (text : List ℕ) (status : Status) → JudgedAs (given.told name) given.checks text status → Check given
+  abbrev of_judged : (text : List ℕ) (status : Status) → JudgedAs (given.contents name) given.checks text status → Check given
   of_judged text status judged = record {
     name = name;
     bytes = judged.0;
@@ -67,7 +67,7 @@ module _ (given : Given) (did : Did) (name : List ℕ) (asked : IsCheck given.wo
     judged = judged.2;
   }
 
-  pub ends_check : (status : Status) → CheckEnds (given.told name) given.checks name check_did status → Ends given did status
+  pub ends_check : (status : Status) → CheckEnds (given.contents name) given.checks name check_did status → Ends given did status
   ends_check Done ends = inr (of_judged ends.0 Done ends.1, refl, ends.2, unread)
   ends_check DictionaryRefused ends = inr (of_judged ends.0 DictionaryRefused ends.1, refl, ends.2, unread)
   ends_check FetchFault ends = (ends.0, inl (inr (subst (IsCheck given.words) (sym ends.1) asked)), ends.2, unread)

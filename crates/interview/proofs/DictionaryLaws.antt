@@ -24,7 +24,7 @@ use Rattle.interview.specs.declared.fetching.Fetched.TheVariants as fetches
 use Rattle.interview.specs.declared.status.Status.{Status}
 use Rattle.interview.specs.declared.built_in.BuiltIn.{BuiltIn}
 use Rattle.interview.specs.declared.built_in.BuiltIn.TheVariants.{Year2023, Year2024, Income2023}
-use Rattle.fg_io.specs.Outside.{MayHold, Told, missing}
+use Rattle.fg_io.specs.Outside.{MayHold, Contents, missing}
 use Rattle.interview.specs.Words.{Origin, file, program}
 use Rattle.interview.specs.Dictionaries.{Content, Gives, HasFault, IsAcceptedAs, IsBrought, MayGive, brought, facts_of, spelled}
 use Rattle.answers.specs.Answered.{Answered}
@@ -34,17 +34,17 @@ use Rattle.interview.specs.StepEnds.{FetchedAs, ObtainedAs}
 
 -- ---- what comes from there
 
-pub known_content : (told : List ℕ → Told) (o : Origin) (known may : Content) → Gives told o known → MayGive told o may → may ≡ known
-known_content told (file name) (spelled bytes) (spelled other) is held = ap spelled (sym (subst (λ t. MayHold t other) is held))
-known_content told (program b) (brought c) (brought other) is same = ap brought (sym same ∙ is)
-known_content told (file name) (spelled bytes) (brought other) is gave = absurd gave
-known_content told (file name) (brought b) may is gave = absurd is
-known_content told (program b) (spelled bytes) may is gave = absurd is
-known_content told (program b) (brought c) (spelled bytes) is gave = absurd gave
+pub known_content : (contents : List ℕ → Contents) (o : Origin) (known may : Content) → Gives contents o known → MayGive contents o may → may ≡ known
+known_content contents (file name) (spelled bytes) (spelled other) is held = ap spelled (sym (subst (λ t. MayHold t other) is held))
+known_content contents (program b) (brought c) (brought other) is same = ap brought (sym same ∙ is)
+known_content contents (file name) (spelled bytes) (brought other) is gave = absurd gave
+known_content contents (file name) (brought b) may is gave = absurd is
+known_content contents (program b) (spelled bytes) may is gave = absurd is
+known_content contents (program b) (brought c) (spelled bytes) is gave = absurd gave
 
-pub nothing_missing : (told : List ℕ → Told) (name : List ℕ) (may : Content) → told name ≡ missing → MayGive told (file name) may → ⊥
-nothing_missing told name (spelled bytes) none held = subst (λ t. MayHold t bytes) none held
-nothing_missing told name (brought b) none gave = gave
+pub nothing_missing : (contents : List ℕ → Contents) (name : List ℕ) (may : Content) → contents name ≡ missing → MayGive contents (file name) may → ⊥
+nothing_missing contents name (spelled bytes) none held = subst (λ t. MayHold t bytes) none held
+nothing_missing contents name (brought b) none gave = gave
 
 -- ---- what the program brings with it
 
@@ -75,24 +75,24 @@ income_brings_no_check (Ok d) h = ap has_check h.facts ∙ income_names_none tab
 income_brings_no_check (Err fault) h = tt
 
 -- what is fetched comes from a file
-pub obtains_file : (told : List ℕ → Told) (name : List ℕ) (checks : List Named) (r : Result Fetched Status) → IfOk r (FetchedAs (told name) checks) → IfOk r (ObtainedAs told (file name) checks)
-obtains_file told name checks (Ok (fetches.Accepted dict)) (bytes, held, is) = (spelled bytes, held, is, inl is.1)
-obtains_file told name checks (Ok (fetches.Refused fault)) (bytes, held, is) = (spelled bytes, held, is)
-obtains_file told name checks (Err status) h = tt
+pub obtains_file : (contents : List ℕ → Contents) (name : List ℕ) (checks : List Named) (r : Result Fetched Status) → IfOk r (FetchedAs (contents name) checks) → IfOk r (ObtainedAs contents (file name) checks)
+obtains_file contents name checks (Ok (fetches.Accepted dict)) (bytes, held, is) = (spelled bytes, held, is, inl is.1)
+obtains_file contents name checks (Ok (fetches.Refused fault)) (bytes, held, is) = (spelled bytes, held, is)
+obtains_file contents name checks (Err status) h = tt
 
 -- the tables hold of what it brings, where the answers fit
 pub tables_hold : (b : BuiltIn) (r : Rules) (a : Answered) → IsBrought b r.accepted → AnswersFit (tree_of r) a → TablesHoldIn b r a
 tables_hold Year2023 r a is fit = λ h answered. tables_hold_2023 r.accepted is a h answered.answers answered.earned answered.other
 tables_hold Year2024 r a is fit = λ h answered. tables_hold_2024 r.accepted is a h answered.answers answered.earned answered.other
-tables_hold Income2023 r a is fit = λ h numbered answered told. income_tables_hold r.accepted is a h numbered fit answered.answers told answered.earned answered.other
+tables_hold Income2023 r a is fit = λ h numbered answered contents. income_tables_hold r.accepted is a h numbered fit answered.answers contents answered.earned answered.other
 
-pub brought_is_faultless : (told : List ℕ → Told) (checks : List Named) (b : BuiltIn) (content : Content) (fault : DictFault) → MayGive told (program b) content → HasFault checks content fault → ⊥
-brought_is_faultless told checks b (spelled bytes) fault gave is = gave
-brought_is_faultless told checks b (brought c) fault gave is = brought_has_none c fault is
+pub brought_is_faultless : (contents : List ℕ → Contents) (checks : List Named) (b : BuiltIn) (content : Content) (fault : DictFault) → MayGive contents (program b) content → HasFault checks content fault → ⊥
+brought_is_faultless contents checks b (spelled bytes) fault gave is = gave
+brought_is_faultless contents checks b (brought c) fault gave is = brought_has_none c fault is
 
-pub brought_is_this : (told : List ℕ → Told) (checks : List Named) (b : BuiltIn) (content : Content) (r : Rules) → MayGive told (program b) content → IsAcceptedAs checks content r → IsBrought b r.accepted
-brought_is_this told checks b (spelled bytes) r gave is = absurd gave
-brought_is_this told checks b (brought c) r gave is = subst (λ x. IsBrought x r.accepted) (sym gave) is.0
+pub brought_is_this : (contents : List ℕ → Contents) (checks : List Named) (b : BuiltIn) (content : Content) (r : Rules) → MayGive contents (program b) content → IsAcceptedAs checks content r → IsBrought b r.accepted
+brought_is_this contents checks b (spelled bytes) r gave is = absurd gave
+brought_is_this contents checks b (brought c) r gave is = subst (λ x. IsBrought x r.accepted) (sym gave) is.0
 
 -- ---- a dictionary comes to one end
 

@@ -16,16 +16,16 @@ use Rattle.interview.specs.declared.status.Status.TheVariants.{Done, ReadFault, 
 use Rattle.answers.specs.Answered.{Answered}
 use Rattle.interview.specs.Meanings.{IsQuit, Meaning}
 use Rattle.interview.specs.Interview.{script_limit, answered_lines, defined_script}
-use Rattle.interview.specs.Telling.{LineToldAs, LinesTold, SomeTold}
+use Rattle.interview.specs.Telling.{LineOutputAs, LinesOutput, SomeOutput}
 use Rattle.interview.specs.Save.{LeavesAnswers}
 use Rattle.interview.specs.SoFar.{AnsweredSoFar}
 use Rattle.interview.specs.ScriptEnds.{ScriptDid, ScriptEnds, ending_of, piece_limit}
-use Rattle.interview.proofs.ScriptLaws.{answers_behind, defined_text, done_behind, first_lines, first_written, long_is_too_long, long_lines, over_in_front, over_written, part_written, replied_first, short_is_done, short_lines, told_then}
+use Rattle.interview.proofs.ScriptLaws.{answers_behind, defined_text, done_behind, first_lines, first_written, long_is_too_long, long_lines, over_in_front, over_written, part_written, replied_first, short_is_done, short_lines, output_then}
 
 module _ (m : Meaning) (did : ScriptDid) (left_now taken_now : Option (List ℕ)) (count : ℕ) (there : Meaning) (held : List ℕ)
     (so_far : AnsweredSoFar m did.left.before left_now did.taken.before taken_now count there held) where
   abbrev lines_so_far : List ScriptLine
-  lines_so_far = so_far.told.lines
+  lines_so_far = so_far.output.lines
 
   abbrev text_so_far : List ℕ
   text_so_far = m.texts lines_so_far
@@ -46,14 +46,14 @@ module _ (m : Meaning) (did : ScriptDid) (left_now taken_now : Option (List ℕ)
   all_lines short =
       short_lines so_far.bytes (short_bytes short)
       ∙ ap script_lines (sym (append-nil so_far.bytes))
-      ∙ so_far.told.cut []
+      ∙ so_far.output.cut []
       ∙ ap (λ l. lines_so_far ++ script_lines l) (append-nil held)
 
   -- the last line was answered as far as `rest`
   last_sent : (rest : List ℕ) → count ≤ script_limit → Sent taken_now did.taken.after (there.texts (script_lines held)) rest → Sent did.taken.before did.taken.after (defined_script m so_far.bytes).text rest
   last_sent rest short sent =
-      subst (λ t. Sent did.taken.before did.taken.after t rest) (sym (first_lines m so_far.bytes lines_so_far (script_lines held) there so_far.told.left (all_lines short)))
-      (sent_on did.taken.before taken_now did.taken.after text_so_far (there.texts (script_lines held)) rest so_far.told.wrote sent)
+      subst (λ t. Sent did.taken.before did.taken.after t rest) (sym (first_lines m so_far.bytes lines_so_far (script_lines held) there so_far.output.left (all_lines short)))
+      (sent_on did.taken.before taken_now did.taken.after text_so_far (there.texts (script_lines held)) rest so_far.output.wrote sent)
 
   whole_sent : count ≤ script_limit → Consumes left_now did.left.after [] → IsAtEnd did.left.after → Sent taken_now did.taken.after (there.texts (script_lines held)) [] → ScriptEnds m did Done
   whole_sent short read end sent =
@@ -61,17 +61,17 @@ module _ (m : Meaning) (did : ScriptDid) (left_now taken_now : Option (List ℕ)
       ((so_far.bytes, script_read read end, short_is_done m so_far.bytes (short_bytes short), wrote), inl (so_far.bytes, all_read read, end))
 
   module _ (faults_now : ℕ) (answers : Answered) (short : count ≤ script_limit) (read : Consumes left_now did.left.after []) (end : IsAtEnd did.left.after) where
-    ends_by : (progress : Progress) → did.sink.before ≤ faults_now → LineToldAs taken_now did.taken.after faults_now did.sink.after there answers (script_lines held) progress → ScriptEnds m did (ending_of progress)
-    ends_by More later told = whole_sent short read end told.0
-    ends_by Over later told = whole_sent short read end told.0
-    ends_by Unwritten later told =
-        (omega (arith, told.0, later), (so_far.bytes, script_read read end, (told.1.0, last_sent told.1.0 short told.1.1)))
-    ends_by OutOfMemory later told =
-        replied_first m did so_far.bytes lines_so_far _ (script_read read end) (all_lines short) (subst (λ now. Appends did.taken.before now text_so_far) (sym told) (sent_whole did.taken.before taken_now text_so_far so_far.told.wrote))
+    ends_by : (progress : Progress) → did.sink.before ≤ faults_now → LineOutputAs taken_now did.taken.after faults_now did.sink.after there answers (script_lines held) progress → ScriptEnds m did (ending_of progress)
+    ends_by More later output = whole_sent short read end output.0
+    ends_by Over later output = whole_sent short read end output.0
+    ends_by Unwritten later output =
+        (omega (arith, output.0, later), (so_far.bytes, script_read read end, (output.1.0, last_sent output.1.0 short output.1.1)))
+    ends_by OutOfMemory later output =
+        replied_first m did so_far.bytes lines_so_far _ (script_read read end) (all_lines short) (subst (λ now. Appends did.taken.before now text_so_far) (sym output) (sent_whole did.taken.before taken_now text_so_far so_far.output.wrote))
 
     pub ends_at : (progress : Progress) (status : Status) → status ≡ ending_of progress → did.sink.before ≤ faults_now
-        → LineToldAs taken_now did.taken.after faults_now did.sink.after there answers (script_lines held) progress → ScriptEnds m did status
-    ends_at progress status is later told = subst (ScriptEnds m did) (sym is) (ends_by progress later told)
+        → LineOutputAs taken_now did.taken.after faults_now did.sink.after there answers (script_lines held) progress → ScriptEnds m did status
+    ends_at progress status is later output = subst (ScriptEnds m did) (sym is) (ends_by progress later output)
 
     -- the answers that the last line leaves
     left_whole : there.answers (script_lines held) ≡ answers → LeavesAnswers m did.left.before answers Done
@@ -79,27 +79,27 @@ module _ (m : Meaning) (did : ScriptDid) (left_now taken_now : Option (List ℕ)
       so_far.bytes,
       script_read read end,
       short_is_done m so_far.bytes (short_bytes short),
-      ap m.answers (all_lines short) ∙ so_far.told.left.answers (script_lines held) ∙ left,
+      ap m.answers (all_lines short) ∙ so_far.output.left.answers (script_lines held) ∙ left,
     )
 
-    leaves_by : (progress : Progress) → LineToldAs taken_now did.taken.after faults_now did.sink.after there answers (script_lines held) progress → LeavesAnswers m did.left.before answers (ending_of progress)
-    leaves_by More told = left_whole told.1
-    leaves_by Over told = left_whole told.1
-    leaves_by Unwritten told = tt
-    leaves_by OutOfMemory told = tt
+    leaves_by : (progress : Progress) → LineOutputAs taken_now did.taken.after faults_now did.sink.after there answers (script_lines held) progress → LeavesAnswers m did.left.before answers (ending_of progress)
+    leaves_by More output = left_whole output.1
+    leaves_by Over output = left_whole output.1
+    leaves_by Unwritten output = tt
+    leaves_by OutOfMemory output = tt
 
     pub leaves_at : (progress : Progress) (status : Status) → status ≡ ending_of progress
-        → LineToldAs taken_now did.taken.after faults_now did.sink.after there answers (script_lines held) progress → LeavesAnswers m did.left.before answers status
-    leaves_at progress status is told = subst (LeavesAnswers m did.left.before answers) (sym is) (leaves_by progress told)
+        → LineOutputAs taken_now did.taken.after faults_now did.sink.after there answers (script_lines held) progress → LeavesAnswers m did.left.before answers status
+    leaves_at progress status is output = subst (LeavesAnswers m did.left.before answers) (sym is) (leaves_by progress output)
 
   -- ---- between pieces
 
   abbrev ended_so_far : lines_so_far ≡ ended_lines so_far.bytes
-  ended_so_far = ready_lines_are_ended so_far.bytes held lines_so_far so_far.unended so_far.told.cut
+  ended_so_far = ready_lines_are_ended so_far.bytes held lines_so_far so_far.unended so_far.output.cut
 
   -- no `quit` ended so far
   open_still : m.over (ended_lines so_far.bytes) ≡ false
-  open_still = ap m.over (sym ended_so_far ∙ sym (append-nil lines_so_far)) ∙ so_far.told.left.over [] ∙ so_far.unquit
+  open_still = ap m.over (sym ended_so_far ∙ sym (append-nil lines_so_far)) ∙ so_far.output.left.over [] ∙ so_far.unquit
 
   -- ---- in a piece
 
@@ -110,11 +110,11 @@ module _ (m : Meaning) (did : ScriptDid) (left_now taken_now : Option (List ℕ)
     short_so_far : length (so_far.bytes ++ chunk) ≤ script_limit
     short_so_far = omega (arith, so_far.counted, length-append so_far.bytes chunk)
 
-    joined : (rest : List ℕ) (part : SomeTold there taken_now did.taken.after held chunk_now rest)
-        → LinesTold m did.taken.before did.taken.after [] (so_far.bytes ++ chunk) part.there part.held_now part.behind rest
-    joined rest part = told_then m there part.there did.taken.before taken_now did.taken.after so_far.bytes held chunk chunk_now part.held_now part.behind rest so_far.told same_chunk part.told
+    joined : (rest : List ℕ) (part : SomeOutput there taken_now did.taken.after held chunk_now rest)
+        → LinesOutput m did.taken.before did.taken.after [] (so_far.bytes ++ chunk) part.there part.held_now part.behind rest
+    joined rest part = output_then m there part.there did.taken.before taken_now did.taken.after so_far.bytes held chunk chunk_now part.held_now part.behind rest so_far.output same_chunk part.output
 
-    module _ (part : SomeTold there taken_now did.taken.after held chunk_now []) (quit : IsQuit part.there) where
+    module _ (part : SomeOutput there taken_now did.taken.after held chunk_now []) (quit : IsQuit part.there) where
       pub ends_over : n ≤ piece_limit → ScriptEnds m did Done
       ends_over little =
           let more = may_go_on did.left.before did.left.after (so_far.bytes ++ chunk) read_so_far in
@@ -139,12 +139,12 @@ module _ (m : Meaning) (did : ScriptDid) (left_now taken_now : Option (List ℕ)
             answers_behind m did (so_far.bytes ++ chunk) [] part.there part.held_now part.behind (joined [] part) short_so_far quit more.0 ∙ left,
           )
 
-    pub ends_unwritten : (faults_now : ℕ) (rest : List ℕ) → did.sink.before ≤ faults_now → Rose faults_now did.sink.after → SomeTold there taken_now did.taken.after held chunk_now rest → ScriptEnds m did WriteFault
+    pub ends_unwritten : (faults_now : ℕ) (rest : List ℕ) → did.sink.before ≤ faults_now → Rose faults_now did.sink.after → SomeOutput there taken_now did.taken.after held chunk_now rest → ScriptEnds m did WriteFault
     ends_unwritten faults_now rest later rose part =
         let more = may_go_on did.left.before did.left.after (so_far.bytes ++ chunk) read_so_far in
         (omega (arith, later, rose), ((so_far.bytes ++ chunk) ++ more.0, more.1, part_written m did (so_far.bytes ++ chunk) rest part.there part.held_now part.behind (joined rest part) short_so_far more.0))
 
-    pub ends_out_of_memory : SomeTold there taken_now did.taken.after held chunk_now [] → ScriptEnds m did NoMemory
+    pub ends_out_of_memory : SomeOutput there taken_now did.taken.after held chunk_now [] → ScriptEnds m did NoMemory
     ends_out_of_memory part =
         let more = may_go_on did.left.before did.left.after (so_far.bytes ++ chunk) read_so_far in
         first_written m did (so_far.bytes ++ chunk) [] part.there part.held_now part.behind (joined [] part) short_so_far more.0 more.1 refl
@@ -160,7 +160,7 @@ module _ (m : Meaning) (did : ScriptDid) (left_now taken_now : Option (List ℕ)
       within = short_bytes short;
       unquit = open_still;
       replied = subst (λ now. Appends did.taken.before now (m.texts (ended_lines so_far.bytes))) same_taken
-          (subst (λ l. Appends did.taken.before taken_now (m.texts l)) ended_so_far (sent_whole did.taken.before taken_now text_so_far so_far.told.wrote));
+          (subst (λ l. Appends did.taken.before taken_now (m.texts l)) ended_so_far (sent_whole did.taken.before taken_now text_so_far so_far.output.wrote));
     },
   )
 
@@ -178,5 +178,5 @@ module _ (m : Meaning) (did : ScriptDid) (left_now taken_now : Option (List ℕ)
         more.1,
         long_is_too_long m ((so_far.bytes ++ chunk) ++ more.0) past_all (ap m.over same ∙ open_still),
         subst (λ now. Appends did.taken.before now (defined_script m ((so_far.bytes ++ chunk) ++ more.0)).text) same_taken
-            (subst (λ t. Appends did.taken.before taken_now t) text (sent_whole did.taken.before taken_now text_so_far so_far.told.wrote)),
+            (subst (λ t. Appends did.taken.before taken_now t) text (sent_whole did.taken.before taken_now text_so_far so_far.output.wrote)),
       )

@@ -4,7 +4,7 @@ use Rattle.std.specs.Prelude.{All, Result, Ok, Err, nat_le, if◌then◌else◌}
 use Rattle.std.proofs.Math.Seq.{take-append_seam}
 use Rattle.std.proofs.lemmas.List.Elements.{All-head, All-tail, All-take}
 use Rattle.script_lines.specs.Lines.{ScriptLine, whole, long, script_lines, ended_lines}
-use Rattle.script_lines.specs.Reading.{Heard, nothing, bad_line, command, heard_in}
+use Rattle.script_lines.specs.Parsing.{Heard, nothing, bad_line, command, heard_in}
 use Rattle.script_lines.specs.declared.command.Command.{Command}
 use Rattle.script_lines.specs.declared.command.Command.TheVariants.{Set, Clear, OpenList, Add, Remove, Override, Release, Undo, Redo, Get, Final, Stamp, Touched, Missing, Watch, Unwatch, Quit}
 use Rattle.script_lines.proofs.EndedLaws.{lines_go_on}
@@ -13,7 +13,7 @@ use Rattle.answers.specs.Answered.{Answered}
 use Rattle.dictionary.specs.Accepted.{Named}
 use Rattle.graph_session.specs.Refusals.{decided, slot_found}
 use Rattle.graph_session.specs.Rules.{Rules, tree_of}
-use Rattle.graph_session.specs.SessionView.{Course}
+use Rattle.graph_session.specs.SessionView.{SessionState}
 use Rattle.graph_session.specs.Step as session
 use Rattle.graph_session.specs.declared.reply.Refusal.{Refusal}
 use Rattle.graph_session.specs.declared.reply.Reply.{Reply}
@@ -27,28 +27,28 @@ use Rattle.interview.specs.Meanings.{meaning_of}
 use Rattle.interview.specs.declared.words.Mode.{Mode}
 use Rattle.interview.specs.declared.words.Mode.TheVariants.{Incremental, Plain}
 use Rattle.session_lines.specs.Replies.{reply_text}
-use Rattle.session_lines.specs.Stepping.{Standing, State, Step, at_start, cut_watch, missing_answer, open_at, place_in, put_watch, replies, said, state_after, step, step_answered, step_command, step_heard, step_line, watch_decided}
+use Rattle.session_lines.specs.Stepping.{LineState, State, Step, at_start, cut_watch, missing_answer, open_at, place_in, put_watch, replies, said, state_after, step, step_answered, step_command, step_heard, step_line, watch_decided}
 use Rattle.fact_watch.specs.Refusals.{unwatch_refusal, watch_refusal}
 use Rattle.fact_watch.specs.Watching.{Pair}
 use Rattle.fact_watch.specs.declared.commands.WatchRefusal.{WatchRefusal}
 use Rattle.fact_values.specs.declared.slot.Slot.{Slot}
 
 -- the same session without its counts
-abbrev plain_course : Course → Course
-plain_course c = record { timeline = c.timeline; changes = c.changes; counts = None }
+abbrev plain_session_state : SessionState → SessionState
+plain_session_state c = record { timeline = c.timeline; changes = c.changes; counts = None }
 
-abbrev plain_standing : Standing → Standing
-plain_standing s = record s { course = plain_course s.course }
+abbrev plain_line_state : LineState → LineState
+plain_line_state s = record s { session_state = plain_session_state s.session_state }
 
 abbrev plain_state : State → State
-plain_state s = record { standing = plain_standing s.standing; over = s.over }
+plain_state s = record { standing = plain_line_state s.standing; over = s.over }
 
 abbrev plain_step : Step → Step
 plain_step s = record { text = s.text; state = plain_state s.state }
 
 -- ---- one command
 
-text_same : (r : Rules) (c : Course) (reply : Reply) → reply_text r (plain_course c) reply ≡ reply_text r c reply
+text_same : (r : Rules) (c : SessionState) (reply : Reply) → reply_text r (plain_session_state c) reply ≡ reply_text r c reply
 text_same r c replied.Done = refl
 text_same r c (replied.Added member) = refl
 text_same r c (replied.Answer slot) = refl
@@ -60,71 +60,71 @@ text_same r c (replied.WatchAsked slot) = refl
 text_same r c (replied.UnwatchAsked slot) = refl
 text_same r c replied.Quit = refl
 
-moved_same : (r : Rules) (c : Course) (t : Option Timeline) → session.moved_by r (plain_course c) t ≡ plain_course (session.moved_by r c t)
+moved_same : (r : Rules) (c : SessionState) (t : Option Timeline) → session.moved_by r (plain_session_state c) t ≡ plain_session_state (session.moved_by r c t)
 moved_same r c None = refl
 moved_same r c (Some t) = refl
 
-answered_same : (r : Rules) (s : Standing) (asked : Command) (o : Option Refusal) (reply : Reply) (t : Option Timeline)
-    → step_answered r (plain_standing s) asked (decided o (reply, session.moved_by r (plain_course s.course) t)) ≡ plain_step (step_answered r s asked (decided o (reply, session.moved_by r s.course t)))
+answered_same : (r : Rules) (s : LineState) (asked : Command) (o : Option Refusal) (reply : Reply) (t : Option Timeline)
+    → step_answered r (plain_line_state s) asked (decided o (reply, session.moved_by r (plain_session_state s.session_state) t)) ≡ plain_step (step_answered r s asked (decided o (reply, session.moved_by r s.session_state t)))
 answered_same r s asked (Some refusal) reply t = refl
 answered_same r s asked None reply t =
-    let d = session.moved_by r s.course t in
-    ap (λ (e : Course). step_answered r (plain_standing s) asked (Ok (reply, e))) (moved_same r s.course t)
-    ∙ ap {A = List ℕ} {B = Step} (λ text. record { text = said r (plain_standing s) asked text (plain_course d); state = open_at (record s { course = plain_course d }) }) (text_same r d reply)
+    let d = session.moved_by r s.session_state t in
+    ap (λ (e : SessionState). step_answered r (plain_line_state s) asked (Ok (reply, e))) (moved_same r s.session_state t)
+    ∙ ap {A = List ℕ} {B = Step} (λ text. record { text = said r (plain_line_state s) asked text (plain_session_state d); state = open_at (record s { session_state = plain_session_state d }) }) (text_same r d reply)
 
 -- what a session doesn't answer itself
 
-missing_same : (r : Rules) (c : Course) (o : Result Slot Refusal) → missing_answer r (plain_course c) o ≡ missing_answer r c o
+missing_same : (r : Rules) (c : SessionState) (o : Result Slot Refusal) → missing_answer r (plain_session_state c) o ≡ missing_answer r c o
 missing_same r c (Ok slot) = refl
 missing_same r c (Err refusal) = refl
 
-decided_same : (s : Standing) (pairs : List Pair) (o : Option WatchRefusal) → watch_decided (plain_standing s) pairs o ≡ plain_step (watch_decided s pairs o)
+decided_same : (s : LineState) (pairs : List Pair) (o : Option WatchRefusal) → watch_decided (plain_line_state s) pairs o ≡ plain_step (watch_decided s pairs o)
 decided_same s pairs None = refl
 decided_same s pairs (Some refusal) = refl
 
-put_same : (s : Standing) (name : List ℕ) (o : Result Slot Refusal) → put_watch (plain_standing s) name o ≡ plain_step (put_watch s name o)
+put_same : (s : LineState) (name : List ℕ) (o : Result Slot Refusal) → put_watch (plain_line_state s) name o ≡ plain_step (put_watch s name o)
 put_same s name (Ok slot) = decided_same s _ (watch_refusal (place_in s.relations name) s.watched slot)
 put_same s name (Err refusal) = refl
 
-cut_same : (s : Standing) (name : List ℕ) (o : Result Slot Refusal) → cut_watch (plain_standing s) name o ≡ plain_step (cut_watch s name o)
+cut_same : (s : LineState) (name : List ℕ) (o : Result Slot Refusal) → cut_watch (plain_line_state s) name o ≡ plain_step (cut_watch s name o)
 cut_same s name (Ok slot) = decided_same s _ (unwatch_refusal (place_in s.relations name) s.watched slot)
 cut_same s name (Err refusal) = refl
 
 -- a command that doesn't ask for them
-command_same : (r : Rules) (s : Standing) (asked : Command) → asks_counts asked ≡ false → step_command r (plain_standing s) asked ≡ plain_step (step_command r s asked)
-command_same r s (Set path text) none = answered_same r s (Set path text) (session.refusal r s.course (Set path text)) _ (session.timeline_by (tree_of r) s.course.timeline (Set path text))
-command_same r s (Clear path) none = answered_same r s (Clear path) (session.refusal r s.course (Clear path)) _ (session.timeline_by (tree_of r) s.course.timeline (Clear path))
-command_same r s (OpenList path) none = answered_same r s (OpenList path) (session.refusal r s.course (OpenList path)) _ (session.timeline_by (tree_of r) s.course.timeline (OpenList path))
-command_same r s (Add path) none = answered_same r s (Add path) (session.refusal r s.course (Add path)) _ (session.timeline_by (tree_of r) s.course.timeline (Add path))
-command_same r s (Remove path member) none = answered_same r s (Remove path member) (session.refusal r s.course (Remove path member)) _ (session.timeline_by (tree_of r) s.course.timeline (Remove path member))
-command_same r s (Override path text) none = answered_same r s (Override path text) (session.refusal r s.course (Override path text)) _ (session.timeline_by (tree_of r) s.course.timeline (Override path text))
-command_same r s (Release path) none = answered_same r s (Release path) (session.refusal r s.course (Release path)) _ (session.timeline_by (tree_of r) s.course.timeline (Release path))
-command_same r s Undo none = answered_same r s Undo (session.refusal r s.course Undo) _ (session.timeline_by (tree_of r) s.course.timeline Undo)
-command_same r s Redo none = answered_same r s Redo (session.refusal r s.course Redo) _ (session.timeline_by (tree_of r) s.course.timeline Redo)
-command_same r s (Get path) none = answered_same r s (Get path) (session.refusal r s.course (Get path)) _ None
-command_same r s (Final path) none = answered_same r s (Final path) (session.refusal r s.course (Final path)) _ None
+command_same : (r : Rules) (s : LineState) (asked : Command) → asks_counts asked ≡ false → step_command r (plain_line_state s) asked ≡ plain_step (step_command r s asked)
+command_same r s (Set path text) none = answered_same r s (Set path text) (session.refusal r s.session_state (Set path text)) _ (session.timeline_by (tree_of r) s.session_state.timeline (Set path text))
+command_same r s (Clear path) none = answered_same r s (Clear path) (session.refusal r s.session_state (Clear path)) _ (session.timeline_by (tree_of r) s.session_state.timeline (Clear path))
+command_same r s (OpenList path) none = answered_same r s (OpenList path) (session.refusal r s.session_state (OpenList path)) _ (session.timeline_by (tree_of r) s.session_state.timeline (OpenList path))
+command_same r s (Add path) none = answered_same r s (Add path) (session.refusal r s.session_state (Add path)) _ (session.timeline_by (tree_of r) s.session_state.timeline (Add path))
+command_same r s (Remove path member) none = answered_same r s (Remove path member) (session.refusal r s.session_state (Remove path member)) _ (session.timeline_by (tree_of r) s.session_state.timeline (Remove path member))
+command_same r s (Override path text) none = answered_same r s (Override path text) (session.refusal r s.session_state (Override path text)) _ (session.timeline_by (tree_of r) s.session_state.timeline (Override path text))
+command_same r s (Release path) none = answered_same r s (Release path) (session.refusal r s.session_state (Release path)) _ (session.timeline_by (tree_of r) s.session_state.timeline (Release path))
+command_same r s Undo none = answered_same r s Undo (session.refusal r s.session_state Undo) _ (session.timeline_by (tree_of r) s.session_state.timeline Undo)
+command_same r s Redo none = answered_same r s Redo (session.refusal r s.session_state Redo) _ (session.timeline_by (tree_of r) s.session_state.timeline Redo)
+command_same r s (Get path) none = answered_same r s (Get path) (session.refusal r s.session_state (Get path)) _ None
+command_same r s (Final path) none = answered_same r s (Final path) (session.refusal r s.session_state (Final path)) _ None
 command_same r s (Stamp path) none = absurd cc
 command_same r s Touched none = absurd cc
-command_same r s (Missing path) none = ap {A = List ℕ} {B = Step} (λ text. record { text = text; state = open_at (plain_standing s) }) (missing_same r s.course (slot_found r s.course.timeline.now path))
-command_same r s (Watch name path) none = put_same s name (slot_found r s.course.timeline.now path)
-command_same r s (Unwatch name path) none = cut_same s name (slot_found r s.course.timeline.now path)
+command_same r s (Missing path) none = ap {A = List ℕ} {B = Step} (λ text. record { text = text; state = open_at (plain_line_state s) }) (missing_same r s.session_state (slot_found r s.session_state.timeline.now path))
+command_same r s (Watch name path) none = put_same s name (slot_found r s.session_state.timeline.now path)
+command_same r s (Unwatch name path) none = cut_same s name (slot_found r s.session_state.timeline.now path)
 command_same r s Quit none = refl
 
 -- ---- lines
 
-heard_same : (r : Rules) (s : Standing) (heard : Heard) → is_of_counts heard ≡ false → step_heard r (plain_standing s) heard ≡ plain_step (step_heard r s heard)
+heard_same : (r : Rules) (s : LineState) (heard : Heard) → is_of_counts heard ≡ false → step_heard r (plain_line_state s) heard ≡ plain_step (step_heard r s heard)
 heard_same r s nothing none = refl
 heard_same r s bad_line none = refl
 heard_same r s (command asked) none = command_same r s asked none
 
-line_same : (r : Rules) (s : Standing) (line : ScriptLine) → line_asks_counts line ≡ false → step_line r (plain_standing s) line ≡ plain_step (step_line r s line)
+line_same : (r : Rules) (s : LineState) (line : ScriptLine) → line_asks_counts line ≡ false → step_line r (plain_line_state s) line ≡ plain_step (step_line r s line)
 line_same r s (whole line) none = heard_same r s (heard_in line) none
 line_same r s long none = refl
 
 step_same : (r : Rules) (s : State) (line : ScriptLine) → line_asks_counts line ≡ false → step r (plain_state s) line ≡ plain_step (step r s line)
 step_same r s line none = by s.over
   where
-    by : (over : Bool) → (if over then record { text = []; state = plain_state s } else step_line r (plain_standing s.standing) line) ≡ plain_step (if over then record { text = []; state = s } else step_line r s.standing line)
+    by : (over : Bool) → (if over then record { text = []; state = plain_state s } else step_line r (plain_line_state s.standing) line) ≡ plain_step (if over then record { text = []; state = s } else step_line r s.standing line)
     by true = refl
     by false = line_same r s.standing line none
 

@@ -3,7 +3,7 @@ use Rattle.std.proofs.Common.{◌≡◌, ℕ, true, List, [], ◌∷◌, ◌++�
 use Rattle.std.specs.Prelude.{◌⊎◌}
 use Rattle.std.specs.Io.KnownBytes.{Appends}
 use Rattle.std.proofs.lemmas.List.{append-nil}
-use Rattle.fg_io.specs.Outside.{MayBe, MayHold, Told, missing, holds}
+use Rattle.fg_io.specs.Outside.{MayBe, MayHold, Contents, missing, holds}
 use Rattle.dictionary.specs.declared.fault.DictFault.{DictFault}
 use Rattle.fg_io.proofs.ConsumedLaws.{consumes_none, may_go_on}
 use Rattle.script_lines.specs.Lines.{ScriptLine, ended_lines}
@@ -45,7 +45,7 @@ module _ (given : Given) where
     pub basis : Basis
     pub script : List ℕ
     pub is_accepted : IsAcceptedAs given.checks content rules
-    pub brought : MayBring given.told beginning basis
+    pub brought : MayBring given.contents beginning basis
     pub read : MayBe given.left script
     pub goes : GoesOnTo rules basis mode given.relations script outcome
 
@@ -53,26 +53,26 @@ module _ (given : Given) where
   abbrev CameTo : Content → Beginning → Mode → Defined → Type 0
   CameTo content beginning mode outcome = WentOn content beginning mode outcome ⊎ ((fault : DictFault) × HasFault given.checks content fault × (outcome ≡ defined_fault fault))
 
-  -- a run that it may have been given, and what it comes to: where contents are told, it was given it
+  -- a run that it may have been given, and what it comes to: where contents are known, it was given it
   record Run : Type 0 where
     pub origin : Origin
     pub content : Content
     pub outcome : Defined
     pub asked : IsRun given.words origin
-    pub gave : MayGive given.told origin content
+    pub gave : MayGive given.contents origin content
     pub came : CameTo content asked.beginning asked.mode outcome
 
-  -- ---- what is told
+  -- ---- what is known
 
-  -- the dictionary of the words is the one that is told
-  content_is : (o : Origin) (known : Content) → IsRun given.words o → Gives given.told o known → (p : Origin) (may : Content) → IsRun given.words p → MayGive given.told p may → may ≡ known
-  content_is o known asked gives p may asked_other gave = known_content given.told o known may gives (subst (λ q. MayGive given.told q may) (same_origin given.words p o asked_other asked) gave)
+  -- the dictionary of the words is the one that is known
+  content_is : (o : Origin) (known : Content) → IsRun given.words o → Gives given.contents o known → (p : Origin) (may : Content) → IsRun given.words p → MayGive given.contents p may → may ≡ known
+  content_is o known asked gives p may asked_other gave = known_content given.contents o known may gives (subst (λ q. MayGive given.contents q may) (same_origin given.words p o asked_other asked) gave)
 
   -- and so is the saved text
-  basis_is : (o : Origin) (asked : IsRun given.words o) (known : Basis) → Brings given.told asked.beginning known → (p : Origin) (asked_other : IsRun given.words p) (may : Basis) → MayBring given.told asked_other.beginning may → may ≡ known
-  basis_is o asked known brings p asked_other may brought = known_basis given.told asked.beginning known may brings (subst (λ b. MayBring given.told b may) (same_beginning given.words p o asked_other asked) brought)
+  basis_is : (o : Origin) (asked : IsRun given.words o) (known : Basis) → Brings given.contents asked.beginning known → (p : Origin) (asked_other : IsRun given.words p) (may : Basis) → MayBring given.contents asked_other.beginning may → may ≡ known
+  basis_is o asked known brings p asked_other may brought = known_basis given.contents asked.beginning known may brings (subst (λ b. MayBring given.contents b may) (same_beginning given.words p o asked_other asked) brought)
 
-  -- a run that may have been given is the one that is told
+  -- a run that may have been given is the one that is known
   known_came : (k : KnownRun given) (run : Run) → CameTo run.content run.asked.beginning run.asked.mode run.outcome → RunsTo run.content given.checks k.basis k.asked.mode given.relations k.script run.outcome
   known_came k run (inl went) =
       let basis = basis_is k.origin k.asked k.basis k.brings run.origin run.asked went.basis went.brought in
@@ -92,32 +92,32 @@ module _ (given : Given) where
       let content = content_is k.origin k.content k.asked k.gives run.origin run.content run.asked run.gave in
       subst (λ c. RunsTo c given.checks k.basis k.asked.mode given.relations k.script run.outcome) content (known_came k run run.came)
 
-  -- what the name of a check may hold is what is told of it
-  check_holds : (name other may : List ℕ) (told : Told) → IsCheck given.words name → given.told name ≡ told → IsCheck given.words other → MayHold (given.told other) may → MayHold told may
-  check_holds name other may told asked is asked_other held = subst (λ t. MayHold t may) (ap given.told (same_check given.words other name asked_other asked) ∙ is) held
+  -- what the name of a check may hold is what is known of it
+  check_holds : (name other may : List ℕ) (contents : Contents) → IsCheck given.words name → given.contents name ≡ contents → IsCheck given.words other → MayHold (given.contents other) may → MayHold contents may
+  check_holds name other may contents asked is asked_other held = subst (λ t. MayHold t may) (ap given.contents (same_check given.words other name asked_other asked) ∙ is) held
 
-  -- a check that may have been given is that of the dictionary that is told
+  -- a check that may have been given is that of the dictionary that is known
   known_check : (k : KnownCheck given) (check : Check given) → ChecksTo k.bytes given.checks check.outcome
   known_check k check =
       let bytes = check_holds k.name check.name check.bytes (holds k.bytes) k.asked k.held check.asked check.held in
       subst (λ b. ChecksTo b given.checks check.outcome) (sym bytes) check.judged
 
   -- no dictionary comes from a name that isn't there
-  gone_run : (name : List ℕ) → Fetches given.words name → given.told name ≡ missing → (p : Origin) (may : Content) → IsRun given.words p → MayGive given.told p may → ⊥
-  gone_run name (inl asked) none p may asked_other gave = nothing_missing given.told name may none (subst (λ q. MayGive given.told q may) (same_origin given.words p (file name) asked_other asked) gave)
+  gone_run : (name : List ℕ) → Fetches given.words name → given.contents name ≡ missing → (p : Origin) (may : Content) → IsRun given.words p → MayGive given.contents p may → ⊥
+  gone_run name (inl asked) none p may asked_other gave = nothing_missing given.contents name may none (subst (λ q. MayGive given.contents q may) (same_origin given.words p (file name) asked_other asked) gave)
   gone_run name (inr asked) none p may asked_other gave = not_both given.words p name asked_other asked
 
-  gone_over : (name : List ℕ) → Fetches given.words name → given.told name ≡ missing → AcceptedRun given → ⊥
+  gone_over : (name : List ℕ) → Fetches given.words name → given.contents name ≡ missing → AcceptedRun given → ⊥
   gone_over name asked none over = gone_run name asked none over.origin over.content over.asked over.gave
 
-  gone_check : (name : List ℕ) → Fetches given.words name → given.told name ≡ missing → (check : Check given) → ⊥
+  gone_check : (name : List ℕ) → Fetches given.words name → given.contents name ≡ missing → (check : Check given) → ⊥
   gone_check name (inl asked) none check = not_both given.words (file name) check.name asked check.asked
   gone_check name (inr asked) none check = check_holds name check.name check.bytes missing asked none check.asked check.held
 
-  -- ---- an accepted dictionary that is told
+  -- ---- an accepted dictionary that is known
 
   module _ (dict : KnownDictionary given) where
-    same_dictionary : (p : Origin) (may : Content) → IsRun given.words p → MayGive given.told p may → may ≡ dict.content
+    same_dictionary : (p : Origin) (may : Content) → IsRun given.words p → MayGive given.contents p may → may ≡ dict.content
     same_dictionary p may asked gave = content_is dict.origin dict.content dict.asked dict.gives p may asked gave
 
     not_faulty : RefusedRun given → ⊥
@@ -131,13 +131,13 @@ module _ (given : Given) where
         one_set_of_rules given.checks dict.content over.rules dict.rules (subst (λ c. IsAcceptedAs given.checks c over.rules) same over.is_accepted) dict.is_accepted
 
     -- no saved text comes from a name that isn't there
-    module _ (name : List ℕ) (from : IsFrom dict.asked.beginning name) (none : given.told name ≡ missing) where
-      text_gone : (over : AcceptedRun given) (basis : Basis) → MayBring given.told over.asked.beginning basis → ⊥
-      text_gone over basis brought = nothing_brought given.told dict.asked.beginning name basis from none (subst (λ b. MayBring given.told b basis) (same_beginning given.words over.origin dict.origin over.asked dict.asked) brought)
+    module _ (name : List ℕ) (from : IsFrom dict.asked.beginning name) (none : given.contents name ≡ missing) where
+      text_gone : (over : AcceptedRun given) (basis : Basis) → MayBring given.contents over.asked.beginning basis → ⊥
+      text_gone over basis brought = nothing_brought given.contents dict.asked.beginning name basis from none (subst (λ b. MayBring given.contents b basis) (same_beginning given.words over.origin dict.origin over.asked dict.asked) brought)
 
-    -- a saved text that is told and refused
-    module _ (known : Basis) (n : ℕ) (brings : Brings given.told dict.asked.beginning known) (is : IsRefusedStart dict.rules known n) where
-      text_is : (over : AcceptedRun given) (basis : Basis) → MayBring given.told over.asked.beginning basis → basis ≡ known
+    -- a saved text that is known and refused
+    module _ (known : Basis) (n : ℕ) (brings : Brings given.contents dict.asked.beginning known) (is : IsRefusedStart dict.rules known n) where
+      text_is : (over : AcceptedRun given) (basis : Basis) → MayBring given.contents over.asked.beginning basis → basis ≡ known
       text_is over basis brought = basis_is dict.origin dict.asked known brings over.origin over.asked basis brought
 
       not_begun : BegunRun given → ⊥
@@ -246,18 +246,18 @@ module _ (given : Given) where
 
     -- ---- a name that isn't there
 
-    gone_ended : (status : Status) → EndsAs status → (name : List ℕ) → Fetches given.words name → given.told name ≡ missing → ⊥
+    gone_ended : (status : Status) → EndsAs status → (name : List ℕ) → Fetches given.words name → given.contents name ≡ missing → ⊥
     gone_ended status (inl ends) name asked none = gone_run name asked none ends.0.origin ends.0.content ends.0.asked ends.0.gave
     gone_ended status (inr ends) name asked none = gone_check name asked none ends.0
 
-    gone_part : LinePart given did → (name : List ℕ) → Fetches given.words name → given.told name ≡ missing → ⊥
+    gone_part : LinePart given did → (name : List ℕ) → Fetches given.words name → given.contents name ≡ missing → ⊥
     gone_part (inl part) name asked none = none_fetched given.words name part.0 asked
     gone_part (inr (inl part)) name asked none = gone_run name asked none part.0.origin part.0.content part.0.asked part.0.gave
     gone_part (inr (inr (inl part))) name asked none = gone_check name asked none part.0
     gone_part (inr (inr (inr (inl part)))) name asked none = gone_over name asked none part.0.over
     gone_part (inr (inr (inr (inr part)))) name asked none = gone_over name asked none part.0.over
 
-    gone : (status : Status) → Ends given did status → (name : List ℕ) → Fetches given.words name → given.told name ≡ missing → IsOneOf status (FetchFault ∷ NoMemory ∷ [])
+    gone : (status : Status) → Ends given did status → (name : List ℕ) → Fetches given.words name → given.contents name ≡ missing → IsOneOf status (FetchFault ∷ NoMemory ∷ [])
     gone Done ends name asked none = absurd (gone_ended Done (done_ended ends) name asked none)
     gone Usage ends name asked none = absurd (none_fetched given.words name ends.0 asked)
     gone FetchFault ends name asked none = inl refl
@@ -271,8 +271,8 @@ module _ (given : Given) where
 
     -- ---- a saved text that isn't there
 
-    module _ (dict : KnownDictionary given) (name : List ℕ) (from : IsFrom dict.asked.beginning name) (none : given.told name ≡ missing) where
-      no_text : (over : AcceptedRun given) (basis : Basis) → MayBring given.told over.asked.beginning basis → ⊥
+    module _ (dict : KnownDictionary given) (name : List ℕ) (from : IsFrom dict.asked.beginning name) (none : given.contents name ≡ missing) where
+      no_text : (over : AcceptedRun given) (basis : Basis) → MayBring given.contents over.asked.beginning basis → ⊥
       no_text over basis brought = text_gone dict name from none over basis brought
 
       text_gone_part : LinePart given did → ⊥
@@ -298,7 +298,7 @@ module _ (given : Given) where
 
     -- ---- a saved text that is refused
 
-    module _ (dict : KnownDictionary given) (known : Basis) (n : ℕ) (brings : Brings given.told dict.asked.beginning known) (is : IsRefusedStart dict.rules known n) where
+    module _ (dict : KnownDictionary given) (known : Basis) (n : ℕ) (brings : Brings given.contents dict.asked.beginning known) (is : IsRefusedStart dict.rules known n) where
       saved_refused : (status : Status) → Ends given did status → EndedAs did status (defined_saved_refused n) ⊎ IsOneOf status (FetchFault ∷ WriteFault ∷ NoMemory ∷ [])
       saved_refused Done (inl ends) = absurd (not_begun dict known n brings is ends.0)
       saved_refused Done (inr ends) = absurd (not_both given.words dict.origin ends.0.name dict.asked ends.0.asked)
@@ -344,7 +344,7 @@ module _ (given : Given) where
     ended status ends k = (ends.0.outcome, known_run k ends.0, (sym ends.1, ends.2))
 
     -- no run over a dictionary with a fault is one over an accepted dictionary
-    module _ (o : Origin) (content : Content) (fault : DictFault) (asked : IsRun given.words o) (gives : Gives given.told o content) (is : HasFault given.checks content fault) where
+    module _ (o : Origin) (content : Content) (fault : DictFault) (asked : IsRun given.words o) (gives : Gives given.contents o content) (is : HasFault given.checks content fault) where
       not_accepted : AcceptedRun given → ⊥
       not_accepted over =
           let same = content_is o content asked gives over.origin over.content over.asked over.gave in
@@ -417,7 +417,7 @@ module _ (given : Given) where
     complete DictionaryRefused ends k fetch read write = inl (ended DictionaryRefused (ran DictionaryRefused (refused_ended ends) k.origin k.asked) k)
     complete SavedRefused ends k fetch read write = inl (ended SavedRefused (ran SavedRefused (saved_ended ends) k.origin k.asked) k)
 
-    -- ---- what was written of a run that is told
+    -- ---- what was written of a run that is known
 
     -- all of a text is a part of it
     whole_part : (text whole : List ℕ) → text ≡ whole → SentWhole did.script.taken text → SentPart did.script.taken whole
@@ -499,7 +499,7 @@ module _ (given : Given) where
     -- ---- dictionaries that the program brings with it
 
     brought_fault : (b : BuiltIn) → IsRun given.words (program b) → RefusedRun given → ⊥
-    brought_fault b asked run = brought_is_faultless given.told given.checks b run.content run.fault (subst (λ q. MayGive given.told q run.content) (same_origin given.words run.origin (program b) run.asked asked) run.gave) run.is_fault
+    brought_fault b asked run = brought_is_faultless given.contents given.checks b run.content run.fault (subst (λ q. MayGive given.contents q run.content) (same_origin given.words run.origin (program b) run.asked asked) run.gave) run.is_fault
 
     -- no saved text is named
     module _ (b : BuiltIn) (asked : IsRun given.words (program b)) (none : asked.beginning ≡ unanswered) where
@@ -520,7 +520,7 @@ module _ (given : Given) where
       built_in FetchFault ends = absurd (nothing_fetched did.failed_name ends.1)
       built_in DictionaryRefused (inl ends) = absurd (brought_fault b asked ends.0)
       built_in DictionaryRefused (inr ends) = absurd (not_both given.words (program b) ends.0.name asked ends.0.asked)
-      built_in SavedRefused ends = absurd (none_refused given.told ends.0.over.asked.beginning ends.0.basis ends.0.over.rules ends.0.line (no_beginning ends.0.over) ends.0.brought ends.0.is_refused)
+      built_in SavedRefused ends = absurd (none_refused given.contents ends.0.over.asked.beginning ends.0.basis ends.0.over.rules ends.0.line (no_beginning ends.0.over) ends.0.brought ends.0.is_refused)
 
     built_in_carried : (b : BuiltIn) (asked : IsRun given.words (program b)) (status : Status) → Ends given did status → IsOneOf status (Done ∷ FetchFault ∷ ReadFault ∷ WriteFault ∷ ScriptTooLong ∷ NoMemory ∷ SavedRefused ∷ [])
     built_in_carried b asked Done ends = inl refl
@@ -537,10 +537,10 @@ module _ (given : Given) where
     pub tables : (b : BuiltIn) → IsRun given.words (program b) → (run : BegunRun given) (lines : List ScriptLine) → TablesHoldIn b run.over.rules ((meaning_in given run).answers lines)
     tables b asked run lines =
         let over = run.over in
-        let gave = subst (λ q. MayGive given.told q over.content) (same_origin given.words over.origin (program b) over.asked asked) over.gave in
+        let gave = subst (λ q. MayGive given.contents q over.content) (same_origin given.words over.origin (program b) over.asked asked) over.gave in
         subst (λ e. TablesHoldIn b over.rules ((meaning_of over.rules e given.relations run.start.answers).answers lines)) (sym (program_mode given.words over.origin b asked over.asked))
         (tables_hold b over.rules ((meaning_of over.rules Incremental given.relations run.start.answers).answers lines)
-        (brought_is_this given.told given.checks b over.content over.rules gave over.is_accepted)
+        (brought_is_this given.contents given.checks b over.content over.rules gave over.is_accepted)
         (lines_lead_to_fit over.rules (rules_are_accepted_so given.checks over.content over.rules over.is_accepted) (record { answers = run.start.answers; stamps = true; relations = given.relations }) (fits_at_start over.rules run.basis run.start run.is_start) lines))
 
     -- ---- checks

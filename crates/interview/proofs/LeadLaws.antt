@@ -6,7 +6,7 @@ use Rattle.fact_watch.specs.Refusals.{pair_of, unwatch_refusal, watch_refusal}
 use Rattle.fact_watch.specs.Watching.{Pair, without}
 use Rattle.fact_watch.specs.declared.commands.WatchRefusal.{WatchRefusal}
 use Rattle.script_lines.specs.Lines.{ScriptLine, whole, long}
-use Rattle.script_lines.specs.Reading.{Heard, nothing, bad_line, command, heard_in}
+use Rattle.script_lines.specs.Parsing.{Heard, nothing, bad_line, command, heard_in}
 use Rattle.script_lines.specs.declared.command.Command.{Command}
 use Rattle.script_lines.specs.declared.command.Command.TheVariants as commands
 use Rattle.dictionary.specs.Accepted.{IsAccepted, names_of}
@@ -15,57 +15,57 @@ use Rattle.graph_session.specs.Keeping.{AllFit}
 use Rattle.graph_session.specs.Refusals.{slot_found}
 use Rattle.graph_session.specs.Rules.{Rules, tree_of}
 use Rattle.graph_session.specs.Run.{next}
-use Rattle.graph_session.specs.SessionView.{Course}
+use Rattle.graph_session.specs.SessionView.{SessionState}
 use Rattle.graph_session.specs.Step as session
 use Rattle.graph_session.specs.declared.reply.Refusal.{Refusal}
 use Rattle.graph_session.specs.declared.reply.Reply.{Reply}
 use Rattle.graph_session.proofs.FitLaws.{step_fits}
 use Rattle.graph_session.proofs.SoundLaws.{fit_start}
 use Rattle.interview.specs.Meanings.{of_session}
-use Rattle.session_lines.specs.Stepping.{Standing, State, Terms, at_start, cut_watch, place_in, put_watch, state_after, step, step_answered, step_command, step_heard, step_line, watch_decided}
+use Rattle.session_lines.specs.Stepping.{LineState, State, Terms, at_start, cut_watch, place_in, put_watch, state_after, step, step_answered, step_command, step_heard, step_line, watch_decided}
 
 module _ (r : Rules) where
   -- all answers of the session fit, those that `undo` and `redo` lead to as well
   abbrev Fit : State → Type 0
-  Fit state = AllFit (tree_of r) state.standing.course.timeline
+  Fit state = AllFit (tree_of r) state.standing.session_state.timeline
 
-  abbrev StandsFit : Standing → Type 0
-  StandsFit s = AllFit (tree_of r) s.course.timeline
+  abbrev StandsFit : LineState → Type 0
+  StandsFit s = AllFit (tree_of r) s.session_state.timeline
 
   -- ---- watches change no answer
 
-  decided_fits : (s : Standing) (pairs : List Pair) (o : Option WatchRefusal) → StandsFit s → Fit (watch_decided s pairs o).state
+  decided_fits : (s : LineState) (pairs : List Pair) (o : Option WatchRefusal) → StandsFit s → Fit (watch_decided s pairs o).state
   decided_fits s pairs None all = all
   decided_fits s pairs (Some refusal) all = all
 
-  put_fits : (s : Standing) (name : List ℕ) (found : Result Slot Refusal) → StandsFit s → Fit (put_watch s name found).state
+  put_fits : (s : LineState) (name : List ℕ) (found : Result Slot Refusal) → StandsFit s → Fit (put_watch s name found).state
   put_fits s name (Ok slot) all = decided_fits s (s.watched ++ pair_of (place_in s.relations name) slot ∷ []) (watch_refusal (place_in s.relations name) s.watched slot) all
   put_fits s name (Err refusal) all = all
 
-  cut_fits : (s : Standing) (name : List ℕ) (found : Result Slot Refusal) → StandsFit s → Fit (cut_watch s name found).state
+  cut_fits : (s : LineState) (name : List ℕ) (found : Result Slot Refusal) → StandsFit s → Fit (cut_watch s name found).state
   cut_fits s name (Ok slot) all = decided_fits s (without (pair_of (place_in s.relations name) slot) s.watched) (unwatch_refusal (place_in s.relations name) s.watched slot) all
   cut_fits s name (Err refusal) all = all
 
   -- ---- a line
 
-  answered_fits : (s : Standing) (c : Command) (found : Result (Reply × Course) Refusal) → AllFit (tree_of r) (next s.course found).timeline → Fit (step_answered r s c found).state
+  answered_fits : (s : LineState) (c : Command) (found : Result (Reply × SessionState) Refusal) → AllFit (tree_of r) (next s.session_state found).timeline → Fit (step_answered r s c found).state
   answered_fits s c (Ok answer) all = all
   answered_fits s c (Err refusal) all = all
 
   module _ (is : IsAccepted (names_of r.checks) r.accepted) where
-    command_fits : (s : Standing) (c : Command) → StandsFit s → Fit (step_command r s c).state
+    command_fits : (s : LineState) (c : Command) → StandsFit s → Fit (step_command r s c).state
     command_fits s commands.Quit all = all
     command_fits s (commands.Missing path) all = all
-    command_fits s (commands.Watch name path) all = put_fits s name (slot_found r s.course.timeline.now path) all
-    command_fits s (commands.Unwatch name path) all = cut_fits s name (slot_found r s.course.timeline.now path) all
-    command_fits s c all = answered_fits s c (session.step r s.course c) (step_fits r is s.course c all)
+    command_fits s (commands.Watch name path) all = put_fits s name (slot_found r s.session_state.timeline.now path) all
+    command_fits s (commands.Unwatch name path) all = cut_fits s name (slot_found r s.session_state.timeline.now path) all
+    command_fits s c all = answered_fits s c (session.step r s.session_state c) (step_fits r is s.session_state c all)
 
-    heard_fits : (s : Standing) (heard : Heard) → StandsFit s → Fit (step_heard r s heard).state
+    heard_fits : (s : LineState) (heard : Heard) → StandsFit s → Fit (step_heard r s heard).state
     heard_fits s nothing all = all
     heard_fits s bad_line all = all
     heard_fits s (command asked) all = command_fits s asked all
 
-    line_fits : (s : Standing) (line : ScriptLine) → StandsFit s → Fit (step_line r s line).state
+    line_fits : (s : LineState) (line : ScriptLine) → StandsFit s → Fit (step_line r s line).state
     line_fits s (whole line) all = heard_fits s (heard_in line) all
     line_fits s long all = all
 

@@ -61,12 +61,12 @@ one_gen relations n d e (r, is, to) (s, is_other, to_other) = to ∙ ap (λ q. d
 
 -- ---- what it comes to
 
--- a script that is told was answered whole into a sink that is told
-pub told_replies : (m : Meaning) (left : Option (List ℕ)) (took : Stream) (script taken : List ℕ) → left ≡ Some script → took.before ≡ Some [] → took.after ≡ Some taken
+-- a script that is known was answered whole into a sink that is known
+pub output_replies : (m : Meaning) (left : Option (List ℕ)) (took : Stream) (script taken : List ℕ) → left ≡ Some script → took.before ≡ Some [] → took.after ≡ Some taken
     → (given : List ℕ) × MayBe left given × ((defined_script m given).status ≡ Done) × SentWhole took (defined_script m given).text → taken ≡ (defined_script m script).text
-told_replies m left took script taken told before after ends =
+output_replies m left took script taken contents before after ends =
     let text = (defined_script m ends.0).text in
-    let same : script ≡ ends.0 = subst (λ (o : Option (List ℕ)). MayBe o ends.0) told ends.1 in
+    let same : script ≡ ends.0 = subst (λ (o : Option (List ℕ)). MayBe o ends.0) contents ends.1 in
     let wrote : taken ≡ text = subst (λ (o : Option (List ℕ)). Appends (Some []) o text) after (subst (λ (o : Option (List ℕ)). Appends o took.after text) before ends.3) in
     wrote ∙ ap (λ s. (defined_script m s).text) (sym same)
 
@@ -75,8 +75,8 @@ pub summed : (r : Rules) (relations : List Named) (n facts nodes lines : ℕ) (m
     → text ≡ summary n facts nodes lines (lines_of replies) → text ≡ (defined_gen r relations n).text
 summed r relations n facts nodes lines made_script replies text a b c same replied is =
     let count = c ∙ ap (λ (s : List ℕ). length (lines_of s)) same in
-    let told = replied ∙ ap (λ (s : List ℕ). (defined_script (meaning_of r Incremental relations start) s).text) same in
-    is ∙ (λ i. summary n (a i) (b i) (count i) (lines_of (told i)))
+    let whole = replied ∙ ap (λ (s : List ℕ). (defined_script (meaning_of r Incremental relations start) s).text) same in
+    is ∙ (λ i. summary n (a i) (b i) (count i) (lines_of (whole i)))
 
 pub summed_of_load : (r : Rules) (relations : List Named) (n facts nodes lines : ℕ) (made_script replies : List ℕ) → IsOfLoad n r
     → facts ≡ length (tree_of r).facts → nodes ≡ node_count (tree_of r) → lines ≡ length (lines_of made_script) → made_script ≡ script n → replies ≡ (defined_script (meaning_of r Incremental relations start) made_script).text

@@ -5,7 +5,7 @@ use Rattle.script_lines.specs.Lines.{ScriptLine}
 use Rattle.answers.specs.Answered.{Answered}
 use Rattle.dictionary.specs.Accepted.{Named}
 use Rattle.graph_session.specs.Rules.{Rules}
-use Rattle.session_lines.specs.Stepping.{Standing, State, Step, at_start, open_at, replies, state_after, step, step_line}
+use Rattle.session_lines.specs.Stepping.{LineState, State, Step, at_start, open_at, replies, state_after, step, step_line}
 use Rattle.session_lines.proofs.AnsweringLaws.{replies-append, state_after-append}
 use Rattle.session_lines.proofs.StepLaws.{steps-append}
 use Rattle.shared_desk.specs.Desk.{Desk as Defined}
@@ -51,11 +51,11 @@ pub session_behind : (r : Rules) (state : State) (lines : List ScriptLine) → B
 session_behind r state lines = record {
   texts = replies-append r state lines;
   over = λ l. ap (λ (s : State). s.over) (state_after-append r state lines l);
-  answers = λ l. ap (λ (s : State). s.standing.course.timeline.now) (state_after-append r state lines l);
+  answers = λ l. ap (λ (s : State). s.standing.session_state.timeline.now) (state_after-append r state lines l);
   steps = λ most l. steps-append most r state lines l;
 }
 
-pub session_begins : (r : Rules) (s : Standing) → IsBeginning (of_session r (open_at s))
+pub session_begins : (r : Rules) (s : LineState) → IsBeginning (of_session r (open_at s))
 session_begins r s = record { texts = refl; over = refl; steps = λ most. refl; goes_on = λ lines. (of_session r (state_after r (open_at s) lines), session_behind r (open_at s) lines) }
 
 -- behind `quit`
@@ -75,7 +75,7 @@ pub session_quit : (r : Rules) (state : State) → state.over ≡ true → IsQui
 session_quit r state over = record {
   texts = λ lines. silent r state lines over;
   over = λ lines. ap (λ (s : State). s.over) (stays_over r state lines over) ∙ over;
-  answers = λ lines. ap (λ (s : State). s.standing.course.timeline.now) (stays_over r state lines over);
+  answers = λ lines. ap (λ (s : State). s.standing.session_state.timeline.now) (stays_over r state lines over);
 }
 
 -- ---- a desk
@@ -84,7 +84,7 @@ pub desk_behind : (r : Rules) (state : DeskState) (lines : List ScriptLine) → 
 desk_behind r state lines = record {
   texts = desk_replies-append r state lines;
   over = λ l. ap (λ (s : DeskState). s.over) (desk_state_after-append r state lines l);
-  answers = λ l. ap (λ (s : DeskState). s.desk.course.timeline.now) (desk_state_after-append r state lines l);
+  answers = λ l. ap (λ (s : DeskState). s.desk.session_state.timeline.now) (desk_state_after-append r state lines l);
   steps = λ most l. desk_steps-append most r state lines l;
 }
 
@@ -107,7 +107,7 @@ pub desk_quit : (r : Rules) (state : DeskState) → state.over ≡ true → IsQu
 desk_quit r state over = record {
   texts = λ lines. desk_silent r state lines over;
   over = λ lines. ap (λ (s : DeskState). s.over) (desk_stays_over r state lines over) ∙ over;
-  answers = λ lines. ap (λ (s : DeskState). s.desk.course.timeline.now) (desk_stays_over r state lines over);
+  answers = λ lines. ap (λ (s : DeskState). s.desk.session_state.timeline.now) (desk_stays_over r state lines over);
 }
 
 -- ---- a run

@@ -2,7 +2,7 @@
 use Rattle.std.proofs.Common.{◌≡◌, ℕ, ◌≤◌, List, [], length, Option, Result, Ok, Err, IfErr, IfOk, inr, refl, sym, subst, arith}
 use Rattle.std.specs.Prelude.{Vec}
 use Rattle.std.specs.declared.alloc.Global.{Global}
-use Rattle.fg_io.specs.Outside.{Told}
+use Rattle.fg_io.specs.Outside.{Contents}
 use Rattle.fg_io.specs.Writing.{WroteAll}
 use Rattle.fg_io.proofs.SentLaws.{sent_none}
 use Rattle.answers.specs.Answered.{start}
@@ -66,8 +66,8 @@ carry_begins r text numbers b short carry = (
 
 -- ---- no answers
 
-pub none_begins : (told : List ℕ → Told) (r : Rules) (b : Parts) → answered b ≡ start → ResumedAs told unanswered r (resumed.Begins (record { answers = b; dropped = dropped.Nothing }))
-none_begins told r b is = (
+pub none_begins : (contents : List ℕ → Contents) (r : Rules) (b : Parts) → answered b ≡ start → ResumedAs contents unanswered r (resumed.Begins (record { answers = b; dropped = dropped.Nothing }))
+none_begins contents r b is = (
   no_text,
   tt,
   (start_of_none, refl, record { fit = subst (AnswersFit (tree_of r)) (sym is) (start_fits (tree_of r)); answers = is; front = refl }),
@@ -75,8 +75,8 @@ none_begins told r b is = (
 
 -- ---- what was fetched
 
-module _ (told : List ℕ → Told) (beginning : Beginning) (r : Rules) (basis : Basis) (brought : MayBring told beginning basis) where
-  pub resumed_by : (result : Result Resumed Status) → IfOk result (ResumesAs r basis) → IfOk result (ResumedAs told beginning r)
+module _ (contents : List ℕ → Contents) (beginning : Beginning) (r : Rules) (basis : Basis) (brought : MayBring contents beginning basis) where
+  pub resumed_by : (result : Result Resumed Status) → IfOk result (ResumesAs r basis) → IfOk result (ResumedAs contents beginning r)
   resumed_by (Ok found) is = (basis, brought, is)
   resumed_by (Err status) is = tt
 

@@ -66,16 +66,16 @@ to_save given did Usage ends = absurd ends
 to_save given did SavedRefused ends = absurd ends
 
 module _ (given : Given) where
-  -- ---- what is told
+  -- ---- what is known
 
-  -- the dictionary of the words is the one that is told
-  content_is : (o : Origin) (known : Content) → IsSave given.words o → Gives given.told o known → (p : Origin) (may : Content) → IsSave given.words p → MayGive given.told p may → may ≡ known
-  content_is o known asked gives p may asked_other gave = known_content given.told o known may gives (subst (λ q. MayGive given.told q may) (same_save given.words p o asked_other asked) gave)
+  -- the dictionary of the words is the one that is known
+  content_is : (o : Origin) (known : Content) → IsSave given.words o → Gives given.contents o known → (p : Origin) (may : Content) → IsSave given.words p → MayGive given.contents p may → may ≡ known
+  content_is o known asked gives p may asked_other gave = known_content given.contents o known may gives (subst (λ q. MayGive given.contents q may) (same_save given.words p o asked_other asked) gave)
 
-  gone : (name : List ℕ) → IsSave given.words (file name) → given.told name ≡ missing → (p : Origin) (may : Content) → IsSave given.words p → MayGive given.told p may → ⊥
-  gone name asked none p may asked_other gave = nothing_missing given.told name may none (subst (λ q. MayGive given.told q may) (same_save given.words p (file name) asked_other asked) gave)
+  gone : (name : List ℕ) → IsSave given.words (file name) → given.contents name ≡ missing → (p : Origin) (may : Content) → IsSave given.words p → MayGive given.contents p may → ⊥
+  gone name asked none p may asked_other gave = nothing_missing given.contents name may none (subst (λ q. MayGive given.contents q may) (same_save given.words p (file name) asked_other asked) gave)
 
-  -- over an accepted dictionary it comes to what is defined of a script that is told
+  -- over an accepted dictionary it comes to what is defined of a script that is known
   accepted_comes : (k : KnownSave given) (over : AcceptedSave given) (script : List ℕ) → MayBe given.left script → SaveComesTo given k (defined_save over.rules (save_meaning over.rules given.relations) script)
   accepted_comes k over script may =
       let content = content_is k.origin k.content k.asked k.gives over.origin over.content over.asked over.gave in
@@ -88,13 +88,13 @@ module _ (given : Given) where
       inr (save.fault, subst (λ c. HasFault given.checks c save.fault) content save.is_fault, refl)
 
   -- no save over a dictionary with a fault is one over an accepted dictionary
-  not_accepted : (over : AcceptedSave given) (o : Origin) (content : Content) (fault : DictFault) → IsSave given.words o → Gives given.told o content → HasFault given.checks content fault → ⊥
+  not_accepted : (over : AcceptedSave given) (o : Origin) (content : Content) (fault : DictFault) → IsSave given.words o → Gives given.contents o content → HasFault given.checks content fault → ⊥
   not_accepted over o content fault asked gives is =
       let same = content_is o content asked gives over.origin over.content over.asked over.gave in
       accepted_is_faultless given.checks over.content over.rules fault over.is_accepted (subst (λ c. HasFault given.checks c fault) (sym same) is)
 
-  -- the fault is the one that is told
-  fault_is : (save : RefusedSave given) (o : Origin) (content : Content) (fault : DictFault) → IsSave given.words o → Gives given.told o content → HasFault given.checks content fault → defined_fault save.fault ≡ defined_fault fault
+  -- the fault is the one that is known
+  fault_is : (save : RefusedSave given) (o : Origin) (content : Content) (fault : DictFault) → IsSave given.words o → Gives given.contents o content → HasFault given.checks content fault → defined_fault save.fault ≡ defined_fault fault
   fault_is save o content fault asked gives is =
       let same = content_is o content asked gives save.origin save.content save.asked save.gave in
       one_save content given.checks given.relations [] (defined_fault save.fault) (defined_fault fault) (inr (save.fault, subst (λ c. HasFault given.checks c save.fault) same save.is_fault, refl)) (inr (fault, is, refl))
@@ -124,7 +124,7 @@ module _ (given : Given) where
 
     -- ---- what is known of it
 
-    missing_name : (status : Status) → SaveEnds given did status → (name : List ℕ) → IsSave given.words (file name) → given.told name ≡ missing → IsOneOf status (FetchFault ∷ NoMemory ∷ [])
+    missing_name : (status : Status) → SaveEnds given did status → (name : List ℕ) → IsSave given.words (file name) → given.contents name ≡ missing → IsOneOf status (FetchFault ∷ NoMemory ∷ [])
     missing_name Done (over, ends) name asked none = absurd (gone name asked none over.origin over.content over.asked over.gave)
     missing_name DictionaryRefused (save, wrote, unread) name asked none = absurd (gone name asked none save.origin save.content save.asked save.gave)
     missing_name FetchFault ends name asked none = inl refl
@@ -136,7 +136,7 @@ module _ (given : Given) where
     missing_name Usage ends name asked none = absurd ends
     missing_name SavedRefused ends name asked none = absurd ends
 
-    refused : (status : Status) → SaveEnds given did status → (o : Origin) (content : Content) (fault : DictFault) → IsSave given.words o → Gives given.told o content → HasFault given.checks content fault
+    refused : (status : Status) → SaveEnds given did status → (o : Origin) (content : Content) (fault : DictFault) → IsSave given.words o → Gives given.contents o content → HasFault given.checks content fault
         → EndedAs did status (defined_fault fault) ⊎ IsOneOf status (FetchFault ∷ WriteFault ∷ NoMemory ∷ [])
     refused Done (over, ends) o content fault asked gives is = absurd (not_accepted over o content fault asked gives is)
     refused DictionaryRefused (save, wrote, unread) o content fault asked gives is = inl (subst (EndedAs did DictionaryRefused) (fault_is save o content fault asked gives is) (refl, wrote))
@@ -148,7 +148,7 @@ module _ (given : Given) where
     refused Usage ends o content fault asked gives is = absurd ends
     refused SavedRefused ends o content fault asked gives is = absurd ends
 
-    refused_unread : (status : Status) → SaveEnds given did status → (o : Origin) (content : Content) (fault : DictFault) → IsSave given.words o → Gives given.told o content → HasFault given.checks content fault → Unread did
+    refused_unread : (status : Status) → SaveEnds given did status → (o : Origin) (content : Content) (fault : DictFault) → IsSave given.words o → Gives given.contents o content → HasFault given.checks content fault → Unread did
     refused_unread Done (over, ends) o content fault asked gives is = absurd (not_accepted over o content fault asked gives is)
     refused_unread DictionaryRefused (save, wrote, unread) o content fault asked gives is = unread
     refused_unread FetchFault ends o content fault asked gives is = ends.3
@@ -167,7 +167,7 @@ module _ (given : Given) where
     built_in : (status : Status) → SaveEnds given did status → (b : BuiltIn) → IsSave given.words (program b) → IsOneOf status (Done ∷ ReadFault ∷ WriteFault ∷ ScriptTooLong ∷ NoMemory ∷ [])
     built_in Done ends b asked = inl refl
     built_in DictionaryRefused (save, wrote, unread) b asked =
-        absurd (brought_is_faultless given.told given.checks b save.content save.fault (subst (λ q. MayGive given.told q save.content) (same_save given.words save.origin (program b) save.asked asked) save.gave) save.is_fault)
+        absurd (brought_is_faultless given.contents given.checks b save.content save.fault (subst (λ q. MayGive given.contents q save.content) (same_save given.words save.origin (program b) save.asked asked) save.gave) save.is_fault)
     built_in FetchFault ends b asked = absurd (not_a_file b did.failed_name (same_save given.words (program b) (file did.failed_name) asked ends.1))
     built_in ReadFault ends b asked = inr (inl refl)
     built_in WriteFault ends b asked = inr (inr (inl refl))

@@ -69,7 +69,7 @@ module _ (r : Rules) (m : Meaning) (left left_now taken taken_now : Option (List
 -- ---- the whole
 
 module _ (given : Given) (did : Did) (origin : Origin) (asked : IsSave given.words origin) where
-  module _ (content : Content) (gave : MayGive given.told origin content) where
+  module _ (content : Content) (gave : MayGive given.contents origin content) where
     pub save_ends_refused : (fault : DictFault) → HasFault given.checks content fault → Unread did → (status : Status)
         → EndedBy did.script.taken.before did.script.taken.after did.script.sink.before did.script.sink.after (defined_fault fault).text DictionaryRefused status → SaveEnds given did status
     save_ends_refused fault is unread status (inl (same, wrote)) = subst (SaveEnds given did) (sym same) (record { origin = origin; content = content; fault = fault; asked = asked; gave = gave; is_fault = is }, wrote, unread)

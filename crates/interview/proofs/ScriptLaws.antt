@@ -14,7 +14,7 @@ use Rattle.script_lines.specs.Lines.{ScriptLine, script_lines, ended_lines, HasN
 use Rattle.script_lines.proofs.EndedLaws.{ended_follows, ended_goes_on, lines_go_on}
 use Rattle.interview.specs.declared.status.Status.TheVariants.{Done, ScriptTooLong, NoMemory}
 use Rattle.interview.specs.Meanings.{Behind, IsBeginning, IsQuit, Meaning}
-use Rattle.interview.specs.Telling.{LinesTold}
+use Rattle.interview.specs.Telling.{LinesOutput}
 use Rattle.interview.specs.SoFar.{AnsweredSoFar}
 use Rattle.interview.specs.Devices.{Stream, SentNothing, SentWhole, SentPart}
 use Rattle.interview.specs.ScriptEnds.{ScriptDid, RepliedFirst, ScriptEnds}
@@ -75,21 +75,21 @@ module _ (m : Meaning) (script : List ℕ) where
 
 -- ---- a piece behind the bytes that were answered
 
-pub told_then : (m there next : Meaning) (a b c : Option (List ℕ)) (bytes held chunk chunk_now held_next behind rest : List ℕ)
-    → LinesTold m a b [] bytes there held [] [] → chunk_now ≡ chunk → LinesTold there b c held chunk_now next held_next behind rest
-    → LinesTold m a c [] (bytes ++ chunk) next held_next behind rest
-told_then m there next a b c bytes held chunk chunk_now held_next behind rest told same_chunk more = joined (subst (λ l. LinesTold there b c held l next held_next behind rest) same_chunk more)
+pub output_then : (m there next : Meaning) (a b c : Option (List ℕ)) (bytes held chunk chunk_now held_next behind rest : List ℕ)
+    → LinesOutput m a b [] bytes there held [] [] → chunk_now ≡ chunk → LinesOutput there b c held chunk_now next held_next behind rest
+    → LinesOutput m a c [] (bytes ++ chunk) next held_next behind rest
+output_then m there next a b c bytes held chunk chunk_now held_next behind rest output same_chunk more = joined (subst (λ l. LinesOutput there b c held l next held_next behind rest) same_chunk more)
   where
-    joined : LinesTold there b c held chunk next held_next behind rest → LinesTold m a c [] (bytes ++ chunk) next held_next behind rest
+    joined : LinesOutput there b c held chunk next held_next behind rest → LinesOutput m a c [] (bytes ++ chunk) next held_next behind rest
     joined piece = record {
-      lines = told.lines ++ piece.lines;
+      lines = output.lines ++ piece.lines;
       cut = λ l.
           ap script_lines (append_assoc bytes chunk l)
-          ∙ told.cut (chunk ++ l)
-          ∙ ap (λ k. told.lines ++ k) (piece.cut l)
-          ∙ sym (append_assoc told.lines piece.lines (script_lines (held_next ++ (behind ++ l))));
-      wrote = subst (λ t. Sent a c t rest) (sym (told.left.texts piece.lines)) (sent_on a b c (m.texts told.lines) (there.texts piece.lines) rest told.wrote piece.wrote);
-      left = behind_on m there next told.lines piece.lines told.left piece.left;
+          ∙ output.cut (chunk ++ l)
+          ∙ ap (λ k. output.lines ++ k) (piece.cut l)
+          ∙ sym (append_assoc output.lines piece.lines (script_lines (held_next ++ (behind ++ l))));
+      wrote = subst (λ t. Sent a c t rest) (sym (output.left.texts piece.lines)) (sent_on a b c (m.texts output.lines) (there.texts piece.lines) rest output.wrote piece.wrote);
+      left = behind_on m there next output.lines piece.lines output.left piece.left;
     }
 
 -- before the first byte
@@ -98,7 +98,7 @@ none_so_far m begins left taken = record {
   bytes = [];
   read = consumes_none left;
   counted = refl;
-  told = record { lines = []; cut = λ more. refl; wrote = subst (λ t. Sent taken taken t []) (sym begins.texts) (sent_none taken []); left = behind_none m begins };
+  output = record { lines = []; cut = λ more. refl; wrote = subst (λ t. Sent taken taken t []) (sym begins.texts) (sent_none taken []); left = behind_none m begins };
   unquit = begins.over;
   unended = λ k d h. absurd (omega (arith, h));
 }
@@ -106,14 +106,14 @@ none_so_far m begins left taken = record {
 -- these bytes more
 pub more_so_far : (m there next : Meaning) (a b c left left_now left_next : Option (List ℕ)) (count n : ℕ) (held held_next chunk chunk_now : List ℕ)
     → (so_far : AnsweredSoFar m left left_now a b count there held) → Consumes left_now left_next chunk → n ≡ length chunk → chunk_now ≡ chunk
-    → LinesTold there b c held chunk_now next held_next [] [] → next.over [] ≡ false → HasNoNewline held_next
+    → LinesOutput there b c held chunk_now next held_next [] [] → next.over [] ≡ false → HasNoNewline held_next
     → (now : AnsweredSoFar m left left_next a c (count + n) next held_next) × (now.bytes ≡ so_far.bytes ++ chunk)
-more_so_far m there next a b c left left_now left_next count n held held_next chunk chunk_now so_far read long same_chunk told unquit unended = (
+more_so_far m there next a b c left left_now left_next count n held held_next chunk chunk_now so_far read long same_chunk output unquit unended = (
   record {
     bytes = so_far.bytes ++ chunk;
     read = consumes_more left left_now left_next so_far.bytes chunk so_far.read read;
     counted = omega (arith, so_far.counted, long, length-append so_far.bytes chunk);
-    told = told_then m there next a b c so_far.bytes held chunk chunk_now held_next [] [] so_far.told same_chunk told;
+    output = output_then m there next a b c so_far.bytes held chunk chunk_now held_next [] [] so_far.output same_chunk output;
     unquit = unquit;
     unended = unended;
   },
@@ -148,22 +148,22 @@ replied_first m did script lines others read answers wrote = record {
 }
 
 -- what was written of a script whose front was answered
-module _ (m : Meaning) (did : ScriptDid) (front rest : List ℕ) (there : Meaning) (held_now behind : List ℕ) (told : LinesTold m did.taken.before did.taken.after [] front there held_now behind rest) (short : length front ≤ script_limit) where
+module _ (m : Meaning) (did : ScriptDid) (front rest : List ℕ) (there : Meaning) (held_now behind : List ℕ) (output : LinesOutput m did.taken.before did.taken.after [] front there held_now behind rest) (short : length front ≤ script_limit) where
   abbrev text : List ℕ
-  text = m.texts told.lines
+  text = m.texts output.lines
 
   whole : rest ≡ [] → SentWhole did.taken text
-  whole none = sent_whole did.taken.before did.taken.after text (subst (λ l. Sent did.taken.before did.taken.after text l) none told.wrote)
+  whole none = sent_whole did.taken.before did.taken.after text (subst (λ l. Sent did.taken.before did.taken.after text l) none output.wrote)
 
   -- the lines that ended in the front are those that were answered, and those that stand behind
-  front_ended : ended_lines front ≡ told.lines ++ ended_lines (held_now ++ behind)
-  front_ended = ended_follows front (held_now ++ behind) told.lines (λ l. told.cut l ∙ ap (λ k. told.lines ++ script_lines k) (sym (append_assoc held_now behind l)))
+  front_ended : ended_lines front ≡ output.lines ++ ended_lines (held_now ++ behind)
+  front_ended = ended_follows front (held_now ++ behind) output.lines (λ l. output.cut l ∙ ap (λ k. output.lines ++ script_lines k) (sym (append_assoc held_now behind l)))
 
   -- they are answered, and then others
-  pub front_answered : (more : List ℕ) → (others : List ScriptLine) × (answered_lines (front ++ more) ≡ told.lines ++ others)
+  pub front_answered : (more : List ℕ) → (others : List ScriptLine) × (answered_lines (front ++ more) ≡ output.lines ++ others)
   front_answered more =
       let ended = ended_are_answered front more short in
-      (ended_lines (held_now ++ behind) ++ ended.0, ended.1 ∙ ap (λ l. l ++ ended.0) front_ended ∙ append_assoc told.lines (ended_lines (held_now ++ behind)) ended.0)
+      (ended_lines (held_now ++ behind) ++ ended.0, ended.1 ∙ ap (λ l. l ++ ended.0) front_ended ∙ append_assoc output.lines (ended_lines (held_now ++ behind)) ended.0)
 
   -- a part of it
   pub part_written : (more : List ℕ) → SentPart did.taken (defined_script m (front ++ more)).text
@@ -172,16 +172,16 @@ module _ (m : Meaning) (did : ScriptDid) (front rest : List ℕ) (there : Meanin
       let others = there.texts answered.0 in (
         rest ++ others,
         record {
-          front = told.wrote.front;
-          took = told.wrote.took;
-          split = first_lines m (front ++ more) told.lines answered.0 there told.left answered.1 ∙ ap (λ l. l ++ others) told.wrote.split ∙ append_assoc told.wrote.front rest others;
+          front = output.wrote.front;
+          took = output.wrote.took;
+          split = first_lines m (front ++ more) output.lines answered.0 there output.left answered.1 ∙ ap (λ l. l ++ others) output.wrote.split ∙ append_assoc output.wrote.front rest others;
         },
       )
 
   -- all of it, where one of them was `quit`
   module _ (quit : IsQuit there) where
-    over_behind : (others : List ScriptLine) → m.over (told.lines ++ others) ≡ true
-    over_behind others = told.left.over others ∙ quit.over others
+    over_behind : (others : List ScriptLine) → m.over (output.lines ++ others) ≡ true
+    over_behind others = output.left.over others ∙ quit.over others
 
     over_now : (more : List ℕ) → m.over (answered_lines (front ++ more)) ≡ true
     over_now more = let answered = front_answered more in ap m.over answered.1 ∙ over_behind answered.0
@@ -191,7 +191,7 @@ module _ (m : Meaning) (did : ScriptDid) (front rest : List ℕ) (there : Meanin
 
     -- the answers that it left
     pub answers_behind : (more : List ℕ) → m.answers (answered_lines (front ++ more)) ≡ there.answers []
-    answers_behind more = let answered = front_answered more in ap m.answers answered.1 ∙ told.left.answers answered.0 ∙ quit.answers answered.0
+    answers_behind more = let answered = front_answered more in ap m.answers answered.1 ∙ output.left.answers answered.0 ∙ quit.answers answered.0
 
     -- it ended in the front
     pub over_in_front : m.over (ended_lines front) ≡ true
@@ -201,13 +201,13 @@ module _ (m : Meaning) (did : ScriptDid) (front rest : List ℕ) (there : Meanin
     over_written more none =
         let answered = front_answered more in
         let same : (defined_script m (front ++ more)).text ≡ text =
-        first_lines m (front ++ more) told.lines answered.0 there told.left answered.1 ∙ ap (λ l. text ++ l) (quit.texts answered.0) ∙ append-nil text in
+        first_lines m (front ++ more) output.lines answered.0 there output.left answered.1 ∙ ap (λ l. text ++ l) (quit.texts answered.0) ∙ append-nil text in
         (done_behind more, subst (λ t. Appends did.taken.before did.taken.after t) (sym same) (whole none))
 
   pub first_written : (more : List ℕ) → MayBe did.left.before (front ++ more) → rest ≡ [] → RepliedFirst m did
   first_written more read none =
       let answered = front_answered more in
-      replied_first m did (front ++ more) told.lines answered.0 read answered.1 (whole none)
+      replied_first m did (front ++ more) output.lines answered.0 read answered.1 (whole none)
 
 -- ---- a script that isn't begun
 

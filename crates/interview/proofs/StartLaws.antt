@@ -5,7 +5,7 @@ use Rattle.std.proofs.KnownBytes.{Keeps-refl}
 use Rattle.answers.specs.Answered.{Answered}
 use Rattle.answers.specs.Meaning.{answered}
 use Rattle.dictionary.specs.Accepted.{Named}
-use Rattle.fg_io.specs.Outside.{Told}
+use Rattle.fg_io.specs.Outside.{Contents}
 use Rattle.fg_io.specs.Sent.{Sent}
 use Rattle.fg_io.specs.Writing.{WrotePart}
 use Rattle.fg_io.proofs.SentLaws.{appends_more, rose_before, sent_on, sent_whole, whole_sent}
@@ -76,8 +76,8 @@ module _ (m : Meaning) (front : List ℕ) (did : ScriptDid) where
 
 -- ---- how a run ends that began
 
-module _ (told : List ℕ → Told) (b : Beginning) (r : Rules) (mode : Mode) (relations : List Named) (did : RunDid) where
-  pub begins_and_ends : (ready : Ready) (status : Status) → ResumedAs told b r (resumed.Begins ready)
-      → ((front : List ℕ) → Gives ready.dropped front → StartEnds (meaning_of r mode relations (answered ready.answers)) front did.script status) → RunEnds told b r mode relations did status
+module _ (contents : List ℕ → Contents) (b : Beginning) (r : Rules) (mode : Mode) (relations : List Named) (did : RunDid) where
+  pub begins_and_ends : (ready : Ready) (status : Status) → ResumedAs contents b r (resumed.Begins ready)
+      → ((front : List ℕ) → Gives ready.dropped front → StartEnds (meaning_of r mode relations (answered ready.answers)) front did.script status) → RunEnds contents b r mode relations did status
   begins_and_ends ready status (basis, brought, (s, is, begun)) ends =
       inl (basis, brought, (s, is, subst (λ (a : Answered). StartEnds (meaning_of r mode relations a) s.front did.script status) begun.answers (ends s.front begun.front)))

@@ -21,26 +21,26 @@ module _ (most : Accepted → Answered → Answered → ℕ) (m : Meaning) (begi
       omega (arith, sum)
 
   module _ (left left_now taken taken_now : Option (List ℕ)) (count : ℕ) (there : Meaning) (held : List ℕ) (so_far : AnsweredSoFar m left left_now taken taken_now count there held) where
-    ended_so_far : so_far.told.lines ≡ ended_lines so_far.bytes
-    ended_so_far = ready_lines_are_ended so_far.bytes held so_far.told.lines so_far.unended so_far.told.cut
+    ended_so_far : so_far.output.lines ≡ ended_lines so_far.bytes
+    ended_so_far = ready_lines_are_ended so_far.bytes held so_far.output.lines so_far.unended so_far.output.cut
 
     -- lines behind those that ended so far
     steps_behind : (lines : List ScriptLine) → m.steps most (ended_lines so_far.bytes ++ lines) ≡ m.steps most (ended_lines so_far.bytes) + there.steps most lines
-    steps_behind lines = subst (λ l. m.steps most (l ++ lines) ≡ m.steps most l + there.steps most lines) ended_so_far (so_far.told.left.steps most lines)
+    steps_behind lines = subst (λ l. m.steps most (l ++ lines) ≡ m.steps most l + there.steps most lines) ended_so_far (so_far.output.left.steps most lines)
 
     -- the lines that end in a piece behind it
     ended_more : (chunk : List ℕ) → ended_lines (so_far.bytes ++ chunk) ≡ ended_lines so_far.bytes ++ ended_lines (held ++ chunk)
     ended_more chunk =
-        ended_follows (so_far.bytes ++ chunk) (held ++ chunk) so_far.told.lines
-        (λ more. ap script_lines (append_assoc so_far.bytes chunk more) ∙ so_far.told.cut (chunk ++ more) ∙ ap (λ l. so_far.told.lines ++ script_lines l) (sym (append_assoc held chunk more)))
+        ended_follows (so_far.bytes ++ chunk) (held ++ chunk) so_far.output.lines
+        (λ more. ap script_lines (append_assoc so_far.bytes chunk more) ∙ so_far.output.cut (chunk ++ more) ∙ ap (λ l. so_far.output.lines ++ script_lines l) (sym (append_assoc held chunk more)))
         ∙ ap (λ l. l ++ ended_lines (held ++ chunk)) ended_so_far
 
     -- the last line
     lines_at_end : script_lines so_far.bytes ≡ ended_lines so_far.bytes ++ script_lines held
     lines_at_end =
         ap script_lines (sym (append-nil so_far.bytes))
-        ∙ so_far.told.cut []
-        ∙ ap (λ l. so_far.told.lines ++ script_lines l) (append-nil held)
+        ∙ so_far.output.cut []
+        ∙ ap (λ l. so_far.output.lines ++ script_lines l) (append-nil held)
         ∙ ap (λ l. l ++ script_lines held) ended_so_far
 
     module _ (before steps : ℕ) (counted : steps ≤ before + m.steps most (ended_lines so_far.bytes)) where

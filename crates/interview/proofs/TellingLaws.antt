@@ -5,84 +5,84 @@ use Rattle.answers.specs.Answered.{Answered}
 use Rattle.dictionary.specs.Accepted.{Accepted, Kept, Named}
 use Rattle.fact_watch.specs.Watching.{Watching, nothing_watched}
 use Rattle.graph_session.specs.Rules.{Rules, rules}
-use Rattle.graph_session.specs.SessionView.{Course, SessionView, start_at}
+use Rattle.graph_session.specs.SessionView.{SessionState, SessionView, start_at}
 use Rattle.session_lines.specs.declared.progress.Progress.{Progress}
 use Rattle.session_lines.specs.declared.progress.Progress.TheVariants.{More, Over, Unwritten, OutOfMemory}
-use Rattle.session_lines.specs.Answering.{AnsweredAs, PieceAnsweredAs, RepliedLines, RepliedSome, standing_of}
-use Rattle.session_lines.specs.Stepping.{Standing, State, at_start, open_at}
+use Rattle.session_lines.specs.Answering.{AnsweredAs, PieceAnsweredAs, RepliedLines, RepliedSome, line_state_of}
+use Rattle.session_lines.specs.Stepping.{LineState, State, at_start, open_at}
 use Rattle.shared_desk.specs.Desk.{Desk as Defined, desk_begun}
 use Rattle.shared_desk.specs.DeskView.{DeskView, StandsFor, rules_of}
 use Rattle.desk_lines.specs.DeskAnswering.{DeskAnsweredAs, DeskPieceAnsweredAs, DeskReplied, DeskRepliedSome}
 use Rattle.desk_lines.specs.DeskStepping.{DeskState, desk_at_start, desk_open, desk_state_after}
 use Rattle.interview.specs.Meanings.{Behind, Meaning, of_desk, of_session}
-use Rattle.interview.specs.Telling.{LineToldAs, LinesTold, PieceToldAs, SomeTold}
+use Rattle.interview.specs.Telling.{LineOutputAs, LinesOutput, PieceOutputAs, SomeOutput}
 use Rattle.interview.proofs.MeaningLaws.{desk_behind, desk_quit, session_behind, session_quit}
 
 -- ---- a session
 
 -- a session that stands so means this
 abbrev pub session_means : List Named → SessionView → Watching → Meaning → Type 0
-session_means relations s w m = m ≡ of_session (rules s.dict) (open_at (standing_of s relations w))
+session_means relations s w m = m ≡ of_session (rules s.dict) (open_at (line_state_of s relations w))
 
 module _ (relations : List Named) (s s_now : SessionView) (w w_now : Watching) (taken taken_now : Option (List ℕ)) (faults faults_now : ℕ) where
   abbrev r : Rules
   r = rules s.dict
 
-  abbrev here : Standing
-  here = standing_of s relations w
+  abbrev here : LineState
+  here = line_state_of s relations w
 
-  abbrev here_now : Standing
-  here_now = standing_of s_now relations w_now
+  abbrev here_now : LineState
+  here_now = line_state_of s_now relations w_now
 
   session_line : (lines : List ScriptLine) (progress : Progress) → AnsweredAs r taken taken_now faults faults_now here here_now lines progress
-      → LineToldAs taken taken_now faults faults_now (of_session r (open_at here)) s_now.timeline.now lines progress
-  session_line lines More answered = (answered.0, ap (λ (t : State). t.standing.course.timeline.now) answered.1)
-  session_line lines Over answered = (answered.0, ap (λ (t : State). t.standing.course.timeline.now) answered.1)
+      → LineOutputAs taken taken_now faults faults_now (of_session r (open_at here)) s_now.timeline.now lines progress
+  session_line lines More answered = (answered.0, ap (λ (t : State). t.standing.session_state.timeline.now) answered.1)
+  session_line lines Over answered = (answered.0, ap (λ (t : State). t.standing.session_state.timeline.now) answered.1)
   session_line lines Unwritten answered = answered
   session_line lines OutOfMemory answered = answered
 
-  pub session_told : (lines : List ScriptLine) (progress : Progress) → AnsweredAs r taken taken_now faults faults_now here here_now lines progress
-      → (m : Meaning) → session_means relations s w m → LineToldAs taken taken_now faults faults_now m s_now.timeline.now lines progress
-  session_told lines progress answered m is = subst (λ n. LineToldAs taken taken_now faults faults_now n s_now.timeline.now lines progress) (sym is) (session_line lines progress answered)
+  pub session_output : (lines : List ScriptLine) (progress : Progress) → AnsweredAs r taken taken_now faults faults_now here here_now lines progress
+      → (m : Meaning) → session_means relations s w m → LineOutputAs taken taken_now faults faults_now m s_now.timeline.now lines progress
+  session_output lines progress answered m is = subst (λ n. LineOutputAs taken taken_now faults faults_now n s_now.timeline.now lines progress) (sym is) (session_line lines progress answered)
 
   module _ (held held_now bytes : List ℕ) where
-    session_lines_told : (state : State) (next behind rest : List ℕ) → RepliedLines r taken taken_now here held bytes state next behind rest
-        → LinesTold (of_session r (open_at here)) taken taken_now held bytes (of_session r state) next behind rest
-    session_lines_told state next behind rest replied = record {
+    session_lines_output : (state : State) (next behind rest : List ℕ) → RepliedLines r taken taken_now here held bytes state next behind rest
+        → LinesOutput (of_session r (open_at here)) taken taken_now held bytes (of_session r state) next behind rest
+    session_lines_output state next behind rest replied = record {
       lines = replied.lines;
       cut = replied.cut;
       wrote = replied.wrote;
       left = subst (λ t. Behind (of_session r (open_at here)) replied.lines (of_session r t)) replied.left (session_behind r (open_at here) replied.lines);
     }
 
-    abbrev session_some_told : (rest : List ℕ) → RepliedSome r taken taken_now here held bytes rest → SomeTold (of_session r (open_at here)) taken taken_now held bytes rest
-    session_some_told rest some = record {
+    abbrev session_some_output : (rest : List ℕ) → RepliedSome r taken taken_now here held bytes rest → SomeOutput (of_session r (open_at here)) taken taken_now held bytes rest
+    session_some_output rest some = record {
       there = of_session r some.state_now;
       held_now = some.held_now;
       behind = some.behind;
-      told = session_lines_told some.state_now some.held_now some.behind rest some.replied;
+      output = session_lines_output some.state_now some.held_now some.behind rest some.replied;
     }
 
     session_piece : s_now.dict ≡ s.dict → (progress : Progress) → PieceAnsweredAs r taken taken_now faults faults_now here here_now held held_now bytes progress
-        → PieceToldAs (session_means relations s_now w_now) taken taken_now faults faults_now (of_session r (open_at here)) s_now.timeline.now held held_now bytes progress
+        → PieceOutputAs (session_means relations s_now w_now) taken taken_now faults faults_now (of_session r (open_at here)) s_now.timeline.now held held_now bytes progress
     session_piece same More (replied, unended) = (
-      (of_session r (open_at here_now), ap (λ k. of_session (rules k) (open_at here_now)) (sym same), refl, session_lines_told (open_at here_now) held_now [] [] replied),
+      (of_session r (open_at here_now), ap (λ k. of_session (rules k) (open_at here_now)) (sym same), refl, session_lines_output (open_at here_now) held_now [] [] replied),
       unended,
     )
     session_piece same Over (some, is) =
-        (session_some_told [] some, session_quit r some.state_now (ap (λ (t : State). t.over) is), ap (λ (t : State). t.standing.course.timeline.now) is)
-    session_piece same Unwritten (rose, (rest, some)) = (rose, (rest, session_some_told rest some))
-    session_piece same OutOfMemory some = session_some_told [] some
+        (session_some_output [] some, session_quit r some.state_now (ap (λ (t : State). t.over) is), ap (λ (t : State). t.standing.session_state.timeline.now) is)
+    session_piece same Unwritten (rose, (rest, some)) = (rose, (rest, session_some_output rest some))
+    session_piece same OutOfMemory some = session_some_output [] some
 
-    pub session_piece_told : s_now.dict ≡ s.dict → (progress : Progress) → PieceAnsweredAs r taken taken_now faults faults_now here here_now held held_now bytes progress
-        → (m : Meaning) → session_means relations s w m → PieceToldAs (session_means relations s_now w_now) taken taken_now faults faults_now m s_now.timeline.now held held_now bytes progress
-    session_piece_told same progress answered m is =
-        subst (λ n. PieceToldAs (session_means relations s_now w_now) taken taken_now faults faults_now n s_now.timeline.now held held_now bytes progress) (sym is) (session_piece same progress answered)
+    pub session_piece_output : s_now.dict ≡ s.dict → (progress : Progress) → PieceAnsweredAs r taken taken_now faults faults_now here here_now held held_now bytes progress
+        → (m : Meaning) → session_means relations s w m → PieceOutputAs (session_means relations s_now w_now) taken taken_now faults faults_now m s_now.timeline.now held held_now bytes progress
+    session_piece_output same progress answered m is =
+        subst (λ n. PieceOutputAs (session_means relations s_now w_now) taken taken_now faults faults_now n s_now.timeline.now held held_now bytes progress) (sym is) (session_piece same progress answered)
 
 -- at its start
 pub begun_means : (relations : List Named) (k : Kept) (a : Answered) (stamps : Bool) (s : SessionView) (w : Watching) → s ≡ start_at k a stamps → w ≡ nothing_watched
     → session_means relations s w (of_session (rules k) (at_start (rules k) (record { answers = a; stamps = stamps; relations = relations })))
-begun_means relations k a stamps s w same_session same_watches = λ i. of_session (rules (sym same_session i).dict) (open_at (standing_of (sym same_session i) relations (sym same_watches i)))
+begun_means relations k a stamps s w same_session same_watches = λ i. of_session (rules (sym same_session i).dict) (open_at (line_state_of (sym same_session i) relations (sym same_watches i)))
 
 -- ---- a desk
 
@@ -95,55 +95,55 @@ module _ (v v_now : DeskView) (taken taken_now : Option (List ℕ)) (faults faul
   by = rules_of v
 
   -- the answers that stand are those of the desk
-  stood : (e : Defined) → StandsFor v_now e → e.course.timeline.now ≡ v_now.session.timeline.now
-  stood e stands = ap (λ (c : Course). c.timeline.now) (sym stands.course)
+  stood : (e : Defined) → StandsFor v_now e → e.session_state.timeline.now ≡ v_now.session.timeline.now
+  stood e stands = ap (λ (c : SessionState). c.timeline.now) (sym stands.session_state)
 
   desk_line : (lines : List ScriptLine) (progress : Progress) → DeskAnsweredAs by taken taken_now faults faults_now v v_now d lines progress
-      → LineToldAs taken taken_now faults faults_now (of_desk by (desk_open d)) v_now.session.timeline.now lines progress
+      → LineOutputAs taken taken_now faults faults_now (of_desk by (desk_open d)) v_now.session.timeline.now lines progress
   desk_line lines More answered = (answered.0, stood (desk_state_after by (desk_open d) lines).desk answered.1.0)
   desk_line lines Over answered = (answered.0, stood (desk_state_after by (desk_open d) lines).desk answered.1.0)
   desk_line lines Unwritten answered = answered
   desk_line lines OutOfMemory answered = answered.0
 
   module _ (held held_now bytes : List ℕ) where
-    desk_lines_told : (state : DeskState) (next behind rest : List ℕ) → DeskReplied by taken taken_now d held bytes state next behind rest
-        → LinesTold (of_desk by (desk_open d)) taken taken_now held bytes (of_desk by state) next behind rest
-    desk_lines_told state next behind rest replied = record {
+    desk_lines_output : (state : DeskState) (next behind rest : List ℕ) → DeskReplied by taken taken_now d held bytes state next behind rest
+        → LinesOutput (of_desk by (desk_open d)) taken taken_now held bytes (of_desk by state) next behind rest
+    desk_lines_output state next behind rest replied = record {
       lines = replied.lines;
       cut = replied.cut;
       wrote = replied.wrote;
       left = subst (λ t. Behind (of_desk by (desk_open d)) replied.lines (of_desk by t)) replied.left (desk_behind by (desk_open d) replied.lines);
     }
 
-    abbrev desk_some_told : (rest : List ℕ) → DeskRepliedSome by taken taken_now d held bytes rest → SomeTold (of_desk by (desk_open d)) taken taken_now held bytes rest
-    desk_some_told rest some = record {
+    abbrev desk_some_output : (rest : List ℕ) → DeskRepliedSome by taken taken_now d held bytes rest → SomeOutput (of_desk by (desk_open d)) taken taken_now held bytes rest
+    desk_some_output rest some = record {
       there = of_desk by some.state_now;
       held_now = some.held_now;
       behind = some.behind;
-      told = desk_lines_told some.state_now some.held_now some.behind rest some.replied;
+      output = desk_lines_output some.state_now some.held_now some.behind rest some.replied;
     }
 
     desk_piece : v_now.session.dict ≡ v.session.dict → (progress : Progress) → DeskPieceAnsweredAs by taken taken_now faults faults_now v_now d held held_now bytes progress
-        → PieceToldAs (desk_means v_now) taken taken_now faults faults_now (of_desk by (desk_open d)) v_now.session.timeline.now held held_now bytes progress
+        → PieceOutputAs (desk_means v_now) taken taken_now faults faults_now (of_desk by (desk_open d)) v_now.session.timeline.now held held_now bytes progress
     desk_piece same More ((there, stands, replied), unended) = (
-      (of_desk by (desk_open there), (there, stands, ap (λ k. of_desk (rules k) (desk_open there)) (sym same)), refl, desk_lines_told (desk_open there) held_now [] [] replied),
+      (of_desk by (desk_open there), (there, stands, ap (λ k. of_desk (rules k) (desk_open there)) (sym same)), refl, desk_lines_output (desk_open there) held_now [] [] replied),
       unended,
     )
-    desk_piece same Over (some, stands) = (desk_some_told [] some, desk_quit by some.state_now stands.1, stood some.state_now.desk stands.0)
-    desk_piece same Unwritten (rose, (rest, some)) = (rose, (rest, desk_some_told rest some))
-    desk_piece same OutOfMemory (some, stands) = desk_some_told [] some
+    desk_piece same Over (some, stands) = (desk_some_output [] some, desk_quit by some.state_now stands.1, stood some.state_now.desk stands.0)
+    desk_piece same Unwritten (rose, (rest, some)) = (rose, (rest, desk_some_output rest some))
+    desk_piece same OutOfMemory (some, stands) = desk_some_output [] some
 
 module _ (v v_now : DeskView) (taken taken_now : Option (List ℕ)) (faults faults_now : ℕ) where
-  pub desk_told : (lines : List ScriptLine) (progress : Progress) → ((d : Defined) → StandsFor v d → DeskAnsweredAs (rules_of v) taken taken_now faults faults_now v v_now d lines progress)
-      → (m : Meaning) → desk_means v m → LineToldAs taken taken_now faults faults_now m v_now.session.timeline.now lines progress
-  desk_told lines progress answered m (d, stands, is) =
-      subst (λ n. LineToldAs taken taken_now faults faults_now n v_now.session.timeline.now lines progress) (sym is) (desk_line v v_now taken taken_now faults faults_now d lines progress (answered d stands))
+  pub desk_output : (lines : List ScriptLine) (progress : Progress) → ((d : Defined) → StandsFor v d → DeskAnsweredAs (rules_of v) taken taken_now faults faults_now v v_now d lines progress)
+      → (m : Meaning) → desk_means v m → LineOutputAs taken taken_now faults faults_now m v_now.session.timeline.now lines progress
+  desk_output lines progress answered m (d, stands, is) =
+      subst (λ n. LineOutputAs taken taken_now faults faults_now n v_now.session.timeline.now lines progress) (sym is) (desk_line v v_now taken taken_now faults faults_now d lines progress (answered d stands))
 
-  pub desk_piece_told : (held held_now bytes : List ℕ) → v_now.session.dict ≡ v.session.dict → (progress : Progress)
+  pub desk_piece_output : (held held_now bytes : List ℕ) → v_now.session.dict ≡ v.session.dict → (progress : Progress)
       → ((d : Defined) → StandsFor v d → DeskPieceAnsweredAs (rules_of v) taken taken_now faults faults_now v_now d held held_now bytes progress)
-      → (m : Meaning) → desk_means v m → PieceToldAs (desk_means v_now) taken taken_now faults faults_now m v_now.session.timeline.now held held_now bytes progress
-  desk_piece_told held held_now bytes same progress answered m (d, stands, is) =
-      subst (λ n. PieceToldAs (desk_means v_now) taken taken_now faults faults_now n v_now.session.timeline.now held held_now bytes progress) (sym is)
+      → (m : Meaning) → desk_means v m → PieceOutputAs (desk_means v_now) taken taken_now faults faults_now m v_now.session.timeline.now held held_now bytes progress
+  desk_piece_output held held_now bytes same progress answered m (d, stands, is) =
+      subst (λ n. PieceOutputAs (desk_means v_now) taken taken_now faults faults_now n v_now.session.timeline.now held held_now bytes progress) (sym is)
       (desk_piece v v_now taken taken_now faults faults_now d held held_now bytes same progress (answered d stands))
 
 -- at its start
@@ -153,6 +153,6 @@ desk_begun_means k a v stands same = (desk_begun (rules k) a, stands, ap (λ q. 
 -- ---- steps
 
 -- within a bound, whatever is meant
-pub steps_told : (is : Meaning) (most : Accepted → Answered → Answered → ℕ) (lines : List ScriptLine) (before after : ℕ) → after ≤ before + is.steps most lines
+pub steps_output : (is : Meaning) (most : Accepted → Answered → Answered → ℕ) (lines : List ScriptLine) (before after : ℕ) → after ≤ before + is.steps most lines
     → (m : Meaning) → m ≡ is → after ≤ before + m.steps most lines
-steps_told is most lines before after took m same = subst (λ (n : Meaning). after ≤ before + n.steps most lines) (sym same) took
+steps_output is most lines before after took m same = subst (λ (n : Meaning). after ≤ before + n.steps most lines) (sym same) took

@@ -1,6 +1,6 @@
 -- The ends of an interview from those of its steps.
 use Rattle.std.proofs.Common.{◌≡◌, ℕ, ◌≤◌, List, inl, inr, refl, sym, subst}
-use Rattle.fg_io.specs.Outside.{Told}
+use Rattle.fg_io.specs.Outside.{Contents}
 use Rattle.std.specs.Io.KnownBytes.{Keeps}
 use Rattle.std.proofs.KnownBytes.{Keeps-refl}
 use Rattle.fg_io.proofs.SentLaws.{rose_before}
@@ -19,10 +19,10 @@ use Rattle.interview.specs.Ends.{AcceptedRun, BegunRun, Ends, RefusedRun, SavedR
 
 -- ---- ends
 
-abbrev pub accepted_run : (given : Given) (origin : Origin) (content : Content) (r : Rules) → IsRun given.words origin → MayGive given.told origin content → IsAcceptedAs given.checks content r → AcceptedRun given
+abbrev pub accepted_run : (given : Given) (origin : Origin) (content : Content) (r : Rules) → IsRun given.words origin → MayGive given.contents origin content → IsAcceptedAs given.checks content r → AcceptedRun given
 accepted_run given origin content r asked gave is = record { origin = origin; content = content; rules = r; asked = asked; gave = gave; is_accepted = is }
 
-abbrev pub faulty_run : (given : Given) (origin : Origin) (content : Content) (fault : DictFault) → IsRun given.words origin → MayGive given.told origin content → HasFault given.checks content fault → RefusedRun given
+abbrev pub faulty_run : (given : Given) (origin : Origin) (content : Content) (fault : DictFault) → IsRun given.words origin → MayGive given.contents origin content → HasFault given.checks content fault → RefusedRun given
 faulty_run given origin content fault asked gave is = record { origin = origin; content = content; fault = fault; asked = asked; gave = gave; is_fault = is }
 
 -- a text that ends an interview, whole or in part
@@ -36,7 +36,7 @@ module _ (given : Given) (did : Did) where
   -- ---- behind an accepted dictionary
 
   module _ (over : AcceptedRun given) where
-    module _ (basis : Basis) (brought : MayBring given.told over.asked.beginning basis) where
+    module _ (basis : Basis) (brought : MayBring given.contents over.asked.beginning basis) where
       abbrev begun : (s : Start) → IsStart over.rules basis s → BegunRun given
       begun s is = record { over = over; basis = basis; start = s; brought = brought; is_start = is }
 
@@ -82,10 +82,10 @@ module _ (given : Given) (did : Did) where
   of_run now = record { shelf = record { before = now; after = did.shelf.after }; failed_name = did.failed_name; script = did.script }
 
   -- with what the shelf tells and how often it had failed before the saved text was fetched
-  pub ends_run : (over : AcceptedRun given) (now : ℕ) (told : List ℕ → Told) (status : Status) → did.shelf.before ≤ now → told ≡ given.told → RunEnds told over.asked.beginning over.rules over.asked.mode given.relations (of_run now) status → Ends given did status
-  ends_run over now told status later same (inl (basis, brought, (s, is, ends))) = ends_begun over basis (subst (λ (t : List ℕ → Told). MayBring t over.asked.beginning basis) same brought) s is status ends
-  ends_run over now told status later same (inr (inl (basis, brought, (n, is, ended, unread)))) = ends_saved_refused over basis (subst (λ (t : List ℕ → Told). MayBring t over.asked.beginning basis) same brought) n is unread status ended
-  ends_run over now told status later same (inr (inr (not, still, unread))) = ends_unresumed over now later still unread over.asked.beginning refl status not
+  pub ends_run : (over : AcceptedRun given) (now : ℕ) (contents : List ℕ → Contents) (status : Status) → did.shelf.before ≤ now → contents ≡ given.contents → RunEnds contents over.asked.beginning over.rules over.asked.mode given.relations (of_run now) status → Ends given did status
+  ends_run over now contents status later same (inl (basis, brought, (s, is, ends))) = ends_begun over basis (subst (λ (t : List ℕ → Contents). MayBring t over.asked.beginning basis) same brought) s is status ends
+  ends_run over now contents status later same (inr (inl (basis, brought, (n, is, ended, unread)))) = ends_saved_refused over basis (subst (λ (t : List ℕ → Contents). MayBring t over.asked.beginning basis) same brought) n is unread status ended
+  ends_run over now contents status later same (inr (inr (not, still, unread))) = ends_unresumed over now later still unread over.asked.beginning refl status not
 
   -- ---- a dictionary with a fault
 

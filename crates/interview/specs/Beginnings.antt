@@ -1,6 +1,6 @@
 -- The answers at the start of a run: what they are judged by, and what comes of it.
 use Rattle.std.specs.Prelude.{◌≡◌, ◌⊎◌, ℕ, ◌<◌, ◌≤◌, List, [], length}
-use Rattle.fg_io.specs.Outside.{MayHold, Told, holds}
+use Rattle.fg_io.specs.Outside.{MayHold, Contents, holds}
 use Rattle.answers.specs.Answered.{Answered, start}
 use Rattle.dictionary.specs.Fits.{AnswersFit}
 use Rattle.graph_session.specs.Rules.{Rules, tree_of}
@@ -20,18 +20,18 @@ pub data Basis : Type 0 where
   to_carry : List ℕ → Basis
 
 -- what may come from there: of a saved text what may be its contents
-abbrev pub MayBring : (List ℕ → Told) → Beginning → Basis → Type 0
-MayBring told unanswered no_text = Unit {0}
-MayBring told (by_load name) (to_load bytes) = MayHold (told name) bytes
-MayBring told (by_carry name) (to_carry bytes) = MayHold (told name) bytes
-MayBring told beginning basis = ⊥
+abbrev pub MayBring : (List ℕ → Contents) → Beginning → Basis → Type 0
+MayBring contents unanswered no_text = Unit {0}
+MayBring contents (by_load name) (to_load bytes) = MayHold (contents name) bytes
+MayBring contents (by_carry name) (to_carry bytes) = MayHold (contents name) bytes
+MayBring contents beginning basis = ⊥
 
--- what comes from there, where it is told
-abbrev pub Brings : (List ℕ → Told) → Beginning → Basis → Type 0
-Brings told unanswered no_text = Unit {0}
-Brings told (by_load name) (to_load bytes) = told name ≡ holds bytes
-Brings told (by_carry name) (to_carry bytes) = told name ≡ holds bytes
-Brings told beginning basis = ⊥
+-- what comes from there, where it is known
+abbrev pub Brings : (List ℕ → Contents) → Beginning → Basis → Type 0
+Brings contents unanswered no_text = Unit {0}
+Brings contents (by_load name) (to_load bytes) = contents name ≡ holds bytes
+Brings contents (by_carry name) (to_carry bytes) = contents name ≡ holds bytes
+Brings contents beginning basis = ⊥
 
 -- ---- what a script begins with
 

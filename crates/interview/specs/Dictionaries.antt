@@ -1,6 +1,6 @@
 -- The dictionary of a run: what it is judged by, and as what it is accepted.
 use Rattle.std.specs.Prelude.{◌≡◌, ℕ, List, []}
-use Rattle.fg_io.specs.Outside.{MayHold, Told, holds}
+use Rattle.fg_io.specs.Outside.{MayHold, Contents, holds}
 use Rattle.dict_tree.specs.Dictionary.{Dictionary as Tree}
 use Rattle.dictionary.specs.declared.fault.DictFault.{DictFault}
 use Rattle.dictionary.specs.Accepted.{Accepted, Named, names_of}
@@ -42,16 +42,16 @@ pub data Content : Type 0 where
   brought : BuiltIn → Content
 
 -- what may come from there: of a file what may be its contents
-abbrev pub MayGive : (List ℕ → Told) → Origin → Content → Type 0
-MayGive told (file name) (spelled bytes) = MayHold (told name) bytes
-MayGive told (program b) (brought c) = b ≡ c
-MayGive told origin content = ⊥
+abbrev pub MayGive : (List ℕ → Contents) → Origin → Content → Type 0
+MayGive contents (file name) (spelled bytes) = MayHold (contents name) bytes
+MayGive contents (program b) (brought c) = b ≡ c
+MayGive contents origin content = ⊥
 
--- what comes from there, where it is told
-abbrev pub Gives : (List ℕ → Told) → Origin → Content → Type 0
-Gives told (file name) (spelled bytes) = told name ≡ holds bytes
-Gives told (program b) (brought c) = b ≡ c
-Gives told origin content = ⊥
+-- what comes from there, where it is known
+abbrev pub Gives : (List ℕ → Contents) → Origin → Content → Type 0
+Gives contents (file name) (spelled bytes) = contents name ≡ holds bytes
+Gives contents (program b) (brought c) = b ≡ c
+Gives contents origin content = ⊥
 
 -- ---- what comes of it
 

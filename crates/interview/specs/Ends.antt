@@ -28,7 +28,7 @@ pub record AcceptedRun (given : Given) : Type 0 where
   -- what a session over it goes by
   pub rules : Rules
   pub asked : IsRun given.words origin
-  pub gave : MayGive given.told origin content
+  pub gave : MayGive given.contents origin content
   pub is_accepted : IsAcceptedAs given.checks content rules
 
 -- over such a dictionary, how it begins
@@ -36,7 +36,7 @@ pub record BegunRun (given : Given) : Type 0 where
   pub over : AcceptedRun given
   pub basis : Basis
   pub start : Start
-  pub brought : MayBring given.told over.asked.beginning basis
+  pub brought : MayBring given.contents over.asked.beginning basis
   pub is_start : IsStart over.rules basis start
 
 -- what the lines of its script mean
@@ -53,7 +53,7 @@ pub record RefusedRun (given : Given) : Type 0 where
   pub content : Content
   pub fault : DictFault
   pub asked : IsRun given.words origin
-  pub gave : MayGive given.told origin content
+  pub gave : MayGive given.contents origin content
   pub is_fault : HasFault given.checks content fault
 
 -- the line of the fault was written whole, without the script
@@ -65,7 +65,7 @@ pub record SavedRefusedRun (given : Given) : Type 0 where
   pub over : AcceptedRun given
   pub basis : Basis
   pub line : ℕ
-  pub brought : MayBring given.told over.asked.beginning basis
+  pub brought : MayBring given.contents over.asked.beginning basis
   pub is_refused : IsRefusedStart over.rules basis line
 
 -- this was written whole, without the script
@@ -78,7 +78,7 @@ pub record Check (given : Given) : Type 0 where
   pub bytes : List ℕ
   pub outcome : Defined
   pub asked : IsCheck given.words name
-  pub held : MayHold (given.told name) bytes
+  pub held : MayHold (given.contents name) bytes
   pub judged : ChecksTo bytes given.checks outcome
 
 -- the check has this status, and its text was written whole, without the script
@@ -116,42 +116,42 @@ EndsByWord given did status = Ends given did status ⊎ (GenEnds given did statu
 
 -- ---- what is known of an interview when it ends
 
--- a dictionary of a run that is told, and accepted
+-- a dictionary of a run that is known, and accepted
 pub record KnownDictionary (given : Given) : Type 0 where
   pub origin : Origin
   pub content : Content
   pub rules : Rules
   pub asked : IsRun given.words origin
-  pub gives : Gives given.told origin content
+  pub gives : Gives given.contents origin content
   pub is_accepted : IsAcceptedAs given.checks content rules
 
--- a run whose dictionary, saved text and script are told
+-- a run whose dictionary, saved text and script are known
 pub record KnownRun (given : Given) : Type 0 where
   pub origin : Origin
   pub content : Content
   pub basis : Basis
   pub script : List ℕ
   pub asked : IsRun given.words origin
-  pub gives : Gives given.told origin content
-  pub brings : Brings given.told asked.beginning basis
+  pub gives : Gives given.contents origin content
+  pub brings : Brings given.contents asked.beginning basis
   pub read : given.left ≡ Some script
 
--- a check whose dictionary is told
+-- a check whose dictionary is known
 pub record KnownCheck (given : Given) : Type 0 where
   pub name : List ℕ
   pub bytes : List ℕ
   pub asked : IsCheck given.words name
-  pub held : given.told name ≡ holds bytes
+  pub held : given.contents name ≡ holds bytes
 
 -- it ended as a check of the bytes comes to, with the text whole
 abbrev pub EndedByCheck : Given → Did → Status → List ℕ → Type 0
 EndedByCheck given did status bytes = (d : Defined) × ChecksTo bytes given.checks d × EndedAs did status d
 
--- what a run that is told comes to
+-- what a run that is known comes to
 abbrev pub ComesTo : (given : Given) → KnownRun given → Defined → Type 0
 ComesTo given run d = RunsTo run.content given.checks run.basis run.asked.mode given.relations run.script d
 
--- it ended as a run that is told comes to, with the text whole
+-- it ended as a run that is known comes to, with the text whole
 abbrev pub EndedByRun : (given : Given) → KnownRun given → Did → Status → Type 0
 EndedByRun given run did status = (d : Defined) × ComesTo given run d × EndedAs did status d
 
@@ -165,27 +165,27 @@ pub record Interviewed (given : Given) (did : Did) (status : Status) : Type 0 wh
   -- words without a form get the line of usage
   pub no_form : HasNoForm given.words → IsOneOf status (Usage ∷ WriteFault ∷ NoMemory ∷ [])
   -- a name that isn't there is a failed fetch
-  pub missing : (name : List ℕ) → Fetches given.words name → given.told name ≡ not_there → IsOneOf status (FetchFault ∷ NoMemory ∷ [])
-  -- a run over a dictionary that is told and has this fault ends with its line, whatever the script
-  pub refused : (origin : Origin) (content : Content) (fault : DictFault) → IsRun given.words origin → Gives given.told origin content → HasFault given.checks content fault
+  pub missing : (name : List ℕ) → Fetches given.words name → given.contents name ≡ not_there → IsOneOf status (FetchFault ∷ NoMemory ∷ [])
+  -- a run over a dictionary that is known and has this fault ends with its line, whatever the script
+  pub refused : (origin : Origin) (content : Content) (fault : DictFault) → IsRun given.words origin → Gives given.contents origin content → HasFault given.checks content fault
       → EndedAs did status (defined_fault fault) ⊎ IsOneOf status (FetchFault ∷ WriteFault ∷ NoMemory ∷ [])
   -- and reads nothing of the script
-  pub refused_unread : (origin : Origin) (content : Content) (fault : DictFault) → IsRun given.words origin → Gives given.told origin content → HasFault given.checks content fault → Unread did
-  -- over a dictionary that is told and accepted, a saved text that isn't there is a failed fetch
-  pub saved_missing : (dict : KnownDictionary given) (name : List ℕ) → IsFrom dict.asked.beginning name → given.told name ≡ not_there → IsOneOf status (FetchFault ∷ NoMemory ∷ [])
-  -- over such a dictionary, a saved text that is told and refused ends it with the line of this, whatever the script
-  pub saved_refused : (dict : KnownDictionary given) (basis : Basis) (n : ℕ) → Brings given.told dict.asked.beginning basis → IsRefusedStart dict.rules basis n
+  pub refused_unread : (origin : Origin) (content : Content) (fault : DictFault) → IsRun given.words origin → Gives given.contents origin content → HasFault given.checks content fault → Unread did
+  -- over a dictionary that is known and accepted, a saved text that isn't there is a failed fetch
+  pub saved_missing : (dict : KnownDictionary given) (name : List ℕ) → IsFrom dict.asked.beginning name → given.contents name ≡ not_there → IsOneOf status (FetchFault ∷ NoMemory ∷ [])
+  -- over such a dictionary, a saved text that is known and refused ends it with the line of this, whatever the script
+  pub saved_refused : (dict : KnownDictionary given) (basis : Basis) (n : ℕ) → Brings given.contents dict.asked.beginning basis → IsRefusedStart dict.rules basis n
       → EndedAs did status (defined_saved_refused n) ⊎ IsOneOf status (FetchFault ∷ WriteFault ∷ NoMemory ∷ [])
   -- and nothing is read of the script
-  pub saved_refused_unread : (dict : KnownDictionary given) (basis : Basis) (n : ℕ) → Brings given.told dict.asked.beginning basis → IsRefusedStart dict.rules basis n → Unread did
+  pub saved_refused_unread : (dict : KnownDictionary given) (basis : Basis) (n : ℕ) → Brings given.contents dict.asked.beginning basis → IsRefusedStart dict.rules basis n → Unread did
   -- a run over a dictionary that the program brings with it ends by no fault of it, and where it names no saved text by no fetch
   pub built_in : (b : BuiltIn) (asked : IsRun given.words (program b)) → asked.beginning ≡ unanswered → IsOneOf status (Done ∷ ReadFault ∷ WriteFault ∷ ScriptTooLong ∷ NoMemory ∷ [])
   pub built_in_carried : (b : BuiltIn) → IsRun given.words (program b) → IsOneOf status (Done ∷ FetchFault ∷ ReadFault ∷ WriteFault ∷ ScriptTooLong ∷ NoMemory ∷ SavedRefused ∷ [])
-  -- a run that is told ends as defined, or by a fault of the outside, or for want of memory
+  -- a run that is known ends as defined, or by a fault of the outside, or for want of memory
   pub exact : (run : KnownRun given) → EndedByRun given run did status ⊎ IsOneOf status (FetchFault ∷ ReadFault ∷ WriteFault ∷ NoMemory ∷ [])
   -- and where the outside doesn't fail, it ends as defined, or for want of memory
   pub complete : (run : KnownRun given) → (FetchFailed given did → ⊥) → (Rises did.script.source → ⊥) → (Rises did.script.sink → ⊥) → EndedByRun given run did status ⊎ (status ≡ NoMemory)
-  -- whatever the status: what a run that is told wrote is a prefix of the defined text
+  -- whatever the status: what a run that is known wrote is a prefix of the defined text
   pub prefix : (run : KnownRun given) (d : Defined) → ComesTo given run d → SentPart did.script.taken d.text
   -- with status 0 the dictionary is accepted, and the script was read to its end, or to that of the piece in which `quit` ended
   pub read_through : (run : KnownRun given) → status ≡ Done
@@ -198,9 +198,9 @@ pub record Interviewed (given : Given) (did : Did) (status : Status) : Type 0 wh
   pub tables : (b : BuiltIn) → IsRun given.words (program b) → (run : BegunRun given) (lines : List ScriptLine) → TablesHoldIn b run.over.rules ((meaning_in given run).answers lines)
   -- a check reads nothing of the script
   pub check_unread : (name : List ℕ) → IsCheck given.words name → Unread did
-  -- a check of a dictionary that is told and has this fault ends with its line
+  -- a check of a dictionary that is known and has this fault ends with its line
   pub check_refused : (check : KnownCheck given) (fault : DictFault) → IsFault check.bytes (names_of given.checks) fault → EndedAs did status (defined_fault fault) ⊎ IsOneOf status (FetchFault ∷ WriteFault ∷ NoMemory ∷ [])
-  -- a check that is told ends as defined, or by a fault of the outside, or for want of memory
+  -- a check that is known ends as defined, or by a fault of the outside, or for want of memory
   pub check_exact : (check : KnownCheck given) → EndedByCheck given did status check.bytes ⊎ IsOneOf status (FetchFault ∷ WriteFault ∷ NoMemory ∷ [])
   -- whatever the status: what it wrote is a prefix of the defined text
   pub check_prefix : (check : KnownCheck given) (d : Defined) → ChecksTo check.bytes given.checks d → SentPart did.script.taken d.text

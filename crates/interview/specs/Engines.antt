@@ -1,7 +1,7 @@
 -- Where it makes no difference which engine keeps the results.
 use Rattle.std.specs.Prelude.{◌≡◌, ℕ, Bool, true, false, List, All}
 use Rattle.script_lines.specs.Lines.{ScriptLine, whole, long, script_lines}
-use Rattle.script_lines.specs.Reading.{Heard, nothing, bad_line, command, heard_in}
+use Rattle.script_lines.specs.Parsing.{Heard, nothing, bad_line, command, heard_in}
 use Rattle.script_lines.specs.declared.command.Command.{Command}
 use Rattle.script_lines.specs.declared.command.Command.TheVariants as commands
 use Rattle.answers.specs.Answered.{Answered}

@@ -1,7 +1,7 @@
 -- What an interview is given, and what it did to the outside.
 use Rattle.std.specs.Prelude.{◌≡◌, ◌⊎◌, ℕ, List, [], ◌∷◌, Option, String}
 use Rattle.std.specs.declared.alloc.Global.{Global}
-use Rattle.fg_io.specs.Outside.{Told}
+use Rattle.fg_io.specs.Outside.{Contents}
 use Rattle.dictionary.specs.Accepted.{Named}
 use Rattle.interview.specs.declared.status.Status.{Status}
 use Rattle.interview.specs.Devices.{Counted, SentWhole}
@@ -16,7 +16,7 @@ pub record Given : Type 0 where
   pub checks : List Named
   -- the relations by which slots may be watched
   pub relations : List Named
-  pub told : List ℕ → Told
+  pub contents : List ℕ → Contents
   pub left : Option (List ℕ)
 
 -- what an interview did to the outside
@@ -25,8 +25,8 @@ pub record Did : Type 0 where
   pub failed_name : List ℕ
   pub script : ScriptDid
 
-abbrev pub given_by : List (String Global) → List Named → List Named → (List ℕ → Told) → Option (List ℕ) → Given
-given_by words checks relations told left = record { words = texts words; checks = checks; relations = relations; told = told; left = left }
+abbrev pub given_by : List (String Global) → List Named → List Named → (List ℕ → Contents) → Option (List ℕ) → Given
+given_by words checks relations contents left = record { words = texts words; checks = checks; relations = relations; contents = contents; left = left }
 
 -- by the faults of the shelf, before and after, and the name of the last
 abbrev pub did_by : (unfetched unfetched_now : ℕ) → List ℕ → ScriptDid → Did

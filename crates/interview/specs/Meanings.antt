@@ -27,7 +27,7 @@ abbrev pub of_session : Rules → State → Meaning
 of_session r state = record {
   texts = replies r state;
   over = λ lines. (state_after r state lines).over;
-  answers = λ lines. (state_after r state lines).standing.course.timeline.now;
+  answers = λ lines. (state_after r state lines).standing.session_state.timeline.now;
   steps = λ most. steps_of_lines most r state;
 }
 
@@ -35,7 +35,7 @@ abbrev pub of_desk : Rules → DeskState → Meaning
 of_desk r state = record {
   texts = desk_replies r state;
   over = λ lines. (desk_state_after r state lines).over;
-  answers = λ lines. (desk_state_after r state lines).desk.course.timeline.now;
+  answers = λ lines. (desk_state_after r state lines).desk.session_state.timeline.now;
   steps = λ most. steps_of_desk_lines most r state;
 }
 

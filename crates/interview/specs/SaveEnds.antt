@@ -22,7 +22,7 @@ pub record AcceptedSave (given : Given) : Type 0 where
   pub content : Content
   pub rules : Rules
   pub asked : IsSave given.words origin
-  pub gave : MayGive given.told origin content
+  pub gave : MayGive given.contents origin content
   pub is_accepted : IsAcceptedAs given.checks content rules
 
 -- the same, with its fault
@@ -31,7 +31,7 @@ pub record RefusedSave (given : Given) : Type 0 where
   pub content : Content
   pub fault : DictFault
   pub asked : IsSave given.words origin
-  pub gave : MayGive given.told origin content
+  pub gave : MayGive given.contents origin content
   pub is_fault : HasFault given.checks content fault
 
 -- its script ended with this status
@@ -55,13 +55,13 @@ SaveEnds given did other = ⊥
 
 -- ---- what is known of it
 
--- a dictionary and a script that are told
+-- a dictionary and a script that are known
 pub record KnownSave (given : Given) : Type 0 where
   pub origin : Origin
   pub content : Content
   pub script : List ℕ
   pub asked : IsSave given.words origin
-  pub gives : Gives given.told origin content
+  pub gives : Gives given.contents origin content
   pub read : given.left ≡ Some script
 
 -- what it comes to
@@ -78,15 +78,15 @@ SaveFetchFailed given did = Rises did.shelf × IsSave given.words (file did.fail
 
 pub record SaveInterviewed (given : Given) (did : Did) (status : Status) : Type 0 where
   -- a name that isn't there is a failed fetch
-  pub missing : (name : List ℕ) → IsSave given.words (file name) → given.told name ≡ missing → IsOneOf status (FetchFault ∷ NoMemory ∷ [])
-  -- over a dictionary that is told and has this fault it ends with its line, whatever the script
-  pub refused : (origin : Origin) (content : Content) (fault : DictFault) → IsSave given.words origin → Gives given.told origin content → HasFault given.checks content fault
+  pub missing : (name : List ℕ) → IsSave given.words (file name) → given.contents name ≡ missing → IsOneOf status (FetchFault ∷ NoMemory ∷ [])
+  -- over a dictionary that is known and has this fault it ends with its line, whatever the script
+  pub refused : (origin : Origin) (content : Content) (fault : DictFault) → IsSave given.words origin → Gives given.contents origin content → HasFault given.checks content fault
       → EndedAs did status (defined_fault fault) ⊎ IsOneOf status (FetchFault ∷ WriteFault ∷ NoMemory ∷ [])
   -- and reads nothing of the script
-  pub refused_unread : (origin : Origin) (content : Content) (fault : DictFault) → IsSave given.words origin → Gives given.told origin content → HasFault given.checks content fault → Unread did
+  pub refused_unread : (origin : Origin) (content : Content) (fault : DictFault) → IsSave given.words origin → Gives given.contents origin content → HasFault given.checks content fault → Unread did
   -- over a dictionary that the program brings with it, it ends by no fault of it, and by no fetch
   pub built_in : (b : BuiltIn) → IsSave given.words (program b) → IsOneOf status (Done ∷ ReadFault ∷ WriteFault ∷ ScriptTooLong ∷ NoMemory ∷ [])
-  -- where dictionary and script are told it ends as defined, or by a fault of the outside, or for want of memory
+  -- where dictionary and script are known it ends as defined, or by a fault of the outside, or for want of memory
   pub exact : (save : KnownSave given) → EndedBySave given save did status ⊎ IsOneOf status (FetchFault ∷ ReadFault ∷ WriteFault ∷ NoMemory ∷ [])
   -- and where the outside doesn't fail, as defined, or for want of memory
   pub complete : (save : KnownSave given) → (SaveFetchFailed given did → ⊥) → (Rises did.script.source → ⊥) → (Rises did.script.sink → ⊥) → EndedBySave given save did status ⊎ (status ≡ NoMemory)

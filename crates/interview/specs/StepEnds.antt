@@ -2,7 +2,7 @@
 use Rattle.std.specs.Prelude.{◌≡◌, ◌⊎◌, ℕ, ◌<◌, ◌≤◌, List, [], length, Option, Some, None, Result, Ok, Err, Vec}
 use Rattle.std.specs.declared.alloc.Global.{Global}
 use Rattle.std.specs.Io.KnownBytes.{Appends}
-use Rattle.fg_io.specs.Outside.{MayHold, Rose, Told}
+use Rattle.fg_io.specs.Outside.{MayHold, Rose, Contents}
 use Rattle.fg_io.specs.Sent.{Sent}
 use Rattle.dictionary.specs.Accepted.{Named, accepted, names_of}
 use Rattle.dictionary.specs.Faults.{AreAccepted, IsFault}
@@ -42,9 +42,9 @@ EndedBy taken taken_now faults faults_now text whole status =
 -- ---- a fetch
 
 -- some bytes that the name may hold spell this dictionary, or have this fault
-abbrev pub FetchedAs : Told → List Named → Fetched → Type 0
-FetchedAs told checks (fetches.Accepted dict) = (bytes : List ℕ) × MayHold told bytes × (AreAccepted bytes (names_of checks) (accepted dict) × (dict.checks ≡ checks))
-FetchedAs told checks (fetches.Refused fault) = (bytes : List ℕ) × MayHold told bytes × IsFault bytes (names_of checks) fault
+abbrev pub FetchedAs : Contents → List Named → Fetched → Type 0
+FetchedAs contents checks (fetches.Accepted dict) = (bytes : List ℕ) × MayHold contents bytes × (AreAccepted bytes (names_of checks) (accepted dict) × (dict.checks ≡ checks))
+FetchedAs contents checks (fetches.Refused fault) = (bytes : List ℕ) × MayHold contents bytes × IsFault bytes (names_of checks) fault
 
 -- what a check of it comes to
 abbrev pub defined_fetched : Fetched → Defined
@@ -60,9 +60,9 @@ NotFetched name faults faults_now failed_name other = ⊥
 -- ---- the dictionary of a run
 
 -- what may come from there is accepted as this dictionary, with the checks of a table, or has this fault
-abbrev pub ObtainedAs : (List ℕ → Told) → Origin → List Named → Fetched → Type 0
-ObtainedAs told origin checks (fetches.Accepted dict) = (content : Content) × MayGive told origin content × IsAcceptedAs checks content (rules dict) × SameChecks (rules dict) checks
-ObtainedAs told origin checks (fetches.Refused fault) = (content : Content) × MayGive told origin content × HasFault checks content fault
+abbrev pub ObtainedAs : (List ℕ → Contents) → Origin → List Named → Fetched → Type 0
+ObtainedAs contents origin checks (fetches.Accepted dict) = (content : Content) × MayGive contents origin content × IsAcceptedAs checks content (rules dict) × SameChecks (rules dict) checks
+ObtainedAs contents origin checks (fetches.Refused fault) = (content : Content) × MayGive contents origin content × HasFault checks content fault
 
 -- no dictionary was had: the shelf failed to give the name of a file, or there was no memory
 abbrev pub NotObtained : Origin → ℕ → ℕ → List ℕ → Status → Type 0
@@ -72,9 +72,9 @@ NotObtained (program b) faults faults_now failed_name status = status ≡ NoMemo
 -- ---- the answers at its start
 
 -- what was fetched may be a saved text, or some text that is too long
-abbrev pub FetchedText : Told → Option (Vec ℕ Global) → Type 0
-FetchedText told (Some v) = MayHold told v.items × (length v.items ≤ saved_limit)
-FetchedText told None = (bytes : List ℕ) × MayHold told bytes × (saved_limit < length bytes)
+abbrev pub FetchedText : Contents → Option (Vec ℕ Global) → Type 0
+FetchedText contents (Some v) = MayHold contents v.items × (length v.items ≤ saved_limit)
+FetchedText contents None = (bytes : List ℕ) × MayHold contents bytes × (saved_limit < length bytes)
 
 -- what is kept of a saved text gives this text before the replies
 abbrev pub Gives : Dropped → List ℕ → Type 0
@@ -92,8 +92,8 @@ abbrev pub ResumesAs : Rules → Basis → Resumed → Type 0
 ResumesAs r basis (resumed.Begins ready) = (s : Start) × IsStart r basis s × IsReady r ready s
 ResumesAs r basis (resumed.Refused n) = IsRefusedStart r basis n
 
-abbrev pub ResumedAs : (List ℕ → Told) → Beginning → Rules → Resumed → Type 0
-ResumedAs told beginning r found = (basis : Basis) × MayBring told beginning basis × ResumesAs r basis found
+abbrev pub ResumedAs : (List ℕ → Contents) → Beginning → Rules → Resumed → Type 0
+ResumedAs contents beginning r found = (basis : Basis) × MayBring contents beginning basis × ResumesAs r basis found
 
 -- a fault of a saved text, or want of memory
 abbrev pub RefusedFor : LoadFault → Result Resumed Status → Type 0
@@ -127,21 +127,21 @@ run_did unfetched unfetched_now failed_name script = record {
 }
 
 -- it began, and its script ended so
-abbrev pub BeginsAndEnds : (List ℕ → Told) → Beginning → Rules → Mode → List Named → RunDid → Status → Type 0
-BeginsAndEnds told beginning r mode relations did status =
-    (basis : Basis) × MayBring told beginning basis × ((s : Start) × IsStart r basis s × StartEnds (meaning_of r mode relations s.answers) s.front did.script status)
+abbrev pub BeginsAndEnds : (List ℕ → Contents) → Beginning → Rules → Mode → List Named → RunDid → Status → Type 0
+BeginsAndEnds contents beginning r mode relations did status =
+    (basis : Basis) × MayBring contents beginning basis × ((s : Start) × IsStart r basis s × StartEnds (meaning_of r mode relations s.answers) s.front did.script status)
 
 -- the saved text was refused
-abbrev pub SavedTextEnds : (List ℕ → Told) → Beginning → Rules → RunDid → Status → Type 0
-SavedTextEnds told beginning r did status =
-    (basis : Basis) × MayBring told beginning basis × ((n : ℕ) × IsRefusedStart r basis n
+abbrev pub SavedTextEnds : (List ℕ → Contents) → Beginning → Rules → RunDid → Status → Type 0
+SavedTextEnds contents beginning r did status =
+    (basis : Basis) × MayBring contents beginning basis × ((n : ℕ) × IsRefusedStart r basis n
     × EndedBy did.script.taken.before did.script.taken.after did.script.sink.before did.script.sink.after (defined_saved_refused n).text SavedRefused status × UnreadScript did.script)
 
 -- or there was none
-abbrev pub RunEnds : (List ℕ → Told) → Beginning → Rules → Mode → List Named → RunDid → Status → Type 0
-RunEnds told beginning r mode relations did status =
-    BeginsAndEnds told beginning r mode relations did status
-    ⊎ (SavedTextEnds told beginning r did status
+abbrev pub RunEnds : (List ℕ → Contents) → Beginning → Rules → Mode → List Named → RunDid → Status → Type 0
+RunEnds contents beginning r mode relations did status =
+    BeginsAndEnds contents beginning r mode relations did status
+    ⊎ (SavedTextEnds contents beginning r did status
     ⊎ (NotResumed beginning did.shelf.before did.shelf.after did.failed_name status × (did.script.taken.before ≡ did.script.taken.after) × UnreadScript did.script))
 
 -- ---- a check
@@ -154,17 +154,17 @@ pub record CheckDid : Type 0 where
   pub sink : Counted
 
 -- some bytes that the name may hold come to this text and status
-abbrev pub JudgedAs : Told → List Named → List ℕ → Status → Type 0
-JudgedAs told checks text status = (bytes : List ℕ) × MayHold told bytes × ChecksTo bytes checks (record { text = text; status = status })
+abbrev pub JudgedAs : Contents → List Named → List ℕ → Status → Type 0
+JudgedAs contents checks text status = (bytes : List ℕ) × MayHold contents bytes × ChecksTo bytes checks (record { text = text; status = status })
 
 -- it came to this status, and the text of it was written whole
-abbrev pub CheckedAs : Told → List Named → CheckDid → Status → Type 0
-CheckedAs told checks did status = (text : List ℕ) × JudgedAs told checks text status × SentWhole did.taken text
+abbrev pub CheckedAs : Contents → List Named → CheckDid → Status → Type 0
+CheckedAs contents checks did status = (text : List ℕ) × JudgedAs contents checks text status × SentWhole did.taken text
 
-abbrev pub CheckEnds : Told → List Named → List ℕ → CheckDid → Status → Type 0
-CheckEnds told checks name did Done = CheckedAs told checks did Done
-CheckEnds told checks name did DictionaryRefused = CheckedAs told checks did DictionaryRefused
-CheckEnds told checks name did FetchFault = Rises did.shelf × (did.failed_name ≡ name) × SentNothing did.taken
-CheckEnds told checks name did WriteFault = Rises did.sink × ((text : List ℕ) × ((status : Status) × (JudgedAs told checks text status × SentPart did.taken text)))
-CheckEnds told checks name did NoMemory = SentNothing did.taken
-CheckEnds told checks name did other = ⊥
+abbrev pub CheckEnds : Contents → List Named → List ℕ → CheckDid → Status → Type 0
+CheckEnds contents checks name did Done = CheckedAs contents checks did Done
+CheckEnds contents checks name did DictionaryRefused = CheckedAs contents checks did DictionaryRefused
+CheckEnds contents checks name did FetchFault = Rises did.shelf × (did.failed_name ≡ name) × SentNothing did.taken
+CheckEnds contents checks name did WriteFault = Rises did.sink × ((text : List ℕ) × ((status : Status) × (JudgedAs contents checks text status × SentPart did.taken text)))
+CheckEnds contents checks name did NoMemory = SentNothing did.taken
+CheckEnds contents checks name did other = ⊥

@@ -10,34 +10,34 @@ use Rattle.interview.specs.Meanings.{Behind, IsQuit, Meaning}
 
 -- a line, or none, was answered: its text was written whole, and these answers stand behind it; or in part, after a fault; or there
 -- was no memory for it
-abbrev pub LineToldAs : Option (List ℕ) → Option (List ℕ) → ℕ → ℕ → Meaning → Answered → List ScriptLine → Progress → Type 0
-LineToldAs taken taken_now faults faults_now m answers lines More = Sent taken taken_now (m.texts lines) [] × (m.answers lines ≡ answers)
-LineToldAs taken taken_now faults faults_now m answers lines Over = Sent taken taken_now (m.texts lines) [] × (m.answers lines ≡ answers)
-LineToldAs taken taken_now faults faults_now m answers lines Unwritten = Rose faults faults_now × ((rest : List ℕ) × Sent taken taken_now (m.texts lines) rest)
-LineToldAs taken taken_now faults faults_now m answers lines OutOfMemory = taken_now ≡ taken
+abbrev pub LineOutputAs : Option (List ℕ) → Option (List ℕ) → ℕ → ℕ → Meaning → Answered → List ScriptLine → Progress → Type 0
+LineOutputAs taken taken_now faults faults_now m answers lines More = Sent taken taken_now (m.texts lines) [] × (m.answers lines ≡ answers)
+LineOutputAs taken taken_now faults faults_now m answers lines Over = Sent taken taken_now (m.texts lines) [] × (m.answers lines ≡ answers)
+LineOutputAs taken taken_now faults faults_now m answers lines Unwritten = Rose faults faults_now × ((rest : List ℕ) × Sent taken taken_now (m.texts lines) rest)
+LineOutputAs taken taken_now faults faults_now m answers lines OutOfMemory = taken_now ≡ taken
 
 -- Bytes came behind those held. Lines were cut from them, as far as what is held now and what stands behind, and the texts of
 -- these lines were written but for the rest.
-pub record LinesTold (m : Meaning) (taken taken_now : Option (List ℕ)) (held bytes : List ℕ) (there : Meaning) (held_now behind rest : List ℕ) : Type 0 where
+pub record LinesOutput (m : Meaning) (taken taken_now : Option (List ℕ)) (held bytes : List ℕ) (there : Meaning) (held_now behind rest : List ℕ) : Type 0 where
   pub lines : List ScriptLine
   pub cut : (more : List ℕ) → script_lines (held ++ (bytes ++ more)) ≡ lines ++ script_lines (held_now ++ (behind ++ more))
   pub wrote : Sent taken taken_now (m.texts lines) rest
   pub left : Behind m lines there
 
 -- the same, wherever it stopped
-pub record SomeTold (m : Meaning) (taken taken_now : Option (List ℕ)) (held bytes rest : List ℕ) : Type 0 where
+pub record SomeOutput (m : Meaning) (taken taken_now : Option (List ℕ)) (held bytes rest : List ℕ) : Type 0 where
   pub there : Meaning
   pub held_now : List ℕ
   pub behind : List ℕ
-  pub told : LinesTold m taken taken_now held bytes there held_now behind rest
+  pub output : LinesOutput m taken taken_now held bytes there held_now behind rest
 
 -- how far a piece was answered: whole, to a `quit`, to a text that wasn't written whole, or to want of memory
-abbrev pub PieceToldAs : (Meaning → Type 0) → Option (List ℕ) → Option (List ℕ) → ℕ → ℕ → Meaning → Answered → List ℕ → List ℕ → List ℕ → Progress → Type 0
-PieceToldAs MeansNow taken taken_now faults faults_now m answers held held_now bytes More =
-    ((there : Meaning) × MeansNow there × (there.over [] ≡ false) × LinesTold m taken taken_now held bytes there held_now [] []) × HasNoNewline held_now
-PieceToldAs MeansNow taken taken_now faults faults_now m answers held held_now bytes Over =
-    (some : SomeTold m taken taken_now held bytes []) × IsQuit some.there × (some.there.answers [] ≡ answers)
-PieceToldAs MeansNow taken taken_now faults faults_now m answers held held_now bytes Unwritten =
-    Rose faults faults_now × ((rest : List ℕ) × SomeTold m taken taken_now held bytes rest)
-PieceToldAs MeansNow taken taken_now faults faults_now m answers held held_now bytes OutOfMemory =
-    SomeTold m taken taken_now held bytes []
+abbrev pub PieceOutputAs : (Meaning → Type 0) → Option (List ℕ) → Option (List ℕ) → ℕ → ℕ → Meaning → Answered → List ℕ → List ℕ → List ℕ → Progress → Type 0
+PieceOutputAs MeansNow taken taken_now faults faults_now m answers held held_now bytes More =
+    ((there : Meaning) × MeansNow there × (there.over [] ≡ false) × LinesOutput m taken taken_now held bytes there held_now [] []) × HasNoNewline held_now
+PieceOutputAs MeansNow taken taken_now faults faults_now m answers held held_now bytes Over =
+    (some : SomeOutput m taken taken_now held bytes []) × IsQuit some.there × (some.there.answers [] ≡ answers)
+PieceOutputAs MeansNow taken taken_now faults faults_now m answers held held_now bytes Unwritten =
+    Rose faults faults_now × ((rest : List ℕ) × SomeOutput m taken taken_now held bytes rest)
+PieceOutputAs MeansNow taken taken_now faults faults_now m answers held held_now bytes OutOfMemory =
+    SomeOutput m taken taken_now held bytes []

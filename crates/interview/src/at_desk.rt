@@ -6,9 +6,9 @@ ghost use Rattle.shared_desk.specs.Desk.{Desk as Defined};
 ghost use Rattle.shared_desk.specs.DeskView.{StandsFor, rules_of};
 ghost use Rattle.desk_lines.specs.DeskStepping.{desk_open};
 ghost use Rattle.interview.specs.Meanings.{Meaning, of_desk};
-ghost use Rattle.interview.specs.Telling.{LineToldAs, PieceToldAs};
+ghost use Rattle.interview.specs.Telling.{LineOutputAs, PieceOutputAs};
 
-use crate::talk::Talk;
+use crate::line_handler::LineHandler;
 use dictionary::FactEngine;
 use fact_watch::WatchTable;
 use fg_io::Sink;
@@ -20,7 +20,7 @@ use std::sync::ledger::Ledger;
 use steps::Steps;
 use text_checks::CheckTable;
 
-impl<E: FactEngine> Talk for Desk<E> {
+impl<E: FactEngine> LineHandler for Desk<E> {
     ghost means = { λ v relations m. (d : Defined) × StandsFor v d × (m ≡ of_desk (rules_of v) (desk_open d)) };
 
     ghost goes_by = { rules_of };

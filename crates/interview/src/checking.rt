@@ -1,5 +1,6 @@
 // Whether a dictionary is accepted.
-ghost use Rattle.std.specs.Prelude.{◌≡◌, ℕ, List, map};
+ghost use Rattle.std.specs.Prelude.{◌≡◌};
+ghost use Rattle.text_checks.specs.Tables.{named_checks};
 ghost use Rattle.dictionary.specs.Accepted.{accepted};
 ghost use Rattle.interview.specs.Interview.{defined_accepted};
 ghost use Rattle.interview.specs.StepEnds.{CheckEnds, EndedBy};
@@ -34,8 +35,8 @@ pub fn check<H: Shelf, K: Sink>(
     shelf: &mut H,
     out: &mut K,
 ) -> Status
-    ensures ends { CheckEnds (H.told shelf.old name.now)
-        (map {B = List ℕ × ℕ} (λ c. (c.name, c.code)) checks.now.checks.items) name.now
+    ensures ends { CheckEnds (H.contents shelf.old name.now)
+        (named_checks checks.now) name.now
         (record {
           shelf = record { before = H.faults shelf.old; after = H.faults shelf.new };
           failed_name = H.failed_name shelf.new;

@@ -1,5 +1,6 @@
 // Fetches a dictionary.
-ghost use Rattle.std.specs.Prelude.{◌≡◌, ◌≤◌, ℕ, List, map, IfErr, IfOk};
+ghost use Rattle.std.specs.Prelude.{◌≡◌, ◌≤◌, IfErr, IfOk};
+ghost use Rattle.text_checks.specs.Tables.{named_checks};
 ghost use Rattle.dictionary.specs.Accepted.{accepted, names_of};
 ghost use Rattle.dictionary.specs.Faults.{AreAccepted, IsFault, Refuses};
 ghost use Rattle.interview.specs.StepEnds.{FetchedAs, NotFetched};
@@ -26,11 +27,11 @@ pub enum Fetched {
 // The dictionary that the bytes spell, with the checks of the table by name and code.
 fn accept_named(alloc: Global, bytes: &[u8], checks: &CheckTable) -> Result<Dictionary, DictFault>
     ensures is_accepted { IfOk result (λ d. AreAccepted bytes.now (names_of
-        (map {B = List ℕ × ℕ} (λ c. (c.name, c.code)) checks.now.checks.items)) (accepted d)) }
+        (named_checks checks.now)) (accepted d)) }
     ensures checks { IfOk result (λ d. d.checks
-        ≡ map {B = List ℕ × ℕ} (λ c. (c.name, c.code)) checks.now.checks.items) }
+        ≡ named_checks checks.now) }
     ensures refused { IfErr result (Refuses (IsFault bytes.now (names_of
-        (map {B = List ℕ × ℕ} (λ c. (c.name, c.code)) checks.now.checks.items)))) }
+        (named_checks checks.now)))) }
 {
     accept(alloc, bytes, checks)
 }
@@ -64,11 +65,11 @@ pub fn fetch<H: Shelf>(
     checks: &CheckTable,
     shelf: &mut H,
 ) -> Result<Fetched, Status>
-    ensures fetched { IfOk result (FetchedAs (H.told shelf.old name.now)
-        (map {B = List ℕ × ℕ} (λ c. (c.name, c.code)) checks.now.checks.items)) }
+    ensures fetched { IfOk result (FetchedAs (H.contents shelf.old name.now)
+        (named_checks checks.now)) }
     ensures not_fetched { IfErr result
         (NotFetched name.now (H.faults shelf.old) (H.faults shelf.new) (H.failed_name shelf.new)) }
-    ensures kept { H.told shelf.new ≡ H.told shelf.old }
+    ensures kept { H.contents shelf.new ≡ H.contents shelf.old }
     ensures later { H.faults shelf.old ≤ H.faults shelf.new }
 {
     let bytes = match shelf.fetch(name, LIMIT) {

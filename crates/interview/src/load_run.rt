@@ -1,8 +1,9 @@
 // Makes a load, runs its script over its dictionary, and says what was replied.
-ghost use Rattle.std.specs.Prelude.{◌≡◌, ◌≤◌, ◌<◌, ℕ, List, [], Some, map, IfOk};
+ghost use Rattle.std.specs.Prelude.{◌≡◌, ◌≤◌, ◌<◌, [], Some, IfOk};
 ghost use Rattle.answers.specs.Answered.{start};
 ghost use Rattle.dictionary.specs.Accepted.{accepted};
 ghost use Rattle.graph_session.specs.Rules.{Rules, rules};
+ghost use Rattle.fact_watch.specs.Tables.{named_relations};
 ghost use Rattle.interview.specs.Interview.{defined_script};
 ghost use Rattle.interview.specs.Meanings.{meaning_of};
 ghost use Rattle.interview.specs.Load.{GeneratedAs, IsOfLoad, defined_gen};
@@ -10,11 +11,11 @@ ghost use Rattle.interview.specs.ScriptEnds.{ScriptEnds, script_did};
 ghost use Rattle.interview.specs.declared.words.Mode.TheVariants.{Incremental};
 
 use crate::Status;
-use crate::alone::Alone;
 use crate::counting::line_count;
 use crate::ending::end_by_lines;
 use crate::script::run;
 use crate::summary::summary;
+use crate::watched_session::WatchedSession;
 use dict_gen::make;
 use dictionary::Dictionary;
 use fact_values::NoMemory;
@@ -41,17 +42,17 @@ fn run_made<L: Ledger>(
     requires some { 0 < blank.parts }
     requires no_checks { dictionary.checks ≡ [] }
     ensures ends { ScriptEnds
-        (meaning_of (rules dictionary) Incremental (map {B = List ℕ × ℕ} (λ r. (r.name, r.code)) table.now.relations.items) start)
+        (meaning_of (rules dictionary) Incremental (named_relations table.now) start)
         (script_did (Some script.old.left) (Some script.new.left) (Some out.old.taken) (Some out.new.taken)
         script.old.faults script.new.faults out.old.faults out.new.faults)
         result }
 {
     let checks = CheckTable::new(alloc);
     let mut steps = Steps::<L>::new(blank);
-    match Alone::<Recalc>::new(alloc, dictionary) {
-        Ok(mut alone) => {
-            let status = run(alloc, &mut alone, table, &checks, script, out, &mut steps);
-            drop(alone);
+    match WatchedSession::<Recalc>::new(alloc, dictionary) {
+        Ok(mut watched) => {
+            let status = run(alloc, &mut watched, table, &checks, script, out, &mut steps);
+            drop(watched);
             status
         }
         Err(NoMemory) => Status::NoMemory,
@@ -67,7 +68,7 @@ fn replies_to(
 ) -> Result<MemSink, NoMemory>
     requires { dictionary.checks ≡ [] }
     ensures replies { IfOk result (λ sink. sink.taken ≡ (defined_script
-        (meaning_of (rules dictionary) Incremental (map {B = List ℕ × ℕ} (λ r. (r.name, r.code)) table.now.relations.items) start) script.items).text) }
+        (meaning_of (rules dictionary) Incremental (named_relations table.now) start) script.items).text) }
 {
     let mut source = MemSource::new(script, u32::MAX, Vec::new(alloc));
     let mut sink = MemSink::new(alloc, u32::MAX, Vec::new(alloc))?;
@@ -94,7 +95,7 @@ fn summary_of_load(alloc: Global, n: u32, table: &WatchTable) -> Result<Vec<u8>,
     requires some { 1 ≤ n }
     requires most { n ≤ 1000 }
     ensures summary { IfOk result (λ text. (r : Rules) × IsOfLoad n r × (text.items
-        ≡ (defined_gen r (map {B = List ℕ × ℕ} (λ r. (r.name, r.code)) table.now.relations.items) n).text)) }
+        ≡ (defined_gen r (named_relations table.now) n).text)) }
 {
     let made = make(alloc, n)?;
     let facts = made.dict.fact_count();
@@ -108,7 +109,7 @@ fn summary_of_load(alloc: Global, n: u32, table: &WatchTable) -> Result<Vec<u8>,
 pub fn run_load<K: Sink>(alloc: Global, n: u32, table: &WatchTable, out: &mut K) -> Status
     requires some { 1 ≤ n }
     requires most { n ≤ 1000 }
-    ensures generated { GeneratedAs (map {B = List ℕ × ℕ} (λ r. (r.name, r.code)) table.now.relations.items) n
+    ensures generated { GeneratedAs (named_relations table.now) n
         (record { before = K.taken out.old; after = K.taken out.new })
         (record { before = K.faults out.old; after = K.faults out.new })
         result }

@@ -1,12 +1,13 @@
 //! The program `interview`: runs a script of commands over a dictionary of facts, and prints a reply a command.
 #![tactic(auto)]
 
-ghost use Rattle.std.specs.Prelude.{◌≡◌, ℕ, ◌+◌, ◌-◌, ◌≤◌, ◌<◌, ◌^◌, Bool, List, [], ◌∷◌, ◌++◌, ◌⊎◌, IfOk, OnErr, OnOk, length, map};
+ghost use Rattle.std.specs.Prelude.{◌≡◌, ◌+◌, ◌-◌, ◌≤◌, ◌<◌, ◌^◌, Bool, [], ◌∷◌, ◌++◌, ◌⊎◌, IfOk, OnErr, OnOk, length};
 ghost use Rattle.std.specs.Process.{exit_status};
+ghost use Rattle.text_checks.specs.Tables.{named_checks};
+ghost use Rattle.fact_watch.specs.Tables.{named_relations};
 ghost use Rattle.session_lines.specs.Tables.{standard_checks, standard_relations};
 ghost use Rattle.interview.specs.Codes.{code_of};
 
-mod alone;
 mod at_desk;
 mod built_in;
 mod checking;
@@ -15,6 +16,7 @@ mod ending;
 mod fault_line;
 mod fetching;
 mod laws;
+mod line_handler;
 mod load_run;
 mod obtaining;
 mod resuming;
@@ -23,8 +25,8 @@ mod script;
 mod silent;
 mod status;
 mod summary;
-mod talk;
 mod top;
+mod watched_session;
 mod words;
 
 use fact_watch::WatchTable;
@@ -59,9 +61,9 @@ fn run_with(
     checks: &CheckTable,
     table: &WatchTable,
 ) -> Status
-    requires checks { map {B = List ℕ × ℕ} (λ c. (c.name, c.code)) checks.now.checks.items
+    requires checks { named_checks checks.now
         ≡ standard_checks }
-    requires relations { map {B = List ℕ × ℕ} (λ r. (r.name, r.code)) table.now.relations.items
+    requires relations { named_relations table.now
         ≡ standard_relations }
 {
     let mut shelf = FolderShelf::new(rt, alloc);
@@ -85,7 +87,7 @@ fn run_checked(
     words: &[String],
     checks: &CheckTable,
 ) -> Result<Status, AllocError>
-    requires { map {B = List ℕ × ℕ} (λ c. (c.name, c.code)) checks.now.checks.items
+    requires { named_checks checks.now
         ≡ standard_checks }
 {
     let mut table = WatchTable::new(alloc);

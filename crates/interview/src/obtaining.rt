@@ -1,5 +1,6 @@
 // Has the dictionary of a run.
-ghost use Rattle.std.specs.Prelude.{◌≡◌, ◌≤◌, ℕ, List, map, IfErr, IfOk};
+ghost use Rattle.std.specs.Prelude.{◌≡◌, ◌≤◌, IfErr, IfOk};
+ghost use Rattle.text_checks.specs.Tables.{named_checks};
 ghost use Rattle.interview.specs.StepEnds.{NotObtained, ObtainedAs};
 ghost use Rattle.interview.specs.Words.{origin_of, program};
 ghost use Rattle.interview.specs.declared.built_in.BuiltIn.{BuiltIn};
@@ -20,11 +21,11 @@ pub fn obtain<H: Shelf>(
     checks: &CheckTable,
     shelf: &mut H,
 ) -> Result<Fetched, Status>
-    ensures obtained { IfOk result (ObtainedAs (H.told shelf.old) (origin_of origin.entry)
-        (map {B = List ℕ × ℕ} (λ c. (c.name, c.code)) checks.now.checks.items)) }
+    ensures obtained { IfOk result (ObtainedAs (H.contents shelf.old) (origin_of origin.entry)
+        (named_checks checks.now)) }
     ensures not_obtained { IfErr result (NotObtained (origin_of origin.entry)
         (H.faults shelf.old) (H.faults shelf.new) (H.failed_name shelf.new)) }
-    ensures kept { H.told shelf.new ≡ H.told shelf.old }
+    ensures kept { H.contents shelf.new ≡ H.contents shelf.old }
     ensures later { H.faults shelf.old ≤ H.faults shelf.new }
     ensures unfetched { (b : BuiltIn) → origin_of origin.entry ≡ program b → shelf.new ≡ shelf.old }
 {

@@ -1,6 +1,7 @@
 // Has the answers at the start of a run.
-ghost use Rattle.std.specs.Prelude.{◌≡◌, ◌≤◌, ◌<◌, ◌^◌, ℕ, List, map, length, IfErr, IfOk};
+ghost use Rattle.std.specs.Prelude.{◌≡◌, ◌≤◌, ◌<◌, ◌^◌, ℕ, List, length, IfErr, IfOk};
 ghost use Rattle.fg_io.specs.Writing.{Wrote};
+ghost use Rattle.text_checks.specs.Tables.{named_checks};
 ghost use Rattle.graph_session.specs.Refusals.{SameChecks};
 ghost use Rattle.graph_session.specs.Rules.{rules};
 ghost use Rattle.interview.specs.Beginnings.{saved_limit, to_carry, to_load};
@@ -91,7 +92,7 @@ fn carry_ready(
     bytes: Vec<u8>,
 ) -> Result<Resumed, Status>
     requires same_checks { SameChecks (rules dict.now)
-        (map {B = List ℕ × ℕ} (λ c. (c.name, c.code)) checks.now.checks.items) }
+        (named_checks checks.now) }
     requires short { length bytes.items ≤ saved_limit }
     ensures resumed { IfOk result (ResumesAs (rules dict.now) (to_carry bytes.items)) }
     ensures memory { IfErr result (λ status. status ≡ WantsMemory) }
@@ -107,7 +108,7 @@ fn carry_ready(
 
 // Fetches the saved text of this name; of one that is too long nothing is kept.
 fn fetch_text<H: Shelf>(name: &str, shelf: &mut H) -> Result<Option<Vec<u8>>, Status>
-    ensures fetched { IfOk result (FetchedText (H.told shelf.old name.now)) }
+    ensures fetched { IfOk result (FetchedText (H.contents shelf.old name.now)) }
     ensures not_fetched { IfErr result
         (NotFetched name.now (H.faults shelf.old) (H.faults shelf.new) (H.failed_name shelf.new)) }
 {
@@ -126,7 +127,7 @@ fn resume_loaded<H: Shelf>(
     dict: &Dictionary,
     shelf: &mut H,
 ) -> Result<Resumed, Status>
-    ensures resumed { IfOk result (ResumedAs (H.told shelf.old) (by_load name.now) (rules dict.now)) }
+    ensures resumed { IfOk result (ResumedAs (H.contents shelf.old) (by_load name.now) (rules dict.now)) }
     ensures not_resumed { IfErr result (NotResumed (by_load name.now)
         (H.faults shelf.old) (H.faults shelf.new) (H.failed_name shelf.new)) }
 {
@@ -146,8 +147,8 @@ fn resume_carried<H: Shelf>(
     shelf: &mut H,
 ) -> Result<Resumed, Status>
     requires { SameChecks (rules dict.now)
-        (map {B = List ℕ × ℕ} (λ c. (c.name, c.code)) checks.now.checks.items) }
-    ensures resumed { IfOk result (ResumedAs (H.told shelf.old) (by_carry name.now) (rules dict.now)) }
+        (named_checks checks.now) }
+    ensures resumed { IfOk result (ResumedAs (H.contents shelf.old) (by_carry name.now) (rules dict.now)) }
     ensures not_resumed { IfErr result (NotResumed (by_carry name.now)
         (H.faults shelf.old) (H.faults shelf.new) (H.failed_name shelf.new)) }
 {
@@ -168,9 +169,9 @@ pub fn resume<H: Shelf>(
     shelf: &mut H,
 ) -> Result<Resumed, Status>
     requires { SameChecks (rules dict.now)
-        (map {B = List ℕ × ℕ} (λ c. (c.name, c.code)) checks.now.checks.items) }
+        (named_checks checks.now) }
     ensures resumed { IfOk result
-        (ResumedAs (H.told shelf.old) (beginning_of beginning.entry) (rules dict.now)) }
+        (ResumedAs (H.contents shelf.old) (beginning_of beginning.entry) (rules dict.now)) }
     ensures not_resumed { IfErr result (NotResumed (beginning_of beginning.entry)
         (H.faults shelf.old) (H.faults shelf.new) (H.failed_name shelf.new)) }
     ensures unfetched { beginning_of beginning.entry ≡ unanswered → shelf.new ≡ shelf.old }

@@ -1,13 +1,15 @@
 // Runs a script without its replies, and saves the answers that stand at its end.
-ghost use Rattle.std.specs.Prelude.{◌≡◌, ◌<◌, ℕ, List, map};
+ghost use Rattle.std.specs.Prelude.{◌≡◌, ◌<◌, ℕ, List};
+ghost use Rattle.text_checks.specs.Tables.{named_checks};
 ghost use Rattle.dictionary.specs.Accepted.{accepted};
 ghost use Rattle.graph_session.specs.Refusals.{SameChecks};
 ghost use Rattle.graph_session.specs.Rules.{rules};
+ghost use Rattle.fact_watch.specs.Tables.{named_relations};
 ghost use Rattle.save_file.specs.SavedText.{saved};
 ghost use Rattle.interview.specs.Given.{did_by};
 ghost use Rattle.interview.specs.Meanings.{of_session};
 ghost use Rattle.interview.specs.Save.{ScriptSaves, save_meaning};
-ghost use Rattle.session_lines.specs.Answering.{standing_of};
+ghost use Rattle.session_lines.specs.Answering.{line_state_of};
 ghost use Rattle.session_lines.specs.Stepping.{open_at};
 ghost use Rattle.interview.specs.SaveEnds.{SaveEnds};
 ghost use Rattle.interview.specs.ScriptEnds.{script_did};
@@ -17,12 +19,12 @@ ghost use Rattle.interview.specs.declared.built_in.BuiltIn.{BuiltIn};
 ghost use Rattle.interview.specs.declared.status.Status.TheVariants.{Done};
 
 use crate::Status;
-use crate::alone::Alone;
 use crate::ending::end_by_fault;
 use crate::fetching::Fetched;
 use crate::obtaining::obtain;
 use crate::script::run;
 use crate::silent::Silent;
+use crate::watched_session::WatchedSession;
 use crate::words::Origin;
 use dictionary::{Dictionary, FactEngine};
 use fact_values::NoMemory;
@@ -50,27 +52,27 @@ fn save_answers<E: FactEngine, K: Sink>(session: &Session<E>, out: &mut K) -> St
 }
 
 // Runs the script over a session at its start without its replies, and writes the answers that stand at its end.
-fn save_alone<E: FactEngine, L: Ledger, S: Source, K: Sink>(
+fn save_session<E: FactEngine, L: Ledger, S: Source, K: Sink>(
     alloc: Global,
-    alone: &mut Alone<E>,
+    watched: &mut WatchedSession<E>,
     checks: &CheckTable,
     table: &WatchTable,
     script: &mut S,
     out: &mut K,
     steps: &mut Steps<L>,
 ) -> Status
-    requires same_checks { SameChecks (rules alone.old.session.dict)
-        (map {B = List ℕ × ℕ} (λ c. (c.name, c.code)) checks.now.checks.items) }
-    requires unchanged { alone.old.session.changes ≡ 0 }
-    ensures saves { ScriptSaves (rules alone.old.session.dict)
-        (of_session (rules alone.old.session.dict) (open_at (standing_of alone.old.session (map {B = List ℕ × ℕ} (λ r. (r.name, r.code)) table.now.relations.items) alone.old.watches)))
+    requires same_checks { SameChecks (rules watched.old.session.dict)
+        (named_checks checks.now) }
+    requires unchanged { watched.old.session.changes ≡ 0 }
+    ensures saves { ScriptSaves (rules watched.old.session.dict)
+        (of_session (rules watched.old.session.dict) (open_at (line_state_of watched.old.session (named_relations table.now) watched.old.watches)))
         (script_did (S.left script.old) (S.left script.new) (K.taken out.old) (K.taken out.new)
         (S.faults script.old) (S.faults script.new) (K.faults out.old) (K.faults out.new))
         result }
 {
     let mut silent = Silent;
-    match run(alloc, alone, table, checks, script, &mut silent, steps) {
-        Status::Done => save_answers(&alone.session, out),
+    match run(alloc, watched, table, checks, script, &mut silent, steps) {
+        Status::Done => save_answers(&watched.session, out),
         Status::DictionaryRefused => Status::DictionaryRefused,
         Status::Usage => Status::Usage,
         Status::FetchFault => Status::FetchFault,
@@ -96,18 +98,18 @@ fn save_over<L: Ledger, S: Source, K: Sink>(
     requires parts { blank.parts ≡ L.parts }
     requires some { 0 < blank.parts }
     requires same_checks { SameChecks (rules dictionary)
-        (map {B = List ℕ × ℕ} (λ c. (c.name, c.code)) checks.now.checks.items) }
+        (named_checks checks.now) }
     ensures saves { ScriptSaves (rules dictionary)
-        (save_meaning (rules dictionary) (map {B = List ℕ × ℕ} (λ r. (r.name, r.code)) table.now.relations.items))
+        (save_meaning (rules dictionary) (named_relations table.now))
         (script_did (S.left script.old) (S.left script.new) (K.taken out.old) (K.taken out.new)
         (S.faults script.old) (S.faults script.new) (K.faults out.old) (K.faults out.new))
         result }
 {
     let mut steps = Steps::<L>::new(blank);
-    match Alone::<Recalc>::new(alloc, dictionary) {
-        Ok(mut alone) => {
-            let status = save_alone(alloc, &mut alone, checks, table, script, out, &mut steps);
-            drop(alone);
+    match WatchedSession::<Recalc>::new(alloc, dictionary) {
+        Ok(mut watched) => {
+            let status = save_session(alloc, &mut watched, checks, table, script, out, &mut steps);
+            drop(watched);
             status
         }
         Err(NoMemory) => Status::NoMemory,
@@ -127,9 +129,9 @@ pub fn run_and_save<H: Shelf, S: Source, K: Sink>(
     ensures ends { (words : List (List ℕ)) → IsSave words (origin_of origin.entry) → SaveEnds
         (record {
           words = words;
-          checks = map {B = List ℕ × ℕ} (λ c. (c.name, c.code)) checks.now.checks.items;
-          relations = map {B = List ℕ × ℕ} (λ r. (r.name, r.code)) table.now.relations.items;
-          told = H.told shelf.old;
+          checks = named_checks checks.now;
+          relations = named_relations table.now;
+          contents = H.contents shelf.old;
           left = S.left script.old;
         })
         (did_by (H.faults shelf.old) (H.faults shelf.new) (H.failed_name shelf.new)

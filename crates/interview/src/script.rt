@@ -1,15 +1,17 @@
 // Runs a script, while it is read.
-ghost use Rattle.std.specs.Prelude.{◌≡◌, ◌≤◌, ◌<◌, ◌+◌, ◌^◌, ℕ, List, map};
+ghost use Rattle.std.specs.Prelude.{◌≡◌, ◌≤◌, ◌<◌, ◌+◌, ◌^◌};
 ghost use Rattle.script_lines.specs.Lines.{script_lines};
+ghost use Rattle.text_checks.specs.Tables.{named_checks};
 ghost use Rattle.graph_session.specs.Refusals.{SameChecks};
+ghost use Rattle.fact_watch.specs.Tables.{named_relations};
 ghost use Rattle.interview.specs.Meanings.{IsBeginning, Meaning};
 ghost use Rattle.interview.specs.Save.{LeavesAnswers};
 ghost use Rattle.interview.specs.ScriptEnds.{ScriptEnds, ending_of, script_did};
 ghost use Rattle.interview.specs.StepsOfScript.{StepsWithin};
-ghost use Rattle.interview.specs.Telling.{LineToldAs};
+ghost use Rattle.interview.specs.Telling.{LineOutputAs};
 
 use crate::Status;
-use crate::talk::Talk;
+use crate::line_handler::LineHandler;
 use fact_watch::WatchTable;
 use fg_io::{Failed, Sink, Source};
 use script_lines::Lines;
@@ -25,27 +27,27 @@ const LIMIT: usize = 67_108_864;
 const BUFFER: usize = 4_096;
 
 // Answers the last line.
-fn finish<T: Talk, L: Ledger, K: Sink>(
+fn finish<T: LineHandler, L: Ledger, K: Sink>(
     alloc: Global,
-    talk: &mut T,
+    handler: &mut T,
     table: &WatchTable,
     checks: &CheckTable,
     lines: &mut Lines,
     out: &mut K,
     steps: &mut Steps<L>,
 ) -> Progress
-    requires same_checks { SameChecks (T.goes_by talk.old)
-        (map {B = List ℕ × ℕ} (λ c. (c.name, c.code)) checks.now.checks.items) }
-    requires few { T.changes talk.old < 2 ^ 63 }
-    ensures told { (m : Meaning) → T.means talk.old (map {B = List ℕ × ℕ} (λ r. (r.name, r.code)) table.now.relations.items) m
-        → LineToldAs (K.taken out.old) (K.taken out.new) (K.faults out.old) (K.faults out.new) m (T.stands talk.new) (script_lines lines.old.so_far) result }
-    ensures same_rules { T.goes_by talk.new ≡ T.goes_by talk.old }
+    requires same_checks { SameChecks (T.goes_by handler.old)
+        (named_checks checks.now) }
+    requires few { T.changes handler.old < 2 ^ 63 }
+    ensures output { (m : Meaning) → T.means handler.old (named_relations table.now) m
+        → LineOutputAs (K.taken out.old) (K.taken out.new) (K.faults out.old) (K.faults out.new) m (T.stands handler.new) (script_lines lines.old.so_far) result }
+    ensures same_rules { T.goes_by handler.new ≡ T.goes_by handler.old }
     ensures later { K.faults out.old ≤ K.faults out.new }
-    ensures steps { (m : Meaning) → T.means talk.old (map {B = List ℕ × ℕ} (λ r. (r.name, r.code)) table.now.relations.items) m
+    ensures steps { (m : Meaning) → T.means handler.old (named_relations table.now) m
         → steps.new ≤ steps.old + m.steps T.most (script_lines lines.old.so_far) }
 {
     let ready = lines.finish();
-    talk.answer_ready(alloc, table, checks, ready, lines.line(), out, steps)
+    handler.answer_ready(alloc, table, checks, ready, lines.line(), out, steps)
 }
 
 fn status_at_end(progress: Progress) -> Status
@@ -61,26 +63,26 @@ fn status_at_end(progress: Progress) -> Status
 
 /// Runs a script, of which nothing was answered yet. It is read in pieces, and each line is answered before the next piece. Its
 /// steps are those of the changes that are accepted, each at most the engine's bound.
-pub fn run<T: Talk, L: Ledger, S: Source, K: Sink>(
+pub fn run<T: LineHandler, L: Ledger, S: Source, K: Sink>(
     alloc: Global,
-    talk: &mut T,
+    handler: &mut T,
     table: &WatchTable,
     checks: &CheckTable,
     script: &mut S,
     out: &mut K,
     steps: &mut Steps<L>,
 ) -> Status
-    requires same_checks { SameChecks (T.goes_by talk.old)
-        (map {B = List ℕ × ℕ} (λ c. (c.name, c.code)) checks.now.checks.items) }
-    requires unchanged { T.changes talk.old ≡ 0 }
-    requires meant { (m : Meaning) × IsBeginning m × T.means talk.old (map {B = List ℕ × ℕ} (λ r. (r.name, r.code)) table.now.relations.items) m }
-    ensures ends { (m : Meaning) → IsBeginning m → T.means talk.old (map {B = List ℕ × ℕ} (λ r. (r.name, r.code)) table.now.relations.items) m
+    requires same_checks { SameChecks (T.goes_by handler.old)
+        (named_checks checks.now) }
+    requires unchanged { T.changes handler.old ≡ 0 }
+    requires meant { (m : Meaning) × IsBeginning m × T.means handler.old (named_relations table.now) m }
+    ensures ends { (m : Meaning) → IsBeginning m → T.means handler.old (named_relations table.now) m
         → ScriptEnds m (script_did (S.left script.old) (S.left script.new) (K.taken out.old) (K.taken out.new)
         (S.faults script.old) (S.faults script.new) (K.faults out.old) (K.faults out.new)) result }
-    ensures leaves { (m : Meaning) → IsBeginning m → T.means talk.old (map {B = List ℕ × ℕ} (λ r. (r.name, r.code)) table.now.relations.items) m
-        → LeavesAnswers m (S.left script.old) (T.stands talk.new) result }
-    ensures same_rules { T.goes_by talk.new ≡ T.goes_by talk.old }
-    ensures steps { (m : Meaning) → IsBeginning m → T.means talk.old (map {B = List ℕ × ℕ} (λ r. (r.name, r.code)) table.now.relations.items) m
+    ensures leaves { (m : Meaning) → IsBeginning m → T.means handler.old (named_relations table.now) m
+        → LeavesAnswers m (S.left script.old) (T.stands handler.new) result }
+    ensures same_rules { T.goes_by handler.new ≡ T.goes_by handler.old }
+    ensures steps { (m : Meaning) → IsBeginning m → T.means handler.old (named_relations table.now) m
         → StepsWithin T.most m
         (record { before = S.left script.old; after = S.left script.new })
         (record { before = steps.old; after = steps.new }) }
@@ -92,10 +94,10 @@ pub fn run<T: Talk, L: Ledger, S: Source, K: Sink>(
         let room = BUFFER.min(LIMIT - taken);
         match script.pull(&mut buf[..room]) {
             Ok(0) => {
-                return status_at_end(finish(alloc, talk, table, checks, &mut lines, out, steps));
+                return status_at_end(finish(alloc, handler, table, checks, &mut lines, out, steps));
             }
             Ok(count) => {
-                match talk.answer_piece(
+                match handler.answer_piece(
                     alloc,
                     table,
                     checks,
@@ -114,7 +116,7 @@ pub fn run<T: Talk, L: Ledger, S: Source, K: Sink>(
         }
     }
     match script.pull(&mut buf[..1]) {
-        Ok(0) => status_at_end(finish(alloc, talk, table, checks, &mut lines, out, steps)),
+        Ok(0) => status_at_end(finish(alloc, handler, table, checks, &mut lines, out, steps)),
         Ok(_) => Status::ScriptTooLong,
         Err(Failed) => Status::ReadFault,
     }

@@ -1,3 +1,4 @@
+// How an interview ends.
 ghost use Rattle.std.specs.Prelude.{◌≡◌};
 ghost use Rattle.interview.specs.Codes.{code_of, name_of};
 

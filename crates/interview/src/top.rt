@@ -1,10 +1,12 @@
 // The top call: all that the program does, over the words of its command line and what it sees of the outside.
-ghost use Rattle.std.specs.Prelude.{◌≡◌, ◌<◌, ℕ, List, map};
+ghost use Rattle.std.specs.Prelude.{◌≡◌, ◌<◌, ℕ, List};
 ghost use Rattle.answers.specs.Meaning.{answered};
+ghost use Rattle.text_checks.specs.Tables.{named_checks};
 ghost use Rattle.dictionary.specs.Accepted.{accepted};
 ghost use Rattle.dictionary.specs.Fits.{AnswersFit};
 ghost use Rattle.graph_session.specs.Refusals.{SameChecks};
 ghost use Rattle.graph_session.specs.Rules.{rules};
+ghost use Rattle.fact_watch.specs.Tables.{named_relations};
 ghost use Rattle.interview.specs.ScriptEnds.{script_did};
 ghost use Rattle.interview.specs.StepEnds.{Gives, RunEnds, StartEnds, run_did};
 ghost use Rattle.interview.specs.Ends.{EndsByWord, Interviewed};
@@ -16,16 +18,16 @@ ghost use Rattle.interview.specs.Words.{IsGen, IsRun, IsSave, beginning_of, prog
 ghost use Rattle.interview.specs.declared.built_in.BuiltIn.{BuiltIn};
 
 use crate::Status;
-use crate::alone::Alone;
 use crate::checking::check;
 use crate::ending::{end_by, end_by_fault, end_by_refused_line};
 use crate::fetching::Fetched;
+use crate::line_handler::LineHandler;
 use crate::load_run::run_load;
 use crate::obtaining::obtain;
 use crate::resuming::{Dropped, Ready, Resumed, put_front, resume};
 use crate::save_run::run_and_save;
 use crate::script::run;
-use crate::talk::Talk;
+use crate::watched_session::WatchedSession;
 use crate::words::{Beginning, Form, Mode, form_of};
 use dictionary::{Dictionary, FactEngine};
 use fact_values::NoMemory;
@@ -41,9 +43,9 @@ use steps::Steps;
 use text_checks::CheckTable;
 
 // Writes what stands before the replies, and runs the script. Its steps are counted for nobody else.
-fn run_behind<T: Talk, L: Ledger, S: Source, K: Sink>(
+fn run_behind<T: LineHandler, L: Ledger, S: Source, K: Sink>(
     alloc: Global,
-    talk: &mut T,
+    handler: &mut T,
     dropped: &Dropped,
     checks: &CheckTable,
     table: &WatchTable,
@@ -54,26 +56,26 @@ fn run_behind<T: Talk, L: Ledger, S: Source, K: Sink>(
     requires name { blank.name ≡ L.name }
     requires parts { blank.parts ≡ L.parts }
     requires some { 0 < blank.parts }
-    requires same_checks { SameChecks (T.goes_by talk.old)
-        (map {B = List ℕ × ℕ} (λ c. (c.name, c.code)) checks.now.checks.items) }
-    requires unchanged { T.changes talk.old ≡ 0 }
-    requires meant { (m : Meaning) × IsBeginning m × T.means talk.old (map {B = List ℕ × ℕ} (λ r. (r.name, r.code)) table.now.relations.items) m }
+    requires same_checks { SameChecks (T.goes_by handler.old)
+        (named_checks checks.now) }
+    requires unchanged { T.changes handler.old ≡ 0 }
+    requires meant { (m : Meaning) × IsBeginning m × T.means handler.old (named_relations table.now) m }
     requires given { (front : List ℕ) × Gives dropped.now front }
     ensures { (front : List ℕ) → Gives dropped.now front → (m : Meaning) → IsBeginning m
-        → T.means talk.old (map {B = List ℕ × ℕ} (λ r. (r.name, r.code)) table.now.relations.items) m → StartEnds m front
+        → T.means handler.old (named_relations table.now) m → StartEnds m front
         (script_did (S.left script.old) (S.left script.new) (K.taken out.old) (K.taken out.new)
         (S.faults script.old) (S.faults script.new) (K.faults out.old) (K.faults out.new))
         result }
 {
     let mut steps = Steps::<L>::new(blank);
     match put_front(dropped, out) {
-        Ok(()) => run(alloc, talk, table, checks, script, out, &mut steps),
+        Ok(()) => run(alloc, handler, table, checks, script, out, &mut steps),
         Err(Failed) => Status::WriteFault,
     }
 }
 
 // Runs the script by a session over this engine. The session stands before anything is written.
-fn run_alone<E: FactEngine, S: Source, K: Sink>(
+fn run_session<E: FactEngine, S: Source, K: Sink>(
     alloc: Global,
     dictionary: Dictionary,
     ready: Ready,
@@ -83,20 +85,20 @@ fn run_alone<E: FactEngine, S: Source, K: Sink>(
     out: &mut K,
 ) -> Status
     requires same_checks { SameChecks (rules dictionary)
-        (map {B = List ℕ × ℕ} (λ c. (c.name, c.code)) checks.now.checks.items) }
+        (named_checks checks.now) }
     requires fit { AnswersFit (accepted dictionary).tree (answered ready.answers) }
     requires given { (front : List ℕ) × Gives ready.dropped front }
     ensures { (front : List ℕ) → Gives ready.dropped front → StartEnds
-        (of_session (rules dictionary) (at_start (rules dictionary) (record { answers = answered ready.answers; stamps = E.STAMPS; relations = (map {B = List ℕ × ℕ} (λ r. (r.name, r.code)) table.now.relations.items) }))) front
+        (of_session (rules dictionary) (at_start (rules dictionary) (record { answers = answered ready.answers; stamps = E.STAMPS; relations = (named_relations table.now) }))) front
         (script_did (S.left script.old) (S.left script.new) (K.taken out.old) (K.taken out.new)
         (S.faults script.old) (S.faults script.new) (K.faults out.old) (K.faults out.new))
         result }
 {
-    match Alone::<E>::resume(alloc, dictionary, ready.answers) {
-        Ok(mut alone) => {
-            let status = run_behind::<Alone<E>, Brand, S, K>(
+    match WatchedSession::<E>::resume(alloc, dictionary, ready.answers) {
+        Ok(mut watched) => {
+            let status = run_behind::<WatchedSession<E>, Brand, S, K>(
                 alloc,
-                &mut alone,
+                &mut watched,
                 &ready.dropped,
                 checks,
                 table,
@@ -104,7 +106,7 @@ fn run_alone<E: FactEngine, S: Source, K: Sink>(
                 out,
                 Blank::new(1),
             );
-            drop(alone);
+            drop(watched);
             status
         }
         Err(NoMemory) => Status::NoMemory,
@@ -122,7 +124,7 @@ fn run_at_desk<S: Source, K: Sink>(
     out: &mut K,
 ) -> Status
     requires same_checks { SameChecks (rules dictionary)
-        (map {B = List ℕ × ℕ} (λ c. (c.name, c.code)) checks.now.checks.items) }
+        (named_checks checks.now) }
     requires fit { AnswersFit (accepted dictionary).tree (answered ready.answers) }
     requires given { (front : List ℕ) × Gives ready.dropped front }
     ensures { (front : List ℕ) → Gives ready.dropped front → StartEnds
@@ -162,21 +164,21 @@ fn run_by<S: Source, K: Sink>(
     out: &mut K,
 ) -> Status
     requires same_checks { SameChecks (rules dictionary)
-        (map {B = List ℕ × ℕ} (λ c. (c.name, c.code)) checks.now.checks.items) }
+        (named_checks checks.now) }
     requires fit { AnswersFit (accepted dictionary).tree (answered ready.answers) }
     requires given { (front : List ℕ) × Gives ready.dropped front }
     ensures { (front : List ℕ) → Gives ready.dropped front → StartEnds
-        (meaning_of (rules dictionary) mode (map {B = List ℕ × ℕ} (λ r. (r.name, r.code)) table.now.relations.items) (answered ready.answers)) front
+        (meaning_of (rules dictionary) mode (named_relations table.now) (answered ready.answers)) front
         (script_did (S.left script.old) (S.left script.new) (K.taken out.old) (K.taken out.new)
         (S.faults script.old) (S.faults script.new) (K.faults out.old) (K.faults out.new))
         result }
 {
     match mode {
         Mode::Incremental => {
-            run_alone::<Recalc, S, K>(alloc, dictionary, ready, checks, table, script, out)
+            run_session::<Recalc, S, K>(alloc, dictionary, ready, checks, table, script, out)
         }
         Mode::Plain => {
-            run_alone::<PlainTable, S, K>(alloc, dictionary, ready, checks, table, script, out)
+            run_session::<PlainTable, S, K>(alloc, dictionary, ready, checks, table, script, out)
         }
         Mode::Desk => run_at_desk(alloc, dictionary, ready, checks, table, script, out),
     }
@@ -195,9 +197,9 @@ fn run_from<H: Shelf, S: Source, K: Sink>(
     out: &mut K,
 ) -> Status
     requires { SameChecks (rules dictionary)
-        (map {B = List ℕ × ℕ} (λ c. (c.name, c.code)) checks.now.checks.items) }
-    ensures ends { RunEnds (H.told shelf.old) (beginning_of beginning.entry) (rules dictionary) mode
-        (map {B = List ℕ × ℕ} (λ r. (r.name, r.code)) table.now.relations.items)
+        (named_checks checks.now) }
+    ensures ends { RunEnds (H.contents shelf.old) (beginning_of beginning.entry) (rules dictionary) mode
+        (named_relations table.now)
         (run_did (H.faults shelf.old) (H.faults shelf.new) (H.failed_name shelf.new)
         (script_did (S.left script.old) (S.left script.new) (K.taken out.old) (K.taken out.new)
         (S.faults script.old) (S.faults script.new) (K.faults out.old) (K.faults out.new)))
@@ -229,9 +231,9 @@ fn attempt<H: Shelf, S: Source, K: Sink>(
     out: &mut K,
 ) -> Status
     ensures ends { EndsByWord
-        (given_by words.now (map {B = List ℕ × ℕ} (λ c. (c.name, c.code)) checks.now.checks.items)
-        (map {B = List ℕ × ℕ} (λ r. (r.name, r.code)) table.now.relations.items)
-        (H.told shelf.old) (S.left script.old))
+        (given_by words.now (named_checks checks.now)
+        (named_relations table.now)
+        (H.contents shelf.old) (S.left script.old))
         (did_by (H.faults shelf.old) (H.faults shelf.new) (H.failed_name shelf.new)
         (script_did (S.left script.old) (S.left script.new) (K.taken out.old) (K.taken out.new)
         (S.faults script.old) (S.faults script.new) (K.faults out.old) (K.faults out.new)))
@@ -270,9 +272,9 @@ pub fn interview<H: Shelf, S: Source, K: Sink>(
     out: &mut K,
 ) -> Status
     ensures ends { Interviewed
-        (given_by words.now (map {B = List ℕ × ℕ} (λ c. (c.name, c.code)) checks.now.checks.items)
-        (map {B = List ℕ × ℕ} (λ r. (r.name, r.code)) table.now.relations.items)
-        (H.told shelf.old) (S.left script.old))
+        (given_by words.now (named_checks checks.now)
+        (named_relations table.now)
+        (H.contents shelf.old) (S.left script.old))
         (did_by (H.faults shelf.old) (H.faults shelf.new) (H.failed_name shelf.new)
         (script_did (S.left script.old) (S.left script.new) (K.taken out.old) (K.taken out.new)
         (S.faults script.old) (S.faults script.new) (K.faults out.old) (K.faults out.new)))

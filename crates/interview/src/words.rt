@@ -1,3 +1,4 @@
+// The words of the command line, and what each form of them asks for.
 ghost use Rattle.std.specs.Prelude.{◌≡◌, [], ◌∷◌, codes};
 ghost use Rattle.interview.specs.Words.{IsForm, texts};
 

@@ -44,12 +44,12 @@ each M h (x ∷ xs) = (h x, each M h xs)
 module _ (d : Tree) (fact : ℕ) (has_types : HaveFactTypes d) where
   stands_for : (t : Source) (u : FactType) → has_use (is_misplaced d fact) d fact None t ≡ false → HasOptionType (placed_types d fact) u (Some t) → StandsFor d fact t (node_tree d fact t)
   stands_for t u h k = record {
-    result = λ look own inner. (same d fact look t 0 (node_place own inner) u k).0;
-    weight = λ look own inner. (same d fact look t 0 (node_place own inner) u k).1;
-    typed = λ dom look at cells. record {
+    result = λ results own inner. (same d fact results t 0 (node_place own inner) u k).0;
+    weight = λ results own inner. (same d fact results t 0 (node_place own inner) u k).1;
+    typed = λ dom results at cells. record {
       type_of = u;
       node = node_type d fact has_types t 0 None u h k 0;
-      cells = each (λ s. IsTypedCell dom (type_at d) look s) cells (slots_of look at (node_tree d fact t));
+      cells = each (λ s. IsTypedCell dom (type_at d) results s) cells (slots_of results at (node_tree d fact t));
     };
   }
 

@@ -11,36 +11,36 @@ use Rattle.three_state.specs.Results.{members_of, switch_of}
 use Rattle.evaluation.specs.Over.{over, over_all, over_cases, many_of, one_of, pick_of, weight, weight_of_all, weight_of_cases}
 use Rattle.evaluation.specs.Resolving.{resolved, resolved_all, resolved_cases}
 use Rattle.evaluation.proofs.ResolvingLaws.{everywhere}
-use Rattle.dictionary.specs.Reading.{Look, source_env, source_result}
+use Rattle.dictionary.specs.Dependencies.{Results, source_env, source_result}
 use Rattle.dictionary.proofs.PlacedReads.{placed_types}
-use Rattle.node_eval.specs.Reading.{entered, node_env}
-use Rattle.node_eval.specs.declared.place.Place.{Place as NodePlace}
+use Rattle.node_eval.specs.Dependencies.{entered, node_env}
+use Rattle.node_eval.specs.declared.eval_position.EvalPosition.{EvalPosition as NodePlace}
 use Rattle.node_compile.specs.Compiling.{names}
 use Rattle.node_compile.proofs.ReadLaws.{list_by_path, read_by_path, standing}
 use Rattle.node_compile.proofs.TargetLaws.{unsuited}
 use Rattle.dictionary.proofs.ReadTypes.{known_is}
 
-module _ (d : Tree) (fact : ℕ) (look : Look) where
+module _ (d : Tree) (fact : ℕ) (results : Results) where
   -- the result and the weight
   abbrev pub Same : Source → ℕ → NodePlace → Type 0
   Same t base at =
-      (over (node_env look) at (resolved (names d fact) base t) ≡ over (source_env d look fact) (standing base at) t)
-      × (weight (node_env look) at (resolved (names d fact) base t) ≡ weight (source_env d look fact) (standing base at) t)
+      (over (node_env results) at (resolved (names d fact) base t) ≡ over (source_env d results fact) (standing base at) t)
+      × (weight (node_env results) at (resolved (names d fact) base t) ≡ weight (source_env d results fact) (standing base at) t)
 
   abbrev AllSame : Sources → ℕ → NodePlace → Type 0
   AllSame ts base at =
-      (over_all (node_env look) at (resolved_all (names d fact) base ts) ≡ over_all (source_env d look fact) (standing base at) ts)
-      × (weight_of_all (node_env look) at (resolved_all (names d fact) base ts) ≡ weight_of_all (source_env d look fact) (standing base at) ts)
+      (over_all (node_env results) at (resolved_all (names d fact) base ts) ≡ over_all (source_env d results fact) (standing base at) ts)
+      × (weight_of_all (node_env results) at (resolved_all (names d fact) base ts) ≡ weight_of_all (source_env d results fact) (standing base at) ts)
 
   abbrev CasesSame : SourceCases → ℕ → NodePlace → Type 0
   CasesSame cs base at =
-      (over_cases (node_env look) at (resolved_cases (names d fact) base cs) ≡ over_cases (source_env d look fact) (standing base at) cs)
-      × (weight_of_cases (node_env look) at (resolved_cases (names d fact) base cs) ≡ weight_of_cases (source_env d look fact) (standing base at) cs)
+      (over_cases (node_env results) at (resolved_cases (names d fact) base cs) ≡ over_cases (source_env d results fact) (standing base at) cs)
+      × (weight_of_cases (node_env results) at (resolved_cases (names d fact) base cs) ≡ weight_of_cases (source_env d results fact) (standing base at) cs)
 
   mutual
     pub same : (t : Source) (base : ℕ) (at : NodePlace) (u : FactType) → HasType (placed_types d fact) base t u → Same t base at
     same (literal c) base at u h = (refl, refl)
-    same (read r) base at u h = (read_by_path d look base at fact r.0 r.1.path u (unsuited r.0 r.1.path (path_type d fact base r.0 r.1.path) u h), refl)
+    same (read r) base at u h = (read_by_path d results base at fact r.0 r.1.path u (unsuited r.0 r.1.path (path_type d fact base r.0 r.1.path) u h), refl)
     same (switch cs) base at u h = let p = cases_same cs base at u h.1 in (ap switch_of p.0, ap suc p.1)
     same (many op ts) base at u h = let p = all_same ts base at h.0 h.1 in (ap (many_of op) p.0, ap suc p.1)
     same (one op t) base at u h = let p = same t base at h.0 h.1 in (ap (one_of op) p.0, ap suc p.1)
@@ -51,12 +51,12 @@ module _ (d : Tree) (fact : ℕ) (look : Look) where
     same (pick op p t) base at u h =
         let inner = condition_base d fact base p.path in
         let under = subst (λ (c : ℕ). HasType (placed_types d fact) c t types.Boolean) (sym (known_is inner h.0 h.1)) h.2 in
-        let list = list_by_path d look base at fact p.path h.0 h.1 in
+        let list = list_by_path d results base at fact p.path h.0 h.1 in
         let node = resolved (names d fact) inner t in (
-          ap (λ s. pick_of op s (λ m. over (node_env look) (entered at m) node)) list
-              ∙ ap (pick_of op (source_result d look fact (standing base at) p.path)) (everywhere (λ m. (same t inner (entered at m) types.Boolean under).0)),
-          ap (λ s. suc (sum_by (λ m. weight (node_env look) (entered at m) node) (members_of s))) list
-              ∙ ap (λ f. suc (sum_by f (members_of (source_result d look fact (standing base at) p.path)))) (everywhere (λ m. (same t inner (entered at m) types.Boolean under).1)),
+          ap (λ s. pick_of op s (λ m. over (node_env results) (entered at m) node)) list
+              ∙ ap (pick_of op (source_result d results fact (standing base at) p.path)) (everywhere (λ m. (same t inner (entered at m) types.Boolean under).0)),
+          ap (λ s. suc (sum_by (λ m. weight (node_env results) (entered at m) node) (members_of s))) list
+              ∙ ap (λ f. suc (sum_by f (members_of (source_result d results fact (standing base at) p.path)))) (everywhere (λ m. (same t inner (entered at m) types.Boolean under).1)),
         )
 
     all_same : (ts : Sources) (base : ℕ) (at : NodePlace) (us : List FactType) → HaveTypes (placed_types d fact) base ts us → AllSame ts base at

@@ -28,7 +28,7 @@ use Rattle.dict_types.specs.Uses.{Condition, cases_have_use, condition_under, go
 use Rattle.dict_types.specs.WrongPlace.{is_displaced, is_in_place, is_misplaced}
 use Rattle.evaluation.specs.Resolving.{resolved, resolved_all, resolved_cases}
 use Rattle.common_lemmas.proofs.Bools.{or_neither}
-use Rattle.dictionary.specs.Reading.{constant_value}
+use Rattle.dictionary.specs.Dependencies.{constant_value}
 use Rattle.dictionary.proofs.PlacedReads.{placed_types}
 use Rattle.dictionary.proofs.ReadTypes.{item_target, known_is, list_target}
 use Rattle.node_eval.specs.NodeTypes.{FactTypes, behind, collection_base, constant_type, counted, dependency_type, item_base, node_types, read_type, source_base}

@@ -14,22 +14,22 @@ use Rattle.dict_types.specs.FactTyping.{known, last_target, path_type}
 use Rattle.three_state.specs.Results.{count_of}
 use Rattle.evaluation.specs.Reads.{collection_size, complete_test, sum_over}
 use Rattle.evaluation.proofs.ResolvingLaws.{everywhere}
-use Rattle.dictionary.specs.Reading as paths
-use Rattle.dictionary.specs.Reading.{Look, Place, field_type}
-use Rattle.node_eval.specs.Reading as nodes
+use Rattle.dictionary.specs.Dependencies as paths
+use Rattle.dictionary.specs.Dependencies.{Results, EvalPosition, field_type}
+use Rattle.node_eval.specs.Dependencies as nodes
 use Rattle.node_eval.specs.declared.node.Reader.{Reader}
-use Rattle.node_eval.specs.declared.place.Place.{Place as NodePlace}
+use Rattle.node_eval.specs.declared.eval_position.EvalPosition.{EvalPosition as NodePlace}
 use Rattle.node_compile.specs.Compiling.{read_of, reader, reader_of, reading, sum_read}
 use Rattle.node_compile.proofs.TargetLaws.{HasTargets, condition_lists, last_is_there, target_of_type}
 
 -- the place of an expression that stands under a condition over a base
-abbrev pub standing : ℕ → NodePlace → Place
+abbrev pub standing : ℕ → NodePlace → EvalPosition
 standing base at = record { base = base; own = at.own; inner = at.inner }
 
-module _ (d : Tree) (look : Look) (base : ℕ) (at : NodePlace) where
+module _ (d : Tree) (results : Results) (base : ℕ) (at : NodePlace) where
   -- ---- by a path with these targets
 
-  dependency_same : (path : UsePath) (t : Targets) → HasTargets path t → nodes.dependency look at (reader_of path t) ≡ paths.dependency look t (standing base at) path
+  dependency_same : (path : UsePath) (t : Targets) → HasTargets path t → nodes.dependency results at (reader_of path t) ≡ paths.dependency results t (standing base at) path
   dependency_same (Global n) t h = rw h.first refl
   dependency_same (Sibling n) t h = rw h.first refl
   dependency_same (Inner n) t h = rw h.first refl
@@ -37,7 +37,7 @@ module _ (d : Tree) (look : Look) (base : ℕ) (at : NodePlace) where
   dependency_same (Through n m) t h = rw (h.first, h.second) refl
   dependency_same (SiblingThrough n m) t h = rw (h.first, h.second) refl
 
-  collection_same : (path : UsePath) (t : Targets) (n : ℕ) → t.first ≡ Some n → nodes.collection look (reader_of path t) ≡ paths.collection look t
+  collection_same : (path : UsePath) (t : Targets) (n : ℕ) → t.first ≡ Some n → nodes.collection results (reader_of path t) ≡ paths.collection results t
   collection_same (Global n) t f e = rw e refl
   collection_same (Sibling n) t f e = rw e refl
   collection_same (Inner n) t f e = rw e refl
@@ -53,10 +53,10 @@ module _ (d : Tree) (look : Look) (base : ℕ) (at : NodePlace) where
   first_there (Through n m) t h = (h.item, h.first)
   first_there (SiblingThrough n m) t h = (h.item, h.first)
 
-  list_same : (path : UsePath) (t : Targets) → HasTargets path t → nodes.collection look (reader_of path t) ≡ paths.collection look t
+  list_same : (path : UsePath) (t : Targets) → HasTargets path t → nodes.collection results (reader_of path t) ≡ paths.collection results t
   list_same path t h = let f = first_there path t h in collection_same path t f.0 f.1
 
-  field_same : (path : UsePath) (t : Targets) → HasTargets path t → (m : ℕ) → nodes.field look (reader_of path t) m ≡ paths.result_at look t.second m
+  field_same : (path : UsePath) (t : Targets) → HasTargets path t → (m : ℕ) → nodes.field results (reader_of path t) m ≡ paths.result_at results t.second m
   field_same (Global n) t h m = rw h.second refl
   field_same (Sibling n) t h m = rw h.second refl
   field_same (Inner n) t h m = rw h.second refl
@@ -65,7 +65,7 @@ module _ (d : Tree) (look : Look) (base : ℕ) (at : NodePlace) where
   field_same (SiblingThrough n k) t h m = rw h.second refl
 
   -- a sum, by the type of its fields
-  sum_same : (kind : FactType) (r : Reader) → nodes.read_result look at (sum_read kind) r ≡ sum_over kind (nodes.collection look r) (nodes.field look r)
+  sum_same : (kind : FactType) (r : Reader) → nodes.read_result results at (sum_read kind) r ≡ sum_over kind (nodes.collection results r) (nodes.field results r)
   sum_same types.Dollar r = refl
   sum_same types.Boolean r = refl
   sum_same types.Int r = refl
@@ -76,24 +76,24 @@ module _ (d : Tree) (look : Look) (base : ℕ) (at : NodePlace) where
   sum_same (types.Collection c) r = refl
   sum_same (types.Item c) r = refl
 
-  read_same : (op : ReadOp) (path : UsePath) (t : Targets) → HasTargets path t → nodes.read_result look at (read_of d t op) (reader_of path t) ≡ paths.read_by op d look t (standing base at) path
+  read_same : (op : ReadOp) (path : UsePath) (t : Targets) → HasTargets path t → nodes.read_result results at (read_of d t op) (reader_of path t) ≡ paths.read_by op d results t (standing base at) path
   read_same Dependency path t h = dependency_same path t h
   read_same IsComplete path t h = ap complete_test (dependency_same path t h)
   read_same CollectionSize path t h = ap collection_size (list_same path t h)
   read_same CollectionSum path t h =
       let kind = field_type d t in
       sum_same kind (reader_of path t)
-      ∙ ap (λ s. sum_over kind s (nodes.field look (reader_of path t))) (list_same path t h)
-      ∙ ap (sum_over kind (paths.collection look t)) (everywhere (field_same path t h))
+      ∙ ap (λ s. sum_over kind s (nodes.field results (reader_of path t))) (list_same path t h)
+      ∙ ap (sum_over kind (paths.collection results t)) (everywhere (field_same path t h))
   read_same Count path t h =
-      ap (λ s. count_of s (nodes.field look (reader_of path t))) (list_same path t h)
-      ∙ ap (count_of (paths.collection look t)) (everywhere (field_same path t h))
+      ap (λ s. count_of s (nodes.field results (reader_of path t))) (list_same path t h)
+      ∙ ap (count_of (paths.collection results t)) (everywhere (field_same path t h))
 
   -- ---- in a fact
 
   -- what a leaf reads that has a type
   pub read_by_path : (fact : ℕ) (op : ReadOp) (path : Option UsePath) (u : FactType) → path_type d fact base op path ≡ Some u
-      → nodes.read_result look at (reading d fact base op path).0 (reading d fact base op path).1 ≡ paths.read_result d look fact (standing base at) op path
+      → nodes.read_result results at (reading d fact base op path).0 (reading d fact base op path).1 ≡ paths.read_result d results fact (standing base at) op path
   read_by_path fact op None u e = absurd cc
   read_by_path fact op (Some p) u e =
       let t = targets d fact base p in
@@ -102,7 +102,7 @@ module _ (d : Tree) (look : Look) (base : ℕ) (at : NodePlace) where
 
   -- the collection of a Filter or a Find, whose base is known
   pub list_by_path : (fact : ℕ) (path : Option UsePath) (c : ℕ) → known (condition_base d fact base path) ≡ Some c
-      → nodes.collection look (reader d fact base path) ≡ paths.source_result d look fact (standing base at) path
+      → nodes.collection results (reader d fact base path) ≡ paths.source_result d results fact (standing base at) path
   list_by_path fact None c e = absurd cc
   list_by_path fact (Some p) c e =
       let first = condition_lists d fact base p c e in

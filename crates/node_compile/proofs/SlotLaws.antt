@@ -16,9 +16,9 @@ use Rattle.dictionary.specs.Fits.{AnswersFit, domains}
 use Rattle.dictionary.specs.Plain.{at_fact, body, main_result, or_override, or_placeholder, plain}
 use Rattle.dictionary.specs.Weights.{expression_weight}
 use Rattle.dictionary.proofs.TypedResultLaws.{plain_typed}
-use Rattle.node_eval.specs.Looks.{Look}
+use Rattle.node_eval.specs.Results.{Results}
 use Rattle.node_eval.specs.View.{Compiled as NodeTree}
-use Rattle.node_eval.specs.declared.place.Place.{Place as NodePlace}
+use Rattle.node_eval.specs.declared.eval_position.EvalPosition.{EvalPosition as NodePlace}
 use Rattle.node_compile.specs.Compiled.{IsCompiled, IsNodeOf, main_of, placeholder_of}
 use Rattle.node_compile.specs.Laws.{MeetsTypes, NodesGiveSlots, NodesMeetTypes, NodesWeighSlots, main_node_result, node_weight, or_placeholder_node}
 use Rattle.node_compile.specs.declared.compiled.Compiled.{Compiled}
@@ -33,25 +33,25 @@ placeholder_node d c is n f e = subst (λ (o : Option Fact). IsNodeOf d n (optio
 
 -- ---- results
 
-by_main : (d : Tree) (a : Answered) (look : Look) (s : Slot) (stated : Stated) (o : Option Source) (n : Option NodeTree) → IsNodeOf d s.fact o n → main_result d a look s stated o ≡ main_node_result a look s stated n
-by_main d a look s stated None None h = refl
-by_main d a look s stated None (Some node) h = absurd h
-by_main d a look s stated (Some t) None h = absurd h
-by_main d a look s stated (Some t) (Some node) h = ap (or_override (value_of Override a s)) (sym (h.result look s.member 0))
+by_main : (d : Tree) (a : Answered) (results : Results) (s : Slot) (stated : Stated) (o : Option Source) (n : Option NodeTree) → IsNodeOf d s.fact o n → main_result d a results s stated o ≡ main_node_result a results s stated n
+by_main d a results s stated None None h = refl
+by_main d a results s stated None (Some node) h = absurd h
+by_main d a results s stated (Some t) None h = absurd h
+by_main d a results s stated (Some t) (Some node) h = ap (or_override (value_of Override a s)) (sym (h.result results s.member 0))
 
-by_placeholder : (d : Tree) (look : Look) (s : Slot) (o : Option Source) (n : Option NodeTree) → IsNodeOf d s.fact o n → (r : Res) → or_placeholder d look s o r ≡ or_placeholder_node look s n r
-by_placeholder d look s None None h r = refl
-by_placeholder d look s None (Some node) h r = absurd h
-by_placeholder d look s (Some t) None h r = absurd h
-by_placeholder d look s (Some t) (Some node) h Incomplete = ap down (sym (h.result look s.member 0))
-by_placeholder d look s (Some t) (Some node) h (Complete v) = refl
-by_placeholder d look s (Some t) (Some node) h (Placeholder v) = refl
-by_placeholder d look s (Some t) (Some node) h (Fault fault) = refl
+by_placeholder : (d : Tree) (results : Results) (s : Slot) (o : Option Source) (n : Option NodeTree) → IsNodeOf d s.fact o n → (r : Res) → or_placeholder d results s o r ≡ or_placeholder_node results s n r
+by_placeholder d results s None None h r = refl
+by_placeholder d results s None (Some node) h r = absurd h
+by_placeholder d results s (Some t) None h r = absurd h
+by_placeholder d results s (Some t) (Some node) h Incomplete = ap down (sym (h.result results s.member 0))
+by_placeholder d results s (Some t) (Some node) h (Complete v) = refl
+by_placeholder d results s (Some t) (Some node) h (Placeholder v) = refl
+by_placeholder d results s (Some t) (Some node) h (Fault fault) = refl
 
 pub nodes_give_slots : NodesGiveSlots
-nodes_give_slots d c is a look s f e =
-    ap (or_placeholder d look s f.placeholder) (by_main d a look s f.stated (body f) (main_of c s.fact) (main_node d c is s.fact f e))
-    ∙ by_placeholder d look s f.placeholder (placeholder_of c s.fact) (placeholder_node d c is s.fact f e) (main_node_result a look s f.stated (main_of c s.fact))
+nodes_give_slots d c is a results s f e =
+    ap (or_placeholder d results s f.placeholder) (by_main d a results s f.stated (body f) (main_of c s.fact) (main_node d c is s.fact f e))
+    ∙ by_placeholder d results s f.placeholder (placeholder_of c s.fact) (placeholder_node d c is s.fact f e) (main_node_result a results s f.stated (main_of c s.fact))
 
 -- ---- weights
 

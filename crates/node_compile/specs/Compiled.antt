@@ -10,12 +10,12 @@ use Rattle.dict_types.specs.Typed.{numbered}
 use Rattle.evaluation.specs.Over.{over, weight}
 use Rattle.evaluation.specs.Typed.{Domains}
 use Rattle.dictionary.specs.Plain.{body}
-use Rattle.dictionary.specs.Reading.{Place, source_env}
-use Rattle.node_eval.specs.Looks.{Look}
+use Rattle.dictionary.specs.Dependencies.{EvalPosition, source_env}
+use Rattle.node_eval.specs.Results.{Results}
 use Rattle.node_eval.specs.NodeTypes.{FactTypes, IsTyped, IsTypedCell}
-use Rattle.node_eval.specs.Reading.{node_env}
+use Rattle.node_eval.specs.Dependencies.{node_env}
 use Rattle.node_eval.specs.View.{Compiled as NodeTree, view}
-use Rattle.node_eval.specs.declared.place.Place.{Place as NodePlace}
+use Rattle.node_eval.specs.declared.eval_position.EvalPosition.{EvalPosition as NodePlace}
 use Rattle.node_compile.specs.declared.compiled.Compiled.{Compiled}
 use Rattle.node_compile.specs.declared.fact.FactNodes.{FactNodes}
 
@@ -34,19 +34,19 @@ placeholder_of c fact = option_and_then (λ (f : FactNodes). option_map view f.p
 abbrev pub node_place : ℕ → ℕ → NodePlace
 node_place own inner = record { own = own; inner = inner }
 
-abbrev pub place : ℕ → ℕ → Place
+abbrev pub place : ℕ → ℕ → EvalPosition
 place own inner = record { base = 0; own = own; inner = inner }
 
 -- each cell has a value of its fact's type, or none
-abbrev pub HasTypedCells : Domains → FactTypes → Look → Type 0
-HasTypedCells dom facts look = (s : Slot) → IsTypedCell dom facts look s
+abbrev pub HasTypedCells : Domains → FactTypes → Results → Type 0
+HasTypedCells dom facts results = (s : Slot) → IsTypedCell dom facts results s
 
 -- The node gives the result of an expression of the fact over any cells, and weighs as much. Over cells of the right types
 -- it meets the condition of evaluation.
 pub record StandsFor (d : Tree) (fact : ℕ) (t : Source) (node : NodeTree) : Type 0 where
-  pub result : (look : Look) (own inner : ℕ) → over (node_env look) (node_place own inner) node ≡ over (source_env d look fact) (place own inner) t
-  pub weight : (look : Look) (own inner : ℕ) → weight (node_env look) (node_place own inner) node ≡ weight (source_env d look fact) (place own inner) t
-  pub typed : (dom : Domains) (look : Look) (at : NodePlace) → HasTypedCells dom (type_at d) look → IsTyped dom (type_at d) look at node
+  pub result : (results : Results) (own inner : ℕ) → over (node_env results) (node_place own inner) node ≡ over (source_env d results fact) (place own inner) t
+  pub weight : (results : Results) (own inner : ℕ) → weight (node_env results) (node_place own inner) node ≡ weight (source_env d results fact) (place own inner) t
+  pub typed : (dom : Domains) (results : Results) (at : NodePlace) → HasTypedCells dom (type_at d) results → IsTyped dom (type_at d) results at node
 
 -- there is a node exactly where there is an expression, for which it stands
 abbrev pub IsNodeOf : Tree → ℕ → Option Source → Option NodeTree → Type 0

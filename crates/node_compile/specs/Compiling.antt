@@ -15,7 +15,7 @@ use Rattle.dict_tree.specs.Targets.{targets}
 use Rattle.dict_tree.specs.Tree.{Literal, Reading, Source, Use}
 use Rattle.evaluation.specs.Resolving.{Names, resolved}
 use Rattle.dictionary.specs.Plain.{body}
-use Rattle.dictionary.specs.Reading.{constant_value, field_type}
+use Rattle.dictionary.specs.Dependencies.{constant_value, field_type}
 use Rattle.node_eval.specs.View.{Compiled as NodeTree, Reading as NodeReading}
 use Rattle.node_eval.specs.declared.node.NodeRead.{NodeRead}
 use Rattle.node_eval.specs.declared.node.NodeRead.TheVariants.{Dependency, IsComplete, CollectionSize, SumInt, SumDollar, Count}

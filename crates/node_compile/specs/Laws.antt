@@ -15,53 +15,53 @@ use Rattle.dictionary.specs.Accepted.{Accepted, IsAccepted}
 use Rattle.dictionary.specs.Fits.{AnswersFit, domains}
 use Rattle.dictionary.specs.Plain.{answer_result, given_value, or_override, plain, slot_result}
 use Rattle.dictionary.specs.Weights.{slot_weight}
-use Rattle.node_eval.specs.Looks.{Look}
+use Rattle.node_eval.specs.Results.{Results}
 use Rattle.node_eval.specs.NodeTypes.{IsTyped}
-use Rattle.node_eval.specs.Reading.{node_env}
+use Rattle.node_eval.specs.Dependencies.{node_env}
 use Rattle.node_eval.specs.View.{Compiled as NodeTree}
-use Rattle.node_eval.specs.declared.place.Place.{Place as NodePlace}
+use Rattle.node_eval.specs.declared.eval_position.EvalPosition.{EvalPosition as NodePlace}
 use Rattle.node_compile.specs.Compiled.{IsCompiled, main_of, node_place, placeholder_of}
 use Rattle.node_compile.specs.declared.compiled.Compiled.{Compiled}
 
 -- ---- the result of a slot
 
 -- of a node of the slot's fact
-abbrev pub node_result : Look → Slot → NodeTree → Res
-node_result look s node = over (node_env look) (node_place s.member 0) node
+abbrev pub node_result : Results → Slot → NodeTree → Res
+node_result results s node = over (node_env results) (node_place s.member 0) node
 
 -- what is given to a Writable slot; else the override, or the result of the main node
-abbrev pub main_node_result : Answered → Look → Slot → Stated → Option NodeTree → Res
-main_node_result a look s stated None = answer_result (given_value stated a s)
-main_node_result a look s stated (Some node) = or_override (value_of Override a s) (node_result look s node)
+abbrev pub main_node_result : Answered → Results → Slot → Stated → Option NodeTree → Res
+main_node_result a results s stated None = answer_result (given_value stated a s)
+main_node_result a results s stated (Some node) = or_override (value_of Override a s) (node_result results s node)
 
 -- an incomplete result gives way to that of the placeholder's node
-abbrev pub or_placeholder_node : Look → Slot → Option NodeTree → Res → Res
-or_placeholder_node look s None r = r
-or_placeholder_node look s (Some node) (Complete v) = Complete v
-or_placeholder_node look s (Some node) (Placeholder v) = Placeholder v
-or_placeholder_node look s (Some node) Incomplete = down (node_result look s node)
-or_placeholder_node look s (Some node) (Fault fault) = Fault fault
+abbrev pub or_placeholder_node : Results → Slot → Option NodeTree → Res → Res
+or_placeholder_node results s None r = r
+or_placeholder_node results s (Some node) (Complete v) = Complete v
+or_placeholder_node results s (Some node) (Placeholder v) = Placeholder v
+or_placeholder_node results s (Some node) Incomplete = down (node_result results s node)
+or_placeholder_node results s (Some node) (Fault fault) = Fault fault
 
 -- the main node's, or the override, the answer or the placeholder's
-abbrev pub result_by_nodes : Compiled → Answered → Look → Slot → Stated → Res
-result_by_nodes c a look s stated = or_placeholder_node look s (placeholder_of c s.fact) (main_node_result a look s stated (main_of c s.fact))
+abbrev pub result_by_nodes : Compiled → Answered → Results → Slot → Stated → Res
+result_by_nodes c a results s stated = or_placeholder_node results s (placeholder_of c s.fact) (main_node_result a results s stated (main_of c s.fact))
 
 -- ---- its weight
 
-abbrev pub node_weight : Look → Slot → Option NodeTree → ℕ
-node_weight look s None = 0
-node_weight look s (Some node) = weight (node_env look) (node_place s.member 0) node
+abbrev pub node_weight : Results → Slot → Option NodeTree → ℕ
+node_weight results s None = 0
+node_weight results s (Some node) = weight (node_env results) (node_place s.member 0) node
 
-abbrev pub weight_by_nodes : Compiled → Look → Slot → ℕ
-weight_by_nodes c look s = node_weight look s (main_of c s.fact) + node_weight look s (placeholder_of c s.fact)
+abbrev pub weight_by_nodes : Compiled → Results → Slot → ℕ
+weight_by_nodes c results s = node_weight results s (main_of c s.fact) + node_weight results s (placeholder_of c s.fact)
 
 -- ---- laws
 
 -- over any map, a slot's result is that of its fact's nodes
 abbrev pub NodesGiveSlots : Type 0
 NodesGiveSlots =
-    (d : Tree) (c : Compiled) → IsCompiled d c → (a : Answered) (look : Look) (s : Slot) (f : Fact) → fact_at d.facts s.fact ≡ Some f
-    → slot_result d a look s f ≡ result_by_nodes c a look s f.stated
+    (d : Tree) (c : Compiled) → IsCompiled d c → (a : Answered) (results : Results) (s : Slot) (f : Fact) → fact_at d.facts s.fact ≡ Some f
+    → slot_result d a results s f ≡ result_by_nodes c a results s f.stated
 
 -- with the results of plain evaluation the nodes weigh what the slot weighs
 abbrev pub NodesWeighSlots : Type 0

@@ -3,7 +3,7 @@ ghost use Rattle.std.specs.Prelude.{◌≡◌, IfOk};
 ghost use Rattle.dict_tree.specs.Dictionary.{dictionary_view};
 ghost use Rattle.dict_tree.specs.Tree.{literal, one, pick, two};
 ghost use Rattle.dict_tree.specs.View.{cases_view, literal_of, trees_view, view};
-ghost use Rattle.dictionary.specs.Reading.{constant_value};
+ghost use Rattle.dictionary.specs.Dependencies.{constant_value};
 ghost use Rattle.evaluation.specs.Resolving.{resolved, resolved_all, resolved_cases};
 ghost use Rattle.node_eval.specs.View.{case_view as node_case_view, cases_view as node_cases_view, trees_view as node_trees_view, view as node_view};
 ghost use Rattle.node_compile.specs.Compiling.{names};

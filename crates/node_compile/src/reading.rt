@@ -5,7 +5,7 @@ ghost use Rattle.dict_tree.specs.Mentions.{condition_base};
 ghost use Rattle.dict_tree.specs.Tree.{read};
 ghost use Rattle.dict_tree.specs.View.{literal_of};
 ghost use Rattle.dict_types.specs.StatedTypes.{type_at as type_of_fact};
-ghost use Rattle.dictionary.specs.Reading.{constant_value as value_of_constant};
+ghost use Rattle.dictionary.specs.Dependencies.{constant_value as value_of_constant};
 ghost use Rattle.node_eval.specs.View.{view};
 ghost use Rattle.node_compile.specs.Compiling.{number as number_of, read_of, reader as reader_in, reader_of, reading, sum_read};
 

@@ -9,8 +9,8 @@ use Rattle.three_state.specs.declared.res.Res.{Res}
 use Rattle.three_state.specs.declared.res.Res.TheVariants.{Complete, Placeholder, Incomplete, Fault}
 use Rattle.evaluation.specs.Over.{over}
 use Rattle.evaluation.specs.Visits.{visits}
-use Rattle.node_eval.specs.Looks.{Look}
-use Rattle.node_eval.specs.Reading.{node_env}
+use Rattle.node_eval.specs.Results.{Results}
+use Rattle.node_eval.specs.Dependencies.{node_env}
 use Rattle.node_eval.specs.View.{Compiled}
 use Rattle.node_eval.specs.declared.node.NodeRead.{NodeRead}
 use Rattle.node_eval.specs.declared.node.NodeRead.TheVariants.{Dependency, IsComplete, CollectionSize, SumInt, Count}
@@ -26,9 +26,9 @@ abbrev pub cell_of : List (ℕ × Res) → ℕ → Option Res
 cell_of [] m = None
 cell_of (c ∷ cs) m = if nat_eq c.0 m then Some c.1 else cell_of cs m
 
-abbrev pub look_in : List Column → Look
-look_in [] s = None
-look_in (c ∷ cs) s = if nat_eq c.fact s.fact then cell_of c.cells s.member else look_in cs s
+abbrev pub results_in : List Column → Results
+results_in [] s = None
+results_in (c ∷ cs) s = if nat_eq c.fact s.fact then cell_of c.cells s.member else results_in cs s
 
 abbrev int : ℕ → Res
 int n = Complete (Int (pos n))
@@ -53,7 +53,7 @@ columns =
 
 -- at member 11, and under a condition at member 12
 abbrev gives : List Compiled → List Res
-gives ts = map (over (node_env (look_in columns)) (record { own = 11; inner = 12 })) ts
+gives ts = map (over (node_env (results_in columns)) (record { own = 11; inner = 12 })) ts
 
 abbrev reads : NodeRead → List Reader → List Compiled
 reads op rs = map (λ r. read (op, r)) rs
@@ -98,7 +98,7 @@ readers_out_of_place = refl
 -- how many nodes are visited: of an All each operand, of a Switch those up to the case that decides, of a Filter the condition at
 -- each member, of a Find up to the member that decides
 abbrev visited : List Compiled → List ℕ
-visited ts = map (visits (node_env (look_in columns)) (record { own = 11; inner = 0 })) ts
+visited ts = map (visits (node_env (results_in columns)) (record { own = 11; inner = 0 })) ts
 
 visits_by_node : visited (
     many All (tree (read (Dependency, Global 3)) (tree (read (Dependency, Same 9)) no_trees))

@@ -14,40 +14,40 @@ use Rattle.evaluation.specs.Over.{over}
 use Rattle.evaluation.specs.Reads.{collection_size, complete_test, through_item}
 use Rattle.evaluation.specs.SlotsRead.{AnswerAlike, member_read}
 use Rattle.evaluation.proofs.ReadsLaws.{reads-decide}
-use Rattle.node_eval.specs.Looks.{Look, result_at, slot}
-use Rattle.node_eval.specs.Reading.{collection, dependency, field, first_of, node_env, read_result, second_of}
+use Rattle.node_eval.specs.Results.{Results, result_at, slot}
+use Rattle.node_eval.specs.Dependencies.{collection, dependency, field, first_of, node_env, read_result, second_of}
 use Rattle.node_eval.specs.SlotsOf.{collection_slots, dependency_slots, field_slots, node_reads, read_slots, slot_at, slots_of, through_slots}
 use Rattle.node_eval.specs.View.{Compiled}
 use Rattle.node_eval.specs.declared.node.NodeRead.{NodeRead}
 use Rattle.node_eval.specs.declared.node.NodeRead.TheVariants as node_read
 use Rattle.node_eval.specs.declared.node.Reader.{Reader}
 use Rattle.node_eval.specs.declared.node.Reader.TheVariants.{Global, Same, Inner, Each, Through, SameThrough}
-use Rattle.node_eval.specs.declared.place.Place.{Place}
+use Rattle.node_eval.specs.declared.eval_position.EvalPosition.{EvalPosition}
 
-module _ (test : Slot → Bool) (look look' : Look) (same : (s : Slot) → IsTrue (test s) → look s ≡ look' s) where
+module _ (test : Slot → Bool) (results results' : Results) (same : (s : Slot) → IsTrue (test s) → results s ≡ results' s) where
   abbrev Pass : List Slot → Type 0
   Pass ss = IsTrue (list_all test ss)
 
-  at-same : (o : Option ℕ) (m : ℕ) → Pass (slot_at o m) → result_at look o m ≡ result_at look' o m
+  at-same : (o : Option ℕ) (m : ℕ) → Pass (slot_at o m) → result_at results o m ≡ result_at results' o m
   at-same None m h = refl
   at-same (Some n) m h = ap (λ r. unwrap_or r Incomplete) (same (slot n m) (both (test (slot n m)) true h).0)
 
   -- ---- through an item
 
-  field-same : (item : Res) (m : ℕ) → Pass (flat_map (slot_at (Some m)) (member_read item)) → through_item item (result_at look (Some m)) ≡ through_item item (result_at look' (Some m))
+  field-same : (item : Res) (m : ℕ) → Pass (flat_map (slot_at (Some m)) (member_read item)) → through_item item (result_at results (Some m)) ≡ through_item item (result_at results' (Some m))
   field-same (Complete (Item k)) m h = at-same (Some m) k h
   field-same (Placeholder (Item k)) m h = ap down (at-same (Some m) k h)
   field-same _ m h = refl
 
-  through-same : (n m member : ℕ) → Pass (through_slots look n m member)
-      → through_item (result_at look (Some n) member) (result_at look (Some m)) ≡ through_item (result_at look' (Some n) member) (result_at look' (Some m))
+  through-same : (n m member : ℕ) → Pass (through_slots results n m member)
+      → through_item (result_at results (Some n) member) (result_at results (Some m)) ≡ through_item (result_at results' (Some n) member) (result_at results' (Some m))
   through-same n m member h =
-      let item = result_at look (Some n) member in
+      let item = result_at results (Some n) member in
       let rest = flat_map (slot_at (Some m)) (member_read item) in
       let parts = both (test (slot n member)) (list_all test rest) h in
-      field-same item m parts.1 ∙ ap (λ r. through_item r (result_at look' (Some m))) (ap (λ r. unwrap_or r Incomplete) (same (slot n member) parts.0))
+      field-same item m parts.1 ∙ ap (λ r. through_item r (result_at results' (Some m))) (ap (λ r. unwrap_or r Incomplete) (same (slot n member) parts.0))
 
-  dependency-same : (at : Place) (r : Reader) → Pass (dependency_slots look at r) → dependency look at r ≡ dependency look' at r
+  dependency-same : (at : EvalPosition) (r : Reader) → Pass (dependency_slots results at r) → dependency results at r ≡ dependency results' at r
   dependency-same at (Global n) h = at-same (Some n) 0 h
   dependency-same at (Same n) h = at-same (Some n) at.own h
   dependency-same at (Inner n) h = at-same (Some n) at.inner h
@@ -57,26 +57,26 @@ module _ (test : Slot → Bool) (look look' : Look) (same : (s : Slot) → IsTru
 
   -- ---- over the members of a collection
 
-  source-same : (r : Reader) → Pass (collection_slots r) → collection look r ≡ collection look' r
+  source-same : (r : Reader) → Pass (collection_slots r) → collection results r ≡ collection results' r
   source-same r h = at-same (Some (first_of r)) 0 h
 
-  fields-same : (o : Option ℕ) (ms : List ℕ) → Pass (flat_map (slot_at o) ms) → map (result_at look o) ms ≡ map (result_at look' o) ms
+  fields-same : (o : Option ℕ) (ms : List ℕ) → Pass (flat_map (slot_at o) ms) → map (result_at results o) ms ≡ map (result_at results' o) ms
   fields-same o [] h = refl
   fields-same o (m ∷ ms) h =
       let parts = both (list_all test (slot_at o m)) (list_all test (flat_map (slot_at o) ms)) (sym (list_all-append test (slot_at o m) (flat_map (slot_at o) ms)) ∙ h) in
-      ap (λ r. r ∷ map (result_at look o) ms) (at-same o m parts.0) ∙ ap (λ rs. result_at look' o m ∷ rs) (fields-same o ms parts.1)
+      ap (λ r. r ∷ map (result_at results o) ms) (at-same o m parts.0) ∙ ap (λ rs. result_at results' o m ∷ rs) (fields-same o ms parts.1)
 
   -- of a node that looks at the fields of the members alone
-  over-same : (node : Res → List Res → Res) (r : Reader) → Pass (field_slots look r)
-      → node (collection look r) (map (field look r) (members_of (collection look r))) ≡ node (collection look' r) (map (field look' r) (members_of (collection look' r)))
+  over-same : (node : Res → List Res → Res) (r : Reader) → Pass (field_slots results r)
+      → node (collection results r) (map (field results r) (members_of (collection results r))) ≡ node (collection results' r) (map (field results' r) (members_of (collection results' r)))
   over-same node r h =
-      let source = collection look r in
+      let source = collection results r in
       let fields = flat_map (slot_at (second_of r)) (members_of source) in
       let parts = both (test (slot (first_of r) 0)) (list_all test fields) h in
       let is = ap (λ o. unwrap_or o Incomplete) (same (slot (first_of r) 0) parts.0) in
-      ap (node source) (fields-same (second_of r) (members_of source) parts.1) ∙ ap (λ s. node s (map (field look' r) (members_of s))) is
+      ap (node source) (fields-same (second_of r) (members_of source) parts.1) ∙ ap (λ s. node s (map (field results' r) (members_of s))) is
 
-  read-same : (at : Place) (op : NodeRead) (r : Reader) → Pass (read_slots look at op r) → read_result look at op r ≡ read_result look' at op r
+  read-same : (at : EvalPosition) (op : NodeRead) (r : Reader) → Pass (read_slots results at op r) → read_result results at op r ≡ read_result results' at op r
   read-same at node_read.Dependency r h = dependency-same at r h
   read-same at node_read.IsComplete r h = ap complete_test (dependency-same at r h)
   read-same at node_read.CollectionSize r h = ap collection_size (source-same r h)
@@ -84,7 +84,7 @@ module _ (test : Slot → Bool) (look look' : Look) (same : (s : Slot) → IsTru
   read-same at node_read.SumDollar r h = over-same (λ s fields. strict (λ vs. sum_of_dollars (fields_in vs)) (s ∷ fields)) r h
   read-same at node_read.Count r h = over-same (λ s fields. strict (λ vs. Ok (Int (pos (count_by truth (fields_in vs))))) (s ∷ fields)) r h
 
-  alike : AnswerAlike (node_reads look) test (node_env look) (node_env look')
+  alike : AnswerAlike (node_reads results) test (node_env results) (node_env results')
   alike = record {
     constant = λ c. refl;
     enter = λ at r m. refl;
@@ -92,6 +92,6 @@ module _ (test : Slot → Bool) (look look' : Look) (same : (s : Slot) → IsTru
     source = λ at r h. source-same r h;
   }
 
-pub cells-decide : (test : Slot → Bool) (look look' : Look) → ((s : Slot) → IsTrue (test s) → look s ≡ look' s)
-    → (t : Compiled) (at : Place) → IsTrue (list_all test (slots_of look at t)) → over (node_env look) at t ≡ over (node_env look') at t
-cells-decide test look look' same t at h = reads-decide (node_reads look) test (node_env look) (node_env look') (alike test look look' same) t at h
+pub cells-decide : (test : Slot → Bool) (results results' : Results) → ((s : Slot) → IsTrue (test s) → results s ≡ results' s)
+    → (t : Compiled) (at : EvalPosition) → IsTrue (list_all test (slots_of results at t)) → over (node_env results) at t ≡ over (node_env results') at t
+cells-decide test results results' same t at h = reads-decide (node_reads results) test (node_env results) (node_env results') (alike test results results' same) t at h

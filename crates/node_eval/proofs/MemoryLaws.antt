@@ -22,17 +22,17 @@ use Rattle.evaluation.specs.SlotsRead.{after_condition, item_read, slots_read_of
 use Rattle.evaluation.specs.Typed.{Domains, IsOfType, IsResOfType}
 use Rattle.evaluation.proofs.Mentions.{all-left, all-right}
 use Rattle.evaluation.proofs.TypedLaws.{down-type, sum-typed}
-use Rattle.node_eval.specs.Looks.{Look, result_at, slot}
+use Rattle.node_eval.specs.Results.{Results, result_at, slot}
 use Rattle.node_eval.specs.Memory.{AfterCondition, Chosen, SomeOf, TakesInAll, TakesInCases, TakesMemory}
 use Rattle.node_eval.specs.NodeTypes.{FactTypes, IsTextOrList, GivesTextOrList, IsTyped, IsTypedCell, SomeGivesTextOrList, behind, constant_type, dependency_type, item_base, node_types, read_type}
-use Rattle.node_eval.specs.Reading.{collection, dependency, entered, field, node_env, read_result}
+use Rattle.node_eval.specs.Dependencies.{collection, dependency, entered, field, node_env, read_result}
 use Rattle.node_eval.specs.SlotsOf.{dependency_slots, node_reads, read_slots, slot_at, slots_of}
 use Rattle.node_eval.specs.View.{Compiled, Reading}
 use Rattle.node_eval.specs.declared.node.NodeRead.{NodeRead}
 use Rattle.node_eval.specs.declared.node.NodeRead.TheVariants as node_read
 use Rattle.node_eval.specs.declared.node.Reader.{Reader}
 use Rattle.node_eval.specs.declared.node.Reader.TheVariants.{Global, Same, Inner, Each, Through, SameThrough}
-use Rattle.node_eval.specs.declared.place.Place.{Place}
+use Rattle.node_eval.specs.declared.eval_position.EvalPosition.{EvalPosition}
 
 -- ---- lists
 
@@ -89,49 +89,49 @@ number-none (verdict.Fault fault) n h = h
 
 -- ---- what a node reads has its type
 
-module _ (d : Domains) (facts : FactTypes) (look : Look) where
+module _ (d : Domains) (facts : FactTypes) (results : Results) where
   abbrev Cell : Slot → Type 0
-  Cell = IsTypedCell d facts look
+  Cell = IsTypedCell d facts results
 
   found-typed : (o : Option Res) (t : FactType) → ((r : Res) → o ≡ Some r → IsResOfType d r t) → IsResOfType d (unwrap_or o Incomplete) t
   found-typed None t h = tt
   found-typed (Some r) t h = h r refl
 
-  at-typed : (n m : ℕ) (t : FactType) → facts n ≡ Some t → Cell (slot n m) → IsResOfType d (result_at look (Some n) m) t
-  at-typed n m t e cell = found-typed (look (slot n m)) t (λ r found. cell r found t e)
+  at-typed : (n m : ℕ) (t : FactType) → facts n ≡ Some t → Cell (slot n m) → IsResOfType d (result_at results (Some n) m) t
+  at-typed n m t e cell = found-typed (results (slot n m)) t (λ r found. cell r found t e)
 
   -- from an item on
   behind-some : (o : Option ℕ) (u : Option FactType) (t : FactType) → behind o u ≡ Some t → u ≡ Some t
   behind-some (Some c) u t e = e
   behind-some None u t e = absurd cc
 
-  through-typed : (item : Res) (by_item : List Slot) (m : ℕ) (t : FactType) → facts m ≡ Some t → AllOf Cell (item_read item by_item (slot_at (Some m))) → IsResOfType d (through_item item (result_at look (Some m))) t
+  through-typed : (item : Res) (by_item : List Slot) (m : ℕ) (t : FactType) → facts m ≡ Some t → AllOf Cell (item_read item by_item (slot_at (Some m))) → IsResOfType d (through_item item (result_at results (Some m))) t
   through-typed (Complete (Item k)) by_item m t e all = at-typed m k t e (all-right Cell by_item (slot m k ∷ []) all).0
-  through-typed (Placeholder (Item k)) by_item m t e all = down-type d (result_at look (Some m) k) t (at-typed m k t e (all-right Cell by_item (slot m k ∷ []) all).0)
+  through-typed (Placeholder (Item k)) by_item m t e all = down-type d (result_at results (Some m) k) t (at-typed m k t e (all-right Cell by_item (slot m k ∷ []) all).0)
   through-typed (Complete v) by_item m t e all = tt
   through-typed (Placeholder v) by_item m t e all = tt
   through-typed _ by_item m t e all = tt
 
-  dependency-typed : (at : Place) (r : Reader) (t : FactType) → dependency_type facts r ≡ Some t → AllOf Cell (dependency_slots look at r) → IsResOfType d (dependency look at r) t
+  dependency-typed : (at : EvalPosition) (r : Reader) (t : FactType) → dependency_type facts r ≡ Some t → AllOf Cell (dependency_slots results at r) → IsResOfType d (dependency results at r) t
   dependency-typed at (Global n) t e all = at-typed n 0 t e all.0
   dependency-typed at (Same n) t e all = at-typed n at.own t e all.0
   dependency-typed at (Inner n) t e all = at-typed n at.inner t e all.0
   dependency-typed at (Each n m) t e all = absurd cc
-  dependency-typed at (Through n m) t e all = through-typed (result_at look (Some n) 0) (slot n 0 ∷ []) m t (behind-some (option_and_then item_base (facts n)) (facts m) t e) all
-  dependency-typed at (SameThrough n m) t e all = through-typed (result_at look (Some n) at.own) (slot n at.own ∷ []) m t (behind-some (option_and_then item_base (facts n)) (facts m) t e) all
+  dependency-typed at (Through n m) t e all = through-typed (result_at results (Some n) 0) (slot n 0 ∷ []) m t (behind-some (option_and_then item_base (facts n)) (facts m) t e) all
+  dependency-typed at (SameThrough n m) t e all = through-typed (result_at results (Some n) at.own) (slot n at.own ∷ []) m t (behind-some (option_and_then item_base (facts n)) (facts m) t e) all
 
-  read-kept : (at : Place) (op : NodeRead) (r : Reader) (t : FactType) → read_type facts op r ≡ Some t → AllOf Cell (read_slots look at op r) → ValueHoldsMemory (read_result look at op r) → IsTextOrList t
-  read-kept at node_read.Dependency r t e all h = res-kept d (dependency look at r) t (dependency-typed at r t e all) h
-  read-kept at node_read.IsComplete r t e all h = absurd (test-none (dependency look at r) h)
-  read-kept at node_read.CollectionSize r t e all h = absurd (size-none (collection look r) h)
+  read-kept : (at : EvalPosition) (op : NodeRead) (r : Reader) (t : FactType) → read_type facts op r ≡ Some t → AllOf Cell (read_slots results at op r) → ValueHoldsMemory (read_result results at op r) → IsTextOrList t
+  read-kept at node_read.Dependency r t e all h = res-kept d (dependency results at r) t (dependency-typed at r t e all) h
+  read-kept at node_read.IsComplete r t e all h = absurd (test-none (dependency results at r) h)
+  read-kept at node_read.CollectionSize r t e all h = absurd (size-none (collection results r) h)
   read-kept at node_read.SumInt r t e all h =
-      let source = collection look r in
-      absurd (res-kept d (sum_over types.Int source (field look r)) types.Int (sum-typed d types.Int source (field look r) tt) h)
+      let source = collection results r in
+      absurd (res-kept d (sum_over types.Int source (field results r)) types.Int (sum-typed d types.Int source (field results r) tt) h)
   read-kept at node_read.SumDollar r t e all h =
-      let source = collection look r in
-      absurd (res-kept d (sum_over types.Dollar source (field look r)) types.Dollar (sum-typed d types.Dollar source (field look r) tt) h)
+      let source = collection results r in
+      absurd (res-kept d (sum_over types.Dollar source (field results r)) types.Dollar (sum-typed d types.Dollar source (field results r) tt) h)
   read-kept at node_read.Count r t e all h =
-      let operands = field_operands (collection look r) (field look r) in
+      let operands = field_operands (collection results r) (field results r) in
       absurd (number-none (verdict_of operands) (pos (count_by truth (fields_in (values_of operands)))) h)
 
   -- ---- what is read and what takes memory behind a condition
@@ -151,44 +151,44 @@ module _ (d : Domains) (facts : FactTypes) (look : Look) where
   -- ---- expressions
 
   mutual
-    kept : (at : Place) (t : Compiled) (b : ℕ) (u : FactType) → HasType (node_types facts) b t u → AllOf Cell (slots_of look at t) → TakesMemory (node_env look) at t → SomeOf (GivesTextOrList facts) (nodes t)
+    kept : (at : EvalPosition) (t : Compiled) (b : ℕ) (u : FactType) → HasType (node_types facts) b t u → AllOf Cell (slots_of results at t) → TakesMemory (node_env results) at t → SomeOf (GivesTextOrList facts) (nodes t)
     kept at (literal c) b u h all k = inl (b, (u, (h, constant-kept c u h k)))
     kept at (read r) b u h all k = inl (b, (u, (h, read-kept at r.0 r.1 u h all k)))
     kept at (switch cs) b u h all k = inr (kept-cases at cs b u h.1 all k)
     kept at (many op ts) b u h all k = inr (kept-all at ts b h.0 h.1 all k)
     kept at (one op x) b u h all k = inr (kept at x b h.0 h.1 all k)
-    kept at (two op x y) b u h all (inl k) = inr (some-left (GivesTextOrList facts) (nodes x) (nodes y) (kept at x b h.0 h.2 (all-left Cell (slots_of look at x) (slots_of look at y) all) k))
-    kept at (two op x y) b u h all (inr k) = inr (some-right (GivesTextOrList facts) (nodes x) (nodes y) (kept at y b h.1 h.3 (all-right Cell (slots_of look at x) (slots_of look at y) all) k))
+    kept at (two op x y) b u h all (inl k) = inr (some-left (GivesTextOrList facts) (nodes x) (nodes y) (kept at x b h.0 h.2 (all-left Cell (slots_of results at x) (slots_of results at y) all) k))
+    kept at (two op x y) b u h all (inr k) = inr (some-right (GivesTextOrList facts) (nodes x) (nodes y) (kept at y b h.1 h.3 (all-right Cell (slots_of results at x) (slots_of results at y) all) k))
     kept at (pick Filter r x) b u h all k = inl (b, (u, (h, subst IsTextOrList (sym h.3) tt)))
     kept at (pick Find r x) b u h all k =
-        inr (some-both Cell (λ (m : ℕ). TakesMemory (node_env look) (entered at m) x) (λ (m : ℕ). slots_of look (entered at m) x) (SomeOf (GivesTextOrList facts) (nodes x))
+        inr (some-both Cell (λ (m : ℕ). TakesMemory (node_env results) (entered at m) x) (λ (m : ℕ). slots_of results (entered at m) x) (SomeOf (GivesTextOrList facts) (nodes x))
         (λ m here cells. kept (entered at m) x h.0 types.Boolean h.2 cells here)
-        (up_to_decider (λ m. over (node_env look) (entered at m) x) (members_of (collection look r))) k all.1)
+        (up_to_decider (λ m. over (node_env results) (entered at m) x) (members_of (collection results r))) k all.1)
 
-    kept-all : (at : Place) (ts : Trees Value Reading Reader) (b : ℕ) (us : List FactType) → HaveTypes (node_types facts) b ts us → AllOf Cell (slots_read_of_all (node_env look) (node_reads look) at ts)
-        → TakesInAll (node_env look) at ts → SomeOf (GivesTextOrList facts) (nodes_of_trees ts)
+    kept-all : (at : EvalPosition) (ts : Trees Value Reading Reader) (b : ℕ) (us : List FactType) → HaveTypes (node_types facts) b ts us → AllOf Cell (slots_read_of_all (node_env results) (node_reads results) at ts)
+        → TakesInAll (node_env results) at ts → SomeOf (GivesTextOrList facts) (nodes_of_trees ts)
     kept-all at no_trees b us h all k = absurd k
     kept-all at (tree x xs) b [] h all k = absurd h
     kept-all at (tree x xs) b (u ∷ us) h all (inl k) =
-        some-left (GivesTextOrList facts) (nodes x) (nodes_of_trees xs) (kept at x b u h.0 (all-left Cell (slots_of look at x) (slots_read_of_all (node_env look) (node_reads look) at xs) all) k)
+        some-left (GivesTextOrList facts) (nodes x) (nodes_of_trees xs) (kept at x b u h.0 (all-left Cell (slots_of results at x) (slots_read_of_all (node_env results) (node_reads results) at xs) all) k)
     kept-all at (tree x xs) b (u ∷ us) h all (inr k) =
-        some-right (GivesTextOrList facts) (nodes x) (nodes_of_trees xs) (kept-all at xs b us h.1 (all-right Cell (slots_of look at x) (slots_read_of_all (node_env look) (node_reads look) at xs) all) k)
+        some-right (GivesTextOrList facts) (nodes x) (nodes_of_trees xs) (kept-all at xs b us h.1 (all-right Cell (slots_of results at x) (slots_read_of_all (node_env results) (node_reads results) at xs) all) k)
 
-    kept-cases : (at : Place) (cs : Cases Value Reading Reader) (b : ℕ) (u : FactType) → HaveCaseTypes (node_types facts) b cs u → AllOf Cell (slots_read_of_cases (node_env look) (node_reads look) at cs)
-        → TakesInCases (node_env look) at cs → SomeOf (GivesTextOrList facts) (nodes_of_cases cs)
+    kept-cases : (at : EvalPosition) (cs : Cases Value Reading Reader) (b : ℕ) (u : FactType) → HaveCaseTypes (node_types facts) b cs u → AllOf Cell (slots_read_of_cases (node_env results) (node_reads results) at cs)
+        → TakesInCases (node_env results) at cs → SomeOf (GivesTextOrList facts) (nodes_of_cases cs)
     kept-cases at no_cases b u h all k = absurd k
     kept-cases at (a_case x o cs) b u h all (inl k) =
-        let rest = after_condition (over (node_env look) at x) (slots_of look at o) (slots_read_of_cases (node_env look) (node_reads look) at cs) in
-        some-left (GivesTextOrList facts) (nodes x) (nodes o ++ nodes_of_cases cs) (kept at x b types.Boolean h.0 (all-left Cell (slots_of look at x) rest all) k)
+        let rest = after_condition (over (node_env results) at x) (slots_of results at o) (slots_read_of_cases (node_env results) (node_reads results) at cs) in
+        some-left (GivesTextOrList facts) (nodes x) (nodes o ++ nodes_of_cases cs) (kept at x b types.Boolean h.0 (all-left Cell (slots_of results at x) rest all) k)
     kept-cases at (a_case x o cs) b u h all (inr k) =
-        let given = slots_of look at o in
-        let rest = slots_read_of_cases (node_env look) (node_reads look) at cs in
-        let r = over (node_env look) at x in
+        let given = slots_of results at o in
+        let rest = slots_read_of_cases (node_env results) (node_reads results) at cs in
+        let r = over (node_env results) at x in
         some-right (GivesTextOrList facts) (nodes x) (nodes o ++ nodes_of_cases cs)
-        (by_condition r given rest (TakesMemory (node_env look) at o) (TakesInCases (node_env look) at cs) (SomeOf (GivesTextOrList facts) (nodes o ++ nodes_of_cases cs))
+        (by_condition r given rest (TakesMemory (node_env results) at o) (TakesInCases (node_env results) at cs) (SomeOf (GivesTextOrList facts) (nodes o ++ nodes_of_cases cs))
         (λ cells here. some-left (GivesTextOrList facts) (nodes o) (nodes_of_cases cs) (kept at o b u h.1 cells here))
         (λ cells here. some-right (GivesTextOrList facts) (nodes o) (nodes_of_cases cs) (kept-cases at cs b u h.2 cells here))
-        (all-right Cell (slots_of look at x) (after_condition r given rest) all) k)
+        (all-right Cell (slots_of results at x) (after_condition r given rest) all) k)
 
-pub typed-takes_memory : (d : Domains) (facts : FactTypes) (look : Look) (at : Place) (t : Compiled) → IsTyped d facts look at t → TakesMemory (node_env look) at t → SomeGivesTextOrList facts t
-typed-takes_memory d facts look at t typed k = kept d facts look at t 0 typed.type_of typed.node typed.cells k
+pub typed-takes_memory : (d : Domains) (facts : FactTypes) (results : Results) (at : EvalPosition) (t : Compiled) → IsTyped d facts results at t → TakesMemory (node_env results) at t → SomeGivesTextOrList facts t
+typed-takes_memory d facts results at t typed k = kept d facts results at t 0 typed.type_of typed.node typed.cells k

@@ -14,12 +14,12 @@ use Rattle.three_state.specs.declared.res.Res.{Res}
 use Rattle.three_state.specs.declared.res.Res.TheVariants.{Complete, Placeholder, Incomplete, Fault}
 use Rattle.evaluation.specs.Over.{over}
 use Rattle.evaluation.specs.Visits.{visits}
-use Rattle.node_eval.specs.Reading.{node_env}
+use Rattle.node_eval.specs.Dependencies.{node_env}
 use Rattle.node_eval.specs.View.{Compiled, trees_of}
 use Rattle.node_eval.specs.declared.node.NodeRead.TheVariants.{Dependency, IsComplete, CollectionSize, SumInt, SumDollar, Count}
 use Rattle.node_eval.specs.declared.node.Reader.{Reader}
 use Rattle.node_eval.specs.declared.node.Reader.TheVariants.{Global, Same, Inner, Each, Through, SameThrough}
-use Rattle.node_eval.proofs.CellExamples.{Column, look_in}
+use Rattle.node_eval.proofs.CellExamples.{Column, results_in}
 
 -- ---- cells: of members 1, 2, 3 and 4 one is complete, one rests on a placeholder, one is missing, and one is at fault
 
@@ -81,7 +81,7 @@ abbrev Given : Type 0
 Given = Res × ℕ
 
 abbrev given_at : ℕ → Compiled → Given
-given_at m t = (over (node_env (look_in columns)) (record { own = m; inner = 0 }) t, visits (node_env (look_in columns)) (record { own = m; inner = 0 }) t)
+given_at m t = (over (node_env (results_in columns)) (record { own = m; inner = 0 }) t, visits (node_env (results_in columns)) (record { own = m; inner = 0 }) t)
 
 -- in the slots of members 1 to 4
 abbrev in_each_state : Compiled → List Given

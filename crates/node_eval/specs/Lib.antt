@@ -1,8 +1,8 @@
 pub mod Evaluating
-pub mod Looks
+pub mod Results
 pub mod Memory
 pub mod NodeTypes
 pub mod Reached
-pub mod Reading
+pub mod Dependencies
 pub mod SlotsOf
 pub mod View

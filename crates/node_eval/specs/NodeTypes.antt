@@ -10,16 +10,16 @@ use Rattle.dict_tree.specs.Typing.{HasType, Types}
 use Rattle.three_state.specs.declared.res.Res.{Res}
 use Rattle.evaluation.specs.Mentioned.{AllOf}
 use Rattle.evaluation.specs.Typed.{Domains, IsResOfType}
-use Rattle.node_eval.specs.Looks.{Look}
+use Rattle.node_eval.specs.Results.{Results}
 use Rattle.node_eval.specs.Memory.{SomeOf, TakesMemory}
-use Rattle.node_eval.specs.Reading.{node_env}
+use Rattle.node_eval.specs.Dependencies.{node_env}
 use Rattle.node_eval.specs.SlotsOf.{slots_of}
 use Rattle.node_eval.specs.View.{Compiled, Reading}
 use Rattle.node_eval.specs.declared.node.NodeRead.{NodeRead}
 use Rattle.node_eval.specs.declared.node.NodeRead.TheVariants as node_read
 use Rattle.node_eval.specs.declared.node.Reader.{Reader}
 use Rattle.node_eval.specs.declared.node.Reader.TheVariants.{Global, Same, Inner, Each, Through, SameThrough}
-use Rattle.node_eval.specs.declared.place.Place.{Place}
+use Rattle.node_eval.specs.declared.eval_position.EvalPosition.{EvalPosition}
 
 -- ---- the types of what a node is made of
 
@@ -104,14 +104,14 @@ node_types facts = record {
 -- ---- a node over cells
 
 -- the cell is missing, or has a value of its fact's type, or none
-abbrev pub IsTypedCell : Domains → FactTypes → Look → Slot → Type 0
-IsTypedCell d facts look s = (r : Res) → look s ≡ Some r → (t : FactType) → facts s.fact ≡ Some t → IsResOfType d r t
+abbrev pub IsTypedCell : Domains → FactTypes → Results → Slot → Type 0
+IsTypedCell d facts results s = (r : Res) → results s ≡ Some r → (t : FactType) → facts s.fact ≡ Some t → IsResOfType d r t
 
 -- the node has a type, and so have the cells that its evaluation reads
-pub record IsTyped (d : Domains) (facts : FactTypes) (look : Look) (at : Place) (t : Compiled) : Type 0 where
+pub record IsTyped (d : Domains) (facts : FactTypes) (results : Results) (at : EvalPosition) (t : Compiled) : Type 0 where
   pub type_of : FactType
   pub node : HasType (node_types facts) 0 t type_of
-  pub cells : AllOf (IsTypedCell d facts look) (slots_of look at t)
+  pub cells : AllOf (IsTypedCell d facts results) (slots_of results at t)
 
 -- ---- what takes memory
 
@@ -133,4 +133,4 @@ SomeGivesTextOrList facts t = SomeOf (GivesTextOrList facts) (nodes t)
 
 -- an evaluation takes memory only there
 abbrev pub TypedTakesMemory : Type 0
-TypedTakesMemory = (d : Domains) (facts : FactTypes) (look : Look) (at : Place) (t : Compiled) → IsTyped d facts look at t → TakesMemory (node_env look) at t → SomeGivesTextOrList facts t
+TypedTakesMemory = (d : Domains) (facts : FactTypes) (results : Results) (at : EvalPosition) (t : Compiled) → IsTyped d facts results at t → TakesMemory (node_env results) at t → SomeGivesTextOrList facts t

@@ -4,14 +4,14 @@ use Rattle.std.specs.List.{list_all}
 use Rattle.fact_values.specs.declared.slot.Slot.{Slot}
 use Rattle.evaluation.specs.Over.{over}
 use Rattle.evaluation.specs.SlotsRead.{ReadBy, fields_read, item_read, slots_read}
-use Rattle.node_eval.specs.Looks.{Look, result_at, slot}
-use Rattle.node_eval.specs.Reading.{collection, first_of, node_env, second_of}
+use Rattle.node_eval.specs.Results.{Results, result_at, slot}
+use Rattle.node_eval.specs.Dependencies.{collection, first_of, node_env, second_of}
 use Rattle.node_eval.specs.View.{Compiled, Reading}
 use Rattle.node_eval.specs.declared.node.NodeRead.{NodeRead}
 use Rattle.node_eval.specs.declared.node.NodeRead.TheVariants as node_read
 use Rattle.node_eval.specs.declared.node.Reader.{Reader}
 use Rattle.node_eval.specs.declared.node.Reader.TheVariants.{Global, Same, Inner, Each, Through, SameThrough}
-use Rattle.node_eval.specs.declared.place.Place.{Place}
+use Rattle.node_eval.specs.declared.eval_position.EvalPosition.{EvalPosition}
 
 -- the slot of a fact at a member
 abbrev pub slot_at : Option ℕ → ℕ → List Slot
@@ -19,46 +19,46 @@ slot_at None m = []
 slot_at (Some n) m = slot n m ∷ []
 
 -- that of an item, and that of the field of the member that it names
-abbrev pub through_slots : Look → ℕ → ℕ → ℕ → List Slot
-through_slots look n m member = item_read (result_at look (Some n) member) (slot n member ∷ []) (slot_at (Some m))
+abbrev pub through_slots : Results → ℕ → ℕ → ℕ → List Slot
+through_slots results n m member = item_read (result_at results (Some n) member) (slot n member ∷ []) (slot_at (Some m))
 
-abbrev pub dependency_slots : Look → Place → Reader → List Slot
-dependency_slots look at (Global n) = slot n 0 ∷ []
-dependency_slots look at (Same n) = slot n at.own ∷ []
-dependency_slots look at (Inner n) = slot n at.inner ∷ []
-dependency_slots look at (Each n m) = []
-dependency_slots look at (Through n m) = through_slots look n m 0
-dependency_slots look at (SameThrough n m) = through_slots look n m at.own
+abbrev pub dependency_slots : Results → EvalPosition → Reader → List Slot
+dependency_slots results at (Global n) = slot n 0 ∷ []
+dependency_slots results at (Same n) = slot n at.own ∷ []
+dependency_slots results at (Inner n) = slot n at.inner ∷ []
+dependency_slots results at (Each n m) = []
+dependency_slots results at (Through n m) = through_slots results n m 0
+dependency_slots results at (SameThrough n m) = through_slots results n m at.own
 
 abbrev pub collection_slots : Reader → List Slot
 collection_slots r = slot (first_of r) 0 ∷ []
 
 -- that of the collection, and those of the field of its members
-abbrev pub field_slots : Look → Reader → List Slot
-field_slots look r = fields_read (collection look r) (collection_slots r) (slot_at (second_of r))
+abbrev pub field_slots : Results → Reader → List Slot
+field_slots results r = fields_read (collection results r) (collection_slots r) (slot_at (second_of r))
 
-abbrev pub read_slots : Look → Place → NodeRead → Reader → List Slot
-read_slots look at node_read.Dependency r = dependency_slots look at r
-read_slots look at node_read.IsComplete r = dependency_slots look at r
-read_slots look at node_read.CollectionSize r = collection_slots r
-read_slots look at node_read.SumInt r = field_slots look r
-read_slots look at node_read.SumDollar r = field_slots look r
-read_slots look at node_read.Count r = field_slots look r
+abbrev pub read_slots : Results → EvalPosition → NodeRead → Reader → List Slot
+read_slots results at node_read.Dependency r = dependency_slots results at r
+read_slots results at node_read.IsComplete r = dependency_slots results at r
+read_slots results at node_read.CollectionSize r = collection_slots r
+read_slots results at node_read.SumInt r = field_slots results r
+read_slots results at node_read.SumDollar r = field_slots results r
+read_slots results at node_read.Count r = field_slots results r
 
-abbrev pub node_reads : Look → ReadBy Reading Reader Place Slot
-node_reads look = record {
-  reads = λ at r. read_slots look at r.0 r.1;
+abbrev pub node_reads : Results → ReadBy Reading Reader EvalPosition Slot
+node_reads results = record {
+  reads = λ at r. read_slots results at r.0 r.1;
   source = λ at r. collection_slots r;
 }
 
 -- all that the evaluation of a node reads at a place, in order
-abbrev pub slots_of : Look → Place → Compiled → List Slot
-slots_of look at t = slots_read (node_env look) (node_reads look) at t
+abbrev pub slots_of : Results → EvalPosition → Compiled → List Slot
+slots_of results at t = slots_read (node_env results) (node_reads results) at t
 
 -- ---- a law
 
 -- where two maps agree on these slots, the result is the same
 abbrev pub CellsDecide : Type 0
 CellsDecide =
-    (test : Slot → Bool) (look look' : Look) → ((s : Slot) → IsTrue (test s) → look s ≡ look' s)
-    → (t : Compiled) (at : Place) → IsTrue (list_all test (slots_of look at t)) → over (node_env look) at t ≡ over (node_env look') at t
+    (test : Slot → Bool) (results results' : Results) → ((s : Slot) → IsTrue (test s) → results s ≡ results' s)
+    → (t : Compiled) (at : EvalPosition) → IsTrue (list_all test (slots_of results at t)) → over (node_env results) at t ≡ over (node_env results') at t

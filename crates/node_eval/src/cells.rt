@@ -1,8 +1,9 @@
+// Where an evaluation finds the results of slots.
 ghost use Rattle.std.specs.Prelude.{◌≡◌, Option, option_copied};
 ghost use Rattle.fact_values.specs.declared.slot.Slot.{Slot};
 ghost use Rattle.three_state.specs.declared.res.Res.{Res};
 ghost use Rattle.three_state.specs.declared.res.Res.TheVariants.{Incomplete};
-ghost use Rattle.node_eval.specs.Looks.{result_at};
+ghost use Rattle.node_eval.specs.Results.{result_at};
 
 use fact_values::Slot;
 use three_state::Res;
@@ -10,11 +11,11 @@ use three_state::Res;
 /// Where the results of slots are looked up.
 pub trait Cells {
     /// The result of each slot that has a cell.
-    ghost look: { Self → Slot → Option Res };
+    ghost results: { Self → Slot → Option Res };
 
     /// The cell of a slot.
     fn cell(&self, slot: Slot) -> Option<&Res>
-        ensures { option_copied result ≡ look self.now slot };
+        ensures { option_copied result ≡ results self.now slot };
 }
 
 /// What is read of a fact at a member: a slot without a cell counts as incomplete.
@@ -25,7 +26,7 @@ pub fn result_at<'a, C: Cells>(
     member: u32,
 ) -> &'a Res
     requires { missing.now ≡ Incomplete }
-    ensures { result.now ≡ result_at (C.look cells.now) fact member }
+    ensures { result.now ≡ result_at (C.results cells.now) fact member }
 {
     let Some(fact) = fact else {
         return missing;

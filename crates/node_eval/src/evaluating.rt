@@ -10,14 +10,14 @@ ghost use Rattle.three_state.specs.Results.{filter_of, find_of, members_of, swit
 ghost use Rattle.node_eval.specs.Evaluating.{TakesAt, condition_at, visits_at, work_at};
 ghost use Rattle.node_eval.specs.Memory.{PickTakes, SomeOf, TakesInAll, TakesInCases, TakesMemory};
 ghost use Rattle.node_eval.specs.NodeTypes.{IsTyped, SomeGivesTextOrList};
-ghost use Rattle.node_eval.specs.Reading.{collection, node_env};
+ghost use Rattle.node_eval.specs.Dependencies.{collection, node_env};
 ghost use Rattle.node_eval.specs.View.{cases_view, trees_view, view};
 ghost use Rattle.evaluation.specs.Typed.{Domains};
 ghost use Rattle.evaluation.specs.Visits.{visits, visits_of_all, visits_of_cases};
 
 use crate::cells::Cells;
+use crate::eval_position::EvalPosition;
 use crate::node::{Node, NodeCase, NodeRead, Reader};
-use crate::place::Place;
 use crate::reads::{read, read_source, see_dependency};
 use dict_tree::{ManyOp, OneOp, PickOp, TwoOp};
 use fact_values::{NoMemory, Value};
@@ -39,13 +39,13 @@ pub fn eval<C: Cells, L: Ledger>(
     inner: u32,
     steps: &mut Steps<L>,
 ) -> Result<Res, NoMemory>
-    ensures value { IfOk result (λ r. r ≡ over (node_env (C.look cells.now)) (record { own = own; inner = inner }) (view node.now)) }
-    ensures visited { OnOk result (steps.new ≡ steps.old + visits (node_env (C.look cells.now)) (record { own = own; inner = inner }) (view node.now)) }
-    ensures most { steps.new ≤ steps.old + weight (node_env (C.look cells.now)) (record { own = own; inner = inner }) (view node.now) }
+    ensures value { IfOk result (λ r. r ≡ over (node_env (C.results cells.now)) (record { own = own; inner = inner }) (view node.now)) }
+    ensures visited { OnOk result (steps.new ≡ steps.old + visits (node_env (C.results cells.now)) (record { own = own; inner = inner }) (view node.now)) }
+    ensures most { steps.new ≤ steps.old + weight (node_env (C.results cells.now)) (record { own = own; inner = inner }) (view node.now) }
     ensures least { steps.old + 1 ≤ steps.new }
-    ensures memory { IsErr result → (d : Domains) (facts : ℕ → Option FactType) → IsTyped d facts (C.look cells.now) (record { own = own; inner = inner }) (view node.now) → SomeGivesTextOrList facts (view node.now) }
+    ensures memory { IsErr result → (d : Domains) (facts : ℕ → Option FactType) → IsTyped d facts (C.results cells.now) (record { own = own; inner = inner }) (view node.now) → SomeGivesTextOrList facts (view node.now) }
 {
-    visit(alloc, cells, Place { own, inner }, node, steps)
+    visit(alloc, cells, EvalPosition { own, inner }, node, steps)
 }
 
 // The same at a place.
@@ -54,15 +54,15 @@ pub fn eval<C: Cells, L: Ledger>(
 fn visit<C: Cells, L: Ledger>(
     alloc: Global,
     cells: &C,
-    at: Place,
+    at: EvalPosition,
     node: &Node,
     steps: &mut Steps<L>,
 ) -> Result<Res, NoMemory>
-    ensures value { IfOk result (λ r. r ≡ over (node_env (C.look cells.now)) at (view node.now)) }
-    ensures visited { OnOk result (steps.new ≡ steps.old + visits (node_env (C.look cells.now)) at (view node.now)) }
-    ensures most { steps.new ≤ steps.old + weight (node_env (C.look cells.now)) at (view node.now) }
+    ensures value { IfOk result (λ r. r ≡ over (node_env (C.results cells.now)) at (view node.now)) }
+    ensures visited { OnOk result (steps.new ≡ steps.old + visits (node_env (C.results cells.now)) at (view node.now)) }
+    ensures most { steps.new ≤ steps.old + weight (node_env (C.results cells.now)) at (view node.now) }
     ensures least { steps.old + 1 ≤ steps.new }
-    ensures memory { IsErr result → TakesMemory (node_env (C.look cells.now)) at (view node.now) }
+    ensures memory { IsErr result → TakesMemory (node_env (C.results cells.now)) at (view node.now) }
 {
     steps.tick();
     match node {
@@ -91,16 +91,16 @@ fn constant(alloc: Global, value: &Value) -> Result<Res, NoMemory>
 fn eval_one<C: Cells, L: Ledger>(
     alloc: Global,
     cells: &C,
-    at: Place,
+    at: EvalPosition,
     op: OneOp,
     operand: &Node,
     steps: &mut Steps<L>,
 ) -> Result<Res, NoMemory>
-    ensures value { IfOk result (λ r. r ≡ one_of op (over (node_env (C.look cells.now)) at (view operand.now))) }
-    ensures visited { OnOk result (steps.new ≡ steps.old + visits (node_env (C.look cells.now)) at (view operand.now)) }
-    ensures most { steps.new ≤ steps.old + weight (node_env (C.look cells.now)) at (view operand.now) }
+    ensures value { IfOk result (λ r. r ≡ one_of op (over (node_env (C.results cells.now)) at (view operand.now))) }
+    ensures visited { OnOk result (steps.new ≡ steps.old + visits (node_env (C.results cells.now)) at (view operand.now)) }
+    ensures most { steps.new ≤ steps.old + weight (node_env (C.results cells.now)) at (view operand.now) }
     ensures least { steps.old ≤ steps.new }
-    ensures memory { IsErr result → TakesMemory (node_env (C.look cells.now)) at (view operand.now) }
+    ensures memory { IsErr result → TakesMemory (node_env (C.results cells.now)) at (view operand.now) }
 {
     let res = visit(alloc, cells, at, operand, steps)?;
     Ok(one(op, res))
@@ -111,17 +111,17 @@ fn eval_one<C: Cells, L: Ledger>(
 fn eval_second<C: Cells, L: Ledger>(
     alloc: Global,
     cells: &C,
-    at: Place,
+    at: EvalPosition,
     op: TwoOp,
     first: Res,
     operand: &Node,
     steps: &mut Steps<L>,
 ) -> Result<Res, NoMemory>
-    ensures value { IfOk result (λ r. r ≡ two_of op first (over (node_env (C.look cells.now)) at (view operand.now))) }
-    ensures visited { OnOk result (steps.new ≡ steps.old + visits (node_env (C.look cells.now)) at (view operand.now)) }
-    ensures most { steps.new ≤ steps.old + weight (node_env (C.look cells.now)) at (view operand.now) }
+    ensures value { IfOk result (λ r. r ≡ two_of op first (over (node_env (C.results cells.now)) at (view operand.now))) }
+    ensures visited { OnOk result (steps.new ≡ steps.old + visits (node_env (C.results cells.now)) at (view operand.now)) }
+    ensures most { steps.new ≤ steps.old + weight (node_env (C.results cells.now)) at (view operand.now) }
     ensures least { steps.old ≤ steps.new }
-    ensures memory { IsErr result → TakesMemory (node_env (C.look cells.now)) at (view operand.now) }
+    ensures memory { IsErr result → TakesMemory (node_env (C.results cells.now)) at (view operand.now) }
 {
     let second = visit(alloc, cells, at, operand, steps)?;
     let res = two(op, &first, &second);
@@ -135,16 +135,16 @@ fn eval_second<C: Cells, L: Ledger>(
 fn eval_all<C: Cells, L: Ledger>(
     alloc: Global,
     cells: &C,
-    at: Place,
+    at: EvalPosition,
     op: ManyOp,
     operands: &[Node],
     steps: &mut Steps<L>,
 ) -> Result<Res, NoMemory>
-    ensures value { IfOk result (λ r. r ≡ many_of op (over_all (node_env (C.look cells.now)) at (trees_view operands.now))) }
-    ensures visited { OnOk result (steps.new ≡ steps.old + visits_of_all (node_env (C.look cells.now)) at (trees_view operands.now)) }
-    ensures most { steps.new ≤ steps.old + weight_of_all (node_env (C.look cells.now)) at (trees_view operands.now) }
+    ensures value { IfOk result (λ r. r ≡ many_of op (over_all (node_env (C.results cells.now)) at (trees_view operands.now))) }
+    ensures visited { OnOk result (steps.new ≡ steps.old + visits_of_all (node_env (C.results cells.now)) at (trees_view operands.now)) }
+    ensures most { steps.new ≤ steps.old + weight_of_all (node_env (C.results cells.now)) at (trees_view operands.now) }
     ensures least { steps.old ≤ steps.new }
-    ensures memory { IsErr result → TakesInAll (node_env (C.look cells.now)) at (trees_view operands.now) }
+    ensures memory { IsErr result → TakesInAll (node_env (C.results cells.now)) at (trees_view operands.now) }
 {
     let mut fold = ManyFold::new(op);
     for operand in operands {
@@ -159,17 +159,17 @@ fn eval_all<C: Cells, L: Ledger>(
 fn see_operand<C: Cells, L: Ledger>(
     alloc: Global,
     cells: &C,
-    at: Place,
+    at: EvalPosition,
     operand: &Node,
     fold: &mut ManyFold,
     steps: &mut Steps<L>,
 ) -> Result<(), NoMemory>
     requires few { fold.old.count + 1 < 2 ^ 64 }
-    ensures next { OnOk result (fold.new ≡ saw fold.old (over (node_env (C.look cells.now)) at (view operand.now))) }
-    ensures visited { OnOk result (steps.new ≡ steps.old + visits (node_env (C.look cells.now)) at (view operand.now)) }
-    ensures most { steps.new ≤ steps.old + weight (node_env (C.look cells.now)) at (view operand.now) }
+    ensures next { OnOk result (fold.new ≡ saw fold.old (over (node_env (C.results cells.now)) at (view operand.now))) }
+    ensures visited { OnOk result (steps.new ≡ steps.old + visits (node_env (C.results cells.now)) at (view operand.now)) }
+    ensures most { steps.new ≤ steps.old + weight (node_env (C.results cells.now)) at (view operand.now) }
     ensures least { steps.old + 1 ≤ steps.new }
-    ensures memory { IsErr result → TakesMemory (node_env (C.look cells.now)) at (view operand.now) }
+    ensures memory { IsErr result → TakesMemory (node_env (C.results cells.now)) at (view operand.now) }
 {
     match operand {
         Node::Read(NodeRead::Dependency, reader) => {
@@ -184,17 +184,17 @@ fn see_operand<C: Cells, L: Ledger>(
 fn see_visited<C: Cells, L: Ledger>(
     alloc: Global,
     cells: &C,
-    at: Place,
+    at: EvalPosition,
     operand: &Node,
     fold: &mut ManyFold,
     steps: &mut Steps<L>,
 ) -> Result<(), NoMemory>
     requires few { fold.old.count + 1 < 2 ^ 64 }
-    ensures next { OnOk result (fold.new ≡ saw fold.old (over (node_env (C.look cells.now)) at (view operand.now))) }
-    ensures visited { OnOk result (steps.new ≡ steps.old + visits (node_env (C.look cells.now)) at (view operand.now)) }
-    ensures most { steps.new ≤ steps.old + weight (node_env (C.look cells.now)) at (view operand.now) }
+    ensures next { OnOk result (fold.new ≡ saw fold.old (over (node_env (C.results cells.now)) at (view operand.now))) }
+    ensures visited { OnOk result (steps.new ≡ steps.old + visits (node_env (C.results cells.now)) at (view operand.now)) }
+    ensures most { steps.new ≤ steps.old + weight (node_env (C.results cells.now)) at (view operand.now) }
     ensures least { steps.old + 1 ≤ steps.new }
-    ensures memory { IsErr result → TakesMemory (node_env (C.look cells.now)) at (view operand.now) }
+    ensures memory { IsErr result → TakesMemory (node_env (C.results cells.now)) at (view operand.now) }
 {
     let res = visit(alloc, cells, at, operand, steps)?;
     fold.see(res);
@@ -206,15 +206,15 @@ fn see_visited<C: Cells, L: Ledger>(
 fn eval_cases<C: Cells, L: Ledger>(
     alloc: Global,
     cells: &C,
-    at: Place,
+    at: EvalPosition,
     cases: &[NodeCase],
     steps: &mut Steps<L>,
 ) -> Result<Res, NoMemory>
-    ensures value { IfOk result (λ r. r ≡ switch_of (over_cases (node_env (C.look cells.now)) at (cases_view cases.now))) }
-    ensures visited { OnOk result (steps.new ≡ steps.old + visits_of_cases (node_env (C.look cells.now)) at (cases_view cases.now)) }
-    ensures most { steps.new ≤ steps.old + weight_of_cases (node_env (C.look cells.now)) at (cases_view cases.now) }
+    ensures value { IfOk result (λ r. r ≡ switch_of (over_cases (node_env (C.results cells.now)) at (cases_view cases.now))) }
+    ensures visited { OnOk result (steps.new ≡ steps.old + visits_of_cases (node_env (C.results cells.now)) at (cases_view cases.now)) }
+    ensures most { steps.new ≤ steps.old + weight_of_cases (node_env (C.results cells.now)) at (cases_view cases.now) }
     ensures least { steps.old ≤ steps.new }
-    ensures memory { IsErr result → TakesInCases (node_env (C.look cells.now)) at (cases_view cases.now) }
+    ensures memory { IsErr result → TakesInCases (node_env (C.results cells.now)) at (cases_view cases.now) }
 {
     let mut complete = true;
     for case in cases {
@@ -238,17 +238,17 @@ fn eval_cases<C: Cells, L: Ledger>(
 fn eval_pick<C: Cells, L: Ledger>(
     alloc: Global,
     cells: &C,
-    at: Place,
+    at: EvalPosition,
     op: PickOp,
     reader: Reader,
     test: &Node,
     steps: &mut Steps<L>,
 ) -> Result<Res, NoMemory>
-    ensures value { IfOk result (λ r. r ≡ pick_of op (collection (C.look cells.now) reader) (condition_at (C.look cells.now) at (view test.now))) }
-    ensures visited { OnOk result (steps.new ≡ steps.old + sum_by (visits_at (C.look cells.now) at (view test.now)) (members_visited op (condition_at (C.look cells.now) at (view test.now)) (collection (C.look cells.now) reader))) }
-    ensures most { steps.new ≤ steps.old + sum_by (work_at (C.look cells.now) at (view test.now)) (members_of (collection (C.look cells.now) reader)) }
+    ensures value { IfOk result (λ r. r ≡ pick_of op (collection (C.results cells.now) reader) (condition_at (C.results cells.now) at (view test.now))) }
+    ensures visited { OnOk result (steps.new ≡ steps.old + sum_by (visits_at (C.results cells.now) at (view test.now)) (members_visited op (condition_at (C.results cells.now) at (view test.now)) (collection (C.results cells.now) reader))) }
+    ensures most { steps.new ≤ steps.old + sum_by (work_at (C.results cells.now) at (view test.now)) (members_of (collection (C.results cells.now) reader)) }
     ensures least { steps.old ≤ steps.new }
-    ensures memory { IsErr result → PickTakes op (condition_at (C.look cells.now) at (view test.now)) (TakesAt (C.look cells.now) at (view test.now)) (members_of (collection (C.look cells.now) reader)) }
+    ensures memory { IsErr result → PickTakes op (condition_at (C.results cells.now) at (view test.now)) (TakesAt (C.results cells.now) at (view test.now)) (members_of (collection (C.results cells.now) reader)) }
 {
     let missing = Res::Incomplete;
     let source = read_source(cells, &missing, reader);
@@ -273,14 +273,14 @@ fn keep(kept: &mut Vec<u32>, is_kept: bool, member: u32) -> Result<(), NoMemory>
 fn eval_filter<C: Cells, L: Ledger>(
     alloc: Global,
     cells: &C,
-    at: Place,
+    at: EvalPosition,
     source: &Res,
     test: &Node,
     steps: &mut Steps<L>,
 ) -> Result<Res, NoMemory>
-    ensures value { IfOk result (λ r. r ≡ filter_of source.now (condition_at (C.look cells.now) at (view test.now))) }
-    ensures visited { OnOk result (steps.new ≡ steps.old + sum_by (visits_at (C.look cells.now) at (view test.now)) (members_of source.now)) }
-    ensures most { steps.new ≤ steps.old + sum_by (work_at (C.look cells.now) at (view test.now)) (members_of source.now) }
+    ensures value { IfOk result (λ r. r ≡ filter_of source.now (condition_at (C.results cells.now) at (view test.now))) }
+    ensures visited { OnOk result (steps.new ≡ steps.old + sum_by (visits_at (C.results cells.now) at (view test.now)) (members_of source.now)) }
+    ensures most { steps.new ≤ steps.old + sum_by (work_at (C.results cells.now) at (view test.now)) (members_of source.now) }
     ensures least { steps.old ≤ steps.new }
 {
     let mut fold = FilterFold::new(source);
@@ -299,16 +299,16 @@ fn eval_filter<C: Cells, L: Ledger>(
 fn eval_find<C: Cells, L: Ledger>(
     alloc: Global,
     cells: &C,
-    at: Place,
+    at: EvalPosition,
     source: &Res,
     test: &Node,
     steps: &mut Steps<L>,
 ) -> Result<Res, NoMemory>
-    ensures value { IfOk result (λ r. r ≡ find_of source.now (condition_at (C.look cells.now) at (view test.now))) }
-    ensures visited { OnOk result (steps.new ≡ steps.old + sum_by (visits_at (C.look cells.now) at (view test.now)) (up_to_decider (condition_at (C.look cells.now) at (view test.now)) (members_of source.now))) }
-    ensures most { steps.new ≤ steps.old + sum_by (work_at (C.look cells.now) at (view test.now)) (members_of source.now) }
+    ensures value { IfOk result (λ r. r ≡ find_of source.now (condition_at (C.results cells.now) at (view test.now))) }
+    ensures visited { OnOk result (steps.new ≡ steps.old + sum_by (visits_at (C.results cells.now) at (view test.now)) (up_to_decider (condition_at (C.results cells.now) at (view test.now)) (members_of source.now))) }
+    ensures most { steps.new ≤ steps.old + sum_by (work_at (C.results cells.now) at (view test.now)) (members_of source.now) }
     ensures least { steps.old ≤ steps.new }
-    ensures memory { IsErr result → SomeOf (TakesAt (C.look cells.now) at (view test.now)) (up_to_decider (condition_at (C.look cells.now) at (view test.now)) (members_of source.now)) }
+    ensures memory { IsErr result → SomeOf (TakesAt (C.results cells.now) at (view test.now)) (up_to_decider (condition_at (C.results cells.now) at (view test.now)) (members_of source.now)) }
 {
     match source_verdict(source) {
         Verdict::Go(complete) => {
@@ -324,17 +324,17 @@ fn eval_find<C: Cells, L: Ledger>(
 fn find_among<C: Cells, L: Ledger>(
     alloc: Global,
     cells: &C,
-    at: Place,
+    at: EvalPosition,
     complete: bool,
     members: &[u32],
     test: &Node,
     steps: &mut Steps<L>,
 ) -> Result<Res, NoMemory>
-    ensures value { IfOk result (λ r. r ≡ find_from (condition_at (C.look cells.now) at (view test.now)) complete members.now) }
-    ensures visited { OnOk result (steps.new ≡ steps.old + sum_by (visits_at (C.look cells.now) at (view test.now)) (up_to_decider (condition_at (C.look cells.now) at (view test.now)) members.now)) }
-    ensures most { steps.new ≤ steps.old + sum_by (work_at (C.look cells.now) at (view test.now)) members.now }
+    ensures value { IfOk result (λ r. r ≡ find_from (condition_at (C.results cells.now) at (view test.now)) complete members.now) }
+    ensures visited { OnOk result (steps.new ≡ steps.old + sum_by (visits_at (C.results cells.now) at (view test.now)) (up_to_decider (condition_at (C.results cells.now) at (view test.now)) members.now)) }
+    ensures most { steps.new ≤ steps.old + sum_by (work_at (C.results cells.now) at (view test.now)) members.now }
     ensures least { steps.old ≤ steps.new }
-    ensures memory { IsErr result → SomeOf (TakesAt (C.look cells.now) at (view test.now)) (up_to_decider (condition_at (C.look cells.now) at (view test.now)) members.now) }
+    ensures memory { IsErr result → SomeOf (TakesAt (C.results cells.now) at (view test.now)) (up_to_decider (condition_at (C.results cells.now) at (view test.now)) members.now) }
 {
     let mut complete = complete;
     for member in members {

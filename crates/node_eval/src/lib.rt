@@ -2,10 +2,10 @@
 #![tactic(auto)]
 
 mod cells;
+mod eval_position;
 mod evaluating;
 pub mod laws;
 mod node;
-mod place;
 mod reads;
 
 pub use cells::Cells;

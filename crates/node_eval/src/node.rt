@@ -1,3 +1,4 @@
+// Compiled nodes: expressions whose paths and constants are resolved.
 use dict_tree::{ManyOp, OneOp, PickOp, TwoOp};
 use fact_values::Value;
 

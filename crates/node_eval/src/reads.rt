@@ -5,13 +5,13 @@ ghost use Rattle.fact_values.specs.declared.fact_type.FactType.{FactType};
 ghost use Rattle.operations.specs.ManyFolds.{saw};
 ghost use Rattle.three_state.specs.Results.{ValueHoldsMemory, count_of};
 ghost use Rattle.three_state.specs.declared.res.Res.TheVariants.{Incomplete};
-ghost use Rattle.node_eval.specs.Looks.{result_at};
+ghost use Rattle.node_eval.specs.Results.{result_at};
 ghost use Rattle.node_eval.specs.Reached.{reached};
-ghost use Rattle.node_eval.specs.Reading.{collection, dependency, field, first_of, read_result, second_of};
+ghost use Rattle.node_eval.specs.Dependencies.{collection, dependency, field, first_of, read_result, second_of};
 
 use crate::cells::{Cells, result_at};
+use crate::eval_position::EvalPosition;
 use crate::node::{NodeRead, Reader};
-use crate::place::Place;
 use fact_values::{FactType, NoMemory, Slot, Value};
 use operations::{CountFold, ManyFold, SumFold, complete_test, members, size};
 use std::alloc::Global;
@@ -59,7 +59,7 @@ pub struct Reached<'a> {
 // The field of the member that a value names.
 fn field_at<'a, C: Cells>(cells: &'a C, missing: &'a Res, value: &Value, second: u32) -> &'a Res
     requires { missing.now ≡ Incomplete }
-    ensures { result.now ≡ field_at (result_at (C.look cells.now) (Some second)) value.now }
+    ensures { result.now ≡ field_at (result_at (C.results cells.now) (Some second)) value.now }
 {
     match value {
         Value::Item(member) => result_at(cells, missing, Some(second), *member),
@@ -70,7 +70,7 @@ fn field_at<'a, C: Cells>(cells: &'a C, missing: &'a Res, value: &Value, second:
 // From an item to the field of the member that it names.
 fn through<'a, C: Cells>(cells: &'a C, missing: &'a Res, item: &'a Res, second: u32) -> Reached<'a>
     requires { missing.now ≡ Incomplete }
-    ensures { reached result ≡ through_item item.now (result_at (C.look cells.now) (Some second)) }
+    ensures { reached result ≡ through_item item.now (result_at (C.results cells.now) (Some second)) }
 {
     match item {
         Res::Complete(v) => Reached {
@@ -89,9 +89,14 @@ fn through<'a, C: Cells>(cells: &'a C, missing: &'a Res, item: &'a Res, second: 
 }
 
 // Where a Dependency by this reader ends.
-fn reach<'a, C: Cells>(cells: &'a C, missing: &'a Res, at: Place, reader: Reader) -> Reached<'a>
+fn reach<'a, C: Cells>(
+    cells: &'a C,
+    missing: &'a Res,
+    at: EvalPosition,
+    reader: Reader,
+) -> Reached<'a>
     requires { missing.now ≡ Incomplete }
-    ensures { reached result ≡ dependency (C.look cells.now) at reader }
+    ensures { reached result ≡ dependency (C.results cells.now) at reader }
 {
     let res = match reader {
         Reader::Global(fact) => result_at(cells, missing, Some(fact), 0),
@@ -156,8 +161,8 @@ fn see_cell<C: Cells>(
     fold: &mut ManyFold,
 ) -> Result<(), NoMemory>
     requires few { fold.old.count + 1 < 2 ^ 64 }
-    ensures next { OnOk result (fold.new ≡ saw fold.old (result_at (C.look cells.now) (Some fact) member)) }
-    ensures memory { IsErr result → ValueHoldsMemory (result_at (C.look cells.now) (Some fact) member) }
+    ensures next { OnOk result (fold.new ≡ saw fold.old (result_at (C.results cells.now) (Some fact) member)) }
+    ensures memory { IsErr result → ValueHoldsMemory (result_at (C.results cells.now) (Some fact) member) }
 {
     match cells.cell(Slot { fact, member }) {
         Some(res) => fold.see_lent(alloc, res),
@@ -186,13 +191,13 @@ fn see_reached(alloc: Global, end: Reached, fold: &mut ManyFold) -> Result<(), N
 fn see_far<C: Cells>(
     alloc: Global,
     cells: &C,
-    at: Place,
+    at: EvalPosition,
     reader: Reader,
     fold: &mut ManyFold,
 ) -> Result<(), NoMemory>
     requires few { fold.old.count + 1 < 2 ^ 64 }
-    ensures next { OnOk result (fold.new ≡ saw fold.old (dependency (C.look cells.now) at reader)) }
-    ensures memory { IsErr result → ValueHoldsMemory (dependency (C.look cells.now) at reader) }
+    ensures next { OnOk result (fold.new ≡ saw fold.old (dependency (C.results cells.now) at reader)) }
+    ensures memory { IsErr result → ValueHoldsMemory (dependency (C.results cells.now) at reader) }
 {
     let missing = Res::Incomplete;
     see_reached(alloc, reach(cells, &missing, at, reader), fold)
@@ -204,14 +209,14 @@ fn see_far<C: Cells>(
 pub fn see_dependency<C: Cells, L: Ledger>(
     alloc: Global,
     cells: &C,
-    at: Place,
+    at: EvalPosition,
     reader: &Reader,
     fold: &mut ManyFold,
     steps: &mut Steps<L>,
 ) -> Result<(), NoMemory>
     requires few { fold.old.count + 1 < 2 ^ 64 }
-    ensures next { OnOk result (fold.new ≡ saw fold.old (dependency (C.look cells.now) at reader.now)) }
-    ensures memory { IsErr result → ValueHoldsMemory (dependency (C.look cells.now) at reader.now) }
+    ensures next { OnOk result (fold.new ≡ saw fold.old (dependency (C.results cells.now) at reader.now)) }
+    ensures memory { IsErr result → ValueHoldsMemory (dependency (C.results cells.now) at reader.now) }
     ensures step { steps.new ≡ steps.old + 1 }
 {
     steps.tick();
@@ -228,7 +233,7 @@ pub fn see_dependency<C: Cells, L: Ledger>(
 
 // The sum of the field over the members.
 fn read_sum<C: Cells>(cells: &C, of: FactType, reader: Reader) -> Res
-    ensures { result ≡ sum_over of (collection (C.look cells.now) reader) (field (C.look cells.now) reader) }
+    ensures { result ≡ sum_over of (collection (C.results cells.now) reader) (field (C.results cells.now) reader) }
 {
     let missing = Res::Incomplete;
     let source = result_at(cells, &missing, Some(first_of(reader)), 0);
@@ -242,7 +247,7 @@ fn read_sum<C: Cells>(cells: &C, of: FactType, reader: Reader) -> Res
 
 // The number of members of which the field is true.
 fn read_count<C: Cells>(cells: &C, reader: Reader) -> Res
-    ensures { result ≡ count_of (collection (C.look cells.now) reader) (field (C.look cells.now) reader) }
+    ensures { result ≡ count_of (collection (C.results cells.now) reader) (field (C.results cells.now) reader) }
 {
     let missing = Res::Incomplete;
     let source = result_at(cells, &missing, Some(first_of(reader)), 0);
@@ -256,7 +261,7 @@ fn read_count<C: Cells>(cells: &C, reader: Reader) -> Res
 
 // The number of members.
 fn read_size<C: Cells>(cells: &C, reader: Reader) -> Res
-    ensures { result ≡ collection_size (collection (C.look cells.now) reader) }
+    ensures { result ≡ collection_size (collection (C.results cells.now) reader) }
 {
     let missing = Res::Incomplete;
     size(result_at(cells, &missing, Some(first_of(reader)), 0))
@@ -265,7 +270,7 @@ fn read_size<C: Cells>(cells: &C, reader: Reader) -> Res
 /// The collection of a Filter or a Find.
 pub fn read_source<'a, C: Cells>(cells: &'a C, missing: &'a Res, reader: Reader) -> &'a Res
     requires { missing.now ≡ Incomplete }
-    ensures { result.now ≡ collection (C.look cells.now) reader }
+    ensures { result.now ≡ collection (C.results cells.now) reader }
 {
     result_at(cells, missing, Some(first_of(reader)), 0)
 }
@@ -274,12 +279,12 @@ pub fn read_source<'a, C: Cells>(cells: &'a C, missing: &'a Res, reader: Reader)
 pub fn read<C: Cells>(
     alloc: Global,
     cells: &C,
-    at: Place,
+    at: EvalPosition,
     op: NodeRead,
     reader: Reader,
 ) -> Result<Res, NoMemory>
-    ensures value { IfOk result (λ r. r ≡ read_result (C.look cells.now) at op reader) }
-    ensures memory { IsErr result → ValueHoldsMemory (read_result (C.look cells.now) at op reader) }
+    ensures value { IfOk result (λ r. r ≡ read_result (C.results cells.now) at op reader) }
+    ensures memory { IsErr result → ValueHoldsMemory (read_result (C.results cells.now) at op reader) }
 {
     let missing = Res::Incomplete;
     match op {

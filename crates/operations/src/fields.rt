@@ -1,3 +1,4 @@
+// Sums and counts over the members of a collection.
 ghost use Rattle.std.specs.Prelude.{◌≡◌, ℕ, pos, ◌+◌, ◌<◌, ◌≤◌, ◌^◌, [], ◌∷◌, ◌++◌, List, map};
 ghost use Rattle.evaluation.specs.Reads.{sum_over};
 ghost use Rattle.fact_values.specs.declared.fact_type.FactType.{FactType};

@@ -1,3 +1,4 @@
+// A Filter and a Find over the members of a collection.
 ghost use Rattle.std.specs.Prelude.{◌≡◌, ℕ, [], ◌∷◌, ◌++◌, List, map, Ok};
 ghost use Rattle.fact_values.specs.Members.{IsMemberList};
 ghost use Rattle.operations.specs.Sources.{verdict_on_source};

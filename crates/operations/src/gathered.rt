@@ -1,3 +1,4 @@
+// What an operation with many operands keeps of their values.
 ghost use Rattle.std.specs.Prelude.{◌≡◌, ◌<◌, ◌^◌, IsErr, OnErr, OnOk};
 ghost use Rattle.fact_values.specs.Values.{HoldsMemory};
 ghost use Rattle.operations.specs.ManyFolds.{calls_of, extreme_end, gathered_end, gathered_next, greater_next, lesser_next};

@@ -1,4 +1,4 @@
-//! What each node does with the results of its operands. None of it takes memory.
+//! What each node does with the results of its operands. Only a copy of a borrowed result takes memory.
 #![tactic(auto)]
 
 mod cases;

@@ -1,3 +1,4 @@
+// Nodes with many operands, seen one by one.
 ghost use Rattle.std.specs.Prelude.{◌≡◌, ◌+◌, ◌<◌, ◌^◌, [], ◌∷◌, ◌++◌, List, IsErr, OnErr, OnOk};
 ghost use Rattle.dict_tree.specs.declared.operators.ManyOp.{ManyOp};
 ghost use Rattle.evaluation.specs.Over.{many_of};

@@ -1,3 +1,4 @@
+// Products, quotients and comparisons of values.
 ghost use Rattle.std.specs.Prelude.{◌≡◌};
 ghost use Rattle.fact_values.specs.Numbers.{product, quotient};
 ghost use Rattle.fact_values.specs.Values.{order_of};

@@ -1,3 +1,4 @@
+// Nodes with one operand.
 ghost use Rattle.std.specs.Prelude.{◌≡◌};
 ghost use Rattle.evaluation.specs.Operations.{day_in, dollar_in, one_value, value_as};
 ghost use Rattle.evaluation.specs.Over.{one_of};

@@ -1,3 +1,4 @@
+// Nodes that read facts: members, sizes, tests of completeness, and ways through items.
 ghost use Rattle.std.specs.Prelude.{◌≡◌};
 ghost use Rattle.evaluation.specs.Operations.{size_value};
 ghost use Rattle.evaluation.specs.Reads.{collection_size, complete_test};

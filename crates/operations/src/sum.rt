@@ -1,3 +1,4 @@
+// Sums of values of one type.
 ghost use Rattle.std.specs.Prelude.{◌≡◌, ◌<◌, ◌^◌};
 ghost use Rattle.evaluation.specs.Operations.{no_ratio, ratio_in, value_as};
 ghost use Rattle.fact_values.specs.Rationals.{difference_of_ratios, sum_of_ratios};

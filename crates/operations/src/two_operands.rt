@@ -1,3 +1,4 @@
+// Nodes with two operands.
 ghost use Rattle.std.specs.Prelude.{◌≡◌, Ok};
 ghost use Rattle.evaluation.specs.Operations.{day_in, int_in, number_in, number_value, two_value, value_as};
 ghost use Rattle.evaluation.specs.Over.{two_of};

@@ -24,8 +24,8 @@ use Rattle.three_state.specs.declared.res.Res.{Res}
 use Rattle.three_state.specs.declared.res.Res.TheVariants.{Complete, Placeholder, Incomplete, Fault}
 use Rattle.three_state.specs.declared.strict.Verdict.{Verdict}
 use Rattle.dictionary.specs.Plain.{conditional_body}
-use Rattle.dictionary.specs.Reading.{Place}
-use Rattle.plain_table.specs.Known.{Known, env_of}
+use Rattle.dictionary.specs.Dependencies.{EvalPosition}
+use Rattle.plain_table.specs.Context.{Context, env_of}
 
 -- ---- what is visited behind a condition
 
@@ -50,7 +50,7 @@ step_visits complete condition step given rest is = sym (by_step complete condit
 
 -- ---- operands
 
-module _ (env : Env Literal Reading Use Place) (at : Place) where
+module _ (env : Env Literal Reading Use EvalPosition) (at : EvalPosition) where
   module _ (es : List Expr) (i : ℕ) (t : Expr) (low : i < length es) (is : t ≡ get_or es i t) where
     operands_left : drop i (map view es) ≡ view t ∷ drop (i + 1) (map view es)
     operands_left = drop-view view es i (i + 1) t low is (add-one i)
@@ -97,7 +97,7 @@ unfolding case_step
 conditional_at test value main step h =
     ap (λ (s : CaseStep). after_case s value (λ still. down_unless still main)) h ∙ switch_from-start ((test, value) ∷ (Complete (Boolean true), main) ∷ [])
 
-pub conditional_visits : (k : Known) (at : Place) (test value main : Source) (step : CaseStep) → step ≡ case_step true (over (env_of k) at test)
+pub conditional_visits : (k : Context) (at : EvalPosition) (test value main : Source) (step : CaseStep) → step ≡ case_step true (over (env_of k) at test)
     → suc (visits (env_of k) at test + after_step step (visits (env_of k) at value) (1 + visits (env_of k) at main)) ≡ visits (env_of k) at (conditional_body (Some (test, value)) main)
 conditional_visits k at test value main step is =
     ap (λ n. suc (visits (env_of k) at test + n)) (sym (step_visits true (over (env_of k) at test) step (visits (env_of k) at value) (1 + visits (env_of k) at main) is))

@@ -21,8 +21,8 @@ use Rattle.three_state.specs.Results.{truth}
 use Rattle.three_state.specs.declared.res.Res.{Res}
 use Rattle.three_state.specs.declared.res.Res.TheVariants.{Complete, Placeholder, Incomplete, Fault}
 use Rattle.dictionary.specs.Plain.{conditional_body}
-use Rattle.dictionary.specs.Reading.{Place}
-use Rattle.plain_table.specs.Known.{Known, env_of, reads_of}
+use Rattle.dictionary.specs.Dependencies.{EvalPosition}
+use Rattle.plain_table.specs.Context.{Context, env_of, reads_of}
 
 -- one more part is read: what is left was that part and what is left now
 pub moved_on : {X : Type 0} (old new part rest left : List X) → new ≡ old ++ part → left ≡ part ++ rest → new ++ rest ≡ old ++ left
@@ -48,7 +48,7 @@ after_step complete (Fault fault) given rest = refl
 pub after_this_step : {X : Type 0} (complete : Bool) (condition : Res) (step : CaseStep) (given rest : List X) → step ≡ case_step complete condition → after_condition condition given rest ≡ reads_after step given rest
 after_this_step complete condition step given rest h = after_step complete condition given rest ∙ ap (λ (s : CaseStep). reads_after s given rest) (sym h)
 
-module _ (env : Env Literal Reading Use Place) (by : ReadBy Reading Use Place Slot) (at : Place) where
+module _ (env : Env Literal Reading Use EvalPosition) (by : ReadBy Reading Use EvalPosition Slot) (at : EvalPosition) where
   -- ---- operands
 
   pub operand_read : (es : List Expr) (i : ℕ) (t : Expr) → i < length es → t ≡ get_or es i t → (old new : List Slot) → new ≡ old ++ slots_read env by at (view t)
@@ -90,7 +90,7 @@ pub joined : {X : Type 0} (old mid new a b : List X) → new ≡ mid ++ b → mi
 joined old mid new a b e f = e ∙ ap (λ l. l ++ b) f ∙ append_assoc old a b
 
 -- its value is read where the condition is true, else the main expression
-pub conditional_read : (k : Known) (at : Place) (test value main : Source) (step : CaseStep) → step ≡ case_step true (over (env_of k) at test)
+pub conditional_read : (k : Context) (at : EvalPosition) (test value main : Source) (step : CaseStep) → step ≡ case_step true (over (env_of k) at test)
     → (old new : List Slot) → new ≡ old ++ slots_read (env_of k) (reads_of k) at test
     → new ++ reads_after step (slots_read (env_of k) (reads_of k) at value) (slots_read (env_of k) (reads_of k) at main)
     ≡ old ++ slots_read (env_of k) (reads_of k) at (conditional_body (Some (test, value)) main)

@@ -19,7 +19,7 @@ use Rattle.dictionary.specs.Accepted.{Accepted}
 use Rattle.dictionary.specs.ByRank.{AreByRank}
 use Rattle.dictionary.specs.Homes.{home}
 use Rattle.dictionary.specs.Plain.{IsPlainBelow, plain, rank}
-use Rattle.dictionary.specs.Reading.{Look}
+use Rattle.dictionary.specs.Dependencies.{Results}
 use Rattle.dictionary.specs.Slots.{is_member, members_of_home, stands, stands_at, stands_of}
 use Rattle.dictionary.proofs.ByRankLaws.{place_of_fact}
 use Rattle.dictionary.proofs.NumberLaws.{fact_within}
@@ -64,8 +64,8 @@ in_taken x (y ∷ ys) (suc n) (suc place) h low e = or_right (nat_eq x y) (list_
 
 module _ (d : Accepted) (a : Answered) (order : List ℕ) (by_rank : AreByRank d.ranks order) (count : length d.ranks ≡ length d.tree.facts) where
   -- what is of lower rank than the next fact was done before
-  pub below_next : (i : ℕ) (look : Look) → i < length order → HasFacts d a (take i order) look → IsPlainBelow d a (rank d (get_or order i 0)) look
-  below_next i look low done s there lower =
+  pub below_next : (i : ℕ) (results : Results) → i < length order → HasFacts d a (take i order) results → IsPlainBelow d a (rank d (get_or order i 0)) results
+  below_next i results low done s there lower =
       let f = something (fact_at d.tree.facts s.fact) there in
       let number = fact_within d.tree.facts s.fact f.0 f.1 in
       let found = place_of_fact d.ranks order s.fact by_rank number.0 (omega (arith, number.1, count)) in
@@ -84,7 +84,7 @@ module _ (d : Accepted) (a : Answered) (order : List ℕ) (by_rank : AreByRank d
   done_if s o false c false out e = e
 
   -- with the next fact
-  pub facts_next : (i : ℕ) (before after : Look) → i < length order → HasFacts d a (take i order) before
+  pub facts_next : (i : ℕ) (before after : Results) → i < length order → HasFacts d a (take i order) before
       → IsFilled d a before (is_at (get_or order i 0) (members_of_home a (home d.tree (get_or order i 0)))) after → HasFacts d a (take (i + 1) order) after
   facts_next i before after low done filled s =
       let n = get_or order i 0 in
@@ -94,10 +94,10 @@ module _ (d : Accepted) (a : Answered) (order : List ℕ) (by_rank : AreByRank d
       ∙ sym (ap (λ (b : Bool). if b then plain d a s else None) (ap (list_any (nat_eq s.fact)) more ∙ list_any-append (nat_eq s.fact) (take i order) (n ∷ [])))
 
   -- with all facts
-  pub all_done : (i : ℕ) (look : Look) → length order ≤ i → HasFacts d a (take i order) look → HasAll d a look
-  all_done i look high done s = at (list_any (nat_eq s.fact) (take i order)) refl (stands d.tree a s) refl
+  pub all_done : (i : ℕ) (results : Results) → length order ≤ i → HasFacts d a (take i order) results → HasAll d a results
+  all_done i results high done s = at (list_any (nat_eq s.fact) (take i order)) refl (stands d.tree a s) refl
     where
-      at : (b : Bool) → list_any (nat_eq s.fact) (take i order) ≡ b → (c : Bool) → stands d.tree a s ≡ c → look s ≡ plain d a s
+      at : (b : Bool) → list_any (nat_eq s.fact) (take i order) ≡ b → (c : Bool) → stands d.tree a s ≡ c → results s ≡ plain d a s
       at true e c h = done s ∙ ap (λ (b : Bool). if b then plain d a s else None) e
       at false e false h = done s ∙ ap (λ (b : Bool). if b then plain d a s else None) e ∙ sym (no_result d a s h)
       at false e true h =

@@ -13,26 +13,26 @@ use Rattle.answers.specs.Answered.{Answered}
 use Rattle.dictionary.specs.Accepted.{Accepted, IsAccepted}
 use Rattle.dictionary.specs.ByRank.{AreByRank}
 use Rattle.dictionary.specs.Plain.{IsPlainBelow, at_fact, body, rank}
-use Rattle.dictionary.specs.Reading.{slot}
+use Rattle.dictionary.specs.Dependencies.{slot}
 use Rattle.dictionary.specs.Slots.{slots_of, slots_up_to, standing}
 use Rattle.dictionary.specs.Weights.{slot_weight}
 use Rattle.dictionary.proofs.WeightLaws.{fact_weight, weight_over, weight_over_lower}
-use Rattle.plain_table.specs.Known.{Known, option_weight}
+use Rattle.plain_table.specs.Context.{Context, option_weight}
 
 -- ---- one slot
 
-weighs_alike : (k : Known) (m : ℕ) (t : Option Source) → option_weight k m t ≡ weight_over k.tree k.look (slot k.fact m) t
+weighs_alike : (k : Context) (m : ℕ) (t : Option Source) → option_weight k m t ≡ weight_over k.tree k.results (slot k.fact m) t
 weighs_alike k m None = refl
 weighs_alike k m (Some t) = refl
 
-pub slot_weighs : (names : List (List ℕ)) (d : Accepted) → IsAccepted names d → (a : Answered) (k : Known) (m : ℕ) (f : Fact) → k.tree ≡ d.tree → fact_at d.tree.facts k.fact ≡ Some f
-    → IsPlainBelow d a (rank d k.fact) k.look → option_weight k m (body f) + option_weight k m f.placeholder ≡ slot_weight d a (slot k.fact m)
+pub slot_weighs : (names : List (List ℕ)) (d : Accepted) → IsAccepted names d → (a : Answered) (k : Context) (m : ℕ) (f : Fact) → k.tree ≡ d.tree → fact_at d.tree.facts k.fact ≡ Some f
+    → IsPlainBelow d a (rank d k.fact) k.results → option_weight k m (body f) + option_weight k m f.placeholder ≡ slot_weight d a (slot k.fact m)
 slot_weighs names d accepted a k m f same e below =
     ap (λ n. n + option_weight k m f.placeholder) (weighs_alike k m (body f))
-    ∙ ap (λ n. weight_over k.tree k.look (slot k.fact m) (body f) + n) (weighs_alike k m f.placeholder)
-    ∙ ap (λ (t : Tree). fact_weight t k.look (slot k.fact m) f) same
-    ∙ sym (ap (λ (o : Option Fact). at_fact o 0 (fact_weight d.tree k.look (slot k.fact m))) e)
-    ∙ weight_over_lower names d accepted a k.look (slot k.fact m) below
+    ∙ ap (λ n. weight_over k.tree k.results (slot k.fact m) (body f) + n) (weighs_alike k m f.placeholder)
+    ∙ ap (λ (t : Tree). fact_weight t k.results (slot k.fact m) f) same
+    ∙ sym (ap (λ (o : Option Fact). at_fact o 0 (fact_weight d.tree k.results (slot k.fact m))) e)
+    ∙ weight_over_lower names d accepted a k.results (slot k.fact m) below
 
 -- ---- sums
 

@@ -6,13 +6,13 @@ use Rattle.answers.specs.Answered.{Answered}
 use Rattle.dictionary.specs.Accepted.{Accepted}
 use Rattle.dictionary.specs.Engines.{Marks}
 use Rattle.dictionary.specs.Plain.{plain}
-use Rattle.dictionary.specs.Reading.{Look}
+use Rattle.dictionary.specs.Dependencies.{Results}
 
 -- the same results, but plain evaluation of the slots that pass a test
-abbrev pub filled : Accepted → Answered → Look → (Slot → Bool) → Look
-filled d a look test s = if test s then plain d a s else look s
+abbrev pub filled : Accepted → Answered → Results → (Slot → Bool) → Results
+filled d a results test s = if test s then plain d a s else results s
 
-abbrev pub IsFilled : Accepted → Answered → Look → (Slot → Bool) → Look → Type 0
+abbrev pub IsFilled : Accepted → Answered → Results → (Slot → Bool) → Results → Type 0
 IsFilled d a before test after = (s : Slot) → after s ≡ filled d a before test s
 
 -- it is a slot of the fact, at one of these members
@@ -24,12 +24,12 @@ abbrev pub is_of : List ℕ → Slot → Bool
 is_of facts s = list_any (nat_eq s.fact) facts
 
 -- exactly the slots of these facts have their results
-abbrev pub HasFacts : Accepted → Answered → List ℕ → Look → Type 0
-HasFacts d a facts look = IsFilled d a (λ s. None) (is_of facts) look
+abbrev pub HasFacts : Accepted → Answered → List ℕ → Results → Type 0
+HasFacts d a facts results = IsFilled d a (λ s. None) (is_of facts) results
 
 -- all have
-abbrev pub HasAll : Accepted → Answered → Look → Type 0
-HasAll d a look = (s : Slot) → look s ≡ plain d a s
+abbrev pub HasAll : Accepted → Answered → Results → Type 0
+HasAll d a results = (s : Slot) → results s ≡ plain d a s
 
 -- changes aren't counted
 abbrev pub no_marks : Marks

@@ -1,6 +1,6 @@
 pub mod Filling
-pub mod Ground
-pub mod Known
+pub mod TableContext
+pub mod Context
 pub mod NodeReads
 pub mod Noted
 pub mod SlotVisits

@@ -13,14 +13,14 @@ use Rattle.answers.specs.Answered.{Answered, value_of}
 use Rattle.answers.specs.declared.edit.Side.TheVariants.{Override}
 use Rattle.dictionary.specs.Accepted.{Accepted}
 use Rattle.dictionary.specs.Plain.{at_fact, body, main_result, plain}
-use Rattle.dictionary.specs.Reading.{Look, outermost, source_env}
+use Rattle.dictionary.specs.Dependencies.{Results, outermost, source_env}
 use Rattle.dictionary.specs.Slots.{standing}
 
 -- ---- over any map of results
 
 -- of an expression of the slot's fact
-abbrev pub expression_visits : Tree → Look → Slot → Source → ℕ
-expression_visits d look s t = visits (source_env d look s.fact) (outermost s.member) t
+abbrev pub expression_visits : Tree → Results → Slot → Source → ℕ
+expression_visits d results s t = visits (source_env d results s.fact) (outermost s.member) t
 
 -- none where an override stands in the body's place
 abbrev pub unless_given : Option Value → ℕ → ℕ
@@ -28,17 +28,17 @@ unless_given None n = n
 unless_given (Some v) n = 0
 
 -- a Writable fact has no body
-abbrev pub body_visits : Tree → Answered → Look → Slot → Option Source → ℕ
-body_visits d a look s None = 0
-body_visits d a look s (Some t) = unless_given (value_of Override a s) (expression_visits d look s t)
+abbrev pub body_visits : Tree → Answered → Results → Slot → Option Source → ℕ
+body_visits d a results s None = 0
+body_visits d a results s (Some t) = unless_given (value_of Override a s) (expression_visits d results s t)
 
 -- the placeholder is evaluated where the main result is incomplete
-abbrev pub placeholder_visits : Tree → Look → Slot → Option Source → Res → ℕ
-placeholder_visits d look s None r = 0
-placeholder_visits d look s (Some t) r = if is_incomplete r then expression_visits d look s t else 0
+abbrev pub placeholder_visits : Tree → Results → Slot → Option Source → Res → ℕ
+placeholder_visits d results s None r = 0
+placeholder_visits d results s (Some t) r = if is_incomplete r then expression_visits d results s t else 0
 
-abbrev pub visits_over : Tree → Answered → Look → Slot → Fact → ℕ
-visits_over d a look s f = body_visits d a look s (body f) + placeholder_visits d look s f.placeholder (main_result d a look s f.stated (body f))
+abbrev pub visits_over : Tree → Answered → Results → Slot → Fact → ℕ
+visits_over d a results s f = body_visits d a results s (body f) + placeholder_visits d results s f.placeholder (main_result d a results s f.stated (body f))
 
 -- ---- over plain evaluation
 

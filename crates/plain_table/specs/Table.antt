@@ -3,7 +3,7 @@ use Rattle.std.specs.Prelude.{ℕ, ◌&&◌, Bool, nat_eq, if◌then◌else◌, 
 use Rattle.std.specs.HashMap.{get}
 use Rattle.fact_values.specs.declared.slot.Slot.{Slot}
 use Rattle.three_state.specs.declared.res.Res.{Res}
-use Rattle.dictionary.specs.Reading.{Look}
+use Rattle.dictionary.specs.Dependencies.{Results}
 use Rattle.dictionary.specs.Slots.{slot_same}
 use Rattle.plain_table.specs.declared.table.Table.{Table}
 
@@ -14,9 +14,9 @@ Key = ℕ × ℕ
 abbrev pub same_key : Key → Key → Bool
 same_key k l = nat_eq k.0 l.0 && nat_eq k.1 l.1
 
-abbrev pub look_of : Table → Look
-look_of t s = get same_key t.cells (s.fact, s.member)
+abbrev pub results_of : Table → Results
+results_of t s = get same_key t.cells (s.fact, s.member)
 
 -- the same results, but for this slot
-abbrev pub with_cell : Look → Slot → Res → Look
-with_cell look t r s = if slot_same t s then Some r else look s
+abbrev pub with_cell : Results → Slot → Res → Results
+with_cell results t r s = if slot_same t s then Some r else results s

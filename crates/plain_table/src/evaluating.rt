@@ -7,14 +7,14 @@ ghost use Rattle.evaluation.specs.Visits.{visits, visits_of_all, visits_of_cases
 ghost use Rattle.operations.specs.CaseSteps.{case_step as step_of_case, find_from};
 ghost use Rattle.three_state.specs.Folds.{down_unless, kept_next, verdict_next};
 ghost use Rattle.three_state.specs.Results.{filter_of, find_of, members_of, switch_of};
-ghost use Rattle.plain_table.specs.Known.{condition_on, condition_reads, env_of, picked_at, reads_of, visits_on, visits_under, work_on};
+ghost use Rattle.plain_table.specs.Context.{condition_on, condition_reads, env_of, picked_at, reads_of, visits_on, visits_under, work_on};
 ghost use Rattle.plain_table.specs.Noted.{Noted};
 
-use crate::ground::Ground;
+use crate::context::EvalContext;
 use crate::notes::Notes;
 use crate::reads::{base_under, read, read_constant, read_source};
 use dict_tree::{Case, Expr, ManyOp, PathUse, PickOp, TwoOp};
-use dictionary::Place;
+use dictionary::EvalPosition;
 use fact_values::NoMemory;
 use operations::{
     CaseStep, FilterFold, ManyFold, case_step, found, members, one, source_verdict, taken, two,
@@ -28,27 +28,27 @@ use three_state::{Res, Verdict};
 /// be read and visited.
 #[cycle(eval)]
 #[tactic(auto, using(dict_tree::proofs::Views::views))]
-pub fn eval<G: Ground, N: Notes, L: Ledger>(
+pub fn eval<G: EvalContext, N: Notes, L: Ledger>(
     alloc: Global,
-    ground: &G,
-    at: Place,
+    context: &G,
+    at: EvalPosition,
     expr: &Expr,
     notes: &mut N,
     steps: &mut Steps<L>,
 ) -> Result<Res, NoMemory>
-    ensures value { IfOk result (λ r. r ≡ over (env_of (G.known ground.now)) at (view expr.now)) }
-    ensures reads { OnOk result (Noted N.keeps (N.noted notes.old) (slots_read (env_of (G.known ground.now)) (reads_of (G.known ground.now)) at (view expr.now)) (N.noted notes.new)) }
-    ensures visits { OnOk result (steps.new ≡ steps.old + visits (env_of (G.known ground.now)) at (view expr.now)) }
-    ensures most { steps.new ≤ steps.old + weight (env_of (G.known ground.now)) at (view expr.now) }
+    ensures value { IfOk result (λ r. r ≡ over (env_of (G.meaning context.now)) at (view expr.now)) }
+    ensures reads { OnOk result (Noted N.keeps (N.noted notes.old) (slots_read (env_of (G.meaning context.now)) (reads_of (G.meaning context.now)) at (view expr.now)) (N.noted notes.new)) }
+    ensures visits { OnOk result (steps.new ≡ steps.old + visits (env_of (G.meaning context.now)) at (view expr.now)) }
+    ensures most { steps.new ≤ steps.old + weight (env_of (G.meaning context.now)) at (view expr.now) }
 {
     steps.tick();
     match expr {
-        Expr::Const(constant) => read_constant(alloc, ground, constant),
-        Expr::Read(op, used) => read(alloc, ground, at, *op, used, notes),
-        Expr::Switch(cases) => eval_cases(alloc, ground, at, cases.as_slice(), notes, steps),
+        Expr::Const(constant) => read_constant(alloc, context, constant),
+        Expr::Read(op, used) => read(alloc, context, at, *op, used, notes),
+        Expr::Switch(cases) => eval_cases(alloc, context, at, cases.as_slice(), notes, steps),
         Expr::Many(op, operands) => eval_all(
             alloc,
-            ground,
+            context,
             at,
             *op,
             operands.as_slice(),
@@ -56,57 +56,57 @@ pub fn eval<G: Ground, N: Notes, L: Ledger>(
             steps,
         ),
         Expr::One(op, operand) => {
-            let res = eval(alloc, ground, at, operand, notes, steps)?;
+            let res = eval(alloc, context, at, operand, notes, steps)?;
             Ok(one(*op, res))
         }
         Expr::Two(op, left, right) => {
-            let first = eval(alloc, ground, at, left, notes, steps)?;
-            eval_second(alloc, ground, at, *op, &first, right, notes, steps)
+            let first = eval(alloc, context, at, left, notes, steps)?;
+            eval_second(alloc, context, at, *op, &first, right, notes, steps)
         }
-        Expr::Pick(op, used, test) => eval_pick(alloc, ground, at, *op, used, test, notes, steps),
+        Expr::Pick(op, used, test) => eval_pick(alloc, context, at, *op, used, test, notes, steps),
     }
 }
 
 // A node with two operands, behind the first.
 #[cycle(eval)]
-fn eval_second<G: Ground, N: Notes, L: Ledger>(
+fn eval_second<G: EvalContext, N: Notes, L: Ledger>(
     alloc: Global,
-    ground: &G,
-    at: Place,
+    context: &G,
+    at: EvalPosition,
     op: TwoOp,
     first: &Res,
     right: &Expr,
     notes: &mut N,
     steps: &mut Steps<L>,
 ) -> Result<Res, NoMemory>
-    ensures value { IfOk result (λ r. r ≡ two_of op first.now (over (env_of (G.known ground.now)) at (view right.now))) }
-    ensures reads { OnOk result (Noted N.keeps (N.noted notes.old) (slots_read (env_of (G.known ground.now)) (reads_of (G.known ground.now)) at (view right.now)) (N.noted notes.new)) }
-    ensures visits { OnOk result (steps.new ≡ steps.old + visits (env_of (G.known ground.now)) at (view right.now)) }
-    ensures most { steps.new ≤ steps.old + weight (env_of (G.known ground.now)) at (view right.now) }
+    ensures value { IfOk result (λ r. r ≡ two_of op first.now (over (env_of (G.meaning context.now)) at (view right.now))) }
+    ensures reads { OnOk result (Noted N.keeps (N.noted notes.old) (slots_read (env_of (G.meaning context.now)) (reads_of (G.meaning context.now)) at (view right.now)) (N.noted notes.new)) }
+    ensures visits { OnOk result (steps.new ≡ steps.old + visits (env_of (G.meaning context.now)) at (view right.now)) }
+    ensures most { steps.new ≤ steps.old + weight (env_of (G.meaning context.now)) at (view right.now) }
 {
-    let second = eval(alloc, ground, at, right, notes, steps)?;
+    let second = eval(alloc, context, at, right, notes, steps)?;
     Ok(two(op, first, &second))
 }
 
 // A node with a list of operands.
 #[cycle(eval)]
-fn eval_all<G: Ground, N: Notes, L: Ledger>(
+fn eval_all<G: EvalContext, N: Notes, L: Ledger>(
     alloc: Global,
-    ground: &G,
-    at: Place,
+    context: &G,
+    at: EvalPosition,
     op: ManyOp,
     operands: &[Expr],
     notes: &mut N,
     steps: &mut Steps<L>,
 ) -> Result<Res, NoMemory>
-    ensures value { IfOk result (λ r. r ≡ many_of op (over_all (env_of (G.known ground.now)) at (trees_view operands.now))) }
-    ensures reads { OnOk result (Noted N.keeps (N.noted notes.old) (slots_read_of_all (env_of (G.known ground.now)) (reads_of (G.known ground.now)) at (trees_view operands.now)) (N.noted notes.new)) }
-    ensures visits { OnOk result (steps.new ≡ steps.old + visits_of_all (env_of (G.known ground.now)) at (trees_view operands.now)) }
-    ensures most { steps.new ≤ steps.old + weight_of_all (env_of (G.known ground.now)) at (trees_view operands.now) }
+    ensures value { IfOk result (λ r. r ≡ many_of op (over_all (env_of (G.meaning context.now)) at (trees_view operands.now))) }
+    ensures reads { OnOk result (Noted N.keeps (N.noted notes.old) (slots_read_of_all (env_of (G.meaning context.now)) (reads_of (G.meaning context.now)) at (trees_view operands.now)) (N.noted notes.new)) }
+    ensures visits { OnOk result (steps.new ≡ steps.old + visits_of_all (env_of (G.meaning context.now)) at (trees_view operands.now)) }
+    ensures most { steps.new ≤ steps.old + weight_of_all (env_of (G.meaning context.now)) at (trees_view operands.now) }
 {
     let mut fold = ManyFold::new(op);
     for operand in operands {
-        let res = eval(alloc, ground, at, operand, notes, steps)?;
+        let res = eval(alloc, context, at, operand, notes, steps)?;
         fold.see(res);
     }
     Ok(fold.end())
@@ -114,66 +114,66 @@ fn eval_all<G: Ground, N: Notes, L: Ledger>(
 
 /// What the condition says of its case. The flag says that no condition before it rested on a placeholder.
 #[cycle(eval)]
-pub fn judge<G: Ground, N: Notes, L: Ledger>(
+pub fn judge<G: EvalContext, N: Notes, L: Ledger>(
     alloc: Global,
-    ground: &G,
-    at: Place,
+    context: &G,
+    at: EvalPosition,
     complete: bool,
     test: &Expr,
     notes: &mut N,
     steps: &mut Steps<L>,
 ) -> Result<CaseStep, NoMemory>
-    ensures step { IfOk result (λ s. s ≡ step_of_case complete (over (env_of (G.known ground.now)) at (view test.now))) }
-    ensures reads { OnOk result (Noted N.keeps (N.noted notes.old) (slots_read (env_of (G.known ground.now)) (reads_of (G.known ground.now)) at (view test.now)) (N.noted notes.new)) }
-    ensures visits { OnOk result (steps.new ≡ steps.old + visits (env_of (G.known ground.now)) at (view test.now)) }
-    ensures most { steps.new ≤ steps.old + weight (env_of (G.known ground.now)) at (view test.now) }
+    ensures step { IfOk result (λ s. s ≡ step_of_case complete (over (env_of (G.meaning context.now)) at (view test.now))) }
+    ensures reads { OnOk result (Noted N.keeps (N.noted notes.old) (slots_read (env_of (G.meaning context.now)) (reads_of (G.meaning context.now)) at (view test.now)) (N.noted notes.new)) }
+    ensures visits { OnOk result (steps.new ≡ steps.old + visits (env_of (G.meaning context.now)) at (view test.now)) }
+    ensures most { steps.new ≤ steps.old + weight (env_of (G.meaning context.now)) at (view test.now) }
 {
-    let condition = eval(alloc, ground, at, test, notes, steps)?;
+    let condition = eval(alloc, context, at, test, notes, steps)?;
     Ok(case_step(complete, &condition))
 }
 
 /// The result of a case that is taken. Unless the flag says so, it rests on a placeholder.
 #[cycle(eval)]
-pub fn take<G: Ground, N: Notes, L: Ledger>(
+pub fn take<G: EvalContext, N: Notes, L: Ledger>(
     alloc: Global,
-    ground: &G,
-    at: Place,
+    context: &G,
+    at: EvalPosition,
     complete: bool,
     outcome: &Expr,
     notes: &mut N,
     steps: &mut Steps<L>,
 ) -> Result<Res, NoMemory>
-    ensures value { IfOk result (λ r. r ≡ down_unless complete (over (env_of (G.known ground.now)) at (view outcome.now))) }
-    ensures reads { OnOk result (Noted N.keeps (N.noted notes.old) (slots_read (env_of (G.known ground.now)) (reads_of (G.known ground.now)) at (view outcome.now)) (N.noted notes.new)) }
-    ensures visits { OnOk result (steps.new ≡ steps.old + visits (env_of (G.known ground.now)) at (view outcome.now)) }
-    ensures most { steps.new ≤ steps.old + weight (env_of (G.known ground.now)) at (view outcome.now) }
+    ensures value { IfOk result (λ r. r ≡ down_unless complete (over (env_of (G.meaning context.now)) at (view outcome.now))) }
+    ensures reads { OnOk result (Noted N.keeps (N.noted notes.old) (slots_read (env_of (G.meaning context.now)) (reads_of (G.meaning context.now)) at (view outcome.now)) (N.noted notes.new)) }
+    ensures visits { OnOk result (steps.new ≡ steps.old + visits (env_of (G.meaning context.now)) at (view outcome.now)) }
+    ensures most { steps.new ≤ steps.old + weight (env_of (G.meaning context.now)) at (view outcome.now) }
 {
-    let res = eval(alloc, ground, at, outcome, notes, steps)?;
+    let res = eval(alloc, context, at, outcome, notes, steps)?;
     Ok(taken(complete, res))
 }
 
 // A Switch: the cases in their order, up to the one that is taken.
 #[cycle(eval)]
-fn eval_cases<G: Ground, N: Notes, L: Ledger>(
+fn eval_cases<G: EvalContext, N: Notes, L: Ledger>(
     alloc: Global,
-    ground: &G,
-    at: Place,
+    context: &G,
+    at: EvalPosition,
     cases: &[Case],
     notes: &mut N,
     steps: &mut Steps<L>,
 ) -> Result<Res, NoMemory>
-    ensures value { IfOk result (λ r. r ≡ switch_of (over_cases (env_of (G.known ground.now)) at (cases_view cases.now))) }
-    ensures reads { OnOk result (Noted N.keeps (N.noted notes.old) (slots_read_of_cases (env_of (G.known ground.now)) (reads_of (G.known ground.now)) at (cases_view cases.now)) (N.noted notes.new)) }
-    ensures visits { OnOk result (steps.new ≡ steps.old + visits_of_cases (env_of (G.known ground.now)) at (cases_view cases.now)) }
-    ensures most { steps.new ≤ steps.old + weight_of_cases (env_of (G.known ground.now)) at (cases_view cases.now) }
+    ensures value { IfOk result (λ r. r ≡ switch_of (over_cases (env_of (G.meaning context.now)) at (cases_view cases.now))) }
+    ensures reads { OnOk result (Noted N.keeps (N.noted notes.old) (slots_read_of_cases (env_of (G.meaning context.now)) (reads_of (G.meaning context.now)) at (cases_view cases.now)) (N.noted notes.new)) }
+    ensures visits { OnOk result (steps.new ≡ steps.old + visits_of_cases (env_of (G.meaning context.now)) at (cases_view cases.now)) }
+    ensures most { steps.new ≤ steps.old + weight_of_cases (env_of (G.meaning context.now)) at (cases_view cases.now) }
 {
     let mut complete = true;
     for case in cases {
-        let step = judge(alloc, ground, at, complete, &case.test, notes, steps)?;
+        let step = judge(alloc, context, at, complete, &case.test, notes, steps)?;
         match step {
             CaseStep::Next(still) => complete = still,
             CaseStep::Take(still) => {
-                return take(alloc, ground, at, still, &case.outcome, notes, steps);
+                return take(alloc, context, at, still, &case.outcome, notes, steps);
             }
             CaseStep::End(res) => return Ok(res),
         }
@@ -183,28 +183,28 @@ fn eval_cases<G: Ground, N: Notes, L: Ledger>(
 
 // A Filter or a Find, from its path and its condition.
 #[cycle(eval)]
-fn eval_pick<G: Ground, N: Notes, L: Ledger>(
+fn eval_pick<G: EvalContext, N: Notes, L: Ledger>(
     alloc: Global,
-    ground: &G,
-    at: Place,
+    context: &G,
+    at: EvalPosition,
     op: PickOp,
     used: &PathUse,
     test: &Expr,
     notes: &mut N,
     steps: &mut Steps<L>,
 ) -> Result<Res, NoMemory>
-    ensures value { IfOk result (λ r. r ≡ pick_of op ((env_of (G.known ground.now)).source at (use_view used.now)) (λ m. over (env_of (G.known ground.now)) ((env_of (G.known ground.now)).enter at (use_view used.now) m) (view test.now))) }
-    ensures reads { OnOk result (Noted N.keeps (N.noted notes.old) ((reads_of (G.known ground.now)).source at (use_view used.now)
-        ++ flat_map (λ m. slots_read (env_of (G.known ground.now)) (reads_of (G.known ground.now)) ((env_of (G.known ground.now)).enter at (use_view used.now) m) (view test.now))
-        (members_visited op (picked_at (G.known ground.now) at (use_view used.now) (view test.now)) ((env_of (G.known ground.now)).source at (use_view used.now)))) (N.noted notes.new)) }
-    ensures visits { OnOk result (steps.new ≡ steps.old + visits_under (G.known ground.now) at op (use_view used.now) (view test.now)) }
-    ensures most { steps.new ≤ steps.old + sum_by (λ m. weight (env_of (G.known ground.now)) ((env_of (G.known ground.now)).enter at (use_view used.now) m) (view test.now)) (members_of ((env_of (G.known ground.now)).source at (use_view used.now))) }
+    ensures value { IfOk result (λ r. r ≡ pick_of op ((env_of (G.meaning context.now)).source at (use_view used.now)) (λ m. over (env_of (G.meaning context.now)) ((env_of (G.meaning context.now)).enter at (use_view used.now) m) (view test.now))) }
+    ensures reads { OnOk result (Noted N.keeps (N.noted notes.old) ((reads_of (G.meaning context.now)).source at (use_view used.now)
+        ++ flat_map (λ m. slots_read (env_of (G.meaning context.now)) (reads_of (G.meaning context.now)) ((env_of (G.meaning context.now)).enter at (use_view used.now) m) (view test.now))
+        (members_visited op (picked_at (G.meaning context.now) at (use_view used.now) (view test.now)) ((env_of (G.meaning context.now)).source at (use_view used.now)))) (N.noted notes.new)) }
+    ensures visits { OnOk result (steps.new ≡ steps.old + visits_under (G.meaning context.now) at op (use_view used.now) (view test.now)) }
+    ensures most { steps.new ≤ steps.old + sum_by (λ m. weight (env_of (G.meaning context.now)) ((env_of (G.meaning context.now)).enter at (use_view used.now) m) (view test.now)) (members_of ((env_of (G.meaning context.now)).source at (use_view used.now))) }
 {
-    let source = read_source(ground, at, used, notes)?;
-    let under = at.under(base_under(ground, at, used));
+    let source = read_source(context, at, used, notes)?;
+    let under = at.under(base_under(context, at, used));
     match op {
-        PickOp::Filter => eval_filter(alloc, ground, under, source, test, notes, steps),
-        PickOp::Find => eval_find(alloc, ground, under, source, test, notes, steps),
+        PickOp::Filter => eval_filter(alloc, context, under, source, test, notes, steps),
+        PickOp::Find => eval_find(alloc, context, under, source, test, notes, steps),
     }
 }
 
@@ -220,10 +220,10 @@ fn keep(kept: &mut Vec<u32>, is_kept: bool, member: u32) -> Result<(), NoMemory>
 
 // Folds one member, and keeps it where its condition is true.
 #[cycle(eval)]
-fn see_member<G: Ground, N: Notes, L: Ledger>(
+fn see_member<G: EvalContext, N: Notes, L: Ledger>(
     alloc: Global,
-    ground: &G,
-    at: Place,
+    context: &G,
+    at: EvalPosition,
     test: &Expr,
     fold: &mut FilterFold,
     kept: &mut Vec<u32>,
@@ -231,39 +231,39 @@ fn see_member<G: Ground, N: Notes, L: Ledger>(
     notes: &mut N,
     steps: &mut Steps<L>,
 ) -> Result<(), NoMemory>
-    ensures fold { OnOk result (fold.new ≡ verdict_next fold.old (over (env_of (G.known ground.now)) at (view test.now))) }
-    ensures kept { OnOk result (kept.new.items ≡ kept_next kept.old.items member (over (env_of (G.known ground.now)) at (view test.now))) }
-    ensures reads { OnOk result (Noted N.keeps (N.noted notes.old) (slots_read (env_of (G.known ground.now)) (reads_of (G.known ground.now)) at (view test.now)) (N.noted notes.new)) }
-    ensures visits { OnOk result (steps.new ≡ steps.old + visits (env_of (G.known ground.now)) at (view test.now)) }
-    ensures most { steps.new ≤ steps.old + weight (env_of (G.known ground.now)) at (view test.now) }
+    ensures fold { OnOk result (fold.new ≡ verdict_next fold.old (over (env_of (G.meaning context.now)) at (view test.now))) }
+    ensures kept { OnOk result (kept.new.items ≡ kept_next kept.old.items member (over (env_of (G.meaning context.now)) at (view test.now))) }
+    ensures reads { OnOk result (Noted N.keeps (N.noted notes.old) (slots_read (env_of (G.meaning context.now)) (reads_of (G.meaning context.now)) at (view test.now)) (N.noted notes.new)) }
+    ensures visits { OnOk result (steps.new ≡ steps.old + visits (env_of (G.meaning context.now)) at (view test.now)) }
+    ensures most { steps.new ≤ steps.old + weight (env_of (G.meaning context.now)) at (view test.now) }
 {
-    let condition = eval(alloc, ground, at, test, notes, steps)?;
+    let condition = eval(alloc, context, at, test, notes, steps)?;
     let is_kept = fold.see(&condition);
     keep(kept, is_kept, member)
 }
 
 // The members of the collection at which the condition is true.
 #[cycle(eval)]
-fn eval_filter<G: Ground, N: Notes, L: Ledger>(
+fn eval_filter<G: EvalContext, N: Notes, L: Ledger>(
     alloc: Global,
-    ground: &G,
-    under: Place,
+    context: &G,
+    under: EvalPosition,
     source: &Res,
     test: &Expr,
     notes: &mut N,
     steps: &mut Steps<L>,
 ) -> Result<Res, NoMemory>
-    ensures value { IfOk result (λ r. r ≡ filter_of source.now (condition_on (G.known ground.now) under (view test.now))) }
-    ensures reads { OnOk result (Noted N.keeps (N.noted notes.old) (flat_map (condition_reads (G.known ground.now) under (view test.now)) (members_of source.now)) (N.noted notes.new)) }
-    ensures visits { OnOk result (steps.new ≡ steps.old + sum_by (visits_on (G.known ground.now) under (view test.now)) (members_of source.now)) }
-    ensures most { steps.new ≤ steps.old + sum_by (work_on (G.known ground.now) under (view test.now)) (members_of source.now) }
+    ensures value { IfOk result (λ r. r ≡ filter_of source.now (condition_on (G.meaning context.now) under (view test.now))) }
+    ensures reads { OnOk result (Noted N.keeps (N.noted notes.old) (flat_map (condition_reads (G.meaning context.now) under (view test.now)) (members_of source.now)) (N.noted notes.new)) }
+    ensures visits { OnOk result (steps.new ≡ steps.old + sum_by (visits_on (G.meaning context.now) under (view test.now)) (members_of source.now)) }
+    ensures most { steps.new ≤ steps.old + sum_by (work_on (G.meaning context.now) under (view test.now)) (members_of source.now) }
 {
     let mut fold = FilterFold::new(source);
     let mut kept = Vec::new(alloc);
     for member in members(source) {
         see_member(
             alloc,
-            ground,
+            context,
             under.at(*member),
             test,
             &mut fold,
@@ -278,25 +278,25 @@ fn eval_filter<G: Ground, N: Notes, L: Ledger>(
 
 // The first member of the collection at which the condition is true.
 #[cycle(eval)]
-fn eval_find<G: Ground, N: Notes, L: Ledger>(
+fn eval_find<G: EvalContext, N: Notes, L: Ledger>(
     alloc: Global,
-    ground: &G,
-    under: Place,
+    context: &G,
+    under: EvalPosition,
     source: &Res,
     test: &Expr,
     notes: &mut N,
     steps: &mut Steps<L>,
 ) -> Result<Res, NoMemory>
-    ensures value { IfOk result (λ r. r ≡ find_of source.now (condition_on (G.known ground.now) under (view test.now))) }
-    ensures reads { OnOk result (Noted N.keeps (N.noted notes.old) (flat_map (condition_reads (G.known ground.now) under (view test.now)) (up_to_decider (condition_on (G.known ground.now) under (view test.now)) (members_of source.now))) (N.noted notes.new)) }
-    ensures visits { OnOk result (steps.new ≡ steps.old + sum_by (visits_on (G.known ground.now) under (view test.now)) (up_to_decider (condition_on (G.known ground.now) under (view test.now)) (members_of source.now))) }
-    ensures most { steps.new ≤ steps.old + sum_by (work_on (G.known ground.now) under (view test.now)) (members_of source.now) }
+    ensures value { IfOk result (λ r. r ≡ find_of source.now (condition_on (G.meaning context.now) under (view test.now))) }
+    ensures reads { OnOk result (Noted N.keeps (N.noted notes.old) (flat_map (condition_reads (G.meaning context.now) under (view test.now)) (up_to_decider (condition_on (G.meaning context.now) under (view test.now)) (members_of source.now))) (N.noted notes.new)) }
+    ensures visits { OnOk result (steps.new ≡ steps.old + sum_by (visits_on (G.meaning context.now) under (view test.now)) (up_to_decider (condition_on (G.meaning context.now) under (view test.now)) (members_of source.now))) }
+    ensures most { steps.new ≤ steps.old + sum_by (work_on (G.meaning context.now) under (view test.now)) (members_of source.now) }
 {
     match source_verdict(source) {
         Verdict::Go(complete) => {
             find_among(
                 alloc,
-                ground,
+                context,
                 under,
                 complete,
                 members(source),
@@ -312,26 +312,26 @@ fn eval_find<G: Ground, N: Notes, L: Ledger>(
 
 // The same of these members. The flag says that the collection is complete.
 #[cycle(eval)]
-fn find_among<G: Ground, N: Notes, L: Ledger>(
+fn find_among<G: EvalContext, N: Notes, L: Ledger>(
     alloc: Global,
-    ground: &G,
-    under: Place,
+    context: &G,
+    under: EvalPosition,
     complete: bool,
     members: &[u32],
     test: &Expr,
     notes: &mut N,
     steps: &mut Steps<L>,
 ) -> Result<Res, NoMemory>
-    ensures value { IfOk result (λ r. r ≡ find_from (condition_on (G.known ground.now) under (view test.now)) complete members.now) }
-    ensures reads { OnOk result (Noted N.keeps (N.noted notes.old) (flat_map (condition_reads (G.known ground.now) under (view test.now)) (up_to_decider (condition_on (G.known ground.now) under (view test.now)) members.now)) (N.noted notes.new)) }
-    ensures visits { OnOk result (steps.new ≡ steps.old + sum_by (visits_on (G.known ground.now) under (view test.now)) (up_to_decider (condition_on (G.known ground.now) under (view test.now)) members.now)) }
-    ensures most { steps.new ≤ steps.old + sum_by (work_on (G.known ground.now) under (view test.now)) members.now }
+    ensures value { IfOk result (λ r. r ≡ find_from (condition_on (G.meaning context.now) under (view test.now)) complete members.now) }
+    ensures reads { OnOk result (Noted N.keeps (N.noted notes.old) (flat_map (condition_reads (G.meaning context.now) under (view test.now)) (up_to_decider (condition_on (G.meaning context.now) under (view test.now)) members.now)) (N.noted notes.new)) }
+    ensures visits { OnOk result (steps.new ≡ steps.old + sum_by (visits_on (G.meaning context.now) under (view test.now)) (up_to_decider (condition_on (G.meaning context.now) under (view test.now)) members.now)) }
+    ensures most { steps.new ≤ steps.old + sum_by (work_on (G.meaning context.now) under (view test.now)) members.now }
 {
     let mut complete = complete;
     for member in members {
         let step = judge(
             alloc,
-            ground,
+            context,
             under.at(*member),
             complete,
             test,

@@ -2,8 +2,8 @@
 #![tactic(auto)]
 
 mod body;
+mod context;
 mod evaluating;
-mod ground;
 mod notes;
 mod plain_table;
 mod reads;
@@ -12,7 +12,7 @@ mod table;
 mod whole;
 
 pub use body::eval_body;
+pub use context::EvalContext;
 pub use evaluating::eval;
-pub use ground::Ground;
 pub use notes::Notes;
 pub use plain_table::PlainTable;

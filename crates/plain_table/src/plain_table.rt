@@ -8,7 +8,7 @@ ghost use Rattle.dictionary.specs.Plain.{plain};
 ghost use Rattle.dictionary.specs.Weights.{whole_weight};
 ghost use Rattle.plain_table.specs.Filling.{HasAll, no_marks};
 ghost use Rattle.plain_table.specs.SlotVisits.{whole_visits};
-ghost use Rattle.plain_table.specs.Table.{look_of};
+ghost use Rattle.plain_table.specs.Table.{results_of};
 
 use crate::table::Table;
 use crate::whole::whole_table;
@@ -41,7 +41,7 @@ fn first_table<L: Ledger>(
     requires name { blank.name ≡ L.name }
     requires parts { blank.parts ≡ L.parts }
     requires some { 0 < blank.parts }
-    ensures { IfOk result (λ t. HasAll (accepted dict.now) (answered answers.now) (look_of t)) }
+    ensures { IfOk result (λ t. HasAll (accepted dict.now) (answered answers.now) (results_of t)) }
 {
     let mut steps = Steps::<L>::new(blank);
     whole_table(alloc, dict, answers, &mut steps)
@@ -52,7 +52,7 @@ impl FactEngine for PlainTable {
 
     ghost STAMPS = { false };
 
-    ghost stands_for = { λ e d a. HasAll d a (look_of e.table) };
+    ghost stands_for = { λ e d a. HasAll d a (results_of e.table) };
 
     ghost marks = { λ e. no_marks };
 
@@ -61,7 +61,7 @@ impl FactEngine for PlainTable {
     fn begin(alloc: Global, dict: &Dictionary, answers: &Answers) -> Result<Self, NoMemory>
         requires well { WellFormed (answered answers.now) }
         requires from_one { FromOne (answered answers.now) }
-        ensures stands { IfOk result (λ e. HasAll (accepted dict.now) (answered answers.now) (look_of e.table)) }
+        ensures stands { IfOk result (λ e. HasAll (accepted dict.now) (answered answers.now) (results_of e.table)) }
     {
         let table = first_table::<Brand>(alloc, dict, answers, Blank::new(1))?;
         Ok(PlainTable { alloc, table })
@@ -76,8 +76,8 @@ impl FactEngine for PlainTable {
     ) -> Result<(), NoMemory>
         requires well { WellFormed (answered now.now) }
         requires from_one { FromOne (answered now.now) }
-        ensures stands { OnOk result (HasAll (accepted dict.now) (answered now.now) (look_of self.new.table)) }
-        ensures unchanged { OnErr result ((d : Accepted) (a : Answered) → HasAll d a (look_of self.old.table) → HasAll d a (look_of self.new.table)) }
+        ensures stands { OnOk result (HasAll (accepted dict.now) (answered now.now) (results_of self.new.table)) }
+        ensures unchanged { OnErr result ((d : Accepted) (a : Answered) → HasAll d a (results_of self.old.table) → HasAll d a (results_of self.new.table)) }
         ensures visits { OnOk result (steps.new ≡ steps.old + whole_visits (accepted dict.now) (answered now.now)) }
         ensures steps { steps.new ≤ steps.old + whole_weight (accepted dict.now) (answered now.now) }
     {
@@ -87,7 +87,7 @@ impl FactEngine for PlainTable {
     }
 
     fn result(&self, slot: Slot) -> Option<&Res>
-        ensures { (d : Accepted) (a : Answered) → HasAll d a (look_of self.now.table) → option_copied result ≡ plain d a slot }
+        ensures { (d : Accepted) (a : Answered) → HasAll d a (results_of self.now.table) → option_copied result ≡ plain d a slot }
     {
         self.table.get(slot)
     }

@@ -8,15 +8,15 @@ ghost use Rattle.evaluation.specs.Reads.{sum_over, through_item};
 ghost use Rattle.evaluation.specs.SlotsRead.{fields_read, item_read};
 ghost use Rattle.three_state.specs.Results.{count_of, members_of};
 ghost use Rattle.three_state.specs.declared.res.Res.TheVariants.{Complete};
-ghost use Rattle.dictionary.specs.Reading.{collection, constant_value as value_of_constant, dependency, field_type as type_of_field, read_by, read_result, result_at, source_result};
+ghost use Rattle.dictionary.specs.Dependencies.{collection, constant_value as value_of_constant, dependency, field_type as type_of_field, read_by, read_result, result_at, source_result};
 ghost use Rattle.plain_table.specs.NodeReads.{dependency_reads, node_reads, reads_of_op, source_reads, target_slot};
 ghost use Rattle.plain_table.specs.Noted.{Noted};
 
-use crate::ground::Ground;
+use crate::context::EvalContext;
 use crate::notes::Notes;
 use dict_tree::{Constant, DictSource, PathUse, ReadOp, Targets};
 use dict_types::{constant_value, type_at};
-use dictionary::Place;
+use dictionary::EvalPosition;
 use fact_paths::UsePath;
 use fact_values::{FactType, NoMemory, Slot, Value};
 use operations::{CountFold, ItemStep, SumFold, complete_test, item_step, members, size, taken};
@@ -24,14 +24,14 @@ use std::alloc::Global;
 use three_state::Res;
 
 /// The result of a constant. A text that spells no value counts as false.
-pub fn read_constant<G: Ground>(
+pub fn read_constant<G: EvalContext>(
     alloc: Global,
-    ground: &G,
+    context: &G,
     constant: &Constant,
 ) -> Result<Res, NoMemory>
-    ensures { IfOk result (λ r. r ≡ Complete (value_of_constant (G.known ground.now).tree.enums (literal_of constant.now))) }
+    ensures { IfOk result (λ r. r ≡ Complete (value_of_constant (G.meaning context.now).tree.enums (literal_of constant.now))) }
 {
-    match constant_value(alloc, ground.source().enums(), constant)? {
+    match constant_value(alloc, context.source().enums(), constant)? {
         Some(value) => Ok(Res::Complete(value)),
         None => Ok(Res::Complete(Value::Boolean(false))),
     }
@@ -48,34 +48,34 @@ fn note<N: Notes>(notes: &mut N, fact: Option<u32>, member: u32) -> Result<(), N
 }
 
 // Reads the slot of a target.
-fn read_at<G: Ground, N: Notes>(
+fn read_at<G: EvalContext, N: Notes>(
     alloc: Global,
-    ground: &G,
+    context: &G,
     fact: Option<u32>,
     member: u32,
     notes: &mut N,
 ) -> Result<Res, NoMemory>
-    ensures value { IfOk result (λ r. r ≡ result_at (G.known ground.now).look fact member) }
+    ensures value { IfOk result (λ r. r ≡ result_at (G.meaning context.now).results fact member) }
     ensures reads { OnOk result (Noted N.keeps (N.noted notes.old) (target_slot fact member) (N.noted notes.new)) }
 {
     note(notes, fact, member)?;
-    ground.result_at(fact, member).copy(alloc)
+    context.result_at(fact, member).copy(alloc)
 }
 
 // Reads the field of the member that an item names.
-fn read_field<G: Ground, N: Notes>(
+fn read_field<G: EvalContext, N: Notes>(
     alloc: Global,
-    ground: &G,
+    context: &G,
     item: &Res,
     field: Option<u32>,
     notes: &mut N,
 ) -> Result<Res, NoMemory>
-    ensures value { IfOk result (λ r. r ≡ through_item item.now (result_at (G.known ground.now).look field)) }
+    ensures value { IfOk result (λ r. r ≡ through_item item.now (result_at (G.meaning context.now).results field)) }
     ensures reads { OnOk result (Noted N.keeps (N.noted notes.old) (item_read item.now [] (target_slot field)) (N.noted notes.new)) }
 {
     match item_step(item) {
         ItemStep::Member(member, complete) => {
-            let res = read_at(alloc, ground, field, member, notes)?;
+            let res = read_at(alloc, context, field, member, notes)?;
             Ok(taken(complete, res))
         }
         ItemStep::End(res) => Ok(res),
@@ -83,40 +83,40 @@ fn read_field<G: Ground, N: Notes>(
 }
 
 // Reads an item, and the field of the member that it names.
-fn read_through<G: Ground, N: Notes>(
+fn read_through<G: EvalContext, N: Notes>(
     alloc: Global,
-    ground: &G,
+    context: &G,
     targets: Targets,
     member: u32,
     notes: &mut N,
 ) -> Result<Res, NoMemory>
-    ensures value { IfOk result (λ r. r ≡ through_item (result_at (G.known ground.now).look targets.first member) (result_at (G.known ground.now).look targets.second)) }
-    ensures reads { OnOk result (Noted N.keeps (N.noted notes.old) (item_read (result_at (G.known ground.now).look targets.first member) (target_slot targets.first member) (target_slot targets.second)) (N.noted notes.new)) }
+    ensures value { IfOk result (λ r. r ≡ through_item (result_at (G.meaning context.now).results targets.first member) (result_at (G.meaning context.now).results targets.second)) }
+    ensures reads { OnOk result (Noted N.keeps (N.noted notes.old) (item_read (result_at (G.meaning context.now).results targets.first member) (target_slot targets.first member) (target_slot targets.second)) (N.noted notes.new)) }
 {
     note(notes, targets.first, member)?;
-    let item = ground.result_at(targets.first, member);
-    read_field(alloc, ground, item, targets.second, notes)
+    let item = context.result_at(targets.first, member);
+    read_field(alloc, context, item, targets.second, notes)
 }
 
 // The result that a path reads, where these are its targets.
-fn read_dependency<G: Ground, N: Notes>(
+fn read_dependency<G: EvalContext, N: Notes>(
     alloc: Global,
-    ground: &G,
+    context: &G,
     targets: Targets,
-    at: Place,
+    at: EvalPosition,
     path: &UsePath,
     notes: &mut N,
 ) -> Result<Res, NoMemory>
-    ensures value { IfOk result (λ r. r ≡ dependency (G.known ground.now).look targets at path.now) }
-    ensures reads { OnOk result (Noted N.keeps (N.noted notes.old) (dependency_reads (G.known ground.now).look targets at path.now) (N.noted notes.new)) }
+    ensures value { IfOk result (λ r. r ≡ dependency (G.meaning context.now).results targets at path.now) }
+    ensures reads { OnOk result (Noted N.keeps (N.noted notes.old) (dependency_reads (G.meaning context.now).results targets at path.now) (N.noted notes.new)) }
 {
     match path {
-        UsePath::Global(_) => read_at(alloc, ground, targets.first, 0, notes),
-        UsePath::Sibling(_) => read_at(alloc, ground, targets.first, at.own(), notes),
-        UsePath::Inner(_) => read_at(alloc, ground, targets.first, at.inner(), notes),
+        UsePath::Global(_) => read_at(alloc, context, targets.first, 0, notes),
+        UsePath::Sibling(_) => read_at(alloc, context, targets.first, at.own(), notes),
+        UsePath::Inner(_) => read_at(alloc, context, targets.first, at.inner(), notes),
         UsePath::Each(..) => Ok(Res::Incomplete),
-        UsePath::Through(..) => read_through(alloc, ground, targets, 0, notes),
-        UsePath::SiblingThrough(..) => read_through(alloc, ground, targets, at.own(), notes),
+        UsePath::Through(..) => read_through(alloc, context, targets, 0, notes),
+        UsePath::SiblingThrough(..) => read_through(alloc, context, targets, at.own(), notes),
     }
 }
 
@@ -127,32 +127,32 @@ fn field_type(source: &DictSource, field: Option<u32>) -> Option<FactType>
 }
 
 // The type of a CollectionSum's fields, which are whole numbers where the field has no type.
-fn summed_type<G: Ground>(ground: &G, targets: Targets) -> FactType
-    ensures { result ≡ type_of_field (G.known ground.now).tree targets }
+fn summed_type<G: EvalContext>(context: &G, targets: Targets) -> FactType
+    ensures { result ≡ type_of_field (G.meaning context.now).tree targets }
 {
-    field_type(ground.source(), targets.second).unwrap_or(FactType::Int)
+    field_type(context.source(), targets.second).unwrap_or(FactType::Int)
 }
 
 // The sum of the field over the members.
-fn read_sum<G: Ground>(ground: &G, targets: Targets) -> Res
-    ensures { result ≡ sum_over (type_of_field (G.known ground.now).tree targets) (collection (G.known ground.now).look targets) (result_at (G.known ground.now).look targets.second) }
+fn read_sum<G: EvalContext>(context: &G, targets: Targets) -> Res
+    ensures { result ≡ sum_over (type_of_field (G.meaning context.now).tree targets) (collection (G.meaning context.now).results targets) (result_at (G.meaning context.now).results targets.second) }
 {
-    let source = ground.result_at(targets.first, 0);
-    let mut fold = SumFold::new(summed_type(ground, targets), source);
+    let source = context.result_at(targets.first, 0);
+    let mut fold = SumFold::new(summed_type(context, targets), source);
     for member in members(source) {
-        fold.see(ground.result_at(targets.second, *member));
+        fold.see(context.result_at(targets.second, *member));
     }
     fold.end()
 }
 
 // The number of members of which the field is true.
-fn read_count<G: Ground>(ground: &G, targets: Targets) -> Res
-    ensures { result ≡ count_of (collection (G.known ground.now).look targets) (result_at (G.known ground.now).look targets.second) }
+fn read_count<G: EvalContext>(context: &G, targets: Targets) -> Res
+    ensures { result ≡ count_of (collection (G.meaning context.now).results targets) (result_at (G.meaning context.now).results targets.second) }
 {
-    let source = ground.result_at(targets.first, 0);
+    let source = context.result_at(targets.first, 0);
     let mut fold = CountFold::new(source);
     for member in members(source) {
-        fold.see(ground.result_at(targets.second, *member));
+        fold.see(context.result_at(targets.second, *member));
     }
     fold.end()
 }
@@ -168,99 +168,99 @@ fn note_fields<N: Notes>(notes: &mut N, source: &Res, field: Option<u32>) -> Res
 }
 
 // Notes the collection and the field of each of its members.
-fn note_collection<G: Ground, N: Notes>(
-    ground: &G,
+fn note_collection<G: EvalContext, N: Notes>(
+    context: &G,
     targets: Targets,
     notes: &mut N,
 ) -> Result<(), NoMemory>
-    ensures { OnOk result (Noted N.keeps (N.noted notes.old) (fields_read (collection (G.known ground.now).look targets) (target_slot targets.first 0) (target_slot targets.second)) (N.noted notes.new)) }
+    ensures { OnOk result (Noted N.keeps (N.noted notes.old) (fields_read (collection (G.meaning context.now).results targets) (target_slot targets.first 0) (target_slot targets.second)) (N.noted notes.new)) }
 {
     note(notes, targets.first, 0)?;
-    note_fields(notes, ground.result_at(targets.first, 0), targets.second)
+    note_fields(notes, context.result_at(targets.first, 0), targets.second)
 }
 
-fn read_path<G: Ground, N: Notes>(
+fn read_path<G: EvalContext, N: Notes>(
     alloc: Global,
-    ground: &G,
+    context: &G,
     op: ReadOp,
     targets: Targets,
-    at: Place,
+    at: EvalPosition,
     path: &UsePath,
     notes: &mut N,
 ) -> Result<Res, NoMemory>
-    ensures value { IfOk result (λ r. r ≡ read_by op (G.known ground.now).tree (G.known ground.now).look targets at path.now) }
-    ensures reads { OnOk result (Noted N.keeps (N.noted notes.old) (reads_of_op op (G.known ground.now).look targets at path.now) (N.noted notes.new)) }
+    ensures value { IfOk result (λ r. r ≡ read_by op (G.meaning context.now).tree (G.meaning context.now).results targets at path.now) }
+    ensures reads { OnOk result (Noted N.keeps (N.noted notes.old) (reads_of_op op (G.meaning context.now).results targets at path.now) (N.noted notes.new)) }
 {
     match op {
-        ReadOp::Dependency => read_dependency(alloc, ground, targets, at, path, notes),
+        ReadOp::Dependency => read_dependency(alloc, context, targets, at, path, notes),
         ReadOp::IsComplete => {
-            let res = read_dependency(alloc, ground, targets, at, path, notes)?;
+            let res = read_dependency(alloc, context, targets, at, path, notes)?;
             Ok(complete_test(&res))
         }
         ReadOp::CollectionSize => {
             note(notes, targets.first, 0)?;
-            Ok(size(ground.result_at(targets.first, 0)))
+            Ok(size(context.result_at(targets.first, 0)))
         }
         ReadOp::CollectionSum => {
-            note_collection(ground, targets, notes)?;
-            Ok(read_sum(ground, targets))
+            note_collection(context, targets, notes)?;
+            Ok(read_sum(context, targets))
         }
         ReadOp::Count => {
-            note_collection(ground, targets, notes)?;
-            Ok(read_count(ground, targets))
+            note_collection(context, targets, notes)?;
+            Ok(read_count(context, targets))
         }
     }
 }
 
 /// The result of a node that reads a path. The slots that it reads are noted.
-pub fn read<G: Ground, N: Notes>(
+pub fn read<G: EvalContext, N: Notes>(
     alloc: Global,
-    ground: &G,
-    at: Place,
+    context: &G,
+    at: EvalPosition,
     op: ReadOp,
     used: &PathUse,
     notes: &mut N,
 ) -> Result<Res, NoMemory>
-    ensures value { IfOk result (λ r. r ≡ read_result (G.known ground.now).tree (G.known ground.now).look (G.known ground.now).fact at op used.now.path) }
-    ensures reads { OnOk result (Noted N.keeps (N.noted notes.old) (node_reads (G.known ground.now).tree (G.known ground.now).look (G.known ground.now).fact at op used.now.path) (N.noted notes.new)) }
+    ensures value { IfOk result (λ r. r ≡ read_result (G.meaning context.now).tree (G.meaning context.now).results (G.meaning context.now).fact at op used.now.path) }
+    ensures reads { OnOk result (Noted N.keeps (N.noted notes.old) (node_reads (G.meaning context.now).tree (G.meaning context.now).results (G.meaning context.now).fact at op used.now.path) (N.noted notes.new)) }
 {
     match &used.path {
         None => Ok(Res::Incomplete),
         Some(path) => {
-            let targets = ground.source().targets(ground.fact(), at.base(), path);
-            read_path(alloc, ground, op, targets, at, path, notes)
+            let targets = context.source().targets(context.fact(), at.base(), path);
+            read_path(alloc, context, op, targets, at, path, notes)
         }
     }
 }
 
 /// The collection of a Filter or a Find. Its slot is noted.
-pub fn read_source<'a, G: Ground, N: Notes>(
-    ground: &'a G,
-    at: Place,
+pub fn read_source<'a, G: EvalContext, N: Notes>(
+    context: &'a G,
+    at: EvalPosition,
     used: &PathUse,
     notes: &mut N,
 ) -> Result<&'a Res, NoMemory>
-    ensures value { IfOk result (λ r. r.now ≡ source_result (G.known ground.now).tree (G.known ground.now).look (G.known ground.now).fact at used.now.path) }
-    ensures reads { OnOk result (Noted N.keeps (N.noted notes.old) (source_reads (G.known ground.now).tree (G.known ground.now).fact at used.now.path) (N.noted notes.new)) }
+    ensures value { IfOk result (λ r. r.now ≡ source_result (G.meaning context.now).tree (G.meaning context.now).results (G.meaning context.now).fact at used.now.path) }
+    ensures reads { OnOk result (Noted N.keeps (N.noted notes.old) (source_reads (G.meaning context.now).tree (G.meaning context.now).fact at used.now.path) (N.noted notes.new)) }
 {
     match &used.path {
-        None => Ok(ground.result_at(None, 0)),
+        None => Ok(context.result_at(None, 0)),
         Some(path) => {
-            let targets = ground.source().targets(ground.fact(), at.base(), path);
+            let targets = context.source().targets(context.fact(), at.base(), path);
             note(notes, targets.first, 0)?;
-            Ok(ground.result_at(targets.first, 0))
+            Ok(context.result_at(targets.first, 0))
         }
     }
 }
 
 /// The base of the condition of a Filter or a Find.
-pub fn base_under<G: Ground>(ground: &G, at: Place, used: &PathUse) -> u32
-    ensures { result ≡ condition_base (G.known ground.now).tree (G.known ground.now).fact at.base used.now.path }
+pub fn base_under<G: EvalContext>(context: &G, at: EvalPosition, used: &PathUse) -> u32
+    ensures { result ≡ condition_base (G.meaning context.now).tree (G.meaning context.now).fact at.base used.now.path }
 {
     match &used.path {
         None => 0,
-        Some(path) => ground
+        Some(path) => context
             .source()
-            .condition_base(ground.fact(), at.base(), path),
+            .condition_base(context.fact(), at.base(), path),
     }
 }

@@ -9,18 +9,18 @@ ghost use Rattle.dict_tree.specs.Facts.{fact_view, stated_view};
 ghost use Rattle.dict_tree.specs.View.{view};
 ghost use Rattle.evaluation.specs.Over.{over, weight};
 ghost use Rattle.dictionary.specs.Plain.{body, conditional_body, main_result, or_override, or_placeholder, slot_result};
-ghost use Rattle.dictionary.specs.Reading.{outermost, slot};
-ghost use Rattle.plain_table.specs.Ground.{known_on};
-ghost use Rattle.plain_table.specs.Known.{env_of, option_weight};
+ghost use Rattle.dictionary.specs.Dependencies.{outermost, slot};
+ghost use Rattle.plain_table.specs.TableContext.{context_on};
+ghost use Rattle.plain_table.specs.Context.{env_of, option_weight};
 ghost use Rattle.plain_table.specs.SlotVisits.{body_visits, placeholder_visits, visits_over};
 
 use crate::body::eval_body;
+use crate::context::TableContext;
 use crate::evaluating::eval;
-use crate::ground::TableGround;
 use crate::notes::Unnoted;
 use answers::Answers;
 use dict_tree::{Expr, FactSource};
-use dictionary::{Place, given_result};
+use dictionary::{EvalPosition, given_result};
 use fact_values::{NoMemory, Slot};
 use std::alloc::Global;
 use std::sync::ledger::Ledger;
@@ -30,28 +30,28 @@ use three_state::{Res, down};
 // The body of a derived fact, or the override that stands in its place.
 fn derived_result<L: Ledger>(
     alloc: Global,
-    ground: &TableGround,
+    context: &TableContext,
     answers: &Answers,
     member: u32,
     fact: &FactSource,
     main: &Expr,
     steps: &mut Steps<L>,
 ) -> Result<Res, NoMemory>
-    ensures value { IfOk result (λ r. r ≡ or_override (value_of Override (answered answers.now) (slot ground.now.fact member)) (over (env_of (known_on ground.now)) (outermost member) (conditional_body (fact_view fact.now).conditional (view main.now)))) }
-    ensures visits { OnOk result (steps.new ≡ steps.old + body_visits (known_on ground.now).tree (answered answers.now) (known_on ground.now).look (slot ground.now.fact member) (Some (conditional_body (fact_view fact.now).conditional (view main.now)))) }
-    ensures most { steps.new ≤ steps.old + weight (env_of (known_on ground.now)) (outermost member) (conditional_body (fact_view fact.now).conditional (view main.now)) }
+    ensures value { IfOk result (λ r. r ≡ or_override (value_of Override (answered answers.now) (slot context.now.fact member)) (over (env_of (context_on context.now)) (outermost member) (conditional_body (fact_view fact.now).conditional (view main.now)))) }
+    ensures visits { OnOk result (steps.new ≡ steps.old + body_visits (context_on context.now).tree (answered answers.now) (context_on context.now).results (slot context.now.fact member) (Some (conditional_body (fact_view fact.now).conditional (view main.now)))) }
+    ensures most { steps.new ≤ steps.old + weight (env_of (context_on context.now)) (outermost member) (conditional_body (fact_view fact.now).conditional (view main.now)) }
 {
     let slot = Slot {
-        fact: ground.fact,
+        fact: context.fact,
         member,
     };
     match answers.override_of(slot) {
         Some(value) => Ok(Res::Complete(value.copy(alloc)?)),
         None => {
-            let at = Place::outermost(member);
+            let at = EvalPosition::outermost(member);
             eval_body(
                 alloc,
-                ground,
+                context,
                 at,
                 &fact.conditional,
                 main,
@@ -65,7 +65,7 @@ fn derived_result<L: Ledger>(
 // The result of a slot before its placeholder.
 fn main_result<L: Ledger>(
     alloc: Global,
-    ground: &TableGround,
+    context: &TableContext,
     answers: &Answers,
     member: u32,
     fact: &FactSource,
@@ -73,15 +73,15 @@ fn main_result<L: Ledger>(
 ) -> Result<Res, NoMemory>
     requires well { WellFormed (answered answers.now) }
     requires from_one { FromOne (answered answers.now) }
-    ensures value { IfOk result (λ r. r ≡ main_result (known_on ground.now).tree (answered answers.now) (known_on ground.now).look (slot ground.now.fact member) (stated_view fact.now.stated) (body (fact_view fact.now))) }
-    ensures visits { OnOk result (steps.new ≡ steps.old + body_visits (known_on ground.now).tree (answered answers.now) (known_on ground.now).look (slot ground.now.fact member) (body (fact_view fact.now))) }
-    ensures most { steps.new ≤ steps.old + option_weight (known_on ground.now) member (body (fact_view fact.now)) }
+    ensures value { IfOk result (λ r. r ≡ main_result (context_on context.now).tree (answered answers.now) (context_on context.now).results (slot context.now.fact member) (stated_view fact.now.stated) (body (fact_view fact.now))) }
+    ensures visits { OnOk result (steps.new ≡ steps.old + body_visits (context_on context.now).tree (answered answers.now) (context_on context.now).results (slot context.now.fact member) (body (fact_view fact.now))) }
+    ensures most { steps.new ≤ steps.old + option_weight (context_on context.now) member (body (fact_view fact.now)) }
 {
     match &fact.main {
-        Some(main) => derived_result(alloc, ground, answers, member, fact, main, steps),
+        Some(main) => derived_result(alloc, context, answers, member, fact, main, steps),
         None => {
             let slot = Slot {
-                fact: ground.fact,
+                fact: context.fact,
                 member,
             };
             given_result(alloc, answers, slot, &fact.stated)
@@ -92,20 +92,20 @@ fn main_result<L: Ledger>(
 // An incomplete result gives way to the placeholder.
 fn with_placeholder<L: Ledger>(
     alloc: Global,
-    ground: &TableGround,
+    context: &TableContext,
     member: u32,
     placeholder: &Expr,
     res: Res,
     steps: &mut Steps<L>,
 ) -> Result<Res, NoMemory>
-    ensures value { IfOk result (λ r. r ≡ or_placeholder (known_on ground.now).tree (known_on ground.now).look (slot ground.now.fact member) (Some (view placeholder.now)) res) }
-    ensures visits { OnOk result (steps.new ≡ steps.old + placeholder_visits (known_on ground.now).tree (known_on ground.now).look (slot ground.now.fact member) (Some (view placeholder.now)) res) }
-    ensures most { steps.new ≤ steps.old + weight (env_of (known_on ground.now)) (outermost member) (view placeholder.now) }
+    ensures value { IfOk result (λ r. r ≡ or_placeholder (context_on context.now).tree (context_on context.now).results (slot context.now.fact member) (Some (view placeholder.now)) res) }
+    ensures visits { OnOk result (steps.new ≡ steps.old + placeholder_visits (context_on context.now).tree (context_on context.now).results (slot context.now.fact member) (Some (view placeholder.now)) res) }
+    ensures most { steps.new ≤ steps.old + weight (env_of (context_on context.now)) (outermost member) (view placeholder.now) }
 {
     match res {
         Res::Incomplete => {
-            let at = Place::outermost(member);
-            let stand_in = eval(alloc, ground, at, placeholder, &mut Unnoted, steps)?;
+            let at = EvalPosition::outermost(member);
+            let stand_in = eval(alloc, context, at, placeholder, &mut Unnoted, steps)?;
             Ok(down(stand_in))
         }
         Res::Complete(value) => Ok(Res::Complete(value)),
@@ -114,10 +114,10 @@ fn with_placeholder<L: Ledger>(
     }
 }
 
-/// The result of the fact's slot at a member, from the results that stand on the ground.
+/// The result of the fact's slot at a member, from the results that the context has.
 pub fn slot_result<L: Ledger>(
     alloc: Global,
-    ground: &TableGround,
+    context: &TableContext,
     answers: &Answers,
     member: u32,
     fact: &FactSource,
@@ -125,13 +125,13 @@ pub fn slot_result<L: Ledger>(
 ) -> Result<Res, NoMemory>
     requires well { WellFormed (answered answers.now) }
     requires from_one { FromOne (answered answers.now) }
-    ensures value { IfOk result (λ r. r ≡ slot_result (known_on ground.now).tree (answered answers.now) (known_on ground.now).look (slot ground.now.fact member) (fact_view fact.now)) }
-    ensures visits { OnOk result (steps.new ≡ steps.old + visits_over (known_on ground.now).tree (answered answers.now) (known_on ground.now).look (slot ground.now.fact member) (fact_view fact.now)) }
-    ensures most { steps.new ≤ steps.old + (option_weight (known_on ground.now) member (body (fact_view fact.now)) + option_weight (known_on ground.now) member (fact_view fact.now).placeholder) }
+    ensures value { IfOk result (λ r. r ≡ slot_result (context_on context.now).tree (answered answers.now) (context_on context.now).results (slot context.now.fact member) (fact_view fact.now)) }
+    ensures visits { OnOk result (steps.new ≡ steps.old + visits_over (context_on context.now).tree (answered answers.now) (context_on context.now).results (slot context.now.fact member) (fact_view fact.now)) }
+    ensures most { steps.new ≤ steps.old + (option_weight (context_on context.now) member (body (fact_view fact.now)) + option_weight (context_on context.now) member (fact_view fact.now).placeholder) }
 {
-    let res = main_result(alloc, ground, answers, member, fact, steps)?;
+    let res = main_result(alloc, context, answers, member, fact, steps)?;
     match &fact.placeholder {
         None => Ok(res),
-        Some(placeholder) => with_placeholder(alloc, ground, member, placeholder, res, steps),
+        Some(placeholder) => with_placeholder(alloc, context, member, placeholder, res, steps),
     }
 }

@@ -18,12 +18,12 @@ pub struct Table {
 }
 
 impl Table {
-    ghost use Rattle.dictionary.specs.Reading.{result_at};
-    ghost use Rattle.plain_table.specs.Table.{look_of, with_cell};
+    ghost use Rattle.dictionary.specs.Dependencies.{result_at};
+    ghost use Rattle.plain_table.specs.Table.{results_of, with_cell};
 
     /// No slot was computed. There is room for so many.
     pub fn with_room(alloc: Global, count: usize) -> Result<Table, NoMemory>
-        ensures { IfOk result (λ t. (s : Slot) → look_of t s ≡ None) }
+        ensures { IfOk result (λ t. (s : Slot) → results_of t s ≡ None) }
     {
         Ok(Table {
             cells: HashMap::with_capacity(alloc, count)?,
@@ -33,14 +33,14 @@ impl Table {
 
     /// The result of a slot.
     pub fn get(&self, slot: Slot) -> Option<&Res>
-        ensures { option_copied result ≡ look_of self.now slot }
+        ensures { option_copied result ≡ results_of self.now slot }
     {
         self.cells.get(&(slot.fact, slot.member))
     }
 
     /// What is read of a fact at a member: a slot that has no result counts as incomplete.
     pub fn result_at(&self, fact: Option<u32>, member: u32) -> &Res
-        ensures { result.now ≡ result_at (look_of self.now) fact member }
+        ensures { result.now ≡ result_at (results_of self.now) fact member }
     {
         let Some(fact) = fact else {
             return &self.missing;
@@ -53,7 +53,7 @@ impl Table {
 
     /// Keeps the result of a slot.
     pub fn put(&mut self, slot: Slot, res: Res) -> Result<(), NoMemory>
-        ensures { OnOk result ((s : Slot) → look_of self.new s ≡ with_cell (look_of self.old) slot res s) }
+        ensures { OnOk result ((s : Slot) → results_of self.new s ≡ with_cell (results_of self.old) slot res s) }
     {
         match self.cells.insert((slot.fact, slot.member), res) {
             Ok(_) => Ok(()),

@@ -7,14 +7,14 @@ ghost use Rattle.evaluation.specs.Agreement.{IsIn};
 ghost use Rattle.dictionary.specs.Accepted.{accepted};
 ghost use Rattle.dictionary.specs.Homes.{home};
 ghost use Rattle.dictionary.specs.Plain.{IsPlainBelow, rank};
-ghost use Rattle.dictionary.specs.Reading.{slot};
+ghost use Rattle.dictionary.specs.Dependencies.{slot};
 ghost use Rattle.dictionary.specs.Slots.{members_of_home, slot_same, slots_of, stands};
 ghost use Rattle.dictionary.specs.Weights.{slot_weight, whole_weight};
 ghost use Rattle.plain_table.specs.Filling.{HasAll, IsFilled, is_at};
 ghost use Rattle.plain_table.specs.SlotVisits.{slot_visits, whole_visits};
-ghost use Rattle.plain_table.specs.Table.{look_of};
+ghost use Rattle.plain_table.specs.Table.{results_of};
 
-use crate::ground::TableGround;
+use crate::context::TableContext;
 use crate::slots::slot_result;
 use crate::table::Table;
 use answers::Answers;
@@ -36,8 +36,8 @@ fn put_slot<L: Ledger>(
     requires well { WellFormed (answered answers.now) }
     requires from_one { FromOne (answered answers.now) }
     requires stands { IsTrue (stands (accepted dict.now).tree (answered answers.now) slot) }
-    requires below { IsPlainBelow (accepted dict.now) (answered answers.now) (rank (accepted dict.now) slot.fact) (look_of table.old) }
-    ensures filled { OnOk result (IsFilled (accepted dict.now) (answered answers.now) (look_of table.old) (λ t. slot_same t slot) (look_of table.new)) }
+    requires below { IsPlainBelow (accepted dict.now) (answered answers.now) (rank (accepted dict.now) slot.fact) (results_of table.old) }
+    ensures filled { OnOk result (IsFilled (accepted dict.now) (answered answers.now) (results_of table.old) (λ t. slot_same t slot) (results_of table.new)) }
     ensures visits { OnOk result (steps.new ≡ steps.old + slot_visits (accepted dict.now) (answered answers.now) slot) }
     ensures most { steps.new ≤ steps.old + slot_weight (accepted dict.now) (answered answers.now) slot }
 {
@@ -45,12 +45,12 @@ fn put_slot<L: Ledger>(
     let Some(fact) = source.fact(slot.fact) else {
         return Ok(());
     };
-    let ground = TableGround {
+    let context = TableContext {
         source,
         fact: slot.fact,
         table,
     };
-    let res = slot_result(alloc, &ground, answers, slot.member, fact, steps)?;
+    let res = slot_result(alloc, &context, answers, slot.member, fact, steps)?;
     table.put(slot, res)
 }
 
@@ -67,8 +67,8 @@ fn put_members<L: Ledger>(
     requires well { WellFormed (answered answers.now) }
     requires from_one { FromOne (answered answers.now) }
     requires stand { (m : ℕ) → IsIn members.now m → IsTrue (stands (accepted dict.now).tree (answered answers.now) (slot fact m)) }
-    requires below { IsPlainBelow (accepted dict.now) (answered answers.now) (rank (accepted dict.now) fact) (look_of table.old) }
-    ensures filled { OnOk result (IsFilled (accepted dict.now) (answered answers.now) (look_of table.old) (is_at fact members.now) (look_of table.new)) }
+    requires below { IsPlainBelow (accepted dict.now) (answered answers.now) (rank (accepted dict.now) fact) (results_of table.old) }
+    ensures filled { OnOk result (IsFilled (accepted dict.now) (answered answers.now) (results_of table.old) (is_at fact members.now) (results_of table.new)) }
     ensures visits { OnOk result (steps.new ≡ steps.old + sum_by (λ m. slot_visits (accepted dict.now) (answered answers.now) (slot fact m)) members.now) }
     ensures most { steps.new ≤ steps.old + sum_by (λ m. slot_weight (accepted dict.now) (answered answers.now) (slot fact m)) members.now }
 {
@@ -94,8 +94,8 @@ fn put_fact<L: Ledger>(
     requires well { WellFormed (answered answers.now) }
     requires from_one { FromOne (answered answers.now) }
     requires number { IsNumber (accepted dict.now).tree.facts fact }
-    requires below { IsPlainBelow (accepted dict.now) (answered answers.now) (rank (accepted dict.now) fact) (look_of table.old) }
-    ensures filled { OnOk result (IsFilled (accepted dict.now) (answered answers.now) (look_of table.old) (is_at fact (members_of_home (answered answers.now) (home (accepted dict.now).tree fact))) (look_of table.new)) }
+    requires below { IsPlainBelow (accepted dict.now) (answered answers.now) (rank (accepted dict.now) fact) (results_of table.old) }
+    ensures filled { OnOk result (IsFilled (accepted dict.now) (answered answers.now) (results_of table.old) (is_at fact (members_of_home (answered answers.now) (home (accepted dict.now).tree fact))) (results_of table.new)) }
     ensures visits { OnOk result (steps.new ≡ steps.old + sum_by (slot_visits (accepted dict.now) (answered answers.now)) (slots_of (accepted dict.now).tree (answered answers.now) fact)) }
     ensures most { steps.new ≤ steps.old + sum_by (slot_weight (accepted dict.now) (answered answers.now)) (slots_of (accepted dict.now).tree (answered answers.now) fact) }
 {
@@ -118,7 +118,7 @@ pub fn whole_table<L: Ledger>(
 ) -> Result<Table, NoMemory>
     requires well { WellFormed (answered answers.now) }
     requires from_one { FromOne (answered answers.now) }
-    ensures all { IfOk result (λ t. HasAll (accepted dict.now) (answered answers.now) (look_of t)) }
+    ensures all { IfOk result (λ t. HasAll (accepted dict.now) (answered answers.now) (results_of t)) }
     ensures visits { OnOk result (steps.new ≡ steps.old + whole_visits (accepted dict.now) (answered answers.now)) }
     ensures most { steps.new ≤ steps.old + whole_weight (accepted dict.now) (answered answers.now) }
 {

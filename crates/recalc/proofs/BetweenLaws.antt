@@ -30,7 +30,7 @@ use Rattle.dictionary.proofs.UntouchedLaws.{untouched_keeps}
 use Rattle.recalc.specs.Spread.{is_in, is_touched}
 use Rattle.recalc.specs.BetweenAnswers.{AllIsDone, AreBetween, between, ChangesSpread, EditMarks, from_nothing, results_before, SpreadTouches, StartPasses, TouchedWeigh, UndonePasses}
 use Rattle.recalc.specs.Laws.{touched_of}
-use Rattle.recalc.specs.Passages.{IsPassage, is_shielded, moves}
+use Rattle.recalc.specs.Transitions.{IsTransition, is_shielded, moves}
 use Rattle.recalc.proofs.MarkingLaws.{done_are_touched, start_marks}
 use Rattle.recalc.proofs.StandingOnce.{standing_once}
 use Rattle.recalc.proofs.WeighingLaws.{done_weigh_all, length_is}
@@ -85,8 +85,8 @@ same_under true x y h = h refl
 same_under false x y h = refl
 
 pub edit_marks : EditMarks
-edit_marks names d accepted undo now is due h =
-    start_marks (between d (applied undo now) now) due (λ s. h s
+edit_marks names d accepted undo now is dirty h =
+    start_marks (between d (applied undo now) now) dirty (λ s. h s
     ∙ sym (same_under (stands d.tree now s) (not (stands d.tree (applied undo now) s) || not (same_entry (applied undo now) now s)) (is_touched_first undo now s)
     (λ there. first_tells names d accepted undo now is s there)))
 
@@ -110,22 +110,22 @@ before_moved d a b s =
 final_before : (names : List (List ℕ)) (d : Accepted) → IsAccepted names d → (undo : Change) (now : Answered) → IsUndone d undo now → (s : Slot) → IsTrue (stands d.tree now s)
     → (extends d.tree (applied undo now) now && is_final d (applied undo now) s) ≡ is_shielded (is_extended undo now) d now (results_before d (applied undo now) now) s
 final_before names d accepted undo now u s there =
-    ap (λ x. x && is_final d (applied undo now) s) told
+    ap (λ x. x && is_final d (applied undo now) s) shown
     ∙ same_under (is_extended undo now) (is_final d (applied undo now) s) (is_complete_in (results_before d (applied undo now) now s) && (is_some (value_of Override now s) || steady d s.fact))
     (λ kept_on. ap (λ o. is_complete_in (plain d (applied undo now) s) && (is_some o || steady d s.fact)) (sym ((kept kept_on).overrides s))
     ∙ ap (λ x. is_complete_in (if x then plain d (applied undo now) s else None) && (is_some (value_of Override now s) || steady d s.fact)) (sym there))
   where
-    told : extends d.tree (applied undo now) now ≡ is_extended undo now
-    told = extended_tells names d accepted undo now u
+    shown : extends d.tree (applied undo now) now ≡ is_extended undo now
+    shown = extended_tells names d accepted undo now u
 
     kept : is_extended undo now ≡ true → Extends (applied undo now) now
-    kept h = (test_tells_extends names d accepted (applied undo now) now u.before u.after).0 (told ∙ h)
+    kept h = (test_tells_extends names d accepted (applied undo now) now u.before u.after).0 (shown ∙ h)
 
 pub are_between : (names : List (List ℕ)) (d : Accepted) → IsAccepted names d → (undo : Change) (now : Answered) → IsUndone d undo now → AreBetween names d (applied undo now) now
 are_between names d accepted undo now u = record { accepted = accepted; before = u.before; after = u.after }
 
 undone_passes_from : (names : List (List ℕ)) (d : Accepted) → IsAccepted names d → (undo : Change) (now : Answered) → IsUndone d undo now
-    → IsPassage d now (is_extended undo now) (results_before d (applied undo now) now) (between d (applied undo now) now)
+    → IsTransition d now (is_extended undo now) (results_before d (applied undo now) now) (between d (applied undo now) now)
 undone_passes_from names d accepted undo now u = record {
   spreads = changes_spread names d (applied undo now) now (are_between names d accepted undo now u);
   once = standing_once d now u.after;
@@ -141,9 +141,9 @@ undone_passes_from names d accepted undo now u = record {
 
 pub undone_passes : UndonePasses
 undone_passes names d accepted undo now u old h =
-    subst (λ look. IsPassage d now (is_extended undo now) look (between d (applied undo now) now)) (sym (everywhere h)) (undone_passes_from names d accepted undo now u)
+    subst (λ results. IsTransition d now (is_extended undo now) results (between d (applied undo now) now)) (sym (everywhere h)) (undone_passes_from names d accepted undo now u)
 
-start_passes_from : (names : List (List ℕ)) (d : Accepted) → IsAccepted names d → (b : Answered) → AnswersFit d.tree b → IsPassage d b false (λ s. None) (from_nothing d b)
+start_passes_from : (names : List (List ℕ)) (d : Accepted) → IsAccepted names d → (b : Answered) → AnswersFit d.tree b → IsTransition d b false (λ s. None) (from_nothing d b)
 start_passes_from names d accepted b fit = record {
   spreads = record {
     listed = listed_stand d.tree b;
@@ -160,7 +160,7 @@ start_passes_from names d accepted b fit = record {
 }
 
 pub start_passes : StartPasses
-start_passes names d accepted b fit old h = subst (λ look. IsPassage d b false look (from_nothing d b)) (sym (everywhere h)) (start_passes_from names d accepted b fit)
+start_passes names d accepted b fit old h = subst (λ results. IsTransition d b false results (from_nothing d b)) (sym (everywhere h)) (start_passes_from names d accepted b fit)
 
 -- ---- the end
 
@@ -168,15 +168,15 @@ same_touched : (d : Accepted) (a b : Answered) → touched_of (between d a b) �
 same_touched d a b = same_filter (is_touched (between d a b)) (touches d a b) (spread_touches d a b) (standing d.tree b)
 
 pub all_is_done : AllIsDone
-all_is_done names d a b is done due m none =
+all_is_done names d a b is done dirty m none =
     let laws = changes_spread names d a b is in
     let once = standing_once d b is.after in
     let slots : (s : Slot) → is_in done s ≡ (stands d.tree b s && touches d a b s) =
-    (λ s. done_are_touched (between d a b) laws done due m none s ∙ ap (λ t. stands d.tree b s && t) (spread_touches d a b s)) in
+    (λ s. done_are_touched (between d a b) laws done dirty m none s ∙ ap (λ t. stands d.tree b s && t) (spread_touches d a b s)) in
     record {
       slots = slots;
       count = length_is done
-          ∙ done_weigh_all (between d a b) laws once done due m none (λ _. 1)
+          ∙ done_weigh_all (between d a b) laws once done dirty m none (λ _. 1)
           ∙ sym (length_is (touched_of (between d a b)))
           ∙ ap length (same_touched d a b);
       stamps = λ k stamps s there. ap (λ z. if z then k else stamps s) (slots s ∙ ap (λ t. t && touches d a b s) there);

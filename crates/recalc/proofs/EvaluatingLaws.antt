@@ -9,7 +9,7 @@ use Rattle.three_state.specs.declared.res.Res.{Res}
 use Rattle.answers.specs.Answered.{Answered}
 use Rattle.dictionary.specs.Accepted.{Accepted, IsAccepted}
 use Rattle.dictionary.specs.Plain.{at_fact, body, IsPlainBelow, plain, rank, slot_result}
-use Rattle.dictionary.specs.Reading.{Look}
+use Rattle.dictionary.specs.Dependencies.{Results}
 use Rattle.dictionary.specs.Slots.{stands}
 use Rattle.dictionary.specs.Weights.{slot_weight}
 use Rattle.dictionary.proofs.PlainLaws.{step_over_lower}
@@ -20,24 +20,24 @@ use Rattle.node_compile.specs.Laws.{node_weight, result_by_nodes, weight_by_node
 use Rattle.node_compile.specs.declared.compiled.Compiled.{Compiled}
 use Rattle.node_compile.proofs.SlotLaws.{main_node, nodes_give_slots, placeholder_node}
 
-one_weighs : (d : Tree) (look : Look) (s : Slot) (t : Option Source) (n : Option NodeTree) → IsNodeOf d s.fact t n → node_weight look s n ≡ weight_over d look s t
-one_weighs d look s None None h = refl
-one_weighs d look s None (Some node) h = absurd h
-one_weighs d look s (Some t) None h = absurd h
-one_weighs d look s (Some t) (Some node) h = h.weight look s.member 0
+one_weighs : (d : Tree) (results : Results) (s : Slot) (t : Option Source) (n : Option NodeTree) → IsNodeOf d s.fact t n → node_weight results s n ≡ weight_over d results s t
+one_weighs d results s None None h = refl
+one_weighs d results s None (Some node) h = absurd h
+one_weighs d results s (Some t) None h = absurd h
+one_weighs d results s (Some t) (Some node) h = h.weight results s.member 0
 
-module _ (names : List (List ℕ)) (d : Accepted) (accepted : IsAccepted names d) (c : Compiled) (is : IsCompiled d.tree c) (a : Answered) (look : Look) (s : Slot) (f : Fact) (e : fact_at d.tree.facts s.fact ≡ Some f)
-    (below : IsPlainBelow d a (rank d s.fact) look) where
-  pub nodes_give_plain : IsTrue (stands d.tree a s) → Some (result_by_nodes c a look s f.stated) ≡ plain d a s
+module _ (names : List (List ℕ)) (d : Accepted) (accepted : IsAccepted names d) (c : Compiled) (is : IsCompiled d.tree c) (a : Answered) (results : Results) (s : Slot) (f : Fact) (e : fact_at d.tree.facts s.fact ≡ Some f)
+    (below : IsPlainBelow d a (rank d s.fact) results) where
+  pub nodes_give_plain : IsTrue (stands d.tree a s) → Some (result_by_nodes c a results s f.stated) ≡ plain d a s
   nodes_give_plain there =
-      ap (λ (r : Res). Some r) (sym (nodes_give_slots d.tree c is a look s f e))
-      ∙ sym (ap (λ (o : Option Fact). at_fact o None (λ g. if stands d.tree a s then Some (slot_result d.tree a look s g) else None)) e
-      ∙ ap (λ b. if b then Some (slot_result d.tree a look s f) else None) there)
-      ∙ step_over_lower names d accepted a look s below
+      ap (λ (r : Res). Some r) (sym (nodes_give_slots d.tree c is a results s f e))
+      ∙ sym (ap (λ (o : Option Fact). at_fact o None (λ g. if stands d.tree a s then Some (slot_result d.tree a results s g) else None)) e
+      ∙ ap (λ b. if b then Some (slot_result d.tree a results s f) else None) there)
+      ∙ step_over_lower names d accepted a results s below
 
-  pub nodes_weigh : weight_by_nodes c look s ≡ slot_weight d a s
+  pub nodes_weigh : weight_by_nodes c results s ≡ slot_weight d a s
   nodes_weigh =
-      ap (λ n. n + node_weight look s (placeholder_of c s.fact)) (one_weighs d.tree look s (body f) (main_of c s.fact) (main_node d.tree c is s.fact f e))
-      ∙ ap (λ n. weight_over d.tree look s (body f) + n) (one_weighs d.tree look s f.placeholder (placeholder_of c s.fact) (placeholder_node d.tree c is s.fact f e))
-      ∙ sym (ap (λ (o : Option Fact). at_fact o 0 (fact_weight d.tree look s)) e)
-      ∙ weight_over_lower names d accepted a look s below
+      ap (λ n. n + node_weight results s (placeholder_of c s.fact)) (one_weighs d.tree results s (body f) (main_of c s.fact) (main_node d.tree c is s.fact f e))
+      ∙ ap (λ n. weight_over d.tree results s (body f) + n) (one_weighs d.tree results s f.placeholder (placeholder_of c s.fact) (placeholder_node d.tree c is s.fact f e))
+      ∙ sym (ap (λ (o : Option Fact). at_fact o 0 (fact_weight d.tree results s)) e)
+      ∙ weight_over_lower names d accepted a results s below

@@ -6,7 +6,7 @@ use Rattle.fact_values.specs.declared.slot.Slot.{Slot}
 use Rattle.cell_store.specs.Contents.{Cells}
 use Rattle.cell_store.specs.declared.cell.Cell.{Cell}
 use Rattle.cell_store.proofs.SlotLaws.{get_put_at}
-use Rattle.recalc.specs.Standing.{without_member}
+use Rattle.recalc.specs.EngineInvariant.{without_member}
 
 choose : (x y z : Bool) (o : Option Cell) → (if x && z then None else cond (y && x) None o) ≡ (if x && (y || z) then None else o)
 choose true true true o = refl

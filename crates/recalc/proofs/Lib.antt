@@ -1,12 +1,12 @@
 pub mod BetweenLaws
-pub mod DueLaws
+pub mod DirtyLaws
 pub mod EngineLaws
 pub mod EvaluatingLaws
 pub mod ForgettingLaws
 pub mod MarkingLaws
 pub mod NotedLaws
 pub mod Outcomes
-pub mod PassageLaws
+pub mod TransitionLaws
 pub mod ReaderLaws
 pub mod ReplacingLaws
 pub mod RunningLaws

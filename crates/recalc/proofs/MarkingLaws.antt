@@ -16,45 +16,45 @@ and_none : (a b : Bool) → (a ≡ true → b ≡ false) → (a && b) ≡ false
 and_none true b h = h refl
 and_none false b h = refl
 
-pub none_least : (c : Spread) (due : Slot → Bool) (n : ℕ) (t : Slot) → IsLeast c due n → c.rank t < n → due t ≡ false
-none_least c due n t least l = at (due t) refl
+pub none_least : (c : Spread) (dirty : Slot → Bool) (n : ℕ) (t : Slot) → IsLeast c dirty n → c.rank t < n → dirty t ≡ false
+none_least c dirty n t least l = at (dirty t) refl
   where
-    at : (x : Bool) → due t ≡ x → x ≡ false
+    at : (x : Bool) → dirty t ≡ x → x ≡ false
     at false e = refl
     at true e = absurd (let h : n ≤ c.rank t = least t e in omega arith)
 
 -- no slot feeds s that moved, where those of lower rank are settled
 feeder :
-    (c : Spread) → IsSpread c → (done : List Slot) (due : Slot → Bool) (s t : Slot)
-    → IsTrue (c.stands t) → is_fed_by c done s ≡ false → IsLeast c due (c.rank s)
-    → (is_in done t ≡ false → due t ≡ false → c.rank t < c.rank s → is_touched c t ≡ false)
+    (c : Spread) → IsSpread c → (done : List Slot) (dirty : Slot → Bool) (s t : Slot)
+    → IsTrue (c.stands t) → is_fed_by c done s ≡ false → IsLeast c dirty (c.rank s)
+    → (is_in done t ≡ false → dirty t ≡ false → c.rank t < c.rank s → is_touched c t ≡ false)
     → (c.feeds t s && c.moved t) ≡ false
-feeder c laws done due s t there fed least ih = and_none (c.feeds t s) (c.moved t) (λ f. at f (is_in done t) refl)
+feeder c laws done dirty s t there fed least ih = and_none (c.feeds t s) (c.moved t) (λ f. at f (is_in done t) refl)
   where
     at : c.feeds t s ≡ true → (x : Bool) → is_in done t ≡ x → c.moved t ≡ false
     at f true e = let h : (c.feeds t s && c.moved t) ≡ false = fails_in (λ u. c.feeds u s && c.moved u) done t e fed in rw f at h
-    at f false e = let l = laws.rising t s f in laws.keeps t there (ih e (none_least c due (c.rank s) t least l) l)
+    at f false e = let l = laws.rising t s f in laws.keeps t there (ih e (none_least c dirty (c.rank s) t least l) l)
 
 settled_below :
-    (c : Spread) → IsSpread c → (done : List Slot) (due : Slot → Bool) → IsMarked c done due → (n : ℕ) (s : Slot) → c.rank s < n
-    → IsTrue (c.stands s) → is_in done s ≡ false → due s ≡ false → IsLeast c due (c.rank s) → is_touched c s ≡ false
-settled_below c laws done due m zero s l there new off least = absurd (omega arith)
-settled_below c laws done due m (suc n) s l there new off least =
+    (c : Spread) → IsSpread c → (done : List Slot) (dirty : Slot → Bool) → IsMarked c done dirty → (n : ℕ) (s : Slot) → c.rank s < n
+    → IsTrue (c.stands s) → is_in done s ≡ false → dirty s ≡ false → IsLeast c dirty (c.rank s) → is_touched c s ≡ false
+settled_below c laws done dirty m zero s l there new off least = absurd (omega arith)
+settled_below c laws done dirty m (suc n) s l there new off least =
     let w : (c.first s || is_fed_by c done s) ≡ false = sym (m.waiting s there new) ∙ off in
     let apart = or_neither (c.first s) (is_fed_by c done s) w in
     neither_or (c.first s) (is_fed_by c c.standing s) apart.0
     (none_in (λ t. c.feeds t s && c.moved t) c.standing (λ t i.
     let st : c.stands t ≡ true = sym (laws.listed t) ∙ i in
-    feeder c laws done due s t st apart.1 least
-    (λ e o k. settled_below c laws done due m n t (omega arith) st e o (λ v on. let h : c.rank s ≤ c.rank v = least v on in omega arith))))
+    feeder c laws done dirty s t st apart.1 least
+    (λ e o k. settled_below c laws done dirty m n t (omega arith) st e o (λ v on. let h : c.rank s ≤ c.rank v = least v on in omega arith))))
 
 pub lower_settle : LowerSettle
-lower_settle c laws done due m s = settled_below c laws done due m (suc (c.rank s)) s (omega arith)
+lower_settle c laws done dirty m s = settled_below c laws done dirty m (suc (c.rank s)) s (omega arith)
 
 -- ---- the end
 
 pub done_are_touched : DoneAreTouched
-done_are_touched c laws done due m none s =
+done_are_touched c laws done dirty m none s =
     same_test (is_in done s) (c.stands s && is_touched c s)
     (λ i. and_intro (c.stands s) (is_touched c s) (m.right s i).0 (m.right s i).1)
     (λ t. at (is_in done s) refl (both_left (c.stands s) (is_touched c s) t) (both_right (c.stands s) (is_touched c s) t))
@@ -63,12 +63,12 @@ done_are_touched c laws done due m none s =
     at true e there touched = refl
     at false e there touched =
         absurd (let off : is_touched c s ≡ false =
-        lower_settle c laws done due m s there e (none s) (λ w on. absurd (let off : due w ≡ false = none w in cc)) in cc)
+        lower_settle c laws done dirty m s there e (none s) (λ w on. absurd (let off : dirty w ≡ false = none w in cc)) in cc)
 
 -- ---- the start
 
 pub start_marks : StartMarks
-start_marks c due h = record {
+start_marks c dirty h = record {
   waiting = λ s there new. h s ∙ rw there (sym (or_false (c.first s)));
   only = λ s on. (both_left (c.stands s) (c.first s) (sym (h s) ∙ on), refl);
   rises = λ t i. absurd (cc);
@@ -79,10 +79,10 @@ start_marks c due h = record {
 -- ---- a turn
 
 -- what waits is touched
-pub due_is_touched :
-    (c : Spread) → IsSpread c → (done : List Slot) (due : Slot → Bool) → IsMarked c done due
-    → (s : Slot) → IsTrue (due s) → IsTrue (is_touched c s)
-due_is_touched c laws done due m s on =
+pub dirty_is_touched :
+    (c : Spread) → IsSpread c → (done : List Slot) (dirty : Slot → Bool) → IsMarked c done dirty
+    → (s : Slot) → IsTrue (dirty s) → IsTrue (is_touched c s)
+dirty_is_touched c laws done dirty m s on =
     let only = m.only s on in
     either (c.first s) (is_fed_by c done s) (sym (m.waiting s only.0 only.1) ∙ on)
     (λ e. or_left (c.first s) (is_fed_by c c.standing s) e)
@@ -90,18 +90,18 @@ due_is_touched c laws done due m s on =
     (λ t i. passes_in (λ u. c.feeds u s && c.moved u) c.standing t (laws.listed t ∙ (m.right t i).0))))
 
 rank_after :
-    (c : Spread) → IsSpread c → (due : Slot → Bool) (s : Slot) → IsLeast c due (c.rank s)
-    → (next : Slot → Bool) → IsNext c due s next → IsLeast c next (c.rank s)
-rank_after c laws due s least next is w waiting =
-    either (due w && not (slot_same w s)) (c.moved s && (c.stands w && c.feeds s w)) (sym (is w) ∙ waiting)
-    (λ e. least w (both_left (due w) (not (slot_same w s)) e))
+    (c : Spread) → IsSpread c → (dirty : Slot → Bool) (s : Slot) → IsLeast c dirty (c.rank s)
+    → (next : Slot → Bool) → IsNext c dirty s next → IsLeast c next (c.rank s)
+rank_after c laws dirty s least next is w waiting =
+    either (dirty w && not (slot_same w s)) (c.moved s && (c.stands w && c.feeds s w)) (sym (is w) ∙ waiting)
+    (λ e. least w (both_left (dirty w) (not (slot_same w s)) e))
     (λ e. let f : c.feeds s w ≡ true = both_right (c.stands w) (c.feeds s w) (both_right (c.moved s) (c.stands w && c.feeds s w) e) in
     let l : c.rank s < c.rank w = laws.rising s w f in omega arith)
 
 rank_before :
-    (c : Spread) (done : List Slot) (due : Slot → Bool) → IsMarked c done due → (s : Slot) → IsTrue (due s)
+    (c : Spread) (done : List Slot) (dirty : Slot → Bool) → IsMarked c done dirty → (s : Slot) → IsTrue (dirty s)
     → (t : Slot) → is_in (done ++ s ∷ []) t ≡ true → c.rank t ≤ c.rank s
-rank_before c done due m s on t i =
+rank_before c done dirty m s on t i =
     either (is_in done t) (slot_same t s) (sym (in_push done s t) ∙ i)
     (λ e. m.rises t e s on)
     (λ e. let k : c.rank t ≡ c.rank s = ap c.rank (slot_same-equal t s e) in omega arith)
@@ -115,32 +115,32 @@ waits_as false false false true = refl
 waits_as false false false false = refl
 
 pub not_done_yet :
-    (c : Spread) (done : List Slot) (due : Slot → Bool) → IsMarked c done due → (s : Slot) → IsTrue (due s)
+    (c : Spread) (done : List Slot) (dirty : Slot → Bool) → IsMarked c done dirty → (s : Slot) → IsTrue (dirty s)
     → (q : Slot) → c.rank s < c.rank q → is_in (done ++ s ∷ []) q ≡ false
-not_done_yet c done due m s on q l = at (is_in (done ++ s ∷ []) q) refl
+not_done_yet c done dirty m s on q l = at (is_in (done ++ s ∷ []) q) refl
   where
     at : (x : Bool) → is_in (done ++ s ∷ []) q ≡ x → x ≡ false
     at false e = refl
-    at true e = absurd (let k : c.rank q ≤ c.rank s = rank_before c done due m s on q e in omega arith)
+    at true e = absurd (let k : c.rank q ≤ c.rank s = rank_before c done dirty m s on q e in omega arith)
 
 pub turn_marks : TurnMarks
-turn_marks c laws done due m s on least next is = record {
+turn_marks c laws done dirty m s on least next is = record {
   waiting = λ q there new.
       let both : (is_in done q || slot_same q s) ≡ false = sym (in_push done s q) ∙ new in
       let apart = or_neither (is_in done q) (slot_same q s) both in
       is q ∙ rw (apart.1, there, m.waiting q there apart.0, list_any-append) (waits_as (c.first q) (is_fed_by c done q) (c.moved s) (c.feeds s q));
   only = λ q waiting.
-      either (due q && not (slot_same q s)) (c.moved s && (c.stands q && c.feeds s q)) (sym (is q) ∙ waiting)
-      (λ e. let k = m.only q (both_left (due q) (not (slot_same q s)) e) in
-      (k.0, in_push done s q ∙ neither_or (is_in done q) (slot_same q s) k.1 (not_true (slot_same q s) (both_right (due q) (not (slot_same q s)) e))))
+      either (dirty q && not (slot_same q s)) (c.moved s && (c.stands q && c.feeds s q)) (sym (is q) ∙ waiting)
+      (λ e. let k = m.only q (both_left (dirty q) (not (slot_same q s)) e) in
+      (k.0, in_push done s q ∙ neither_or (is_in done q) (slot_same q s) k.1 (not_true (slot_same q s) (both_right (dirty q) (not (slot_same q s)) e))))
       (λ e. let f = both_right (c.moved s) (c.stands q && c.feeds s q) e in
-      (both_left (c.stands q) (c.feeds s q) f, not_done_yet c done due m s on q (laws.rising s q (both_right (c.stands q) (c.feeds s q) f))));
+      (both_left (c.stands q) (c.feeds s q) f, not_done_yet c done dirty m s on q (laws.rising s q (both_right (c.stands q) (c.feeds s q) f))));
   rises = λ t i w waiting.
-      let before : c.rank t ≤ c.rank s = rank_before c done due m s on t i in
-      let after : c.rank s ≤ c.rank w = rank_after c laws due s least next is w waiting in omega arith;
+      let before : c.rank t ≤ c.rank s = rank_before c done dirty m s on t i in
+      let after : c.rank s ≤ c.rank w = rank_after c laws dirty s least next is w waiting in omega arith;
   right = λ t i.
       either (is_in done t) (slot_same t s) (sym (in_push done s t) ∙ i)
       (m.right t)
-      (λ e. rw (slot_same-equal t s e) ((m.only s on).0, due_is_touched c laws done due m s on));
+      (λ e. rw (slot_same-equal t s e) ((m.only s on).0, dirty_is_touched c laws done dirty m s on));
   once = once_push done s m.once (m.only s on).1;
 }

@@ -12,14 +12,14 @@ use Rattle.dictionary.specs.Accepted.{Accepted}
 use Rattle.dictionary.specs.Feeds.{speaks_of}
 use Rattle.dictionary.specs.Homes.{home}
 use Rattle.dictionary.specs.Plain.{rank}
-use Rattle.dictionary.specs.Reading.{slot}
+use Rattle.dictionary.specs.Dependencies.{slot}
 use Rattle.dictionary.specs.Slots.{is_member, members_of_home, stands_at, stands_of}
 use Rattle.dep_index.specs.Laws.{reads}
 use Rattle.dep_index.specs.declared.row.ReaderOf.{ReaderOf}
 use Rattle.dep_index.proofs.FeedLaws.{feeds_by_readers}
-use Rattle.recalc.specs.Readers.{due_of, marks, marks_at, marks_of, MarksFeed, reads_at}
-use Rattle.recalc.specs.Waiting.{due_same}
-use Rattle.recalc.specs.declared.work.Due.{Due}
+use Rattle.recalc.specs.Readers.{dirty_of, marks, marks_at, marks_of, MarksFeed, reads_at}
+use Rattle.recalc.specs.Waiting.{dirty_same}
+use Rattle.recalc.specs.declared.dirty_queue.DirtySlot.{DirtySlot}
 use Rattle.recalc.proofs.SlotLists.{either}
 use Rattle.dictionary.proofs.BodyLaws.{swapped}
 
@@ -71,7 +71,7 @@ module _ (d : Accepted) (a : Answered) (shielded : Slot → Bool) (s q : Slot) w
   waiting : ReaderOf → ℕ → Bool → Bool → Bool
   waiting r f ranks facts = list_any (λ m. lets r f m && (ranks && (facts && nat_eq q.member m))) (members_of_home a (home d.tree f))
 
-  one_reader : (r : ReaderOf) → marks_of d a shielded s (due_of d q) r ≡ (reads s q r && (here && not (shielded q)))
+  one_reader : (r : ReaderOf) → marks_of d a shielded s (dirty_of d q) r ≡ (reads s q r && (here && not (shielded q)))
   unfolding here lets waiting
   one_reader r = at (nat_eq r.fact q.fact) refl
     where
@@ -82,7 +82,7 @@ module _ (d : Accepted) (a : Answered) (shielded : Slot → Bool) (s q : Slot) w
       turned_in true false false = refl
       turned_in false y z = refl
 
-      at : (x : Bool) → nat_eq r.fact q.fact ≡ x → marks_of d a shielded s (due_of d q) r ≡ ((x && reads_at s r q.member) && (here && not (shielded q)))
+      at : (x : Bool) → nat_eq r.fact q.fact ≡ x → marks_of d a shielded s (dirty_of d q) r ≡ ((x && reads_at s r q.member) && (here && not (shielded q)))
       at true e =
           ap (λ f. waiting r f (nat_eq (rank d q.fact) (rank d f)) (nat_eq q.fact f)) (same_number r.fact q.fact e)
           ∙ ap (λ x. waiting r q.fact x (nat_eq q.fact q.fact)) (equal_number (rank d q.fact))
@@ -94,10 +94,10 @@ module _ (d : Accepted) (a : Answered) (shielded : Slot → Bool) (s q : Slot) w
           ap (waiting r r.fact (nat_eq (rank d q.fact) (rank d r.fact))) (nat_eq-comm q.fact r.fact ∙ e)
           ∙ none_at (lets r r.fact) (nat_eq (rank d q.fact) (rank d r.fact)) q.member (members_of_home a (home d.tree r.fact))
 
-  all_readers : (rs : List ReaderOf) → marks d a shielded s rs (due_of d q) ≡ (list_any (reads s q) rs && (here && not (shielded q)))
+  all_readers : (rs : List ReaderOf) → marks d a shielded s rs (dirty_of d q) ≡ (list_any (reads s q) rs && (here && not (shielded q)))
   all_readers [] = refl
   all_readers (r ∷ rs) =
-      ap (λ b. b || marks d a shielded s rs (due_of d q)) (one_reader r)
+      ap (λ b. b || marks d a shielded s rs (dirty_of d q)) (one_reader r)
       ∙ ap (λ b. (reads s q r && (here && not (shielded q))) || b) (all_readers rs)
       ∙ joined (reads s q r) (list_any (reads s q) rs) (here && not (shielded q))
     where
@@ -124,17 +124,17 @@ marks_feed d a shielded s rs are q =
 
 -- ---- what waits then has the rank of its fact
 
-rank_at : (d : Accepted) (shielded : Slot → Bool) (s : Slot) (q : Due) (r : ReaderOf) (ms : List ℕ) → list_any (marks_at shielded s r (rank d r.fact) q) ms ≡ true → q.rank ≡ rank d q.fact
+rank_at : (d : Accepted) (shielded : Slot → Bool) (s : Slot) (q : DirtySlot) (r : ReaderOf) (ms : List ℕ) → list_any (marks_at shielded s r (rank d r.fact) q) ms ≡ true → q.rank ≡ rank d q.fact
 rank_at d shielded s q r [] h = absurd (cc)
 rank_at d shielded s q r (m ∷ ms) h =
     either (marks_at shielded s r (rank d r.fact) q m) (list_any (marks_at shielded s r (rank d r.fact) q) ms) h
-    (λ e. let same = both_right (reads_at s r m && not (shielded (slot r.fact m))) (due_same q (record { rank = rank d r.fact; fact = r.fact; member = m })) e in
+    (λ e. let same = both_right (reads_at s r m && not (shielded (slot r.fact m))) (dirty_same q (record { rank = rank d r.fact; fact = r.fact; member = m })) e in
     let ranks : q.rank ≡ rank d r.fact = same_number q.rank (rank d r.fact) (both_left (nat_eq q.rank (rank d r.fact)) (nat_eq q.fact r.fact && nat_eq q.member m) same) in
     let facts : q.fact ≡ r.fact = same_number q.fact r.fact (both_left (nat_eq q.fact r.fact) (nat_eq q.member m) (both_right (nat_eq q.rank (rank d r.fact)) (nat_eq q.fact r.fact && nat_eq q.member m) same)) in
     ranks ∙ ap (rank d) (sym facts))
     (rank_at d shielded s q r ms)
 
-pub marks_rank : (d : Accepted) (a : Answered) (shielded : Slot → Bool) (s : Slot) (rs : List ReaderOf) (q : Due) → marks d a shielded s rs q ≡ true → q.rank ≡ rank d q.fact
+pub marks_rank : (d : Accepted) (a : Answered) (shielded : Slot → Bool) (s : Slot) (rs : List ReaderOf) (q : DirtySlot) → marks d a shielded s rs q ≡ true → q.rank ≡ rank d q.fact
 marks_rank d a shielded s [] q h = absurd (cc)
 marks_rank d a shielded s (r ∷ rs) q h =
     either (marks_of d a shielded s q r) (marks d a shielded s rs q) h (rank_at d shielded s q r (members_of_home a (home d.tree r.fact))) (marks_rank d a shielded s rs q)

@@ -26,7 +26,7 @@ use Rattle.dictionary.specs.Extension.{both_same}
 use Rattle.dictionary.specs.Fits.{AnswersFit, is_list}
 use Rattle.dictionary.specs.Homes.{home}
 use Rattle.dictionary.specs.Plain.{rank}
-use Rattle.dictionary.specs.Reading.{slot}
+use Rattle.dictionary.specs.Dependencies.{slot}
 use Rattle.dictionary.specs.Slots.{is_member, members_of_home, slot_same, stands, stands_at}
 use Rattle.dictionary.specs.Undone.{came, differs, is_touched_first, IsUndone}
 use Rattle.dictionary.proofs.ByRankLaws.{facts_by_rank, place_of_fact}
@@ -34,12 +34,12 @@ use Rattle.dictionary.proofs.ExtensionLaws.{is_placed, list_stands}
 use Rattle.dictionary.proofs.NumberLaws.{fact_there, fact_within}
 use Rattle.dictionary.proofs.SetLaws.{set_is}
 use Rattle.dictionary.proofs.SlotLaws.{fact_of_standing, slot_same-equal, slot_same-itself, stands_where}
-use Rattle.recalc.specs.Readers.{due_of}
+use Rattle.recalc.specs.Readers.{dirty_of}
 use Rattle.recalc.specs.Running.{AreWaiting}
 use Rattle.recalc.specs.Seeding.{came_by, field_at, is_anywhere, is_at, is_came, is_field, is_own, is_slot}
-use Rattle.recalc.specs.Waiting.{due_same, Dues, waits}
+use Rattle.recalc.specs.Waiting.{dirty_same, DirtySlots, waits}
 use Rattle.recalc.specs.declared.undone.Came.{Came}
-use Rattle.recalc.specs.declared.work.Due.{Due}
+use Rattle.recalc.specs.declared.dirty_queue.DirtySlot.{DirtySlot}
 use Rattle.recalc.proofs.RunningLaws.{same_tests}
 use Rattle.recalc.proofs.ReaderLaws.{home_has}
 use Rattle.recalc.proofs.SlotLists.{either}
@@ -80,21 +80,21 @@ module _ (names : List (List ℕ)) (d : Accepted) (accepted : IsAccepted names d
 
 -- ---- what waits of a fact at members, as slots
 
-due_turned : (d : Accepted) (s t : Slot) → due_same (due_of d s) (due_of d t) ≡ slot_same t s
-due_turned d s t =
+dirty_turned : (d : Accepted) (s t : Slot) → dirty_same (dirty_of d s) (dirty_of d t) ≡ slot_same t s
+dirty_turned d s t =
     same_tests (nat_eq (rank d s.fact) (rank d t.fact)) (nat_eq s.fact t.fact) (nat_eq s.member t.member)
     (λ e. ap (λ n. nat_eq (rank d s.fact) (rank d n)) (sym (same_number s.fact t.fact e)) ∙ equal_number (rank d s.fact))
     ∙ ap (λ x. x && nat_eq s.member t.member) (nat_eq-comm s.fact t.fact)
     ∙ ap (λ x. nat_eq t.fact s.fact && x) (nat_eq-comm s.member t.member)
 
-at_slot : (d : Accepted) (s : Slot) (ms : List ℕ) (f : ℕ) → is_at d (due_of d s) ms f ≡ (nat_eq s.fact f && list_any (nat_eq s.member) ms)
+at_slot : (d : Accepted) (s : Slot) (ms : List ℕ) (f : ℕ) → is_at d (dirty_of d s) ms f ≡ (nat_eq s.fact f && list_any (nat_eq s.member) ms)
 at_slot d s [] f = off (nat_eq s.fact f)
   where
     off : (x : Bool) → false ≡ (x && false)
     off true = refl
     off false = refl
 at_slot d s (m ∷ ms) f =
-    ap (λ b. due_same (due_of d s) (record { rank = rank d f; fact = f; member = m }) || b) (at_slot d s ms f)
+    ap (λ b. dirty_same (dirty_of d s) (record { rank = rank d f; fact = f; member = m }) || b) (at_slot d s ms f)
     ∙ at (nat_eq s.fact f) refl
   where
     joined : (x y : Bool) → ((true && (true && x)) || (true && y)) ≡ (true && (x || y))
@@ -114,10 +114,10 @@ at_slot d s (m ∷ ms) f =
     at false e = none (nat_eq s.member m) (list_any (nat_eq s.member) ms) (nat_eq (rank d s.fact) (rank d f))
 
 -- of all these facts
-pub any_slot : (d : Accepted) (ms : ℕ → List ℕ) (s : Slot) (order : List ℕ) → list_any (λ f. is_at d (due_of d s) (ms f) f) order ≡ (list_any (nat_eq s.fact) order && list_any (nat_eq s.member) (ms s.fact))
+pub any_slot : (d : Accepted) (ms : ℕ → List ℕ) (s : Slot) (order : List ℕ) → list_any (λ f. is_at d (dirty_of d s) (ms f) f) order ≡ (list_any (nat_eq s.fact) order && list_any (nat_eq s.member) (ms s.fact))
 any_slot d ms s [] = refl
 any_slot d ms s (f ∷ order) =
-    ap (λ b. b || list_any (λ g. is_at d (due_of d s) (ms g) g) order) (at_slot d s (ms f) f)
+    ap (λ b. b || list_any (λ g. is_at d (dirty_of d s) (ms g) g) order) (at_slot d s (ms f) f)
     ∙ ap (λ b. (nat_eq s.fact f && list_any (nat_eq s.member) (ms f)) || b) (any_slot d ms s order)
     ∙ at (nat_eq s.fact f) refl
   where
@@ -135,26 +135,26 @@ any_slot d ms s (f ∷ order) =
     at false e = refl
 
 -- and so it has the rank of its fact
-due_rank : (d : Accepted) (q : Due) (f m : ℕ) → IsTrue (due_same q (record { rank = rank d f; fact = f; member = m })) → q.rank ≡ rank d q.fact
-due_rank d q f m same =
+dirty_rank : (d : Accepted) (q : DirtySlot) (f m : ℕ) → IsTrue (dirty_same q (record { rank = rank d f; fact = f; member = m })) → q.rank ≡ rank d q.fact
+dirty_rank d q f m same =
     let ranks : q.rank ≡ rank d f = same_number q.rank (rank d f) (both_left (nat_eq q.rank (rank d f)) (nat_eq q.fact f && nat_eq q.member m) same) in
     let facts : q.fact ≡ f = same_number q.fact f (both_left (nat_eq q.fact f) (nat_eq q.member m) (both_right (nat_eq q.rank (rank d f)) (nat_eq q.fact f && nat_eq q.member m) same)) in
     ranks ∙ ap (rank d) (sym facts)
 
-at_rank : (d : Accepted) (q : Due) (ms : List ℕ) (f : ℕ) → IsTrue (is_at d q ms f) → q.rank ≡ rank d q.fact
+at_rank : (d : Accepted) (q : DirtySlot) (ms : List ℕ) (f : ℕ) → IsTrue (is_at d q ms f) → q.rank ≡ rank d q.fact
 at_rank d q [] f h = absurd (cc)
-at_rank d q (m ∷ ms) f h = either (due_same q (record { rank = rank d f; fact = f; member = m })) (is_at d q ms f) h (due_rank d q f m) (at_rank d q ms f)
+at_rank d q (m ∷ ms) f h = either (dirty_same q (record { rank = rank d f; fact = f; member = m })) (is_at d q ms f) h (dirty_rank d q f m) (at_rank d q ms f)
 
-pub any_rank : (d : Accepted) (ms : ℕ → List ℕ) (q : Due) (order : List ℕ) → IsTrue (list_any (λ f. is_at d q (ms f) f) order) → q.rank ≡ rank d q.fact
+pub any_rank : (d : Accepted) (ms : ℕ → List ℕ) (q : DirtySlot) (order : List ℕ) → IsTrue (list_any (λ f. is_at d q (ms f) f) order) → q.rank ≡ rank d q.fact
 any_rank d ms q [] h = absurd (cc)
 any_rank d ms q (f ∷ order) h = either (is_at d q (ms f) f) (list_any (λ g. is_at d q (ms g) g) order) h (at_rank d q (ms f) f) (any_rank d ms q order)
 
 -- ---- all slots
 
-pub all_wait : (names : List (List ℕ)) (d : Accepted) → IsAccepted names d → (order : List ℕ) → AreByRank d.ranks order → (a : Answered) (work : Dues)
-    → ((q : Due) → waits work q ≡ is_anywhere d a order q) → AreWaiting d work (λ s. stands d.tree a s)
-all_wait names d accepted order by_rank a work h = record {
-  slots = λ s. h (due_of d s)
+pub all_wait : (names : List (List ℕ)) (d : Accepted) → IsAccepted names d → (order : List ℕ) → AreByRank d.ranks order → (a : Answered) (queue : DirtySlots)
+    → ((q : DirtySlot) → waits queue q ≡ is_anywhere d a order q) → AreWaiting d queue (λ s. stands d.tree a s)
+all_wait names d accepted order by_rank a queue h = record {
+  slots = λ s. h (dirty_of d s)
       ∙ any_slot d (λ f. members_of_home a (home d.tree f)) s order
       ∙ ap (λ b. list_any (nat_eq s.fact) order && b) (home_has a (home d.tree s.fact) s.member (nat_eq (home d.tree s.fact) 0))
       ∙ same_test (list_any (nat_eq s.fact) order && stands_at a (home d.tree s.fact) s.member) (stands d.tree a s)
@@ -275,7 +275,7 @@ field_has false m k = refl
 
 module _ (names : List (List ℕ)) (d : Accepted) (accepted : IsAccepted names d) (order : List ℕ) (by_rank : AreByRank d.ranks order) (undo : Change) (now : Answered) (u : IsUndone d undo now) where
   -- the slots of the member that came
-  field_slots : (c : Came) → came_by undo now ≡ Some c → (s : Slot) → is_field d c order (due_of d s) ≡ (stands d.tree now s && came undo now s.member)
+  field_slots : (c : Came) → came_by undo now ≡ Some c → (s : Slot) → is_field d c order (dirty_of d s) ≡ (stands d.tree now s && came undo now s.member)
   field_slots c e s =
       any_slot d (field_at d.tree c) s order
       ∙ ap (λ b. list_any (nat_eq s.fact) order && b) (field_has (nat_eq (home d.tree s.fact) c.list) s.member c.member)
@@ -303,7 +303,7 @@ module _ (names : List (List ℕ)) (d : Accepted) (accepted : IsAccepted names d
           and_intro (list_any (nat_eq s.fact) order) (nat_eq (home d.tree s.fact) c.list && nat_eq s.member c.member) i
           (and_intro (nat_eq (home d.tree s.fact) c.list) (nat_eq s.member c.member) (sym (at_member i same) ∙ there) same)
 
-  came_slots : (o : Option Came) → came_by undo now ≡ o → (s : Slot) → is_came d o order (due_of d s) ≡ (stands d.tree now s && came undo now s.member)
+  came_slots : (o : Option Came) → came_by undo now ≡ o → (s : Slot) → is_came d o order (dirty_of d s) ≡ (stands d.tree now s && came undo now s.member)
   came_slots (Some c) e s = field_slots c e s
   came_slots None e s = off (stands d.tree now s) ∙ ap (λ b. stands d.tree now s && b) (sym (none_came undo now e s.member))
     where
@@ -312,16 +312,16 @@ module _ (names : List (List ℕ)) (d : Accepted) (accepted : IsAccepted names d
       off false = refl
 
   -- the slot that differs
-  own_due : (o : Option Slot) (s : Slot) → is_own d o (due_of d s) ≡ is_slot o s
-  own_due None s = refl
-  own_due (Some t) s = due_turned d s t
+  own_dirty : (o : Option Slot) (s : Slot) → is_own d o (dirty_of d s) ≡ is_slot o s
+  own_dirty None s = refl
+  own_dirty (Some t) s = dirty_turned d s t
 
-  own_slots : (o : Option Slot) → ((s : Slot) → is_slot o s ≡ differs undo now s) → (s : Slot) → is_own d o (due_of d s) ≡ (stands d.tree now s && differs undo now s)
-  own_slots o is s = own_due o s ∙ is s ∙ same_test (differs undo now s) (stands d.tree now s && differs undo now s)
+  own_slots : (o : Option Slot) → ((s : Slot) → is_slot o s ≡ differs undo now s) → (s : Slot) → is_own d o (dirty_of d s) ≡ (stands d.tree now s && differs undo now s)
+  own_slots o is s = own_dirty o s ∙ is s ∙ same_test (differs undo now s) (stands d.tree now s && differs undo now s)
       (λ h. and_intro (stands d.tree now s) (differs undo now s) (own_stands names d accepted undo now u s h) h)
       (λ h. both_right (stands d.tree now s) (differs undo now s) h)
 
-  first_rank : (c : Option Came) (o : Option Slot) (q : Due) → IsTrue (is_came d c order q || is_own d o q) → q.rank ≡ rank d q.fact
+  first_rank : (c : Option Came) (o : Option Slot) (q : DirtySlot) → IsTrue (is_came d c order q || is_own d o q) → q.rank ≡ rank d q.fact
   first_rank c o q h = either (is_came d c order q) (is_own d o q) h (came_rank c) (own_rank o)
     where
       came_rank : (c : Option Came) → IsTrue (is_came d c order q) → q.rank ≡ rank d q.fact
@@ -330,17 +330,17 @@ module _ (names : List (List ℕ)) (d : Accepted) (accepted : IsAccepted names d
 
       own_rank : (o : Option Slot) → IsTrue (is_own d o q) → q.rank ≡ rank d q.fact
       own_rank None h = absurd (cc)
-      own_rank (Some t) h = due_rank d q t.fact t.member h
+      own_rank (Some t) h = dirty_rank d q t.fact t.member h
 
   joined : (x y z : Bool) → ((x && y) || (x && z)) ≡ (x && (y || z))
   joined true y z = refl
   joined false y z = refl
 
   pub first_wait : (c : Option Came) → c ≡ came_by undo now → (o : Option Slot) → ((s : Slot) → is_slot o s ≡ differs undo now s)
-      → (work : Dues) → ((q : Due) → waits work q ≡ (is_came d c order q || is_own d o q)) → AreWaiting d work (λ s. stands d.tree now s && is_touched_first undo now s)
-  first_wait c e o is work h = record {
-    slots = λ s. h (due_of d s)
-        ∙ ap (λ b. b || is_own d o (due_of d s)) (came_slots c (sym e) s)
+      → (queue : DirtySlots) → ((q : DirtySlot) → waits queue q ≡ (is_came d c order q || is_own d o q)) → AreWaiting d queue (λ s. stands d.tree now s && is_touched_first undo now s)
+  first_wait c e o is queue h = record {
+    slots = λ s. h (dirty_of d s)
+        ∙ ap (λ b. b || is_own d o (dirty_of d s)) (came_slots c (sym e) s)
         ∙ ap (λ b. (stands d.tree now s && came undo now s.member) || b) (own_slots o is s)
         ∙ joined (stands d.tree now s) (came undo now s.member) (differs undo now s);
     ranked = λ q on. first_rank c o q (sym (h q) ∙ on);

@@ -9,7 +9,7 @@ use Rattle.dictionary.specs.Weights.{touched_weight}
 use Rattle.dictionary.proofs.UntouchedLaws.{untouched_keeps}
 use Rattle.graph_session.specs.Counts.{Counts, next_counts, stamp_in, stamp_of}
 use Rattle.graph_session.specs.Rules.{Rules, tree_of}
-use Rattle.graph_session.specs.SessionView.{Course, moved}
+use Rattle.graph_session.specs.SessionView.{SessionState, moved}
 use Rattle.graph_session.specs.Step.{moved_by, refusal, reply, steps_to, timeline_by}
 use Rattle.graph_session.specs.declared.reply.Refusal.{Refusal}
 use Rattle.graph_session.proofs.CountLaws.{stamp_listed}
@@ -23,7 +23,7 @@ changes_take_touched r s t c said is e =
     let parts = accepted_step r s t c said e in
     let to = changes_move (tree_of r) s.timeline c is in
     most_by (touched_weight r.accepted) r s c (Some to.0) parts.0 to.1
-    ∙ ap (λ (u : Course). touched_weight r.accepted s.timeline.now u.timeline.now) (sym (parts.1.1 ∙ ap (moved_by r s) to.1))
+    ∙ ap (λ (u : SessionState). touched_weight r.accepted s.timeline.now u.timeline.now) (sym (parts.1.1 ∙ ap (moved_by r s) to.1))
 
 pub refused_take_none : RefusedTakeNone
 refused_take_none most r s c why e =
@@ -45,7 +45,7 @@ pub questions_change_none : QuestionsChangeNone
 questions_change_none r s t c said is e = (accepted_step r s t c said e).1.1 ∙ ap (moved_by r s) (questions_stay (tree_of r) s.timeline c is)
 
 -- the stamp of a slot that stands where a change leads
-module _ (r : Rules) (s : Course) (to : Timeline) (x : Slot) (stands_there : IsTrue (stands (tree_of r) to.now x)) where
+module _ (r : Rules) (s : SessionState) (to : Timeline) (x : Slot) (stands_there : IsTrue (stands (tree_of r) to.now x)) where
   stamp_after : (k : Counts) → s.counts ≡ Some k → stamp_of (moved r.accepted s to).counts x ≡ stamped r.accepted s.timeline.now to.now (s.changes + 1) (stamp_in k.stamps) x
   stamp_after k e =
       ap (λ (o : Option Counts). stamp_of (option_map (next_counts r.accepted s.timeline.now to.now (s.changes + 1)) o) x) e
@@ -58,7 +58,7 @@ module _ (r : Rules) (s : Course) (to : Timeline) (x : Slot) (stands_there : IsT
       at None h = ap (λ (o : Option Counts). stamp_of o x) h ∙ sym (ap (λ (o : Option Counts). stamp_of (option_map (next_counts r.accepted s.timeline.now to.now (s.changes + 1)) o) x) h)
       at (Some k) h = ap (λ (o : Option Counts). stamp_of o x) h ∙ sym (ap (λ b. if b then s.changes + 1 else stamp_in k.stamps x) e) ∙ sym (stamp_after k h)
 
-stamps_kept : (r : Rules) (s : Course) (o : Option Timeline) (x : Slot) → IsTrue (stands (tree_of r) (moved_by r s o).timeline.now x)
+stamps_kept : (r : Rules) (s : SessionState) (o : Option Timeline) (x : Slot) → IsTrue (stands (tree_of r) (moved_by r s o).timeline.now x)
     → touches r.accepted s.timeline.now (moved_by r s o).timeline.now x ≡ false → stamp_of s.counts x ≡ stamp_of (moved_by r s o).counts x
 stamps_kept r s None x stands_there e = refl
 stamps_kept r s (Some to) x stands_there e = stamp_kept r s to x stands_there e
@@ -68,17 +68,17 @@ untouched_keep_all r is s t c said fit_s fit_t e x stands_there untouched =
     let leads = (accepted_step r s t c said e).1.1 in (
       untouched_keeps (names_of r.checks) r.accepted is s.timeline.now t.timeline.now fit_s fit_t x stands_there untouched,
       stamps_kept r s (timeline_by (tree_of r) s.timeline c) x
-          (subst (λ (u : Course). IsTrue (stands (tree_of r) u.timeline.now x)) leads stands_there)
-          (subst (λ (u : Course). touches r.accepted s.timeline.now u.timeline.now x ≡ false) leads untouched)
-          ∙ ap (λ (u : Course). stamp_of u.counts x) (sym leads),
+          (subst (λ (u : SessionState). IsTrue (stands (tree_of r) u.timeline.now x)) leads stands_there)
+          (subst (λ (u : SessionState). touches r.accepted s.timeline.now u.timeline.now x ≡ false) leads untouched)
+          ∙ ap (λ (u : SessionState). stamp_of u.counts x) (sym leads),
     )
 
 pub touched_have_number : TouchedHaveNumber
 touched_have_number r s t c said k is e has x stands_there touched =
     let to = changes_move (tree_of r) s.timeline c is in
     let leads = (accepted_step r s t c said e).1.1 ∙ ap (moved_by r s) to.1 in (
-      ap (λ (u : Course). stamp_of u.counts x) leads
-          ∙ stamp_after r s to.0 x (subst (λ (u : Course). IsTrue (stands (tree_of r) u.timeline.now x)) leads stands_there) k has
-          ∙ ap (λ b. if b then s.changes + 1 else stamp_in k.stamps x) (subst (λ (u : Course). IsTrue (touches r.accepted s.timeline.now u.timeline.now x)) leads touched),
-      ap (λ (u : Course). u.changes) leads,
+      ap (λ (u : SessionState). stamp_of u.counts x) leads
+          ∙ stamp_after r s to.0 x (subst (λ (u : SessionState). IsTrue (stands (tree_of r) u.timeline.now x)) leads stands_there) k has
+          ∙ ap (λ b. if b then s.changes + 1 else stamp_in k.stamps x) (subst (λ (u : SessionState). IsTrue (touches r.accepted s.timeline.now u.timeline.now x)) leads touched),
+      ap (λ (u : SessionState). u.changes) leads,
     )

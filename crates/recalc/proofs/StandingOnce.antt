@@ -9,7 +9,7 @@ use Rattle.dict_tree.specs.Dictionary.{Dictionary as Tree}
 use Rattle.answers.specs.Answered.{Answered, list_of}
 use Rattle.answers.specs.Lists.{Once}
 use Rattle.dictionary.specs.Homes.{home}
-use Rattle.dictionary.specs.Reading.{slot}
+use Rattle.dictionary.specs.Dependencies.{slot}
 use Rattle.dictionary.specs.Slots.{slot_same, slots_of, slots_up_to, standing}
 use Rattle.dictionary.proofs.SlotLaws.{slot_same-itself}
 use Rattle.recalc.specs.Spread.{is_in, NoTwice}

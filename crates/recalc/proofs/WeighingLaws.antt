@@ -10,7 +10,7 @@ use Rattle.recalc.specs.Spread.{Spread, IsSpread, is_in, is_touched, NoTwice}
 use Rattle.recalc.specs.Marking.{IsMarked}
 use Rattle.recalc.specs.Laws.{DoneWeighAll, DoneWeighLess, touched_of}
 use Rattle.recalc.proofs.SlotLists.{either, filtered, filtered_once, in_push, once_push}
-use Rattle.recalc.proofs.MarkingLaws.{done_are_touched, due_is_touched}
+use Rattle.recalc.proofs.MarkingLaws.{done_are_touched, dirty_is_touched}
 
 abbrev without : Slot → List Slot → List Slot
 without x [] = []
@@ -69,35 +69,35 @@ length_is (x ∷ xs) =
 -- ---- of a change
 
 done_within :
-    (c : Spread) → IsSpread c → (done : List Slot) (due : Slot → Bool) → IsMarked c done due
+    (c : Spread) → IsSpread c → (done : List Slot) (dirty : Slot → Bool) → IsMarked c done dirty
     → (s : Slot) → is_in done s ≡ true → is_in (touched_of c) s ≡ true
-done_within c laws done due m s i =
+done_within c laws done dirty m s i =
     filtered (is_touched c) c.standing s ∙ and_intro (is_touched c s) (is_in c.standing s) (m.right s i).1 (laws.listed s ∙ (m.right s i).0)
 
-due_within :
-    (c : Spread) → IsSpread c → (done : List Slot) (due : Slot → Bool) → IsMarked c done due
-    → (s : Slot) → due s ≡ true → is_in (touched_of c) s ≡ true
-due_within c laws done due m s on =
+dirty_within :
+    (c : Spread) → IsSpread c → (done : List Slot) (dirty : Slot → Bool) → IsMarked c done dirty
+    → (s : Slot) → dirty s ≡ true → is_in (touched_of c) s ≡ true
+dirty_within c laws done dirty m s on =
     filtered (is_touched c) c.standing s
-    ∙ and_intro (is_touched c s) (is_in c.standing s) (due_is_touched c laws done due m s on) (laws.listed s ∙ (m.only s on).0)
+    ∙ and_intro (is_touched c s) (is_in c.standing s) (dirty_is_touched c laws done dirty m s on) (laws.listed s ∙ (m.only s on).0)
 
 pub done_weigh_less : DoneWeighLess
-done_weigh_less c laws done due m w = (
-  weighs_less w done (touched_of c) m.once (done_within c laws done due m),
+done_weigh_less c laws done dirty m w = (
+  weighs_less w done (touched_of c) m.once (done_within c laws done dirty m),
   λ s on. weighs_less w (done ++ s ∷ []) (touched_of c) (once_push done s m.once (m.only s on).1)
       (λ q i. either (is_in done q) (slot_same q s) (sym (in_push done s q) ∙ i)
-      (done_within c laws done due m q)
-      (λ e. ap (is_in (touched_of c)) (slot_same-equal q s e) ∙ due_within c laws done due m s on)),
+      (done_within c laws done dirty m q)
+      (λ e. ap (is_in (touched_of c)) (slot_same-equal q s e) ∙ dirty_within c laws done dirty m s on)),
 )
 
 both_ways : (a b : ℕ) → a ≤ b → b ≤ a → a ≡ b
 both_ways a b h k = omega arith
 
 pub done_weigh_all : DoneWeighAll
-done_weigh_all c laws once done due m none w =
-    both_ways (sum_by w done) (sum_by w (touched_of c)) ((done_weigh_less c laws done due m w).0)
+done_weigh_all c laws once done dirty m none w =
+    both_ways (sum_by w done) (sum_by w (touched_of c)) ((done_weigh_less c laws done dirty m w).0)
     (weighs_less w (touched_of c) done (filtered_once (is_touched c) c.standing once)
     (λ s i.
     let t : (is_touched c s && is_in c.standing s) ≡ true = sym (filtered (is_touched c) c.standing s) ∙ i in
-    done_are_touched c laws done due m none s
+    done_are_touched c laws done dirty m none s
     ∙ and_intro (c.stands s) (is_touched c s) (sym (laws.listed s) ∙ both_right (is_touched c s) (is_in c.standing s) t) (both_left (is_touched c s) (is_in c.standing s) t)))

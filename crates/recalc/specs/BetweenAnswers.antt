@@ -9,7 +9,7 @@ use Rattle.dictionary.specs.Feeds.{feeds}
 use Rattle.dictionary.specs.Final.{is_final}
 use Rattle.dictionary.specs.Fits.{AnswersFit}
 use Rattle.dictionary.specs.Plain.{plain, rank}
-use Rattle.dictionary.specs.Reading.{Look}
+use Rattle.dictionary.specs.Dependencies.{Results}
 use Rattle.dictionary.specs.Slots.{stands, standing}
 use Rattle.dictionary.specs.Touched.{has_moved, same_entry, stamped, touched_count, touches}
 use Rattle.dictionary.specs.Undone.{is_extended, is_touched_first, IsUndone}
@@ -17,7 +17,7 @@ use Rattle.dictionary.specs.Weights.{slot_weight, touched_weight}
 use Rattle.recalc.specs.Spread.{Spread, is_in, is_touched, IsSpread, NoTwice}
 use Rattle.recalc.specs.Marking.{IsMarked}
 use Rattle.recalc.specs.Laws.{touched_of}
-use Rattle.recalc.specs.Passages.{IsPassage}
+use Rattle.recalc.specs.Transitions.{IsTransition}
 
 -- the change from a to b: a slot that is final in a is fed by none, where b extends a
 abbrev pub between : Accepted → Answered → Answered → Spread
@@ -31,7 +31,7 @@ between d a b = record {
 }
 
 -- the results before it, of the slots that stand after it
-abbrev pub results_before : Accepted → Answered → Answered → Look
+abbrev pub results_before : Accepted → Answered → Answered → Results
 results_before d a b s = if stands d.tree b s then plain d a s else None
 
 -- the start of answers: it touches all slots by itself
@@ -68,20 +68,20 @@ StandingOnce = (d : Accepted) (b : Answered) → AnswersFit d.tree b → NoTwice
 abbrev pub UndonePasses : Type 0
 UndonePasses =
     (names : List (List ℕ)) (d : Accepted) → IsAccepted names d → (undo : Change) (now : Answered) → IsUndone d undo now
-    → (old : Look) → ((s : Slot) → old s ≡ results_before d (applied undo now) now s) → IsPassage d now (is_extended undo now) old (between d (applied undo now) now)
+    → (old : Results) → ((s : Slot) → old s ≡ results_before d (applied undo now) now s) → IsTransition d now (is_extended undo now) old (between d (applied undo now) now)
 
 -- and so does the start, from no results
 abbrev pub StartPasses : Type 0
 StartPasses =
     (names : List (List ℕ)) (d : Accepted) → IsAccepted names d → (b : Answered) → AnswersFit d.tree b
-    → (old : Look) → ((s : Slot) → old s ≡ None) → IsPassage d b false old (from_nothing d b)
+    → (old : Results) → ((s : Slot) → old s ≡ None) → IsTransition d b false old (from_nothing d b)
 
 -- it starts where those wait that the edit touches by itself
 abbrev pub EditMarks : Type 0
 EditMarks =
     (names : List (List ℕ)) (d : Accepted) → IsAccepted names d → (undo : Change) (now : Answered) → IsUndone d undo now
-    → (due : Slot → Bool) → ((s : Slot) → due s ≡ (stands d.tree now s && is_touched_first undo now s))
-    → IsMarked (between d (applied undo now) now) [] due
+    → (dirty : Slot → Bool) → ((s : Slot) → dirty s ≡ (stands d.tree now s && is_touched_first undo now s))
+    → IsMarked (between d (applied undo now) now) [] dirty
 
 -- what a loop leaves of a change once nothing waits
 pub record IsAllDone (d : Accepted) (a b : Answered) (done : List Slot) : Type 0 where
@@ -93,7 +93,7 @@ pub record IsAllDone (d : Accepted) (a b : Answered) (done : List Slot) : Type 0
 abbrev pub AllIsDone : Type 0
 AllIsDone =
     (names : List (List ℕ)) (d : Accepted) (a b : Answered) → AreBetween names d a b
-    → (done : List Slot) (due : Slot → Bool) → IsMarked (between d a b) done due → ((s : Slot) → due s ≡ false) → IsAllDone d a b done
+    → (done : List Slot) (dirty : Slot → Bool) → IsMarked (between d a b) done dirty → ((s : Slot) → dirty s ≡ false) → IsAllDone d a b done
 
 -- what it touches weighs what the touched slots weigh
 abbrev pub TouchedWeigh : Type 0

@@ -6,25 +6,25 @@ use Rattle.recalc.specs.Marking.{IsLeast, IsMarked, IsNext}
 
 -- it starts where those wait that the change touches by itself
 abbrev pub StartMarks : Type 0
-StartMarks = (c : Spread) (due : Slot → Bool) → ((s : Slot) → due s ≡ (c.stands s && c.first s)) → IsMarked c [] due
+StartMarks = (c : Spread) (dirty : Slot → Bool) → ((s : Slot) → dirty s ≡ (c.stands s && c.first s)) → IsMarked c [] dirty
 
 -- a turn takes a slot of the lowest rank
 abbrev pub TurnMarks : Type 0
 TurnMarks =
-    (c : Spread) → IsSpread c → (done : List Slot) (due : Slot → Bool) → IsMarked c done due
-    → (s : Slot) → IsTrue (due s) → IsLeast c due (c.rank s) → (next : Slot → Bool) → IsNext c due s next → IsMarked c (done ++ s ∷ []) next
+    (c : Spread) → IsSpread c → (done : List Slot) (dirty : Slot → Bool) → IsMarked c done dirty
+    → (s : Slot) → IsTrue (dirty s) → IsLeast c dirty (c.rank s) → (next : Slot → Bool) → IsNext c dirty s next → IsMarked c (done ++ s ∷ []) next
 
 -- a slot that stands, is neither done nor waits, and is of no higher rank than what waits, isn't touched
 abbrev pub LowerSettle : Type 0
 LowerSettle =
-    (c : Spread) → IsSpread c → (done : List Slot) (due : Slot → Bool) → IsMarked c done due
-    → (s : Slot) → IsTrue (c.stands s) → is_in done s ≡ false → due s ≡ false → IsLeast c due (c.rank s) → is_touched c s ≡ false
+    (c : Spread) → IsSpread c → (done : List Slot) (dirty : Slot → Bool) → IsMarked c done dirty
+    → (s : Slot) → IsTrue (c.stands s) → is_in done s ≡ false → dirty s ≡ false → IsLeast c dirty (c.rank s) → is_touched c s ≡ false
 
 -- once nothing waits, what is done is what is touched
 abbrev pub DoneAreTouched : Type 0
 DoneAreTouched =
-    (c : Spread) → IsSpread c → (done : List Slot) (due : Slot → Bool) → IsMarked c done due
-    → ((s : Slot) → due s ≡ false) → (s : Slot) → is_in done s ≡ (c.stands s && is_touched c s)
+    (c : Spread) → IsSpread c → (done : List Slot) (dirty : Slot → Bool) → IsMarked c done dirty
+    → ((s : Slot) → dirty s ≡ false) → (s : Slot) → is_in done s ≡ (c.stands s && is_touched c s)
 
 -- ---- sums over slots
 
@@ -34,13 +34,13 @@ touched_of c = filter (is_touched c) c.standing
 -- what is done never weighs more than what is touched, also with one more that waits
 abbrev pub DoneWeighLess : Type 0
 DoneWeighLess =
-    (c : Spread) → IsSpread c → (done : List Slot) (due : Slot → Bool) → IsMarked c done due
+    (c : Spread) → IsSpread c → (done : List Slot) (dirty : Slot → Bool) → IsMarked c done dirty
     → (weight : Slot → ℕ)
     → (sum_by weight done ≤ sum_by weight (touched_of c))
-    × ((s : Slot) → IsTrue (due s) → sum_by weight (done ++ s ∷ []) ≤ sum_by weight (touched_of c))
+    × ((s : Slot) → IsTrue (dirty s) → sum_by weight (done ++ s ∷ []) ≤ sum_by weight (touched_of c))
 
 -- and once nothing waits, it weighs the same
 abbrev pub DoneWeighAll : Type 0
 DoneWeighAll =
-    (c : Spread) → IsSpread c → NoTwice c.standing → (done : List Slot) (due : Slot → Bool) → IsMarked c done due
-    → ((s : Slot) → due s ≡ false) → (weight : Slot → ℕ) → sum_by weight done ≡ sum_by weight (touched_of c)
+    (c : Spread) → IsSpread c → NoTwice c.standing → (done : List Slot) (dirty : Slot → Bool) → IsMarked c done dirty
+    → ((s : Slot) → dirty s ≡ false) → (weight : Slot → ℕ) → sum_by weight done ≡ sum_by weight (touched_of c)

@@ -1,13 +1,13 @@
 pub mod BetweenAnswers
-pub mod Courses
+pub mod Propagations
 pub mod Laws
 pub mod Marking
-pub mod Passages
+pub mod Transitions
 pub mod Readers
 pub mod Replacing
 pub mod Running
 pub mod Seeding
 pub mod Sessions
 pub mod Spread
-pub mod Standing
+pub mod EngineInvariant
 pub mod Waiting

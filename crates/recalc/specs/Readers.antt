@@ -7,31 +7,31 @@ use Rattle.dictionary.specs.Accepted.{Accepted}
 use Rattle.dictionary.specs.Feeds.{feeds}
 use Rattle.dictionary.specs.Homes.{home}
 use Rattle.dictionary.specs.Plain.{rank}
-use Rattle.dictionary.specs.Reading.{slot}
+use Rattle.dictionary.specs.Dependencies.{slot}
 use Rattle.dictionary.specs.Slots.{members_of_home, stands}
 use Rattle.dep_index.specs.Readers.{AreReaders}
 use Rattle.dep_index.specs.declared.row.ReaderOf.{ReaderOf}
-use Rattle.recalc.specs.Waiting.{due_same}
-use Rattle.recalc.specs.declared.work.Due.{Due}
+use Rattle.recalc.specs.Waiting.{dirty_same}
+use Rattle.recalc.specs.declared.dirty_queue.DirtySlot.{DirtySlot}
 
 -- a slot with the rank of its fact
-abbrev pub due_of : Accepted → Slot → Due
-due_of d s = record { rank = rank d s.fact; fact = s.fact; member = s.member }
+abbrev pub dirty_of : Accepted → Slot → DirtySlot
+dirty_of d s = record { rank = rank d s.fact; fact = s.fact; member = s.member }
 
 -- at this member the reader reads the slot
 abbrev pub reads_at : Slot → ReaderOf → ℕ → Bool
 reads_at s r member = not r.same || nat_eq s.member member
 
 -- what waits is the reader's slot at this member, where it reads the slot and isn't shielded
-abbrev pub marks_at : (Slot → Bool) → Slot → ReaderOf → ℕ → Due → ℕ → Bool
-marks_at shielded s r rank q member = (reads_at s r member && not (shielded (slot r.fact member))) && due_same q (record { rank = rank; fact = r.fact; member = member })
+abbrev pub marks_at : (Slot → Bool) → Slot → ReaderOf → ℕ → DirtySlot → ℕ → Bool
+marks_at shielded s r rank q member = (reads_at s r member && not (shielded (slot r.fact member))) && dirty_same q (record { rank = rank; fact = r.fact; member = member })
 
 -- at one of the members where the reader has slots
-abbrev pub marks_of : Accepted → Answered → (Slot → Bool) → Slot → Due → ReaderOf → Bool
+abbrev pub marks_of : Accepted → Answered → (Slot → Bool) → Slot → DirtySlot → ReaderOf → Bool
 marks_of d a shielded s q r = list_any (marks_at shielded s r (rank d r.fact) q) (members_of_home a (home d.tree r.fact))
 
 -- of one of these readers
-abbrev pub marks : Accepted → Answered → (Slot → Bool) → Slot → List ReaderOf → Due → Bool
+abbrev pub marks : Accepted → Answered → (Slot → Bool) → Slot → List ReaderOf → DirtySlot → Bool
 marks d a shielded s rs q = list_any (marks_of d a shielded s q) rs
 
 -- ---- a law
@@ -40,4 +40,4 @@ marks d a shielded s rs q = list_any (marks_of d a shielded s q) rs
 abbrev pub MarksFeed : Type 0
 MarksFeed =
     (d : Accepted) (a : Answered) (shielded : Slot → Bool) (s : Slot) (rs : List ReaderOf) → AreReaders d s.fact rs
-    → (q : Slot) → marks d a shielded s rs (due_of d q) ≡ (stands d.tree a q && (feeds d.tree s q && not (shielded q)))
+    → (q : Slot) → marks d a shielded s rs (dirty_of d q) ≡ (stands d.tree a q && (feeds d.tree s q && not (shielded q)))

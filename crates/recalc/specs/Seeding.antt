@@ -9,10 +9,10 @@ use Rattle.dictionary.specs.Accepted.{Accepted}
 use Rattle.dictionary.specs.Homes.{home}
 use Rattle.dictionary.specs.Plain.{rank}
 use Rattle.dictionary.specs.Slots.{members_of_home, slot_same}
-use Rattle.recalc.specs.Readers.{due_of}
-use Rattle.recalc.specs.Waiting.{due_same}
+use Rattle.recalc.specs.Readers.{dirty_of}
+use Rattle.recalc.specs.Waiting.{dirty_same}
 use Rattle.recalc.specs.declared.undone.Came.{Came}
-use Rattle.recalc.specs.declared.work.Due.{Due}
+use Rattle.recalc.specs.declared.dirty_queue.DirtySlot.{DirtySlot}
 
 abbrev pub is_slot : Option Slot → Slot → Bool
 is_slot None s = false
@@ -27,27 +27,27 @@ came_by _ now = None
 -- ---- facts that wait at members
 
 -- what waits is the fact's slot at one of the members
-abbrev pub is_at : Accepted → Due → List ℕ → ℕ → Bool
-is_at d q ms fact = list_any (λ m. due_same q (record { rank = rank d fact; fact = fact; member = m })) ms
+abbrev pub is_at : Accepted → DirtySlot → List ℕ → ℕ → Bool
+is_at d q ms fact = list_any (λ m. dirty_same q (record { rank = rank d fact; fact = fact; member = m })) ms
 
 -- a fact of this home at this member, and one of another home nowhere
 abbrev pub field_at : Tree → Came → ℕ → List ℕ
 field_at d c fact = if nat_eq (home d fact) c.list then c.member ∷ [] else []
 
 -- one of these facts at the member that came
-abbrev pub is_field : Accepted → Came → List ℕ → Due → Bool
+abbrev pub is_field : Accepted → Came → List ℕ → DirtySlot → Bool
 is_field d c facts q = list_any (λ f. is_at d q (field_at d.tree c f) f) facts
 
 -- one of these facts, wherever it has a slot
-abbrev pub is_anywhere : Accepted → Answered → List ℕ → Due → Bool
+abbrev pub is_anywhere : Accepted → Answered → List ℕ → DirtySlot → Bool
 is_anywhere d a facts q = list_any (λ f. is_at d q (members_of_home a (home d.tree f)) f) facts
 
 -- the member that came, if one did
-abbrev pub is_came : Accepted → Option Came → List ℕ → Due → Bool
+abbrev pub is_came : Accepted → Option Came → List ℕ → DirtySlot → Bool
 is_came d None facts q = false
 is_came d (Some c) facts q = is_field d c facts q
 
 -- the slot that differs, if one does
-abbrev pub is_own : Accepted → Option Slot → Due → Bool
+abbrev pub is_own : Accepted → Option Slot → DirtySlot → Bool
 is_own d None q = false
-is_own d (Some s) q = due_same q (due_of d s)
+is_own d (Some s) q = dirty_same q (dirty_of d s)

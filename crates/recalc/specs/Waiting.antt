@@ -1,31 +1,31 @@
 -- Which slots wait, and which are noted.
 use Rattle.std.specs.Prelude.{Bool, false, ◌&&◌, IsTrue, nat_eq, List, Option, Some, None, slice_index_or}
 use Rattle.std.specs.List.{list_any}
-use Rattle.recalc.specs.declared.work.Due.{Due}
+use Rattle.recalc.specs.declared.dirty_queue.DirtySlot.{DirtySlot}
 
-abbrev pub Dues : Type 0
-Dues = List Due
+abbrev pub DirtySlots : Type 0
+DirtySlots = List DirtySlot
 
-abbrev pub due_same : Due → Due → Bool
-due_same p q = nat_eq p.rank q.rank && (nat_eq p.fact q.fact && nat_eq p.member q.member)
+abbrev pub dirty_same : DirtySlot → DirtySlot → Bool
+dirty_same p q = nat_eq p.rank q.rank && (nat_eq p.fact q.fact && nat_eq p.member q.member)
 
 -- it is among those that wait
-abbrev pub waits : Dues → Due → Bool
-waits ds q = list_any (due_same q) ds
+abbrev pub waits : DirtySlots → DirtySlot → Bool
+waits ds q = list_any (dirty_same q) ds
 
 -- ---- for each fact, by its number, one of its slots or none
 
 abbrev pub Notes : Type 0
-Notes = List (Option Due)
+Notes = List (Option DirtySlot)
 
-abbrev pub is_due : Option Due → Due → Bool
-is_due None q = false
-is_due (Some d) q = due_same d q
+abbrev pub is_dirty : Option DirtySlot → DirtySlot → Bool
+is_dirty None q = false
+is_dirty (Some d) q = dirty_same d q
 
 -- it is the slot that is noted at its fact
-abbrev pub is_noted : Notes → Due → Bool
-is_noted last q = is_due (slice_index_or last q.fact None) q
+abbrev pub is_noted : Notes → DirtySlot → Bool
+is_noted last q = is_dirty (slice_index_or last q.fact None) q
 
 -- what is noted waits
-abbrev pub NotedWait : Dues → Notes → Type 0
-NotedWait ds last = (q : Due) → IsTrue (is_noted last q) → IsTrue (waits ds q)
+abbrev pub NotedWait : DirtySlots → Notes → Type 0
+NotedWait ds last = (q : DirtySlot) → IsTrue (is_noted last q) → IsTrue (waits ds q)

@@ -16,16 +16,16 @@ ghost use Rattle.node_compile.specs.Compiled.{IsCompiled};
 ghost use Rattle.recalc.specs.BetweenAnswers.{between, from_nothing};
 ghost use Rattle.recalc.specs.Replacing.{before, CanPutBack, entries};
 ghost use Rattle.recalc.specs.Running.{HasRun, is_that};
-ghost use Rattle.recalc.specs.Standing.{look_of, setting_from, start_setting};
+ghost use Rattle.recalc.specs.EngineInvariant.{results_of, setting_from, start_setting};
 ghost use Rattle.recalc.specs.Waiting.{waits};
-ghost use Rattle.recalc.specs.declared.work.Due.{Due};
+ghost use Rattle.recalc.specs.declared.dirty_queue.DirtySlot.{DirtySlot};
 
-use crate::course::Course;
+use crate::dirty_queue::DirtyQueue;
 use crate::log::Log;
+use crate::propagation::Propagation;
 use crate::running::run;
 use crate::seeding::{seed, seed_all};
 use crate::undone::effect_of;
-use crate::work::Work;
 use answers::{Answers, Edit};
 use cell_store::Store;
 use dep_index::Readers;
@@ -44,7 +44,7 @@ pub fn start<'a, L: Ledger>(
     dict: &'a Dictionary,
     answers: &'a Answers,
     store: &mut Store,
-    work: &mut Work,
+    queue: &mut DirtyQueue,
     log: &mut Log,
     blank: Blank,
 ) -> Result<(), NoMemory>
@@ -52,17 +52,17 @@ pub fn start<'a, L: Ledger>(
     requires index { IsIndex (accepted dict.now) readers.now }
     requires fit { AnswersFit (accepted dict.now).tree (answered answers.now) }
     requires cells { store.old.cells ≡ no_cells }
-    requires waits { (q : Due) → waits work.old q ≡ false }
+    requires waits { (q : DirtySlot) → waits queue.old q ≡ false }
     requires empty { entries log.old ≡ [] }
     requires name { blank.name ≡ L.name }
     requires parts { blank.parts ≡ L.parts }
     requires some { 0 < blank.parts }
-    ensures { OnOk result (HasRun (start_setting (accepted dict.now) (answered answers.now)) (from_nothing (accepted dict.now) (answered answers.now)) store.old.cells work.new (entries log.new) store.new.cells) }
+    ensures { OnOk result (HasRun (start_setting (accepted dict.now) (answered answers.now)) (from_nothing (accepted dict.now) (answered answers.now)) store.old.cells queue.new (entries log.new) store.new.cells) }
 {
     let mut steps = Steps::<L>::new(blank);
     let _source = dict.source();
-    seed_all(work, dict, answers)?;
-    let course = Course {
+    seed_all(queue, dict, answers)?;
+    let propagation = Propagation {
         dict,
         answers,
         undo: None,
@@ -70,7 +70,16 @@ pub fn start<'a, L: Ledger>(
         gone: None,
         stamp: 0,
     };
-    run(alloc, nodes, readers, &course, store, work, log, &mut steps)
+    run(
+        alloc,
+        nodes,
+        readers,
+        &propagation,
+        store,
+        queue,
+        log,
+        &mut steps,
+    )
 }
 
 /// The results of the touched slots, with this stamp. The cells of a member that went are still
@@ -85,7 +94,7 @@ pub fn go_on<'a, L: Ledger>(
     gone: Option<u32>,
     stamp: u64,
     store: &mut Store,
-    work: &mut Work,
+    queue: &mut DirtyQueue,
     log: &mut Log,
     steps: &mut Steps<L>,
 ) -> Result<(), NoMemory>
@@ -93,18 +102,18 @@ pub fn go_on<'a, L: Ledger>(
     requires index { IsIndex (accepted dict.now) readers.now }
     requires undone { IsUndone (accepted dict.now) (change undo.now) (answered now.now) }
     requires gone { (m : ℕ) → is_that gone m ≡ went (change undo.now) (answered now.now) m }
-    requires results { (s : OneSlot) → look_of store.old.cells s ≡ plain (accepted dict.now) (applied (change undo.now) (answered now.now)) s }
-    requires waits { (q : Due) → waits work.old q ≡ false }
+    requires results { (s : OneSlot) → results_of store.old.cells s ≡ plain (accepted dict.now) (applied (change undo.now) (answered now.now)) s }
+    requires waits { (q : DirtySlot) → waits queue.old q ≡ false }
     requires empty { entries log.old ≡ [] }
-    ensures done { OnOk result (HasRun (setting_from (accepted dict.now) (change undo.now) (answered now.now) gone stamp) (between (accepted dict.now) (applied (change undo.now) (answered now.now)) (answered now.now)) store.old.cells work.new (entries log.new) store.new.cells) }
+    ensures done { OnOk result (HasRun (setting_from (accepted dict.now) (change undo.now) (answered now.now) gone stamp) (between (accepted dict.now) (applied (change undo.now) (answered now.now)) (answered now.now)) store.old.cells queue.new (entries log.new) store.new.cells) }
     ensures undo { before (entries log.new) store.new.cells ≡ store.old.cells }
     ensures can { CanPutBack (entries log.new) store.new.cells }
     ensures most { steps.new ≤ steps.old + touched_weight (accepted dict.now) (applied (change undo.now) (answered now.now)) (answered now.now) }
 {
     let _source = dict.source();
     let effect = effect_of(undo, now);
-    seed(work, dict, now, undo, effect.own)?;
-    let course = Course {
+    seed(queue, dict, now, undo, effect.own)?;
+    let propagation = Propagation {
         dict,
         answers: now,
         undo: Some(undo),
@@ -112,5 +121,14 @@ pub fn go_on<'a, L: Ledger>(
         gone,
         stamp,
     };
-    run(alloc, nodes, readers, &course, store, work, log, steps)
+    run(
+        alloc,
+        nodes,
+        readers,
+        &propagation,
+        store,
+        queue,
+        log,
+        steps,
+    )
 }

@@ -12,9 +12,9 @@ ghost use Rattle.dictionary.specs.Weights.{slot_weight};
 ghost use Rattle.node_compile.specs.Compiled.{IsCompiled, main_of, placeholder_of};
 ghost use Rattle.node_compile.specs.Laws.{main_node_result, node_result, node_weight, or_placeholder_node, result_by_nodes, weight_by_nodes};
 ghost use Rattle.node_eval.specs.View.{view};
-ghost use Rattle.recalc.specs.Running.{seen};
+ghost use Rattle.recalc.specs.Running.{live_results};
 
-use crate::seen::Seen;
+use crate::live_cells::LiveCells;
 use answers::Answers;
 use dict_tree::TypeText;
 use dictionary::{Dictionary, given_result};
@@ -30,12 +30,12 @@ use three_state::{Res, down};
 fn node_result<L: Ledger>(
     alloc: Global,
     node: &Node,
-    cells: &Seen,
+    cells: &LiveCells,
     slot: Slot,
     steps: &mut Steps<L>,
 ) -> Result<Res, NoMemory>
-    ensures value { IfOk result (λ r. r ≡ node_result (seen cells.now.gone cells.now.store.now.cells) slot (view node.now)) }
-    ensures most { steps.new ≤ steps.old + node_weight (seen cells.now.gone cells.now.store.now.cells) slot (Some (view node.now)) }
+    ensures value { IfOk result (λ r. r ≡ node_result (live_results cells.now.gone cells.now.store.now.cells) slot (view node.now)) }
+    ensures most { steps.new ≤ steps.old + node_weight (live_results cells.now.gone cells.now.store.now.cells) slot (Some (view node.now)) }
 {
     eval(alloc, node, cells, slot.member, 0, steps)
 }
@@ -45,12 +45,12 @@ fn derived_result<L: Ledger>(
     alloc: Global,
     node: &Node,
     answers: &Answers,
-    cells: &Seen,
+    cells: &LiveCells,
     slot: Slot,
     steps: &mut Steps<L>,
 ) -> Result<Res, NoMemory>
-    ensures value { IfOk result (λ r. r ≡ or_override (value_of Override (answered answers.now) slot) (node_result (seen cells.now.gone cells.now.store.now.cells) slot (view node.now))) }
-    ensures most { steps.new ≤ steps.old + node_weight (seen cells.now.gone cells.now.store.now.cells) slot (Some (view node.now)) }
+    ensures value { IfOk result (λ r. r ≡ or_override (value_of Override (answered answers.now) slot) (node_result (live_results cells.now.gone cells.now.store.now.cells) slot (view node.now))) }
+    ensures most { steps.new ≤ steps.old + node_weight (live_results cells.now.gone cells.now.store.now.cells) slot (Some (view node.now)) }
 {
     match answers.override_of(slot) {
         Some(value) => Ok(Res::Complete(value.copy(alloc)?)),
@@ -63,15 +63,15 @@ fn main_result<L: Ledger>(
     alloc: Global,
     nodes: &Compiled,
     answers: &Answers,
-    cells: &Seen,
+    cells: &LiveCells,
     slot: Slot,
     stated: &TypeText,
     steps: &mut Steps<L>,
 ) -> Result<Res, NoMemory>
     requires well { WellFormed (answered answers.now) }
     requires from_one { FromOne (answered answers.now) }
-    ensures value { IfOk result (λ r. r ≡ main_node_result (answered answers.now) (seen cells.now.gone cells.now.store.now.cells) slot (stated_view stated.now) (main_of nodes.now slot.fact)) }
-    ensures most { steps.new ≤ steps.old + node_weight (seen cells.now.gone cells.now.store.now.cells) slot (main_of nodes.now slot.fact) }
+    ensures value { IfOk result (λ r. r ≡ main_node_result (answered answers.now) (live_results cells.now.gone cells.now.store.now.cells) slot (stated_view stated.now) (main_of nodes.now slot.fact)) }
+    ensures most { steps.new ≤ steps.old + node_weight (live_results cells.now.gone cells.now.store.now.cells) slot (main_of nodes.now slot.fact) }
 {
     match nodes.main(slot.fact) {
         None => given_result(alloc, answers, slot, stated),
@@ -83,13 +83,13 @@ fn main_result<L: Ledger>(
 fn with_placeholder<L: Ledger>(
     alloc: Global,
     node: &Node,
-    cells: &Seen,
+    cells: &LiveCells,
     slot: Slot,
     res: Res,
     steps: &mut Steps<L>,
 ) -> Result<Res, NoMemory>
-    ensures value { IfOk result (λ r. r ≡ or_placeholder_node (seen cells.now.gone cells.now.store.now.cells) slot (Some (view node.now)) res) }
-    ensures most { steps.new ≤ steps.old + node_weight (seen cells.now.gone cells.now.store.now.cells) slot (Some (view node.now)) }
+    ensures value { IfOk result (λ r. r ≡ or_placeholder_node (live_results cells.now.gone cells.now.store.now.cells) slot (Some (view node.now)) res) }
+    ensures most { steps.new ≤ steps.old + node_weight (live_results cells.now.gone cells.now.store.now.cells) slot (Some (view node.now)) }
 {
     match res {
         Res::Incomplete => {
@@ -107,15 +107,15 @@ fn result_by_nodes<L: Ledger>(
     alloc: Global,
     nodes: &Compiled,
     answers: &Answers,
-    cells: &Seen,
+    cells: &LiveCells,
     slot: Slot,
     stated: &TypeText,
     steps: &mut Steps<L>,
 ) -> Result<Res, NoMemory>
     requires well { WellFormed (answered answers.now) }
     requires from_one { FromOne (answered answers.now) }
-    ensures value { IfOk result (λ r. r ≡ result_by_nodes nodes.now (answered answers.now) (seen cells.now.gone cells.now.store.now.cells) slot (stated_view stated.now)) }
-    ensures most { steps.new ≤ steps.old + weight_by_nodes nodes.now (seen cells.now.gone cells.now.store.now.cells) slot }
+    ensures value { IfOk result (λ r. r ≡ result_by_nodes nodes.now (answered answers.now) (live_results cells.now.gone cells.now.store.now.cells) slot (stated_view stated.now)) }
+    ensures most { steps.new ≤ steps.old + weight_by_nodes nodes.now (live_results cells.now.gone cells.now.store.now.cells) slot }
 {
     let res = main_result(alloc, nodes, answers, cells, slot, stated, steps)?;
     match nodes.placeholder(slot.fact) {
@@ -131,7 +131,7 @@ pub fn new_result<L: Ledger>(
     nodes: &Compiled,
     dict: &Dictionary,
     answers: &Answers,
-    cells: &Seen,
+    cells: &LiveCells,
     slot: Slot,
     steps: &mut Steps<L>,
 ) -> Result<Res, NoMemory>
@@ -139,7 +139,7 @@ pub fn new_result<L: Ledger>(
     requires well { WellFormed (answered answers.now) }
     requires from_one { FromOne (answered answers.now) }
     requires stands { IsTrue (stands (accepted dict.now).tree (answered answers.now) slot) }
-    requires below { IsPlainBelow (accepted dict.now) (answered answers.now) (rank (accepted dict.now) slot.fact) (seen cells.now.gone cells.now.store.now.cells) }
+    requires below { IsPlainBelow (accepted dict.now) (answered answers.now) (rank (accepted dict.now) slot.fact) (live_results cells.now.gone cells.now.store.now.cells) }
     ensures value { IfOk result (λ r. Some r ≡ plain (accepted dict.now) (answered answers.now) slot) }
     ensures most { steps.new ≤ steps.old + slot_weight (accepted dict.now) (answered answers.now) slot }
 {

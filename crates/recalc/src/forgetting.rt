@@ -2,7 +2,7 @@
 ghost use Rattle.std.specs.Prelude.{◌≡◌};
 ghost use Rattle.std.specs.FinMap as map;
 ghost use Rattle.fact_values.specs.declared.slot.Slot.{Slot as OneSlot};
-ghost use Rattle.recalc.specs.Standing.{without_member, without_gone};
+ghost use Rattle.recalc.specs.EngineInvariant.{without_member, without_gone};
 
 use cell_store::Store;
 use fact_values::Slot;

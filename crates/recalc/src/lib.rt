@@ -2,19 +2,19 @@
 #![tactic(auto)]
 
 mod changing;
-mod course;
+mod dirty_queue;
 mod evaluating;
 mod forgetting;
 pub mod laws;
+mod live_cells;
 mod log;
 mod marking;
+mod propagation;
 mod recalc;
 mod running;
 mod seeding;
-mod seen;
 pub mod session_laws;
 mod turn;
 mod undone;
-mod work;
 
 pub use recalc::Recalc;

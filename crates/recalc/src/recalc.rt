@@ -10,13 +10,13 @@ ghost use Rattle.dictionary.specs.Plain.{plain};
 ghost use Rattle.dictionary.specs.Slots.{stands};
 ghost use Rattle.dictionary.specs.Weights.{touched_weight};
 ghost use Rattle.recalc.specs.Replacing.{entries};
-ghost use Rattle.recalc.specs.Standing.{StandsFor, marks_by, stamp_in};
+ghost use Rattle.recalc.specs.EngineInvariant.{EngineInvariant, marks_by, stamp_in};
 
 use crate::changing::{go_on, start};
+use crate::dirty_queue::DirtyQueue;
 use crate::forgetting::forget;
 use crate::log::Log;
 use crate::undone::gone;
-use crate::work::Work;
 use answers::{Answers, Edit};
 use cell_store::Store;
 use dep_index::{Readers, build};
@@ -37,7 +37,7 @@ pub struct Recalc {
     nodes: Compiled,
     readers: Readers,
     store: Store,
-    work: Work,
+    queue: DirtyQueue,
     log: Log,
     changes: u64,
     touched: u64,
@@ -48,7 +48,7 @@ impl FactEngine for Recalc {
 
     ghost STAMPS = { true };
 
-    ghost stands_for = { λ e d a. StandsFor e.nodes e.readers e.store.cells e.work (entries e.log) d a };
+    ghost stands_for = { λ e d a. EngineInvariant e.nodes e.readers e.store.cells e.queue (entries e.log) d a };
 
     ghost marks = { λ e. marks_by e.changes e.store.cells e.touched };
 
@@ -56,14 +56,14 @@ impl FactEngine for Recalc {
 
     fn begin(alloc: Global, dict: &Dictionary, answers: &Answers) -> Result<Self, NoMemory>
         requires { AnswersFit (accepted dict.now).tree (answered answers.now) }
-        ensures stands { IfOk result (λ e. StandsFor e.nodes e.readers e.store.cells e.work (entries e.log) (accepted dict.now) (answered answers.now)) }
+        ensures stands { IfOk result (λ e. EngineInvariant e.nodes e.readers e.store.cells e.queue (entries e.log) (accepted dict.now) (answered answers.now)) }
         ensures fresh { IfOk result (λ e. IsTrue true → AreFresh (marks_by e.changes e.store.cells e.touched)) }
     {
         let nodes = compile(alloc, dict)?;
         let readers = build(alloc, dict)?;
         let facts = dict.source().facts().len();
         let mut store = Store::with_facts(alloc, facts)?;
-        let mut work = Work::new(alloc, facts)?;
+        let mut queue = DirtyQueue::new(alloc, facts)?;
         let mut log = Log::new(alloc);
         start::<Brand>(
             alloc,
@@ -72,7 +72,7 @@ impl FactEngine for Recalc {
             dict,
             answers,
             &mut store,
-            &mut work,
+            &mut queue,
             &mut log,
             Blank::new(1),
         )?;
@@ -82,7 +82,7 @@ impl FactEngine for Recalc {
             nodes,
             readers,
             store,
-            work,
+            queue,
             log,
             changes: 0,
             touched: 0,
@@ -97,13 +97,13 @@ impl FactEngine for Recalc {
         steps: &mut Steps<L>,
     ) -> Result<(), NoMemory>
         requires undone { Fits (change undo.now) (answered now.now) }
-        requires before { StandsFor self.old.nodes self.old.readers self.old.store.cells self.old.work (entries self.old.log) (accepted dict.now) (applied (change undo.now) (answered now.now)) }
+        requires before { EngineInvariant self.old.nodes self.old.readers self.old.store.cells self.old.queue (entries self.old.log) (accepted dict.now) (applied (change undo.now) (answered now.now)) }
         requires fit_before { AnswersFit (accepted dict.now).tree (applied (change undo.now) (answered now.now)) }
         requires fit_now { AnswersFit (accepted dict.now).tree (answered now.now) }
         requires few { IsTrue true → self.old.changes < 2 ^ 63 }
-        ensures stands { OnOk result (StandsFor self.new.nodes self.new.readers self.new.store.cells self.new.work (entries self.new.log) (accepted dict.now) (answered now.now)) }
+        ensures stands { OnOk result (EngineInvariant self.new.nodes self.new.readers self.new.store.cells self.new.queue (entries self.new.log) (accepted dict.now) (answered now.now)) }
         ensures marked { OnOk result (IsTrue true → AreMarkedBy (accepted dict.now) (applied (change undo.now) (answered now.now)) (answered now.now) (marks_by self.old.changes self.old.store.cells self.old.touched) (marks_by self.new.changes self.new.store.cells self.new.touched)) }
-        ensures unchanged { OnErr result ((d : Accepted) (a : Answered) → StandsFor self.old.nodes self.old.readers self.old.store.cells self.old.work (entries self.old.log) d a → StandsFor self.new.nodes self.new.readers self.new.store.cells self.new.work (entries self.new.log) d a) }
+        ensures unchanged { OnErr result ((d : Accepted) (a : Answered) → EngineInvariant self.old.nodes self.old.readers self.old.store.cells self.old.queue (entries self.old.log) d a → EngineInvariant self.new.nodes self.new.readers self.new.store.cells self.new.queue (entries self.new.log) d a) }
         ensures same_marks { OnErr result (IsTrue true → AreSameMarks (marks_by self.old.changes self.old.store.cells self.old.touched) (marks_by self.new.changes self.new.store.cells self.new.touched)) }
         ensures steps { steps.new ≤ steps.old + touched_weight (accepted dict.now) (applied (change undo.now) (answered now.now)) (answered now.now) }
     {
@@ -120,7 +120,7 @@ impl FactEngine for Recalc {
             gone,
             stamp,
             &mut self.store,
-            &mut self.work,
+            &mut self.queue,
             &mut self.log,
             steps,
         ) {
@@ -133,20 +133,20 @@ impl FactEngine for Recalc {
             }
             Err(e) => {
                 self.log.put_back(&mut self.store);
-                self.work.clear();
+                self.queue.clear();
                 Err(e)
             }
         }
     }
 
     fn result(&self, slot: Slot) -> Option<&Res>
-        ensures { (d : Accepted) (a : Answered) → StandsFor self.now.nodes self.now.readers self.now.store.cells self.now.work (entries self.now.log) d a → option_copied result ≡ plain d a slot }
+        ensures { (d : Accepted) (a : Answered) → EngineInvariant self.now.nodes self.now.readers self.now.store.cells self.now.queue (entries self.now.log) d a → option_copied result ≡ plain d a slot }
     {
         self.store.get(slot)
     }
 
     fn stamp(&self, slot: Slot) -> Option<u64>
-        ensures { (d : Accepted) (a : Answered) → StandsFor self.now.nodes self.now.readers self.now.store.cells self.now.work (entries self.now.log) d a
+        ensures { (d : Accepted) (a : Answered) → EngineInvariant self.now.nodes self.now.readers self.now.store.cells self.now.queue (entries self.now.log) d a
             → result ≡ (if true && stands d.tree a slot then Some (stamp_in self.now.store.cells slot) else None) }
     {
         self.store.stamp(slot)

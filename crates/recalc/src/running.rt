@@ -5,16 +5,16 @@ ghost use Rattle.answers.specs.WellFormed.{FromOne, WellFormed};
 ghost use Rattle.dep_index.specs.Readers.{IsIndex};
 ghost use Rattle.dictionary.specs.Accepted.{accepted};
 ghost use Rattle.node_compile.specs.Compiled.{IsCompiled};
-ghost use Rattle.recalc.specs.Courses.{setting_of, spread_of};
+ghost use Rattle.recalc.specs.Propagations.{setting_of, spread_of};
 ghost use Rattle.recalc.specs.Replacing.{before, CanPutBack, entries};
-ghost use Rattle.recalc.specs.Running.{course_weight, HasRun, IsCourse, IsRunning};
+ghost use Rattle.recalc.specs.Running.{propagation_weight, HasRun, IsPropagation, IsRunning};
 ghost use Rattle.recalc.specs.Waiting.{waits};
-ghost use Rattle.recalc.specs.declared.work.Due.{Due};
+ghost use Rattle.recalc.specs.declared.dirty_queue.DirtySlot.{DirtySlot};
 
-use crate::course::Course;
+use crate::dirty_queue::DirtyQueue;
 use crate::log::Log;
+use crate::propagation::Propagation;
 use crate::turn::turn;
-use crate::work::Work;
 use cell_store::Store;
 use dep_index::Readers;
 use fact_values::{NoMemory, Slot};
@@ -29,30 +29,40 @@ pub fn run<L: Ledger>(
     alloc: Global,
     nodes: &Compiled,
     readers: &Readers,
-    course: &Course,
+    propagation: &Propagation,
     store: &mut Store,
-    work: &mut Work,
+    queue: &mut DirtyQueue,
     log: &mut Log,
     steps: &mut Steps<L>,
 ) -> Result<(), NoMemory>
-    requires compiled { IsCompiled (accepted course.now.dict.now).tree nodes.now }
-    requires index { IsIndex (accepted course.now.dict.now) readers.now }
-    requires well { WellFormed (answered course.now.answers.now) }
-    requires from_one { FromOne (answered course.now.answers.now) }
-    requires course { IsCourse (setting_of course.now) (spread_of course.now) store.old.cells }
-    requires start { IsRunning (setting_of course.now) (spread_of course.now) store.old.cells work.old [] store.old.cells }
+    requires compiled { IsCompiled (accepted propagation.now.dict.now).tree nodes.now }
+    requires index { IsIndex (accepted propagation.now.dict.now) readers.now }
+    requires well { WellFormed (answered propagation.now.answers.now) }
+    requires from_one { FromOne (answered propagation.now.answers.now) }
+    requires propagation { IsPropagation (setting_of propagation.now) (spread_of propagation.now) store.old.cells }
+    requires start { IsRunning (setting_of propagation.now) (spread_of propagation.now) store.old.cells queue.old [] store.old.cells }
     requires empty { entries log.old ≡ [] }
-    ensures done { OnOk result (HasRun (setting_of course.now) (spread_of course.now) store.old.cells work.new (entries log.new) store.new.cells) }
+    ensures done { OnOk result (HasRun (setting_of propagation.now) (spread_of propagation.now) store.old.cells queue.new (entries log.new) store.new.cells) }
     ensures undo { before (entries log.new) store.new.cells ≡ store.old.cells }
     ensures can { CanPutBack (entries log.new) store.new.cells }
-    ensures most { steps.new ≤ steps.old + course_weight (setting_of course.now) (spread_of course.now) }
+    ensures most { steps.new ≤ steps.old + propagation_weight (setting_of propagation.now) (spread_of propagation.now) }
 {
-    while let Some(due) = work.pop() {
+    while let Some(dirty) = queue.pop() {
         let slot = Slot {
-            fact: due.fact,
-            member: due.member,
+            fact: dirty.fact,
+            member: dirty.member,
         };
-        turn(alloc, nodes, readers, course, store, work, log, slot, steps)?;
+        turn(
+            alloc,
+            nodes,
+            readers,
+            propagation,
+            store,
+            queue,
+            log,
+            slot,
+            steps,
+        )?;
     }
     Ok(())
 }

@@ -10,23 +10,28 @@ ghost use Rattle.dictionary.specs.Undone.{differs, is_touched_first, IsUndone};
 ghost use Rattle.recalc.specs.Running.{AreWaiting};
 ghost use Rattle.recalc.specs.Seeding.{field_at, is_anywhere, is_at, is_came, is_field, is_own, is_slot};
 ghost use Rattle.recalc.specs.Waiting.{waits};
-ghost use Rattle.recalc.specs.declared.work.Due.{Due};
+ghost use Rattle.recalc.specs.declared.dirty_queue.DirtySlot.{DirtySlot};
 
+use crate::dirty_queue::{DirtyQueue, DirtySlot};
 use crate::undone::{Came, newcomer};
-use crate::work::{Due, Work};
 use answers::{Answers, Edit};
 use dictionary::Dictionary;
 use fact_values::{NoMemory, Slot};
 
 // Lets the slots of a fact at these members wait.
-fn add_at(work: &mut Work, dict: &Dictionary, fact: u32, members: &[u32]) -> Result<(), NoMemory>
+fn add_at(
+    queue: &mut DirtyQueue,
+    dict: &Dictionary,
+    fact: u32,
+    members: &[u32],
+) -> Result<(), NoMemory>
     requires { IsNumber (accepted dict.now).tree.facts fact }
-    ensures { OnOk result ((q : Due) → waits work.new q
-        ≡ (waits work.old q || is_at (accepted dict.now) q members.now fact)) }
+    ensures { OnOk result ((q : DirtySlot) → waits queue.new q
+        ≡ (waits queue.old q || is_at (accepted dict.now) q members.now fact)) }
 {
     let rank = dict.rank(fact);
     for member in members {
-        work.add(Due {
+        queue.add(DirtySlot {
             rank,
             fact,
             member: *member,
@@ -37,68 +42,83 @@ fn add_at(work: &mut Work, dict: &Dictionary, fact: u32, members: &[u32]) -> Res
 
 // ---- all slots
 
-fn add_fact(work: &mut Work, dict: &Dictionary, now: &Answers, fact: u32) -> Result<(), NoMemory>
+fn add_fact(
+    queue: &mut DirtyQueue,
+    dict: &Dictionary,
+    now: &Answers,
+    fact: u32,
+) -> Result<(), NoMemory>
     requires { IsNumber (accepted dict.now).tree.facts fact }
-    ensures { OnOk result ((q : Due) → waits work.new q
-        ≡ (waits work.old q || is_at (accepted dict.now) q (members_of_home (answered now.now) (home (accepted dict.now).tree fact)) fact)) }
+    ensures { OnOk result ((q : DirtySlot) → waits queue.new q
+        ≡ (waits queue.old q || is_at (accepted dict.now) q (members_of_home (answered now.now) (home (accepted dict.now).tree fact)) fact)) }
 {
     let home = dict.home(fact);
     if home == 0 {
-        return add_at(work, dict, fact, &[0]);
+        return add_at(queue, dict, fact, &[0]);
     }
     match now.members(home) {
         None => Ok(()),
-        Some(members) => add_at(work, dict, fact, members),
+        Some(members) => add_at(queue, dict, fact, members),
     }
 }
 
 fn add_facts(
-    work: &mut Work,
+    queue: &mut DirtyQueue,
     dict: &Dictionary,
     now: &Answers,
     facts: &[u32],
 ) -> Result<(), NoMemory>
     requires { All (λ f. IsNumber (accepted dict.now).tree.facts f) facts.now }
-    ensures { OnOk result ((q : Due) → waits work.new q
-        ≡ (waits work.old q || is_anywhere (accepted dict.now) (answered now.now) facts.now q)) }
+    ensures { OnOk result ((q : DirtySlot) → waits queue.new q
+        ≡ (waits queue.old q || is_anywhere (accepted dict.now) (answered now.now) facts.now q)) }
 {
     for fact in facts {
-        add_fact(work, dict, now, *fact)?;
+        add_fact(queue, dict, now, *fact)?;
     }
     Ok(())
 }
 
 /// Lets all slots wait.
-pub fn seed_all(work: &mut Work, dict: &Dictionary, now: &Answers) -> Result<(), NoMemory>
-    requires { (q : Due) → waits work.old q ≡ false }
-    ensures { OnOk result (AreWaiting (accepted dict.now) work.new (λ s. stands (accepted dict.now).tree (answered now.now) s)) }
+pub fn seed_all(queue: &mut DirtyQueue, dict: &Dictionary, now: &Answers) -> Result<(), NoMemory>
+    requires { (q : DirtySlot) → waits queue.old q ≡ false }
+    ensures { OnOk result (AreWaiting (accepted dict.now) queue.new (λ s. stands (accepted dict.now).tree (answered now.now) s)) }
 {
     let facts = dict.by_rank();
     let _source = dict.source();
-    add_facts(work, dict, now, facts)
+    add_facts(queue, dict, now, facts)
 }
 
 // ---- those that a change touches by itself
 
 // The slots of a member that came.
-fn add_came(work: &mut Work, dict: &Dictionary, came: Came, facts: &[u32]) -> Result<(), NoMemory>
+fn add_came(
+    queue: &mut DirtyQueue,
+    dict: &Dictionary,
+    came: Came,
+    facts: &[u32],
+) -> Result<(), NoMemory>
     requires { All (λ f. IsNumber (accepted dict.now).tree.facts f) facts.now }
-    ensures { OnOk result ((q : Due) → waits work.new q
-        ≡ (waits work.old q || is_field (accepted dict.now) came facts.now q)) }
+    ensures { OnOk result ((q : DirtySlot) → waits queue.new q
+        ≡ (waits queue.old q || is_field (accepted dict.now) came facts.now q)) }
 {
     for fact in facts {
-        add_field(work, dict, came, *fact)?;
+        add_field(queue, dict, came, *fact)?;
     }
     Ok(())
 }
 
-fn add_field(work: &mut Work, dict: &Dictionary, came: Came, fact: u32) -> Result<(), NoMemory>
+fn add_field(
+    queue: &mut DirtyQueue,
+    dict: &Dictionary,
+    came: Came,
+    fact: u32,
+) -> Result<(), NoMemory>
     requires { IsNumber (accepted dict.now).tree.facts fact }
-    ensures { OnOk result ((q : Due) → waits work.new q
-        ≡ (waits work.old q || is_at (accepted dict.now) q (field_at (accepted dict.now).tree came fact) fact)) }
+    ensures { OnOk result ((q : DirtySlot) → waits queue.new q
+        ≡ (waits queue.old q || is_at (accepted dict.now) q (field_at (accepted dict.now).tree came fact) fact)) }
 {
     if dict.home(fact) == came.list {
-        add_at(work, dict, fact, &[came.member])
+        add_at(queue, dict, fact, &[came.member])
     } else {
         Ok(())
     }
@@ -106,29 +126,29 @@ fn add_field(work: &mut Work, dict: &Dictionary, came: Came, fact: u32) -> Resul
 
 // The same of the facts, if one came.
 fn add_came_if(
-    work: &mut Work,
+    queue: &mut DirtyQueue,
     dict: &Dictionary,
     came: Option<Came>,
     facts: &[u32],
 ) -> Result<(), NoMemory>
     requires { All (λ f. IsNumber (accepted dict.now).tree.facts f) facts.now }
-    ensures { OnOk result ((q : Due) → waits work.new q
-        ≡ (waits work.old q || is_came (accepted dict.now) came facts.now q)) }
+    ensures { OnOk result ((q : DirtySlot) → waits queue.new q
+        ≡ (waits queue.old q || is_came (accepted dict.now) came facts.now q)) }
 {
     match came {
         None => Ok(()),
-        Some(came) => add_came(work, dict, came, facts),
+        Some(came) => add_came(queue, dict, came, facts),
     }
 }
 
-fn add_own(work: &mut Work, dict: &Dictionary, own: Option<Slot>) -> Result<(), NoMemory>
+fn add_own(queue: &mut DirtyQueue, dict: &Dictionary, own: Option<Slot>) -> Result<(), NoMemory>
     requires { (s : OneSlot) → own ≡ Some s → IsNumber (accepted dict.now).tree.facts s.fact }
-    ensures { OnOk result ((q : Due) → waits work.new q
-        ≡ (waits work.old q || is_own (accepted dict.now) own q)) }
+    ensures { OnOk result ((q : DirtySlot) → waits queue.new q
+        ≡ (waits queue.old q || is_own (accepted dict.now) own q)) }
 {
     match own {
         None => Ok(()),
-        Some(slot) => work.add(Due {
+        Some(slot) => queue.add(DirtySlot {
             rank: dict.rank(slot.fact),
             fact: slot.fact,
             member: slot.member,
@@ -139,7 +159,7 @@ fn add_own(work: &mut Work, dict: &Dictionary, own: Option<Slot>) -> Result<(), 
 /// Lets the slots wait that the change touches by itself: those of a member that came, and the one
 /// whose entry is another than before.
 pub fn seed(
-    work: &mut Work,
+    queue: &mut DirtyQueue,
     dict: &Dictionary,
     now: &Answers,
     undo: &Edit,
@@ -147,11 +167,11 @@ pub fn seed(
 ) -> Result<(), NoMemory>
     requires own { (s : OneSlot) → is_slot own s ≡ differs (change undo.now) (answered now.now) s }
     requires undone { IsUndone (accepted dict.now) (change undo.now) (answered now.now) }
-    requires empty { (q : Due) → waits work.old q ≡ false }
-    ensures { OnOk result (AreWaiting (accepted dict.now) work.new (λ s. stands (accepted dict.now).tree (answered now.now) s && is_touched_first (change undo.now) (answered now.now) s)) }
+    requires empty { (q : DirtySlot) → waits queue.old q ≡ false }
+    ensures { OnOk result (AreWaiting (accepted dict.now) queue.new (λ s. stands (accepted dict.now).tree (answered now.now) s && is_touched_first (change undo.now) (answered now.now) s)) }
 {
     let facts = dict.by_rank();
     let _source = dict.source();
-    add_came_if(work, dict, newcomer(undo, now), facts)?;
-    add_own(work, dict, own)
+    add_came_if(queue, dict, newcomer(undo, now), facts)?;
+    add_own(queue, dict, own)
 }

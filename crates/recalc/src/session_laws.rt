@@ -3,7 +3,7 @@ ghost use Rattle.std.specs.Prelude.{◌≡◌, false, IsTrue, Ok, Err};
 ghost use Rattle.dictionary.specs.Accepted.{accepted};
 ghost use Rattle.dictionary.specs.Weights.{touched_weight};
 ghost use Rattle.graph_session.specs.Rules.{rules};
-ghost use Rattle.graph_session.specs.SessionView.{Course, course};
+ghost use Rattle.graph_session.specs.SessionView.{SessionState, session_state};
 ghost use Rattle.graph_session.specs.Step.{is_change, most_steps, step};
 ghost use Rattle.graph_session.specs.declared.reply.Refusal.{Refusal};
 ghost use Rattle.graph_session.specs.declared.reply.Reply.{Reply as OneReply};
@@ -26,14 +26,14 @@ pub fn commands_take_what_they_touch()
 /// What a session over this engine may take for a command (`Session::command: steps`): for a change
 /// what the slots weigh that it touches, and none where it is refused or asks.
 pub fn sessions_take_what_is_touched(session: &Session<Recalc>, command: &Command)
-    ensures change { (said : OneReply) (after : Course) → IsTrue (is_change command.now)
-        → step (rules session.now.dict) (course session.now) command.now ≡ Ok (said, after)
-        → most_steps (⟦<Recalc as FactEngine>⟧.most (accepted session.now.dict)) (rules session.now.dict) (course session.now) command.now
+    ensures change { (said : OneReply) (after : SessionState) → IsTrue (is_change command.now)
+        → step (rules session.now.dict) (session_state session.now) command.now ≡ Ok (said, after)
+        → most_steps (⟦<Recalc as FactEngine>⟧.most (accepted session.now.dict)) (rules session.now.dict) (session_state session.now) command.now
         ≡ touched_weight (accepted session.now.dict) session.now.timeline.now after.timeline.now }
-    ensures refused { (why : Refusal) → step (rules session.now.dict) (course session.now) command.now ≡ Err why
-        → most_steps (⟦<Recalc as FactEngine>⟧.most (accepted session.now.dict)) (rules session.now.dict) (course session.now) command.now ≡ 0 }
+    ensures refused { (why : Refusal) → step (rules session.now.dict) (session_state session.now) command.now ≡ Err why
+        → most_steps (⟦<Recalc as FactEngine>⟧.most (accepted session.now.dict)) (rules session.now.dict) (session_state session.now) command.now ≡ 0 }
     ensures question { is_change command.now ≡ false
-        → most_steps (⟦<Recalc as FactEngine>⟧.most (accepted session.now.dict)) (rules session.now.dict) (course session.now) command.now ≡ 0 }
+        → most_steps (⟦<Recalc as FactEngine>⟧.most (accepted session.now.dict)) (rules session.now.dict) (session_state session.now) command.now ≡ 0 }
 {}
 
 /// A slot that stands after a command and that it doesn't touch keeps its result and its stamp; one that a

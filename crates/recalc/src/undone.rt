@@ -61,7 +61,7 @@ pub struct Effect {
     pub extended: bool,
 }
 
-/// What the change did, from one look at the slot.
+/// What the change did, from one results at the slot.
 pub fn effect_of(undo: &Edit, now: &Answers) -> Effect
     ensures own { (s : OneSlot) → is_slot result.own s ≡ differs (change undo.now) (answered now.now) s }
     ensures extended { result.extended ≡ is_extended (change undo.now) (answered now.now) }

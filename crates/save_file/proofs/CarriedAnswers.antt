@@ -35,7 +35,7 @@ use Rattle.dictionary.proofs.SlotLaws.{slot_same-equal, slot_same-itself}
 use Rattle.dictionary.specs.Accepted.{IsAccepted}
 use Rattle.dictionary.specs.Fits.{AnswersFit, is_list, opens_of, takes}
 use Rattle.dictionary.specs.Homes.{home}
-use Rattle.dictionary.specs.Reading.{slot}
+use Rattle.dictionary.specs.Dependencies.{slot}
 use Rattle.dictionary.specs.Slots.{is_member, slot_same, stands}
 use Rattle.fact_paths.specs.declared.fact_path.FactPath.TheVariants as facts_by
 use Rattle.fact_paths.specs.declared.fact_path.FactPath.{FactPath}
@@ -54,8 +54,8 @@ use Rattle.save_file.proofs.EntriesFollow.{side_itself, spelled_fits}
 use Rattle.save_file.proofs.Lines.{all_of, at_first, either_first, find_some, find_there, found_in_all, later_too, mapped_from, mapped_there, one_of_all}
 use Rattle.save_file.proofs.ListsFollow.{given_is, list_within}
 use Rattle.save_file.proofs.TextLaws.{next_one}
-use Rattle.save_file.specs.CarriedReading.{line_of_entry, line_of_list, text_of}
-use Rattle.save_file.specs.CarriedText.{CarriedLine, IsBelowNext, IsCarried, NamesOther, Pairs, SharesNone, carried, carried_lines, collection, entry, has_its_member, head_text, line_text, lists_member}
+use Rattle.save_file.specs.CarriedParsing.{line_of_entry, line_of_list, text_of}
+use Rattle.save_file.specs.CarriedText.{CarriedLine, IsBelowNext, IsCarried, NamesOther, Pairs, SharesNone, carried, carried_lines, collection, entry, has_its_member, key_text, line_text, lists_member}
 use Rattle.save_file.specs.Carrying.{IsCarry, IsCarryOf, IsGivenBy, IsOpenedBy, RefusesCarried, dropped_numbers, keeps, kept_collection, kept_value, numbers_failing}
 use Rattle.save_file.specs.Keeping.{ArePlaced, IsPlaced, entered, is_number, noted, opened, opened_at, opened_by, opens_fact, with_worth, worth_of}
 use Rattle.save_file.specs.SavedText.{counted, end_line}
@@ -196,14 +196,14 @@ module _ (d : Tree) (next : ℕ) (ls : List ListLine) (es : List EntryLine) (is 
       found : Contains ls l.0 × (opens_fact d q l.0 ≡ true)
       found = find_some (opens_fact d q) ls l.0 l.1
 
-      heads : codes "list /" ++ l.0.name ≡ codes "list /" ++ name
-      heads = ap (λ (n : List ℕ). codes "list /" ++ n) (same_name d l.0.name name q (number_is q (kept_collection d l.0.name) found.1) kept)
+      keys : codes "list /" ++ l.0.name ≡ codes "list /" ++ name
+      keys = ap (λ (n : List ℕ). codes "list /" ++ n) (same_name d l.0.name name q (number_is q (kept_collection d l.0.name) found.1) kept)
 
       -- is the line of the name
       one : (line_of_list l.0 ≡ collection name ms) ⊎ (NamesOther (line_of_list l.0) (collection name ms) ⊎ NamesOther (collection name ms) (line_of_list l.0)) → l.0.members ≡ ms
       one (inl same) = cc
-      one (inr (inl other)) = absurd (other heads)
-      one (inr (inr other)) = absurd (other (sym heads))
+      one (inr (inl other)) = absurd (other keys)
+      one (inr (inr other)) = absurd (other (sym keys))
 
   pub opened_list : (q : ℕ) (ms : List ℕ) → lookup (nat_eq q) (opened d ls) ≡ Some ms → (name : List ℕ) × Contains (map line_of_list ls ++ map line_of_entry es) (collection name ms) × (kept_collection d name ≡ Some q)
   opened_list q ms e =
@@ -415,7 +415,7 @@ module _ (names : List (List ℕ)) (r : Rules) (is : IsAccepted names r.accepted
         let path : given.0 ≡ e.path =
         one_path_of (tree_of r) given.0 e.path (fact_of (tree_of r) given.0) (fact_of (tree_of r) e.path) (kept_named r side given.0 given.1 v kept) named (given.3 ∙ sym slots) in
         one_of_all (λ x. NamesOther x (line_of_entry e)) lines (entry side given.0 given.1) once given.2
-        (ap (λ (p : SlotPath). head_text (entry side p given.1)) path ∙ ap (λ (k : Side). head_text (entry k e.path given.1)) (sym sides))
+        (ap (λ (p : SlotPath). key_text (entry side p given.1)) path ∙ ap (λ (k : Side). key_text (entry k e.path given.1)) (sym sides))
 
     has_it : (side : Side) (s : Slot) (v : Value) → IsGivenBy r (lines ++ line_of_entry e ∷ []) side s v → value_of side (applied (sets e.side (slot_of (tree_of r) e.path) (Some w)) a) s ≡ Some v
     has_it side s v given = at (Contains-push_cases lines (line_of_entry e) (entry side given.0 given.1) given.2)

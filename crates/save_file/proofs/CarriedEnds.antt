@@ -10,7 +10,7 @@ use Rattle.script_lines.specs.declared.fault.LineFault.TheVariants.{BadLine}
 use Rattle.script_lines.specs.Joined.{joined}
 use Rattle.script_lines.specs.Lines.{lines_of}
 use Rattle.value_text.specs.MemberTexts.{printed_rest}
-use Rattle.save_file.specs.CarriedReading.{EndsCarried, EndsNone, GivesLines, IsCarriedStage, JudgesCarried, ReadsCarried, lines_of as read_lines, text_of, texts_of}
+use Rattle.save_file.specs.CarriedParsing.{EndsCarried, EndsNone, GivesLines, IsCarriedStage, JudgesCarried, ReadsCarried, lines_of as read_lines, text_of, texts_of}
 use Rattle.save_file.specs.CarriedText.{CarriedLine, CarriedText, HasItsForm, IsCarried, IsCarriedText, carried, carried_lines, collection, entry, line_text}
 use Rattle.save_file.specs.Carrying.{RefusesCarried}
 use Rattle.save_file.specs.Loading.{IsRefusedAt}

@@ -10,21 +10,21 @@ use Rattle.answers.specs.declared.edit.Side.TheVariants.{Answer, Override}
 use Rattle.answers.specs.declared.edit.Side.{Side}
 use Rattle.common_lemmas.proofs.Bools.{or_left}
 use Rattle.fact_paths.proofs.CutLaws.{cut-append, cut_some, front_lacks}
-use Rattle.fact_paths.proofs.ReadingLaws.{one_path_from}
+use Rattle.fact_paths.proofs.ParsingLaws.{one_path_from}
 use Rattle.fact_paths.proofs.SlotPathLaws.{slot_lacks_blank, slot_path_reading}
 use Rattle.fact_paths.specs.Cuts.{Lacks, cut}
 use Rattle.fact_paths.specs.Names.{IsName}
 use Rattle.fact_paths.specs.Paths.{IsMemberNumber, IsSlotPath, SpellsSlotPath, slot_path_text}
-use Rattle.fact_paths.specs.Reading.{slot_path_of}
+use Rattle.fact_paths.specs.Parsing.{slot_path_of}
 use Rattle.fact_paths.specs.declared.slot_path.SlotPath.TheVariants.{Global, Member}
 use Rattle.fact_paths.specs.declared.slot_path.SlotPath.{SlotPath}
 use Rattle.fact_values.specs.Members.{IsMemberList}
 use Rattle.save_file.proofs.Lines.{cons_parts, first, never_empty}
 use Rattle.save_file.proofs.SlotTexts.{Tail, members_numbered, numbers_of, same_behind, same_members, same_parts, tail_of}
 use Rattle.save_file.proofs.TextLaws.{all-append, next_one}
-use Rattle.save_file.specs.CarriedReading.{MayFollow, ReadsLine, ReadsName, ReadsPath, line_of_entry, line_of_list}
-use Rattle.save_file.specs.CarriedText.{CarriedLine, HasItsForm, IsBelowNext, IsCarried, IsInOrder, IsShort, NamesOther, Pairs, SharesNone, collection, entry, has_its_member, head_text, is_collection, line_text, lists_member, rank}
-use Rattle.save_file.specs.Reading.{ReadsMembers}
+use Rattle.save_file.specs.CarriedParsing.{MayFollow, ReadsLine, ReadsName, ReadsPath, line_of_entry, line_of_list}
+use Rattle.save_file.specs.CarriedText.{CarriedLine, HasItsForm, IsBelowNext, IsCarried, IsInOrder, IsShort, NamesOther, Pairs, SharesNone, collection, entry, has_its_member, key_text, is_collection, line_text, lists_member, rank}
+use Rattle.save_file.specs.Parsing.{ReadsMembers}
 use Rattle.save_file.specs.SavedText.{end_line, side_word}
 use Rattle.save_file.specs.declared.carried_line.EntryLine.{EntryLine}
 use Rattle.script_lines.proofs.PartLaws.{name_lacks_blank}
@@ -38,19 +38,19 @@ use Rattle.value_text.specs.MemberTexts.{printed_rest}
 pub in_order : (i j : ℕ) → i ≤ j → (x y : CarriedLine) → rank x ≡ i → rank y ≡ j → IsInOrder x y
 in_order i j low x y e f = omega (arith, low, e, f)
 
-heads_differ : (x y : CarriedLine) → rank x < rank y → head_text x ≡ head_text y → ⊥
-heads_differ (collection n ms) (collection m ns) low e = omega (arith, low)
-heads_differ (collection n ms) (entry Answer p t) low e = let byte : 108 ≡ 118 = ap first e in omega (arith, byte)
-heads_differ (collection n ms) (entry Override p t) low e = let byte : 108 ≡ 111 = ap first e in omega (arith, byte)
-heads_differ (entry Answer q u) (collection m ns) low e = omega (arith, low)
-heads_differ (entry Override q u) (collection m ns) low e = omega (arith, low)
-heads_differ (entry Answer q u) (entry Answer p t) low e = omega (arith, low)
-heads_differ (entry Answer q u) (entry Override p t) low e = let byte : 118 ≡ 111 = ap first e in omega (arith, byte)
-heads_differ (entry Override q u) (entry Answer p t) low e = omega (arith, low)
-heads_differ (entry Override q u) (entry Override p t) low e = omega (arith, low)
+keys_differ : (x y : CarriedLine) → rank x < rank y → key_text x ≡ key_text y → ⊥
+keys_differ (collection n ms) (collection m ns) low e = omega (arith, low)
+keys_differ (collection n ms) (entry Answer p t) low e = let byte : 108 ≡ 118 = ap first e in omega (arith, byte)
+keys_differ (collection n ms) (entry Override p t) low e = let byte : 108 ≡ 111 = ap first e in omega (arith, byte)
+keys_differ (entry Answer q u) (collection m ns) low e = omega (arith, low)
+keys_differ (entry Override q u) (collection m ns) low e = omega (arith, low)
+keys_differ (entry Answer q u) (entry Answer p t) low e = omega (arith, low)
+keys_differ (entry Answer q u) (entry Override p t) low e = let byte : 118 ≡ 111 = ap first e in omega (arith, byte)
+keys_differ (entry Override q u) (entry Answer p t) low e = omega (arith, low)
+keys_differ (entry Override q u) (entry Override p t) low e = omega (arith, low)
 
 pub names_other : (i j : ℕ) → i < j → (x y : CarriedLine) → rank x ≡ i → rank y ≡ j → NamesOther x y
-names_other i j low x y e f same = heads_differ x y (omega (arith, low, e, f)) same
+names_other i j low x y e f same = keys_differ x y (omega (arith, low, e, f)) same
 
 -- only lists have members
 pub shares_none : (j : ℕ) → 0 < j → (x y : CarriedLine) → rank y ≡ j → SharesNone x y

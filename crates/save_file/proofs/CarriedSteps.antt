@@ -18,20 +18,20 @@ use Rattle.fact_paths.specs.declared.slot_path.SlotPath.TheVariants.{Global, Mem
 use Rattle.fact_paths.specs.declared.slot_path.SlotPath.{SlotPath}
 use Rattle.save_file.proofs.CarriedLines.{entry_up, goes_on, no_end, same_line, stands_there, with_line}
 use Rattle.save_file.proofs.Lines.{cons_not_nil, cons_parts, first}
-use Rattle.save_file.proofs.MemberReading.{decimals_one, none_there, there_none}
+use Rattle.save_file.proofs.MemberParsing.{decimals_one, none_there, there_none}
 use Rattle.save_file.proofs.SlotTexts.{same_behind}
 use Rattle.save_file.proofs.TextLaws.{all-append, all_behind, in_front, next_one}
-use Rattle.save_file.specs.CarriedReading.{EndsNone, IsRead, IsWithEntry, IsWithList, JudgesCarried, MayFollow, ReadsLine, Takes, TakesText, head_of, is_empty, is_other_list, is_override, line_of_entry, line_of_list, lines_of, may_enter, may_list, new_or_fault, text_of, texts_of}
-use Rattle.save_file.specs.CarriedText.{CarriedLine, CarriedText, HasItsForm, IsCarried, IsInOrder, IsShort, NamesOther, SharesNone, carried_lines, collection, entry, head_text, is_collection, line_text, lists_member, lists_member_of, rank}
+use Rattle.save_file.specs.CarriedParsing.{EndsNone, IsRead, IsWithEntry, IsWithList, JudgesCarried, MayFollow, ReadsLine, Takes, TakesText, key_of, is_empty, is_other_list, is_override, line_of_entry, line_of_list, lines_of, may_enter, may_list, new_or_fault, text_of, texts_of}
+use Rattle.save_file.specs.CarriedText.{CarriedLine, CarriedText, HasItsForm, IsCarried, IsInOrder, IsShort, NamesOther, SharesNone, carried_lines, collection, entry, key_text, is_collection, line_text, lists_member, lists_member_of, rank}
 use Rattle.save_file.specs.Following.{BeginsOther}
-use Rattle.save_file.specs.Heads.{has}
-use Rattle.save_file.specs.Reading.{IsNextNumber, are_below, are_others}
+use Rattle.save_file.specs.EntryKeys.{has}
+use Rattle.save_file.specs.Parsing.{IsNextNumber, are_below, are_others}
 use Rattle.save_file.specs.SavedText.{end_line, next_line, opening_line, side_word}
 use Rattle.save_file.specs.declared.carried_line.EntryLine.{EntryLine}
 use Rattle.save_file.specs.declared.carried_line.ListLine.{ListLine}
 use Rattle.save_file.specs.declared.carried_read.CarriedRead.{CarriedRead}
 use Rattle.save_file.specs.declared.carried_stage.CarriedStage.TheVariants.{Lines, Number, Opening, Whole}
-use Rattle.save_file.specs.declared.heads.Heads.{Heads}
+use Rattle.save_file.specs.declared.entry_keys.EntryKeys.{EntryKeys}
 use Rattle.script_lines.specs.declared.fault.LineFault.TheVariants.{BadLine, NoMemory}
 use Rattle.script_lines.specs.declared.fault.LineFault.{LineFault}
 use Rattle.value_text.specs.MemberTexts.{printed_rest}
@@ -173,7 +173,7 @@ module _ (r : CarriedRead) (line : ListLine) (read : IsRead r) (form : HasItsFor
     took_list new with = (
       record {
         text = subst (λ (n : ℕ). IsCarried (record { next = n; lines = lines_of new })) (sym with.next) (subst (λ (xs : List CarriedLine). IsCarried (record { next = r.next; lines = xs })) (sym more) (with_line r.next (lines_of r) (line_of_list line) read.text may_follow));
-        heads = λ head. ap (λ (h : Heads). has h head) with.heads ∙ read.heads head ∙ ap (λ (xs : List EntryLine). list_any (bytes_eq head) (map head_of xs)) (sym with.entries);
+        keys = λ key. ap (λ (h : EntryKeys). has h key) with.keys ∙ read.keys key ∙ ap (λ (xs : List EntryLine). list_any (bytes_eq key) (map key_of xs)) (sym with.entries);
         overridden = with.overridden ∙ read.overridden ∙ ap (λ (xs : List EntryLine). list_any (λ (e : EntryLine). is_override e.side) xs) (sym with.entries);
       },
       with.next,
@@ -190,23 +190,23 @@ module _ (r : CarriedRead) (line : ListLine) (read : IsRead r) (form : HasItsFor
 
 -- ---- an entry behind lines
 
-head_new : (head : List ℕ) (es : List EntryLine) → list_any (bytes_eq head) (map head_of es) ≡ false → AllByRecursion (λ x. head_text x ≢ head) (map line_of_entry es)
-head_new head [] out = tt
-head_new head (e ∷ es) out =
-    let tests_passed = or_neither (bytes_eq head (head_of e)) (list_any (bytes_eq head) (map head_of es)) out in
-    (λ same. absurd (let equal : bytes_eq head (head_of e) ≡ true = ap (bytes_eq head) same ∙ equal_bytes head in let other : bytes_eq head (head_of e) ≡ false = tests_passed.0 in cc), head_new head es tests_passed.1)
+key_new : (key : List ℕ) (es : List EntryLine) → list_any (bytes_eq key) (map key_of es) ≡ false → AllByRecursion (λ x. key_text x ≢ key) (map line_of_entry es)
+key_new key [] out = tt
+key_new key (e ∷ es) out =
+    let tests_passed = or_neither (bytes_eq key (key_of e)) (list_any (bytes_eq key) (map key_of es)) out in
+    (λ same. absurd (let equal : bytes_eq key (key_of e) ≡ true = ap (bytes_eq key) same ∙ equal_bytes key in let other : bytes_eq key (key_of e) ≡ false = tests_passed.0 in cc), key_new key es tests_passed.1)
 
-new_head : (head : List ℕ) (es : List EntryLine) → AllByRecursion (λ x. head_text x ≢ head) (map line_of_entry es) → list_any (bytes_eq head) (map head_of es) ≡ false
-new_head head [] all = refl
-new_head head (e ∷ es) all = neither_or (bytes_eq head (head_of e)) (list_any (bytes_eq head) (map head_of es)) (at (bytes_eq head (head_of e)) refl) (new_head head es all.1)
+new_key : (key : List ℕ) (es : List EntryLine) → AllByRecursion (λ x. key_text x ≢ key) (map line_of_entry es) → list_any (bytes_eq key) (map key_of es) ≡ false
+new_key key [] all = refl
+new_key key (e ∷ es) all = neither_or (bytes_eq key (key_of e)) (list_any (bytes_eq key) (map key_of es)) (at (bytes_eq key (key_of e)) refl) (new_key key es all.1)
   where
-    at : (b : Bool) → bytes_eq head (head_of e) ≡ b → b ≡ false
+    at : (b : Bool) → bytes_eq key (key_of e) ≡ b → b ≡ false
     at false h = refl
-    at true h = absurd (all.0 (sym (same_bytes head (head_of e) h)))
+    at true h = absurd (all.0 (sym (same_bytes key (key_of e) h)))
 
-list_heads : (e : EntryLine) (ls : List ListLine) → AllByRecursion (λ x. NamesOther x (line_of_entry e)) (map line_of_list ls)
-list_heads e [] = tt
-list_heads e (l ∷ ls) = (list_no_entry e.side l.name (slot_path_text e.path), list_heads e ls)
+list_keys : (e : EntryLine) (ls : List ListLine) → AllByRecursion (λ x. NamesOther x (line_of_entry e)) (map line_of_list ls)
+list_keys e [] = tt
+list_keys e (l ∷ ls) = (list_no_entry e.side l.name (slot_path_text e.path), list_keys e ls)
 
 shares_none : (e : EntryLine) (xs : List CarriedLine) → AllByRecursion (λ x. SharesNone x (line_of_entry e)) xs
 shares_none e [] = tt
@@ -262,8 +262,8 @@ turned true false = refl
 turned false true = refl
 turned false false = refl
 
-pushed : (test : List ℕ → Bool) (es : List EntryLine) (e : EntryLine) → list_any test (map head_of (es ++ e ∷ [])) ≡ (test (head_of e) || list_any test (map head_of es))
-pushed test es e = ap (list_any test) (map-append head_of es (e ∷ [])) ∙ list_any-append test (map head_of es) (head_of e ∷ []) ∙ sym (turned (test (head_of e)) (list_any test (map head_of es)))
+pushed : (test : List ℕ → Bool) (es : List EntryLine) (e : EntryLine) → list_any test (map key_of (es ++ e ∷ [])) ≡ (test (key_of e) || list_any test (map key_of es))
+pushed test es e = ap (list_any test) (map-append key_of es (e ∷ [])) ∙ list_any-append test (map key_of es) (key_of e ∷ []) ∙ sym (turned (test (key_of e)) (list_any test (map key_of es)))
 
 side_pushed : (es : List EntryLine) (e : EntryLine) → list_any (λ (x : EntryLine). is_override x.side) (es ++ e ∷ []) ≡ (list_any (λ (x : EntryLine). is_override x.side) es || is_override e.side)
 side_pushed es e = list_any-append (λ (x : EntryLine). is_override x.side) es (e ∷ []) ∙ ap (λ (b : Bool). list_any (λ (x : EntryLine). is_override x.side) es || b) (or_false (is_override e.side))
@@ -287,13 +287,13 @@ module _ (r : CarriedRead) (line : EntryLine) (read : IsRead r) (form : HasItsFo
       (sym (listed_there r.lists.items r.entries.items line line.path) ∙ may.member) in
       absurd cc
 
-  pub not_new : not (has r.heads (head_of line)) ≡ false → ¬ MayFollow r.next (lines_of r) (line_of_entry line)
+  pub not_new : not (has r.keys (key_of line)) ≡ false → ¬ MayFollow r.next (lines_of r) (line_of_entry line)
   not_new old may =
-      let new : has r.heads (head_of line) ≡ false =
-      read.heads (head_of line) ∙ new_head (head_of line) r.entries.items (all_behind (λ x. NamesOther x (line_of_entry line)) (map line_of_list r.lists.items) (map line_of_entry r.entries.items) may.once) in
+      let new : has r.keys (key_of line) ≡ false =
+      read.keys (key_of line) ∙ new_key (key_of line) r.entries.items (all_behind (λ x. NamesOther x (line_of_entry line)) (map line_of_list r.lists.items) (map line_of_entry r.entries.items) may.once) in
       absurd cc
 
-  module _ (test : may_enter r line ≡ true) (new_one : not (has r.heads (head_of line)) ≡ true) where
+  module _ (test : may_enter r line ≡ true) (new_one : not (has r.keys (key_of line)) ≡ true) where
     tests : ((is_override line.side || not r.overridden) ≡ true) × (lists_member_of (map line_of_list r.lists.items) line.path ≡ true)
     tests = both (is_override line.side || not r.overridden) (lists_member_of (map line_of_list r.lists.items) line.path) test
 
@@ -308,21 +308,21 @@ module _ (r : CarriedRead) (line : EntryLine) (read : IsRead r) (form : HasItsFo
           short = short;
           below = tt;
           order = order_from line.side line.path (string_bytes line.text) tests.0;
-          once = all-append (λ x. NamesOther x (line_of_entry line)) (map line_of_list r.lists.items) (map line_of_entry r.entries.items) (list_heads line r.lists.items)
-              (head_new (head_of line) r.entries.items (sym (read.heads (head_of line)) ∙ not_true (has r.heads (head_of line)) new_one));
+          once = all-append (λ x. NamesOther x (line_of_entry line)) (map line_of_list r.lists.items) (map line_of_entry r.entries.items) (list_keys line r.lists.items)
+              (key_new (key_of line) r.entries.items (sym (read.keys (key_of line)) ∙ not_true (has r.keys (key_of line)) new_one));
           apart = shares_none line (lines_of r);
           few = omega (arith, few, total, before, same);
           member = listed_there r.lists.items r.entries.items line line.path ∙ tests.1;
         }
 
     pub took_entry : (new : CarriedRead) → new.next ≡ r.next → new.lists.items ≡ r.lists.items → new.entries.items ≡ r.entries.items ++ line ∷ [] → new.overridden ≡ (r.overridden || is_override line.side)
-        → ((text : List ℕ) → has new.heads text ≡ (bytes_eq text (head_of line) || has r.heads text)) → Takes r (line_of_entry line) (Ok new)
+        → ((text : List ℕ) → has new.keys text ≡ (bytes_eq text (key_of line) || has r.keys text)) → Takes r (line_of_entry line) (Ok new)
     took_entry new next lists entries overridden added = (
       record {
         text = subst (λ (n : ℕ). IsCarried (record { next = n; lines = lines_of new })) (sym next) (subst (λ (xs : List CarriedLine). IsCarried (record { next = r.next; lines = xs })) (sym more) (with_line r.next (lines_of r) (line_of_entry line) read.text may_follow_entry));
-        heads = λ head.
-            added head ∙ ap (λ (b : Bool). bytes_eq head (head_of line) || b) (read.heads head)
-            ∙ sym (pushed (bytes_eq head) r.entries.items line) ∙ ap (λ (xs : List EntryLine). list_any (bytes_eq head) (map head_of xs)) (sym entries);
+        keys = λ key.
+            added key ∙ ap (λ (b : Bool). bytes_eq key (key_of line) || b) (read.keys key)
+            ∙ sym (pushed (bytes_eq key) r.entries.items line) ∙ ap (λ (xs : List EntryLine). list_any (bytes_eq key) (map key_of xs)) (sym entries);
         overridden =
             overridden ∙ ap (λ (b : Bool). b || is_override line.side) read.overridden
             ∙ sym (side_pushed r.entries.items line) ∙ ap (λ (xs : List EntryLine). list_any (λ (e : EntryLine). is_override e.side) xs) (sym entries);
@@ -350,13 +350,13 @@ pub list_result : (r : CarriedRead) (line : ListLine) → IsRead r → HasItsFor
 list_result r line read form short test new (Ok done) with memory = took_list r line read form short test new with
 list_result r line read form short test new (Err fault) with memory = subst (λ (f : LineFault). Takes r (line_of_list line) (Err f)) (sym memory) tt
 
-pub entry_result : (r : CarriedRead) (line : EntryLine) → IsRead r → HasItsForm (line_of_entry line) → IsShort (line_of_entry line) → may_enter r line ≡ true → not (has r.heads (head_of line)) ≡ true
-    → (heads : Heads) → ((text : List ℕ) → has heads text ≡ (bytes_eq text (head_of line) || has r.heads text))
-    → (new : CarriedRead) (result : Result (Unit {0}) LineFault) → OnOk result (IsWithEntry (record { next = r.next; lists = r.lists; entries = r.entries; heads = heads; overridden = r.overridden }) line new) → IfErr result (λ fault. fault ≡ NoMemory)
+pub entry_result : (r : CarriedRead) (line : EntryLine) → IsRead r → HasItsForm (line_of_entry line) → IsShort (line_of_entry line) → may_enter r line ≡ true → not (has r.keys (key_of line)) ≡ true
+    → (keys : EntryKeys) → ((text : List ℕ) → has keys text ≡ (bytes_eq text (key_of line) || has r.keys text))
+    → (new : CarriedRead) (result : Result (Unit {0}) LineFault) → OnOk result (IsWithEntry (record { next = r.next; lists = r.lists; entries = r.entries; keys = keys; overridden = r.overridden }) line new) → IfErr result (λ fault. fault ≡ NoMemory)
     → Takes r (line_of_entry line) (new_or_fault new result)
-entry_result r line read form short test new_one heads added new (Ok done) with memory =
-    took_entry r line read form short test new_one new with.next with.lists with.entries with.overridden (λ text. ap (λ (h : Heads). has h text) with.heads ∙ added text)
-entry_result r line read form short test new_one heads added new (Err fault) with memory = subst (λ (f : LineFault). Takes r (line_of_entry line) (Err f)) (sym memory) tt
+entry_result r line read form short test new_one keys added new (Ok done) with memory =
+    took_entry r line read form short test new_one new with.next with.lists with.entries with.overridden (λ text. ap (λ (h : EntryKeys). has h text) with.keys ∙ added text)
+entry_result r line read form short test new_one keys added new (Err fault) with memory = subst (λ (f : LineFault). Takes r (line_of_entry line) (Err f)) (sym memory) tt
 
 pub few_lists : (r : CarriedRead) → IsCarried (text_of r) → length r.lists.items ≤ 32
 few_lists r is =
@@ -402,12 +402,12 @@ no_lines k is = record {
 }
 
 pub number_taken : (line digits : List ℕ) (k : ℕ) → after (codes "next ") line ≡ Some digits → IsNextNumber k → digits ≡ decimal k
-    → (new : CarriedRead) → new.next ≡ k → new.lists.items ≡ [] → new.entries.items ≡ [] → ((head : List ℕ) → has new.heads head ≡ false) → new.overridden ≡ false
+    → (new : CarriedRead) → new.next ≡ k → new.lists.items ≡ [] → new.entries.items ≡ [] → ((key : List ℕ) → has new.keys key ≡ false) → new.overridden ≡ false
     → JudgesCarried Number line (Ok (Lines new))
-number_taken line digits k found number is new next lists entries heads overridden = (
+number_taken line digits k found number is new next lists entries keys overridden = (
   record {
     text = subst (λ (n : ℕ). IsCarried (record { next = n; lines = lines_of new })) (sym next) (subst (λ (xs : List CarriedLine). IsCarried (record { next = k; lines = xs })) (sym empty) (no_lines k number));
-    heads = λ head. heads head ∙ ap (λ (xs : List EntryLine). list_any (bytes_eq head) (map head_of xs)) (sym entries);
+    keys = λ key. keys key ∙ ap (λ (xs : List EntryLine). list_any (bytes_eq key) (map key_of xs)) (sym entries);
     overridden = overridden ∙ ap (λ (xs : List EntryLine). list_any (λ (e : EntryLine). is_override e.side) xs) (sym entries);
   },
   ap (λ (xs : List CarriedLine). opening_line ∷ next_line new.next ∷ map line_text xs) empty

@@ -21,7 +21,7 @@ use Rattle.save_file.proofs.CarriedEnds.{are_lines}
 use Rattle.save_file.proofs.CarriedLines.{same_lines}
 use Rattle.save_file.proofs.CarriedSteps.{behind_next}
 use Rattle.save_file.proofs.Lines.{at_first, later_too}
-use Rattle.save_file.proofs.MemberReading.{decimals_one}
+use Rattle.save_file.proofs.MemberParsing.{decimals_one}
 use Rattle.save_file.proofs.SlotTexts.{same_behind}
 use Rattle.save_file.proofs.SlotsLeft.{same_answers}
 use Rattle.save_file.proofs.TextLaws.{whole_lines}

@@ -34,7 +34,7 @@ use Rattle.save_file.proofs.SlotTexts.{entry_slot, one_slot, printed_read, same_
 use Rattle.save_file.proofs.SlotsLeft.{all_slots, behind_skipped, in_front, none_outside, same_answers, same_slots}
 use Rattle.save_file.specs.Following.{AreSlots, BeginsOther, FollowsEntries, IsBuilt, IsPast, IsToCome, behind_side}
 use Rattle.save_file.specs.SavedText.{end_line, entries, entry_line, entry_lines, entry_lines_of, side_word, slots}
-use Rattle.value_text.proofs.ReadingLaws.{value_again}
+use Rattle.value_text.proofs.ParsingLaws.{value_again}
 use Rattle.value_text.proofs.TypeLaws.{of_type}
 use Rattle.value_text.specs.Enums.{AreLists}
 use Rattle.value_text.specs.Values.{printed, value_at}

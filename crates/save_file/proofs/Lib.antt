@@ -10,7 +10,7 @@ pub mod LineTexts
 pub mod ListsFollow
 pub mod LoadLaws
 pub mod LoadSteps
-pub mod MemberReading
+pub mod MemberParsing
 pub mod RefusedLaws
 pub mod SameTexts
 pub mod SlotsLeft

@@ -14,7 +14,7 @@ use Rattle.answers.specs.declared.edit.Side.{Side}
 use Rattle.common_lemmas.proofs.Bools.{or_left, or_right}
 use Rattle.common_lemmas.proofs.Numbers.{same_number}
 use Rattle.dict_tree.specs.Dictionary.{Dictionary as Tree}
-use Rattle.dictionary.specs.Reading.{slot}
+use Rattle.dictionary.specs.Dependencies.{slot}
 use Rattle.dictionary.specs.SlotText.{slot_text}
 use Rattle.fact_paths.proofs.CutLaws.{after-append}
 use Rattle.fact_paths.specs.Cuts.{after}

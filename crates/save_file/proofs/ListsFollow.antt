@@ -25,18 +25,18 @@ use Rattle.dictionary.proofs.NumberLaws.{fact_within}
 use Rattle.dictionary.proofs.SlotTextLaws.{member_below}
 use Rattle.dictionary.specs.Accepted.{Accepted, IsAccepted}
 use Rattle.dictionary.specs.Fits.{AnswersFit, is_list}
-use Rattle.dictionary.specs.Reading.{slot}
+use Rattle.dictionary.specs.Dependencies.{slot}
 use Rattle.dictionary.specs.SlotText.{slot_text}
 use Rattle.dictionary.specs.Slots.{slot_same}
 use Rattle.fact_values.specs.Members.{IsMemberList}
 use Rattle.fact_values.specs.declared.slot.Slot.{Slot}
 use Rattle.save_file.proofs.EntriesFollow.{end_back, turn_back, turned}
 use Rattle.save_file.proofs.Lines.{HasNone, HasOther, behind_keys, cons_parts, everywhere, first, list_shown, no_list, no_list_behind, none_added, one_list, other_list, skip}
-use Rattle.save_file.proofs.MemberReading.{decimals_one}
+use Rattle.save_file.proofs.MemberParsing.{decimals_one}
 use Rattle.save_file.proofs.SlotTexts.{list_slot, list_there, members_numbered, numbers_of, one_slot, open_list_members, same_behind, same_members, same_parts, tail_of, text_lacks_blank}
 use Rattle.save_file.proofs.SlotsLeft.{all_slots, counted_all, none_outside, same_slots}
 use Rattle.save_file.specs.Following.{AreRead, BeginsOther, FollowsEntries, FollowsLists, IsBuilt, IsPast, behind_lists, behind_opening, behind_side}
-use Rattle.save_file.specs.Reading.{IsLaterList, IsListFound, IsNextNumber}
+use Rattle.save_file.specs.Parsing.{IsLaterList, IsListFound, IsNextNumber}
 use Rattle.save_file.specs.SavedText.{counted, end_line, entry_lines, list_line, list_lines, list_lines_of, lists as lists_lines, next_line, slots}
 use Rattle.value_text.specs.MemberTexts.{printed_rest}
 

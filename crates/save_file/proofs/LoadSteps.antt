@@ -19,7 +19,7 @@ use Rattle.dictionary.proofs.PrintedLaws.{value_printed}
 use Rattle.dictionary.proofs.SlotTextLaws.{standing_slot}
 use Rattle.dictionary.specs.Accepted.{Accepted, IsAccepted}
 use Rattle.dictionary.specs.Fits.{AnswersFit, is_list, takes}
-use Rattle.dictionary.specs.Reading.{slot}
+use Rattle.dictionary.specs.Dependencies.{slot}
 use Rattle.dictionary.specs.SlotText.{slot_text}
 use Rattle.dictionary.specs.Slots.{stands}
 use Rattle.fact_paths.proofs.CutLaws.{after_some, cut_some, front_lacks}
@@ -33,12 +33,12 @@ use Rattle.graph_session.specs.Kinds.{value_spelled}
 use Rattle.save_file.proofs.EntriesFollow.{built_after, ended, entry_cut, entry_given_back, entry_taken, not_ended, others_by_path, refused_value, side_first, spelled_fits, turn, turn_back, turned}
 use Rattle.save_file.proofs.Lines.{HasOther, cons_not_nil, cons_parts, entry_shown, everywhere, none_behind, not_behind, one_entry, skip}
 use Rattle.save_file.proofs.ListsFollow.{are_new, given, list_given_back, list_taken, list_within, no_number, none_found, nothing_read, numbered, numbered_back, open_back, opened, opens, read_after}
-use Rattle.save_file.proofs.MemberReading.{apart_by, below_by, by_apart, by_below}
+use Rattle.save_file.proofs.MemberParsing.{apart_by, below_by, by_apart, by_below}
 use Rattle.save_file.proofs.SlotTexts.{Tail, entry_slot, list_slot, members_numbered, numbers_of, printed_read, same_behind, same_members, same_parts, tail_of, text_lacks_blank}
 use Rattle.save_file.proofs.SlotsLeft.{behind_skipped, left_same}
 use Rattle.save_file.specs.Cursors.{slots_left}
 use Rattle.save_file.specs.Following.{AreRead, BeginsOther, Enters, FollowsEntries, FollowsLists, GoesOn, IsBuilt, IsStage, Judges, behind_lists, behind_opening, behind_side}
-use Rattle.save_file.specs.Reading.{FindsList, FindsSlot, IsLaterList, IsListFound, IsNextNumber, ReadsList, ReadsMembers, ReadsPrinted, ReadsValue, are_below, are_others}
+use Rattle.save_file.specs.Parsing.{FindsList, FindsSlot, IsLaterList, IsListFound, IsNextNumber, ReadsList, ReadsMembers, ReadsPrinted, ReadsValue, are_below, are_others}
 use Rattle.save_file.specs.SavedText.{end_line, entry_lines, list_line, lists, next_line, opening_line, side_word, slots}
 use Rattle.save_file.specs.declared.stage.EntriesRead.{EntriesRead}
 use Rattle.save_file.specs.declared.stage.ListsRead.{ListsRead}

@@ -24,7 +24,7 @@ use Rattle.dictionary.proofs.SlotTextLaws.{member_below, slot_short}
 use Rattle.dictionary.specs.Accepted.{Accepted, IsAccepted, names_of}
 use Rattle.dictionary.specs.Fits.{AnswersFit, is_list, opens_of, takes}
 use Rattle.dictionary.specs.Homes.{home}
-use Rattle.dictionary.specs.Reading.{slot}
+use Rattle.dictionary.specs.Dependencies.{slot}
 use Rattle.dictionary.specs.SlotText.{IsSlot, slot_path, slot_path_of, slot_text}
 use Rattle.dictionary.specs.Slots.{is_member, slot_same, stands}
 use Rattle.evaluation.proofs.MemberLaws.{member_list-length}
@@ -428,18 +428,18 @@ Tells d a (collection name ms) = (c : ℕ) × (map.get a.lists c ≡ Some ms) ×
 Tells d a (entry side path text) = (s : Slot) × (v : Value) × (value_of side a s ≡ Some v) × (path ≡ path_at d.tree s) × (text ≡ printed d.tree.enums v)
 
 module _ (names : List (List ℕ)) (d : Accepted) (is : IsAccepted names d) (enums : AreLists d.tree.enums) (a b : Answered) (fit : AnswersFit d.tree a) (other_fit : AnswersFit d.tree b) (same_parts : all_parts d.tree a ≡ all_parts d.tree b) where
-  told_lines : AllByRecursion (Tells d b) (all_parts d.tree a)
-  told_lines = subst (AllByRecursion (Tells d b)) (sym same_parts) (of_all names d is enums b other_fit (Tells d b) (λ c ms has. (c, has, refl)) (λ side s v has. (s, v, has, refl, refl)))
+  shown_lines : AllByRecursion (Tells d b) (all_parts d.tree a)
+  shown_lines = subst (AllByRecursion (Tells d b)) (sym same_parts) (of_all names d is enums b other_fit (Tells d b) (λ c ms has. (c, has, refl)) (λ side s v has. (s, v, has, refl, refl)))
 
   side_lines : (side : Side) → AllByRecursion (Tells d b) (side_part d.tree a side)
-  side_lines Answer = in_front (Tells d b) (side_part d.tree a Answer) (side_part d.tree a Override) (all_behind (Tells d b) (list_part d.tree a) (behind d.tree a) told_lines)
-  side_lines Override = all_behind (Tells d b) (side_part d.tree a Answer) (side_part d.tree a Override) (all_behind (Tells d b) (list_part d.tree a) (behind d.tree a) told_lines)
+  side_lines Answer = in_front (Tells d b) (side_part d.tree a Answer) (side_part d.tree a Override) (all_behind (Tells d b) (list_part d.tree a) (behind d.tree a) shown_lines)
+  side_lines Override = all_behind (Tells d b) (side_part d.tree a Answer) (side_part d.tree a Override) (all_behind (Tells d b) (list_part d.tree a) (behind d.tree a) shown_lines)
 
   list_too : (c : ℕ) (ms : List ℕ) → map.get a.lists c ≡ Some ms → map.get b.lists c ≡ Some ms
   list_too c ms has =
       let list = open_list d.tree a fit c ms has in
       let within = list_within d.tree c list in
-      let keys = each_shown (list_at d.tree a) (Tells d b) (facts d.tree) (in_front (Tells d b) (list_part d.tree a) (behind d.tree a) told_lines) in
+      let keys = each_shown (list_at d.tree a) (Tells d b) (facts d.tree) (in_front (Tells d b) (list_part d.tree a) (behind d.tree a) shown_lines) in
       let found =
       at_counted (λ (k : ℕ). (x : CarriedLine) → list_at d.tree a k ≡ Some x → Tells d b x) 1 (length d.tree.facts) keys c (omega (arith, within.0)) (omega (arith, within.1))
       (collection (name_of d.tree c) ms) (ap (option_map (collection (name_of d.tree c))) has) in
@@ -474,7 +474,7 @@ one_saved names d is enums a b fit other_fit e =
     parts : all_parts d.tree a ≡ all_parts d.tree b
     parts = ap (λ (c : CarriedText). c.lines) one
 
--- ---- its told_lines over its own dictionary
+-- ---- its shown_lines over its own dictionary
 
 path_back : (m : ℕ) (p : FactPath) → path_of (slot_path_of m p) ≡ p
 path_back m (facts_by.Global n) = refl

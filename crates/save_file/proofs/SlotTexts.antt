@@ -26,17 +26,17 @@ use Rattle.dictionary.proofs.PrintedLaws.{value_printed}
 use Rattle.dictionary.proofs.SlotTextLaws.{standing_slot}
 use Rattle.dictionary.specs.Accepted.{Accepted, IsAccepted}
 use Rattle.dictionary.specs.Fits.{AnswersFit, domains, is_answered_by, is_list, is_overridden_by, opens_of, takes}
-use Rattle.dictionary.specs.Reading.{slot}
+use Rattle.dictionary.specs.Dependencies.{slot}
 use Rattle.dictionary.specs.SlotText.{IsSlot, slot_path, slot_path_of, slot_text}
 use Rattle.dictionary.specs.Slots.{stands}
 use Rattle.evaluation.specs.Typed.{IsOfType}
 use Rattle.fact_paths.proofs.CutLaws.{after-append, cut-append, cut-lacks}
 use Rattle.fact_paths.proofs.MemberNumbers.{decimal_lacks, member_number-decimal}
-use Rattle.fact_paths.proofs.ReadingLaws.{one_path_from}
+use Rattle.fact_paths.proofs.ParsingLaws.{one_path_from}
 use Rattle.fact_paths.proofs.SlotPathLaws.{slot_lacks_blank, slot_path_reading}
 use Rattle.fact_paths.specs.Cuts.{Lacks, after, cut}
 use Rattle.fact_paths.specs.Paths.{IsMemberNumber, SpellsSlotPath}
-use Rattle.fact_paths.specs.Reading.{member_number_of, slot_path_of as read_slot_path}
+use Rattle.fact_paths.specs.Parsing.{member_number_of, slot_path_of as read_slot_path}
 use Rattle.fact_paths.specs.declared.fact_path.FactPath.TheVariants as facts
 use Rattle.fact_paths.specs.declared.fact_path.FactPath.{FactPath}
 use Rattle.fact_paths.specs.declared.slot_path.SlotPath.{SlotPath}

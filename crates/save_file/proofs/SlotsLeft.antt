@@ -25,7 +25,7 @@ use Rattle.dictionary.proofs.NumberLaws.{fact_there}
 use Rattle.dictionary.proofs.SlotLaws.{listed_stand, slot_same-equal, slot_same-itself, stands_where}
 use Rattle.dictionary.specs.Fits.{AnswersFit, takes}
 use Rattle.dictionary.specs.Homes.{home}
-use Rattle.dictionary.specs.Reading.{slot}
+use Rattle.dictionary.specs.Dependencies.{slot}
 use Rattle.dictionary.specs.Slots.{is_member, members_of_home, slot_same, slots_of, slots_up_to, standing, stands}
 use Rattle.fact_values.specs.declared.slot.Slot.{Slot}
 use Rattle.fact_values.specs.declared.value.Value.{Value}

@@ -13,7 +13,7 @@ use Rattle.answers.specs.declared.edit.Side.{Side}
 use Rattle.answers.specs.declared.edit.Side.TheVariants.{Answer, Override}
 use Rattle.script_lines.specs.Joined.{joined}
 use Rattle.script_lines.specs.Lines.{HasNoNewline}
-use Rattle.save_file.specs.Reading.{IsNextNumber}
+use Rattle.save_file.specs.Parsing.{IsNextNumber}
 use Rattle.save_file.specs.SavedText.{end_line, next_line, opening_line, side_word}
 
 -- ---- lines
@@ -25,9 +25,9 @@ pub data CarriedLine : Type 0 where
   entry : Side → SlotPath → List ℕ → CarriedLine
 
 -- its kind and what it names: `list /N`, `value SLOT` or `override SLOT`
-abbrev pub head_text : CarriedLine → List ℕ
-head_text (collection name members) = codes "list /" ++ name
-head_text (entry side path text) = side_word side ++ slot_path_text path
+abbrev pub key_text : CarriedLine → List ℕ
+key_text (collection name members) = codes "list /" ++ name
+key_text (entry side path text) = side_word side ++ slot_path_text path
 
 -- what it says of that: ` #K` for each member, or a blank and the text
 abbrev pub said_text : CarriedLine → List ℕ
@@ -35,7 +35,7 @@ said_text (collection name members) = printed_rest members
 said_text (entry side path text) = 32 ∷ text
 
 abbrev pub line_text : CarriedLine → List ℕ
-line_text line = head_text line ++ said_text line
+line_text line = key_text line ++ said_text line
 
 -- the number of the next member, and the lines
 pub record CarriedText : Type 0 where
@@ -81,7 +81,7 @@ IsInOrder line later = rank line ≤ rank later
 
 -- no kind names one slot or collection twice
 abbrev pub NamesOther : CarriedLine → CarriedLine → Type 0
-NamesOther line later = head_text line ≢ head_text later
+NamesOther line later = key_text line ≢ key_text later
 
 -- no member stands in two lists
 abbrev pub SharesNone : CarriedLine → CarriedLine → Type 0

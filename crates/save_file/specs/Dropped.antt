@@ -4,14 +4,14 @@ use Rattle.fact_paths.specs.declared.slot_path.SlotPath.TheVariants.{Global}
 use Rattle.answers.specs.declared.edit.Side.TheVariants.{Override}
 use Rattle.graph_session.specs.Rules.{Rules}
 use Rattle.script_lines.specs.Joined.{joined}
-use Rattle.save_file.specs.CarriedText.{CarriedLine, CarriedText, IsCarried, carried, collection, entry, head_text}
+use Rattle.save_file.specs.CarriedText.{CarriedLine, CarriedText, IsCarried, carried, collection, entry, key_text}
 use Rattle.save_file.specs.Carrying.{dropped_numbers, keeps}
 
 -- ---- their text
 
 -- the kind of a line and what it names: `dropped list /N`, `dropped value SLOT` or `dropped override SLOT`
 abbrev pub dropped_line : CarriedLine → List ℕ
-dropped_line line = codes "dropped " ++ head_text line
+dropped_line line = codes "dropped " ++ key_text line
 
 -- one for each line that isn't kept, in order
 abbrev pub dropped_lines : Rules → List CarriedLine → List (List ℕ)

@@ -15,7 +15,7 @@ use Rattle.answers.specs.declared.edit.Side.TheVariants.{Answer, Override}
 use Rattle.dictionary.specs.Fits.{AnswersFit, is_list}
 use Rattle.dictionary.specs.Slots.{slot_same, stands}
 use Rattle.save_file.specs.Cursors.{slots_left}
-use Rattle.save_file.specs.Reading.{IsNextNumber}
+use Rattle.save_file.specs.Parsing.{IsNextNumber}
 use Rattle.save_file.specs.SavedText.{counted, end_line, entries, entry_lines, list_lines, lists, next_line, saved_lines}
 use Rattle.std.specs.Str.{IsUtf8}
 use Rattle.answers.specs.declared.parts.Parts.{Parts}

@@ -1,11 +1,11 @@
-pub mod CarriedReading
+pub mod CarriedParsing
 pub mod CarriedText
 pub mod Carrying
 pub mod Cursors
 pub mod Dropped
 pub mod Following
-pub mod Heads
+pub mod EntryKeys
 pub mod Keeping
 pub mod Loading
-pub mod Reading
+pub mod Parsing
 pub mod SavedText

@@ -11,7 +11,7 @@ use Rattle.dict_tree.specs.Dictionary.{Dictionary as Tree}
 use Rattle.answers.specs.Answered.{Answered, value_of}
 use Rattle.answers.specs.declared.edit.Side.{Side}
 use Rattle.answers.specs.declared.edit.Side.TheVariants.{Answer, Override}
-use Rattle.dictionary.specs.Reading.{slot}
+use Rattle.dictionary.specs.Dependencies.{slot}
 use Rattle.dictionary.specs.Slots.{slots_of}
 use Rattle.dictionary.specs.SlotText.{slot_text}
 

@@ -8,7 +8,7 @@ ghost use Rattle.fact_paths.specs.Paths.{IsMemberNumber};
 ghost use Rattle.script_lines.specs.Lines.{HasNoNewline};
 ghost use Rattle.script_lines.specs.declared.fault.LineFault.TheVariants.{NoMemory};
 ghost use Rattle.value_text.specs.MemberTexts.{printed_rest};
-ghost use Rattle.save_file.specs.CarriedReading.{ReadsLine, ReadsName, ReadsPath, line_of_entry, line_of_list};
+ghost use Rattle.save_file.specs.CarriedParsing.{ReadsLine, ReadsName, ReadsPath, line_of_entry, line_of_list};
 ghost use Rattle.save_file.specs.SavedText.{side_word as word_of_side};
 
 use crate::reading::{at_blank, read_members};

@@ -1,14 +1,14 @@
 // The lines of a carried text that were read, and one more.
 ghost use Rattle.std.specs.Prelude.{◌≡◌, ◌||◌, ℕ, List, map, not, bytes_eq, IfErr, IfOk, OnOk, string_bytes};
 ghost use Rattle.std.specs.List.{list_all, list_any};
-ghost use Rattle.save_file.specs.CarriedReading.{IsRead, IsWithEntry, IsWithList, Takes, is_other_list, is_override as is_side_override, line_of_entry, line_of_list, may_enter as may_be_entered, may_list as may_be_listed, new_or_fault};
-ghost use Rattle.save_file.specs.Heads.{has};
-ghost use Rattle.save_file.specs.CarriedText.{HasItsForm, IsShort, head_text, lists_member as lists_the_member, lists_member_of};
+ghost use Rattle.save_file.specs.CarriedParsing.{IsRead, IsWithEntry, IsWithList, Takes, is_other_list, is_override as is_side_override, line_of_entry, line_of_list, may_enter as may_be_entered, may_list as may_be_listed, new_or_fault};
+ghost use Rattle.save_file.specs.EntryKeys.{has};
+ghost use Rattle.save_file.specs.CarriedText.{HasItsForm, IsShort, key_text, lists_member as lists_the_member, lists_member_of};
 ghost use Rattle.script_lines.specs.declared.fault.LineFault.TheVariants.{NoMemory};
 
 use crate::carried_line::{EntryLine, ListLine};
 use crate::entries::side_word;
-use crate::heads::Heads;
+use crate::entry_keys::EntryKeys;
 use crate::list_line::{are_below, are_others, is_among};
 use answers::Side;
 use fact_paths::{Name, SlotPath};
@@ -24,7 +24,7 @@ pub struct CarriedRead {
     pub next: u32,
     pub lists: Vec<ListLine>,
     pub entries: Vec<EntryLine>,
-    pub heads: Heads,
+    pub keys: EntryKeys,
     pub overridden: bool,
 }
 
@@ -67,14 +67,14 @@ fn is_listed(path: &SlotPath, lists: &[ListLine]) -> bool
 }
 
 // The kind of the entry and what it names.
-fn head_of(alloc: Global, line: &EntryLine) -> Result<String, LineFault>
-    ensures head { IfOk result (λ head. string_bytes head ≡ head_text (line_of_entry line.now)) }
+fn key_of(alloc: Global, line: &EntryLine) -> Result<String, LineFault>
+    ensures key { IfOk result (λ key. string_bytes key ≡ key_text (line_of_entry line.now)) }
     ensures memory { IfErr result (λ fault. fault ≡ NoMemory) }
 {
     let word = side_word(line.side);
     let path = &line.path;
     match format!(in alloc; "{word}{path}") {
-        Ok(head) => Ok(head),
+        Ok(key) => Ok(key),
         Err(_) => Err(LineFault::NoMemory),
     }
 }
@@ -143,14 +143,14 @@ pub fn take_list_line(read: &mut CarriedRead, line: ListLine) -> Result<(), Line
 }
 
 // Notes what the entry names, and tells whether it is new.
-fn note_head(alloc: Global, heads: &mut Heads, line: &EntryLine) -> Result<bool, LineFault>
-    ensures fresh { IfOk result (λ fresh. fresh ≡ not (has heads.old (head_text (line_of_entry line.now)))) }
-    ensures added { OnOk result ((text : List ℕ) → has heads.new text ≡ (bytes_eq text (head_text (line_of_entry line.now)) || has heads.old text)) }
+fn note_key(alloc: Global, keys: &mut EntryKeys, line: &EntryLine) -> Result<bool, LineFault>
+    ensures fresh { IfOk result (λ fresh. fresh ≡ not (has keys.old (key_text (line_of_entry line.now)))) }
+    ensures added { OnOk result ((text : List ℕ) → has keys.new text ≡ (bytes_eq text (key_text (line_of_entry line.now)) || has keys.old text)) }
     ensures memory { IfErr result (λ fault. fault ≡ NoMemory) }
 {
-    match head_of(alloc, line) {
+    match key_of(alloc, line) {
         Err(fault) => Err(fault),
-        Ok(head) => heads.add(head),
+        Ok(key) => keys.add(key),
     }
 }
 
@@ -169,7 +169,7 @@ pub fn take_entry_line(
         drop(line);
         return Err(LineFault::BadLine);
     }
-    match note_head(alloc, &mut read.heads, &line) {
+    match note_key(alloc, &mut read.keys, &line) {
         Err(fault) => {
             drop(line);
             Err(fault)

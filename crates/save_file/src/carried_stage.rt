@@ -1,15 +1,15 @@
 // Takes the next line of a carried text.
 ghost use Rattle.std.specs.Prelude.{◌≡◌, ◌≢◌, ◌++◌, ◌≤◌, codes, length};
 ghost use Rattle.script_lines.specs.Lines.{HasNoNewline};
-ghost use Rattle.save_file.specs.CarriedReading.{IsCarriedStage, IsRead, JudgesCarried, ReadsCarried, TakesText, new_or_fault};
+ghost use Rattle.save_file.specs.CarriedParsing.{IsCarriedStage, IsRead, JudgesCarried, ReadsCarried, TakesText, new_or_fault};
 ghost use Rattle.save_file.specs.Following.{BeginsOther};
 ghost use Rattle.save_file.specs.SavedText.{end_line, side_word as word_of_side};
 ghost use Rattle.save_file.specs.declared.carried_stage.CarriedStage.TheVariants.{Lines, Number, Opening};
 
 use crate::carried_line::{read_entry_line, read_list_line};
 use crate::carried_read::{CarriedRead, take_entry_line, take_list_line};
+use crate::entry_keys::EntryKeys;
 use crate::fault::LoadFault;
-use crate::heads::Heads;
 use crate::reading::{behind, is_word, read_next};
 use answers::Side;
 use script_lines::LineFault;
@@ -52,7 +52,7 @@ fn take_number(alloc: Global, line: &str) -> Result<CarriedStage, LineFault>
         next,
         lists: Vec::new(alloc),
         entries: Vec::new(alloc),
-        heads: Heads::new(alloc),
+        keys: EntryKeys::new(alloc),
         overridden: false,
     }))
 }

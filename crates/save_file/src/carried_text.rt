@@ -1,6 +1,6 @@
 // Reads the lines of a carried text.
 ghost use Rattle.std.specs.Prelude.{◌≡◌, ◌<◌, ◌++◌, length};
-ghost use Rattle.save_file.specs.CarriedReading.{EndsCarried, GivesLines};
+ghost use Rattle.save_file.specs.CarriedParsing.{EndsCarried, GivesLines};
 
 use crate::carried_read::CarriedRead;
 use crate::carried_stage::{CarriedStage, read_carried};

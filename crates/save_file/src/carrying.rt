@@ -1,10 +1,11 @@
 // Carries a saved text to another dictionary.
-ghost use Rattle.std.specs.Prelude.{◌≡◌, ◌+◌, ◌<◌, ◌++◌, ◌∷◌, [], ℕ, List, Some, ◌≤◌, IfErr, IfOk, OnOk, length, map, if◌then◌else◌};
+ghost use Rattle.std.specs.Prelude.{◌≡◌, ◌+◌, ◌<◌, ◌++◌, ◌∷◌, [], Some, ◌≤◌, IfErr, IfOk, OnOk, length, map, if◌then◌else◌};
 ghost use Rattle.answers.specs.Meaning.{answered};
+ghost use Rattle.text_checks.specs.Tables.{named_checks};
 ghost use Rattle.graph_session.specs.Naming.{slot_of};
 ghost use Rattle.graph_session.specs.Refusals.{SameChecks};
 ghost use Rattle.graph_session.specs.Rules.{rules, tree_of};
-ghost use Rattle.save_file.specs.CarriedReading.{line_of_entry, line_of_list, text_of};
+ghost use Rattle.save_file.specs.CarriedParsing.{line_of_entry, line_of_list, text_of};
 ghost use Rattle.save_file.specs.CarriedText.{IsCarried};
 ghost use Rattle.save_file.specs.Carrying.{IsCarry, IsCarryOf, RefusesCarried, keeps, numbers_failing};
 ghost use Rattle.save_file.specs.Keeping.{ArePlaced, IsPlaced, entered, noted, with_worth, worth_of as worth_of_entry};
@@ -86,7 +87,7 @@ fn keep_entry(
     number: u32,
     carried: &mut Carried,
 ) -> Result<(), LoadFault>
-    requires same_checks { SameChecks (rules dict.now) (map {B = List ℕ × ℕ} (λ c. (c.name, c.code)) checks.now.checks.items) }
+    requires same_checks { SameChecks (rules dict.now) (named_checks checks.now) }
     requires placed { IsPlaced (tree_of (rules dict.now)) (answered carried.old.answers) line.now.path }
     ensures entered { OnOk result (answered carried.new.answers ≡ with_worth (rules dict.now) line.now (worth_of_entry (rules dict.now) line.now) (answered carried.old.answers)) }
     ensures noted { OnOk result (carried.new.dropped.items ≡ noted (worth_of_entry (rules dict.now) line.now) number carried.old.dropped.items) }
@@ -112,7 +113,7 @@ fn keep_entries(
     read: &CarriedRead,
     carried: &mut Carried,
 ) -> Result<(), LoadFault>
-    requires same_checks { SameChecks (rules dict.now) (map {B = List ℕ × ℕ} (λ c. (c.name, c.code)) checks.now.checks.items) }
+    requires same_checks { SameChecks (rules dict.now) (named_checks checks.now) }
     requires placed { ArePlaced (tree_of (rules dict.now)) (answered carried.old.answers) read.now.entries.items }
     requires few { length read.now.lists.items + length read.now.entries.items + 3 < 4294967296 }
     ensures entered { OnOk result (answered carried.new.answers ≡ entered (rules dict.now) (answered carried.old.answers) read.now.entries.items) }
@@ -137,7 +138,7 @@ fn keep_lines(
     read: &CarriedRead,
     carried: &mut Carried,
 ) -> Result<(), LoadFault>
-    requires same_checks { SameChecks (rules dict.now) (map {B = List ℕ × ℕ} (λ c. (c.name, c.code)) checks.now.checks.items) }
+    requires same_checks { SameChecks (rules dict.now) (named_checks checks.now) }
     requires placed { ArePlaced (tree_of (rules dict.now)) (answered carried.old.answers) read.now.entries.items }
     requires lists { length read.now.lists.items ≤ 32 }
     requires few { length read.now.lists.items + length read.now.entries.items + 3 < 4294967296 }
@@ -162,7 +163,7 @@ fn carry_lines(
     checks: &CheckTable,
     read: &CarriedRead,
 ) -> Result<Carried, LoadFault>
-    requires same_checks { SameChecks (rules dict.now) (map {B = List ℕ × ℕ} (λ c. (c.name, c.code)) checks.now.checks.items) }
+    requires same_checks { SameChecks (rules dict.now) (named_checks checks.now) }
     requires text { IsCarried (text_of read.now) }
     requires few { length read.now.lists.items + length read.now.entries.items + 3 < 4294967296 }
     ensures carried { IfOk result (λ c. IsCarryOf (rules dict.now) (text_of read.now) (answered c.answers) c.dropped.items) }
@@ -194,7 +195,7 @@ pub fn carry(
     checks: &CheckTable,
     bytes: &[u8],
 ) -> Result<Carried, LoadFault>
-    requires same_checks { SameChecks (rules dict.now) (map {B = List ℕ × ℕ} (λ c. (c.name, c.code)) checks.now.checks.items) }
+    requires same_checks { SameChecks (rules dict.now) (named_checks checks.now) }
     requires short { length bytes.now < 4294967295 }
     ensures carried { IfOk result (λ c. IsCarry (rules dict.now) bytes.now (answered c.answers) c.dropped.items) }
     ensures refused { IfErr result (RefusesCarried bytes.now) }

@@ -10,7 +10,7 @@ ghost use Rattle.graph_session.specs.Kinds.{is_given};
 ghost use Rattle.script_lines.specs.declared.fault.LineFault.TheVariants.{NoMemory};
 ghost use Rattle.save_file.specs.Cursors.{slots_left};
 ghost use Rattle.save_file.specs.Following.{AreSlots, Enters, IsStage, Judges};
-ghost use Rattle.save_file.specs.Reading.{FindsSlot, ReadsPrinted, ReadsValue};
+ghost use Rattle.save_file.specs.Parsing.{FindsSlot, ReadsPrinted, ReadsValue};
 ghost use Rattle.save_file.specs.SavedText.{side_word as word_of_side};
 ghost use Rattle.save_file.specs.declared.stage.Stage.TheVariants.{Entries};
 

@@ -1,3 +1,4 @@
+// Why bytes are no saved text.
 /// Why bytes give no answers.
 #[derive(Clone, Copy, PartialEq, Eq)]
 pub enum LoadFault {

@@ -1,5 +1,6 @@
 // Which lines of a carried text are kept over a dictionary.
-ghost use Rattle.std.specs.Prelude.{◌≡◌, ℕ, List, IfErr, IfOk, map, option_map, string_bytes};
+ghost use Rattle.std.specs.Prelude.{◌≡◌, IfErr, IfOk, option_map, string_bytes};
+ghost use Rattle.text_checks.specs.Tables.{named_checks};
 ghost use Rattle.dict_tree.specs.Finding.{IsNumber};
 ghost use Rattle.answers.specs.Meaning.{answered};
 ghost use Rattle.answers.specs.declared.edit.Side.TheVariants.{Answer, Override};
@@ -47,7 +48,7 @@ fn answer_of(
     text: &str,
 ) -> Result<Option<Value>, LoadFault>
     requires number { IsNumber (tree_of (rules dict.now)).facts fact }
-    requires same_checks { SameChecks (rules dict.now) (map {B = List ℕ × ℕ} (λ c. (c.name, c.code)) checks.now.checks.items) }
+    requires same_checks { SameChecks (rules dict.now) (named_checks checks.now) }
     ensures value { IfOk result (λ o. o ≡ kept_value (rules dict.now) Answer fact text.now) }
     ensures memory { IfErr result (λ fault. fault ≡ faults.NoMemory) }
 {
@@ -97,7 +98,7 @@ fn value_of(
     text: &str,
 ) -> Result<Option<Value>, LoadFault>
     requires number { IsNumber (tree_of (rules dict.now)).facts fact }
-    requires same_checks { SameChecks (rules dict.now) (map {B = List ℕ × ℕ} (λ c. (c.name, c.code)) checks.now.checks.items) }
+    requires same_checks { SameChecks (rules dict.now) (named_checks checks.now) }
     ensures value { IfOk result (λ o. o ≡ kept_value (rules dict.now) side fact text.now) }
     ensures memory { IfErr result (λ fault. fault ≡ faults.NoMemory) }
 {
@@ -125,7 +126,7 @@ pub fn worth_of(
     answers: &Answers,
     line: &EntryLine,
 ) -> Result<Option<(Slot, Value)>, LoadFault>
-    requires same_checks { SameChecks (rules dict.now) (map {B = List ℕ × ℕ} (λ c. (c.name, c.code)) checks.now.checks.items) }
+    requires same_checks { SameChecks (rules dict.now) (named_checks checks.now) }
     requires placed { IsPlaced (tree_of (rules dict.now)) (answered answers.now) line.now.path }
     ensures worth { IfOk result (λ o. o ≡ option_map (λ v. (slot_of (tree_of (rules dict.now)) line.now.path, v)) (worth_of_entry (rules dict.now) line.now)) }
     ensures memory { IfErr result (λ fault. fault ≡ faults.NoMemory) }

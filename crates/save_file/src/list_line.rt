@@ -6,11 +6,11 @@ ghost use Rattle.fact_paths.specs.Paths.{IsMemberNumber};
 ghost use Rattle.value_text.specs.MemberTexts.{printed_rest};
 ghost use Rattle.dictionary.specs.Accepted.{accepted};
 ghost use Rattle.dictionary.specs.Fits.{is_list as is_list_fact};
-ghost use Rattle.dictionary.specs.Reading.{slot};
+ghost use Rattle.dictionary.specs.Dependencies.{slot};
 ghost use Rattle.dictionary.specs.SlotText.{slot_text};
 ghost use Rattle.script_lines.specs.declared.fault.LineFault.TheVariants.{NoMemory};
 ghost use Rattle.save_file.specs.Following.{AreRead, GoesOn, IsStage, Judges};
-ghost use Rattle.save_file.specs.Reading.{FindsList, ReadsList, are_below as are_below_next, are_others as are_other_members};
+ghost use Rattle.save_file.specs.Parsing.{FindsList, ReadsList, are_below as are_below_next, are_others as are_other_members};
 ghost use Rattle.save_file.specs.declared.stage.Stage.TheVariants.{Entries, Lists};
 ghost use Rattle.answers.specs.declared.edit.Side.TheVariants.{Answer};
 

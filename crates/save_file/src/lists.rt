@@ -8,7 +8,7 @@ ghost use Rattle.answers.specs.Meaning.{answered};
 ghost use Rattle.script_lines.specs.Joined.{joined};
 ghost use Rattle.dictionary.specs.Accepted.{accepted};
 ghost use Rattle.dictionary.specs.Fits.{AnswersFit};
-ghost use Rattle.dictionary.specs.Reading.{slot};
+ghost use Rattle.dictionary.specs.Dependencies.{slot};
 ghost use Rattle.dictionary.specs.SlotText.{IsSlot};
 ghost use Rattle.save_file.specs.SavedText.{list_line, list_lines, lists};
 ghost use Rattle.fg_io.specs.Writing.{Wrote};

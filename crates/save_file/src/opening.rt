@@ -5,7 +5,7 @@ ghost use Rattle.answers.specs.GivenLists.{IsOfLists};
 ghost use Rattle.answers.specs.Meaning.{answered};
 ghost use Rattle.answers.specs.WellFormed.{FromOne, WellFormed};
 ghost use Rattle.graph_session.specs.Rules.{rules, tree_of};
-ghost use Rattle.save_file.specs.CarriedReading.{text_of};
+ghost use Rattle.save_file.specs.CarriedParsing.{text_of};
 ghost use Rattle.save_file.specs.CarriedText.{IsCarried};
 ghost use Rattle.save_file.specs.Keeping.{opened, opened_at, opened_by, opens_fact};
 ghost use Rattle.save_file.specs.declared.fault.LoadFault.TheVariants.{NoMemory};

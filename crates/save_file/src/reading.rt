@@ -2,7 +2,7 @@
 ghost use Rattle.std.specs.Prelude.{◌≡◌, ◌≢◌, ◌↔◌, ◌∷◌, ℕ, MatchOption, IsTrue, codes, decimal, option_copied, option_map};
 ghost use Rattle.std.specs.Str.{IsUtf8};
 ghost use Rattle.fact_paths.specs.Cuts.{after, cut};
-ghost use Rattle.save_file.specs.Reading.{IsNextNumber, ReadsMember, ReadsMembers};
+ghost use Rattle.save_file.specs.Parsing.{IsNextNumber, ReadsMember, ReadsMembers};
 
 use fact_paths::read_member_number;
 use script_lines::LineFault;

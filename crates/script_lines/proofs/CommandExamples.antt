@@ -7,7 +7,7 @@ use lib.Utf8.{encode}
 use Rattle.fact_paths.specs.declared.slot_path.SlotPath.{SlotPath}
 use Rattle.fact_paths.specs.declared.slot_path.SlotPath.TheVariants.{Global, Member}
 use Rattle.script_lines.specs.Commands.{command_text}
-use Rattle.script_lines.specs.Reading.{nothing, bad_line, command, heard_in}
+use Rattle.script_lines.specs.Parsing.{nothing, bad_line, command, heard_in}
 use Rattle.script_lines.specs.declared.command.Command.TheVariants.{Set, Remove, Final, Watch, Quit}
 
 abbrev a : SlotPath

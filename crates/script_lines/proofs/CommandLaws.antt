@@ -12,7 +12,7 @@ use Rattle.fact_paths.specs.declared.slot_path.SlotPath.{SlotPath}
 use Rattle.fact_paths.proofs.CutLaws.{cut_some}
 use Rattle.fact_paths.proofs.SlotPathLaws.{slot_path_reading}
 use Rattle.script_lines.specs.Commands.{command_text, IsCommand, without_return, IsSilentText, IsSilent, SpellsCommand, ReadsLine}
-use Rattle.script_lines.specs.Reading.{at_blank, slot_of, slot_and_value_of, slot_and_member_of, name_and_slot_of, verb_of, command_alone, command_with, command_of_verb, command_of_cut, command_of_text, Heard, nothing, bad_line, command, heard_of, heard, heard_in, SaysExactly, GivesHeard}
+use Rattle.script_lines.specs.Parsing.{at_blank, slot_of, slot_and_value_of, slot_and_member_of, name_and_slot_of, verb_of, command_alone, command_with, command_of_verb, command_of_cut, command_of_text, Heard, nothing, bad_line, command, heard_of, heard, heard_in, SaysExactly, GivesHeard}
 use Rattle.script_lines.specs.declared.command.Command.{Command}
 use Rattle.script_lines.specs.declared.command.Command.TheVariants as commands
 use Rattle.script_lines.specs.declared.fault.LineFault.{LineFault}

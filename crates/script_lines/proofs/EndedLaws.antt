@@ -90,7 +90,7 @@ none_ended (b ∷ bytes) none =
     onto_none : (bytes : List ℕ) → ended_lines bytes ≡ [] → map line_of (onto_ended b (ended_of bytes)) ≡ []
     onto_none bytes is = elim (ended_of bytes) as (λ lines. map line_of lines ≡ [] → map line_of (onto_ended b lines) ≡ []) [ [] ↦ λ e. refl | line ∷ lines ↦ λ e. cc ] is
 
--- what is told of bytes, however they go on, is their ended lines
+-- the lines that are ready of bytes, however they go on, are their ended lines
 pub ready_lines_are_ended : (bytes so_far : List ℕ) (lines : List ScriptLine) → HasNoNewline so_far
     → ((more : List ℕ) → script_lines (bytes ++ more) ≡ lines ++ script_lines (so_far ++ more)) → lines ≡ ended_lines bytes
 ready_lines_are_ended bytes so_far lines none stream =

@@ -72,7 +72,7 @@ ends_script (b ∷ line) none some = ap (map line_of) (lines_of-last (b ∷ line
 
 -- ---- whether a line is long
 
--- what is told of a line says how long it is
+-- a line that is ready says how long it is
 says_length : (line kept : List ℕ) (ready : Ready) → ready_lines ready kept ≡ line_of line ∷ [] → (ready ≢ NotYet) × (ready ≡ Whole → length line ≤ 4096) × (ready ≡ Long → 4096 < length line)
 says_length line kept ready is = by_test (nat_le (length line) 4096) refl ready is
   where

@@ -6,13 +6,13 @@ use Rattle.common_lemmas.proofs.Options.{both_some}
 use Rattle.fact_paths.specs.Cuts.{Lacks, cut, after}
 use Rattle.fact_paths.specs.Names.{is_name, IsName}
 use Rattle.fact_paths.specs.Paths.{IsMemberNumber, IsSlotPath, SpellsSlotPath, slot_path_text}
-use Rattle.fact_paths.specs.Reading.{◌>>=◌, name_of, member_number_of}
+use Rattle.fact_paths.specs.Parsing.{◌>>=◌, name_of, member_number_of}
 use Rattle.fact_paths.specs.declared.slot_path.SlotPath.{SlotPath}
 use Rattle.fact_paths.proofs.CutLaws.{cut-append, cut_some, after_some}
 use Rattle.fact_paths.proofs.MemberNumbers.{member_number_some, member_number-decimal}
 use Rattle.fact_paths.proofs.NameLaws.{name_lacks}
 use Rattle.fact_paths.proofs.SlotPathLaws.{slot_lacks_blank, slot_path_reading}
-use Rattle.script_lines.specs.Reading.{at_blank, slot_of, slot_and_value_of, member_of, slot_and_member_of, name_and_slot_of}
+use Rattle.script_lines.specs.Parsing.{at_blank, slot_of, slot_and_value_of, member_of, slot_and_member_of, name_and_slot_of}
 
 -- ---- blanks
 

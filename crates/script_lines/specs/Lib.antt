@@ -3,4 +3,4 @@ pub mod Joined
 pub mod Kept
 pub mod Lines
 pub mod Pieces
-pub mod Reading
+pub mod Parsing

@@ -1,4 +1,4 @@
--- How a script is cut into lines, and what is told of them.
+-- How a script is cut into lines, and what is found of each.
 use Rattle.std.specs.Prelude.{◌≡◌, ◌≢◌, ℕ, ◌+◌, ◌<◌, ◌≤◌, List, [], ◌∷◌, map, length, take, slice_index, if◌then◌else◌, ◌==◌, nat_le, All, codes, replicate, ◌++◌, refl}
 use Rattle.script_lines.specs.declared.lines.Ready.{Ready}
 use Rattle.script_lines.specs.declared.lines.Ready.TheVariants.{NotYet, Whole, Long}
@@ -50,7 +50,7 @@ pub record IsNewlineAt (bytes : List ℕ) (at : ℕ) : Type 0 where
   pub here : slice_index bytes at ≡ 10
   pub first : HasNoNewline (take at bytes)
 
--- what is held of a script: bytes that read the same as the line so far, and the line that was told
+-- what is held of a script: bytes that read the same as the line so far, and the line that has ended
 pub record Held : Type 0 where
   pub so_far : List ℕ
   pub line : List ℕ

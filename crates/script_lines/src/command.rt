@@ -1,3 +1,4 @@
+// The commands of a script.
 use crate::value::ValueText;
 use fact_paths::{Name, SlotPath};
 

@@ -1,3 +1,4 @@
+// Why a line is no command.
 ghost use Rattle.std.specs.Prelude.{◌≡◌};
 ghost use Rattle.script_lines.specs.declared.fault.LineFault.TheVariants.{NoMemory};
 

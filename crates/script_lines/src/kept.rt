@@ -49,7 +49,7 @@ impl Kept {
         self.is_long |= count < text.len();
     }
 
-    /// What is told of the line if it ends here.
+    /// The line as it is ready if it ends here.
     pub fn ready(&self) -> Ready
         ensures { ready_lines result self.now.bytes.items
             ≡ line_of (read_as self.now.bytes.items self.now.is_long) ∷ [] }

@@ -3,7 +3,7 @@ ghost use Rattle.std.specs.Prelude.{◌≡◌, [], ◌∷◌, ◌++◌, List, �
 ghost use Rattle.std.specs.List.{AllByRecursion};
 ghost use Rattle.std.specs.Str.{IsUtf8};
 ghost use Rattle.script_lines.specs.Commands.{command_text, IsCommand, IsSilent, SpellsCommand};
-ghost use Rattle.script_lines.specs.Reading.{SaysExactly, heard_in};
+ghost use Rattle.script_lines.specs.Parsing.{SaysExactly, heard_in};
 ghost use Rattle.script_lines.specs.declared.command.Command.{Command};
 ghost use Rattle.script_lines.specs.Joined.{joined, last_line};
 ghost use Rattle.script_lines.specs.Lines.{ScriptLine, lines_of, ended_of, script_lines, ended_lines, HasNoNewline};
@@ -24,8 +24,8 @@ pub fn ended_lines_stand()
         → (rest : List ScriptLine) × (script_lines (bytes ++ more) ≡ ended_lines bytes ++ rest) }
     ensures after_newline { (bytes : List ℕ) → script_lines (bytes ++ 10 ∷ []) ≡ ended_lines (bytes ++ 10 ∷ []) }
 
-    // What is told of bytes, however they go on, is their ended lines, where what is held has no newline.
-    ensures told { (bytes so_far : List ℕ) (lines : List ScriptLine) → HasNoNewline so_far
+    // The lines that are ready of bytes, however they go on, are their ended lines, where what is held has no newline.
+    ensures ready { (bytes so_far : List ℕ) (lines : List ScriptLine) → HasNoNewline so_far
         → ((more : List ℕ) → script_lines (bytes ++ more) ≡ lines ++ script_lines (so_far ++ more))
         → lines ≡ ended_lines bytes }
 {}

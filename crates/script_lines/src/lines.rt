@@ -1,3 +1,4 @@
+// Cutting a stream of bytes into lines as its pieces come.
 ghost use Rattle.std.specs.Prelude.{◌≡◌, ◌<◌, ◌≤◌, [], ◌++◌, List, ℕ, length, drop, IfSome, IfNone, false, if◌then◌else◌};
 ghost use Rattle.script_lines.specs.Lines.{script_lines, ready_lines, HasNoNewline, IsNewlineAt, TakesLine, EndsLine};
 ghost use Rattle.script_lines.specs.Kept.{read_as};
@@ -32,7 +33,7 @@ pub struct Fed {
 #[derive(Drop)]
 pub struct Lines {
     kept: Kept,
-    is_told: bool,
+    is_ended: bool,
 }
 
 impl Model for Lines {
@@ -43,8 +44,8 @@ impl Model for Lines {
     ghost Value = { Held };
 
     ghost view = { λ l. record {
-      so_far = if l.is_told then [] else read_as l.kept.bytes.items l.kept.is_long;
-      line = if l.is_told then l.kept.bytes.items else [];
+      so_far = if l.is_ended then [] else read_as l.kept.bytes.items l.kept.is_long;
+      line = if l.is_ended then l.kept.bytes.items else [];
     } };
 }
 
@@ -55,7 +56,7 @@ impl Lines {
     {
         Lines {
             kept: Kept::new(),
-            is_told: false,
+            is_ended: false,
         }
     }
 
@@ -67,11 +68,11 @@ impl Lines {
         ensures line { TakesLine self.old.so_far result.ready piece.now result.taken }
         ensures no_newline { HasNoNewline self.new.so_far }
 
-        // What is told and what is held make up the script, however it goes on.
+        // What has ended and what is held make up the script, however it goes on.
         ensures stream { (more : List ℕ) → script_lines (self.old.so_far ++ (piece.now ++ more))
             ≡ ready_lines result.ready self.new.line ++ script_lines (self.new.so_far ++ (drop result.taken piece.now ++ more)) }
     {
-        begin(&mut self.kept, &mut self.is_told);
+        begin(&mut self.kept, &mut self.is_ended);
         match newline_at(piece) {
             None => {
                 self.kept.add(piece);
@@ -82,7 +83,7 @@ impl Lines {
             }
             Some(at) => {
                 self.kept.add(&piece[..at]);
-                self.is_told = true;
+                self.is_ended = true;
                 Fed {
                     taken: at + 1,
                     ready: self.kept.ready(),
@@ -98,11 +99,11 @@ impl Lines {
         ensures last { script_lines self.old.so_far ≡ ready_lines result self.new.line }
         ensures none { self.new.so_far ≡ [] }
     {
-        begin(&mut self.kept, &mut self.is_told);
+        begin(&mut self.kept, &mut self.is_ended);
         if self.kept.bytes.is_empty() {
             return Ready::NotYet;
         }
-        self.is_told = true;
+        self.is_ended = true;
         self.kept.ready()
     }
 
@@ -112,18 +113,18 @@ impl Lines {
         ensures line { result.now ≡ self.now.line }
         ensures short { length self.now.line ≤ 4096 }
     {
-        if self.is_told { &self.kept.bytes } else { &[] }
+        if self.is_ended { &self.kept.bytes } else { &[] }
     }
 }
 
-// Begins a new line where one was told.
-fn begin(kept: &mut Kept, is_told: &mut bool)
-    ensures open_ { is_told.new ≡ false }
+// Begins a new line where one has ended.
+fn begin(kept: &mut Kept, is_ended: &mut bool)
+    ensures open_ { is_ended.new ≡ false }
     ensures so_far { read_as kept.new.bytes.items kept.new.is_long
-        ≡ (if is_told.old then [] else read_as kept.old.bytes.items kept.old.is_long) }
+        ≡ (if is_ended.old then [] else read_as kept.old.bytes.items kept.old.is_long) }
 {
-    if *is_told {
+    if *is_ended {
         kept.clear();
-        *is_told = false;
+        *is_ended = false;
     }
 }

@@ -1,8 +1,8 @@
 // The parts of a command behind its first word.
 ghost use Rattle.std.specs.Prelude.{◌≡◌, ◌≢◌, All, IfOk, IfErr, IfNone, IfSome, codes, option_copied, option_map};
 ghost use Rattle.fact_paths.specs.Cuts.{IsFirstAt, after};
-ghost use Rattle.fact_paths.specs.Reading.{name_of};
-ghost use Rattle.script_lines.specs.Reading.{Gives, at_blank as cut_at_blank, slot_of, member_of as member_in, slot_and_value_of, slot_and_member_of, name_and_slot_of};
+ghost use Rattle.fact_paths.specs.Parsing.{name_of};
+ghost use Rattle.script_lines.specs.Parsing.{Gives, at_blank as cut_at_blank, slot_of, member_of as member_in, slot_and_value_of, slot_and_member_of, name_and_slot_of};
 ghost use Rattle.script_lines.specs.declared.fault.LineFault.TheVariants.{NoMemory};
 
 use crate::fault::LineFault;

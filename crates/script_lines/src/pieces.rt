@@ -1,3 +1,4 @@
+// All lines of a script that is at hand in pieces.
 ghost use Rattle.std.specs.Prelude.{◌≡◌, ◌++◌, List, ℕ, IfOk, OnOk};
 ghost use Rattle.std.specs.List.{flat_map};
 ghost use Rattle.script_lines.specs.Lines.{script_lines, ready_lines};

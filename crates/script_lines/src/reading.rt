@@ -1,7 +1,7 @@
 // Reads a line as a command.
 ghost use Rattle.std.specs.Prelude.{◌≡◌, ◌≤◌, length};
 ghost use Rattle.script_lines.specs.Commands.{without_return as shorn, ReadsLine};
-ghost use Rattle.script_lines.specs.Reading.{Gives, GivesHeard, command_alone, command_of_text, heard, heard_in};
+ghost use Rattle.script_lines.specs.Parsing.{Gives, GivesHeard, command_alone, command_of_text, heard, heard_in};
 
 use crate::behind_verb::read_with;
 use crate::command::Command;

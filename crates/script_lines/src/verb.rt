@@ -1,5 +1,6 @@
+// The words with which commands begin.
 ghost use Rattle.std.specs.Prelude.{◌≡◌};
-ghost use Rattle.script_lines.specs.Reading.{verb_of as verb_in};
+ghost use Rattle.script_lines.specs.Parsing.{verb_of as verb_in};
 
 /// The first word of a command that has more words.
 #[derive(Clone, Copy, PartialEq, Eq)]

@@ -11,21 +11,21 @@ use Rattle.script_lines.specs.declared.lines.Ready.{Ready}
 use Rattle.graph_session.specs.Refusals.{Refused}
 use Rattle.graph_session.specs.Rules.{Rules}
 use Rattle.graph_session.specs.Run.{is_memory}
-use Rattle.graph_session.specs.SessionView.{Course}
+use Rattle.graph_session.specs.SessionView.{SessionState}
 use Rattle.graph_session.specs.Step as session
 use Rattle.graph_session.specs.declared.reply.Refusal.{Refusal}
 use Rattle.graph_session.specs.declared.reply.Reply.{Reply}
 use Rattle.graph_session.proofs.RunLaws.{refused_step}
 use Rattle.session_lines.specs.declared.progress.Progress.{Progress}
 use Rattle.session_lines.specs.declared.progress.Progress.TheVariants.{More, Over, Unwritten, OutOfMemory}
-use Rattle.session_lines.specs.Answering.{AnsweredAs, EndsOrWrites, KeptAs, RefusedAs, RepliedLines, SteppedAs, ToldAs, WrittenAs}
+use Rattle.session_lines.specs.Answering.{AnsweredAs, EndsOrWrites, KeptAs, RefusedAs, RepliedLines, SteppedAs, OutputAs, WrittenAs}
 use Rattle.session_lines.specs.Replies.{line_with, refusal_text, reply_text}
-use Rattle.session_lines.specs.Stepping.{Standing, State, Step, is_known, open_at, replies, said, state_after, step, step_answered, step_command, step_known, step_writing}
+use Rattle.session_lines.specs.Stepping.{LineState, State, Step, is_session_command, open_at, replies, said, state_after, step, step_answered, step_command, step_session_command, step_writing}
 
 -- ---- one command
 
 -- the session answers a command that is its own
-pub known_step : (r : Rules) (s : Standing) (asked : Command) → is_known asked ≡ true → step_command r s asked ≡ step_known r s asked
+pub known_step : (r : Rules) (s : LineState) (asked : Command) → is_session_command asked ≡ true → step_command r s asked ≡ step_session_command r s asked
 known_step r s (commands.Missing path) known = absurd cc
 known_step r s (commands.Watch name path) known = absurd cc
 known_step r s (commands.Unwatch name path) known = absurd cc
@@ -34,50 +34,50 @@ known_step r s asked known = refl
 
 module _ (taken taken_now : Option (List ℕ)) (faults faults_now : ℕ) where
   -- a text that was written is a step
-  pub text_step : (text : List ℕ) (after : Standing) (progress : Progress) → WrittenAs taken taken_now faults faults_now text progress
+  pub text_step : (text : List ℕ) (after : LineState) (progress : Progress) → WrittenAs taken taken_now faults faults_now text progress
       → SteppedAs taken taken_now faults faults_now (record { text = text; state = open_at after }) after progress
   text_step text after More written = (written, refl)
   text_step text after Over written = absurd written
   text_step text after Unwritten written = written
   text_step text after OutOfMemory written = absurd written
 
-  pub written_told : (text : List ℕ) (progress : Progress) → WrittenAs taken taken_now faults faults_now text progress → ToldAs taken taken_now faults faults_now text progress
-  written_told text More written = written
-  written_told text Over written = absurd written
-  written_told text Unwritten written = written
-  written_told text OutOfMemory written = absurd written
+  pub written_output : (text : List ℕ) (progress : Progress) → WrittenAs taken taken_now faults faults_now text progress → OutputAs taken taken_now faults faults_now text progress
+  written_output text More written = written
+  written_output text Over written = absurd written
+  written_output text Unwritten written = written
+  written_output text OutOfMemory written = absurd written
 
   -- a refusal is told
-  pub refusal_told : (text : List ℕ) (memory : Bool) (progress : Progress) → EndsOrWrites memory taken taken_now faults faults_now text progress → ToldAs taken taken_now faults faults_now text progress
-  refusal_told text true progress ended = subst (ToldAs taken taken_now faults faults_now text) (sym ended.1) ended.0
-  refusal_told text false progress written = written_told text progress written
+  pub refusal_output : (text : List ℕ) (memory : Bool) (progress : Progress) → EndsOrWrites memory taken taken_now faults faults_now text progress → OutputAs taken taken_now faults faults_now text progress
+  refusal_output text true progress ended = subst (OutputAs taken taken_now faults faults_now text) (sym ended.1) ended.0
+  refusal_output text false progress written = written_output text progress written
 
   -- and it is a step, where it isn't want of memory
-  pub ends_or_steps : (made : Step) (s : Standing) (text : List ℕ) (memory : Bool) (progress : Progress) → (memory ≡ false → made ≡ step_writing s text)
+  pub ends_or_steps : (made : Step) (s : LineState) (text : List ℕ) (memory : Bool) (progress : Progress) → (memory ≡ false → made ≡ step_writing s text)
       → EndsOrWrites memory taken taken_now faults faults_now (line_with text) progress → SteppedAs taken taken_now faults faults_now made s progress
   ends_or_steps made s text true progress is ended = subst (SteppedAs taken taken_now faults faults_now made s) (sym ended.1) ended.0
   ends_or_steps made s text false progress is written =
       subst (λ k. SteppedAs taken taken_now faults faults_now k s progress) (sym (is refl)) (text_step (line_with text) s progress written)
 
   -- the session's reply, with what is said behind it
-  pub reply_steps : (r : Rules) (s : Standing) (d : Course) (asked : Command) (reply : Reply) (text : List ℕ) (progress : Progress) → session.step r s.course asked ≡ Ok (reply, d)
-      → said r s asked (reply_text r d reply) d ≡ text → WrittenAs taken taken_now faults faults_now text progress → SteppedAs taken taken_now faults faults_now (step_known r s asked) (record s { course = d }) progress
+  pub reply_steps : (r : Rules) (s : LineState) (d : SessionState) (asked : Command) (reply : Reply) (text : List ℕ) (progress : Progress) → session.step r s.session_state asked ≡ Ok (reply, d)
+      → said r s asked (reply_text r d reply) d ≡ text → WrittenAs taken taken_now faults faults_now text progress → SteppedAs taken taken_now faults faults_now (step_session_command r s asked) (record s { session_state = d }) progress
   reply_steps r s d asked reply text progress is same written =
-      subst (λ k. SteppedAs taken taken_now faults faults_now k (record s { course = d }) progress)
-      (sym (ap (step_answered r s asked) is ∙ ap {A = List ℕ} {B = Step} (λ t. record { text = t; state = open_at (record s { course = d }) }) same))
-      (text_step text (record s { course = d }) progress written)
+      subst (λ k. SteppedAs taken taken_now faults faults_now k (record s { session_state = d }) progress)
+      (sym (ap (step_answered r s asked) is ∙ ap {A = List ℕ} {B = Step} (λ t. record { text = t; state = open_at (record s { session_state = d }) }) same))
+      (text_step text (record s { session_state = d }) progress written)
 
   -- and its refusal
-  pub refusal_steps : (r : Rules) (s : Standing) (d : Course) (asked : Command) (refusal : Refusal) (progress : Progress) → Refused refusal (session.refusal r s.course asked) → d ≡ s.course
-      → RefusedAs taken taken_now faults faults_now refusal progress → SteppedAs taken taken_now faults faults_now (step_known r s asked) (record s { course = d }) progress
+  pub refusal_steps : (r : Rules) (s : LineState) (d : SessionState) (asked : Command) (refusal : Refusal) (progress : Progress) → Refused refusal (session.refusal r s.session_state asked) → d ≡ s.session_state
+      → RefusedAs taken taken_now faults faults_now refusal progress → SteppedAs taken taken_now faults faults_now (step_session_command r s asked) (record s { session_state = d }) progress
   refusal_steps r s d asked refusal progress refused same written =
-      subst (λ (e : Course). SteppedAs taken taken_now faults faults_now (step_known r s asked) (record s { course = e }) progress) (sym same)
-      (ends_or_steps (step_known r s asked) s (refusal_text refusal) (is_memory refusal) progress
-      (λ known. ap (step_answered r s asked) (refused_step r s.course asked refusal known refused)) written)
+      subst (λ (e : SessionState). SteppedAs taken taken_now faults faults_now (step_session_command r s asked) (record s { session_state = e }) progress) (sym same)
+      (ends_or_steps (step_session_command r s asked) s (refusal_text refusal) (is_memory refusal) progress
+      (λ known. ap (step_answered r s asked) (refused_step r s.session_state asked refusal known refused)) written)
 
-module _ (taken taken_now : Option (List ℕ)) (faults faults_now : ℕ) (here_now : Standing) where
+module _ (taken taken_now : Option (List ℕ)) (faults faults_now : ℕ) (here_now : LineState) where
   -- a step is the answer to its line
-  pub answers_line : (r : Rules) (here : Standing) (line : ScriptLine) (made : Step) (progress : Progress) → step r (open_at here) line ≡ made → SteppedAs taken taken_now faults faults_now made here_now progress
+  pub answers_line : (r : Rules) (here : LineState) (line : ScriptLine) (made : Step) (progress : Progress) → step r (open_at here) line ≡ made → SteppedAs taken taken_now faults faults_now made here_now progress
       → AnsweredAs r taken taken_now faults faults_now here here_now (line ∷ []) progress
   answers_line r here line made progress is stepped = cases progress (subst (λ s. SteppedAs taken taken_now faults faults_now s here_now progress) (sym is) stepped)
     where
@@ -95,18 +95,18 @@ module _ (taken taken_now : Option (List ℕ)) (faults faults_now : ℕ) (here_n
 -- ---- what stands behind a step
 
 -- where nothing changes all is as before
-pub keeps_still : (here : Standing) (progress : Progress) → KeptAs (open_at here) here here progress
+pub keeps_still : (here : LineState) (progress : Progress) → KeptAs (open_at here) here here progress
 keeps_still here More = tt
 keeps_still here Over = tt
 keeps_still here Unwritten = refl
 keeps_still here OutOfMemory = refl
 
 -- a line leaves what its step leaves
-pub keeps_line : (r : Rules) (here here_now : Standing) (line : ScriptLine) (made : Step) (progress : Progress) → step r (open_at here) line ≡ made → KeptAs made.state here here_now progress
+pub keeps_line : (r : Rules) (here here_now : LineState) (line : ScriptLine) (made : Step) (progress : Progress) → step r (open_at here) line ≡ made → KeptAs made.state here here_now progress
     → KeptAs (state_after r (open_at here) (line ∷ [])) here here_now progress
 keeps_line r here here_now line made progress is kept = subst (λ (s : Step). KeptAs s.state here here_now progress) (sym is) kept
 
-module _ (taken taken_now : Option (List ℕ)) (faults faults_now : ℕ) (here here_now : Standing) where
+module _ (taken taken_now : Option (List ℕ)) (faults faults_now : ℕ) (here here_now : LineState) where
   -- there was memory for a text that was written
   pub keeps_written : (state : State) (text : List ℕ) (progress : Progress) → state ≡ open_at here_now → WrittenAs taken taken_now faults faults_now text progress → KeptAs state here here_now progress
   keeps_written state text More is written = tt
@@ -120,17 +120,17 @@ module _ (taken taken_now : Option (List ℕ)) (faults faults_now : ℕ) (here h
   keeps_refused state text true progress same is ended = subst (KeptAs state here here_now) (sym ended.1) same
   keeps_refused state text false progress same is written = keeps_written state text progress (is refl ∙ ap open_at (sym same)) written
 
-module _ (taken taken_now : Option (List ℕ)) (faults faults_now : ℕ) (r : Rules) (s : Standing) (d : Course) (asked : Command) where
-  pub reply_keeps : (reply : Reply) (text : List ℕ) (progress : Progress) → session.step r s.course asked ≡ Ok (reply, d) → WrittenAs taken taken_now faults faults_now text progress
-      → KeptAs (step_known r s asked).state s (record s { course = d }) progress
+module _ (taken taken_now : Option (List ℕ)) (faults faults_now : ℕ) (r : Rules) (s : LineState) (d : SessionState) (asked : Command) where
+  pub reply_keeps : (reply : Reply) (text : List ℕ) (progress : Progress) → session.step r s.session_state asked ≡ Ok (reply, d) → WrittenAs taken taken_now faults faults_now text progress
+      → KeptAs (step_session_command r s asked).state s (record s { session_state = d }) progress
   reply_keeps reply text progress is written =
-      keeps_written taken taken_now faults faults_now s (record s { course = d }) (step_known r s asked).state text progress (ap (λ (a : Result (Reply × Course) Refusal). (step_answered r s asked a).state) is) written
+      keeps_written taken taken_now faults faults_now s (record s { session_state = d }) (step_session_command r s asked).state text progress (ap (λ (a : Result (Reply × SessionState) Refusal). (step_answered r s asked a).state) is) written
 
-  pub refusal_keeps : (refusal : Refusal) (progress : Progress) → Refused refusal (session.refusal r s.course asked) → d ≡ s.course → RefusedAs taken taken_now faults faults_now refusal progress
-      → KeptAs (step_known r s asked).state s (record s { course = d }) progress
+  pub refusal_keeps : (refusal : Refusal) (progress : Progress) → Refused refusal (session.refusal r s.session_state asked) → d ≡ s.session_state → RefusedAs taken taken_now faults faults_now refusal progress
+      → KeptAs (step_session_command r s asked).state s (record s { session_state = d }) progress
   refusal_keeps refusal progress refused same written =
-      keeps_refused taken taken_now faults faults_now s (record s { course = d }) (step_known r s asked).state (line_with (refusal_text refusal)) (is_memory refusal) progress (ap (λ (c : Course). record s { course = c }) same)
-      (λ known. ap (λ (a : Result (Reply × Course) Refusal). (step_answered r s asked a).state) (refused_step r s.course asked refusal known refused)) written
+      keeps_refused taken taken_now faults faults_now s (record s { session_state = d }) (step_session_command r s asked).state (line_with (refusal_text refusal)) (is_memory refusal) progress (ap (λ (c : SessionState). record s { session_state = c }) same)
+      (λ known. ap (λ (a : Result (Reply × SessionState) Refusal). (step_answered r s asked a).state) (refused_step r s.session_state asked refusal known refused)) written
 
 -- ---- replies to lines one behind another
 
@@ -145,11 +145,11 @@ state_after-append r state (x ∷ xs) ys = state_after-append r (step r state x)
 
 -- ---- a piece on its way
 
-pub replied_none : (r : Rules) (taken : Option (List ℕ)) (here : Standing) (held bytes : List ℕ) → RepliedLines r taken taken here held bytes (open_at here) held bytes []
+pub replied_none : (r : Rules) (taken : Option (List ℕ)) (here : LineState) (held bytes : List ℕ) → RepliedLines r taken taken here held bytes (open_at here) held bytes []
 replied_none r taken here held bytes = record { lines = []; cut = λ more. refl; wrote = sent_none taken []; left = refl }
 
 -- one more line was cut from what stands behind, and its reply was written as far as `rest`
-pub replied_line : (r : Rules) (a b c : Option (List ℕ)) (here here_now : Standing) (held bytes held_now behind held_next next rest : List ℕ) (lines : List ScriptLine) (state_next : State)
+pub replied_line : (r : Rules) (a b c : Option (List ℕ)) (here here_now : LineState) (held bytes held_now behind held_next next rest : List ℕ) (lines : List ScriptLine) (state_next : State)
     → RepliedLines r a b here held bytes (open_at here_now) held_now behind []
     → ((more : List ℕ) → script_lines (held_now ++ (behind ++ more)) ≡ lines ++ script_lines (held_next ++ (next ++ more)))
     → Sent b c (replies r (open_at here_now) lines) rest → state_after r (open_at here_now) lines ≡ state_next
@@ -167,7 +167,7 @@ replied_line r a b c here here_now held bytes held_now behind held_next next res
         ∙ sym (replies-append r (open_at here) replied.lines lines)
 
 -- the same, of the line that was fed and answered
-pub replied_fed : (r r_now : Rules) (a b c : Option (List ℕ)) (here here_now : Standing) (held bytes held_now behind held_next next rest line line_now : List ℕ) (ready : Ready) (n : ℕ) (state_next : State)
+pub replied_fed : (r r_now : Rules) (a b c : Option (List ℕ)) (here here_now : LineState) (held bytes held_now behind held_next next rest line line_now : List ℕ) (ready : Ready) (n : ℕ) (state_next : State)
     → RepliedLines r a b here held bytes (open_at here_now) held_now behind [] → r_now ≡ r
     → ((more : List ℕ) → script_lines (held_now ++ (behind ++ more)) ≡ ready_lines ready line ++ script_lines (held_next ++ (drop n behind ++ more)))
     → line_now ≡ line → next ≡ drop n behind

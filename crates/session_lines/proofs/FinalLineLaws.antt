@@ -32,7 +32,7 @@ use Rattle.placeholder_laws.specs.Stays.{Stays}
 use Rattle.placeholder_laws.proofs.StayLaws.{final_result_stays}
 use Rattle.session_lines.specs.Laws.{FinalLinesStay, final_line}
 use Rattle.session_lines.specs.Replies.{asked_text, final_text, line_with}
-use Rattle.session_lines.specs.Stepping.{Standing, Step, step_answered}
+use Rattle.session_lines.specs.Stepping.{LineState, Step, step_answered}
 
 -- ---- texts that begin with another byte
 
@@ -41,8 +41,8 @@ first_byte [] = 0
 first_byte (b ∷ bs) = b
 
 -- what is answered where the path is unknown, or has a member that isn't there
-abbrev answered_by : Rules → Standing → SlotPath → Slot → Bool → Bool → Step
-answered_by r t path s unknown lacks = step_answered r t (Final path) (decided (first_of (when unknown UnknownFact ∷ when lacks NoMember ∷ [])) (FinalAsked s, t.course))
+abbrev answered_by : Rules → LineState → SlotPath → Slot → Bool → Bool → Step
+answered_by r t path s unknown lacks = step_answered r t (Final path) (decided (first_of (when unknown UnknownFact ∷ when lacks NoMember ∷ [])) (FinalAsked s, t.session_state))
 
 -- ---- what a value that is printed says
 
@@ -81,40 +81,40 @@ final_still d a b ext s v is final =
 value_text : (v w : List ℕ) → final_line v ≡ final_line w → w ≡ v
 value_text v w is = sym (append_cancel_left (codes "final ") v w (append_cancel_right (codes "final " ++ v) (codes "final " ++ w) (10 ∷ []) is))
 
-module _ (names : List (List ℕ)) (r : Rules) (accepted : IsAccepted names r.accepted) (c : Standing) (s : Slot) where
-  abbrev line_in : Standing → List ℕ
-  line_in e = line_with (asked_text (final_text (tree_of r).enums (is_final r.accepted e.course.timeline.now s)) (plain r.accepted e.course.timeline.now s) (codes "open"))
+module _ (names : List (List ℕ)) (r : Rules) (accepted : IsAccepted names r.accepted) (c : LineState) (s : Slot) where
+  abbrev line_in : LineState → List ℕ
+  line_in e = line_with (asked_text (final_text (tree_of r).enums (is_final r.accepted e.session_state.timeline.now s)) (plain r.accepted e.session_state.timeline.now s) (codes "open"))
 
-  module _ (final : IsTrue (is_final r.accepted c.course.timeline.now s)) where
-    stays : Stays r.accepted c.course.timeline.now s
-    stays = final_result_stays names r.accepted accepted c.course.timeline.now s final
+  module _ (final : IsTrue (is_final r.accepted c.session_state.timeline.now s)) where
+    stays : Stays r.accepted c.session_state.timeline.now s
+    stays = final_result_stays names r.accepted accepted c.session_state.timeline.now s final
 
     line_now : line_in c ≡ final_line (printed (tree_of r).enums stays.0)
-    line_now = ap line_with (final_text_is (tree_of r).enums (is_final r.accepted c.course.timeline.now s) (plain r.accepted c.course.timeline.now s) stays.0 final stays.1)
+    line_now = ap line_with (final_text_is (tree_of r).enums (is_final r.accepted c.session_state.timeline.now s) (plain r.accepted c.session_state.timeline.now s) stays.0 final stays.1)
 
-    line_again : (d : Standing) → IsExtension (tree_of r) c.course.timeline.now d.course.timeline.now → line_in d ≡ final_line (printed (tree_of r).enums stays.0)
+    line_again : (d : LineState) → IsExtension (tree_of r) c.session_state.timeline.now d.session_state.timeline.now → line_in d ≡ final_line (printed (tree_of r).enums stays.0)
     line_again d ext =
-        let there = stays.2 d.course.timeline.now ext in
-        let still = final_still r.accepted c.course.timeline.now d.course.timeline.now ext.extends s stays.0 there final in
-        ap line_with (final_text_is (tree_of r).enums (is_final r.accepted d.course.timeline.now s) (plain r.accepted d.course.timeline.now s) stays.0 still there)
+        let there = stays.2 d.session_state.timeline.now ext in
+        let still = final_still r.accepted c.session_state.timeline.now d.session_state.timeline.now ext.extends s stays.0 there final in
+        ap line_with (final_text_is (tree_of r).enums (is_final r.accepted d.session_state.timeline.now s) (plain r.accepted d.session_state.timeline.now s) stays.0 still there)
 
   -- what a value that is printed says: the result is final, the path is known, and its member is there
   known_where_printed : (path : SlotPath) (unknown lacks : Bool) (text : List ℕ) → (answered_by r c path s unknown lacks).text ≡ final_line text
-      → IsTrue (is_final r.accepted c.course.timeline.now s) × (line_in c ≡ final_line text) × (unknown ≡ false) × (lacks ≡ false)
+      → IsTrue (is_final r.accepted c.session_state.timeline.now s) × (line_in c ≡ final_line text) × (unknown ≡ false) × (lacks ≡ false)
   known_where_printed path true lacks text is = absurd (omega (arith, ap first_byte is))
   known_where_printed path false true text is = absurd (omega (arith, ap first_byte is))
-  known_where_printed path false false text is = (final_where_printed (tree_of r).enums (is_final r.accepted c.course.timeline.now s) (plain r.accepted c.course.timeline.now s) text is, is, refl, refl)
+  known_where_printed path false false text is = (final_where_printed (tree_of r).enums (is_final r.accepted c.session_state.timeline.now s) (plain r.accepted c.session_state.timeline.now s) text is, is, refl, refl)
 
 pub final_lines_stay : FinalLinesStay
 final_lines_stay names r accepted c path text is =
     let s = slot_of (tree_of r) path in
-    let known = known_where_printed names r accepted c s path (is_unknown (tree_of r) path) (lacks_member (tree_of r) c.course.timeline.now path) text is in
+    let known = known_where_printed names r accepted c s path (is_unknown (tree_of r) path) (lacks_member (tree_of r) c.session_state.timeline.now path) text is in
     let final = known.0 in
     let same : text ≡ printed (tree_of r).enums (stays names r accepted c s final).0 = value_text _ text (sym (line_now names r accepted c s final) ∙ known.1) in
     record {
       stays = stays names r accepted c s final;
       printed_so = same;
       again = λ d ext.
-          (λ i. (answered_by r d path s (known.2 i) (there_still (tree_of r) c.course.timeline.now d.course.timeline.now ext.extends path known.3 i)).text)
+          (λ i. (answered_by r d path s (known.2 i) (there_still (tree_of r) c.session_state.timeline.now d.session_state.timeline.now ext.extends path known.3 i)).text)
           ∙ line_again names r accepted c s final d ext ∙ ap final_line (sym same);
     }

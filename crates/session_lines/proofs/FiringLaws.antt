@@ -4,7 +4,7 @@ use Rattle.std.specs.Prelude.{unwrap_or, option_map}
 use Rattle.script_lines.specs.Joined.{joined}
 use Rattle.dict_tree.specs.Dictionary.{Dictionary as Tree}
 use Rattle.dictionary.specs.Accepted.{Named}
-use Rattle.dictionary.specs.Reading.{Look}
+use Rattle.dictionary.specs.Dependencies.{Results}
 use Rattle.three_state.specs.declared.res.Res.{Res}
 use Rattle.fact_watch.specs.Says.{slot_says}
 use Rattle.fact_watch.specs.Watching.{Pair, code_at, pair_says}
@@ -42,17 +42,17 @@ module _ {R : Type 0} (name : R → List ℕ) (code : R → ℕ) where
       none (Some r) (Some s) = refl
 
   -- of a pair
-  says_same : (rs : List R) (o : Option Pair) (before after : Look) → pair_says (code_at (λ (r : Named). r.1) (named rs)) o before after ≡ pair_says (code_at code rs) o before after
+  says_same : (rs : List R) (o : Option Pair) (before after : Results) → pair_says (code_at (λ (r : Named). r.1) (named rs)) o before after ≡ pair_says (code_at code rs) o before after
   says_same rs None before after = refl
   says_same rs (Some p) before after = ap (λ (n : ℕ). slot_says n (before p.1) (after p.1)) (code_same rs p.0)
 
 -- the same, of the list that comes first
-pub says_by_names : {R : Type 0} (rs : List R) (name : R → List ℕ) (code : R → ℕ) (o : Option Pair) (before after : Look)
+pub says_by_names : {R : Type 0} (rs : List R) (name : R → List ℕ) (code : R → ℕ) (o : Option Pair) (before after : Results)
     → pair_says (code_at (λ (r : Named). r.1) (map {B = List ℕ × ℕ} (λ r. (name r, code r)) rs)) o before after ≡ pair_says (code_at code rs) o before after
 says_by_names rs name code o before after = says_same name code rs o before after
 
 -- a pair of no place says nothing
-pub unplaced : {R : Type 0} (rs : List R) (name : R → List ℕ) (code : R → ℕ) (o : Option Pair) (p : Pair) → o ≡ Some p → length rs ≤ p.0 → (before after : Look)
+pub unplaced : {R : Type 0} (rs : List R) (name : R → List ℕ) (code : R → ℕ) (o : Option Pair) (p : Pair) → o ≡ Some p → length rs ≤ p.0 → (before after : Results)
     → pair_says (code_at (λ (r : Named). r.1) (map {B = List ℕ × ℕ} (λ r. (name r, code r)) rs)) o before after ≡ false
 unplaced rs name code o p e past before after =
     says_same name code rs o before after
@@ -61,7 +61,7 @@ unplaced rs name code o p e past before after =
 
 -- ---- the lines one behind another
 
-module _ (d : Tree) (relations : List Named) (before after : Look) where
+module _ (d : Tree) (relations : List Named) (before after : Results) where
   abbrev text : List Pair → List ℕ
   text pairs = joined (firing_lines d relations before after pairs)
 

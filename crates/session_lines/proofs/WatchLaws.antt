@@ -12,7 +12,7 @@ use Rattle.fact_watch.specs.declared.commands.WatchRefusal.TheVariants as watche
 use Rattle.session_lines.specs.declared.progress.Progress.{Progress}
 use Rattle.session_lines.specs.Answering.{KeptAs, SteppedAs, WatchRefusedAs, WrittenAs}
 use Rattle.session_lines.specs.Replies.{is_watch_memory, line_with, watch_refusal_text}
-use Rattle.session_lines.specs.Stepping.{Standing, open_at, place_in, watch_decided}
+use Rattle.session_lines.specs.Stepping.{LineState, open_at, place_in, watch_decided}
 use Rattle.session_lines.proofs.AnsweringLaws.{ends_or_steps, keeps_refused, keeps_written, text_step}
 
 -- ---- a table as its list of names and codes
@@ -37,7 +37,7 @@ refused_is watches.WatchThere o refused known = refused
 refused_is watches.WatchesFull o refused known = refused
 refused_is watches.NotWatched o refused known = refused
 
-module _ (taken taken_now : Option (List ℕ)) (faults faults_now : ℕ) (s : Standing) (pairs : List Pair) (now : List Pair) (progress : Progress) where
+module _ (taken taken_now : Option (List ℕ)) (faults faults_now : ℕ) (s : LineState) (pairs : List Pair) (now : List Pair) (progress : Progress) where
   -- what was decided
   pub allowed_steps : (o : Option WatchRefusal) → o ≡ None → now ≡ pairs → WrittenAs taken taken_now faults faults_now (line_with (codes "ok")) progress
       → SteppedAs taken taken_now faults faults_now (watch_decided s pairs o) (record s { watched = now }) progress

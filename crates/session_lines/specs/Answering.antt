@@ -7,28 +7,28 @@ use Rattle.session_lines.specs.declared.progress.Progress.{Progress}
 use Rattle.session_lines.specs.declared.progress.Progress.TheVariants.{More, Over, Unwritten, OutOfMemory}
 use Rattle.graph_session.specs.Rules.{Rules}
 use Rattle.graph_session.specs.Run.{is_memory}
-use Rattle.graph_session.specs.SessionView.{SessionView, course}
+use Rattle.graph_session.specs.SessionView.{SessionView, session_state}
 use Rattle.dictionary.specs.Accepted.{Named}
 use Rattle.fact_watch.specs.Watching.{Watching}
 use Rattle.fact_watch.specs.declared.commands.WatchRefusal.{WatchRefusal}
 use Rattle.graph_session.specs.declared.reply.Refusal.{Refusal}
 use Rattle.session_lines.specs.Replies.{is_watch_memory, line_with, refusal_text, watch_refusal_text}
-use Rattle.session_lines.specs.Stepping.{Standing, State, Step, open_at, quit_at, replies, state_after}
+use Rattle.session_lines.specs.Stepping.{LineState, State, Step, open_at, quit_at, replies, state_after}
 
 -- where the session stands, with these relations and watches
-abbrev pub standing_of : SessionView → List Named → Watching → Standing
-standing_of session relations watches = record { course = course session; relations = relations; watched = watches.pairs }
+abbrev pub line_state_of : SessionView → List Named → Watching → LineState
+line_state_of session relations watches = record { session_state = session_state session; relations = relations; watched = watches.pairs }
 
 -- A step was taken: its text was written whole and the script goes on or is over, or it wasn't written whole, or there was no
 -- memory for it.
-abbrev pub SteppedAs : Option (List ℕ) → Option (List ℕ) → ℕ → ℕ → Step → Standing → Progress → Type 0
+abbrev pub SteppedAs : Option (List ℕ) → Option (List ℕ) → ℕ → ℕ → Step → LineState → Progress → Type 0
 SteppedAs taken taken_now faults faults_now step here_now More = Sent taken taken_now step.text [] × (step.state ≡ open_at here_now)
 SteppedAs taken taken_now faults faults_now step here_now Over = (taken_now ≡ taken) × (step.text ≡ []) × (step.state ≡ quit_at here_now)
 SteppedAs taken taken_now faults faults_now step here_now Unwritten = Rose faults faults_now × ((rest : List ℕ) × Sent taken taken_now step.text rest)
 SteppedAs taken taken_now faults faults_now step here_now OutOfMemory = taken_now ≡ taken
 
 -- Where there was no memory all stands as before; and behind a text that wasn't written whole stands the state that its step leaves.
-abbrev pub KeptAs : State → Standing → Standing → Progress → Type 0
+abbrev pub KeptAs : State → LineState → LineState → Progress → Type 0
 KeptAs state here here_now More = Unit {0}
 KeptAs state here here_now Over = Unit {0}
 KeptAs state here here_now Unwritten = state ≡ open_at here_now
@@ -36,7 +36,7 @@ KeptAs state here here_now OutOfMemory = here_now ≡ here
 
 -- A line, or none, was answered: the reply was written whole and the script goes on or is over, or the reply wasn't
 -- written whole, or there was no memory for the command.
-abbrev pub AnsweredAs : Rules → Option (List ℕ) → Option (List ℕ) → ℕ → ℕ → Standing → Standing → List ScriptLine → Progress → Type 0
+abbrev pub AnsweredAs : Rules → Option (List ℕ) → Option (List ℕ) → ℕ → ℕ → LineState → LineState → List ScriptLine → Progress → Type 0
 AnsweredAs r taken taken_now faults faults_now here here_now lines More =
     Sent taken taken_now (replies r (open_at here) lines) [] × (state_after r (open_at here) lines ≡ open_at here_now)
 AnsweredAs r taken taken_now faults faults_now here here_now lines Over =
@@ -53,11 +53,11 @@ WrittenAs taken taken_now faults faults_now text Unwritten = Rose faults faults_
 WrittenAs taken taken_now faults faults_now text OutOfMemory = ⊥
 
 -- or there was no memory for it
-abbrev pub ToldAs : Option (List ℕ) → Option (List ℕ) → ℕ → ℕ → List ℕ → Progress → Type 0
-ToldAs taken taken_now faults faults_now text More = Sent taken taken_now text []
-ToldAs taken taken_now faults faults_now text Over = ⊥
-ToldAs taken taken_now faults faults_now text Unwritten = Rose faults faults_now × ((rest : List ℕ) × Sent taken taken_now text rest)
-ToldAs taken taken_now faults faults_now text OutOfMemory = taken_now ≡ taken
+abbrev pub OutputAs : Option (List ℕ) → Option (List ℕ) → ℕ → ℕ → List ℕ → Progress → Type 0
+OutputAs taken taken_now faults faults_now text More = Sent taken taken_now text []
+OutputAs taken taken_now faults faults_now text Over = ⊥
+OutputAs taken taken_now faults faults_now text Unwritten = Rose faults faults_now × ((rest : List ℕ) × Sent taken taken_now text rest)
+OutputAs taken taken_now faults faults_now text OutOfMemory = taken_now ≡ taken
 
 -- want of memory ends the script, and every other refusal is written
 abbrev pub EndsOrWrites : Bool → Option (List ℕ) → Option (List ℕ) → ℕ → ℕ → List ℕ → Progress → Type 0
@@ -77,21 +77,21 @@ progress_of (Err failed) = Unwritten
 
 -- Bytes came behind those held. Lines were cut from them, as far as what is held now and what stands behind, and the replies
 -- to these lines were written but for the rest.
-pub record RepliedLines (r : Rules) (taken taken_now : Option (List ℕ)) (here : Standing) (held bytes : List ℕ) (state_now : State) (held_now behind rest : List ℕ) : Type 0 where
+pub record RepliedLines (r : Rules) (taken taken_now : Option (List ℕ)) (here : LineState) (held bytes : List ℕ) (state_now : State) (held_now behind rest : List ℕ) : Type 0 where
   pub lines : List ScriptLine
   pub cut : (more : List ℕ) → script_lines (held ++ (bytes ++ more)) ≡ lines ++ script_lines (held_now ++ (behind ++ more))
   pub wrote : Sent taken taken_now (replies r (open_at here) lines) rest
   pub left : state_after r (open_at here) lines ≡ state_now
 
 -- the same, wherever it stopped
-pub record RepliedSome (r : Rules) (taken taken_now : Option (List ℕ)) (here : Standing) (held bytes rest : List ℕ) : Type 0 where
+pub record RepliedSome (r : Rules) (taken taken_now : Option (List ℕ)) (here : LineState) (held bytes rest : List ℕ) : Type 0 where
   pub state_now : State
   pub held_now : List ℕ
   pub behind : List ℕ
   pub replied : RepliedLines r taken taken_now here held bytes state_now held_now behind rest
 
 -- how far a piece was answered: whole, to a `quit`, to a reply that wasn't written whole, or to want of memory
-abbrev pub PieceAnsweredAs : Rules → Option (List ℕ) → Option (List ℕ) → ℕ → ℕ → Standing → Standing → List ℕ → List ℕ → List ℕ → Progress → Type 0
+abbrev pub PieceAnsweredAs : Rules → Option (List ℕ) → Option (List ℕ) → ℕ → ℕ → LineState → LineState → List ℕ → List ℕ → List ℕ → Progress → Type 0
 PieceAnsweredAs r taken taken_now faults faults_now here here_now held held_now bytes More =
     RepliedLines r taken taken_now here held bytes (open_at here_now) held_now [] [] × HasNoNewline held_now
 PieceAnsweredAs r taken taken_now faults faults_now here here_now held held_now bytes Over =

@@ -2,7 +2,7 @@
 use Rattle.std.specs.Prelude.{ℕ, List, [], ◌∷◌, ◌++◌, Option, Some, None, codes, filter, map, option_map, slice_get, unwrap_or}
 use Rattle.dict_tree.specs.Dictionary.{Dictionary as Tree}
 use Rattle.dictionary.specs.Accepted.{Named}
-use Rattle.dictionary.specs.Reading.{Look}
+use Rattle.dictionary.specs.Dependencies.{Results}
 use Rattle.dictionary.specs.SlotText.{slot_text}
 use Rattle.fact_watch.specs.Says.{slot_says}
 use Rattle.fact_watch.specs.Watching.{Pair, code_at}
@@ -16,13 +16,13 @@ abbrev pub watch_line : Tree → List Named → Pair → List ℕ
 watch_line d relations p = codes "watch " ++ (name_at relations p.0 ++ (codes " " ++ slot_text d p.1))
 
 -- the pairs whose slot stands before and after, and whose relation says yes of the results: in the order in which they were put
-abbrev pub firing : List Named → Look → Look → List Pair → List Pair
+abbrev pub firing : List Named → Results → Results → List Pair → List Pair
 firing relations before after pairs = filter (λ (p : Pair). slot_says (code_at (λ (r : Named). r.1) relations p.0) (before p.1) (after p.1)) pairs
 
-abbrev pub firing_lines : Tree → List Named → Look → Look → List Pair → List (List ℕ)
+abbrev pub firing_lines : Tree → List Named → Results → Results → List Pair → List (List ℕ)
 firing_lines d relations before after pairs = map (watch_line d relations) (firing relations before after pairs)
 
 -- of one pair, or of none
-abbrev pub firing_lines_at : Tree → List Named → Look → Look → Option Pair → List (List ℕ)
+abbrev pub firing_lines_at : Tree → List Named → Results → Results → Option Pair → List (List ℕ)
 firing_lines_at d relations before after None = []
 firing_lines_at d relations before after (Some p) = firing_lines d relations before after (p ∷ [])

@@ -12,7 +12,7 @@ use Rattle.dictionary.specs.Plain.{plain}
 use Rattle.dictionary.specs.SlotText.{slot_text}
 use Rattle.explain.specs.Missing.{missing}
 use Rattle.graph_session.specs.Rules.{Rules, tree_of}
-use Rattle.graph_session.specs.SessionView.{Course}
+use Rattle.graph_session.specs.SessionView.{SessionState}
 use Rattle.graph_session.specs.declared.reply.Refusal.{Refusal}
 use Rattle.graph_session.specs.declared.reply.Refusal.TheVariants.{UnknownFact, NoMember, WrongKind, BadValue, Limit, Check, Full, AlreadyOpen, NotAnswered, NoOverride, NothingToUndo, NothingToRedo, NoStamps, NoMemory}
 use Rattle.graph_session.specs.declared.reply.Reply.{Reply}
@@ -124,9 +124,9 @@ long_line_text = codes "refused 2 LongLine"
 
 -- ---- the text of a reply
 
--- of a reply that leaves this course; the last four have none, since what asks for them is answered without a reply of the session
+-- of a reply that leaves this state; the last four have none, since what asks for them is answered without a reply of the session
 -- `is_final` tests by `steady`: dictionary's law `the_test_tells_steady` ties that to what a steady fact is
-abbrev pub reply_text : Rules → Course → Reply → List ℕ
+abbrev pub reply_text : Rules → SessionState → Reply → List ℕ
 reply_text r c Done = codes "ok"
 reply_text r c (Added member) = numbered (codes "ok #") member
 reply_text r c (Answer slot) = asked_text (result_text (tree_of r).enums) (plain r.accepted c.timeline.now slot) (codes "incomplete")
@@ -144,7 +144,7 @@ reply_text r c Quit = []
 abbrev pub missing_count : List Slot → List ℕ
 missing_count slots = numbered (codes "missing ") (length slots)
 
-abbrev pub missing_lines : Rules → Course → Slot → List (List ℕ)
+abbrev pub missing_lines : Rules → SessionState → Slot → List (List ℕ)
 missing_lines r c slot =
     let slots = missing r.accepted c.timeline.now slot in
     missing_count slots ∷ map (slot_text (tree_of r)) slots

@@ -5,7 +5,7 @@ use Rattle.fact_values.specs.declared.slot.Slot.{Slot}
 use Rattle.text_checks.specs.Places.{place_of}
 use Rattle.script_lines.specs.Joined.{joined}
 use Rattle.script_lines.specs.Lines.{ScriptLine, whole, long}
-use Rattle.script_lines.specs.Reading.{Heard, nothing, bad_line, command, heard_in}
+use Rattle.script_lines.specs.Parsing.{Heard, nothing, bad_line, command, heard_in}
 use Rattle.script_lines.specs.declared.command.Command.{Command}
 use Rattle.script_lines.specs.declared.command.Command.TheVariants as commands
 use Rattle.answers.specs.Answered.{Answered}
@@ -13,7 +13,7 @@ use Rattle.dictionary.specs.Accepted.{Named}
 use Rattle.dictionary.specs.Plain.{plain}
 use Rattle.graph_session.specs.Refusals.{slot_found}
 use Rattle.graph_session.specs.Rules.{Rules, tree_of}
-use Rattle.graph_session.specs.SessionView.{Course, begun}
+use Rattle.graph_session.specs.SessionView.{SessionState, begun}
 use Rattle.graph_session.specs.Step as session
 use Rattle.graph_session.specs.Step.{is_change}
 use Rattle.graph_session.specs.declared.reply.Refusal.{Refusal}
@@ -26,22 +26,22 @@ use Rattle.session_lines.specs.Replies.{bad_line_text, line_with, long_line_text
 
 -- ---- where a script stands
 
--- the course of the session, and its watches: the relations by which a slot may be watched, by name and code, and the pairs of a
+-- the state of the session, and its watches: the relations by which a slot may be watched, by name and code, and the pairs of a
 -- relation's place and a slot that are watched, in the order in which they were put
-pub record Standing : Type 0 where
-  pub course : Course
+pub record LineState : Type 0 where
+  pub session_state : SessionState
   pub relations : List Named
   pub watched : List Pair
 
 -- and whether the script has been quit
 pub record State : Type 0 where
-  pub standing : Standing
+  pub standing : LineState
   pub over : Bool
 
-abbrev pub open_at : Standing → State
+abbrev pub open_at : LineState → State
 open_at s = record { standing = s; over = false }
 
-abbrev pub quit_at : Standing → State
+abbrev pub quit_at : LineState → State
 quit_at s = record { standing = s; over = true }
 
 pub record Step : Type 0 where
@@ -49,57 +49,57 @@ pub record Step : Type 0 where
   pub state : State
 
 -- a line is written, and nothing changes
-abbrev pub step_writing : Standing → List ℕ → Step
+abbrev pub step_writing : LineState → List ℕ → Step
 step_writing s text = record { text = line_with text; state = open_at s }
 
 -- ---- commands of the session
 
--- the lines of the watches that fire between two courses
-abbrev pub fired : Rules → Standing → Course → List ℕ
-fired r s after = joined (firing_lines (tree_of r) s.relations (plain r.accepted s.course.timeline.now) (plain r.accepted after.timeline.now) s.watched)
+-- the lines of the watches that fire between two states
+abbrev pub fired : Rules → LineState → SessionState → List ℕ
+fired r s after = joined (firing_lines (tree_of r) s.relations (plain r.accepted s.session_state.timeline.now) (plain r.accepted after.timeline.now) s.watched)
 
 -- behind the reply of a change stand the watches that fire
-abbrev pub said : Rules → Standing → Command → List ℕ → Course → List ℕ
+abbrev pub said : Rules → LineState → Command → List ℕ → SessionState → List ℕ
 said r s asked text after = if is_change asked then line_with text ++ fired r s after else line_with text
 
--- a session's reply and the course that it leaves, or its refusal
+-- a session's reply and the state that it leaves, or its refusal
 -- its step reads a value by `value_at`: value_text's law `reads_spelled_values` ties that to what the text spells
-abbrev pub step_answered : Rules → Standing → Command → Result (Reply × Course) Refusal → Step
+abbrev pub step_answered : Rules → LineState → Command → Result (Reply × SessionState) Refusal → Step
 step_answered r s asked (Ok answer) = record {
   text = said r s asked (reply_text r answer.1 answer.0) answer.1;
-  state = open_at (record s { course = answer.1 });
+  state = open_at (record s { session_state = answer.1 });
 }
 step_answered r s asked (Err refusal) = step_writing s (refusal_text refusal)
 
-abbrev pub step_known : Rules → Standing → Command → Step
-step_known r s asked = step_answered r s asked (session.step r s.course asked)
+abbrev pub step_session_command : Rules → LineState → Command → Step
+step_session_command r s asked = step_answered r s asked (session.step r s.session_state asked)
 
 -- ---- commands that the session itself doesn't answer
 
 -- what is missing of a slot, or why the slot isn't there
-abbrev pub missing_answer : Rules → Course → Result Slot Refusal → List ℕ
+abbrev pub missing_answer : Rules → SessionState → Result Slot Refusal → List ℕ
 missing_answer r c (Ok slot) = joined (missing_lines r c slot)
 missing_answer r c (Err refusal) = line_with (refusal_text refusal)
 
-abbrev pub step_missing : Rules → Standing → SlotPath → Step
-step_missing r s path = record { text = missing_answer r s.course (slot_found r s.course.timeline.now path); state = open_at s }
+abbrev pub step_missing : Rules → LineState → SlotPath → Step
+step_missing r s path = record { text = missing_answer r s.session_state (slot_found r s.session_state.timeline.now path); state = open_at s }
 
 -- the place of a relation's name
 abbrev pub place_in : List Named → List ℕ → Option ℕ
 place_in relations name = place_of relations (λ (n : Named). n.0) name
 
 -- these are watched from now on, or the refusal is told
-abbrev pub watch_decided : Standing → List Pair → Option WatchRefusal → Step
+abbrev pub watch_decided : LineState → List Pair → Option WatchRefusal → Step
 watch_decided s pairs None = record { text = line_with (codes "ok"); state = open_at (record s { watched = pairs }) }
 watch_decided s pairs (Some refusal) = step_writing s (watch_refusal_text refusal)
 
-abbrev pub put_watch : Standing → List ℕ → Result Slot Refusal → Step
+abbrev pub put_watch : LineState → List ℕ → Result Slot Refusal → Step
 put_watch s name (Ok slot) =
     let place = place_in s.relations name in
     watch_decided s (s.watched ++ pair_of place slot ∷ []) (watch_refusal place s.watched slot)
 put_watch s name (Err refusal) = step_writing s (refusal_text refusal)
 
-abbrev pub cut_watch : Standing → List ℕ → Result Slot Refusal → Step
+abbrev pub cut_watch : LineState → List ℕ → Result Slot Refusal → Step
 cut_watch s name (Ok slot) =
     let place = place_in s.relations name in
     watch_decided s (without (pair_of place slot) s.watched) (unwatch_refusal place s.watched slot)
@@ -108,29 +108,29 @@ cut_watch s name (Err refusal) = step_writing s (refusal_text refusal)
 -- ---- one command
 
 -- the session itself answers it
-abbrev pub is_known : Command → Bool
-is_known (commands.Missing path) = false
-is_known (commands.Watch name path) = false
-is_known (commands.Unwatch name path) = false
-is_known commands.Quit = false
-is_known _ = true
+abbrev pub is_session_command : Command → Bool
+is_session_command (commands.Missing path) = false
+is_session_command (commands.Watch name path) = false
+is_session_command (commands.Unwatch name path) = false
+is_session_command commands.Quit = false
+is_session_command _ = true
 
-abbrev pub step_command : Rules → Standing → Command → Step
+abbrev pub step_command : Rules → LineState → Command → Step
 step_command r s commands.Quit = record { text = []; state = quit_at s }
 step_command r s (commands.Missing path) = step_missing r s path
-step_command r s (commands.Watch name path) = put_watch s name (slot_found r s.course.timeline.now path)
-step_command r s (commands.Unwatch name path) = cut_watch s name (slot_found r s.course.timeline.now path)
-step_command r s asked = step_known r s asked
+step_command r s (commands.Watch name path) = put_watch s name (slot_found r s.session_state.timeline.now path)
+step_command r s (commands.Unwatch name path) = cut_watch s name (slot_found r s.session_state.timeline.now path)
+step_command r s asked = step_session_command r s asked
 
 -- ---- lines in order
 
-abbrev pub step_heard : Rules → Standing → Heard → Step
+abbrev pub step_heard : Rules → LineState → Heard → Step
 step_heard r s nothing = record { text = []; state = open_at s }
 step_heard r s bad_line = step_writing s bad_line_text
 step_heard r s (command asked) = step_command r s asked
 
 -- `heard_in` reads the line: script_lines' law `a_line_says_one_thing` ties it to what the line spells
-abbrev pub step_line : Rules → Standing → ScriptLine → Step
+abbrev pub step_line : Rules → LineState → ScriptLine → Step
 step_line r s (whole line) = step_heard r s (heard_in line)
 step_line r s long = step_writing s long_line_text
 
@@ -157,8 +157,8 @@ pub record Terms : Type 0 where
   pub relations : List Named
 
 -- no change was made, and nothing is watched
-abbrev pub beginning : Rules → Terms → Standing
-beginning r terms = record { course = begun r.accepted terms.answers terms.stamps; relations = terms.relations; watched = [] }
+abbrev pub beginning : Rules → Terms → LineState
+beginning r terms = record { session_state = begun r.accepted terms.answers terms.stamps; relations = terms.relations; watched = [] }
 
 abbrev pub at_start : Rules → Terms → State
 at_start r terms = open_at (beginning r terms)

@@ -1,9 +1,11 @@
 // Answers the lines of a script while its bytes come.
-ghost use Rattle.std.specs.Prelude.{◌≡◌, ℕ, List, ◌+◌, ◌<◌, ◌≤◌, ◌^◌, ◌∷◌, ◌++◌, [], length, map};
+ghost use Rattle.std.specs.Prelude.{◌≡◌, ◌+◌, ◌<◌, ◌≤◌, ◌^◌, ◌∷◌, ◌++◌, [], length};
 ghost use Rattle.script_lines.specs.Lines.{ended_lines, ready_lines, whole, HasNoNewline};
+ghost use Rattle.text_checks.specs.Tables.{named_checks};
 ghost use Rattle.graph_session.specs.Refusals.{SameChecks};
 ghost use Rattle.graph_session.specs.Rules.{rules};
-ghost use Rattle.session_lines.specs.Answering.{AnsweredAs, KeptAs, PieceAnsweredAs, standing_of};
+ghost use Rattle.fact_watch.specs.Tables.{named_relations};
+ghost use Rattle.session_lines.specs.Answering.{AnsweredAs, KeptAs, PieceAnsweredAs, line_state_of};
 ghost use Rattle.session_lines.specs.Stepping.{open_at, state_after};
 ghost use Rattle.session_lines.specs.Steps.{steps_of_line, steps_of_lines};
 
@@ -33,20 +35,20 @@ fn answer_line<E: FactEngine, L: Ledger, K: Sink>(
 ) -> Progress
     requires short { length line.now ≤ 4096 }
     requires same_checks { SameChecks (rules session.old.dict)
-        (map {B = List ℕ × ℕ} (λ c. (c.name, c.code)) checks.now.checks.items) }
+        (named_checks checks.now) }
     requires few { session.old.changes < 2 ^ 63 }
     ensures answered { AnsweredAs (rules session.old.dict)
         (K.taken out.old) (K.taken out.new) (K.faults out.old) (K.faults out.new)
-        (standing_of session.old (map {B = List ℕ × ℕ} (λ r. (r.name, r.code)) table.now.relations.items) watches.old)
-        (standing_of session.new (map {B = List ℕ × ℕ} (λ r. (r.name, r.code)) table.now.relations.items) watches.new) (whole line.now ∷ []) result }
-    ensures kept { KeptAs (state_after (rules session.old.dict) (open_at (standing_of session.old (map {B = List ℕ × ℕ} (λ r. (r.name, r.code)) table.now.relations.items) watches.old)) (whole line.now ∷ []))
-        (standing_of session.old (map {B = List ℕ × ℕ} (λ r. (r.name, r.code)) table.now.relations.items) watches.old)
-        (standing_of session.new (map {B = List ℕ × ℕ} (λ r. (r.name, r.code)) table.now.relations.items) watches.new) result }
+        (line_state_of session.old (named_relations table.now) watches.old)
+        (line_state_of session.new (named_relations table.now) watches.new) (whole line.now ∷ []) result }
+    ensures kept { KeptAs (state_after (rules session.old.dict) (open_at (line_state_of session.old (named_relations table.now) watches.old)) (whole line.now ∷ []))
+        (line_state_of session.old (named_relations table.now) watches.old)
+        (line_state_of session.new (named_relations table.now) watches.new) result }
     ensures dict { session.new.dict ≡ session.old.dict }
     ensures few { session.new.changes ≤ session.old.changes + 1 }
     ensures later { K.faults out.old ≤ K.faults out.new }
     ensures steps { steps.new ≤ steps.old
-        + steps_of_line E.most (rules session.old.dict) (standing_of session.old (map {B = List ℕ × ℕ} (λ r. (r.name, r.code)) table.now.relations.items) watches.old) (whole line.now) }
+        + steps_of_line E.most (rules session.old.dict) (line_state_of session.old (named_relations table.now) watches.old) (whole line.now) }
 {
     match command_of(alloc, line) {
         Ok(None) => Progress::More,
@@ -76,20 +78,20 @@ pub fn answer_ready<E: FactEngine, L: Ledger, K: Sink>(
 ) -> Progress
     requires short { length line.now ≤ 4096 }
     requires same_checks { SameChecks (rules session.old.dict)
-        (map {B = List ℕ × ℕ} (λ c. (c.name, c.code)) checks.now.checks.items) }
+        (named_checks checks.now) }
     requires few { session.old.changes < 2 ^ 63 }
     ensures answered { AnsweredAs (rules session.old.dict)
         (K.taken out.old) (K.taken out.new) (K.faults out.old) (K.faults out.new)
-        (standing_of session.old (map {B = List ℕ × ℕ} (λ r. (r.name, r.code)) table.now.relations.items) watches.old)
-        (standing_of session.new (map {B = List ℕ × ℕ} (λ r. (r.name, r.code)) table.now.relations.items) watches.new) (ready_lines ready line.now) result }
-    ensures kept { KeptAs (state_after (rules session.old.dict) (open_at (standing_of session.old (map {B = List ℕ × ℕ} (λ r. (r.name, r.code)) table.now.relations.items) watches.old)) (ready_lines ready line.now))
-        (standing_of session.old (map {B = List ℕ × ℕ} (λ r. (r.name, r.code)) table.now.relations.items) watches.old)
-        (standing_of session.new (map {B = List ℕ × ℕ} (λ r. (r.name, r.code)) table.now.relations.items) watches.new) result }
+        (line_state_of session.old (named_relations table.now) watches.old)
+        (line_state_of session.new (named_relations table.now) watches.new) (ready_lines ready line.now) result }
+    ensures kept { KeptAs (state_after (rules session.old.dict) (open_at (line_state_of session.old (named_relations table.now) watches.old)) (ready_lines ready line.now))
+        (line_state_of session.old (named_relations table.now) watches.old)
+        (line_state_of session.new (named_relations table.now) watches.new) result }
     ensures dict { session.new.dict ≡ session.old.dict }
     ensures few { session.new.changes ≤ session.old.changes + 1 }
     ensures later { K.faults out.old ≤ K.faults out.new }
     ensures steps { steps.new ≤ steps.old
-        + steps_of_lines E.most (rules session.old.dict) (open_at (standing_of session.old (map {B = List ℕ × ℕ} (λ r. (r.name, r.code)) table.now.relations.items) watches.old)) (ready_lines ready line.now) }
+        + steps_of_lines E.most (rules session.old.dict) (open_at (line_state_of session.old (named_relations table.now) watches.old)) (ready_lines ready line.now) }
 {
     match ready {
         Ready::NotYet => Progress::More,
@@ -112,18 +114,18 @@ pub fn answer_piece<E: FactEngine, L: Ledger, K: Sink>(
 ) -> Progress
     requires unended { HasNoNewline lines.old.so_far }
     requires same_checks { SameChecks (rules session.old.dict)
-        (map {B = List ℕ × ℕ} (λ c. (c.name, c.code)) checks.now.checks.items) }
+        (named_checks checks.now) }
     requires few { session.old.changes + length bytes.now < 2 ^ 63 }
     ensures answered { PieceAnsweredAs (rules session.old.dict)
         (K.taken out.old) (K.taken out.new) (K.faults out.old) (K.faults out.new)
-        (standing_of session.old (map {B = List ℕ × ℕ} (λ r. (r.name, r.code)) table.now.relations.items) watches.old)
-        (standing_of session.new (map {B = List ℕ × ℕ} (λ r. (r.name, r.code)) table.now.relations.items) watches.new)
+        (line_state_of session.old (named_relations table.now) watches.old)
+        (line_state_of session.new (named_relations table.now) watches.new)
         lines.old.so_far lines.new.so_far bytes.now result }
     ensures dict { session.new.dict ≡ session.old.dict }
     ensures few { session.new.changes ≤ session.old.changes + length bytes.now }
     ensures later { K.faults out.old ≤ K.faults out.new }
     ensures steps { steps.new ≤ steps.old + steps_of_lines E.most (rules session.old.dict)
-        (open_at (standing_of session.old (map {B = List ℕ × ℕ} (λ r. (r.name, r.code)) table.now.relations.items) watches.old)) (ended_lines (lines.old.so_far ++ bytes.now)) }
+        (open_at (line_state_of session.old (named_relations table.now) watches.old)) (ended_lines (lines.old.so_far ++ bytes.now)) }
 {
     let mut rest = bytes;
     while !rest.is_empty() {

@@ -1,18 +1,20 @@
 // Answers the commands of the session, and tells the watches that fire behind a change.
-ghost use Rattle.std.specs.Prelude.{◌≡◌, ◌≤◌, ◌<◌, ◌+◌, ◌^◌, ◌++◌, ℕ, List, true, if◌then◌else◌, map};
+ghost use Rattle.std.specs.Prelude.{◌≡◌, ◌≤◌, ◌<◌, ◌+◌, ◌^◌, ◌++◌, true, if◌then◌else◌};
 ghost use Rattle.script_lines.specs.Joined.{joined};
+ghost use Rattle.text_checks.specs.Tables.{named_checks};
 ghost use Rattle.dictionary.specs.Accepted.{accepted};
 ghost use Rattle.dictionary.specs.Plain.{plain};
-ghost use Rattle.dictionary.specs.Reading.{Look};
+ghost use Rattle.dictionary.specs.Dependencies.{Results};
+ghost use Rattle.fact_watch.specs.Tables.{named_relations};
 ghost use Rattle.fact_watch.specs.Watching.{noted};
 ghost use Rattle.graph_session.specs.Refusals.{SameChecks};
 ghost use Rattle.graph_session.specs.Rules.{rules};
-ghost use Rattle.graph_session.specs.SessionView.{course};
+ghost use Rattle.graph_session.specs.SessionView.{session_state};
 ghost use Rattle.graph_session.specs.Step.{is_change as changes};
-ghost use Rattle.session_lines.specs.Answering.{KeptAs, SteppedAs, WrittenAs, standing_of};
+ghost use Rattle.session_lines.specs.Answering.{KeptAs, SteppedAs, WrittenAs, line_state_of};
 ghost use Rattle.session_lines.specs.Firing.{firing_lines};
 ghost use Rattle.session_lines.specs.Replies.{line_with, reply_text};
-ghost use Rattle.session_lines.specs.Stepping.{step_known};
+ghost use Rattle.session_lines.specs.Stepping.{step_session_command};
 ghost use Rattle.session_lines.specs.Steps.{steps_of_command};
 
 use crate::firing::write_fired;
@@ -60,10 +62,10 @@ fn write_change<E: FactEngine, K: Sink>(
     reply: Reply,
     out: &mut K,
 ) -> Progress
-    requires noted { (before : Look) × (watches.now ≡ noted watches.now.pairs before) }
-    ensures written { (before : Look) → watches.now ≡ noted watches.now.pairs before → WrittenAs (K.taken out.old) (K.taken out.new) (K.faults out.old) (K.faults out.new)
-        (line_with (reply_text (rules session.now.dict) (course session.now) reply)
-        ++ joined (firing_lines (accepted session.now.dict).tree (map {B = List ℕ × ℕ} (λ r. (r.name, r.code)) table.now.relations.items) before
+    requires noted { (before : Results) × (watches.now ≡ noted watches.now.pairs before) }
+    ensures written { (before : Results) → watches.now ≡ noted watches.now.pairs before → WrittenAs (K.taken out.old) (K.taken out.new) (K.faults out.old) (K.faults out.new)
+        (line_with (reply_text (rules session.now.dict) (session_state session.now) reply)
+        ++ joined (firing_lines (accepted session.now.dict).tree (named_relations table.now) before
         (plain (accepted session.now.dict) session.now.timeline.now) watches.now.pairs)) result }
     ensures later { K.faults out.old ≤ K.faults out.new }
 {
@@ -84,13 +86,13 @@ fn write_said<E: FactEngine, K: Sink>(
     reply: Reply,
     out: &mut K,
 ) -> Progress
-    requires noted { changes command.now ≡ true → (before : Look) × (watches.now ≡ noted watches.now.pairs before) }
-    ensures written { (before : Look) → (changes command.now ≡ true → watches.now ≡ noted watches.now.pairs before)
+    requires noted { changes command.now ≡ true → (before : Results) × (watches.now ≡ noted watches.now.pairs before) }
+    ensures written { (before : Results) → (changes command.now ≡ true → watches.now ≡ noted watches.now.pairs before)
         → WrittenAs (K.taken out.old) (K.taken out.new) (K.faults out.old) (K.faults out.new)
-        (if changes command.now then line_with (reply_text (rules session.now.dict) (course session.now) reply)
-        ++ joined (firing_lines (accepted session.now.dict).tree (map {B = List ℕ × ℕ} (λ r. (r.name, r.code)) table.now.relations.items) before
+        (if changes command.now then line_with (reply_text (rules session.now.dict) (session_state session.now) reply)
+        ++ joined (firing_lines (accepted session.now.dict).tree (named_relations table.now) before
         (plain (accepted session.now.dict) session.now.timeline.now) watches.now.pairs)
-        else line_with (reply_text (rules session.now.dict) (course session.now) reply)) result }
+        else line_with (reply_text (rules session.now.dict) (session_state session.now) reply)) result }
     ensures later { K.faults out.old ≤ K.faults out.new }
 {
     if is_change(command) {
@@ -113,19 +115,19 @@ fn answer_noted<E: FactEngine, L: Ledger, K: Sink>(
     requires noted { changes command.now ≡ true
         → watches.now ≡ noted watches.now.pairs (plain (accepted session.old.dict) session.old.timeline.now) }
     requires same_checks { SameChecks (rules session.old.dict)
-        (map {B = List ℕ × ℕ} (λ c. (c.name, c.code)) checks.now.checks.items) }
+        (named_checks checks.now) }
     requires few { session.old.changes < 2 ^ 63 }
     ensures stepped { SteppedAs (K.taken out.old) (K.taken out.new) (K.faults out.old) (K.faults out.new)
-        (step_known (rules session.old.dict) (standing_of session.old (map {B = List ℕ × ℕ} (λ r. (r.name, r.code)) table.now.relations.items) watches.now) command.now)
-        (standing_of session.new (map {B = List ℕ × ℕ} (λ r. (r.name, r.code)) table.now.relations.items) watches.now) result }
-    ensures kept { KeptAs (step_known (rules session.old.dict) (standing_of session.old (map {B = List ℕ × ℕ} (λ r. (r.name, r.code)) table.now.relations.items) watches.now) command.now).state
-        (standing_of session.old (map {B = List ℕ × ℕ} (λ r. (r.name, r.code)) table.now.relations.items) watches.now)
-        (standing_of session.new (map {B = List ℕ × ℕ} (λ r. (r.name, r.code)) table.now.relations.items) watches.now) result }
+        (step_session_command (rules session.old.dict) (line_state_of session.old (named_relations table.now) watches.now) command.now)
+        (line_state_of session.new (named_relations table.now) watches.now) result }
+    ensures kept { KeptAs (step_session_command (rules session.old.dict) (line_state_of session.old (named_relations table.now) watches.now) command.now).state
+        (line_state_of session.old (named_relations table.now) watches.now)
+        (line_state_of session.new (named_relations table.now) watches.now) result }
     ensures dict { session.new.dict ≡ session.old.dict }
     ensures few { session.new.changes ≤ session.old.changes + 1 }
     ensures later { K.faults out.old ≤ K.faults out.new }
     ensures steps { steps.new ≤ steps.old
-        + steps_of_command E.most (rules session.old.dict) (standing_of session.old (map {B = List ℕ × ℕ} (λ r. (r.name, r.code)) table.now.relations.items) watches.now) command.now }
+        + steps_of_command E.most (rules session.old.dict) (line_state_of session.old (named_relations table.now) watches.now) command.now }
 {
     match session.command(command, checks, steps) {
         Ok(reply) => write_said(session, watches, table, command, reply, out),
@@ -145,19 +147,19 @@ fn answer_change<E: FactEngine, L: Ledger, K: Sink>(
 ) -> Progress
     requires is_change { changes command.now ≡ true }
     requires same_checks { SameChecks (rules session.old.dict)
-        (map {B = List ℕ × ℕ} (λ c. (c.name, c.code)) checks.now.checks.items) }
+        (named_checks checks.now) }
     requires few { session.old.changes < 2 ^ 63 }
     ensures stepped { SteppedAs (K.taken out.old) (K.taken out.new) (K.faults out.old) (K.faults out.new)
-        (step_known (rules session.old.dict) (standing_of session.old (map {B = List ℕ × ℕ} (λ r. (r.name, r.code)) table.now.relations.items) watches.old) command.now)
-        (standing_of session.new (map {B = List ℕ × ℕ} (λ r. (r.name, r.code)) table.now.relations.items) watches.new) result }
-    ensures kept { KeptAs (step_known (rules session.old.dict) (standing_of session.old (map {B = List ℕ × ℕ} (λ r. (r.name, r.code)) table.now.relations.items) watches.old) command.now).state
-        (standing_of session.old (map {B = List ℕ × ℕ} (λ r. (r.name, r.code)) table.now.relations.items) watches.old)
-        (standing_of session.new (map {B = List ℕ × ℕ} (λ r. (r.name, r.code)) table.now.relations.items) watches.new) result }
+        (step_session_command (rules session.old.dict) (line_state_of session.old (named_relations table.now) watches.old) command.now)
+        (line_state_of session.new (named_relations table.now) watches.new) result }
+    ensures kept { KeptAs (step_session_command (rules session.old.dict) (line_state_of session.old (named_relations table.now) watches.old) command.now).state
+        (line_state_of session.old (named_relations table.now) watches.old)
+        (line_state_of session.new (named_relations table.now) watches.new) result }
     ensures dict { session.new.dict ≡ session.old.dict }
     ensures few { session.new.changes ≤ session.old.changes + 1 }
     ensures later { K.faults out.old ≤ K.faults out.new }
     ensures steps { steps.new ≤ steps.old
-        + steps_of_command E.most (rules session.old.dict) (standing_of session.old (map {B = List ℕ × ℕ} (λ r. (r.name, r.code)) table.now.relations.items) watches.old) command.now }
+        + steps_of_command E.most (rules session.old.dict) (line_state_of session.old (named_relations table.now) watches.old) command.now }
 {
     match watches.note(session) {
         Err(NoMemory) => Progress::OutOfMemory,
@@ -166,7 +168,7 @@ fn answer_change<E: FactEngine, L: Ledger, K: Sink>(
 }
 
 /// Answers a command of the session.
-pub fn answer_known<E: FactEngine, L: Ledger, K: Sink>(
+pub fn answer_session_command<E: FactEngine, L: Ledger, K: Sink>(
     session: &mut Session<E>,
     watches: &mut Watches,
     table: &WatchTable,
@@ -176,19 +178,19 @@ pub fn answer_known<E: FactEngine, L: Ledger, K: Sink>(
     steps: &mut Steps<L>,
 ) -> Progress
     requires same_checks { SameChecks (rules session.old.dict)
-        (map {B = List ℕ × ℕ} (λ c. (c.name, c.code)) checks.now.checks.items) }
+        (named_checks checks.now) }
     requires few { session.old.changes < 2 ^ 63 }
     ensures stepped { SteppedAs (K.taken out.old) (K.taken out.new) (K.faults out.old) (K.faults out.new)
-        (step_known (rules session.old.dict) (standing_of session.old (map {B = List ℕ × ℕ} (λ r. (r.name, r.code)) table.now.relations.items) watches.old) command.now)
-        (standing_of session.new (map {B = List ℕ × ℕ} (λ r. (r.name, r.code)) table.now.relations.items) watches.new) result }
-    ensures kept { KeptAs (step_known (rules session.old.dict) (standing_of session.old (map {B = List ℕ × ℕ} (λ r. (r.name, r.code)) table.now.relations.items) watches.old) command.now).state
-        (standing_of session.old (map {B = List ℕ × ℕ} (λ r. (r.name, r.code)) table.now.relations.items) watches.old)
-        (standing_of session.new (map {B = List ℕ × ℕ} (λ r. (r.name, r.code)) table.now.relations.items) watches.new) result }
+        (step_session_command (rules session.old.dict) (line_state_of session.old (named_relations table.now) watches.old) command.now)
+        (line_state_of session.new (named_relations table.now) watches.new) result }
+    ensures kept { KeptAs (step_session_command (rules session.old.dict) (line_state_of session.old (named_relations table.now) watches.old) command.now).state
+        (line_state_of session.old (named_relations table.now) watches.old)
+        (line_state_of session.new (named_relations table.now) watches.new) result }
     ensures dict { session.new.dict ≡ session.old.dict }
     ensures few { session.new.changes ≤ session.old.changes + 1 }
     ensures later { K.faults out.old ≤ K.faults out.new }
     ensures steps { steps.new ≤ steps.old
-        + steps_of_command E.most (rules session.old.dict) (standing_of session.old (map {B = List ℕ × ℕ} (λ r. (r.name, r.code)) table.now.relations.items) watches.old) command.now }
+        + steps_of_command E.most (rules session.old.dict) (line_state_of session.old (named_relations table.now) watches.old) command.now }
 {
     if is_change(command) {
         answer_change(session, watches, table, command, checks, out, steps)

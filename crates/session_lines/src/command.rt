@@ -1,12 +1,14 @@
 // Answers a command.
-ghost use Rattle.std.specs.Prelude.{◌≡◌, ◌≤◌, ◌<◌, ◌+◌, ◌^◌, ℕ, List, false, map};
+ghost use Rattle.std.specs.Prelude.{◌≡◌, ◌≤◌, ◌<◌, ◌+◌, ◌^◌, false};
+ghost use Rattle.text_checks.specs.Tables.{named_checks};
 ghost use Rattle.graph_session.specs.Refusals.{SameChecks};
 ghost use Rattle.graph_session.specs.Rules.{rules};
-ghost use Rattle.session_lines.specs.Answering.{KeptAs, SteppedAs, standing_of};
-ghost use Rattle.session_lines.specs.Stepping.{is_known as known, step_command};
+ghost use Rattle.fact_watch.specs.Tables.{named_relations};
+ghost use Rattle.session_lines.specs.Answering.{KeptAs, SteppedAs, line_state_of};
+ghost use Rattle.session_lines.specs.Stepping.{is_session_command as known, step_command};
 ghost use Rattle.session_lines.specs.Steps.{steps_of_command};
 
-use crate::changing::answer_known;
+use crate::changing::answer_session_command;
 use crate::listing::answer_missing;
 use crate::progress::Progress;
 use crate::watching::{answer_unwatch, answer_watch};
@@ -21,7 +23,7 @@ use steps::Steps;
 use text_checks::CheckTable;
 
 // Whether the session itself answers it.
-fn is_known(command: &Command) -> bool
+fn is_session_command(command: &Command) -> bool
     ensures { result ≡ known command.now }
 {
     match command {
@@ -43,7 +45,7 @@ fn is_known(command: &Command) -> bool
 }
 
 // Answers a command that the session itself doesn't answer.
-fn answer_other<E: FactEngine, K: Sink>(
+fn answer_host_command<E: FactEngine, K: Sink>(
     alloc: Global,
     session: &Session<E>,
     watches: &mut Watches,
@@ -53,11 +55,11 @@ fn answer_other<E: FactEngine, K: Sink>(
 ) -> Progress
     requires { known command.now ≡ false }
     ensures stepped { SteppedAs (K.taken out.old) (K.taken out.new) (K.faults out.old) (K.faults out.new)
-        (step_command (rules session.now.dict) (standing_of session.now (map {B = List ℕ × ℕ} (λ r. (r.name, r.code)) table.now.relations.items) watches.old) command.now)
-        (standing_of session.now (map {B = List ℕ × ℕ} (λ r. (r.name, r.code)) table.now.relations.items) watches.new) result }
-    ensures kept { KeptAs (step_command (rules session.now.dict) (standing_of session.now (map {B = List ℕ × ℕ} (λ r. (r.name, r.code)) table.now.relations.items) watches.old) command.now).state
-        (standing_of session.now (map {B = List ℕ × ℕ} (λ r. (r.name, r.code)) table.now.relations.items) watches.old)
-        (standing_of session.now (map {B = List ℕ × ℕ} (λ r. (r.name, r.code)) table.now.relations.items) watches.new) result }
+        (step_command (rules session.now.dict) (line_state_of session.now (named_relations table.now) watches.old) command.now)
+        (line_state_of session.now (named_relations table.now) watches.new) result }
+    ensures kept { KeptAs (step_command (rules session.now.dict) (line_state_of session.now (named_relations table.now) watches.old) command.now).state
+        (line_state_of session.now (named_relations table.now) watches.old)
+        (line_state_of session.now (named_relations table.now) watches.new) result }
     ensures later { K.faults out.old ≤ K.faults out.new }
 {
     match command {
@@ -80,23 +82,23 @@ pub fn answer_command<E: FactEngine, L: Ledger, K: Sink>(
     steps: &mut Steps<L>,
 ) -> Progress
     requires same_checks { SameChecks (rules session.old.dict)
-        (map {B = List ℕ × ℕ} (λ c. (c.name, c.code)) checks.now.checks.items) }
+        (named_checks checks.now) }
     requires few { session.old.changes < 2 ^ 63 }
     ensures stepped { SteppedAs (K.taken out.old) (K.taken out.new) (K.faults out.old) (K.faults out.new)
-        (step_command (rules session.old.dict) (standing_of session.old (map {B = List ℕ × ℕ} (λ r. (r.name, r.code)) table.now.relations.items) watches.old) command.now)
-        (standing_of session.new (map {B = List ℕ × ℕ} (λ r. (r.name, r.code)) table.now.relations.items) watches.new) result }
-    ensures kept { KeptAs (step_command (rules session.old.dict) (standing_of session.old (map {B = List ℕ × ℕ} (λ r. (r.name, r.code)) table.now.relations.items) watches.old) command.now).state
-        (standing_of session.old (map {B = List ℕ × ℕ} (λ r. (r.name, r.code)) table.now.relations.items) watches.old)
-        (standing_of session.new (map {B = List ℕ × ℕ} (λ r. (r.name, r.code)) table.now.relations.items) watches.new) result }
+        (step_command (rules session.old.dict) (line_state_of session.old (named_relations table.now) watches.old) command.now)
+        (line_state_of session.new (named_relations table.now) watches.new) result }
+    ensures kept { KeptAs (step_command (rules session.old.dict) (line_state_of session.old (named_relations table.now) watches.old) command.now).state
+        (line_state_of session.old (named_relations table.now) watches.old)
+        (line_state_of session.new (named_relations table.now) watches.new) result }
     ensures dict { session.new.dict ≡ session.old.dict }
     ensures few { session.new.changes ≤ session.old.changes + 1 }
     ensures later { K.faults out.old ≤ K.faults out.new }
     ensures steps { steps.new ≤ steps.old
-        + steps_of_command E.most (rules session.old.dict) (standing_of session.old (map {B = List ℕ × ℕ} (λ r. (r.name, r.code)) table.now.relations.items) watches.old) command.now }
+        + steps_of_command E.most (rules session.old.dict) (line_state_of session.old (named_relations table.now) watches.old) command.now }
 {
-    if is_known(command) {
-        answer_known(session, watches, table, command, checks, out, steps)
+    if is_session_command(command) {
+        answer_session_command(session, watches, table, command, checks, out, steps)
     } else {
-        answer_other(alloc, session, watches, table, command, out)
+        answer_host_command(alloc, session, watches, table, command, out)
     }
 }

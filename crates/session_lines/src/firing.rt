@@ -1,10 +1,11 @@
 // Writes the lines of the watches that fire.
-ghost use Rattle.std.specs.Prelude.{◌≡◌, ◌≤◌, ◌+◌, ◌∷◌, ◌++◌, [], ℕ, List, IsTrue, IfSome, length, map, slice_get};
+ghost use Rattle.std.specs.Prelude.{◌≡◌, ◌≤◌, ◌+◌, ◌∷◌, ◌++◌, [], IsTrue, IfSome, length, slice_get};
 ghost use Rattle.script_lines.specs.Joined.{joined};
 ghost use Rattle.dictionary.specs.Accepted.{accepted};
 ghost use Rattle.dictionary.specs.Plain.{plain};
-ghost use Rattle.dictionary.specs.Reading.{Look};
+ghost use Rattle.dictionary.specs.Dependencies.{Results};
 ghost use Rattle.dictionary.specs.Slots.{stands};
+ghost use Rattle.fact_watch.specs.Tables.{named_relations};
 ghost use Rattle.fact_watch.specs.Watching.{code_at, noted, pair_says};
 ghost use Rattle.fg_io.specs.Writing.{Wrote};
 ghost use Rattle.session_lines.specs.Answering.{WrittenAs};
@@ -23,7 +24,7 @@ use value_text::Line;
 #[tactic(auto, using(value_text::proofs::EnumLemmas::name_short))]
 fn print_relation(table: &WatchTable, place: u32, line: &mut Line)
     requires { length line.old ≤ 100 }
-    ensures text { line.new ≡ line.old ++ name_at (map {B = List ℕ × ℕ} (λ r. (r.name, r.code)) table.now.relations.items) place }
+    ensures text { line.new ≡ line.old ++ name_at (named_relations table.now) place }
     ensures short { length line.new ≤ length line.old + 64 }
 {
     match table.name(place) {
@@ -42,7 +43,7 @@ fn put_line<E: FactEngine, K: Sink>(
 ) -> Result<(), Failed>
     requires { IsTrue (stands (accepted session.now.dict).tree session.now.timeline.now slot) }
     ensures { Wrote (K.taken out.old) (K.taken out.new) (K.faults out.old) (K.faults out.new)
-        (watch_line (accepted session.now.dict).tree (map {B = List ℕ × ℕ} (λ r. (r.name, r.code)) table.now.relations.items) (place, slot) ++ 10 ∷ []) result }
+        (watch_line (accepted session.now.dict).tree (named_relations table.now) (place, slot) ++ 10 ∷ []) result }
 {
     let dict = session.dict();
     let _accepted = dict.source();
@@ -58,8 +59,8 @@ fn put_line<E: FactEngine, K: Sink>(
 
 // Whether the watch at n fires, of what was noted and the result now.
 fn fires<E: FactEngine>(session: &Session<E>, watches: &Watches, table: &WatchTable, n: u32) -> bool
-    ensures { (before : Look) → watches.now ≡ noted watches.now.pairs before
-        → result ≡ pair_says (code_at (λ r. r.1) (map {B = List ℕ × ℕ} (λ r. (r.name, r.code)) table.now.relations.items)) (slice_get watches.now.pairs n) before
+    ensures { (before : Results) → watches.now ≡ noted watches.now.pairs before
+        → result ≡ pair_says (code_at (λ r. r.1) (named_relations table.now)) (slice_get watches.now.pairs n) before
         (plain (accepted session.now.dict) session.now.timeline.now) }
 {
     match watches.at(n) {
@@ -76,9 +77,9 @@ fn put_at<E: FactEngine, K: Sink>(
     n: u32,
     out: &mut K,
 ) -> Result<(), Failed>
-    requires noted { (before : Look) × (watches.now ≡ noted watches.now.pairs before) }
-    ensures { (before : Look) → watches.now ≡ noted watches.now.pairs before → Wrote (K.taken out.old) (K.taken out.new) (K.faults out.old) (K.faults out.new)
-        (joined (firing_lines_at (accepted session.now.dict).tree (map {B = List ℕ × ℕ} (λ r. (r.name, r.code)) table.now.relations.items) before
+    requires noted { (before : Results) × (watches.now ≡ noted watches.now.pairs before) }
+    ensures { (before : Results) → watches.now ≡ noted watches.now.pairs before → Wrote (K.taken out.old) (K.taken out.new) (K.faults out.old) (K.faults out.new)
+        (joined (firing_lines_at (accepted session.now.dict).tree (named_relations table.now) before
         (plain (accepted session.now.dict) session.now.timeline.now) (slice_get watches.now.pairs n))) result }
 {
     if !fires(session, watches, table, n) {
@@ -97,9 +98,9 @@ fn put_fired<E: FactEngine, K: Sink>(
     table: &WatchTable,
     out: &mut K,
 ) -> Result<(), Failed>
-    requires noted { (before : Look) × (watches.now ≡ noted watches.now.pairs before) }
-    ensures { (before : Look) → watches.now ≡ noted watches.now.pairs before → Wrote (K.taken out.old) (K.taken out.new) (K.faults out.old) (K.faults out.new)
-        (joined (firing_lines (accepted session.now.dict).tree (map {B = List ℕ × ℕ} (λ r. (r.name, r.code)) table.now.relations.items) before
+    requires noted { (before : Results) × (watches.now ≡ noted watches.now.pairs before) }
+    ensures { (before : Results) → watches.now ≡ noted watches.now.pairs before → Wrote (K.taken out.old) (K.taken out.new) (K.faults out.old) (K.faults out.new)
+        (joined (firing_lines (accepted session.now.dict).tree (named_relations table.now) before
         (plain (accepted session.now.dict) session.now.timeline.now) watches.now.pairs)) result }
 {
     for n in 0..watches.len() {
@@ -118,9 +119,9 @@ pub fn write_fired<E: FactEngine, K: Sink>(
     table: &WatchTable,
     out: &mut K,
 ) -> Progress
-    requires noted { (before : Look) × (watches.now ≡ noted watches.now.pairs before) }
-    ensures written { (before : Look) → watches.now ≡ noted watches.now.pairs before → WrittenAs (K.taken out.old) (K.taken out.new) (K.faults out.old) (K.faults out.new)
-        (joined (firing_lines (accepted session.now.dict).tree (map {B = List ℕ × ℕ} (λ r. (r.name, r.code)) table.now.relations.items) before
+    requires noted { (before : Results) × (watches.now ≡ noted watches.now.pairs before) }
+    ensures written { (before : Results) → watches.now ≡ noted watches.now.pairs before → WrittenAs (K.taken out.old) (K.taken out.new) (K.faults out.old) (K.faults out.new)
+        (joined (firing_lines (accepted session.now.dict).tree (named_relations table.now) before
         (plain (accepted session.now.dict) session.now.timeline.now) watches.now.pairs)) result }
     ensures later { K.faults out.old ≤ K.faults out.new }
 {

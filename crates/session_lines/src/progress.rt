@@ -1,3 +1,4 @@
+// How far the lines of a piece were answered.
 /// How far a script was answered.
 #[derive(Clone, Copy, Debug, PartialEq, Eq)]
 pub enum Progress {

@@ -4,7 +4,7 @@ ghost use Rattle.dictionary.specs.Accepted.{accepted};
 ghost use Rattle.dictionary.specs.Final.{is_final as is_final_in};
 ghost use Rattle.dictionary.specs.Plain.{plain};
 ghost use Rattle.graph_session.specs.Rules.{rules, tree_of};
-ghost use Rattle.graph_session.specs.SessionView.{course};
+ghost use Rattle.graph_session.specs.SessionView.{session_state};
 ghost use Rattle.three_state.specs.declared.res.Res.TheVariants.{Complete};
 ghost use Rattle.session_lines.specs.Replies.{IsResPrinted, asked_text, fault_text as text_of_fault, final_text, refusal_name as name_of_refusal, refusal_place, refusal_text, reply_text, result_text};
 
@@ -112,7 +112,7 @@ fn print_final<E: FactEngine>(session: &Session<E>, slot: Slot, line: &mut Line)
 /// Prints into an empty line what a session says, without its newline. The session stands as the command left it.
 pub fn print_reply<E: FactEngine>(session: &Session<E>, reply: Reply, line: &mut Line)
     requires { line.old ≡ [] }
-    ensures text { line.new ≡ reply_text (rules session.now.dict) (course session.now) reply }
+    ensures text { line.new ≡ reply_text (rules session.now.dict) (session_state session.now) reply }
     ensures short { length line.new ≤ 1050 }
 {
     match reply {

@@ -1,8 +1,10 @@
 // The checks that a dictionary may name, and the relations by which a slot may be watched. A host's function makes them for
 // itself, by the macros here, since none may hand out closures that it makes.
-ghost use Rattle.std.specs.Prelude.{◌≡◌, ℕ, ◌+◌, ◌-◌, ◌<◌, ◌≤◌, ◌^◌, Bool, List, [], ◌∷◌, ◌++◌, OnOk, length, map};
+ghost use Rattle.std.specs.Prelude.{◌≡◌, ◌+◌, ◌-◌, ◌<◌, ◌≤◌, ◌^◌, Bool, [], ◌∷◌, ◌++◌, OnOk, length};
 ghost use Rattle.text_checks.specs.Checks.{IsCode, check_says};
+ghost use Rattle.text_checks.specs.Tables.{named_checks};
 ghost use Rattle.fact_watch.specs.Says.{IsCode as IsRelation, watch_says};
+ghost use Rattle.fact_watch.specs.Tables.{named_relations};
 
 use fact_paths::Name;
 use fact_watch::{Says, WatchTable};
@@ -23,9 +25,7 @@ pub fn add_check(
     requires says { (text : _) (answer : Bool) → length text.now ≤ 1000
         → Test.post check text answer → answer ≡ check_says code text.now }
     ensures added { OnOk result
-        (map {B = List ℕ × ℕ} (λ c. (c.name, c.code)) checks.new.checks.items
-        ≡ map {B = List ℕ × ℕ} (λ c. (c.name, c.code)) checks.old.checks.items
-        ++ (name.now, code) ∷ []) }
+        (named_checks checks.new ≡ named_checks checks.old ++ (name.now, code) ∷ []) }
     ensures count { OnOk result
         (length checks.new.checks.items ≡ length checks.old.checks.items + 1) }
 {
@@ -52,9 +52,7 @@ pub fn add_relation(
     requires says { (old : _) (new : _) (answer : Bool) → Says.post says old new answer
         → answer ≡ watch_says code old.now new.now }
     ensures added { OnOk result
-        (map {B = List ℕ × ℕ} (λ r. (r.name, r.code)) relations.new.relations.items
-        ≡ map {B = List ℕ × ℕ} (λ r. (r.name, r.code)) relations.old.relations.items
-        ++ (name.now, code) ∷ []) }
+        (named_relations relations.new ≡ named_relations relations.old ++ (name.now, code) ∷ []) }
     ensures count { OnOk result
         (length relations.new.relations.items ≡ length relations.old.relations.items + 1) }
 {

@@ -1,8 +1,9 @@
 // Answers the commands that put a watch and take it out.
-ghost use Rattle.std.specs.Prelude.{◌≡◌, ◌≤◌, ℕ, List, codes, length, map};
+ghost use Rattle.std.specs.Prelude.{◌≡◌, ◌≤◌, codes, length};
 ghost use Rattle.graph_session.specs.Refusals.{slot_found};
 ghost use Rattle.graph_session.specs.Rules.{rules};
-ghost use Rattle.session_lines.specs.Answering.{KeptAs, SteppedAs, WatchRefusedAs, standing_of};
+ghost use Rattle.fact_watch.specs.Tables.{named_relations};
+ghost use Rattle.session_lines.specs.Answering.{KeptAs, SteppedAs, WatchRefusedAs, line_state_of};
 ghost use Rattle.session_lines.specs.Replies.{is_watch_memory, watch_refusal_name as name_of_refusal};
 ghost use Rattle.session_lines.specs.Stepping.{cut_watch, put_watch};
 ghost use Rattle.std.specs.Prelude.{Ok};
@@ -67,11 +68,11 @@ fn watch_slot<E: FactEngine, K: Sink>(
     out: &mut K,
 ) -> Progress
     ensures stepped { SteppedAs (K.taken out.old) (K.taken out.new) (K.faults out.old) (K.faults out.new)
-        (put_watch (standing_of session.now (map {B = List ℕ × ℕ} (λ r. (r.name, r.code)) table.now.relations.items) watches.old) name.now (Ok slot))
-        (standing_of session.now (map {B = List ℕ × ℕ} (λ r. (r.name, r.code)) table.now.relations.items) watches.new) result }
-    ensures kept { KeptAs (put_watch (standing_of session.now (map {B = List ℕ × ℕ} (λ r. (r.name, r.code)) table.now.relations.items) watches.old) name.now (Ok slot)).state
-        (standing_of session.now (map {B = List ℕ × ℕ} (λ r. (r.name, r.code)) table.now.relations.items) watches.old)
-        (standing_of session.now (map {B = List ℕ × ℕ} (λ r. (r.name, r.code)) table.now.relations.items) watches.new) result }
+        (put_watch (line_state_of session.now (named_relations table.now) watches.old) name.now (Ok slot))
+        (line_state_of session.now (named_relations table.now) watches.new) result }
+    ensures kept { KeptAs (put_watch (line_state_of session.now (named_relations table.now) watches.old) name.now (Ok slot)).state
+        (line_state_of session.now (named_relations table.now) watches.old)
+        (line_state_of session.now (named_relations table.now) watches.new) result }
     ensures later { K.faults out.old ≤ K.faults out.new }
 {
     match watch(watches, table, name, slot) {
@@ -90,13 +91,13 @@ pub fn answer_watch<E: FactEngine, K: Sink>(
     out: &mut K,
 ) -> Progress
     ensures stepped { SteppedAs (K.taken out.old) (K.taken out.new) (K.faults out.old) (K.faults out.new)
-        (put_watch (standing_of session.now (map {B = List ℕ × ℕ} (λ r. (r.name, r.code)) table.now.relations.items) watches.old) name.now
+        (put_watch (line_state_of session.now (named_relations table.now) watches.old) name.now
         (slot_found (rules session.now.dict) session.now.timeline.now path.now))
-        (standing_of session.now (map {B = List ℕ × ℕ} (λ r. (r.name, r.code)) table.now.relations.items) watches.new) result }
-    ensures kept { KeptAs (put_watch (standing_of session.now (map {B = List ℕ × ℕ} (λ r. (r.name, r.code)) table.now.relations.items) watches.old) name.now
+        (line_state_of session.now (named_relations table.now) watches.new) result }
+    ensures kept { KeptAs (put_watch (line_state_of session.now (named_relations table.now) watches.old) name.now
         (slot_found (rules session.now.dict) session.now.timeline.now path.now)).state
-        (standing_of session.now (map {B = List ℕ × ℕ} (λ r. (r.name, r.code)) table.now.relations.items) watches.old)
-        (standing_of session.now (map {B = List ℕ × ℕ} (λ r. (r.name, r.code)) table.now.relations.items) watches.new) result }
+        (line_state_of session.now (named_relations table.now) watches.old)
+        (line_state_of session.now (named_relations table.now) watches.new) result }
     ensures later { K.faults out.old ≤ K.faults out.new }
 {
     match session.slot_of(path) {
@@ -115,11 +116,11 @@ fn unwatch_slot<E: FactEngine, K: Sink>(
     out: &mut K,
 ) -> Progress
     ensures stepped { SteppedAs (K.taken out.old) (K.taken out.new) (K.faults out.old) (K.faults out.new)
-        (cut_watch (standing_of session.now (map {B = List ℕ × ℕ} (λ r. (r.name, r.code)) table.now.relations.items) watches.old) name.now (Ok slot))
-        (standing_of session.now (map {B = List ℕ × ℕ} (λ r. (r.name, r.code)) table.now.relations.items) watches.new) result }
-    ensures kept { KeptAs (cut_watch (standing_of session.now (map {B = List ℕ × ℕ} (λ r. (r.name, r.code)) table.now.relations.items) watches.old) name.now (Ok slot)).state
-        (standing_of session.now (map {B = List ℕ × ℕ} (λ r. (r.name, r.code)) table.now.relations.items) watches.old)
-        (standing_of session.now (map {B = List ℕ × ℕ} (λ r. (r.name, r.code)) table.now.relations.items) watches.new) result }
+        (cut_watch (line_state_of session.now (named_relations table.now) watches.old) name.now (Ok slot))
+        (line_state_of session.now (named_relations table.now) watches.new) result }
+    ensures kept { KeptAs (cut_watch (line_state_of session.now (named_relations table.now) watches.old) name.now (Ok slot)).state
+        (line_state_of session.now (named_relations table.now) watches.old)
+        (line_state_of session.now (named_relations table.now) watches.new) result }
     ensures later { K.faults out.old ≤ K.faults out.new }
 {
     match unwatch(watches, table, name, slot) {
@@ -138,13 +139,13 @@ pub fn answer_unwatch<E: FactEngine, K: Sink>(
     out: &mut K,
 ) -> Progress
     ensures stepped { SteppedAs (K.taken out.old) (K.taken out.new) (K.faults out.old) (K.faults out.new)
-        (cut_watch (standing_of session.now (map {B = List ℕ × ℕ} (λ r. (r.name, r.code)) table.now.relations.items) watches.old) name.now
+        (cut_watch (line_state_of session.now (named_relations table.now) watches.old) name.now
         (slot_found (rules session.now.dict) session.now.timeline.now path.now))
-        (standing_of session.now (map {B = List ℕ × ℕ} (λ r. (r.name, r.code)) table.now.relations.items) watches.new) result }
-    ensures kept { KeptAs (cut_watch (standing_of session.now (map {B = List ℕ × ℕ} (λ r. (r.name, r.code)) table.now.relations.items) watches.old) name.now
+        (line_state_of session.now (named_relations table.now) watches.new) result }
+    ensures kept { KeptAs (cut_watch (line_state_of session.now (named_relations table.now) watches.old) name.now
         (slot_found (rules session.now.dict) session.now.timeline.now path.now)).state
-        (standing_of session.now (map {B = List ℕ × ℕ} (λ r. (r.name, r.code)) table.now.relations.items) watches.old)
-        (standing_of session.now (map {B = List ℕ × ℕ} (λ r. (r.name, r.code)) table.now.relations.items) watches.new) result }
+        (line_state_of session.now (named_relations table.now) watches.old)
+        (line_state_of session.now (named_relations table.now) watches.new) result }
     ensures later { K.faults out.old ≤ K.faults out.new }
 {
     match session.slot_of(path) {

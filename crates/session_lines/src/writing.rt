@@ -1,7 +1,7 @@
 // Writes texts, and tells how the script goes on behind them.
 ghost use Rattle.std.specs.Prelude.{◌≡◌, ◌≤◌};
 ghost use Rattle.graph_session.specs.Rules.{rules};
-ghost use Rattle.graph_session.specs.SessionView.{course};
+ghost use Rattle.graph_session.specs.SessionView.{session_state};
 ghost use Rattle.session_lines.specs.Answering.{RefusedAs, WrittenAs, progress_of};
 ghost use Rattle.session_lines.specs.Replies.{line_with, reply_text};
 
@@ -38,7 +38,7 @@ fn write_printed<E: FactEngine, K: Sink>(
     out: &mut K,
 ) -> Progress
     ensures written { WrittenAs (K.taken out.old) (K.taken out.new) (K.faults out.old) (K.faults out.new)
-        (line_with (reply_text (rules session.now.dict) (course session.now) reply)) result }
+        (line_with (reply_text (rules session.now.dict) (session_state session.now) reply)) result }
     ensures later { K.faults out.old ≤ K.faults out.new }
 {
     let mut line = Line::new();
@@ -54,7 +54,7 @@ pub fn write_reply<E: FactEngine, K: Sink>(
     out: &mut K,
 ) -> Progress
     ensures written { WrittenAs (K.taken out.old) (K.taken out.new) (K.faults out.old) (K.faults out.new)
-        (line_with (reply_text (rules session.now.dict) (course session.now) reply)) result }
+        (line_with (reply_text (rules session.now.dict) (session_state session.now) reply)) result }
     ensures later { K.faults out.old ≤ K.faults out.new }
 {
     match reply {

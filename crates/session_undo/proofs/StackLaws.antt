@@ -8,7 +8,7 @@ use Rattle.answers.specs.Change.{Change, applied, inverse}
 use Rattle.answers.specs.Meaning.{change}
 use Rattle.answers.specs.declared.edit.Edit.{Edit}
 use Rattle.session_undo.specs.History.{stack, first}
-use Rattle.session_undo.specs.Place.{moved}
+use Rattle.session_undo.specs.UndoState.{moved}
 
 first_reversed : (e : Edit) (es acc : List Edit) → first (map change (reverse_aux (e ∷ es) acc)) ≡ option_map change (slice_get (e ∷ es) (length es))
 first_reversed e [] acc = refl

@@ -6,7 +6,7 @@ use Rattle.answers.specs.WellFormed.{WellFormed}
 use Rattle.answers.proofs.ChangeLaws.{fits_inverse_undoes}
 use Rattle.answers.proofs.FitsLaws.{inverse_fits}
 use Rattle.answers.proofs.WellLaws.{applied_well}
-use Rattle.session_undo.specs.Place.{Place, moved, moved_back, moved_forth, turned, changed, FitInTurn, Kept}
+use Rattle.session_undo.specs.UndoState.{UndoState, moved, moved_back, moved_forth, turned, changed, FitInTurn, Kept}
 use Rattle.session_undo.specs.Timeline.{timeline, timeline_back, timeline_forth, timeline_change, timeline_turned, trace, back_to}
 
 -- one step along the changes
@@ -22,28 +22,28 @@ kept_back (c ∷ cs) a ds well (fits, rest) ahead =
     let back : applied (inverse c a) (applied c a) ≡ a = fits_inverse_undoes c a well fits in
     record { well = applied_well c a well fits; back = rest; ahead = (inverse_fits c a well fits, rw back ahead) }
 
-pub timeline_moved_back : (p : Place) → Kept p → timeline (moved_back p) ≡ timeline_back (timeline p)
+pub timeline_moved_back : (p : UndoState) → Kept p → timeline (moved_back p) ≡ timeline_back (timeline p)
 timeline_moved_back p k = back_timeline p.back p.now p.ahead k.well k.back
 
-pub kept_moved_back : (p : Place) → Kept p → Kept (moved_back p)
+pub kept_moved_back : (p : UndoState) → Kept p → Kept (moved_back p)
 kept_moved_back p k = kept_back p.back p.now p.ahead k.well k.back k.ahead
 
-kept_turned : (p : Place) → Kept p → Kept (turned p)
+kept_turned : (p : UndoState) → Kept p → Kept (turned p)
 kept_turned p k = record { well = k.well; back = k.ahead; ahead = k.back }
 
-pub timeline_moved_forth : (p : Place) → Kept p → timeline (moved_forth p) ≡ timeline_forth (timeline p)
+pub timeline_moved_forth : (p : UndoState) → Kept p → timeline (moved_forth p) ≡ timeline_forth (timeline p)
 timeline_moved_forth p k = ap timeline_turned (timeline_moved_back (turned p) (kept_turned p k))
 
-pub kept_moved_forth : (p : Place) → Kept p → Kept (moved_forth p)
+pub kept_moved_forth : (p : UndoState) → Kept p → Kept (moved_forth p)
 kept_moved_forth p k = kept_turned (moved_back (turned p)) (kept_moved_back (turned p) (kept_turned p k))
 
 -- a change
-pub timeline_changed : (p : Place) (c : Change) → Kept p → Fits c p.now → timeline (changed p c) ≡ timeline_change (timeline p) (applied c p.now)
+pub timeline_changed : (p : UndoState) (c : Change) → Kept p → Fits c p.now → timeline (changed p c) ≡ timeline_change (timeline p) (applied c p.now)
 timeline_changed p c k fits =
     let back : applied (inverse c p.now) (applied c p.now) ≡ p.now = fits_inverse_undoes c p.now k.well fits in
     rw back refl
 
-pub kept_changed : (p : Place) (c : Change) → Kept p → Fits c p.now → Kept (changed p c)
+pub kept_changed : (p : UndoState) (c : Change) → Kept p → Fits c p.now → Kept (changed p c)
 kept_changed p c k fits =
     let back : applied (inverse c p.now) (applied c p.now) ≡ p.now = fits_inverse_undoes c p.now k.well fits in
     record { well = applied_well c p.now k.well fits; back = (inverse_fits c p.now k.well fits, rw back k.back); ahead = tt }

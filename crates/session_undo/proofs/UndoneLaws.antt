@@ -5,20 +5,20 @@ use Rattle.answers.specs.Change.{Change, applied, inverse}
 use Rattle.answers.specs.WellFormed.{WellFormed}
 use Rattle.answers.proofs.ChangeLaws.{fits_inverse_undoes}
 use Rattle.answers.proofs.WellLaws.{applied_well}
-use Rattle.session_undo.specs.Place.{Place, moved_back, moved_forth, changed, made, undone, redone, FitInTurn, Kept}
+use Rattle.session_undo.specs.UndoState.{UndoState, moved_back, moved_forth, changed, made, undone, redone, FitInTurn, Kept}
 use Rattle.session_undo.specs.Timeline.{Timeline, timeline, timeline_back, timeline_forth, trace}
 use Rattle.session_undo.proofs.TimelineLaws.{timeline_moved_back, kept_moved_back, timeline_moved_forth, kept_moved_forth, kept_changed}
 
 -- the last of some steps back
-undone_last : (n : ℕ) (p : Place) → undone (suc n) p ≡ moved_back (undone n p)
+undone_last : (n : ℕ) (p : UndoState) → undone (suc n) p ≡ moved_back (undone n p)
 undone_last zero p = refl
 undone_last (suc n) p = undone_last n (moved_back p)
 
 -- one step back over a change, whatever lies ahead
-step_back : (r p : Place) (c : Change) → r.now ≡ applied c p.now → r.back ≡ inverse c p.now ∷ p.back → applied (inverse c p.now) (applied c p.now) ≡ p.now → ((moved_back r).now ≡ p.now) × ((moved_back r).back ≡ p.back)
+step_back : (r p : UndoState) (c : Change) → r.now ≡ applied c p.now → r.back ≡ inverse c p.now ∷ p.back → applied (inverse c p.now) (applied c p.now) ≡ p.now → ((moved_back r).now ≡ p.now) × ((moved_back r).back ≡ p.back)
 step_back r p c now back undoes = rw (now, back) (undoes, refl)
 
-pub undone_made : (cs : List Change) (p : Place) → WellFormed p.now → FitInTurn cs p.now → ((undone (length cs) (made cs p)).now ≡ p.now) × ((undone (length cs) (made cs p)).back ≡ p.back)
+pub undone_made : (cs : List Change) (p : UndoState) → WellFormed p.now → FitInTurn cs p.now → ((undone (length cs) (made cs p)).now ≡ p.now) × ((undone (length cs) (made cs p)).back ≡ p.back)
 undone_made [] p well fit = (refl, refl)
 undone_made (c ∷ cs) p well (fits, rest) =
     let q = changed p c in
@@ -34,16 +34,16 @@ steps_forth : ℕ → Timeline → Timeline
 steps_forth zero t = t
 steps_forth (suc n) t = steps_forth n (timeline_forth t)
 
-kept_undone : (n : ℕ) (p : Place) → Kept p → Kept (undone n p)
+kept_undone : (n : ℕ) (p : UndoState) → Kept p → Kept (undone n p)
 kept_undone zero p k = k
 kept_undone (suc n) p k = kept_undone n (moved_back p) (kept_moved_back p k)
 
-timeline_undone : (n : ℕ) (p : Place) → Kept p → timeline (undone n p) ≡ steps_back n (timeline p)
+timeline_undone : (n : ℕ) (p : UndoState) → Kept p → timeline (undone n p) ≡ steps_back n (timeline p)
 unfolding steps_back
 timeline_undone zero p k = refl
 timeline_undone (suc n) p k = timeline_undone n (moved_back p) (kept_moved_back p k) ∙ ap (steps_back n) (timeline_moved_back p k)
 
-timeline_redone : (n : ℕ) (p : Place) → Kept p → timeline (redone n p) ≡ steps_forth n (timeline p)
+timeline_redone : (n : ℕ) (p : UndoState) → Kept p → timeline (redone n p) ≡ steps_forth n (timeline p)
 unfolding steps_forth
 timeline_redone zero p k = refl
 timeline_redone (suc n) p k = timeline_redone n (moved_forth p) (kept_moved_forth p k) ∙ ap (steps_forth n) (timeline_moved_forth p k)
@@ -66,15 +66,15 @@ trace_length : (cs : List Change) (a : Answered) → length (trace cs a) ≡ len
 trace_length [] a = refl
 trace_length (c ∷ cs) a = ap suc (trace_length cs (applied c a))
 
-made_length : (cs : List Change) (p : Place) → length (made cs p).back ≡ length cs + length p.back
+made_length : (cs : List Change) (p : UndoState) → length (made cs p).back ≡ length cs + length p.back
 made_length [] p = omega arith
 made_length (c ∷ cs) p = let rest : length (made cs (changed p c)).back ≡ length cs + length (changed p c).back = made_length cs (changed p c) in omega arith
 
-kept_made : (cs : List Change) (p : Place) → Kept p → FitInTurn cs p.now → Kept (made cs p)
+kept_made : (cs : List Change) (p : UndoState) → Kept p → FitInTurn cs p.now → Kept (made cs p)
 kept_made [] p k fit = k
 kept_made (c ∷ cs) p k (fits, rest) = kept_made cs (changed p c) (kept_changed p c k fits) rest
 
-pub redone_made : (cs : List Change) (p : Place) → Kept p → FitInTurn cs p.now → (redone (length cs) (undone (length cs) (made cs p))).now ≡ (made cs p).now
+pub redone_made : (cs : List Change) (p : UndoState) → Kept p → FitInTurn cs p.now → (redone (length cs) (undone (length cs) (made cs p))).now ≡ (made cs p).now
 redone_made cs p k fit =
     let n = length cs in
     let q = made cs p in

@@ -6,7 +6,7 @@ use Rattle.answers.specs.Meaning.{answered, change}
 use Rattle.answers.specs.Room.{HasRoom}
 use Rattle.answers.specs.declared.parts.Parts.{Parts}
 use Rattle.answers.specs.declared.edit.Edit.{Edit}
-use Rattle.session_undo.specs.Place.{Place}
+use Rattle.session_undo.specs.UndoState.{UndoState}
 use Rattle.session_undo.specs.declared.history.History.{History}
 
 -- the changes of edits that were pushed, the newest first
@@ -20,7 +20,7 @@ behind h = stack h.back.items
 abbrev pub ahead_of : History → List Change
 ahead_of h = stack h.ahead.items
 
-abbrev pub place : History → Parts → Place
+abbrev pub place : History → Parts → UndoState
 place h a = record { back = behind h; now = answered a; ahead = ahead_of h }
 
 abbrev pub first : List Change → Option Change

@@ -2,35 +2,35 @@
 use Rattle.std.specs.Prelude.{◌≡◌, List, length}
 use Rattle.answers.specs.Change.{Change, Fits, applied}
 use Rattle.answers.specs.WellFormed.{WellFormed}
-use Rattle.session_undo.specs.Place.{Place, moved_back, moved_forth, changed, made, undone, redone, FitInTurn, Kept}
+use Rattle.session_undo.specs.UndoState.{UndoState, moved_back, moved_forth, changed, made, undone, redone, FitInTurn, Kept}
 use Rattle.session_undo.specs.Timeline.{timeline, timeline_back, timeline_forth, timeline_change}
 
 -- n changes that fit in turn, and n steps back: the answers before them, and the changes that led back from those
 abbrev pub UndoneIsBefore : Type 0
-UndoneIsBefore = (cs : List Change) (p : Place) → WellFormed p.now → FitInTurn cs p.now → (undone (length cs) (made cs p)).now ≡ p.now
+UndoneIsBefore = (cs : List Change) (p : UndoState) → WellFormed p.now → FitInTurn cs p.now → (undone (length cs) (made cs p)).now ≡ p.now
 
 abbrev pub UndoneKeepsEarlier : Type 0
-UndoneKeepsEarlier = (cs : List Change) (p : Place) → WellFormed p.now → FitInTurn cs p.now → (undone (length cs) (made cs p)).back ≡ p.back
+UndoneKeepsEarlier = (cs : List Change) (p : UndoState) → WellFormed p.now → FitInTurn cs p.now → (undone (length cs) (made cs p)).back ≡ p.back
 
 -- and n steps forth: the answers after them
 abbrev pub RedoneIsAfter : Type 0
-RedoneIsAfter = (cs : List Change) (p : Place) → Kept p → FitInTurn cs p.now → (redone (length cs) (undone (length cs) (made cs p))).now ≡ (made cs p).now
+RedoneIsAfter = (cs : List Change) (p : UndoState) → Kept p → FitInTurn cs p.now → (redone (length cs) (undone (length cs) (made cs p))).now ≡ (made cs p).now
 
 -- steps over changes are steps over whole answers
 abbrev pub BackIsOverAnswers : Type 0
-BackIsOverAnswers = (p : Place) → Kept p → timeline (moved_back p) ≡ timeline_back (timeline p)
+BackIsOverAnswers = (p : UndoState) → Kept p → timeline (moved_back p) ≡ timeline_back (timeline p)
 
 abbrev pub ForthIsOverAnswers : Type 0
-ForthIsOverAnswers = (p : Place) → Kept p → timeline (moved_forth p) ≡ timeline_forth (timeline p)
+ForthIsOverAnswers = (p : UndoState) → Kept p → timeline (moved_forth p) ≡ timeline_forth (timeline p)
 
 abbrev pub ChangeIsOverAnswers : Type 0
-ChangeIsOverAnswers = (p : Place) (c : Change) → Kept p → Fits c p.now → timeline (changed p c) ≡ timeline_change (timeline p) (applied c p.now)
+ChangeIsOverAnswers = (p : UndoState) (c : Change) → Kept p → Fits c p.now → timeline (changed p c) ≡ timeline_change (timeline p) (applied c p.now)
 
 abbrev pub BackKeeps : Type 0
-BackKeeps = (p : Place) → Kept p → Kept (moved_back p)
+BackKeeps = (p : UndoState) → Kept p → Kept (moved_back p)
 
 abbrev pub ForthKeeps : Type 0
-ForthKeeps = (p : Place) → Kept p → Kept (moved_forth p)
+ForthKeeps = (p : UndoState) → Kept p → Kept (moved_forth p)
 
 abbrev pub ChangeKeeps : Type 0
-ChangeKeeps = (p : Place) (c : Change) → Kept p → Fits c p.now → Kept (changed p c)
+ChangeKeeps = (p : UndoState) (c : Change) → Kept p → Fits c p.now → Kept (changed p c)

@@ -1,4 +1,5 @@
+pub mod Directions
 pub mod History
 pub mod Laws
-pub mod Place
+pub mod UndoState
 pub mod Timeline

@@ -2,7 +2,7 @@
 use Rattle.std.specs.Prelude.{List, [], ◌∷◌}
 use Rattle.answers.specs.Answered.{Answered}
 use Rattle.answers.specs.Change.{Change, applied}
-use Rattle.session_undo.specs.Place.{Place}
+use Rattle.session_undo.specs.UndoState.{UndoState}
 
 -- the answers before the place, the nearest first; those at the place; and those after it, the nearest first
 pub record Timeline : Type 0 where
@@ -36,5 +36,5 @@ trace [] a = []
 trace (c ∷ cs) a = applied c a ∷ trace cs (applied c a)
 
 -- the list of whole answers that a place stands for: nothing but the changes is kept of it
-abbrev pub timeline : Place → Timeline
+abbrev pub timeline : UndoState → Timeline
 timeline p = record { before = trace p.back p.now; now = p.now; after = trace p.ahead p.now }

@@ -1,11 +1,13 @@
 // The edits that lead back, and those that lead forth again.
-ghost use Rattle.std.specs.Prelude.{◌≡◌, ◌<◌, ◌↔◌, [], ◌∷◌, OnOk, OnErr, IfErr, IsOk, vec_len, vec_capacity, option_map, if◌then◌else◌};
+ghost use Rattle.std.specs.Prelude.{◌≡◌, ◌<◌, ◌↔◌, [], ◌∷◌, OnOk, OnErr, IfErr, IsOk, vec_len, vec_capacity, option_map};
 ghost use Rattle.std.specs.declared.result.Result.TheVariants.{Err};
 ghost use Rattle.answers.specs.Meaning.{answered, change};
-ghost use Rattle.session_undo.specs.Place.{moved, moved_back, moved_forth};
+ghost use Rattle.session_undo.specs.UndoState.{moved, moved_back, moved_forth};
+ghost use Rattle.session_undo.specs.Directions.{changes_of, reversed};
 ghost use Rattle.session_undo.specs.History.{stack, behind, ahead_of, place, first, NewestFits, NewestRoom, RoomAhead, CanPush, CanBack, CanForth};
 ghost use Rattle.session_undo.specs.declared.refusal.UndoRefusal.TheVariants.{NothingToUndo, NothingToRedo};
 
+use crate::direction::Direction;
 use crate::refusal::UndoRefusal;
 use answers::{Answers, Edit, Unapplied};
 use fact_values::NoMemory;
@@ -64,14 +66,13 @@ impl History {
         }
     }
 
-    /// The newest edit that leads forth, or back.
-    pub fn newest(&self, ahead: bool) -> Option<&Edit>
-        ensures { option_map (λ e. change e.now) result ≡ first (if ahead then ahead_of self.now else behind self.now) }
+    /// The edit that leads back over a step in this direction that was just made.
+    pub fn returning(&self, direction: Direction) -> Option<&Edit>
+        ensures { option_map (λ e. change e.now) result ≡ first (changes_of (reversed direction) self.now) }
     {
-        if ahead {
-            last(&self.ahead)
-        } else {
-            last(&self.back)
+        match direction {
+            Direction::Back => last(&self.ahead),
+            Direction::Forth => last(&self.back),
         }
     }
 

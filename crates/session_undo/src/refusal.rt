@@ -1,3 +1,4 @@
+// Why nothing is undone or redone.
 /// Why nothing was undone or redone.
 #[derive(Clone, Copy, Debug, Drop, PartialEq, Eq)]
 pub enum UndoRefusal {

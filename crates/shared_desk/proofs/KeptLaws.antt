@@ -11,30 +11,30 @@ use Rattle.dictionary.specs.Slots.{slot_same}
 use Rattle.graph_session.specs.Naming.{slot_of}
 use Rattle.graph_session.specs.Refusals.{first_of as first_session, slot_found, slot_refusals}
 use Rattle.graph_session.specs.Rules.{rules, tree_of}
-use Rattle.graph_session.specs.SessionView.{SessionView, begun, course, start_at}
+use Rattle.graph_session.specs.SessionView.{SessionView, begun, session_state, start_at}
 use Rattle.graph_session.specs.declared.reply.Refusal.{Refusal}
 use Rattle.graph_session.specs.Step.{is_change}
 use Rattle.graph_session.proofs.StepLaws.{decided_ok}
 use Rattle.shared_desk.specs.Desk.{appends, desk_begun, is_shown, place_of, shown}
 use Rattle.shared_desk.specs.DeskView.{DeskView, Keeps, StandsFor, rules_of}
-use Rattle.shared_desk.specs.Looks.{Key, key_of, look_in, same_key}
-use Rattle.shared_desk.proofs.LookLaws.{zero_first}
+use Rattle.shared_desk.specs.LastSeen.{Key, key_of, look_in, same_key}
+use Rattle.shared_desk.proofs.LastSeenLaws.{zero_first}
 use Rattle.shared_desk.proofs.OrderLaws.{order_begun}
 use Rattle.shared_desk.proofs.StampLaws.{stamp_begun}
 use Rattle.shared_desk.proofs.StepLaws.{shows_appends_none, shows_no_change}
 
 pub stands_begun : (k : Kept) (a : Answered) (v : DeskView) (stamps : Bool) → v.session ≡ start_at k a stamps → stamps ≡ true → v.changers ≡ [] → v.entries ≡ [] → v.asked ≡ [] → StandsFor v (desk_begun (rules k) a)
-stands_begun k a v stamps e kept_stamps no_changers no_entries no_looks = record {
+stands_begun k a v stamps e kept_stamps no_changers no_entries nothing_seen = record {
   orderly = order_begun (rules k) a;
-  course = ap course e ∙ ap (begun (accepted k) a) kept_stamps;
+  session_state = ap session_state e ∙ ap (begun (accepted k) a) kept_stamps;
   changers = no_changers;
   entries = no_entries;
-  kept = λ p s. let none = no_look p s in omega (arith, none);
-  looks = λ p s. zero_first _ 0 (look_in v.asked p s) _ (stamp_begun (accepted k) a s);
+  kept = λ p s. let none = no_results p s in omega (arith, none);
+  last_seen = λ p s. zero_first _ 0 (look_in v.asked p s) _ (stamp_begun (accepted k) a s);
 }
   where
-    no_look : (p : ℕ) (s : Slot) → look_in v.asked p s ≡ 0
-    no_look p s = ap (λ l. look_in l p s) no_looks
+    no_results : (p : ℕ) (s : Slot) → look_in v.asked p s ≡ 0
+    no_results p s = ap (λ l. look_in l p s) nothing_seen
 
 -- ---- a look
 
@@ -45,8 +45,8 @@ pub show_keeps : (v : DeskView) (w : SessionView) (p : ℕ) (c : Command) (path 
     → Keeps v p c (record { session = w; changers = v.changers; entries = v.entries; asked = asked })
 show_keeps v w p c path s asked number is found now put = record {
   changers = sym (ap (λ (b : Bool). if b then v.changers ++ p ∷ [] else v.changers) none);
-  entries = sym (ap (λ (b : Bool). if b then take (place_of (course v.session)) v.entries ++ p ∷ [] else v.entries) (shows_appends_none c path is));
-  looks = λ q t. put q t ∙ (λ i. if at q t i then now i else look_in v.asked q t);
+  entries = sym (ap (λ (b : Bool). if b then take (place_of (session_state v.session)) v.entries ++ p ∷ [] else v.entries) (shows_appends_none c path is));
+  last_seen = λ q t. put q t ∙ (λ i. if at q t i then now i else look_in v.asked q t);
 }
   where
     none : is_change c ≡ false

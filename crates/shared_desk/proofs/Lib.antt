@@ -2,7 +2,7 @@ pub mod AfterLaws
 pub mod Changers
 pub mod FitLaws
 pub mod KeptLaws
-pub mod LookLaws
+pub mod LastSeenLaws
 pub mod OrderLaws
 pub mod PartyLaws
 pub mod SeenLaws

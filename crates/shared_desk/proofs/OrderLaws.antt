@@ -12,31 +12,31 @@ use Rattle.shared_desk.specs.Desk.{Desk, desk_after, desk_begun, is_shown, is_to
 use Rattle.shared_desk.specs.DeskView.{IsOrderly}
 use Rattle.shared_desk.proofs.AfterLaws.{after_by, after_change, after_question}
 use Rattle.shared_desk.proofs.Changers.{one_more}
-use Rattle.shared_desk.proofs.LookLaws.{looked_high, looked_low, own_changed, stamp_low}
+use Rattle.shared_desk.proofs.LastSeenLaws.{looked_high, looked_low, own_changed, stamp_low}
 use Rattle.shared_desk.proofs.StampLaws.{StampAfter, stamp_after, stamp_begun}
 
 -- ---- a desk stays in order
 
 module _ (r : Rules) (d : Desk) (p : ℕ) (c : Command) (o : IsOrderly d) where
-  pub touch_at : (to : Timeline) (s : Slot) → StampAfter (d.course.changes + 1) (stamp_of d.course.counts s) (is_touched r.accepted d.course.timeline.now to.now s) (stamp_of (moved r.accepted d.course to).counts s)
-  touch_at to s = stamp_after r d.course to o.counted.0 o.counted.1 s
+  pub touch_at : (to : Timeline) (s : Slot) → StampAfter (d.session_state.changes + 1) (stamp_of d.session_state.counts s) (is_touched r.accepted d.session_state.timeline.now to.now s) (stamp_of (moved r.accepted d.session_state to).counts s)
+  touch_at to s = stamp_after r d.session_state to o.counted.0 o.counted.1 s
 
-  order_changed : (to : Timeline) → IsOrderly (after_by r d p c true (moved r.accepted d.course to))
+  order_changed : (to : Timeline) → IsOrderly (after_by r d p c true (moved r.accepted d.session_state to))
   order_changed to = record {
-    counted = (_, ap (option_map (next_counts r.accepted d.course.timeline.now to.now (d.course.changes + 1))) o.counted.1);
-    numbered = one_more d.changers p d.course.changes o.numbered;
-    stamps = λ s. stamp_low d.course.changes (stamp_of d.course.counts s) _ (is_touched r.accepted d.course.timeline.now to.now s) (o.stamps s) (touch_at to s);
-    looks = λ q s. looked_low (nat_eq q p && is_touched r.accepted d.course.timeline.now to.now s) (d.course.changes + 1) (d.looks q s) (d.course.changes + 1) (omega arith) (let low = o.looks q s in omega (arith, low));
-    own = λ q s. own_changed d.course.changes p d.changers o.numbered q (stamp_of d.course.counts s) _ (d.looks q s) (is_touched r.accepted d.course.timeline.now to.now s) (o.stamps s) (o.own q s) (touch_at to s);
+    counted = (_, ap (option_map (next_counts r.accepted d.session_state.timeline.now to.now (d.session_state.changes + 1))) o.counted.1);
+    numbered = one_more d.changers p d.session_state.changes o.numbered;
+    stamps = λ s. stamp_low d.session_state.changes (stamp_of d.session_state.counts s) _ (is_touched r.accepted d.session_state.timeline.now to.now s) (o.stamps s) (touch_at to s);
+    last_seen = λ q s. looked_low (nat_eq q p && is_touched r.accepted d.session_state.timeline.now to.now s) (d.session_state.changes + 1) (d.last_seen q s) (d.session_state.changes + 1) (omega arith) (let low = o.last_seen q s in omega (arith, low));
+    own = λ q s. own_changed d.session_state.changes p d.changers o.numbered q (stamp_of d.session_state.counts s) _ (d.last_seen q s) (is_touched r.accepted d.session_state.timeline.now to.now s) (o.stamps s) (o.own q s) (touch_at to s);
   }
 
-  order_asked : IsOrderly (after_by r d p c false d.course)
+  order_asked : IsOrderly (after_by r d p c false d.session_state)
   order_asked = record {
     counted = o.counted;
     numbered = o.numbered;
     stamps = o.stamps;
-    looks = λ q s. looked_low (nat_eq q p && is_shown (tree_of r) (shown c) s) d.course.changes (d.looks q s) d.course.changes (omega arith) (o.looks q s);
-    own = λ q s h. looked_high (nat_eq q p && is_shown (tree_of r) (shown c) s) d.course.changes (d.looks q s) (stamp_of d.course.counts s) (o.stamps s) (o.own q s h);
+    last_seen = λ q s. looked_low (nat_eq q p && is_shown (tree_of r) (shown c) s) d.session_state.changes (d.last_seen q s) d.session_state.changes (omega arith) (o.last_seen q s);
+    own = λ q s h. looked_high (nat_eq q p && is_shown (tree_of r) (shown c) s) d.session_state.changes (d.last_seen q s) (stamp_of d.session_state.counts s) (o.stamps s) (o.own q s h);
   }
 
   pub order_stays : IsOrderly (desk_after r d p c)
@@ -53,6 +53,6 @@ order_begun r a = record {
   counted = (_, refl);
   numbered = refl;
   stamps = λ s. let none = stamp_begun r.accepted a s in omega (arith, none);
-  looks = λ p s. omega arith;
+  last_seen = λ p s. omega arith;
   own = λ p s h. let none = stamp_begun r.accepted a s in omega (arith, none);
 }

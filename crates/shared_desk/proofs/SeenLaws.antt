@@ -45,7 +45,7 @@ use Rattle.shared_desk.specs.declared.refusal.DeskRefusal.TheVariants.{NotYours,
 use Rattle.shared_desk.proofs.AfterLaws.{after_by, after_change, after_question}
 use Rattle.common_lemmas.proofs.Lists.{get_last, get_left}
 use Rattle.shared_desk.proofs.Changers.{one_more}
-use Rattle.shared_desk.proofs.FitLaws.{course_fits}
+use Rattle.shared_desk.proofs.FitLaws.{session_state_fits}
 use Rattle.shared_desk.proofs.OrderLaws.{order_begun, order_stays}
 use Rattle.shared_desk.proofs.PartyLaws.{accepted_line}
 use Rattle.shared_desk.proofs.StampLaws.{listed_after}
@@ -80,23 +80,23 @@ untouched_same names d is a b before after s here h =
       result = untouched_keeps names d is a b before after s here h;
     }
 
--- ---- what is told of the answers that were passed
+-- ---- what is recorded of the answers that were passed
 
 module _ (r : Rules) (is : IsAccepted (names_of r.checks) r.accepted) where
   -- after so many changes the slot had what it has now
   abbrev FoundAt : Desk → List Answered → Slot → ℕ → Type 0
-  FoundAt d all s k = (x : Answered) × ((slice_get all k ≡ Some x) × SameAt r.accepted x d.course.timeline.now s)
+  FoundAt d all s k = (x : Answered) × ((slice_get all k ≡ Some x) × SameAt r.accepted x d.session_state.timeline.now s)
 
   -- the answers at the start and after each change: since it was last touched, a slot has what it has now
-  record IsTold (d : Desk) (all : List Answered) : Type 0 where
+  record IsRecorded (d : Desk) (all : List Answered) : Type 0 where
     orderly : IsOrderly d
-    fit : AllFit (tree_of r) d.course.timeline
-    numbered : length all ≡ d.course.changes + 1
-    now : slice_get all d.course.changes ≡ Some d.course.timeline.now
-    same : (s : Slot) → IsTrue (stands (tree_of r) d.course.timeline.now s) → (k : ℕ) → stamp_of d.course.counts s ≤ k → k ≤ d.course.changes → FoundAt d all s k
+    fit : AllFit (tree_of r) d.session_state.timeline
+    numbered : length all ≡ d.session_state.changes + 1
+    now : slice_get all d.session_state.changes ≡ Some d.session_state.timeline.now
+    same : (s : Slot) → IsTrue (stands (tree_of r) d.session_state.timeline.now s) → (k : ℕ) → stamp_of d.session_state.counts s ≤ k → k ≤ d.session_state.changes → FoundAt d all s k
 
-  told_begun : (a : Answered) → AnswersFit (tree_of r) a → IsTold (desk_begun r a) (a ∷ [])
-  told_begun a fit = record {
+  recorded_begun : (a : Answered) → AnswersFit (tree_of r) a → IsRecorded (desk_begun r a) (a ∷ [])
+  recorded_begun a fit = record {
     orderly = order_begun r a;
     fit = fit_start (tree_of r) a fit;
     numbered = refl;
@@ -106,98 +106,98 @@ module _ (r : Rules) (is : IsAccepted (names_of r.checks) r.accepted) where
         (a, (ap (slice_get (a ∷ [])) first, same_itself r.accepted a s));
   }
 
-  module _ (d : Desk) (all : List Answered) (p : ℕ) (c : Command) (told : IsTold d all) where
-    told_asked : IsOrderly (after_by r d p c false d.course) → IsTold (after_by r d p c false d.course) (all ++ [])
-    told_asked orderly = record {
+  module _ (d : Desk) (all : List Answered) (p : ℕ) (c : Command) (recorded : IsRecorded d all) where
+    recorded_asked : IsOrderly (after_by r d p c false d.session_state) → IsRecorded (after_by r d p c false d.session_state) (all ++ [])
+    recorded_asked orderly = record {
       orderly = orderly;
-      fit = told.fit;
-      numbered = ap length (append-nil all) ∙ told.numbered;
-      now = ap (λ xs. slice_get xs d.course.changes) (append-nil all) ∙ told.now;
-      same = λ s here k high low. let found = told.same s here k high low in (found.0, (ap (λ xs. slice_get xs k) (append-nil all) ∙ found.1.0, found.1.1));
+      fit = recorded.fit;
+      numbered = ap length (append-nil all) ∙ recorded.numbered;
+      now = ap (λ xs. slice_get xs d.session_state.changes) (append-nil all) ∙ recorded.now;
+      same = λ s here k high low. let found = recorded.same s here k high low in (found.0, (ap (λ xs. slice_get xs k) (append-nil all) ∙ found.1.0, found.1.1));
     }
 
     module _ (to : Timeline) (fit : AllFit (tree_of r) to) where
       -- a slot that stands and isn't touched
-      found_before : (s : Slot) → IsTrue (stands (tree_of r) to.now s) → touches r.accepted d.course.timeline.now to.now s ≡ false
-          → (k : ℕ) → stamp_of d.course.counts s ≤ k → k ≤ d.course.changes → (x : Answered) × ((slice_get (all ++ to.now ∷ []) k ≡ Some x) × SameAt r.accepted x to.now s)
+      found_before : (s : Slot) → IsTrue (stands (tree_of r) to.now s) → touches r.accepted d.session_state.timeline.now to.now s ≡ false
+          → (k : ℕ) → stamp_of d.session_state.counts s ≤ k → k ≤ d.session_state.changes → (x : Answered) × ((slice_get (all ++ to.now ∷ []) k ≡ Some x) × SameAt r.accepted x to.now s)
       found_before s here h k high low =
-          let count = told.numbered in
-          let found = told.same s (untouched_stood r.accepted d.course.timeline.now to.now s h).0 k high low in (
+          let count = recorded.numbered in
+          let found = recorded.same s (untouched_stood r.accepted d.session_state.timeline.now to.now s h).0 k high low in (
             found.0,
             (
               get_left all (to.now ∷ []) k (omega (arith, low, count)) ∙ found.1.0,
-              same_on r.accepted found.0 d.course.timeline.now to.now s found.1.1 (untouched_same (names_of r.checks) r.accepted is d.course.timeline.now to.now told.fit.now fit.now s here h),
+              same_on r.accepted found.0 d.session_state.timeline.now to.now s found.1.1 (untouched_same (names_of r.checks) r.accepted is d.session_state.timeline.now to.now recorded.fit.now fit.now s here h),
             ),
           )
 
-      found_last : (s : Slot) (k : ℕ) → k ≡ d.course.changes + 1 → (x : Answered) × ((slice_get (all ++ to.now ∷ []) k ≡ Some x) × SameAt r.accepted x to.now s)
-      found_last s k e = (to.now, (ap (slice_get (all ++ to.now ∷ [])) (e ∙ sym told.numbered) ∙ get_last all to.now, same_itself r.accepted to.now s))
+      found_last : (s : Slot) (k : ℕ) → k ≡ d.session_state.changes + 1 → (x : Answered) × ((slice_get (all ++ to.now ∷ []) k ≡ Some x) × SameAt r.accepted x to.now s)
+      found_last s k e = (to.now, (ap (slice_get (all ++ to.now ∷ [])) (e ∙ sym recorded.numbered) ∙ get_last all to.now, same_itself r.accepted to.now s))
 
-      found_there : (s : Slot) → IsTrue (stands (tree_of r) to.now s) → (k : ℕ) → stamp_of (moved r.accepted d.course to).counts s ≤ k → k ≤ d.course.changes + 1
+      found_there : (s : Slot) → IsTrue (stands (tree_of r) to.now s) → (k : ℕ) → stamp_of (moved r.accepted d.session_state to).counts s ≤ k → k ≤ d.session_state.changes + 1
           → (x : Answered) × ((slice_get (all ++ to.now ∷ []) k ≡ Some x) × SameAt r.accepted x to.now s)
-      found_there s here k high low = earlier (nat_le k d.course.changes) refl
+      found_there s here k high low = earlier (nat_le k d.session_state.changes) refl
         where
-          stamp_is : (t : Bool) → touches r.accepted d.course.timeline.now to.now s ≡ t → stamp_of (moved r.accepted d.course to).counts s ≡ if t then d.course.changes + 1 else stamp_in told.orderly.counted.0.stamps s
-          stamp_is t e = listed_after r d.course to told.orderly.counted.0 told.orderly.counted.1 s here t e
+          stamp_is : (t : Bool) → touches r.accepted d.session_state.timeline.now to.now s ≡ t → stamp_of (moved r.accepted d.session_state to).counts s ≡ if t then d.session_state.changes + 1 else stamp_in recorded.orderly.counted.0.stamps s
+          stamp_is t e = listed_after r d.session_state to recorded.orderly.counted.0 recorded.orderly.counted.1 s here t e
 
-          touched_or : (t : Bool) → touches r.accepted d.course.timeline.now to.now s ≡ t → k ≤ d.course.changes → (x : Answered) × ((slice_get (all ++ to.now ∷ []) k ≡ Some x) × SameAt r.accepted x to.now s)
+          touched_or : (t : Bool) → touches r.accepted d.session_state.timeline.now to.now s ≡ t → k ≤ d.session_state.changes → (x : Answered) × ((slice_get (all ++ to.now ∷ []) k ≡ Some x) × SameAt r.accepted x to.now s)
           touched_or true e f = let n = stamp_is true e in absurd (omega (arith, n, f, high))
           touched_or false e f =
               let n = stamp_is false e in
-              let before : stamp_of d.course.counts s ≡ stamp_in told.orderly.counted.0.stamps s = ap (λ o. stamp_of o s) told.orderly.counted.1 in
+              let before : stamp_of d.session_state.counts s ≡ stamp_in recorded.orderly.counted.0.stamps s = ap (λ o. stamp_of o s) recorded.orderly.counted.1 in
               found_before s here e k (omega (arith, n, before, high)) f
 
-          earlier : (b : Bool) → nat_le k d.course.changes ≡ b → (x : Answered) × ((slice_get (all ++ to.now ∷ []) k ≡ Some x) × SameAt r.accepted x to.now s)
-          earlier true e = touched_or (touches r.accepted d.course.timeline.now to.now s) refl (leb-true k d.course.changes e)
-          earlier false e = let more = leb-false k d.course.changes e in found_last s k (omega (arith, more, low))
+          earlier : (b : Bool) → nat_le k d.session_state.changes ≡ b → (x : Answered) × ((slice_get (all ++ to.now ∷ []) k ≡ Some x) × SameAt r.accepted x to.now s)
+          earlier true e = touched_or (touches r.accepted d.session_state.timeline.now to.now s) refl (leb-true k d.session_state.changes e)
+          earlier false e = let more = leb-false k d.session_state.changes e in found_last s k (omega (arith, more, low))
 
-      told_changed : IsOrderly (after_by r d p c true (moved r.accepted d.course to)) → IsTold (after_by r d p c true (moved r.accepted d.course to)) (all ++ to.now ∷ [])
-      told_changed orderly = record {
+      recorded_changed : IsOrderly (after_by r d p c true (moved r.accepted d.session_state to)) → IsRecorded (after_by r d p c true (moved r.accepted d.session_state to)) (all ++ to.now ∷ [])
+      recorded_changed orderly = record {
         orderly = orderly;
         fit = fit;
-        numbered = one_more all to.now (d.course.changes + 1) told.numbered;
-        now = ap (slice_get (all ++ to.now ∷ [])) (sym told.numbered) ∙ get_last all to.now;
+        numbered = one_more all to.now (d.session_state.changes + 1) recorded.numbered;
+        now = ap (slice_get (all ++ to.now ∷ [])) (sym recorded.numbered) ∙ get_last all to.now;
         same = found_there;
       }
 
     -- after one that is a change, or isn't
     abbrev Passes : Bool → Desk → Type 0
-    Passes b y = IsTold y (all ++ (if b then y.course.timeline.now ∷ [] else []))
+    Passes b y = IsRecorded y (all ++ (if b then y.session_state.timeline.now ∷ [] else []))
 
     -- an accepted line
-    told_on : (x : Reply × Desk) → desk_step r d p c ≡ Ok x → IsTold x.1 (all ++ led_to c (Ok x))
-    told_on x e = subst (Passes (is_change c)) (sym line.1.0) (at (is_change c) refl)
+    recorded_on : (x : Reply × Desk) → desk_step r d p c ≡ Ok x → IsRecorded x.1 (all ++ led_to c (Ok x))
+    recorded_on x e = subst (Passes (is_change c)) (sym line.1.0) (at (is_change c) refl)
       where
-        line : (early r d p c ≡ None) × ((x.1 ≡ desk_after r d p c) × (step r d.course c ≡ Ok (x.0, x.1.course)))
+        line : (early r d p c ≡ None) × ((x.1 ≡ desk_after r d p c) × (step r d.session_state c ≡ Ok (x.0, x.1.session_state)))
         line = accepted_line r d p c x e
 
         orderly : IsOrderly (desk_after r d p c)
-        orderly = order_stays r d p c told.orderly
+        orderly = order_stays r d p c recorded.orderly
 
-        fit : AllFit (tree_of r) (desk_after r d p c).course.timeline
-        fit = course_fits r is d.course c told.fit (accepted_step r d.course x.1.course c x.0 line.1.1).0
+        fit : AllFit (tree_of r) (desk_after r d p c).session_state.timeline
+        fit = session_state_fits r is d.session_state c recorded.fit (accepted_step r d.session_state x.1.session_state c x.0 line.1.1).0
 
         at : (b : Bool) → is_change c ≡ b → Passes (is_change c) (desk_after r d p c)
         at true f =
             let to = after_change r d p c f in
-            subst (λ (b : Bool). Passes b (desk_after r d p c)) (sym f) (subst (Passes true) (sym to.1) (told_changed to.0 (subst (λ (y : Desk). AllFit (tree_of r) y.course.timeline) to.1 fit) (subst IsOrderly to.1 orderly)))
+            subst (λ (b : Bool). Passes b (desk_after r d p c)) (sym f) (subst (Passes true) (sym to.1) (recorded_changed to.0 (subst (λ (y : Desk). AllFit (tree_of r) y.session_state.timeline) to.1 fit) (subst IsOrderly to.1 orderly)))
         at false f =
             let same = after_question r d p c f in
-            subst (λ (b : Bool). Passes b (desk_after r d p c)) (sym f) (subst (Passes false) (sym same) (told_asked (subst IsOrderly same orderly)))
+            subst (λ (b : Bool). Passes b (desk_after r d p c)) (sym f) (subst (Passes false) (sym same) (recorded_asked (subst IsOrderly same orderly)))
 
   -- and all lines
-  told_all : (d : Desk) (all : List Answered) (ls : List Line) → IsTold d all → IsTold (desk_ended r d ls) (all ++ passed r d ls)
-  told_all d all [] told = subst (IsTold d) (sym (append-nil all)) told
-  told_all d all (l ∷ ls) told = at (desk_step r d l.0 l.1) refl (λ t more h. told_all t more ls h)
+  recorded_all : (d : Desk) (all : List Answered) (ls : List Line) → IsRecorded d all → IsRecorded (desk_ended r d ls) (all ++ passed r d ls)
+  recorded_all d all [] recorded = subst (IsRecorded d) (sym (append-nil all)) recorded
+  recorded_all d all (l ∷ ls) recorded = at (desk_step r d l.0 l.1) refl (λ t more h. recorded_all t more ls h)
     where
-      at : (x : Result (Reply × Desk) DeskRefusal) → desk_step r d l.0 l.1 ≡ x → ((t : Desk) (more : List Answered) → IsTold t more → IsTold (desk_ended r t ls) (more ++ passed r t ls))
-          → IsTold (desk_ended r (desk_next d x) ls) (all ++ (led_to l.1 x ++ passed r (desk_next d x) ls))
-      at (Ok x) e rest = subst (IsTold (desk_ended r x.1 ls)) (append_assoc all (led_to l.1 (Ok x)) (passed r x.1 ls)) (rest x.1 (all ++ led_to l.1 (Ok x)) (told_on d all l.0 l.1 told x e))
-      at (Err q) e rest = rest d all told
+      at : (x : Result (Reply × Desk) DeskRefusal) → desk_step r d l.0 l.1 ≡ x → ((t : Desk) (more : List Answered) → IsRecorded t more → IsRecorded (desk_ended r t ls) (more ++ passed r t ls))
+          → IsRecorded (desk_ended r (desk_next d x) ls) (all ++ (led_to l.1 x ++ passed r (desk_next d x) ls))
+      at (Ok x) e rest = subst (IsRecorded (desk_ended r x.1 ls)) (append_assoc all (led_to l.1 (Ok x)) (passed r x.1 ls)) (rest x.1 (all ++ led_to l.1 (Ok x)) (recorded_on d all l.0 l.1 recorded x e))
+      at (Err q) e rest = rest d all recorded
 
 -- the answers at the desk fit
-pub desk_fits : (r : Rules) → IsAccepted (names_of r.checks) r.accepted → (a : Answered) → AnswersFit (tree_of r) a → (ls : List Line) → AnswersFit (tree_of r) (desk_ended r (desk_begun r a) ls).course.timeline.now
-desk_fits r is a fit ls = (told_all r is (desk_begun r a) (a ∷ []) ls (told_begun r is a fit)).fit.now
+pub desk_fits : (r : Rules) → IsAccepted (names_of r.checks) r.accepted → (a : Answered) → AnswersFit (tree_of r) a → (ls : List Line) → AnswersFit (tree_of r) (desk_ended r (desk_begun r a) ls).session_state.timeline.now
+desk_fits r is a fit ls = (recorded_all r is (desk_begun r a) (a ∷ []) ls (recorded_begun r is a fit)).fit.now
 
 -- ---- an accepted edit
 
@@ -244,18 +244,18 @@ pub edits_find_what_was_seen : EditsFindWhatWasSeen
 edits_find_what_was_seen r is a fit ls p c path named said next e =
     let d = desk_ended r (desk_begun r a) ls in
     let s = slot_of (tree_of r) path in
-    let last = stamp_of d.course.counts s in
-    let told = told_all r is (desk_begun r a) (a ∷ []) ls (told_begun r is a fit) in
+    let last = stamp_of d.session_state.counts s in
+    let recorded = recorded_all r is (desk_begun r a) (a ∷ []) ls (recorded_begun r is a fit) in
     let line = accepted_line r d p c (said, next) e in
-    let none = early_none (first_session (absent_refusals r d.course.timeline.now c)) (stale_named (tree_of r) d p (edited c)) (owner d p c) line.0 in
-    let here = edited_stands r d.course.timeline.now path told.fit.now c named none.0 in
+    let none = early_none (first_session (absent_refusals r d.session_state.timeline.now c)) (stale_named (tree_of r) d p (edited c)) (owner d p c) line.0 in
+    let here = edited_stands r d.session_state.timeline.now path recorded.fit.now c named none.0 in
     let fresh : stale d p s ≡ None = sym (ap (stale_named (tree_of r) d p) named) ∙ none.1 in
-    told.same s here (d.looks p s) (seen_since p d s told.orderly (not_stale (nat_le last (d.looks p s) || is_party p (changer d.changers last)) last fresh)) (told.orderly.looks p s)
+    recorded.same s here (d.last_seen p s) (seen_since p d s recorded.orderly (not_stale (nat_le last (d.last_seen p s) || is_party p (changer d.changers last)) last fresh)) (recorded.orderly.last_seen p s)
   where
-    seen_since : (p : ℕ) (d : Desk) (s : Slot) → IsOrderly d → (nat_le (stamp_of d.course.counts s) (d.looks p s) || is_party p (changer d.changers (stamp_of d.course.counts s))) ≡ true
-        → stamp_of d.course.counts s ≤ d.looks p s
+    seen_since : (p : ℕ) (d : Desk) (s : Slot) → IsOrderly d → (nat_le (stamp_of d.session_state.counts s) (d.last_seen p s) || is_party p (changer d.changers (stamp_of d.session_state.counts s))) ≡ true
+        → stamp_of d.session_state.counts s ≤ d.last_seen p s
     seen_since p d s orderly h = by (either _ _ h)
       where
-        by : (nat_le (stamp_of d.course.counts s) (d.looks p s) ≡ true) ⊎ (is_party p (changer d.changers (stamp_of d.course.counts s)) ≡ true) → stamp_of d.course.counts s ≤ d.looks p s
-        by (inl f) = leb-true (stamp_of d.course.counts s) (d.looks p s) f
+        by : (nat_le (stamp_of d.session_state.counts s) (d.last_seen p s) ≡ true) ⊎ (is_party p (changer d.changers (stamp_of d.session_state.counts s)) ≡ true) → stamp_of d.session_state.counts s ≤ d.last_seen p s
+        by (inl f) = leb-true (stamp_of d.session_state.counts s) (d.last_seen p s) f
         by (inr f) = orderly.own p s f

@@ -11,7 +11,7 @@ use Rattle.dictionary.specs.Touched.{stamped, touches}
 use Rattle.dictionary.proofs.SlotLaws.{listed_stand}
 use Rattle.graph_session.specs.Counts.{Counts, next_counts, stamp_in, stamp_of, stamps_of}
 use Rattle.graph_session.specs.Rules.{Rules, tree_of}
-use Rattle.graph_session.specs.SessionView.{Course, moved}
+use Rattle.graph_session.specs.SessionView.{SessionState, moved}
 use Rattle.graph_session.proofs.CountLaws.{stamp_listed}
 use Rattle.shared_desk.specs.Desk.{is_touched}
 
@@ -33,7 +33,7 @@ stamp_unlisted d a stamps s h = stamp_missing stamps (standing d.tree a) s (list
 abbrev pub StampAfter : ℕ → ℕ → Bool → ℕ → Type 0
 StampAfter number before is n = (IsTrue is × (n ≡ number)) ⊎ ((is ≡ false) × ((n ≡ 0) ⊎ (n ≡ before)))
 
-module _ (r : Rules) (s : Course) (to : Timeline) (k : Counts) (has : s.counts ≡ Some k) (x : Slot) where
+module _ (r : Rules) (s : SessionState) (to : Timeline) (k : Counts) (has : s.counts ≡ Some k) (x : Slot) where
   counts_after : stamp_of (moved r.accepted s to).counts x ≡ stamp_in (stamps_of r.accepted to.now (stamped r.accepted s.timeline.now to.now (s.changes + 1) (stamp_in k.stamps))) x
   counts_after = ap (λ (o : Option Counts). stamp_of (option_map (next_counts r.accepted s.timeline.now to.now (s.changes + 1)) o) x) has
 

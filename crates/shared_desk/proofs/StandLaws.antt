@@ -9,18 +9,18 @@ use Rattle.session_undo.specs.Timeline.{Timeline}
 use Rattle.graph_session.specs.Counts.{stamp_of}
 use Rattle.graph_session.specs.Naming.{slot_of}
 use Rattle.graph_session.specs.Rules.{tree_of}
-use Rattle.graph_session.specs.SessionView.{Course, course, moved}
+use Rattle.graph_session.specs.SessionView.{SessionState, session_state, moved}
 use Rattle.graph_session.specs.Step.{is_change, refusal, step}
 use Rattle.graph_session.specs.declared.reply.Reply.{Reply}
 use Rattle.graph_session.proofs.StepLaws.{accepted_step}
-use Rattle.shared_desk.specs.Desk.{Desk, absent_refusals, changer, course_after, desk_after, desk_refusal, desk_step, early, edited, entrant, entries_after, first_early, is_party, is_shown, is_touched, other, owner, place_of, shown, stale, stale_named, stale_since}
+use Rattle.shared_desk.specs.Desk.{Desk, absent_refusals, changer, session_state_after, desk_after, desk_refusal, desk_step, early, edited, entrant, entries_after, first_early, is_party, is_shown, is_touched, other, owner, place_of, shown, stale, stale_named, stale_since}
 use Rattle.shared_desk.specs.DeskView.{DeskView, IsOrderly, Keeps, StandsFor, kept_desk, rules_of}
-use Rattle.shared_desk.specs.Looks.{look_in}
+use Rattle.shared_desk.specs.LastSeen.{look_in}
 use Rattle.shared_desk.specs.Refusals.{Refused}
 use Rattle.shared_desk.specs.declared.refusal.DeskRefusal.{DeskRefusal}
 use Rattle.shared_desk.specs.declared.refusal.DeskRefusal.TheVariants.{Session}
 use Rattle.shared_desk.proofs.AfterLaws.{after_by, after_change, after_question}
-use Rattle.shared_desk.proofs.LookLaws.{and_false, kept_asked, kept_changed, looked_low}
+use Rattle.shared_desk.proofs.LastSeenLaws.{and_false, kept_asked, kept_changed, looked_low}
 use Rattle.shared_desk.proofs.OrderLaws.{order_stays, touch_at}
 use Rattle.shared_desk.proofs.StepLaws.{late_refusal, late_step}
 
@@ -34,23 +34,23 @@ or_again false false = refl
 module _ (v : DeskView) (d : Desk) (p : ℕ) (f : StandsFor v d) where
   stale_same : (s : Slot) → stale (kept_desk v) p s ≡ stale d p s
   stale_same s =
-      (λ i. stale_since p (look_in v.asked p s) (stamp_of (f.course i).counts s) (changer (f.changers i) (stamp_of (f.course i).counts s)))
-      ∙ ap (λ (b : Bool). if b then None else Some (stamp_of d.course.counts s)) (sym (ap (λ (b : Bool). b || own) (f.looks p s) ∙ or_again (nat_le (stamp_of d.course.counts s) (look_in v.asked p s)) own))
+      (λ i. stale_since p (look_in v.asked p s) (stamp_of (f.session_state i).counts s) (changer (f.changers i) (stamp_of (f.session_state i).counts s)))
+      ∙ ap (λ (b : Bool). if b then None else Some (stamp_of d.session_state.counts s)) (sym (ap (λ (b : Bool). b || own) (f.last_seen p s) ∙ or_again (nat_le (stamp_of d.session_state.counts s) (look_in v.asked p s)) own))
     where
       own : Bool
-      own = is_party p (changer d.changers (stamp_of d.course.counts s))
+      own = is_party p (changer d.changers (stamp_of d.session_state.counts s))
 
   stale_named_same : (o : Option SlotPath) → stale_named (tree_of (rules_of v)) (kept_desk v) p o ≡ stale_named (tree_of (rules_of v)) d p o
   stale_named_same None = refl
   stale_named_same (Some path) = stale_same (slot_of (tree_of (rules_of v)) path)
 
   owner_same : (c : Command) → owner (kept_desk v) p c ≡ owner d p c
-  owner_same commands.Undo = λ i. other p (entrant (f.entries i) (place_of (f.course i)))
-  owner_same commands.Redo = λ i. other p (entrant (f.entries i) (suc (place_of (f.course i))))
+  owner_same commands.Undo = λ i. other p (entrant (f.entries i) (place_of (f.session_state i)))
+  owner_same commands.Redo = λ i. other p (entrant (f.entries i) (suc (place_of (f.session_state i))))
   owner_same c = refl
 
   pub early_same : (c : Command) → early (rules_of v) (kept_desk v) p c ≡ early (rules_of v) d p c
-  early_same c = λ i. first_early (absent_refusals (rules_of v) (f.course i).timeline.now c) (stale_named_same (edited c) i) (owner_same c i)
+  early_same c = λ i. first_early (absent_refusals (rules_of v) (f.session_state i).timeline.now c) (stale_named_same (edited c) i) (owner_same c i)
 
 -- ---- after an accepted line
 
@@ -61,57 +61,57 @@ shows_none (commands.Final path) e = absurd cc
 shows_none (commands.Stamp path) e = absurd cc
 shows_none c e = refl
 
-module _ (v w : DeskView) (d : Desk) (p : ℕ) (c : Command) (said : Reply) (f : StandsFor v d) (ok : step (rules_of v) (course v.session) c ≡ Ok (said, course w.session)) (k : Keeps v p c w) where
-  leads : course w.session ≡ course_after (rules_of v) d.course c
-  leads = (accepted_step (rules_of v) (course v.session) (course w.session) c said ok).1.1 ∙ ap (λ (s : Course). course_after (rules_of v) s c) f.course
+module _ (v w : DeskView) (d : Desk) (p : ℕ) (c : Command) (said : Reply) (f : StandsFor v d) (ok : step (rules_of v) (session_state v.session) c ≡ Ok (said, session_state w.session)) (k : Keeps v p c w) where
+  leads : session_state w.session ≡ session_state_after (rules_of v) d.session_state c
+  leads = (accepted_step (rules_of v) (session_state v.session) (session_state w.session) c said ok).1.1 ∙ ap (λ (s : SessionState). session_state_after (rules_of v) s c) f.session_state
 
-  changes_same : v.session.changes ≡ d.course.changes
-  changes_same = ap (λ (s : Course). s.changes) f.course
+  changes_same : v.session.changes ≡ d.session_state.changes
+  changes_same = ap (λ (s : SessionState). s.changes) f.session_state
 
-  entries_same : w.entries ≡ entries_after d.entries (place_of d.course) p c
-  entries_same = k.entries ∙ (λ i. entries_after (f.entries i) (place_of (f.course i)) p c)
+  entries_same : w.entries ≡ entries_after d.entries (place_of d.session_state) p c
+  entries_same = k.entries ∙ (λ i. entries_after (f.entries i) (place_of (f.session_state i)) p c)
 
-  -- the looks that are kept
-  kept_after : (b : Bool) (q : ℕ) (s : Slot) → (nat_eq q p && is_shown (tree_of (rules_of v)) (shown c) s) ≡ b → look_in w.asked q s ≡ if b then d.course.changes else look_in v.asked q s
-  kept_after b q s e = k.looks q s ∙ (λ i. if e i then changes_same i else look_in v.asked q s)
+  -- what was seen last is kept
+  kept_after : (b : Bool) (q : ℕ) (s : Slot) → (nat_eq q p && is_shown (tree_of (rules_of v)) (shown c) s) ≡ b → look_in w.asked q s ≡ if b then d.session_state.changes else look_in v.asked q s
+  kept_after b q s e = k.last_seen q s ∙ (λ i. if e i then changes_same i else look_in v.asked q s)
 
-  kept_low : (q : ℕ) (s : Slot) → look_in w.asked q s ≤ d.course.changes
+  kept_low : (q : ℕ) (s : Slot) → look_in w.asked q s ≤ d.session_state.changes
   kept_low q s =
       let b = nat_eq q p && is_shown (tree_of (rules_of v)) (shown c) s in
-      subst (λ (n : ℕ). n ≤ d.course.changes) (sym (kept_after b q s refl)) (looked_low b d.course.changes (look_in v.asked q s) d.course.changes (omega arith) (f.kept q s))
+      subst (λ (n : ℕ). n ≤ d.session_state.changes) (sym (kept_after b q s refl)) (looked_low b d.session_state.changes (look_in v.asked q s) d.session_state.changes (omega arith) (f.kept q s))
 
-  stand_changed : (to : Timeline) → is_change c ≡ true → course w.session ≡ moved (rules_of v).accepted d.course to → IsOrderly (after_by (rules_of v) d p c true (moved (rules_of v).accepted d.course to))
-      → StandsFor w (after_by (rules_of v) d p c true (moved (rules_of v).accepted d.course to))
+  stand_changed : (to : Timeline) → is_change c ≡ true → session_state w.session ≡ moved (rules_of v).accepted d.session_state to → IsOrderly (after_by (rules_of v) d p c true (moved (rules_of v).accepted d.session_state to))
+      → StandsFor w (after_by (rules_of v) d p c true (moved (rules_of v).accepted d.session_state to))
   stand_changed to is there orderly = record {
     orderly = orderly;
-    course = there;
+    session_state = there;
     changers = k.changers ∙ (λ i. if is i then f.changers i ++ p ∷ [] else f.changers i);
     entries = entries_same;
     kept = λ q s. let low = kept_low q s in omega (arith, low);
-    looks = looks_same;
+    last_seen = last_seen_same;
   }
     where
       kept_is : (q : ℕ) (s : Slot) → look_in w.asked q s ≡ look_in v.asked q s
       kept_is q s = kept_after false q s (ap (λ (o : Option SlotPath). nat_eq q p && is_shown (tree_of (rules_of v)) o s) (shows_none c is) ∙ and_false (nat_eq q p))
 
-      looks_same : (q : ℕ) (s : Slot) → nat_le (stamp_of (moved (rules_of v).accepted d.course to).counts s) (if nat_eq q p && is_touched (rules_of v).accepted d.course.timeline.now to.now s then d.course.changes + 1 else d.looks q s)
-          ≡ (nat_le (stamp_of (moved (rules_of v).accepted d.course to).counts s) (look_in w.asked q s) || is_party q (changer (d.changers ++ p ∷ []) (stamp_of (moved (rules_of v).accepted d.course to).counts s)))
-      looks_same q s =
-          kept_changed d.course.changes p d.changers f.orderly.numbered q (stamp_of d.course.counts s) (stamp_of (moved (rules_of v).accepted d.course to).counts s) (d.looks q s) (look_in v.asked q s)
-          (is_touched (rules_of v).accepted d.course.timeline.now to.now s) (f.orderly.stamps s) (f.orderly.looks q s) (f.kept q s) (f.looks q s) (touch_at (rules_of v) d p c f.orderly to s)
-          ∙ ap (λ (n : ℕ). nat_le (stamp_of (moved (rules_of v).accepted d.course to).counts s) n || is_party q (changer (d.changers ++ p ∷ []) (stamp_of (moved (rules_of v).accepted d.course to).counts s))) (sym (kept_is q s))
+      last_seen_same : (q : ℕ) (s : Slot) → nat_le (stamp_of (moved (rules_of v).accepted d.session_state to).counts s) (if nat_eq q p && is_touched (rules_of v).accepted d.session_state.timeline.now to.now s then d.session_state.changes + 1 else d.last_seen q s)
+          ≡ (nat_le (stamp_of (moved (rules_of v).accepted d.session_state to).counts s) (look_in w.asked q s) || is_party q (changer (d.changers ++ p ∷ []) (stamp_of (moved (rules_of v).accepted d.session_state to).counts s)))
+      last_seen_same q s =
+          kept_changed d.session_state.changes p d.changers f.orderly.numbered q (stamp_of d.session_state.counts s) (stamp_of (moved (rules_of v).accepted d.session_state to).counts s) (d.last_seen q s) (look_in v.asked q s)
+          (is_touched (rules_of v).accepted d.session_state.timeline.now to.now s) (f.orderly.stamps s) (f.orderly.last_seen q s) (f.kept q s) (f.last_seen q s) (touch_at (rules_of v) d p c f.orderly to s)
+          ∙ ap (λ (n : ℕ). nat_le (stamp_of (moved (rules_of v).accepted d.session_state to).counts s) n || is_party q (changer (d.changers ++ p ∷ []) (stamp_of (moved (rules_of v).accepted d.session_state to).counts s))) (sym (kept_is q s))
 
-  stand_asked : is_change c ≡ false → course w.session ≡ d.course → IsOrderly (after_by (rules_of v) d p c false d.course) → StandsFor w (after_by (rules_of v) d p c false d.course)
+  stand_asked : is_change c ≡ false → session_state w.session ≡ d.session_state → IsOrderly (after_by (rules_of v) d p c false d.session_state) → StandsFor w (after_by (rules_of v) d p c false d.session_state)
   stand_asked is there orderly = record {
     orderly = orderly;
-    course = there;
+    session_state = there;
     changers = k.changers ∙ (λ i. if is i then f.changers i ++ p ∷ [] else f.changers i);
     entries = entries_same;
     kept = kept_low;
-    looks = λ q s.
+    last_seen = λ q s.
         let b = nat_eq q p && is_shown (tree_of (rules_of v)) (shown c) s in
-        kept_asked (stamp_of d.course.counts s) d.course.changes (d.looks q s) (look_in v.asked q s) b (is_party q (changer d.changers (stamp_of d.course.counts s))) (f.orderly.stamps s) (f.looks q s)
-        ∙ ap (λ (n : ℕ). nat_le (stamp_of d.course.counts s) n || is_party q (changer d.changers (stamp_of d.course.counts s))) (sym (kept_after b q s refl));
+        kept_asked (stamp_of d.session_state.counts s) d.session_state.changes (d.last_seen q s) (look_in v.asked q s) b (is_party q (changer d.changers (stamp_of d.session_state.counts s))) (f.orderly.stamps s) (f.last_seen q s)
+        ∙ ap (λ (n : ℕ). nat_le (stamp_of d.session_state.counts s) n || is_party q (changer d.changers (stamp_of d.session_state.counts s))) (sym (kept_after b q s refl));
   }
 
   pub stands_after : StandsFor w (desk_after (rules_of v) d p c)
@@ -123,10 +123,10 @@ module _ (v w : DeskView) (d : Desk) (p : ℕ) (c : Command) (said : Reply) (f :
       at : (b : Bool) → is_change c ≡ b → StandsFor w (desk_after (rules_of v) d p c)
       at true e =
           let to = after_change (rules_of v) d p c e in
-          subst (StandsFor w) (sym to.1) (stand_changed to.0 e (leads ∙ ap (λ (x : Desk). x.course) to.1) (subst IsOrderly to.1 orderly))
+          subst (StandsFor w) (sym to.1) (stand_changed to.0 e (leads ∙ ap (λ (x : Desk). x.session_state) to.1) (subst IsOrderly to.1 orderly))
       at false e =
           let same = after_question (rules_of v) d p c e in
-          subst (StandsFor w) (sym same) (stand_asked e (leads ∙ ap (λ (x : Desk). x.course) same) (subst IsOrderly same orderly))
+          subst (StandsFor w) (sym same) (stand_asked e (leads ∙ ap (λ (x : Desk). x.session_state) same) (subst IsOrderly same orderly))
 
 -- ---- a line
 
@@ -135,26 +135,26 @@ module _ (v w : DeskView) (d : Desk) (p : ℕ) (c : Command) (f : StandsFor v d)
   none_early : early (rules_of v) d p c ≡ None
   none_early = sym (early_same v d p f c) ∙ allowed
 
-  pub line_replies : IfOk answer (λ said. step (rules_of v) (course v.session) c ≡ Ok (said, course w.session)) → IfOk answer (λ said. desk_step (rules_of v) d p c ≡ Ok (said, desk_after (rules_of v) d p c))
+  pub line_replies : IfOk answer (λ said. step (rules_of v) (session_state v.session) c ≡ Ok (said, session_state w.session)) → IfOk answer (λ said. desk_step (rules_of v) d p c ≡ Ok (said, desk_after (rules_of v) d p c))
   line_replies ok = by answer ok
     where
-      by : (x : Result Reply DeskRefusal) → IfOk x (λ said. step (rules_of v) (course v.session) c ≡ Ok (said, course w.session)) → IfOk x (λ said. desk_step (rules_of v) d p c ≡ Ok (said, desk_after (rules_of v) d p c))
-      by (Ok said) ok = late_step (rules_of v) d p c said (course w.session) none_early (subst (λ (s : Course). step (rules_of v) s c ≡ Ok (said, course w.session)) f.course ok)
+      by : (x : Result Reply DeskRefusal) → IfOk x (λ said. step (rules_of v) (session_state v.session) c ≡ Ok (said, session_state w.session)) → IfOk x (λ said. desk_step (rules_of v) d p c ≡ Ok (said, desk_after (rules_of v) d p c))
+      by (Ok said) ok = late_step (rules_of v) d p c said (session_state w.session) none_early (subst (λ (s : SessionState). step (rules_of v) s c ≡ Ok (said, session_state w.session)) f.session_state ok)
       by (Err q) ok = tt
 
-  pub line_leaves : IfOk answer (λ said. step (rules_of v) (course v.session) c ≡ Ok (said, course w.session)) → OnOk answer (Keeps v p c w) → OnOk answer (StandsFor w (desk_after (rules_of v) d p c))
+  pub line_leaves : IfOk answer (λ said. step (rules_of v) (session_state v.session) c ≡ Ok (said, session_state w.session)) → OnOk answer (Keeps v p c w) → OnOk answer (StandsFor w (desk_after (rules_of v) d p c))
   line_leaves ok k = by answer ok k
     where
-      by : (x : Result Reply DeskRefusal) → IfOk x (λ said. step (rules_of v) (course v.session) c ≡ Ok (said, course w.session)) → OnOk x (Keeps v p c w) → OnOk x (StandsFor w (desk_after (rules_of v) d p c))
+      by : (x : Result Reply DeskRefusal) → IfOk x (λ said. step (rules_of v) (session_state v.session) c ≡ Ok (said, session_state w.session)) → OnOk x (Keeps v p c w) → OnOk x (StandsFor w (desk_after (rules_of v) d p c))
       by (Ok said) ok k = stands_after v w d p c said f ok k
       by (Err q) ok k = tt
 
-  pub line_refuses : IfErr answer (λ q. Refused q (option_map Session (refusal (rules_of v) (course v.session) c))) → IfErr answer (λ q. Refused q (desk_refusal (rules_of v) d p c))
+  pub line_refuses : IfErr answer (λ q. Refused q (option_map Session (refusal (rules_of v) (session_state v.session) c))) → IfErr answer (λ q. Refused q (desk_refusal (rules_of v) d p c))
   line_refuses err = by answer err
     where
-      same : option_map Session (refusal (rules_of v) (course v.session) c) ≡ desk_refusal (rules_of v) d p c
-      same = ap (λ (s : Course). option_map Session (refusal (rules_of v) s c)) f.course ∙ sym (late_refusal (rules_of v) d p c none_early)
+      same : option_map Session (refusal (rules_of v) (session_state v.session) c) ≡ desk_refusal (rules_of v) d p c
+      same = ap (λ (s : SessionState). option_map Session (refusal (rules_of v) s c)) f.session_state ∙ sym (late_refusal (rules_of v) d p c none_early)
 
-      by : (x : Result Reply DeskRefusal) → IfErr x (λ q. Refused q (option_map Session (refusal (rules_of v) (course v.session) c))) → IfErr x (λ q. Refused q (desk_refusal (rules_of v) d p c))
+      by : (x : Result Reply DeskRefusal) → IfErr x (λ q. Refused q (option_map Session (refusal (rules_of v) (session_state v.session) c))) → IfErr x (λ q. Refused q (desk_refusal (rules_of v) d p c))
       by (Ok said) err = tt
       by (Err q) err = subst (λ (o : Option DeskRefusal). Refused q o) same err

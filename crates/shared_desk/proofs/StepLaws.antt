@@ -14,23 +14,23 @@ use Rattle.graph_session.specs.Kinds.{value_spelled}
 use Rattle.graph_session.specs.Refusals.{first_of as first_session, slot_refusals, value_refusals, when}
 use Rattle.graph_session.specs.Naming.{fact_of, slot_of}
 use Rattle.graph_session.specs.Rules.{Rules, tree_of}
-use Rattle.graph_session.specs.SessionView.{Course, SessionView, course, moved, view_at}
+use Rattle.graph_session.specs.SessionView.{SessionState, SessionView, session_state, moved, view_at}
 use Rattle.graph_session.specs.Step.{is_change, moved_by, refusal, reply, step, timeline_by}
 use Rattle.graph_session.specs.declared.reply.Refusal.{Refusal}
 use Rattle.graph_session.specs.declared.reply.Refusal.TheVariants.{AlreadyOpen, BadValue, NoOverride, NotAnswered, WrongKind}
 use Rattle.graph_session.specs.declared.reply.Reply.{Reply}
 use Rattle.graph_session.proofs.StepLaws.{accepted_step, changes_move, questions_stay}
-use Rattle.shared_desk.specs.Desk.{Desk, absent_refusals, appends, course_after, desk_after, desk_refusal, desk_step, early, place_of, shown}
+use Rattle.shared_desk.specs.Desk.{Desk, absent_refusals, appends, session_state_after, desk_after, desk_refusal, desk_step, early, place_of, shown}
 use Rattle.shared_desk.specs.Refusals.{Refused, RefusedBut, decided, first_of, wants_memory}
 use Rattle.shared_desk.specs.declared.refusal.DeskRefusal.{DeskRefusal}
 use Rattle.shared_desk.specs.declared.refusal.DeskRefusal.TheVariants.{Session}
 
 -- ---- where an accepted command leads
 
-pub change_leads : (r : Rules) (s : Course) (c : Command) → is_change c ≡ true → (to : Timeline) × (course_after r s c ≡ moved r.accepted s to)
+pub change_leads : (r : Rules) (s : SessionState) (c : Command) → is_change c ≡ true → (to : Timeline) × (session_state_after r s c ≡ moved r.accepted s to)
 change_leads r s c e = let to = changes_move (tree_of r) s.timeline c e in (to.0, ap (moved_by r s) to.1)
 
-pub question_leads : (r : Rules) (s : Course) (c : Command) → is_change c ≡ false → course_after r s c ≡ s
+pub question_leads : (r : Rules) (s : SessionState) (c : Command) → is_change c ≡ false → session_state_after r s c ≡ s
 question_leads r s c e = ap (moved_by r s) (questions_stay (tree_of r) s.timeline c e)
 
 -- ---- the place
@@ -49,20 +49,20 @@ append_leads d t commands.Quit e = absurd cc
 append_leads d t c e = (_, refl)
 
 -- after an entry was appended
-pub place_appended : (r : Rules) (s t : Course) (c : Command) (said : Reply) → appends c ≡ true → step r s c ≡ Ok (said, t)
+pub place_appended : (r : Rules) (s t : SessionState) (c : Command) (said : Reply) → appends c ≡ true → step r s c ≡ Ok (said, t)
     → (place_of t ≡ place_of s + 1) × (t.changes ≡ s.changes + 1)
 place_appended r s t c said is e =
     let to = append_leads (tree_of r) s.timeline c is in
     let leads = (accepted_step r s t c said e).1.1 ∙ ap (moved_by r s) to.1 in
-    (ap place_of leads ∙ (omega arith), ap (λ (u : Course). u.changes) leads)
+    (ap place_of leads ∙ (omega arith), ap (λ (u : SessionState). u.changes) leads)
 
--- what shows a slot, or changes nothing otherwise, leaves the course
-pub asked_course : (r : Rules) (v w : SessionView) (c : Command) (answer : Result Reply Refusal) → is_change c ≡ false → IfOk answer (λ said. step r (course v) c ≡ Ok (said, course w)) → OnErr answer (w ≡ v) → course w ≡ course v
-asked_course r v w c (Ok said) is ok same = (accepted_step r (course v) (course w) c said ok).1.1 ∙ question_leads r (course v) c is
-asked_course r v w c (Err q) is ok same = ap course same
+-- what shows a slot, or changes nothing otherwise, leaves the state
+pub asked_session_state : (r : Rules) (v w : SessionView) (c : Command) (answer : Result Reply Refusal) → is_change c ≡ false → IfOk answer (λ said. step r (session_state v) c ≡ Ok (said, session_state w)) → OnErr answer (w ≡ v) → session_state w ≡ session_state v
+asked_session_state r v w c (Ok said) is ok same = (accepted_step r (session_state v) (session_state w) c said ok).1.1 ∙ question_leads r (session_state v) c is
+asked_session_state r v w c (Err q) is ok same = ap session_state same
 
-pub asked_place : (v w : SessionView) (n : ℕ) → course w ≡ course v → (n ≡ place_of (course v)) × (n ≤ v.changes) → (n ≡ place_of (course w)) × (n ≤ w.changes)
-asked_place v w n same h = subst (λ (s : Course). (n ≡ place_of s) × (n ≤ s.changes)) (sym same) h
+pub asked_place : (v w : SessionView) (n : ℕ) → session_state w ≡ session_state v → (n ≡ place_of (session_state v)) × (n ≤ v.changes) → (n ≡ place_of (session_state w)) × (n ≤ w.changes)
+asked_place v w n same h = subst (λ (s : SessionState). (n ≡ place_of s) × (n ≤ s.changes)) (sym same) h
 
 pub shows_no_change : (c : Command) (path : SlotPath) → shown c ≡ Some path → is_change c ≡ false
 shows_no_change (commands.Get x) path e = refl
@@ -77,9 +77,9 @@ shows_appends_none (commands.Stamp x) path e = refl
 shows_appends_none c path e = absurd cc
 
 -- a question leaves the session as it was
-pub question_stays : (r : Rules) (v w : SessionView) (c : Command) (said : Reply) → is_change c ≡ false → step r (course v) c ≡ Ok (said, course w) → w.dict ≡ v.dict → w ≡ v
+pub question_stays : (r : Rules) (v w : SessionView) (c : Command) (said : Reply) → is_change c ≡ false → step r (session_state v) c ≡ Ok (said, session_state w) → w.dict ≡ v.dict → w ≡ v
 question_stays r v w c said is e f =
-    let same : course w ≡ course v = (accepted_step r (course v) (course w) c said e).1.1 ∙ question_leads r (course v) c is in
+    let same : session_state w ≡ session_state v = (accepted_step r (session_state v) (session_state w) c said e).1.1 ∙ question_leads r (session_state v) c is in
     λ i. view_at (f i) (same i)
 
 -- ---- refusals
@@ -96,21 +96,21 @@ pub refused_self : (q : DeskRefusal) (o : Option DeskRefusal) → o ≡ Some q �
 refused_self q o e = refused_but (wants_memory q) q o e
 
 -- where no early refusal holds, it is the session's
-pub late_refusal : (r : Rules) (d : Desk) (p : ℕ) (c : Command) → early r d p c ≡ None → desk_refusal r d p c ≡ option_map Session (refusal r d.course c)
-late_refusal r d p c e = ap (λ (o : Option DeskRefusal). first_of (o ∷ option_map Session (refusal r d.course c) ∷ [])) e ∙ first_one (option_map Session (refusal r d.course c))
+pub late_refusal : (r : Rules) (d : Desk) (p : ℕ) (c : Command) → early r d p c ≡ None → desk_refusal r d p c ≡ option_map Session (refusal r d.session_state c)
+late_refusal r d p c e = ap (λ (o : Option DeskRefusal). first_of (o ∷ option_map Session (refusal r d.session_state c) ∷ [])) e ∙ first_one (option_map Session (refusal r d.session_state c))
 
 pub early_refusal : (r : Rules) (d : Desk) (p : ℕ) (c : Command) (q : DeskRefusal) → early r d p c ≡ Some q → desk_refusal r d p c ≡ Some q
-early_refusal r d p c q e = ap (λ (o : Option DeskRefusal). first_of (o ∷ option_map Session (refusal r d.course c) ∷ [])) e
+early_refusal r d p c q e = ap (λ (o : Option DeskRefusal). first_of (o ∷ option_map Session (refusal r d.session_state c) ∷ [])) e
 
 -- and so the step is the session's
-pub late_step : (r : Rules) (d : Desk) (p : ℕ) (c : Command) (said : Reply) (t : Course) → early r d p c ≡ None → step r d.course c ≡ Ok (said, t) → desk_step r d p c ≡ Ok (said, desk_after r d p c)
+pub late_step : (r : Rules) (d : Desk) (p : ℕ) (c : Command) (said : Reply) (t : SessionState) → early r d p c ≡ None → step r d.session_state c ≡ Ok (said, t) → desk_step r d p c ≡ Ok (said, desk_after r d p c)
 late_step r d p c said t e f =
-    let parts = accepted_step r d.course t c said f in
-    ap (λ (o : Option DeskRefusal). decided o (reply r d.course c, desk_after r d p c)) (late_refusal r d p c e ∙ ap (option_map Session) parts.0)
-    ∙ ap told (sym parts.1.0)
+    let parts = accepted_step r d.session_state t c said f in
+    ap (λ (o : Option DeskRefusal). decided o (reply r d.session_state c, desk_after r d p c)) (late_refusal r d p c e ∙ ap (option_map Session) parts.0)
+    ∙ ap recorded (sym parts.1.0)
   where
-    told : Reply → Result (Reply × Desk) DeskRefusal
-    told x = Ok (x, desk_after r d p c)
+    recorded : Reply → Result (Reply × Desk) DeskRefusal
+    recorded x = Ok (x, desk_after r d p c)
 
 first_after : (xs ys : List (Option Refusal)) (q : Refusal) → first_session xs ≡ Some q → first_session (xs ++ ys) ≡ Some q
 first_after [] ys q e = absurd cc
@@ -118,7 +118,7 @@ first_after (None ∷ xs) ys q e = first_after xs ys q e
 first_after (Some x ∷ xs) ys q e = e
 
 -- an edit of a slot or a member that isn't there is refused for that by the session too
-pub absent_first : (r : Rules) (s : Course) (c : Command) (q : Refusal) → first_session (absent_refusals r s.timeline.now c) ≡ Some q → refusal r s c ≡ Some q
+pub absent_first : (r : Rules) (s : SessionState) (c : Command) (q : Refusal) → first_session (absent_refusals r s.timeline.now c) ≡ Some q → refusal r s c ≡ Some q
 absent_first r s (commands.Set path text) q e =
     let fact = fact_of (tree_of r) path in
     first_after (slot_refusals r s.timeline.now path) (when (not (is_answered_by (tree_of r) fact)) WrongKind ∷ value_refusals r fact text) q e

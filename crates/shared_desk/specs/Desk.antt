@@ -1,4 +1,4 @@
--- Several parties at one session: what a line of a party may do, and what is told of each party.
+-- Several parties at one session: what a line of a party may do, and what is recorded of each party.
 use Rattle.std.specs.Prelude.{◌≡◌, ℕ, zero, suc, ◌-◌, ◌&&◌, ◌||◌, Bool, true, false, not, nat_eq, nat_le, List, [], ◌∷◌, ◌++◌, length, slice_get, take, Option, Some, None, option_map, if◌then◌else◌, Result, refl}
 use Rattle.fact_paths.specs.declared.slot_path.SlotPath.{SlotPath}
 use Rattle.fact_paths.specs.declared.slot_path.SlotPath.TheVariants.{Global}
@@ -15,7 +15,7 @@ use Rattle.graph_session.specs.Counts.{stamp_of}
 use Rattle.graph_session.specs.Naming.{fact_of, slot_of}
 use Rattle.graph_session.specs.Refusals.{first_of as first_session, slot_refusals, when}
 use Rattle.graph_session.specs.Rules.{Rules, tree_of}
-use Rattle.graph_session.specs.SessionView.{Course, begun}
+use Rattle.graph_session.specs.SessionView.{SessionState, begun}
 use Rattle.graph_session.specs.Step.{is_change, moved_by, refusal, reply, timeline_by}
 use Rattle.graph_session.specs.declared.reply.Refusal.{Refusal}
 use Rattle.graph_session.specs.declared.reply.Refusal.TheVariants.{NoMember}
@@ -24,18 +24,18 @@ use Rattle.shared_desk.specs.Refusals.{decided, first_of}
 use Rattle.shared_desk.specs.declared.refusal.DeskRefusal.{DeskRefusal}
 use Rattle.shared_desk.specs.declared.refusal.DeskRefusal.TheVariants.{Session, Stale, NotYours}
 
--- The course of the session; the party of each change, in their order; the party of each entry of the list of answers after the
+-- The state of the session; the party of each change, in their order; the party of each entry of the list of answers after the
 -- first, in its order: the one whose change appended it; and of each party and slot how many changes had been made when the party
 -- last looked at the slot, 0 where it never did.
 pub record Desk : Type 0 where
-  pub course : Course
+  pub session_state : SessionState
   pub changers : List ℕ
   pub entries : List ℕ
-  pub looks : ℕ → Slot → ℕ
+  pub last_seen : ℕ → Slot → ℕ
 
 -- nobody has done anything
-abbrev pub opened : Course → Desk
-opened c = record { course = c; changers = []; entries = []; looks = λ p s. 0 }
+abbrev pub opened : SessionState → Desk
+opened c = record { session_state = c; changers = []; entries = []; last_seen = λ p s. 0 }
 
 -- over these answers, with stamps
 abbrev pub desk_begun : Rules → Answered → Desk
@@ -88,7 +88,7 @@ stale_since p look last by = if nat_le last look || is_party p by then None else
 -- A party looks at each slot that its own change touches. So where another party's change touched the slot after this party's last
 -- look, no change of its own did so later: the last of those changes is the last of all that touched the slot.
 abbrev pub stale : Desk → ℕ → Slot → Option ℕ
-stale d p s = stale_since p (d.looks p s) (stamp_of d.course.counts s) (changer d.changers (stamp_of d.course.counts s))
+stale d p s = stale_since p (d.last_seen p s) (stamp_of d.session_state.counts s) (changer d.changers (stamp_of d.session_state.counts s))
 
 -- of the slot that an edit names
 abbrev pub stale_named : Tree → Desk → ℕ → Option SlotPath → Option ℕ
@@ -107,13 +107,13 @@ entrant entries zero = None
 entrant entries (suc n) = slice_get entries n
 
 -- the place in the list of answers, from 0
-abbrev pub place_of : Course → ℕ
+abbrev pub place_of : SessionState → ℕ
 place_of c = length c.timeline.before
 
 -- the other party whose entry would be left by `undo`, or gone to by `redo`
 abbrev pub owner : Desk → ℕ → Command → Option ℕ
-owner d p Undo = other p (entrant d.entries (place_of d.course))
-owner d p Redo = other p (entrant d.entries (suc (place_of d.course)))
+owner d p Undo = other p (entrant d.entries (place_of d.session_state))
+owner d p Redo = other p (entrant d.entries (suc (place_of d.session_state)))
 owner d p _ = None
 
 -- ---- refusals
@@ -135,11 +135,11 @@ first_early absent last q = first_of (option_map Session (first_session absent) 
 
 -- those that come before the others of the session
 abbrev pub early : Rules → Desk → ℕ → Command → Option DeskRefusal
-early r d p c = first_early (absent_refusals r d.course.timeline.now c) (stale_named (tree_of r) d p (edited c)) (owner d p c)
+early r d p c = first_early (absent_refusals r d.session_state.timeline.now c) (stale_named (tree_of r) d p (edited c)) (owner d p c)
 
 -- the first that holds: once none of the early ones does, the session's
 abbrev pub desk_refusal : Rules → Desk → ℕ → Command → Option DeskRefusal
-desk_refusal r d p c = first_of (early r d p c ∷ option_map Session (refusal r d.course c) ∷ [])
+desk_refusal r d p c = first_of (early r d p c ∷ option_map Session (refusal r d.session_state c) ∷ [])
 
 -- ---- what an accepted line leaves
 
@@ -151,7 +151,7 @@ entries_after entries place p c = if appends c then take place entries ++ p ∷ 
 
 -- a party looks at the slots of a test
 abbrev pub looked : (ℕ → Slot → ℕ) → ℕ → (Slot → Bool) → ℕ → ℕ → Slot → ℕ
-looked looks p seen number q s = if nat_eq q p && seen s then number else looks q s
+looked last_seen p seen number q s = if nat_eq q p && seen s then number else last_seen q s
 
 -- the slot that the answer shows
 abbrev pub is_shown : Tree → Option SlotPath → Slot → Bool
@@ -166,25 +166,25 @@ is_touched d a b s = stands d.tree b s && touches d a b s
 abbrev pub is_seen : Rules → Answered → Answered → Command → Slot → Bool
 is_seen r a b c s = if is_change c then is_touched r.accepted a b s else is_shown (tree_of r) (shown c) s
 
--- where the session's course leads
-abbrev pub course_after : Rules → Course → Command → Course
-course_after r s c = moved_by r s (timeline_by (tree_of r) s.timeline c)
+-- where the session's state leads
+abbrev pub session_state_after : Rules → SessionState → Command → SessionState
+session_state_after r s c = moved_by r s (timeline_by (tree_of r) s.timeline c)
 
 abbrev pub desk_after : Rules → Desk → ℕ → Command → Desk
 desk_after r d p c =
-    let after = course_after r d.course c in
+    let after = session_state_after r d.session_state c in
     record {
-      course = after;
+      session_state = after;
       changers = changers_after d.changers p c;
-      entries = entries_after d.entries (place_of d.course) p c;
-      looks = looked d.looks p (is_seen r d.course.timeline.now after.timeline.now c) after.changes;
+      entries = entries_after d.entries (place_of d.session_state) p c;
+      last_seen = looked d.last_seen p (is_seen r d.session_state.timeline.now after.timeline.now c) after.changes;
     }
 
 -- ---- the step
 
 -- the reply to a line of a party, and the desk after it; or the refusal
 abbrev pub desk_step : Rules → Desk → ℕ → Command → Result (Reply × Desk) DeskRefusal
-desk_step r d p c = decided (desk_refusal r d p c) (reply r d.course c, desk_after r d p c)
+desk_step r d p c = decided (desk_refusal r d p c) (reply r d.session_state c, desk_after r d p c)
 
 -- ---- worked examples
 

@@ -5,9 +5,9 @@ use Rattle.fact_values.specs.declared.slot.Slot.{Slot}
 use Rattle.script_lines.specs.declared.command.Command.{Command}
 use Rattle.graph_session.specs.Counts.{Counts, stamp_of}
 use Rattle.graph_session.specs.Rules.{Rules, rules, tree_of}
-use Rattle.graph_session.specs.SessionView.{SessionView, coded_view, course}
+use Rattle.graph_session.specs.SessionView.{SessionView, coded_view, session_state}
 use Rattle.shared_desk.specs.Desk.{Desk, changer, changers_after, entries_after, is_party, is_shown, looked, place_of, shown}
-use Rattle.shared_desk.specs.Looks.{Key, look_in}
+use Rattle.shared_desk.specs.LastSeen.{Key, look_in}
 
 -- the session, the party of each change and of each entry after the first, and the looks at slots that were asked for
 pub record DeskView : Type 0 where
@@ -21,35 +21,35 @@ rules_of v = rules v.session.dict
 
 -- the same as a desk at which nobody looks at what a change of their own touches
 abbrev pub kept_desk : DeskView → Desk
-kept_desk v = record { course = course v.session; changers = v.changers; entries = v.entries; looks = look_in v.asked }
+kept_desk v = record { session_state = session_state v.session; changers = v.changers; entries = v.entries; last_seen = look_in v.asked }
 
 -- ---- the desk that it stands for
 
--- What lines lead to. Changes are numbered from 1, and nothing is told of a change that wasn't made; a party has looked at each slot
+-- What lines lead to. Changes are numbered from 1, and nothing is recorded of a change that wasn't made; a party has looked at each slot
 -- that its own change was the last to touch.
 pub record IsOrderly (d : Desk) : Type 0 where
-  pub counted : (k : Counts) × (d.course.counts ≡ Some k)
-  pub numbered : length d.changers ≡ d.course.changes
-  pub stamps : (s : Slot) → stamp_of d.course.counts s ≤ d.course.changes
-  pub looks : (p : ℕ) (s : Slot) → d.looks p s ≤ d.course.changes
-  pub own : (p : ℕ) (s : Slot) → IsTrue (is_party p (changer d.changers (stamp_of d.course.counts s))) → stamp_of d.course.counts s ≤ d.looks p s
+  pub counted : (k : Counts) × (d.session_state.counts ≡ Some k)
+  pub numbered : length d.changers ≡ d.session_state.changes
+  pub stamps : (s : Slot) → stamp_of d.session_state.counts s ≤ d.session_state.changes
+  pub last_seen : (p : ℕ) (s : Slot) → d.last_seen p s ≤ d.session_state.changes
+  pub own : (p : ℕ) (s : Slot) → IsTrue (is_party p (changer d.changers (stamp_of d.session_state.counts s))) → stamp_of d.session_state.counts s ≤ d.last_seen p s
 
 -- What is kept tells the same. A slot was last touched no later than the party's last look at it exactly where that is so of the
 -- last look that is kept, or the change that touched it is the party's own.
 pub record StandsFor (v : DeskView) (d : Desk) : Type 0 where
   pub orderly : IsOrderly d
-  pub course : course v.session ≡ d.course
+  pub session_state : session_state v.session ≡ d.session_state
   pub changers : v.changers ≡ d.changers
   pub entries : v.entries ≡ d.entries
-  pub kept : (p : ℕ) (s : Slot) → look_in v.asked p s ≤ d.course.changes
-  pub looks : (p : ℕ) (s : Slot) → nat_le (stamp_of d.course.counts s) (d.looks p s)
-      ≡ (nat_le (stamp_of d.course.counts s) (look_in v.asked p s) || is_party p (changer d.changers (stamp_of d.course.counts s)))
+  pub kept : (p : ℕ) (s : Slot) → look_in v.asked p s ≤ d.session_state.changes
+  pub last_seen : (p : ℕ) (s : Slot) → nat_le (stamp_of d.session_state.counts s) (d.last_seen p s)
+      ≡ (nat_le (stamp_of d.session_state.counts s) (look_in v.asked p s) || is_party p (changer d.changers (stamp_of d.session_state.counts s)))
 
 -- what is kept after an accepted line of a party
 pub record Keeps (v : DeskView) (p : ℕ) (c : Command) (w : DeskView) : Type 0 where
   pub changers : w.changers ≡ changers_after v.changers p c
-  pub entries : w.entries ≡ entries_after v.entries (place_of (course v.session)) p c
-  pub looks : (q : ℕ) (s : Slot) → look_in w.asked q s ≡ looked (look_in v.asked) p (is_shown (tree_of (rules_of v)) (shown c)) v.session.changes q s
+  pub entries : w.entries ≡ entries_after v.entries (place_of (session_state v.session)) p c
+  pub last_seen : (q : ℕ) (s : Slot) → look_in w.asked q s ≡ looked (look_in v.asked) p (is_shown (tree_of (rules_of v)) (shown c)) v.session.changes q s
 
 -- ---- codes
 

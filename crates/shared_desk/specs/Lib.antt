@@ -1,6 +1,6 @@
 pub mod Desk
 pub mod DeskView
-pub mod Looks
+pub mod LastSeen
 pub mod Parties
 pub mod Refusals
 pub mod StaleRule

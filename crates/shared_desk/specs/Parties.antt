@@ -66,7 +66,7 @@ agreed_of r d (l ∷ ls) = agreed_first (desk_step r d l.0 l.1) (agreed_of r (de
 
 -- the answers that an accepted change leads to
 abbrev pub led_to : Command → Result (Reply × Desk) DeskRefusal → List Answered
-led_to c (Ok p) = if is_change c then p.1.course.timeline.now ∷ [] else []
+led_to c (Ok p) = if is_change c then p.1.session_state.timeline.now ∷ [] else []
 led_to c (Err r) = []
 
 -- those after each accepted change, in order
@@ -85,11 +85,11 @@ pub record SameAt (d : Accepted) (a b : Answered) (s : Slot) : Type 0 where
 
 -- the desk's session is a session over the accepted commands in order
 abbrev pub SessionIsOverAccepted : Type 0
-SessionIsOverAccepted = (r : Rules) (d : Desk) (ls : List Line) → (desk_ended r d ls).course ≡ ended r d.course (accepted_of r d ls)
+SessionIsOverAccepted = (r : Rules) (d : Desk) (ls : List Line) → (desk_ended r d ls).session_state ≡ ended r d.session_state (accepted_of r d ls)
 
 -- which answers each of them in the same way
 abbrev pub AcceptedAreAnswered : Type 0
-AcceptedAreAnswered = (r : Rules) (d : Desk) (ls : List Line) → replies r d.course (accepted_of r d ls) ≡ agreed_of r d ls
+AcceptedAreAnswered = (r : Rules) (d : Desk) (ls : List Line) → replies r d.session_state (accepted_of r d ls) ≡ agreed_of r d ls
 
 -- a session's answer, as a desk gives it
 abbrev pub of_session : Result Reply Refusal → Result Reply DeskRefusal
@@ -111,4 +111,4 @@ EditsFindWhatWasSeen =
     → (said : Reply) (next : Desk) → desk_step r (desk_ended r (desk_begun r a) ls) p c ≡ Ok (said, next)
     → let d = desk_ended r (desk_begun r a) ls in
     let s = slot_of (tree_of r) path in
-    (seen : Answered) × ((slice_get (a ∷ passed r (desk_begun r a) ls) (d.looks p s) ≡ Some seen) × SameAt r.accepted seen d.course.timeline.now s)
+    (seen : Answered) × ((slice_get (a ∷ passed r (desk_begun r a) ls) (d.last_seen p s) ≡ Some seen) × SameAt r.accepted seen d.session_state.timeline.now s)

@@ -25,7 +25,7 @@ pub record Made : Type 0 where
 
 -- the change of a line that is accepted and makes one
 abbrev pub made_by : Rules → Desk → Line → Result (Reply × Desk) DeskRefusal → List Made
-made_by r d l (Ok x) = if is_change l.1 then record { party = l.0; touched = is_touched r.accepted d.course.timeline.now x.1.course.timeline.now } ∷ [] else []
+made_by r d l (Ok x) = if is_change l.1 then record { party = l.0; touched = is_touched r.accepted d.session_state.timeline.now x.1.session_state.timeline.now } ∷ [] else []
 made_by r d l (Err q) = []
 
 -- those of all lines, in order: the first has the number 1
@@ -52,7 +52,7 @@ pub record IsLastAnothers (all : List Made) (p look : ℕ) (s : Slot) (n : ℕ) 
 -- the command is an edit of this path's slot, which stands; and of the member that it takes out, where it takes one out
 pub record EditsThere (r : Rules) (d : Desk) (c : Command) (path : SlotPath) : Type 0 where
   pub edits : edited c ≡ Some path
-  pub there : first_of (absent_refusals r d.course.timeline.now c) ≡ None
+  pub there : first_of (absent_refusals r d.session_state.timeline.now c) ≡ None
 
 -- ---- laws
 
@@ -64,7 +64,7 @@ StaleIsAnothersChange =
     → (ls : List Line) (p : ℕ) (c : Command) (n : ℕ)
     → let d = desk_ended r (desk_begun r a) ls in
     (desk_refusal r d p c ≡ Some (Stale n))
-    ↔ ((path : SlotPath) × (EditsThere r d c path × IsLastAnothers (made r (desk_begun r a) ls) p (d.looks p (slot_of (tree_of r) path)) (slot_of (tree_of r) path) n))
+    ↔ ((path : SlotPath) × (EditsThere r d c path × IsLastAnothers (made r (desk_begun r a) ls) p (d.last_seen p (slot_of (tree_of r) path)) (slot_of (tree_of r) path) n))
 
 -- where there is such a change, there is a last one, and the edit is refused
 abbrev pub AnothersChangeIsStale : Type 0
@@ -72,5 +72,5 @@ AnothersChangeIsStale =
     (r : Rules) → IsAccepted (names_of r.checks) r.accepted → (a : Answered) → AnswersFit (tree_of r) a
     → (ls : List Line) (p : ℕ) (c : Command) (path : SlotPath) (n : ℕ)
     → let d = desk_ended r (desk_begun r a) ls in
-    EditsThere r d c path → IsAnothers (made r (desk_begun r a) ls) p (d.looks p (slot_of (tree_of r) path)) (slot_of (tree_of r) path) n
+    EditsThere r d c path → IsAnothers (made r (desk_begun r a) ls) p (d.last_seen p (slot_of (tree_of r) path)) (slot_of (tree_of r) path) n
     → (last : ℕ) × (desk_refusal r d p c ≡ Some (Stale last))

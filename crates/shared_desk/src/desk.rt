@@ -1,5 +1,6 @@
 // A session that several parties use.
-ghost use Rattle.std.specs.Prelude.{◌≡◌, ◌+◌, ◌<◌, ◌≤◌, ◌^◌, ◌&&◌, ℕ, not, List, [], map, IfErr, IfOk, IsTrue, OnErr, OnOk, option_map, None, Some, Ok, true, false};
+ghost use Rattle.std.specs.Prelude.{◌≡◌, ◌+◌, ◌<◌, ◌≤◌, ◌^◌, ◌&&◌, not, [], IfErr, IfOk, IsTrue, OnErr, OnOk, option_map, None, Some, Ok, true, false};
+ghost use Rattle.text_checks.specs.Tables.{named_checks};
 ghost use Rattle.dictionary.specs.Accepted.{accepted};
 ghost use Rattle.dictionary.specs.Fits.{AnswersFit, is_list as is_list_of};
 ghost use Rattle.dictionary.specs.Slots.{is_member, stands};
@@ -8,7 +9,7 @@ ghost use Rattle.answers.specs.Meaning.{answered};
 ghost use Rattle.graph_session.specs.Counts.{stamp_of};
 ghost use Rattle.graph_session.specs.Refusals.{SameChecks, slot_refusals};
 ghost use Rattle.graph_session.specs.Rules.{rules, tree_of};
-ghost use Rattle.graph_session.specs.SessionView.{course};
+ghost use Rattle.graph_session.specs.SessionView.{session_state};
 ghost use Rattle.graph_session.specs.Step.{is_change, most_steps, refusal, step};
 ghost use Rattle.shared_desk.specs.Desk.{Desk as Defined, absent_refusals, appends, desk_after, desk_begun, desk_refusal, desk_step, early, first_early, shown, stale as stale_at, stale_named};
 ghost use Rattle.shared_desk.specs.DeskView.{Keeps, StandsFor, kept_desk, rules_of};
@@ -16,7 +17,7 @@ ghost use Rattle.shared_desk.specs.Refusals.{Refused};
 ghost use Rattle.shared_desk.specs.declared.refusal.DeskRefusal.TheVariants.{Session as OfSession};
 ghost use Rattle.script_lines.specs.declared.command.Command.TheVariants.{Redo, Remove, Undo};
 
-use crate::looks::Looks;
+use crate::last_seen::LastSeen;
 use crate::parties::{entrant, judge_owner, make_room, next_entrant, sign, sign_at, stale_since};
 use crate::refusal::DeskRefusal;
 use answers::Answers;
@@ -42,12 +43,12 @@ pub struct Desk<E: FactEngine> {
     entries: Vec<u32>,
     /// The place in that list, from 0.
     place: usize,
-    looks: Looks,
+    last_seen: LastSeen,
 }
 
 impl<E: FactEngine> Model for Desk<E> {
     ghost use Rattle.std.specs.Prelude.{◌≡◌, ◌≤◌};
-    ghost use Rattle.graph_session.specs.SessionView.{course};
+    ghost use Rattle.graph_session.specs.SessionView.{session_state};
     ghost use Rattle.shared_desk.specs.Desk.{place_of};
     ghost use Rattle.shared_desk.specs.DeskView.{DeskView, coded_desk};
 
@@ -59,10 +60,10 @@ impl<E: FactEngine> Model for Desk<E> {
       session = d.session;
       changers = d.changers.items;
       entries = d.entries.items;
-      asked = d.looks;
+      asked = d.last_seen;
     } };
 
-    ghost invariant = { λ d. (d.place ≡ place_of (course d.session)) × (d.place ≤ d.session.changes) };
+    ghost invariant = { λ d. (d.place ≡ place_of (session_state d.session)) × (d.place ≤ d.session.changes) };
 }
 
 impl<E: FactEngine> Desk<E> {
@@ -89,7 +90,7 @@ impl<E: FactEngine> Desk<E> {
             changers: Vec::new(alloc),
             entries: Vec::new(alloc),
             place: 0,
-            looks: Looks::new(alloc),
+            last_seen: LastSeen::new(alloc),
         })
     }
 
@@ -116,7 +117,7 @@ impl<E: FactEngine> Desk<E> {
         requires { IsTrue (stands (tree_of (rules_of self.now)) self.now.session.timeline.now slot) }
         ensures { result ≡ stale_at (kept_desk self.now) party slot }
     {
-        let look = self.looks.at(party, slot);
+        let look = self.last_seen.at(party, slot);
         stale_since(&self.changers, party, look, self.last_touched(slot))
     }
 
@@ -197,14 +198,14 @@ impl<E: FactEngine> Desk<E> {
         steps: &mut Steps<L>,
     ) -> Result<Reply, DeskRefusal>
         requires appends { appends command.now ≡ true }
-        requires same_checks { SameChecks (rules_of self.old) (map {B = List ℕ × ℕ} (λ c. (c.name, c.code)) checks.now.checks.items) }
+        requires same_checks { SameChecks (rules_of self.old) (named_checks checks.now) }
         requires few { self.old.session.changes < 2 ^ 63 }
-        ensures ok { IfOk result (λ r. step (rules_of self.old) (course self.old.session) command.now ≡ Ok (r, course self.new.session)) }
+        ensures ok { IfOk result (λ r. step (rules_of self.old) (session_state self.old.session) command.now ≡ Ok (r, session_state self.new.session)) }
         ensures kept { OnOk result (Keeps self.old party command.now self.new) }
         ensures dict { self.new.session.dict ≡ self.old.session.dict }
-        ensures refused { IfErr result (λ r. Refused r (option_map OfSession (refusal (rules_of self.old) (course self.old.session) command.now))) }
+        ensures refused { IfErr result (λ r. Refused r (option_map OfSession (refusal (rules_of self.old) (session_state self.old.session) command.now))) }
         ensures unchanged { OnErr result (self.new ≡ self.old) }
-        ensures steps { steps.new ≤ steps.old + most_steps (E.most (accepted self.old.session.dict)) (rules_of self.old) (course self.old.session) command.now }
+        ensures steps { steps.new ≤ steps.old + most_steps (E.most (accepted self.old.session.dict)) (rules_of self.old) (session_state self.old.session) command.now }
     {
         make_room(&mut self.changers)?;
         make_room(&mut self.entries)?;
@@ -228,14 +229,14 @@ impl<E: FactEngine> Desk<E> {
         steps: &mut Steps<L>,
     ) -> Result<Reply, DeskRefusal>
         requires undo { command.now ≡ Undo }
-        requires same_checks { SameChecks (rules_of self.old) (map {B = List ℕ × ℕ} (λ c. (c.name, c.code)) checks.now.checks.items) }
+        requires same_checks { SameChecks (rules_of self.old) (named_checks checks.now) }
         requires few { self.old.session.changes < 2 ^ 63 }
-        ensures ok { IfOk result (λ r. step (rules_of self.old) (course self.old.session) command.now ≡ Ok (r, course self.new.session)) }
+        ensures ok { IfOk result (λ r. step (rules_of self.old) (session_state self.old.session) command.now ≡ Ok (r, session_state self.new.session)) }
         ensures kept { OnOk result (Keeps self.old party command.now self.new) }
         ensures dict { self.new.session.dict ≡ self.old.session.dict }
-        ensures refused { IfErr result (λ r. Refused r (option_map OfSession (refusal (rules_of self.old) (course self.old.session) command.now))) }
+        ensures refused { IfErr result (λ r. Refused r (option_map OfSession (refusal (rules_of self.old) (session_state self.old.session) command.now))) }
         ensures unchanged { OnErr result (self.new ≡ self.old) }
-        ensures steps { steps.new ≤ steps.old + most_steps (E.most (accepted self.old.session.dict)) (rules_of self.old) (course self.old.session) command.now }
+        ensures steps { steps.new ≤ steps.old + most_steps (E.most (accepted self.old.session.dict)) (rules_of self.old) (session_state self.old.session) command.now }
     {
         make_room(&mut self.changers)?;
         match self.session.command(command, checks, steps) {
@@ -257,14 +258,14 @@ impl<E: FactEngine> Desk<E> {
         steps: &mut Steps<L>,
     ) -> Result<Reply, DeskRefusal>
         requires redo { command.now ≡ Redo }
-        requires same_checks { SameChecks (rules_of self.old) (map {B = List ℕ × ℕ} (λ c. (c.name, c.code)) checks.now.checks.items) }
+        requires same_checks { SameChecks (rules_of self.old) (named_checks checks.now) }
         requires few { self.old.session.changes < 2 ^ 63 }
-        ensures ok { IfOk result (λ r. step (rules_of self.old) (course self.old.session) command.now ≡ Ok (r, course self.new.session)) }
+        ensures ok { IfOk result (λ r. step (rules_of self.old) (session_state self.old.session) command.now ≡ Ok (r, session_state self.new.session)) }
         ensures kept { OnOk result (Keeps self.old party command.now self.new) }
         ensures dict { self.new.session.dict ≡ self.old.session.dict }
-        ensures refused { IfErr result (λ r. Refused r (option_map OfSession (refusal (rules_of self.old) (course self.old.session) command.now))) }
+        ensures refused { IfErr result (λ r. Refused r (option_map OfSession (refusal (rules_of self.old) (session_state self.old.session) command.now))) }
         ensures unchanged { OnErr result (self.new ≡ self.old) }
-        ensures steps { steps.new ≤ steps.old + most_steps (E.most (accepted self.old.session.dict)) (rules_of self.old) (course self.old.session) command.now }
+        ensures steps { steps.new ≤ steps.old + most_steps (E.most (accepted self.old.session.dict)) (rules_of self.old) (session_state self.old.session) command.now }
     {
         make_room(&mut self.changers)?;
         match self.session.command(command, checks, steps) {
@@ -287,14 +288,14 @@ impl<E: FactEngine> Desk<E> {
         steps: &mut Steps<L>,
     ) -> Result<Reply, DeskRefusal>
         requires shown { shown command.now ≡ Some path.now }
-        requires same_checks { SameChecks (rules_of self.old) (map {B = List ℕ × ℕ} (λ c. (c.name, c.code)) checks.now.checks.items) }
+        requires same_checks { SameChecks (rules_of self.old) (named_checks checks.now) }
         requires few { self.old.session.changes < 2 ^ 63 }
-        ensures ok { IfOk result (λ r. step (rules_of self.old) (course self.old.session) command.now ≡ Ok (r, course self.new.session)) }
+        ensures ok { IfOk result (λ r. step (rules_of self.old) (session_state self.old.session) command.now ≡ Ok (r, session_state self.new.session)) }
         ensures kept { OnOk result (Keeps self.old party command.now self.new) }
         ensures dict { self.new.session.dict ≡ self.old.session.dict }
-        ensures refused { IfErr result (λ r. Refused r (option_map OfSession (refusal (rules_of self.old) (course self.old.session) command.now))) }
+        ensures refused { IfErr result (λ r. Refused r (option_map OfSession (refusal (rules_of self.old) (session_state self.old.session) command.now))) }
         ensures unchanged { OnErr result (self.new ≡ self.old) }
-        ensures steps { steps.new ≤ steps.old + most_steps (E.most (accepted self.old.session.dict)) (rules_of self.old) (course self.old.session) command.now }
+        ensures steps { steps.new ≤ steps.old + most_steps (E.most (accepted self.old.session.dict)) (rules_of self.old) (session_state self.old.session) command.now }
     {
         let slot = match self.session.slot_of(path) {
             Err(refusal) => return Err(DeskRefusal::Session(refusal)),
@@ -302,7 +303,7 @@ impl<E: FactEngine> Desk<E> {
         };
         match self.session.command(command, checks, steps) {
             Err(refusal) => Err(DeskRefusal::Session(refusal)),
-            Ok(reply) => match self.looks.put(party, slot, self.session.changes()) {
+            Ok(reply) => match self.last_seen.put(party, slot, self.session.changes()) {
                 Err(NoMemory) => Err(DeskRefusal::Session(Refusal::NoMemory)),
                 Ok(()) => Ok(reply),
             },
@@ -319,14 +320,14 @@ impl<E: FactEngine> Desk<E> {
     ) -> Result<Reply, DeskRefusal>
         requires asks { is_change command.now ≡ false }
         requires shows { shown command.now ≡ None }
-        requires same_checks { SameChecks (rules_of self.old) (map {B = List ℕ × ℕ} (λ c. (c.name, c.code)) checks.now.checks.items) }
+        requires same_checks { SameChecks (rules_of self.old) (named_checks checks.now) }
         requires few { self.old.session.changes < 2 ^ 63 }
-        ensures ok { IfOk result (λ r. step (rules_of self.old) (course self.old.session) command.now ≡ Ok (r, course self.new.session)) }
+        ensures ok { IfOk result (λ r. step (rules_of self.old) (session_state self.old.session) command.now ≡ Ok (r, session_state self.new.session)) }
         ensures kept { OnOk result (Keeps self.old party command.now self.new) }
         ensures dict { self.new.session.dict ≡ self.old.session.dict }
-        ensures refused { IfErr result (λ r. Refused r (option_map OfSession (refusal (rules_of self.old) (course self.old.session) command.now))) }
+        ensures refused { IfErr result (λ r. Refused r (option_map OfSession (refusal (rules_of self.old) (session_state self.old.session) command.now))) }
         ensures unchanged { OnErr result (self.new ≡ self.old) }
-        ensures steps { steps.new ≤ steps.old + most_steps (E.most (accepted self.old.session.dict)) (rules_of self.old) (course self.old.session) command.now }
+        ensures steps { steps.new ≤ steps.old + most_steps (E.most (accepted self.old.session.dict)) (rules_of self.old) (session_state self.old.session) command.now }
     {
         match self.session.command(command, checks, steps) {
             Err(refusal) => Err(DeskRefusal::Session(refusal)),
@@ -342,14 +343,14 @@ impl<E: FactEngine> Desk<E> {
         checks: &CheckTable,
         steps: &mut Steps<L>,
     ) -> Result<Reply, DeskRefusal>
-        requires same_checks { SameChecks (rules_of self.old) (map {B = List ℕ × ℕ} (λ c. (c.name, c.code)) checks.now.checks.items) }
+        requires same_checks { SameChecks (rules_of self.old) (named_checks checks.now) }
         requires few { self.old.session.changes < 2 ^ 63 }
-        ensures ok { IfOk result (λ r. step (rules_of self.old) (course self.old.session) command.now ≡ Ok (r, course self.new.session)) }
+        ensures ok { IfOk result (λ r. step (rules_of self.old) (session_state self.old.session) command.now ≡ Ok (r, session_state self.new.session)) }
         ensures kept { OnOk result (Keeps self.old party command.now self.new) }
         ensures dict { self.new.session.dict ≡ self.old.session.dict }
-        ensures refused { IfErr result (λ r. Refused r (option_map OfSession (refusal (rules_of self.old) (course self.old.session) command.now))) }
+        ensures refused { IfErr result (λ r. Refused r (option_map OfSession (refusal (rules_of self.old) (session_state self.old.session) command.now))) }
         ensures unchanged { OnErr result (self.new ≡ self.old) }
-        ensures steps { steps.new ≤ steps.old + most_steps (E.most (accepted self.old.session.dict)) (rules_of self.old) (course self.old.session) command.now }
+        ensures steps { steps.new ≤ steps.old + most_steps (E.most (accepted self.old.session.dict)) (rules_of self.old) (session_state self.old.session) command.now }
     {
         match command {
             Command::Set(..)
@@ -382,15 +383,15 @@ impl<E: FactEngine> Desk<E> {
         checks: &CheckTable,
         steps: &mut Steps<L>,
     ) -> Result<Reply, DeskRefusal>
-        requires same_checks { SameChecks (rules_of self.old) (map {B = List ℕ × ℕ} (λ c. (c.name, c.code)) checks.now.checks.items) }
+        requires same_checks { SameChecks (rules_of self.old) (named_checks checks.now) }
         requires few { self.old.session.changes < 2 ^ 63 }
         ensures reply { (d : Defined) → StandsFor self.old d → IfOk result (λ r. desk_step (rules_of self.old) d party command.now ≡ Ok (r, desk_after (rules_of self.old) d party command.now)) }
         ensures after { (d : Defined) → StandsFor self.old d → OnOk result (StandsFor self.new (desk_after (rules_of self.old) d party command.now)) }
         ensures refused { (d : Defined) → StandsFor self.old d → IfErr result (λ r. Refused r (desk_refusal (rules_of self.old) d party command.now)) }
         ensures unchanged { OnErr result (self.new ≡ self.old) }
-        ensures session { IfOk result (λ r. step (rules_of self.old) (course self.old.session) command.now ≡ Ok (r, course self.new.session)) }
+        ensures session { IfOk result (λ r. step (rules_of self.old) (session_state self.old.session) command.now ≡ Ok (r, session_state self.new.session)) }
         ensures dict { self.new.session.dict ≡ self.old.session.dict }
-        ensures steps { steps.new ≤ steps.old + most_steps (E.most (accepted self.old.session.dict)) (rules_of self.old) (course self.old.session) command.now }
+        ensures steps { steps.new ≤ steps.old + most_steps (E.most (accepted self.old.session.dict)) (rules_of self.old) (session_state self.old.session) command.now }
     {
         match self.judge(party, command) {
             Some(refusal) => Err(refusal),

@@ -4,7 +4,7 @@ ghost use Rattle.shared_desk.specs.StaleRule.{AnothersChangeIsStale, StaleIsAnot
 
 /// The session of a desk is a session over the accepted commands in order, and gives each of them the same reply.
 pub fn the_session_is_over_accepted_commands()
-    ensures course { SessionIsOverAccepted }
+    ensures session_state { SessionIsOverAccepted }
     ensures replies { AcceptedAreAnswered }
 {}
 

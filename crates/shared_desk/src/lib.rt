@@ -3,8 +3,8 @@
 #![tactic(auto)]
 
 mod desk;
+mod last_seen;
 pub mod laws;
-mod looks;
 mod parties;
 mod refusal;
 

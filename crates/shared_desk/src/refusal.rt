@@ -1,3 +1,4 @@
+// Why a desk refuses a line of a party.
 use graph_session::Refusal;
 
 /// Why a line of a party is refused. A refused line changes nothing.

@@ -19,13 +19,13 @@ use Rattle.tax_2023.proofs.Spells.{IsWritten}
 use Rattle.tax_2023.proofs.Values.{person}
 use Rattle.tax_2023.proofs.YearDictionary.{Rest, Worth}
 
-pub joint_told : (y : Year) (t : Rest) (a : Answered) (h : Household) → Worth y t a h 17 0 (Boolean (is_joint h)) facts.joint
+pub joint_stated : (y : Year) (t : Rest) (a : Answered) (h : Household) → Worth y t a h 17 0 (Boolean (is_joint h)) facts.joint
 unfolding is_joint
-joint_told y t a h = λ look. (refl, refl)
+joint_stated y t a h = λ results. (refl, refl)
 
-pub unmarried_told : (y : Year) (t : Rest) (a : Answered) (h : Household) → Worth y t a h 18 0 (Boolean (is_unmarried h)) facts.unmarried
+pub unmarried_stated : (y : Year) (t : Rest) (a : Answered) (h : Household) → Worth y t a h 18 0 (Boolean (is_unmarried h)) facts.unmarried
 unfolding is_unmarried
-unmarried_told y t a h = λ look. (refl, refl)
+unmarried_stated y t a h = λ results. (refl, refl)
 
 -- ---- filing status
 
@@ -38,9 +38,9 @@ status_by false false true d = refl
 status_by false false false true = refl
 status_by false false false false = refl
 
-pub filing_status_told : (y : Year) (t : Rest) (a : Answered) (h : Household) → Worth y t a h 19 0 (status_value (status h)) facts.filing_status
+pub filing_status_stated : (y : Year) (t : Rest) (a : Answered) (h : Household) → Worth y t a h 19 0 (status_value (status h)) facts.filing_status
 unfolding status is_surviving_spouse is_head_of_household
-filing_status_told y t a h = λ look. (refl, status_by (is_joint h) (is_surviving_spouse h) (is_head_of_household h) h.married)
+filing_status_stated y t a h = λ results. (refl, status_by (is_joint h) (is_surviving_spouse h) (is_head_of_household h) h.married)
 
 -- ---- the rows of the table
 
@@ -53,8 +53,8 @@ basic_by y w jointly = refl
 basic_by y w surviving_spouse = rw w.shares.basic_surviving refl
 basic_by y w head_of_household = refl
 
-pub basic_told : (y : Year) (t : Rest) (a : Answered) (h : Household) → IsWritten y → Worth y t a h 20 0 (Dollar (basic_amount y h)) (facts.basic_amount (figures y))
-basic_told y t a h w = λ look. (refl, rw (w.spells.basic_single, w.spells.basic_jointly, w.spells.basic_head) (basic_by y w (status h)))
+pub basic_stated : (y : Year) (t : Rest) (a : Answered) (h : Household) → IsWritten y → Worth y t a h 20 0 (Dollar (basic_amount y h)) (facts.basic_amount (figures y))
+basic_stated y t a h w = λ results. (refl, rw (w.spells.basic_single, w.spells.basic_jointly, w.spells.basic_head) (basic_by y w (status h)))
 
 box_by : (y : Year) → IsWritten y → (s : Status)
     → (if status_place s == 0 || status_place s == 4 then Dollar (cents (y.box single)) else Dollar (cents (y.box separately))) ≡ Dollar (cents (y.box s))
@@ -64,8 +64,8 @@ box_by y w jointly = rw w.shares.box_jointly refl
 box_by y w surviving_spouse = rw w.shares.box_surviving refl
 box_by y w head_of_household = rw w.shares.box_head refl
 
-pub additional_told : (y : Year) (t : Rest) (a : Answered) (h : Household) → IsWritten y → Worth y t a h 21 0 (Dollar (box_amount y h)) (facts.additional_amount (figures y))
-additional_told y t a h w = λ look. (refl, rw (w.spells.box_single, w.spells.box_separately) (box_by y w (status h)))
+pub additional_stated : (y : Year) (t : Rest) (a : Answered) (h : Household) → IsWritten y → Worth y t a h 21 0 (Dollar (box_amount y h)) (facts.additional_amount (figures y))
+additional_stated y t a h w = λ results. (refl, rw (w.spells.box_single, w.spells.box_separately) (box_by y w (status h)))
 
 -- ---- boxes
 
@@ -90,9 +90,9 @@ bits false false true false = refl
 bits false false false true = refl
 bits false false false false = refl
 
-pub boxes_told : (y : Year) (t : Rest) (a : Answered) (h : Household) → IsWritten y → Worth y t a h 22 0 (Int (pos (boxes y h))) (facts.boxes (figures y))
+pub boxes_stated : (y : Year) (t : Rest) (a : Answered) (h : Household) → IsWritten y → Worth y t a h 22 0 (Int (pos (boxes y h))) (facts.boxes (figures y))
 unfolding boxes is_old
-boxes_told y t a h w = λ look.
+boxes_stated y t a h w = λ results.
     let first = first_of (y.year + 1 - 65) in
     let own = is_lt-int_lt h.date_of_birth (first +ℤ pos 1) ∙ old h.date_of_birth first in
     let their = is_lt-int_lt h.spouse_date_of_birth (first +ℤ pos 1) ∙ old h.spouse_date_of_birth first in
@@ -101,30 +101,30 @@ boxes_told y t a h w = λ look.
 
 -- ---- members
 
-pub under_age_told : (y : Year) (t : Rest) (a : Answered) (h : Household) → IsWritten y → (m : ℕ) → IsTrue (is_member a 26 m) → Worth y t a h 37 m (Boolean (is_under_age y (person a m))) (facts.under_age (figures y))
+pub under_age_stated : (y : Year) (t : Rest) (a : Answered) (h : Household) → IsWritten y → (m : ℕ) → IsTrue (is_member a 26 m) → Worth y t a h 37 m (Boolean (is_under_age y (person a m))) (facts.under_age (figures y))
 unfolding is_under_age
-under_age_told y t a h w m st = λ look.
+under_age_stated y t a h w m st = λ results.
     let born = (person a m).date_of_birth in
     let small = w.small in
     let nineteen = is_gt-int_lt born (first_of (y.year - 18) -ℤ pos 1) ∙ young born y.year 18 (omega (arith, small.from)) (omega (arith, small.from)) (omega (arith, small.until)) in
     let twenty_four = is_gt-int_lt born (first_of (y.year - 23) -ℤ pos 1) ∙ young born y.year 23 (omega (arith, small.from)) (omega (arith, small.from)) (omega (arith, small.until)) in
     (rw st refl, rw (w.spells.under_19_after, w.spells.under_24_after, nineteen, twenty_four) refl)
 
-pub younger_told : (y : Year) (t : Rest) (a : Answered) (h : Household) (m : ℕ) → IsTrue (is_member a 26 m) → Worth y t a h 38 m (Boolean (is_younger h (person a m))) facts.younger
+pub younger_stated : (y : Year) (t : Rest) (a : Answered) (h : Household) (m : ℕ) → IsTrue (is_member a 26 m) → Worth y t a h 38 m (Boolean (is_younger h (person a m))) facts.younger
 unfolding is_younger
-younger_told y t a h m st = λ look.
+younger_stated y t a h m st = λ results.
     let born = (person a m).date_of_birth in
     (rw st refl, rw (is_gt-int_lt born h.date_of_birth, is_gt-int_lt born h.spouse_date_of_birth) refl)
 
-pub child_told : (y : Year) (t : Rest) (a : Answered) (h : Household) (m : ℕ) → IsTrue (is_member a 26 m) → Worth y t a h 39 m (Boolean (is_qualifying_child y h (person a m))) facts.qualifying_child
+pub child_stated : (y : Year) (t : Rest) (a : Answered) (h : Household) (m : ℕ) → IsTrue (is_member a 26 m) → Worth y t a h 39 m (Boolean (is_qualifying_child y h (person a m))) facts.qualifying_child
 unfolding is_qualifying_child
-child_told y t a h m st = λ look. (rw st refl, refl)
+child_stated y t a h m st = λ results. (rw st refl, refl)
 
-pub relative_told : (y : Year) (t : Rest) (a : Answered) (h : Household) → IsWritten y → (m : ℕ) → IsTrue (is_member a 26 m) → Worth y t a h 40 m (Boolean (is_qualifying_relative y h (person a m))) (facts.qualifying_relative (figures y))
+pub relative_stated : (y : Year) (t : Rest) (a : Answered) (h : Household) → IsWritten y → (m : ℕ) → IsTrue (is_member a 26 m) → Worth y t a h 40 m (Boolean (is_qualifying_relative y h (person a m))) (facts.qualifying_relative (figures y))
 unfolding is_qualifying_relative
-relative_told y t a h w m st = λ look.
+relative_stated y t a h w m st = λ results.
     (rw st refl, rw (w.spells.gross_below, is_lt-int_lt (person a m).gross_income (cents y.gross_income_limit)) refl)
 
-pub dependent_told : (y : Year) (t : Rest) (a : Answered) (h : Household) (m : ℕ) → IsTrue (is_member a 26 m) → Worth y t a h 41 m (Boolean (is_dependent y h (person a m))) facts.is_dependent
+pub dependent_stated : (y : Year) (t : Rest) (a : Answered) (h : Household) (m : ℕ) → IsTrue (is_member a 26 m) → Worth y t a h 41 m (Boolean (is_dependent y h (person a m))) facts.is_dependent
 unfolding is_dependent
-dependent_told y t a h m st = λ look. (rw st refl, refl)
+dependent_stated y t a h m st = λ results. (rw st refl, refl)

@@ -10,7 +10,7 @@ pub mod Persons
 pub mod SourceLaws
 pub mod Spells
 pub mod TableLaw
-pub mod Told
+pub mod Stated
 pub mod Values
 pub mod YearDictionary
 pub mod YearLaw

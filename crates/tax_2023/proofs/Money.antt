@@ -16,7 +16,7 @@ use Rattle.evaluation.specs.Sure.{value_of}
 use Rattle.answers.specs.Answered.{Answered}
 use Rattle.tax_2023.specs.Household.{Household, Status, single, separately, jointly, surviving_spouse, head_of_household}
 use Rattle.tax_2023.specs.Years.{Year}
-use Rattle.dictionary.specs.Reading.{constant_value}
+use Rattle.dictionary.specs.Dependencies.{constant_value}
 use Rattle.tax_2023.specs.Figures.{figures, spelled_dollars}
 use Rattle.tax_2023.specs.Tables.{basic_amount, box_amount, boxes, cents, claimed_amount, deduction, greater_of, is_joint, is_old, is_separate, lesser_of, one_if, status, taxable_income}
 use Rattle.tax_2023.specs.Facts as facts
@@ -171,13 +171,13 @@ lesser_is v w a b p q = rw (p, q, is_gt-int_lt a b) (one_dollar (int_lt b a) b a
 
 -- ---- the facts
 
-pub total_told : (y : Year) (t : Rest) (a : Answered) (h : Household) → IsModest h.earned_income → IsModest h.other_income → Worth y t a h 24 0 (Dollar (h.earned_income +ℤ h.other_income)) facts.total_income
-total_told y t a h e o =
+pub total_stated : (y : Year) (t : Rest) (a : Answered) (h : Household) → IsModest h.earned_income → IsModest h.other_income → Worth y t a h 24 0 (Dollar (h.earned_income +ℤ h.other_income)) facts.total_income
+total_stated y t a h e o =
     let i = modest h.earned_income e in
     let j = modest h.other_income o in
     let r = in_range_of (h.earned_income +ℤ h.other_income) (record { low = omega (arith, ints, i.low, j.low); high = omega (arith, ints, i.high, j.high) }) in
     let sum = sum_is (Dollar h.earned_income) (Dollar h.other_income) h.earned_income h.other_income refl refl r in
-    λ look. (ap is_ok sum, ap value_of sum)
+    λ results. (ap is_ok sum, ap value_of sum)
 
 is_separate-place : (s : Status) → (status_place s == 1) ≡ is_separate s
 is_separate-place single = refl
@@ -206,9 +206,9 @@ deduction_sure : (a m c f claimed separate : Bool) → a ≡ true → m ≡ true
     → ((((((((a && true) && true) && true) && true) && (m && true)) && c) && ((((m && true) && f) && true) || claimed)) || separate) ≡ true
 deduction_sure a m c f claimed separate p q r s = rw (p, q, r, s) refl
 
-pub deduction_told : (y : Year) (t : Rest) (a : Answered) (h : Household) → IsWritten y → IsModest h.earned_income → Worth y t a h 23 0 (Dollar (deduction y h)) (facts.standard_deduction (figures y))
+pub deduction_stated : (y : Year) (t : Rest) (a : Answered) (h : Household) → IsWritten y → IsModest h.earned_income → Worth y t a h 23 0 (Dollar (deduction y h)) (facts.standard_deduction (figures y))
 unfolding deduction
-deduction_told y t a h w e =
+deduction_stated y t a h w e =
     let r = sums y w h e in
     let more = cents y.claimed_above_earned in
     let more_text = amount_of (spelled_dollars y.claimed_above_earned) in
@@ -228,16 +228,16 @@ deduction_told y t a h w e =
     let claiming = sum_is base boxed (claimed_amount y h) z lesser (ap value_of times) r.claiming in
     let full = sum_is (Dollar b) boxed b z refl (ap value_of times) r.full in
     let separate = (status_place (status h) == 1) && h.spouse_itemizes in
-    λ look. (
+    λ results. (
       deduction_sure (is_ok (many_value Add (Dollar h.earned_income ∷ more_text ∷ []))) (is_ok (two_value Multiply (Dollar (box_amount y h)) (Int (pos (boxes y h)))))
           (is_ok (many_value Add (base ∷ boxed ∷ []))) (is_ok (many_value Add (Dollar b ∷ boxed ∷ []))) h.can_be_claimed separate (ap is_ok sum) (ap is_ok times) (ap is_ok claiming) (ap is_ok full),
       case_is separate h.can_be_claimed (value_of (many_value Add (base ∷ boxed ∷ []))) (value_of (many_value Add (Dollar b ∷ boxed ∷ []))) (claimed_amount y h) b z (ap value_of claiming) (ap value_of full)
           ∙ ap (λ s. Dollar (if s && h.spouse_itemizes then pos 0 else (if h.can_be_claimed then claimed_amount y h else b) +ℤ z)) (is_separate-place (status h)),
     )
 
-pub taxable_told : (y : Year) (t : Rest) (a : Answered) (h : Household) → IsWritten y → IsModest h.earned_income → IsModest h.other_income → Worth y t a h 25 0 (Dollar (taxable_income y h)) facts.taxable_income
+pub taxable_stated : (y : Year) (t : Rest) (a : Answered) (h : Household) → IsWritten y → IsModest h.earned_income → IsModest h.other_income → Worth y t a h 25 0 (Dollar (taxable_income y h)) facts.taxable_income
 unfolding taxable_income
-taxable_told y t a h w e o =
+taxable_stated y t a h w e o =
     let i = modest h.earned_income e in
     let j = modest h.other_income o in
     let d = deduction_small y w h in
@@ -245,4 +245,4 @@ taxable_told y t a h w e o =
     let r = in_range_of (income -ℤ deduction y h) (record { low = omega (arith, ints, i.low, j.low, d.high); high = omega (arith, ints, i.high, j.high, d.low) }) in
     let rest = difference_is (Dollar income) (Dollar (deduction y h)) income (deduction y h) refl refl r in
     let left = value_of (many_value Subtract (Dollar income ∷ Dollar (deduction y h) ∷ [])) in
-    λ look. (rw (ap is_ok rest) refl, greater_is (Dollar (pos 0)) left (pos 0) (income -ℤ deduction y h) refl (ap value_of rest))
+    λ results. (rw (ap is_ok rest) refl, greater_is (Dollar (pos 0)) left (pos 0) (income -ℤ deduction y h) refl (ap value_of rest))

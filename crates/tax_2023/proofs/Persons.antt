@@ -68,11 +68,11 @@ counted a test ps o = sym (is_count_by count_true truth refl (λ x xs. refl) (ma
 abbrev pub IsOpen : Answered → Household → Type 0
 IsOpen a h = map_of.get a.lists 26 ≡ Some (members h.persons)
 
-pub list_told : (y : Year) (t : Rest) (a : Answered) (h : Household) → IsOpen a h → AreGiven a h.persons → Worth y t a h 42 0 (Members (members (dependents y h))) facts.dependent_list
-list_told y t a h opened o = λ look. (rw (opened, all_members (members h.persons)) refl, ap Members (kept_members a (is_dependent y h) h.persons o))
+pub list_stated : (y : Year) (t : Rest) (a : Answered) (h : Household) → IsOpen a h → AreGiven a h.persons → Worth y t a h 42 0 (Members (members (dependents y h))) facts.dependent_list
+list_stated y t a h opened o = λ results. (rw (opened, all_members (members h.persons)) refl, ap Members (kept_members a (is_dependent y h) h.persons o))
 
-pub count_told : (y : Year) (t : Rest) (a : Answered) (h : Household) → IsOpen a h → AreGiven a h.persons → Worth y t a h 43 0 (Int (pos (length (dependents y h)))) facts.dependent_count
-count_told y t a h opened o = λ look. (rw (opened, all_members (members h.persons)) refl, ap (λ n. Int (pos n)) (counted a (is_dependent y h) h.persons o))
+pub count_stated : (y : Year) (t : Rest) (a : Answered) (h : Household) → IsOpen a h → AreGiven a h.persons → Worth y t a h 43 0 (Int (pos (length (dependents y h)))) facts.dependent_count
+count_stated y t a h opened o = λ results. (rw (opened, all_members (members h.persons)) refl, ap (λ n. Int (pos n)) (counted a (is_dependent y h) h.persons o))
 
-pub child_count_told : (y : Year) (t : Rest) (a : Answered) (h : Household) → IsOpen a h → AreGiven a h.persons → Worth y t a h 44 0 (Int (pos (length (qualifying_children y h)))) facts.qualifying_child_count
-child_count_told y t a h opened o = λ look. (rw (opened, all_members (members h.persons)) refl, ap (λ n. Int (pos n)) (counted a (is_qualifying_child y h) h.persons o))
+pub child_count_stated : (y : Year) (t : Rest) (a : Answered) (h : Household) → IsOpen a h → AreGiven a h.persons → Worth y t a h 44 0 (Int (pos (length (qualifying_children y h)))) facts.qualifying_child_count
+child_count_stated y t a h opened o = λ results. (rw (opened, all_members (members h.persons)) refl, ap (λ n. Int (pos n)) (counted a (is_qualifying_child y h) h.persons o))

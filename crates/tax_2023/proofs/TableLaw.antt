@@ -19,7 +19,7 @@ use Rattle.evaluation.proofs.Sureness.{sure-find}
 use Rattle.answers.specs.Answered.{Answered}
 use Rattle.dictionary.specs.Accepted.{Accepted, IsAccepted}
 use Rattle.dictionary.specs.Plain.{expression, or_override, plain}
-use Rattle.dictionary.specs.Reading.{outermost, slot}
+use Rattle.dictionary.specs.Dependencies.{outermost, slot}
 use Rattle.dictionary.specs.Slots.{is_member}
 use Rattle.dictionary.proofs.PlainLaws.{plain_is_recursive}
 use Rattle.tax_2023.specs.Household.{Dependent, Household, single, separately, jointly, surviving_spouse, head_of_household}
@@ -30,31 +30,31 @@ use Rattle.tax_2023.specs.Facts.{dictionary}
 use Rattle.tax_2023.specs.Answers.{AreOfHousehold, AreOnPerson, AreOnPersons}
 use Rattle.tax_2023.specs.Tables.{basic_amount, box_amount, boxes, deduction, dependents, is_dependent, is_qualifying_child, is_qualifying_relative, is_under_age, is_younger, members, qualifying_children, status, taxable_income}
 use Rattle.tax_2023.specs.Laws.{HasPerson, HasPersons, HasTables, IsModest, IsOfYear, StatusesAreNamed, TablesHold, status_value}
-use Rattle.tax_2023.proofs.Join.{all_known, joined, told_slot}
+use Rattle.tax_2023.proofs.Join.{all_known, joined, stated_slot}
 use Rattle.tax_2023.proofs.Persons.{all_members, kept_members}
 use Rattle.tax_2023.proofs.Spells.{IsWritten, written_2023, written_2024}
-use Rattle.tax_2023.proofs.Told.{Told, known}
-use Rattle.tax_2023.proofs.Values.{person, told}
+use Rattle.tax_2023.proofs.Stated.{Stated, known}
+use Rattle.tax_2023.proofs.Values.{person, stated}
 use Rattle.tax_2023.proofs.YearDictionary.{Rest, no_rest, of_year, parts, ranks, ranks_are}
-use Rattle.tax_2023.proofs.YearLaw.{all_told, are_given, given_is}
+use Rattle.tax_2023.proofs.YearLaw.{all_stated, are_given, given_is}
 
 module _ (y : Year) (written : IsWritten y) (t : Rest) (accepted : IsAccepted [] (of_year y t)) (a : Answered) (h : Household) (i : AreOfHousehold (dictionary (figures y)) a h) (earned : IsModest h.earned_income) (other : IsModest h.other_income) where
   abbrev d : Accepted
   d = of_year y t
 
-  abbrev values : Told
-  values = told y h (person a)
+  abbrev values : Stated
+  values = stated y h (person a)
 
-  -- plain evaluation has what is told
-  has : (s : Slot) (v : Value) → told_slot d a values s ≡ Some v → plain d a s ≡ Some (Complete v)
-  has = joined [] d accepted a values (all_told y t a h i written earned other)
+  -- plain evaluation has what is stated
+  has : (s : Slot) (v : Value) → stated_slot d a values s ≡ Some v → plain d a s ≡ Some (Complete v)
+  has = joined [] d accepted a values (all_stated y t a h i written earned other)
 
   -- of a member of the list, with the person whom it is
   has_at : (n : ℕ) (p : Dependent) → IsTrue (list_any (nat_eq p.member) (members h.persons)) → AreOnPerson (dictionary (figures y)) a p → (value : Dependent → Value)
-      → ((m : ℕ) → IsTrue (is_member a 26 m) → told_slot d a values (slot n m) ≡ Some (value (person a m))) → plain d a (slot n p.member) ≡ Some (Complete (value p))
-  has_at n p among on value told =
+      → ((m : ℕ) → IsTrue (is_member a 26 m) → stated_slot d a values (slot n m) ≡ Some (value (person a m))) → plain d a (slot n p.member) ≡ Some (Complete (value p))
+  has_at n p among on value stated =
       let member : IsTrue (is_member a 26 p.member) = rw i.opened among in
-      has (slot n p.member) (value p) (told p.member member ∙ ap (λ q. Some (value q)) (given_is y a p on))
+      has (slot n p.member) (value p) (stated p.member member ∙ ap (λ q. Some (value q)) (given_is y a p on))
 
   person_has : (p : Dependent) → IsTrue (list_any (nat_eq p.member) (members h.persons)) → AreOnPerson (dictionary (figures y)) a p → HasPerson d y a h p
   person_has p among on = record {

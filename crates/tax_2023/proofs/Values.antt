@@ -7,12 +7,12 @@ use Rattle.three_state.specs.Results.{truth}
 use Rattle.evaluation.specs.Operations.{day_in, dollar_in}
 use Rattle.answers.specs.Answered.{Answered, value_of}
 use Rattle.answers.specs.declared.edit.Side.TheVariants.{Answer}
-use Rattle.dictionary.specs.Reading.{slot}
+use Rattle.dictionary.specs.Dependencies.{slot}
 use Rattle.tax_2023.specs.Household.{Dependent, Household}
 use Rattle.tax_2023.specs.Years.{Year}
 use Rattle.tax_2023.specs.Tables.{basic_amount, box_amount, boxes, deduction, dependents, is_dependent, is_joint, is_qualifying_child, is_qualifying_relative, is_under_age, is_unmarried, is_younger, members, qualifying_children, status, taxable_income}
 use Rattle.tax_2023.specs.Laws.{status_value}
-use Rattle.tax_2023.proofs.Told.{Told}
+use Rattle.tax_2023.proofs.Stated.{Stated}
 
 -- ---- the person of a member, from the answers
 
@@ -98,5 +98,5 @@ numbered xs zero = None
 numbered xs (suc i) = slice_get xs i
 
 -- with the person of each member
-abbrev pub told : Year → Household → (ℕ → Dependent) → Told
-told y h g n = option_map (entry_value h g) (numbered (entries y) n)
+abbrev pub stated : Year → Household → (ℕ → Dependent) → Stated
+stated y h g n = option_map (entry_value h g) (numbered (entries y) n)

@@ -9,15 +9,15 @@ use Rattle.dict_order.specs.MentionGraph.{mention_graph}
 use Rattle.dict_order.specs.Ranks.{are_ranks}
 use Rattle.answers.specs.Answered.{Answered}
 use Rattle.dictionary.specs.Accepted.{Accepted}
-use Rattle.dictionary.specs.Reading.{slot}
+use Rattle.dictionary.specs.Dependencies.{slot}
 use Rattle.written_facts.specs.Figures.{Named}
 use Rattle.written_facts.specs.Taking.{with_facts}
 use Rattle.tax_2023.specs.Household.{Household}
 use Rattle.tax_2023.specs.Years.{Year}
 use Rattle.tax_2023.specs.Figures.{figures}
 use Rattle.tax_2023.specs.Facts.{dictionary}
-use Rattle.tax_2023.proofs.Told.{IsWorth}
-use Rattle.tax_2023.proofs.Values.{person, told}
+use Rattle.tax_2023.proofs.Stated.{IsWorth}
+use Rattle.tax_2023.proofs.Values.{person, stated}
 
 abbrev pub ranks : List ℕ
 ranks =
@@ -49,4 +49,4 @@ of_year y t = parts (with_facts (dictionary (figures y)) t.facts) t.typed (ranks
 
 -- over answers and a household, the expression of the fact with number n is worth the value at a member
 abbrev pub Worth : Year → Rest → Answered → Household → ℕ → ℕ → Value → Source → Type 0
-Worth y t a h n m v e = IsWorth (of_year y t) a (told y h (person a)) (slot n m) v e
+Worth y t a h n m v e = IsWorth (of_year y t) a (stated y h (person a)) (slot n m) v e

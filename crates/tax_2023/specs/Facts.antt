@@ -9,7 +9,7 @@ use Rattle.dict_tree.specs.declared.operators.TwoOp.TheVariants.{Equal, GreaterT
 use Rattle.dict_tree.specs.declared.operators.PickOp.TheVariants.{Filter, Find}
 use Rattle.dict_tree.specs.Tree.{Source, SourceCase, Use, literal_true, literal_int, literal_dollar, literal_day, literal_choice, literal, read, switch, many, one, two, pick}
 use Rattle.dict_tree.specs.View.{cases_of, trees_of}
-use Rattle.dict_tree.specs.Reading.{use_of}
+use Rattle.dict_tree.specs.Parsing.{use_of}
 use Rattle.dict_tree.specs.Facts.{Fact, Stated, enum_of, item_of, list_of, scalar, writable_list}
 use Rattle.dict_tree.specs.Dictionary.{Dictionary}
 use Rattle.written_facts.specs.Figures.{Named, text_under}

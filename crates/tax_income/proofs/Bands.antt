@@ -18,7 +18,7 @@ use Rattle.dict_types.specs.TypedParts.{TypedDictionary}
 use Rattle.evaluation.specs.Operations.{many_value, two_value, value_as}
 use Rattle.evaluation.specs.Sure.{value_of}
 use Rattle.answers.specs.Answered.{Answered}
-use Rattle.dictionary.specs.Reading.{constant_value}
+use Rattle.dictionary.specs.Dependencies.{constant_value}
 use Rattle.tax_2023.specs.Household.{Cents, Household, Status, single, separately, jointly, surviving_spouse, head_of_household}
 use Rattle.tax_2023.specs.Years.{tables_2023}
 use Rattle.tax_2023.specs.Tables.{cents, deduction, greater_of, lesser_of, status, taxable_income}
@@ -47,23 +47,23 @@ end_by e same surviving_spouse = rw same refl
 end_by e same head_of_household = refl
 
 module _ (t : TypedDictionary) (a : Answered) (h : Household) (numbered : Numbered) where
-  pub end10_told : Worth t a h numbered 46 0 (Dollar (cents (end_at 0 (status h)))) (facts.by_status (codes "22000.00") (codes "15700.00") (codes "11000.00") (codes "11000.00"))
-  end10_told = λ look. (refl, end_by (end_at 0) refl (status h))
+  pub end10_stated : Worth t a h numbered 46 0 (Dollar (cents (end_at 0 (status h)))) (facts.by_status (codes "22000.00") (codes "15700.00") (codes "11000.00") (codes "11000.00"))
+  end10_stated = λ results. (refl, end_by (end_at 0) refl (status h))
 
-  pub end12_told : Worth t a h numbered 47 0 (Dollar (cents (end_at 1 (status h)))) (facts.by_status (codes "89450.00") (codes "59850.00") (codes "44725.00") (codes "44725.00"))
-  end12_told = λ look. (refl, end_by (end_at 1) refl (status h))
+  pub end12_stated : Worth t a h numbered 47 0 (Dollar (cents (end_at 1 (status h)))) (facts.by_status (codes "89450.00") (codes "59850.00") (codes "44725.00") (codes "44725.00"))
+  end12_stated = λ results. (refl, end_by (end_at 1) refl (status h))
 
-  pub end22_told : Worth t a h numbered 48 0 (Dollar (cents (end_at 2 (status h)))) (facts.by_status (codes "190750.00") (codes "95350.00") (codes "95375.00") (codes "95375.00"))
-  end22_told = λ look. (refl, end_by (end_at 2) refl (status h))
+  pub end22_stated : Worth t a h numbered 48 0 (Dollar (cents (end_at 2 (status h)))) (facts.by_status (codes "190750.00") (codes "95350.00") (codes "95375.00") (codes "95375.00"))
+  end22_stated = λ results. (refl, end_by (end_at 2) refl (status h))
 
-  pub end24_told : Worth t a h numbered 49 0 (Dollar (cents (end_at 3 (status h)))) (facts.by_status (codes "364200.00") (codes "182100.00") (codes "182100.00") (codes "182100.00"))
-  end24_told = λ look. (refl, end_by (end_at 3) refl (status h))
+  pub end24_stated : Worth t a h numbered 49 0 (Dollar (cents (end_at 3 (status h)))) (facts.by_status (codes "364200.00") (codes "182100.00") (codes "182100.00") (codes "182100.00"))
+  end24_stated = λ results. (refl, end_by (end_at 3) refl (status h))
 
-  pub end32_told : Worth t a h numbered 50 0 (Dollar (cents (end_at 4 (status h)))) (facts.by_status (codes "462500.00") (codes "231250.00") (codes "231250.00") (codes "231250.00"))
-  end32_told = λ look. (refl, end_by (end_at 4) refl (status h))
+  pub end32_stated : Worth t a h numbered 50 0 (Dollar (cents (end_at 4 (status h)))) (facts.by_status (codes "462500.00") (codes "231250.00") (codes "231250.00") (codes "231250.00"))
+  end32_stated = λ results. (refl, end_by (end_at 4) refl (status h))
 
-  pub end35_told : Worth t a h numbered 51 0 (Dollar (cents (end_at 5 (status h)))) (facts.by_status (codes "693750.00") (codes "578100.00") (codes "346875.00") (codes "578125.00"))
-  end35_told = λ look. (refl, end_by (end_at 5) refl (status h))
+  pub end35_stated : Worth t a h numbered 51 0 (Dollar (cents (end_at 5 (status h)))) (facts.by_status (codes "693750.00") (codes "578100.00") (codes "346875.00") (codes "578125.00"))
+  end35_stated = λ results. (refl, end_by (end_at 5) refl (status h))
 
 -- no end is over 1,000,000
 few_dollars : (s : Status) → IsTrue (list_all (λ e. nat_le e 1000000) (ends s))
@@ -281,41 +281,41 @@ module _ (t : TypedDictionary) (a : Answered) (h : Household) (numbered : Number
   taxable : IsTaxable (taxable_income tables_2023 h)
   taxable = is_taxable h e o
 
-  pub tax10_told : Worth t a h numbered 52 0 (Dollar (tax_between h 0 (Some (end_at 0 (status h))) 10)) (facts.product facts.first_band (facts.rate (codes "1/10")))
-  tax10_told =
+  pub tax10_stated : Worth t a h numbered 52 0 (Dollar (tax_between h 0 (Some (end_at 0 (status h))) 10)) (facts.product facts.first_band (facts.rate (codes "1/10")))
+  tax10_stated =
       let x = taxable_income tables_2023 h in
       let high = end_at 0 (status h) in
       let u = lesser_taxable x high taxable in
       let product = times_is (lesser_value x high) (rate_of (codes "1/10")) (lesser_of x (cents high)) 10 (lesser_is (Dollar x) (Dollar (cents high)) x (cents high) refl refl) u rate_10 in
-      λ look. (ap is_ok product, ap value_of product ∙ ap (λ n. Dollar (taxed n 10)) (sym (above_zero (lesser_of x (cents high)) u)))
+      λ results. (ap is_ok product, ap value_of product ∙ ap (λ n. Dollar (taxed n 10)) (sym (above_zero (lesser_of x (cents high)) u)))
 
-  pub tax12_told : Worth t a h numbered 53 0 (Dollar (tax_between h (end_at 0 (status h)) (Some (end_at 1 (status h))) 12)) (facts.product (facts.band (codes "/end10") (codes "/end12")) (facts.rate (codes "12/100")))
-  tax12_told = λ look. band_taxed (taxable_income tables_2023 h) (rate_of (codes "12/100")) (end_at 0 (status h)) (end_at 1 (status h)) 12 taxable (few 0 (status h)) rate_12
+  pub tax12_stated : Worth t a h numbered 53 0 (Dollar (tax_between h (end_at 0 (status h)) (Some (end_at 1 (status h))) 12)) (facts.product (facts.band (codes "/end10") (codes "/end12")) (facts.rate (codes "12/100")))
+  tax12_stated = λ results. band_taxed (taxable_income tables_2023 h) (rate_of (codes "12/100")) (end_at 0 (status h)) (end_at 1 (status h)) 12 taxable (few 0 (status h)) rate_12
 
-  pub tax22_told : Worth t a h numbered 54 0 (Dollar (tax_between h (end_at 1 (status h)) (Some (end_at 2 (status h))) 22)) (facts.product (facts.band (codes "/end12") (codes "/end22")) (facts.rate (codes "22/100")))
-  tax22_told = λ look. band_taxed (taxable_income tables_2023 h) (rate_of (codes "22/100")) (end_at 1 (status h)) (end_at 2 (status h)) 22 taxable (few 1 (status h)) rate_22
+  pub tax22_stated : Worth t a h numbered 54 0 (Dollar (tax_between h (end_at 1 (status h)) (Some (end_at 2 (status h))) 22)) (facts.product (facts.band (codes "/end12") (codes "/end22")) (facts.rate (codes "22/100")))
+  tax22_stated = λ results. band_taxed (taxable_income tables_2023 h) (rate_of (codes "22/100")) (end_at 1 (status h)) (end_at 2 (status h)) 22 taxable (few 1 (status h)) rate_22
 
-  pub tax24_told : Worth t a h numbered 55 0 (Dollar (tax_between h (end_at 2 (status h)) (Some (end_at 3 (status h))) 24)) (facts.product (facts.band (codes "/end22") (codes "/end24")) (facts.rate (codes "24/100")))
-  tax24_told = λ look. band_taxed (taxable_income tables_2023 h) (rate_of (codes "24/100")) (end_at 2 (status h)) (end_at 3 (status h)) 24 taxable (few 2 (status h)) rate_24
+  pub tax24_stated : Worth t a h numbered 55 0 (Dollar (tax_between h (end_at 2 (status h)) (Some (end_at 3 (status h))) 24)) (facts.product (facts.band (codes "/end22") (codes "/end24")) (facts.rate (codes "24/100")))
+  tax24_stated = λ results. band_taxed (taxable_income tables_2023 h) (rate_of (codes "24/100")) (end_at 2 (status h)) (end_at 3 (status h)) 24 taxable (few 2 (status h)) rate_24
 
-  pub tax32_told : Worth t a h numbered 56 0 (Dollar (tax_between h (end_at 3 (status h)) (Some (end_at 4 (status h))) 32)) (facts.product (facts.band (codes "/end24") (codes "/end32")) (facts.rate (codes "32/100")))
-  tax32_told = λ look. band_taxed (taxable_income tables_2023 h) (rate_of (codes "32/100")) (end_at 3 (status h)) (end_at 4 (status h)) 32 taxable (few 3 (status h)) rate_32
+  pub tax32_stated : Worth t a h numbered 56 0 (Dollar (tax_between h (end_at 3 (status h)) (Some (end_at 4 (status h))) 32)) (facts.product (facts.band (codes "/end24") (codes "/end32")) (facts.rate (codes "32/100")))
+  tax32_stated = λ results. band_taxed (taxable_income tables_2023 h) (rate_of (codes "32/100")) (end_at 3 (status h)) (end_at 4 (status h)) 32 taxable (few 3 (status h)) rate_32
 
-  pub tax35_told : Worth t a h numbered 57 0 (Dollar (tax_between h (end_at 4 (status h)) (Some (end_at 5 (status h))) 35)) (facts.product (facts.band (codes "/end32") (codes "/end35")) (facts.rate (codes "35/100")))
-  tax35_told = λ look. band_taxed (taxable_income tables_2023 h) (rate_of (codes "35/100")) (end_at 4 (status h)) (end_at 5 (status h)) 35 taxable (few 4 (status h)) rate_35
+  pub tax35_stated : Worth t a h numbered 57 0 (Dollar (tax_between h (end_at 4 (status h)) (Some (end_at 5 (status h))) 35)) (facts.product (facts.band (codes "/end32") (codes "/end35")) (facts.rate (codes "35/100")))
+  tax35_stated = λ results. band_taxed (taxable_income tables_2023 h) (rate_of (codes "35/100")) (end_at 4 (status h)) (end_at 5 (status h)) 35 taxable (few 4 (status h)) rate_35
 
-  pub tax37_told : Worth t a h numbered 58 0 (Dollar (tax_between h (end_at 5 (status h)) None 37)) (facts.product facts.last_band (facts.rate (codes "37/100")))
-  tax37_told =
+  pub tax37_stated : Worth t a h numbered 58 0 (Dollar (tax_between h (end_at 5 (status h)) None 37)) (facts.product facts.last_band (facts.rate (codes "37/100")))
+  tax37_stated =
       let x = taxable_income tables_2023 h in
-      λ look. part_taxed (Dollar x) (rate_of (codes "37/100")) x (end_at 5 (status h)) 37 refl taxable (few 5 (status h)) rate_37
+      λ results. part_taxed (Dollar x) (rate_of (codes "37/100")) x (end_at 5 (status h)) 37 refl taxable (few 5 (status h)) rate_37
 
   schedule_sum : (taxes (bands (status h)) (taxable_income tables_2023 h)) ≡ schedule_tax h
   unfolding schedule_tax
   schedule_sum = schedule_is (status h) (taxable_income tables_2023 h) taxable
 
-  pub schedule_told : Worth t a h numbered 59 0 (Dollar (schedule_tax h)) facts.all_taxes
-  schedule_told =
+  pub schedule_stated : Worth t a h numbered 59 0 (Dollar (schedule_tax h)) facts.all_taxes
+  schedule_stated =
       let x = taxable_income tables_2023 h in
       let s = status h in
       let sum = sum_to _ (schedule_tax h) (bands_total s x ∙ schedule_sum) (up_to_range (schedule_tax h) 518000000000000 (tax_small h e o) (omega arith)) in
-      λ look. (ap is_ok sum, ap value_of sum)
+      λ results. (ap is_ok sum, ap value_of sum)

@@ -46,21 +46,21 @@ born_later : (born : ℤ) → is_gt (int_cmp born (date_number 2006 12 31)) ≡ 
 born_later born = is_gt-int_lt born (date_number 2006 12 31) ∙ (ap (λ n. int_lt n born) last_of_2006 ∙ under_17 born)
 
 module _ (t : TypedDictionary) (a : Answered) (h : Household) (numbered : Numbered) where
-  pub credit_child_told : (m : ℕ) → IsTrue (is_member a 26 m) → Worth t a h numbered 61 m (Boolean (is_credit_child h numbered (person a m))) facts.credit_child
+  pub credit_child_stated : (m : ℕ) → IsTrue (is_member a 26 m) → Worth t a h numbered 61 m (Boolean (is_credit_child h numbered (person a m))) facts.credit_child
   unfolding is_credit_child
-  credit_child_told m st = λ look.
+  credit_child_stated m st = λ results.
       let p = person a m in
       (rw st refl, ap (λ b. Boolean (is_qualifying_child tables_2023 h p && b && numbered m)) (born_later p.date_of_birth))
 
-  pub other_dependent_told : (m : ℕ) → IsTrue (is_member a 26 m) → Worth t a h numbered 62 m (Boolean (is_other_dependent h numbered (person a m))) facts.other_dependent
+  pub other_dependent_stated : (m : ℕ) → IsTrue (is_member a 26 m) → Worth t a h numbered 62 m (Boolean (is_other_dependent h numbered (person a m))) facts.other_dependent
   unfolding is_other_dependent
-  other_dependent_told m st = λ look. (rw st refl, refl)
+  other_dependent_stated m st = λ results. (rw st refl, refl)
 
-  pub credit_children_told : IsOpen a h → AreGiven a h.persons → Worth t a h numbered 63 0 (Int (pos (credit_children h numbered))) facts.credit_child_count
-  credit_children_told opened given = λ look. (rw (opened, all_members (members h.persons)) refl, ap (λ n. Int (pos n)) (counted a (is_credit_child h numbered) h.persons given))
+  pub credit_children_stated : IsOpen a h → AreGiven a h.persons → Worth t a h numbered 63 0 (Int (pos (credit_children h numbered))) facts.credit_child_count
+  credit_children_stated opened given = λ results. (rw (opened, all_members (members h.persons)) refl, ap (λ n. Int (pos n)) (counted a (is_credit_child h numbered) h.persons given))
 
-  pub other_dependents_told : IsOpen a h → AreGiven a h.persons → Worth t a h numbered 64 0 (Int (pos (other_dependents h numbered))) facts.other_dependent_count
-  other_dependents_told opened given = λ look. (rw (opened, all_members (members h.persons)) refl, ap (λ n. Int (pos n)) (counted a (is_other_dependent h numbered) h.persons given))
+  pub other_dependents_stated : IsOpen a h → AreGiven a h.persons → Worth t a h numbered 64 0 (Int (pos (other_dependents h numbered))) facts.other_dependent_count
+  other_dependents_stated opened given = λ results. (rw (opened, all_members (members h.persons)) refl, ap (λ n. Int (pos n)) (counted a (is_other_dependent h numbered) h.persons given))
 
 -- ---- the credit before limits
 
@@ -182,8 +182,8 @@ credit_small h numbered e o = lesser_up_to (schedule_tax h) (greater_of (pos 0) 
 -- ---- the facts
 
 module _ (t : TypedDictionary) (a : Answered) (h : Household) (numbered : Numbered) (few : AreFew h) (e : IsModest h.earned_income) (o : IsModest h.other_income) where
-  pub credit_base_told : Worth t a h numbered 65 0 (Dollar (credit_base h numbered)) facts.credit_base
-  credit_base_told =
+  pub credit_base_stated : Worth t a h numbered 65 0 (Dollar (credit_base h numbered)) facts.credit_base
+  credit_base_stated =
       let c = credit_children h numbered in
       let d = other_dependents h numbered in
       let each = product_is (Dollar (pos 200000)) (Int (pos c)) (pos 200000) (pos c) refl refl (each_in_range 200000 c (omega arith) (counted_few h few (is_credit_child h numbered))) in
@@ -192,14 +192,14 @@ module _ (t : TypedDictionary) (a : Answered) (h : Household) (numbered : Number
       let w = value_of (two_value Multiply (Dollar (pos 50000)) (Int (pos d))) in
       let range : IsTrue (is_in_range (pos 200000 *ℤ pos c +ℤ pos 50000 *ℤ pos d)) = subst (λ n. IsTrue (is_in_range n)) (sym (base_is c d)) (up_to_range (credit_base h numbered) 25000000 (base_small h numbered few) (omega arith)) in
       let sum = sum_is v w (pos 200000 *ℤ pos c) (pos 50000 *ℤ pos d) (ap value_of each) (ap value_of other) range in
-      λ look. (
+      λ results. (
         base_sure (is_ok (two_value Multiply (Dollar (pos 200000)) (Int (pos c)))) (is_ok (two_value Multiply (Dollar (pos 50000)) (Int (pos d)))) (is_ok (many_value Add (v ∷ w ∷ []))) (ap is_ok each) (ap is_ok other) (ap is_ok sum),
         ap value_of sum ∙ ap (λ n. Dollar n) (base_is c d),
       )
 
-  pub excess_told : Worth t a h numbered 66 0 (Dollar (excess h)) facts.excess
+  pub excess_stated : Worth t a h numbered 66 0 (Dollar (excess h)) facts.excess
   unfolding excess
-  excess_told =
+  excess_stated =
       let income = h.earned_income +ℤ h.other_income in
       let limit = cents (income_limit (status h)) in
       let limited = if status_place (status h) == 2 then Dollar (pos 40000000) else Dollar (pos 20000000) in
@@ -207,10 +207,10 @@ module _ (t : TypedDictionary) (a : Answered) (h : Household) (numbered : Number
       let range = in_range_of (income -ℤ limit) (record { low = omega (arith, ints, b.low); high = omega (arith, ints, b.high) }) in
       let rest = difference_is (Dollar income) limited income limit refl (limit_is (status h)) range in
       let left = value_of (many_value Subtract (Dollar income ∷ limited ∷ [])) in
-      λ look. (two_sure (is_ok (many_value Subtract (Dollar income ∷ limited ∷ []))) (ap is_ok rest), greater_is (Dollar (pos 0)) left (pos 0) (income -ℤ limit) refl (ap value_of rest))
+      λ results. (two_sure (is_ok (many_value Subtract (Dollar income ∷ limited ∷ []))) (ap is_ok rest), greater_is (Dollar (pos 0)) left (pos 0) (income -ℤ limit) refl (ap value_of rest))
 
-  pub reduction_told : Worth t a h numbered 67 0 (Dollar (reduction h)) facts.reduction
-  reduction_told =
+  pub reduction_stated : Worth t a h numbered 67 0 (Dollar (reduction h)) facts.reduction
+  reduction_stated =
       let u = excess_small h e o in
       let n = u.size in
       let more = excess h +ℤ pos 49499 in
@@ -227,14 +227,14 @@ module _ (t : TypedDictionary) (a : Answered) (h : Household) (numbered : Number
       let times_range : IsTrue (is_in_range (pos (q * 100) *ℤ pos 50)) = in_range_of (pos (q * 100 * 50)) (record { low = omega (arith, ints); high = omega (arith, ints, u.small) }) in
       let product = product_is x (Int (pos 50)) (pos (q * 100)) (pos 50) (ap value_of whole) refl times_range in
       let is : cents (50 * q) ≡ reduction h = ap (λ k. cents (50 * k)) (rounded_up n) ∙ sym (reduction_is (excess h) n u.same) in
-      λ look. (
+      λ results. (
         steps_sure (is_ok (many_value Add (Dollar (excess h) ∷ Dollar (pos 49499) ∷ []))) (is_ok (two_value Divide v (Int (pos 1000)))) (is_ok (one_value Round w)) (is_ok (two_value Multiply x (Int (pos 50)))) (ap is_ok sum) (ap is_ok divided) (ap is_ok whole) (ap is_ok product),
         ap value_of product ∙ ap (λ k. Dollar k) (fifty_each q ∙ is),
       )
 
-  pub child_credit_told : Worth t a h numbered 68 0 (Dollar (child_credit h numbered)) facts.child_credit
+  pub child_credit_stated : Worth t a h numbered 68 0 (Dollar (child_credit h numbered)) facts.child_credit
   unfolding child_credit
-  child_credit_told =
+  child_credit_stated =
       let base = credit_base h numbered in
       let less = reduction h in
       let b = base_less h numbered few e o in
@@ -243,15 +243,15 @@ module _ (t : TypedDictionary) (a : Answered) (h : Household) (numbered : Number
       let left = value_of (many_value Subtract (Dollar base ∷ Dollar less ∷ [])) in
       let greater = value_of (many_value GreaterOf (Dollar (pos 0) ∷ left ∷ [])) in
       let most = greater_is (Dollar (pos 0)) left (pos 0) (base -ℤ less) refl (ap value_of rest) in
-      λ look. (
+      λ results. (
         four_sure (is_ok (many_value Subtract (Dollar base ∷ Dollar less ∷ []))) (ap is_ok rest),
         lesser_is (Dollar (schedule_tax h)) greater (schedule_tax h) (greater_of (pos 0) (base -ℤ less)) refl most,
       )
 
-  pub after_credits_told : Worth t a h numbered 69 0 (Dollar (tax_after_credits h numbered)) facts.tax_after_credits
-  after_credits_told =
+  pub after_credits_stated : Worth t a h numbered 69 0 (Dollar (tax_after_credits h numbered)) facts.tax_after_credits
+  after_credits_stated =
       let s = tax_small h e o in
       let c = credit_small h numbered e o in
       let range = in_range_of (tax_after_credits h numbered) (record { low = rw (s.same, c.same) (omega (arith, ints, c.small)); high = rw (s.same, c.same) (omega (arith, ints, s.small)) }) in
       let rest = difference_is (Dollar (schedule_tax h)) (Dollar (child_credit h numbered)) (schedule_tax h) (child_credit h numbered) refl refl range in
-      λ look. (ap is_ok rest, ap value_of rest)
+      λ results. (ap is_ok rest, ap value_of rest)

@@ -21,7 +21,7 @@ use Rattle.answers.specs.declared.edit.Side.TheVariants.{Answer, Override}
 use Rattle.dictionary.specs.Accepted.{Accepted, IsAccepted}
 use Rattle.dictionary.specs.Fits.{AnswersFit, domains}
 use Rattle.dictionary.specs.Plain.{plain}
-use Rattle.dictionary.specs.Reading.{slot}
+use Rattle.dictionary.specs.Dependencies.{slot}
 use Rattle.dictionary.specs.Slots.{is_member}
 use Rattle.tax_2023.specs.Household.{Dependent, Household}
 use Rattle.tax_2023.specs.Years.{tables_2023}
@@ -33,23 +33,23 @@ use Rattle.tax_2023.specs.Laws.{IsModest}
 use Rattle.tax_2023.specs.Tables.{cents, members, status}
 use Rattle.tax_2023.proofs.Behind.{household_of_year}
 use Rattle.tax_2023.proofs.Complete.{answer_is, household, of_household, truth_value}
-use Rattle.tax_2023.proofs.Join.{append_told, joined_both, told_slot}
+use Rattle.tax_2023.proofs.Join.{append_stated, joined_both, stated_slot}
 use Rattle.tax_2023.proofs.Persons.{all_members}
 use Rattle.tax_2023.proofs.Spells.{written_2023}
 use Rattle.tax_2023.proofs.TableLaw.{is_made_of, tables}
-use Rattle.tax_2023.proofs.Told.{AllHaveTold, HasTold}
-use Rattle.tax_2023.proofs.Values.{given, person, told}
+use Rattle.tax_2023.proofs.Stated.{AllHaveStated, HasStated}
+use Rattle.tax_2023.proofs.Values.{given, person, stated}
 use Rattle.tax_2023.proofs.YearDictionary.{ranks}
-use Rattle.tax_2023.proofs.YearLaw.{all_told, are_given, at_zero, given_is}
-use Rattle.tax_income.specs.Answers.{AllAreTold, AreNumbered}
+use Rattle.tax_2023.proofs.YearLaw.{all_stated, are_given, at_zero, given_is}
+use Rattle.tax_income.specs.Answers.{AllAreStated, AreNumbered}
 use Rattle.tax_income.specs.Facts as facts
 use Rattle.tax_income.specs.Facts.{facts_of_income, income_dictionary}
 use Rattle.tax_income.specs.Laws.{HasChild, HasChildren, HasIncomeTables, HouseholdIsThere, IncomeTablesHold}
 use Rattle.tax_income.specs.Tables.{Numbered, child_credit, credit_base, credit_children, excess, is_credit_child, is_other_dependent, other_dependents, reduction, schedule_tax, tax_after_credits}
-use Rattle.tax_income.proofs.Bands.{end10_told, end12_told, end22_told, end24_told, end32_told, end35_told, schedule_told, tax10_told, tax12_told, tax22_told, tax24_told, tax32_told, tax35_told, tax37_told}
-use Rattle.tax_income.proofs.Credit.{AreFew, after_credits_told, child_credit_told, credit_base_told, credit_child_told, credit_children_told, excess_told, other_dependent_told, other_dependents_told, reduction_told}
+use Rattle.tax_income.proofs.Bands.{end10_stated, end12_stated, end22_stated, end24_stated, end32_stated, end35_stated, schedule_stated, tax10_stated, tax12_stated, tax22_stated, tax24_stated, tax32_stated, tax35_stated, tax37_stated}
+use Rattle.tax_income.proofs.Credit.{AreFew, after_credits_stated, child_credit_stated, credit_base_stated, credit_child_stated, credit_children_stated, excess_stated, other_dependent_stated, other_dependents_stated, reduction_stated}
 use Rattle.tax_income.proofs.IncomeDictionary.{further_ranks, ranks_are}
-use Rattle.tax_income.proofs.IncomeValues.{Worth, end_at, tax_between, further_told, income_rest, of_income, told_of_income}
+use Rattle.tax_income.proofs.IncomeValues.{Worth, end_at, tax_between, further_stated, income_rest, of_income, stated_of_income}
 
 -- ---- who has a number
 
@@ -63,7 +63,7 @@ number_on a numbered (p ∷ ps) i m st = first (nat_eq m p.member) refl st (numb
 
 -- ---- all facts behind those of the year
 
-nothing_before : (h : Household) (numbered : Numbered) (a : Answered) (n : ℕ) → n < 46 → further_told h numbered (person a) n ≡ None
+nothing_before : (h : Household) (numbered : Numbered) (a : Answered) (n : ℕ) → n < 46 → further_stated h numbered (person a) n ≡ None
 nothing_before h numbered a n less = rw (lt-ltb n 46 less) refl
 
 module _ (t : TypedDictionary) (accepted : IsAccepted [] (of_income t)) (a : Answered) (h : Household) (numbered : Numbered)
@@ -72,35 +72,35 @@ module _ (t : TypedDictionary) (accepted : IsAccepted [] (of_income t)) (a : Ans
   abbrev d : Accepted
   d = of_income t
 
-  -- the facts from n on have what is told
-  abbrev Told_from : ℕ → List Fact → Type 0
-  Told_from n fs = AllHaveTold d a (told_of_income a h numbered) (further_told h numbered (person a)) n fs
+  -- the facts from n on have what is stated
+  abbrev Stated_from : ℕ → List Fact → Type 0
+  Stated_from n fs = AllHaveStated d a (stated_of_income a h numbered) (further_stated h numbered (person a)) n fs
 
-  untold : (n : ℕ) (f : Fact) → (v : Option (ℕ → Value)) → v ≡ None → HasTold d a (told_of_income a h numbered) n f v
-  untold n f None is = tt
-  untold n f (Some v) is = absurd cc
+  unstated : (n : ℕ) (f : Fact) → (v : Option (ℕ → Value)) → v ≡ None → HasStated d a (stated_of_income a h numbered) n f v
+  unstated n f None is = tt
+  unstated n f (Some v) is = absurd cc
 
-  -- nothing is told here of the facts of the year
-  skipped : (n : ℕ) (fs : List Fact) → n + length fs ≤ 46 → Told_from n fs
+  -- nothing is stated here of the facts of the year
+  skipped : (n : ℕ) (fs : List Fact) → n + length fs ≤ 46 → Stated_from n fs
   skipped n [] le = tt
-  skipped n (f ∷ fs) le = (untold n f (further_told h numbered (person a) n) (nothing_before h numbered a n (omega (arith, le))), skipped (suc n) fs (omega (arith, le)))
+  skipped n (f ∷ fs) le = (unstated n f (further_stated h numbered (person a) n) (nothing_before h numbered a n (omega (arith, le))), skipped (suc n) fs (omega (arith, le)))
 
   once : (n : ℕ) (v : Value) (x : Source) → Worth t a h numbered n 0 v x → (m : ℕ) → IsTrue (nat_eq m 0) → (value_of Override a (slot n m) ≡ None) × Worth t a h numbered n m v x
   once n v x w m st = (i.no_override (slot n m), at_zero (λ m. Worth t a h numbered n m v x) w m st)
 
-  ends_told : Told_from 46 facts.ends
-  ends_told = (
-    (refl, once 46 (Dollar (cents (end_at 0 (status h)))) (facts.by_status (codes "22000.00") (codes "15700.00") (codes "11000.00") (codes "11000.00")) (end10_told t a h numbered)),
+  ends_stated : Stated_from 46 facts.ends
+  ends_stated = (
+    (refl, once 46 (Dollar (cents (end_at 0 (status h)))) (facts.by_status (codes "22000.00") (codes "15700.00") (codes "11000.00") (codes "11000.00")) (end10_stated t a h numbered)),
     (
-      (refl, once 47 (Dollar (cents (end_at 1 (status h)))) (facts.by_status (codes "89450.00") (codes "59850.00") (codes "44725.00") (codes "44725.00")) (end12_told t a h numbered)),
+      (refl, once 47 (Dollar (cents (end_at 1 (status h)))) (facts.by_status (codes "89450.00") (codes "59850.00") (codes "44725.00") (codes "44725.00")) (end12_stated t a h numbered)),
       (
-        (refl, once 48 (Dollar (cents (end_at 2 (status h)))) (facts.by_status (codes "190750.00") (codes "95350.00") (codes "95375.00") (codes "95375.00")) (end22_told t a h numbered)),
+        (refl, once 48 (Dollar (cents (end_at 2 (status h)))) (facts.by_status (codes "190750.00") (codes "95350.00") (codes "95375.00") (codes "95375.00")) (end22_stated t a h numbered)),
         (
-          (refl, once 49 (Dollar (cents (end_at 3 (status h)))) (facts.by_status (codes "364200.00") (codes "182100.00") (codes "182100.00") (codes "182100.00")) (end24_told t a h numbered)),
+          (refl, once 49 (Dollar (cents (end_at 3 (status h)))) (facts.by_status (codes "364200.00") (codes "182100.00") (codes "182100.00") (codes "182100.00")) (end24_stated t a h numbered)),
           (
-            (refl, once 50 (Dollar (cents (end_at 4 (status h)))) (facts.by_status (codes "462500.00") (codes "231250.00") (codes "231250.00") (codes "231250.00")) (end32_told t a h numbered)),
+            (refl, once 50 (Dollar (cents (end_at 4 (status h)))) (facts.by_status (codes "462500.00") (codes "231250.00") (codes "231250.00") (codes "231250.00")) (end32_stated t a h numbered)),
             (
-              (refl, once 51 (Dollar (cents (end_at 5 (status h)))) (facts.by_status (codes "693750.00") (codes "578100.00") (codes "346875.00") (codes "578125.00")) (end35_told t a h numbered)),
+              (refl, once 51 (Dollar (cents (end_at 5 (status h)))) (facts.by_status (codes "693750.00") (codes "578100.00") (codes "346875.00") (codes "578125.00")) (end35_stated t a h numbered)),
               tt,
             ),
           ),
@@ -109,23 +109,23 @@ module _ (t : TypedDictionary) (accepted : IsAccepted [] (of_income t)) (a : Ans
     ),
   )
 
-  taxes_told : Told_from 52 facts.taxes
-  taxes_told = (
-    (refl, once 52 (Dollar (tax_between h 0 (Some (end_at 0 (status h))) 10)) (facts.product facts.first_band (facts.rate (codes "1/10"))) (tax10_told t a h numbered e o)),
+  taxes_stated : Stated_from 52 facts.taxes
+  taxes_stated = (
+    (refl, once 52 (Dollar (tax_between h 0 (Some (end_at 0 (status h))) 10)) (facts.product facts.first_band (facts.rate (codes "1/10"))) (tax10_stated t a h numbered e o)),
     (
-      (refl, once 53 (Dollar (tax_between h (end_at 0 (status h)) (Some (end_at 1 (status h))) 12)) (facts.product (facts.band (codes "/end10") (codes "/end12")) (facts.rate (codes "12/100"))) (tax12_told t a h numbered e o)),
+      (refl, once 53 (Dollar (tax_between h (end_at 0 (status h)) (Some (end_at 1 (status h))) 12)) (facts.product (facts.band (codes "/end10") (codes "/end12")) (facts.rate (codes "12/100"))) (tax12_stated t a h numbered e o)),
       (
-        (refl, once 54 (Dollar (tax_between h (end_at 1 (status h)) (Some (end_at 2 (status h))) 22)) (facts.product (facts.band (codes "/end12") (codes "/end22")) (facts.rate (codes "22/100"))) (tax22_told t a h numbered e o)),
+        (refl, once 54 (Dollar (tax_between h (end_at 1 (status h)) (Some (end_at 2 (status h))) 22)) (facts.product (facts.band (codes "/end12") (codes "/end22")) (facts.rate (codes "22/100"))) (tax22_stated t a h numbered e o)),
         (
-          (refl, once 55 (Dollar (tax_between h (end_at 2 (status h)) (Some (end_at 3 (status h))) 24)) (facts.product (facts.band (codes "/end22") (codes "/end24")) (facts.rate (codes "24/100"))) (tax24_told t a h numbered e o)),
+          (refl, once 55 (Dollar (tax_between h (end_at 2 (status h)) (Some (end_at 3 (status h))) 24)) (facts.product (facts.band (codes "/end22") (codes "/end24")) (facts.rate (codes "24/100"))) (tax24_stated t a h numbered e o)),
           (
-            (refl, once 56 (Dollar (tax_between h (end_at 3 (status h)) (Some (end_at 4 (status h))) 32)) (facts.product (facts.band (codes "/end24") (codes "/end32")) (facts.rate (codes "32/100"))) (tax32_told t a h numbered e o)),
+            (refl, once 56 (Dollar (tax_between h (end_at 3 (status h)) (Some (end_at 4 (status h))) 32)) (facts.product (facts.band (codes "/end24") (codes "/end32")) (facts.rate (codes "32/100"))) (tax32_stated t a h numbered e o)),
             (
-              (refl, once 57 (Dollar (tax_between h (end_at 4 (status h)) (Some (end_at 5 (status h))) 35)) (facts.product (facts.band (codes "/end32") (codes "/end35")) (facts.rate (codes "35/100"))) (tax35_told t a h numbered e o)),
+              (refl, once 57 (Dollar (tax_between h (end_at 4 (status h)) (Some (end_at 5 (status h))) 35)) (facts.product (facts.band (codes "/end32") (codes "/end35")) (facts.rate (codes "35/100"))) (tax35_stated t a h numbered e o)),
               (
-                (refl, once 58 (Dollar (tax_between h (end_at 5 (status h)) None 37)) (facts.product facts.last_band (facts.rate (codes "37/100"))) (tax37_told t a h numbered e o)),
+                (refl, once 58 (Dollar (tax_between h (end_at 5 (status h)) None 37)) (facts.product facts.last_band (facts.rate (codes "37/100"))) (tax37_stated t a h numbered e o)),
                 (
-                  (refl, once 59 (Dollar (schedule_tax h)) facts.all_taxes (schedule_told t a h numbered e o)),
+                  (refl, once 59 (Dollar (schedule_tax h)) facts.all_taxes (schedule_stated t a h numbered e o)),
                   tt,
                 ),
               ),
@@ -136,37 +136,37 @@ module _ (t : TypedDictionary) (accepted : IsAccepted [] (of_income t)) (a : Ans
     ),
   )
 
-  number_told : (m : ℕ) → IsTrue (is_member a 26 m) → value_of Answer a (slot 60 m) ≡ Some (Boolean (numbered m))
-  number_told m st = number_on a numbered h.persons numbers m (rw i.opened at st)
+  number_stated : (m : ℕ) → IsTrue (is_member a 26 m) → value_of Answer a (slot 60 m) ≡ Some (Boolean (numbered m))
+  number_stated m st = number_on a numbered h.persons numbers m (rw i.opened at st)
 
-  children_told : Told_from 60 facts.children
-  children_told = (
-    (refl, λ m st. number_told m st),
+  children_stated : Stated_from 60 facts.children
+  children_stated = (
+    (refl, λ m st. number_stated m st),
     (
-      (refl, λ m st. (i.no_override _, credit_child_told t a h numbered m st)),
+      (refl, λ m st. (i.no_override _, credit_child_stated t a h numbered m st)),
       (
-        (refl, λ m st. (i.no_override _, other_dependent_told t a h numbered m st)),
+        (refl, λ m st. (i.no_override _, other_dependent_stated t a h numbered m st)),
         tt,
       ),
     ),
   )
 
-  credit_told : Told_from 63 facts.credit
-  credit_told =
+  credit_stated : Stated_from 63 facts.credit
+  credit_stated =
       let are = are_given tables_2023 a h.persons i.persons in (
-        (refl, once 63 (Int (pos (credit_children h numbered))) facts.credit_child_count (credit_children_told t a h numbered i.opened are)),
+        (refl, once 63 (Int (pos (credit_children h numbered))) facts.credit_child_count (credit_children_stated t a h numbered i.opened are)),
         (
-          (refl, once 64 (Int (pos (other_dependents h numbered))) facts.other_dependent_count (other_dependents_told t a h numbered i.opened are)),
+          (refl, once 64 (Int (pos (other_dependents h numbered))) facts.other_dependent_count (other_dependents_stated t a h numbered i.opened are)),
           (
-            (refl, once 65 (Dollar (credit_base h numbered)) facts.credit_base (credit_base_told t a h numbered few e o)),
+            (refl, once 65 (Dollar (credit_base h numbered)) facts.credit_base (credit_base_stated t a h numbered few e o)),
             (
-              (refl, once 66 (Dollar (excess h)) facts.excess (excess_told t a h numbered few e o)),
+              (refl, once 66 (Dollar (excess h)) facts.excess (excess_stated t a h numbered few e o)),
               (
-                (refl, once 67 (Dollar (reduction h)) facts.reduction (reduction_told t a h numbered few e o)),
+                (refl, once 67 (Dollar (reduction h)) facts.reduction (reduction_stated t a h numbered few e o)),
                 (
-                  (refl, once 68 (Dollar (child_credit h numbered)) facts.child_credit (child_credit_told t a h numbered few e o)),
+                  (refl, once 68 (Dollar (child_credit h numbered)) facts.child_credit (child_credit_stated t a h numbered few e o)),
                   (
-                    (refl, once 69 (Dollar (tax_after_credits h numbered)) facts.tax_after_credits (after_credits_told t a h numbered few e o)),
+                    (refl, once 69 (Dollar (tax_after_credits h numbered)) facts.tax_after_credits (after_credits_stated t a h numbered few e o)),
                     tt,
                   ),
                 ),
@@ -176,25 +176,25 @@ module _ (t : TypedDictionary) (accepted : IsAccepted [] (of_income t)) (a : Ans
         ),
       )
 
-  further_have : Told_from 1 (facts_of_year.facts (figures tables_2023) ++ facts_of_income)
+  further_have : Stated_from 1 (facts_of_year.facts (figures tables_2023) ++ facts_of_income)
   further_have =
-      let x = told_of_income a h numbered in
-      let y = further_told h numbered (person a) in
+      let x = stated_of_income a h numbered in
+      let y = further_stated h numbered (person a) in
       let all_before : 46 ≤ 46 = omega arith in
       let third = facts.children ++ facts.credit in
       let second = facts.taxes ++ third in
-      append_told d a x y 1 (facts_of_year.facts (figures tables_2023)) 46 facts_of_income refl (skipped 1 (facts_of_year.facts (figures tables_2023)) all_before)
-      (append_told d a x y 46 facts.ends 52 second refl ends_told
-      (append_told d a x y 52 facts.taxes 60 third refl taxes_told
-      (append_told d a x y 60 facts.children 63 facts.credit refl children_told credit_told)))
+      append_stated d a x y 1 (facts_of_year.facts (figures tables_2023)) 46 facts_of_income refl (skipped 1 (facts_of_year.facts (figures tables_2023)) all_before)
+      (append_stated d a x y 46 facts.ends 52 second refl ends_stated
+      (append_stated d a x y 52 facts.taxes 60 third refl taxes_stated
+      (append_stated d a x y 60 facts.children 63 facts.credit refl children_stated credit_stated)))
 
-  -- plain evaluation has what is told
-  has : (s : Slot) (v : Value) → told_slot d a (told_of_income a h numbered) s ≡ Some v → plain d a s ≡ Some (Complete v)
-  has = joined_both [] d accepted a (told tables_2023 h (person a)) (further_told h numbered (person a)) (all_told tables_2023 (income_rest t) a h i written_2023 e o) further_have
+  -- plain evaluation has what is stated
+  has : (s : Slot) (v : Value) → stated_slot d a (stated_of_income a h numbered) s ≡ Some v → plain d a s ≡ Some (Complete v)
+  has = joined_both [] d accepted a (stated tables_2023 h (person a)) (further_stated h numbered (person a)) (all_stated tables_2023 (income_rest t) a h i written_2023 e o) further_have
 
   -- of a member of the list, with the person whom it is
   has_at : (n : ℕ) (p : Dependent) → IsTrue (list_any (nat_eq p.member) (members h.persons)) → AreOnPerson (dictionary (figures tables_2023)) a p → (value : Dependent → Value)
-      → ((m : ℕ) → IsTrue (is_member a 26 m) → told_slot d a (told_of_income a h numbered) (slot n m) ≡ Some (value (person a m))) → plain d a (slot n p.member) ≡ Some (Complete (value p))
+      → ((m : ℕ) → IsTrue (is_member a 26 m) → stated_slot d a (stated_of_income a h numbered) (slot n m) ≡ Some (value (person a m))) → plain d a (slot n p.member) ≡ Some (Complete (value p))
   has_at n p among on value is =
       let member : IsTrue (is_member a 26 p.member) = rw i.opened among in
       has (slot n p.member) (value p) (is p.member member ∙ ap (λ q. Some (value q)) (given_is tables_2023 a p on))
@@ -246,7 +246,7 @@ income_tables_hold d made a h numbered fit i n e o =
 abbrev number_given : Answered → Numbered
 number_given a m = truth (given a m 60)
 
-numbers_given : (a : Answered) → AnswersFit (income_dictionary (figures tables_2023)) a → AllAreTold (income_dictionary (figures tables_2023)) a → (ms : List ℕ) → IsTrue (list_all (λ m. is_member a 26 m) ms)
+numbers_given : (a : Answered) → AnswersFit (income_dictionary (figures tables_2023)) a → AllAreStated (income_dictionary (figures tables_2023)) a → (ms : List ℕ) → IsTrue (list_all (λ m. is_member a 26 m) ms)
     → AreNumbered (income_dictionary (figures tables_2023)) a (number_given a) (map (person a) ms)
 numbers_given a fit are [] among = tt
 numbers_given a fit are (m ∷ ms) among =
@@ -259,5 +259,5 @@ household_is_there d made a fit complete are =
     let here = income_dictionary (figures tables_2023) in
     let fits = subst (λ (t : Tree). AnswersFit t a) made.facts fit in
     let there : AreOfHousehold here a (household a) = of_household tables_2023 facts_of_income a fits (subst (λ (t : Tree). AreComplete t a) made.facts complete) in
-    let numbers = numbers_given a fits (subst (λ (t : Tree). AllAreTold t a) made.facts are) (list_of a 26) (all_members (list_of a 26)) in
+    let numbers = numbers_given a fits (subst (λ (t : Tree). AllAreStated t a) made.facts are) (list_of a 26) (all_members (list_of a 26)) in
     (household a, subst (λ (t : Tree). AreOfHousehold t a (household a)) (sym made.facts) there, (number_given a, subst (λ (t : Tree). AreNumbered t a (number_given a) (household a).persons) (sym made.facts) numbers))

@@ -7,12 +7,12 @@ use Rattle.dict_tree.specs.Tree.{Source}
 use Rattle.dict_types.specs.TypedParts.{TypedDictionary}
 use Rattle.answers.specs.Answered.{Answered}
 use Rattle.dictionary.specs.Accepted.{Accepted}
-use Rattle.dictionary.specs.Reading.{slot}
+use Rattle.dictionary.specs.Dependencies.{slot}
 use Rattle.tax_2023.specs.Household.{Cents, Dependent, Household, Status}
 use Rattle.tax_2023.specs.Tables.{cents, status, taxable_income}
 use Rattle.tax_2023.specs.Years.{tables_2023}
-use Rattle.tax_2023.proofs.Told.{IsWorth, Told, both_told}
-use Rattle.tax_2023.proofs.Values.{Entry, entry_value, of_person, of_return, person, told}
+use Rattle.tax_2023.proofs.Stated.{IsWorth, Stated, both_stated}
+use Rattle.tax_2023.proofs.Values.{Entry, entry_value, of_person, of_return, person, stated}
 use Rattle.tax_2023.proofs.YearDictionary.{Rest, of_year}
 use Rattle.tax_income.specs.Bands.{ends}
 use Rattle.tax_income.specs.Facts.{facts_of_income}
@@ -64,12 +64,12 @@ further_entries numbered =
 abbrev pub behind : {X : Type 0} → List X → ℕ → Option X
 behind xs n = if nat_lt n 46 then None else slice_get xs (n - 46)
 
-abbrev pub further_told : Household → Numbered → (ℕ → Dependent) → Told
-further_told h numbered g n = option_map (entry_value h g) (behind (further_entries numbered) n)
+abbrev pub further_stated : Household → Numbered → (ℕ → Dependent) → Stated
+further_stated h numbered g n = option_map (entry_value h g) (behind (further_entries numbered) n)
 
 -- of all facts
-abbrev pub told_of_income : Answered → Household → Numbered → Told
-told_of_income a h numbered = both_told (told tables_2023 h (person a)) (further_told h numbered (person a))
+abbrev pub stated_of_income : Answered → Household → Numbered → Stated
+stated_of_income a h numbered = both_stated (stated tables_2023 h (person a)) (further_stated h numbered (person a))
 
 -- ---- the dictionary, with any types
 
@@ -81,4 +81,4 @@ of_income t = of_year tables_2023 (income_rest t)
 
 -- over answers and a household, the expression of the fact with number n is worth the value at a member
 abbrev pub Worth : TypedDictionary → Answered → Household → Numbered → ℕ → ℕ → Value → Source → Type 0
-Worth t a h numbered n m v e = IsWorth (of_income t) a (told_of_income a h numbered) (slot n m) v e
+Worth t a h numbered n m v e = IsWorth (of_income t) a (stated_of_income a h numbered) (slot n m) v e

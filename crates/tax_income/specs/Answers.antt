@@ -14,5 +14,5 @@ AreNumbered d a numbered [] = Unit {0}
 AreNumbered d a numbered (p ∷ ps) = (answer_on d a p.member (codes "hasNumber") ≡ Some (Boolean (numbered p.member))) × AreNumbered d a numbered ps
 
 -- of each member there is an answer, whatever it is
-abbrev pub AllAreTold : Dictionary → Answered → Type 0
-AllAreTold d a = (m : ℕ) → IsTrue (is_member a (global d (codes "dependents")) m) → IsSome (answer_on d a m (codes "hasNumber"))
+abbrev pub AllAreStated : Dictionary → Answered → Type 0
+AllAreStated d a = (m : ℕ) → IsTrue (is_member a (global d (codes "dependents")) m) → IsSome (answer_on d a m (codes "hasNumber"))

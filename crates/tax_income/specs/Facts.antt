@@ -6,7 +6,7 @@ use Rattle.dict_tree.specs.declared.operators.OneOp.TheVariants.{Round}
 use Rattle.dict_tree.specs.declared.operators.TwoOp.TheVariants.{Divide, Equal, GreaterThan, Multiply}
 use Rattle.dict_tree.specs.Tree.{Source, literal_day, literal_dollar, literal_rational, literal, many, one, read, two}
 use Rattle.dict_tree.specs.View.{trees_of}
-use Rattle.dict_tree.specs.Reading.{use_of}
+use Rattle.dict_tree.specs.Parsing.{use_of}
 use Rattle.dict_tree.specs.Facts.{Fact}
 use Rattle.dict_tree.specs.Dictionary.{Dictionary}
 use Rattle.written_facts.specs.Figures.{Named}

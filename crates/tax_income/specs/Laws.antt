@@ -10,7 +10,7 @@ use Rattle.tax_2023.specs.Figures.{figures}
 use Rattle.tax_2023.specs.Tables.{cents}
 use Rattle.tax_2023.specs.Answers.{AreComplete, AreOfHousehold}
 use Rattle.tax_2023.specs.Laws.{Has, HasAt, HasTables, IsModest}
-use Rattle.tax_income.specs.Answers.{AllAreTold, AreNumbered}
+use Rattle.tax_income.specs.Answers.{AllAreStated, AreNumbered}
 use Rattle.tax_income.specs.Facts.{income_dictionary}
 use Rattle.tax_income.specs.Tables as tables
 use Rattle.tax_income.specs.Tables.{Numbered, credit_children, is_credit_child, is_other_dependent, other_dependents, schedule_tax, thousands}
@@ -56,7 +56,7 @@ IncomeTablesHold =
 -- where answers that fit the dictionary answer every question, they are those of a household whose persons have a number or none
 abbrev pub HouseholdIsThere : Type 0
 HouseholdIsThere =
-    (d : Accepted) → IsOfIncome d → (a : Answered) → AnswersFit d.tree a → AreComplete d.tree a → AllAreTold d.tree a
+    (d : Accepted) → IsOfIncome d → (a : Answered) → AnswersFit d.tree a → AreComplete d.tree a → AllAreStated d.tree a
     → (h : Household) × AreOfHousehold d.tree a h × ((numbered : Numbered) × AreNumbered d.tree a numbered h.persons)
 
 -- so many thousands are not less than the amount, and no fewer are

@@ -1,4 +1,5 @@
-ghost use Rattle.std.specs.Prelude.{◌≡◌, ◌≤◌, Bool, length};
+// A check of texts: its name, its code and the closure that it runs; and the table of the checks that a host brings.
+ghost use Rattle.std.specs.Prelude.{◌≡◌, ◌<◌, ◌≤◌, ◌^◌, Bool, length};
 ghost use Rattle.text_checks.specs.Checks.{check_says};
 
 use fact_paths::Name;
@@ -37,4 +38,11 @@ impl Check {
     {
         (self.test)(text)
     }
+}
+
+/// Checks by name, in the order in which they were added. Contracts see their names and codes.
+#[derive(Drop)]
+pub struct CheckTable {
+    pub checks: Vec<Check>,
+    pub ghost few: { length checks.items < 2 ^ 32 },
 }

@@ -6,6 +6,6 @@ mod checks;
 pub mod laws;
 mod table;
 
-pub use check::{Check, Test};
+pub use check::{Check, CheckTable, Test};
 pub use checks::{digits, nine_digits, printable_ascii, trimmed};
-pub use table::{CheckTable, TableFault};
+pub use table::TableFault;

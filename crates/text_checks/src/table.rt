@@ -1,9 +1,11 @@
+// Adding checks to a table, finding them by name and running them by place.
 ghost use Rattle.std.specs.Prelude.{◌≡◌, ◌↔◌, ◌+◌, ◌-◌, ◌<◌, ◌≤◌, ◌^◌, ◌∷◌, [], ◌++◌, Bool, ℕ, List, OnOk, OnErr, IsErrOf, IsSome, IfSome, length, map, slice_get, option_map};
 ghost use Rattle.std.specs.Option.{option_copied};
 ghost use Rattle.text_checks.specs.Checks.{IsCode, check_says};
 ghost use Rattle.text_checks.specs.Places.{place_of};
+ghost use Rattle.text_checks.specs.Tables.{check_names, named_checks};
 
-use crate::check::{Check, Test};
+use crate::check::{Check, CheckTable, Test};
 use fact_paths::Name;
 use std::alloc::Global;
 
@@ -13,13 +15,6 @@ pub enum TableFault {
     /// The table has a check of this name.
     Same,
     NoMemory,
-}
-
-/// Checks by name, in the order in which they were added. Contracts see their names and codes.
-#[derive(Drop)]
-pub struct CheckTable {
-    pub checks: Vec<Check>,
-    pub ghost few: { length checks.items < 2 ^ 32 },
 }
 
 impl CheckTable {
@@ -40,8 +35,7 @@ impl CheckTable {
         requires callable { (text : _) → length text.now ≤ 1000 → Test.pre check text }
         requires says { (text : _) (answer : Bool) → length text.now ≤ 1000
             → Test.post check text answer → answer ≡ check_says code text.now }
-        ensures added { OnOk result (map {B = List ℕ × ℕ} (λ c. (c.name, c.code)) self.new.checks.items
-            ≡ map {B = List ℕ × ℕ} (λ c. (c.name, c.code)) self.old.checks.items ++ (name, code) ∷ []) }
+        ensures added { OnOk result (named_checks self.new ≡ named_checks self.old ++ (name, code) ∷ []) }
         ensures count { OnOk result (length self.new.checks.items ≡ length self.old.checks.items + 1) }
         ensures same { IsErrOf result TableFault.Same ↔ IsSome (place_of self.old.checks.items (λ c. c.name) name) }
         ensures unchanged { OnErr result (self.new.checks.items ≡ self.old.checks.items) }

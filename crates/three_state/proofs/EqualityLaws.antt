@@ -82,4 +82,4 @@ res_same-Decides r s = (res_same-equal r s, λ e. rw (sym e) (res_same-itself r)
 
 -- a test that says when they are equal says the same
 pub answers_value_same : (b : Bool) (v w : Value) → IsTrue b ↔ (v ≡ w) → b ≡ value_same v w
-answers_value_same b v w told = same_from_decides b (value_same v w) told (value_same-Decides v w)
+answers_value_same b v w decides = same_from_decides b (value_same v w) decides (value_same-Decides v w)

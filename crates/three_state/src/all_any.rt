@@ -1,3 +1,4 @@
+// All and Any over results that are seen one by one.
 ghost use Rattle.std.specs.Prelude.{◌≡◌, [], ◌∷◌, ◌++◌, List, true, false};
 ghost use Rattle.three_state.specs.Folds.{junction_next};
 ghost use Rattle.three_state.specs.Results.{all_of, any_of};

@@ -1,3 +1,4 @@
+// What All and Any share: their rules, with true and false exchanged.
 ghost use Rattle.std.specs.Prelude.{◌≡◌, Bool, [], ◌∷◌};
 ghost use Rattle.three_state.specs.Junctions.{end_of, nothing_seen, with_operand};
 ghost use Rattle.three_state.specs.Results.{is_truth};

@@ -1,3 +1,4 @@
+// Results: complete, placeholder, incomplete, or at fault.
 ghost use Rattle.std.specs.Prelude.{◌≡◌, ◌↔◌, IsTrue, IfOk, IsErr};
 ghost use Rattle.three_state.specs.Equality.{res_same};
 ghost use Rattle.three_state.specs.Results.{ValueHoldsMemory, down as weakened, truth as truth_of};

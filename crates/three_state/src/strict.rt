@@ -1,3 +1,4 @@
+// Operations that need all of their operands: whether they can be done.
 ghost use Rattle.std.specs.Prelude.{◌≡◌, [], ◌∷◌, ◌++◌, List};
 ghost use Rattle.three_state.specs.Folds.{verdict_next};
 ghost use Rattle.three_state.specs.Results.{outcome, verdict_of};

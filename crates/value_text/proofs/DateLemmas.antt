@@ -64,29 +64,29 @@ is_date-IsDateInRange y m d = (
 )
 
 -- the day that a constructor gives for a date is the date's
-told_by : (b : Bool) (r : Option ℤ) (y m d : ℕ) → is_date y m d ≡ b → (IsSome r ↔ IsDateInRange (pos y) (pos m) (pos d)) → IfSome r (λ n. n ≡ number_of (pos y) (pos m) (pos d)) → r ≡ (if b then Some (date_number y m d) else None)
-told_by true None y m d e accepted value =
+day_by : (b : Bool) (r : Option ℤ) (y m d : ℕ) → is_date y m d ≡ b → (IsSome r ↔ IsDateInRange (pos y) (pos m) (pos d)) → IfSome r (λ n. n ≡ number_of (pos y) (pos m) (pos d)) → r ≡ (if b then Some (date_number y m d) else None)
+day_by true None y m d e accepted value =
     let some = accepted.1 ((is_date-IsDateInRange y m d).0 e) in
     absurd (cc)
-told_by true (Some n) y m d e accepted value =
+day_by true (Some n) y m d e accepted value =
     let range = (is_date-IsDateInRange y m d).0 e in
     let m0 = range.0.1.0 in
     let m1 = range.0.1.1 in
     let d0 = range.0.2.0 in
     ap Some (value ∙ sym (date_number-number_of y m d (omega (arith, signed_arith)) (omega (arith, signed_arith)) (omega (arith, signed_arith))))
-told_by false None y m d e accepted value = refl
-told_by false (Some n) y m d e accepted value =
+day_by false None y m d e accepted value = refl
+day_by false (Some n) y m d e accepted value =
     let yes = (is_date-IsDateInRange y m d).1 (accepted.0 refl) in
     absurd (cc)
 
 -- what the constructor says of a date
-abbrev pub Told : Option ℤ → ℤ → ℤ → ℤ → Type 0
-Told r y m d = (IsSome r ↔ IsDateInRange y m d) × IfSome r (λ n. n ≡ number_of y m d)
+abbrev pub CountsDay : Option ℤ → ℤ → ℤ → ℤ → Type 0
+CountsDay r y m d = (IsSome r ↔ IsDateInRange y m d) × IfSome r (λ n. n ≡ number_of y m d)
 
-pub day_of_date-told : (r : Option ℤ) (y m d : ℕ) (a b c : ℤ) → a ≡ pos y → b ≡ pos m → c ≡ pos d → Told r a b c → r ≡ day_of_date y m d
-day_of_date-told r y m d a b c ea eb ec told =
-    let same : Told r (pos y) (pos m) (pos d) = subst (λ z. Told r (pos y) (pos m) z) ec (subst (λ z. Told r (pos y) z c) eb (subst (λ z. Told r z b c) ea told)) in
-    told_by (is_date y m d) r y m d refl same.0 same.1
+pub day_of_date-counted : (r : Option ℤ) (y m d : ℕ) (a b c : ℤ) → a ≡ pos y → b ≡ pos m → c ≡ pos d → CountsDay r a b c → r ≡ day_of_date y m d
+day_of_date-counted r y m d a b c ea eb ec counted =
+    let same : CountsDay r (pos y) (pos m) (pos d) = subst (λ z. CountsDay r (pos y) (pos m) z) ec (subst (λ z. CountsDay r (pos y) z c) eb (subst (λ z. CountsDay r z b c) ea counted)) in
+    day_by (is_date y m d) r y m d refl same.0 same.1
 
 -- the three numbers of a date that was read
 pub date_in-from : (text : List ℕ) (y m d : ℕ) → Some y ≡ number_at 4 4 (take 4 text) → Some m ≡ number_at 2 2 (slice_range text 5 7) → Some d ≡ number_at 2 2 (slice_range text 8 10) → day_of_date y m d ≡ date_in text

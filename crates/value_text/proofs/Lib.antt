@@ -6,7 +6,7 @@ pub mod DigitLemmas
 pub mod EnumLemmas
 pub mod PrintedLaws
 pub mod PrintedTexts
-pub mod ReadingLaws
+pub mod ParsingLaws
 pub mod SpellingLaws
 pub mod TypeLaws
 pub mod ValueExamples

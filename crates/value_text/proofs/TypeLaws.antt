@@ -29,7 +29,7 @@ use Rattle.value_text.specs.Wholes.{SpellsWhole}
 use Rattle.value_text.proofs.DateTextLaws.{day_found}
 use Rattle.value_text.proofs.DigitLemmas.{own}
 use Rattle.value_text.proofs.PrintedTexts.{value_spelled}
-use Rattle.value_text.proofs.ReadingLaws.{boolean_found, text_found, choice_found, value_again}
+use Rattle.value_text.proofs.ParsingLaws.{boolean_found, text_found, choice_found, value_again}
 use Rattle.value_text.proofs.SpellingLaws.{dollar_found}
 use Rattle.value_text.proofs.WholeLaws.{whole_found, rational_found}
 

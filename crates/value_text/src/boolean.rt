@@ -1,3 +1,4 @@
+// The texts of truth values.
 ghost use Rattle.std.specs.Prelude.{◌≡◌, ◌+◌, ◌≤◌, ◌++◌, length};
 ghost use Rattle.value_text.specs.Values.{boolean_at, printed_boolean};
 

@@ -1,3 +1,4 @@
+// The texts of days.
 ghost use Rattle.std.specs.Prelude.{◌≡◌, ◌+◌, ◌<◌, ◌≤◌, ◌++◌, length, pos};
 ghost use Rattle.value_text.specs.Dates.{date_in, day_at, day_of_date, is_date_text as date_text, printed_date, printed_day};
 

@@ -1,3 +1,4 @@
+// The texts of amounts.
 ghost use Rattle.std.specs.Prelude.{◌≡◌, ℤ, pos, neg_ℤ, ◌+◌, ◌^◌, ◌<◌, ◌≤◌, ◌++◌, length, Some, IfSome, MatchOption};
 ghost use Rattle.value_text.specs.Dollars.{SpellsDollar, size_at, dollar_at, printed_size, printed_dollar};
 

@@ -1,3 +1,4 @@
+// The enums of a dictionary: their names and options.
 ghost use Rattle.std.specs.Prelude.{◌≡◌, ◌+◌, ◌<◌, ◌≤◌, ◌^◌, [], ◌∷◌, ◌++◌, length, vec_len, option_copied, IfErr, IfSome, IsTrue, OnErr, OnOk, false};
 ghost use Rattle.std.specs.List.{list_all};
 ghost use Rattle.fact_paths.specs.Names.{is_name};

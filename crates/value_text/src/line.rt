@@ -1,3 +1,4 @@
+// The buffer of one line of output.
 ghost use Rattle.std.specs.Prelude.{◌≡◌, ◌+◌, ◌≤◌, [], ◌++◌, length};
 
 use std::marker::Model;

@@ -1,3 +1,4 @@
+// The texts of members and of lists of them.
 ghost use Rattle.std.specs.Prelude.{◌≡◌, ◌+◌, ◌*◌, ◌<◌, ◌≤◌, ◌∷◌, ◌++◌, length, IsTrue};
 ghost use Rattle.std.specs.List.{list_all};
 ghost use Rattle.fact_values.specs.Members.{IsMemberList, is_member};

@@ -1,3 +1,4 @@
+// The texts of fractions.
 ghost use Rattle.std.specs.Prelude.{◌≡◌, ◌+◌, ◌^◌, ◌<◌, ◌≤◌, ◌++◌, length, IfSome, MatchOption, pos, unsigned_abs};
 ghost use Rattle.fact_paths.specs.Cuts.{at_slash};
 ghost use Rattle.fact_values.specs.Rationals.{checked_ratio};

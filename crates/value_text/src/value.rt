@@ -1,3 +1,4 @@
+// The texts of values of all types, read and printed.
 ghost use Rattle.std.specs.Prelude.{◌≡◌, ◌+◌, ◌≤◌, ◌++◌, length, codes, IsErrOf, IsSome, option_map, unwrap_or};
 ghost use Rattle.value_text.specs.Enums.{option_at, option_place_in};
 ghost use Rattle.value_text.specs.Values.{Gives, IsPrinted, IsRead, Reads, boolean_at, printed, text_at, value_at};

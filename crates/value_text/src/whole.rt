@@ -1,3 +1,4 @@
+// The texts of whole numbers.
 ghost use Rattle.std.specs.Prelude.{◌≡◌, ◌+◌, ◌^◌, ◌<◌, ◌≤◌, ◌++◌, length, IfSome, unsigned_abs, decimal};
 ghost use Rattle.value_text.specs.Wholes.{whole_at, printed_whole};
 

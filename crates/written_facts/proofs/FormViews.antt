@@ -1,7 +1,7 @@
 -- The view of each kind of form.
 use Rattle.std.proofs.Common.{◌≡◌, ℕ, List, Bor, rules}
 use Rattle.dict_tree.specs.Tree.{literal, read, switch, many, one, two, pick}
-use Rattle.dict_tree.specs.Reading.{use_of}
+use Rattle.dict_tree.specs.Parsing.{use_of}
 use Rattle.dict_tree.specs.declared.operators.ReadOp.{ReadOp}
 use Rattle.dict_tree.specs.declared.operators.ManyOp.{ManyOp}
 use Rattle.dict_tree.specs.declared.operators.OneOp.{OneOp}

@@ -6,7 +6,7 @@ use Rattle.common_lemmas.proofs.Bytes.{same_bytes}
 use Rattle.fact_paths.specs.Paths.{Reads, SpellsFactPath}
 use Rattle.fact_paths.specs.declared.fault.PathFault.{PathFault}
 use Rattle.fact_paths.specs.declared.fault.PathFault.TheVariants.{BadPath, NoMemory}
-use Rattle.fact_paths.specs.Reading.{fact_path_of, use_path_of}
+use Rattle.fact_paths.specs.Parsing.{fact_path_of, use_path_of}
 use Rattle.fact_paths.specs.declared.fact_path.FactPath.{FactPath}
 use Rattle.fact_paths.specs.declared.use_path.UsePath.{UsePath}
 use Rattle.fact_paths.specs.declared.use_path.UsePath.TheVariants.{Global, Sibling, Inner, Each, Through, SiblingThrough}

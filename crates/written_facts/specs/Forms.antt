@@ -2,7 +2,7 @@
 use Rattle.std.specs.Prelude.{List, map}
 use Rattle.dict_tree.specs.Tree.{Literal, literal_true, literal_false, literal_int, literal_dollar, literal_rational, literal_day, literal_text, literal_choice, Source, Sources, SourceCase, SourceCases, literal, read, switch, many, one, two, pick}
 use Rattle.dict_tree.specs.View.{trees_of, cases_of}
-use Rattle.dict_tree.specs.Reading.{use_of}
+use Rattle.dict_tree.specs.Parsing.{use_of}
 use Rattle.written_facts.specs.Figures.{Named, text_under}
 use Rattle.written_facts.specs.declared.form.Fixed.{Fixed}
 use Rattle.written_facts.specs.declared.form.Fixed.TheVariants as fixed

@@ -1,7 +1,7 @@
 -- Which facts a source takes, as a test that computes.
 use Rattle.std.specs.Prelude.{Bool, true, false, ◌&&◌, bytes_eq, is_none, List, [], ◌∷◌, ◌++◌, Option, Some, None}
 use Rattle.fact_paths.specs.Names.{is_name}
-use Rattle.fact_paths.specs.Reading.{fact_path_of, use_path_of}
+use Rattle.fact_paths.specs.Parsing.{fact_path_of, use_path_of}
 use Rattle.fact_paths.specs.declared.fact_path.FactPath.{FactPath}
 use Rattle.fact_paths.specs.declared.use_path.UsePath.{UsePath}
 use Rattle.fact_paths.specs.declared.use_path.UsePath.TheVariants.{Global, Sibling, Inner, Each, Through, SiblingThrough}

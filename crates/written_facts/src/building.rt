@@ -1,6 +1,6 @@
 // Makes expressions of forms.
 ghost use Rattle.std.specs.Prelude.{◌≡◌, IfOk, string_bytes};
-ghost use Rattle.dict_tree.specs.Reading.{use_of};
+ghost use Rattle.dict_tree.specs.Parsing.{use_of};
 ghost use Rattle.dict_tree.specs.Tree.{pick, two};
 ghost use Rattle.dict_tree.specs.View.{box_view, case_view, cases_view, literal_of, trees_view, view};
 ghost use Rattle.written_facts.specs.Figures.{figures_view};

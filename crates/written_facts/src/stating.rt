@@ -1,6 +1,6 @@
 // Makes facts of rows.
 ghost use Rattle.std.specs.Prelude.{◌≡◌, IfOk, IsTrue, Some, option_map, map, string_bytes, [], ◌∷◌};
-ghost use Rattle.fact_paths.specs.Reading.{fact_path_of};
+ghost use Rattle.fact_paths.specs.Parsing.{fact_path_of};
 ghost use Rattle.dict_tree.specs.Facts.{fact_view, least, limit_view, stated_view};
 ghost use Rattle.dict_tree.specs.View.{view};
 ghost use Rattle.written_facts.specs.Figures.{figures_view};

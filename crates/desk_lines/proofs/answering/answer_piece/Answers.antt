@@ -15,30 +15,30 @@ use Rattle.desk_lines.proofs.answering.answer_piece.Goals as goal
 pub returns-in-Over-clause-answered : goal.returns-in-Over-clause-answered
 returns-in-Over-clause-answered g c = λ d stands.
     let so_far = c.loop-rest.invariant.replied d stands in
-    let told = c.in-Over.ensures.answered so_far.0 so_far.1 in (
+    let output = c.in-Over.ensures.answered so_far.0 so_far.1 in (
       record {
         state_now = _;
         held_now = c.feed-fed.new.self.so_far;
         behind = drop c.feed-fed.result.taken c.loop-rest.rest.now;
         replied = replied_fed _ _ _ _ _ _ so_far.0 _ _ c.loop-rest.lines.so_far c.loop-rest.rest.now _ _ _ c.feed-fed.new.self.line c.line.result.now c.feed-fed.result.ready c.feed-fed.result.taken _
-            so_far.2 (ap rules c.loop-rest.invariant.dict) c.feed-fed.ensures.stream c.line.ensures.line refl told.0 refl;
+            so_far.2 (ap rules c.loop-rest.invariant.dict) c.feed-fed.ensures.stream c.line.ensures.line refl output.0 refl;
       },
-      told.1,
+      output.1,
     )
 
 pub returns-in-Unwritten-clause-answered : goal.returns-in-Unwritten-clause-answered
 returns-in-Unwritten-clause-answered g c = λ d stands.
     let so_far = c.loop-rest.invariant.replied d stands in
-    let told = c.in-Unwritten.ensures.answered so_far.0 so_far.1 in (
-      omega (arith, told.0, c.loop-rest.invariant.later),
+    let output = c.in-Unwritten.ensures.answered so_far.0 so_far.1 in (
+      omega (arith, output.0, c.loop-rest.invariant.later),
       (
-        told.1.0,
+        output.1.0,
         record {
           state_now = _;
           held_now = c.feed-fed.new.self.so_far;
           behind = drop c.feed-fed.result.taken c.loop-rest.rest.now;
           replied = replied_fed _ _ _ _ _ _ so_far.0 _ _ c.loop-rest.lines.so_far c.loop-rest.rest.now _ _ _ c.feed-fed.new.self.line c.line.result.now c.feed-fed.result.ready c.feed-fed.result.taken _
-              so_far.2 (ap rules c.loop-rest.invariant.dict) c.feed-fed.ensures.stream c.line.ensures.line refl told.1.1 refl;
+              so_far.2 (ap rules c.loop-rest.invariant.dict) c.feed-fed.ensures.stream c.line.ensures.line refl output.1.1 refl;
         },
       ),
     )
@@ -46,14 +46,14 @@ returns-in-Unwritten-clause-answered g c = λ d stands.
 pub returns-in-OutOfMemory-clause-answered : goal.returns-in-OutOfMemory-clause-answered
 returns-in-OutOfMemory-clause-answered g c = λ d stands.
     let so_far = c.loop-rest.invariant.replied d stands in
-    let told = c.in-OutOfMemory.ensures.answered so_far.0 so_far.1 in (
+    let output = c.in-OutOfMemory.ensures.answered so_far.0 so_far.1 in (
       record {
         state_now = desk_open so_far.0;
         held_now = c.loop-rest.lines.so_far;
         behind = c.loop-rest.rest.now;
-        replied = rw told.0 so_far.2;
+        replied = rw output.0 so_far.2;
       },
-      (subst (λ (w : DeskView). StandsFor w so_far.0) (sym told.1) so_far.1, refl),
+      (subst (λ (w : DeskView). StandsFor w so_far.0) (sym output.1) so_far.1, refl),
     )
 
 pub returns-clause-answered : goal.returns-clause-answered
@@ -95,14 +95,14 @@ pub loop-rest-preserved : goal.loop-rest-preserved
 loop-rest-preserved g c = record {
   replied = λ d stands.
       let so_far = c.loop-rest.invariant.replied d stands in
-      let told = c.in-More.ensures.answered so_far.0 so_far.1 in
+      let output = c.in-More.ensures.answered so_far.0 so_far.1 in
       let after = desk_state_after (rules_of c.loop-rest.desk) (desk_open so_far.0) (ready_lines c.feed-fed.result.ready c.line.result.now) in (
         after.desk,
-        told.1.0,
+        output.1.0,
         replied_fed _ _ _ _ _ _ so_far.0 _ _ c.loop-rest.lines.so_far c.loop-rest.rest.now _ _ _ c.feed-fed.new.self.line c.line.result.now c.feed-fed.result.ready c.feed-fed.result.taken _
-            so_far.2 (ap rules c.loop-rest.invariant.dict) c.feed-fed.ensures.stream c.line.ensures.line (behind_is c.loop-rest.rest.now c.feed-fed.result.taken _ (omega arith)) told.0 (open_state after told.1.1),
+            so_far.2 (ap rules c.loop-rest.invariant.dict) c.feed-fed.ensures.stream c.line.ensures.line (behind_is c.loop-rest.rest.now c.feed-fed.result.taken _ (omega arith)) output.0 (open_state after output.1.1),
         steps_on DeskState (steps_of_desk_lines g.E.FactEngine.most) desk_state_after (desk_steps-append g.E.FactEngine.most) (rules_of c.args.desk.now) (rules_of c.loop-rest.desk) (desk_open so_far.0) (desk_open after.desk) c.loop-rest.lines.so_far c.loop-rest.rest.now c.feed-fed.new.self.so_far _ c.feed-fed.new.self.line c.line.result.now c.feed-fed.result.ready c.feed-fed.result.taken _ _ _
-            (ap rules c.loop-rest.invariant.dict) c.feed-fed.ensures.stream c.line.ensures.line (behind_is c.loop-rest.rest.now c.feed-fed.result.taken _ (omega arith)) (open_state after told.1.1) so_far.3 (c.answer_ready.ensures.steps so_far.0 so_far.1),
+            (ap rules c.loop-rest.invariant.dict) c.feed-fed.ensures.stream c.line.ensures.line (behind_is c.loop-rest.rest.now c.feed-fed.result.taken _ (omega arith)) (open_state after output.1.1) so_far.3 (c.answer_ready.ensures.steps so_far.0 so_far.1),
       );
   unended = c.feed-fed.ensures.no_newline;
   dict = c.answer_ready.ensures.dict ∙ c.loop-rest.invariant.dict;

@@ -8,7 +8,7 @@ use Rattle.shared_desk.specs.DeskView.{rules_of}
 use Rattle.desk_lines.specs.DeskAnswering.{DeskAnsweredAs}
 use Rattle.desk_lines.specs.DeskStepping.{desk_open}
 use Rattle.desk_lines.specs.DeskSteps.{steps_of_desk_lines}
-use Rattle.desk_lines.proofs.AnsweringLaws.{line_told, written_told}
+use Rattle.desk_lines.proofs.AnsweringLaws.{line_output, written_output}
 use Rattle.desk_lines.proofs.DeskStepLaws.{steps_of_one}
 use Rattle.desk_lines.proofs.answering.answer_ready.Goals as goal
 
@@ -23,8 +23,8 @@ pub returns-in-Long-clause-answered : goal.returns-in-Long-clause-answered
 returns-in-Long-clause-answered g c = λ d stands.
     let r = rules_of c.args.desk.now in
     subst (λ (k : Ready). DeskAnsweredAs r (g.K.Sink.taken c.args.out.now) (g.K.Sink.taken c.write_text.new.out) (g.K.Sink.faults c.args.out.now) (g.K.Sink.faults c.write_text.new.out) c.args.desk.now c.args.desk.now d (ready_lines k c.args.line.now) c.write_text.result) (sym c.in-Long.is)
-    (line_told _ _ _ _ c.args.desk.now c.args.desk.now r d long c.write_text.result
-    (written_told _ _ _ _ c.args.desk.now c.args.desk.now (line_with long_line_text) d c.write_text.result c.write_text.ensures.written stands))
+    (line_output _ _ _ _ c.args.desk.now c.args.desk.now r d long c.write_text.result
+    (written_output _ _ _ _ c.args.desk.now c.args.desk.now (line_with long_line_text) d c.write_text.result c.write_text.ensures.written stands))
 
 pub returns-in-NotYet-clause-steps : goal.returns-in-NotYet-clause-steps
 returns-in-NotYet-clause-steps g c = λ d stands. omega arith

@@ -1,6 +1,6 @@
 use Rattle.std.proofs.Common.{◌≡◌, ◌≤◌, ◌+◌, ◌++◌, length, map, true}
 use Rattle.std.specs.Vec.Iter.{into_iter_items}
-use Rattle.dict_tree.specs.DictReading.{listed_view}
+use Rattle.dict_tree.specs.DictParsing.{listed_view}
 use Rattle.dict_tree.specs.Listing.{may_all_follow}
 use Rattle.dict_tree.proofs.dict_json.lists_of.Given as goal
 

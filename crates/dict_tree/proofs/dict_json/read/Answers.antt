@@ -1,7 +1,7 @@
 use Rattle.std.proofs.Common.{arith, Ok}
 use Rattle.std.proofs.lemmas.Result.{err_from_is_err_and}
 use Rattle.serde_json.specs.View.{view as json}
-use Rattle.dict_tree.specs.DictReading.{read_view}
+use Rattle.dict_tree.specs.DictParsing.{read_view}
 use Rattle.dict_tree.proofs.CountingLaws.{few_facts}
 use Rattle.dict_tree.proofs.DictJsonLaws.{read_given}
 use Rattle.dict_tree.proofs.DictLaws.{dictionary_is_valid, fault_given, kept_given}

@@ -1,6 +1,6 @@
 use Rattle.std.proofs.Common.{◌≡◌, ◌++◌, drop, map}
 use Rattle.value_text.specs.Enums.{names_of}
-use Rattle.dict_tree.specs.DictReading.{listed_view}
+use Rattle.dict_tree.specs.DictParsing.{listed_view}
 use Rattle.dict_tree.proofs.enums_json.names_of_lists.Given as goal
 
 abbrev pub invariant-loop-list : goal.invariant-loop-list

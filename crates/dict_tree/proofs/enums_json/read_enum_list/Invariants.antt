@@ -1,6 +1,6 @@
 use Rattle.std.proofs.Common.{◌≡◌, ◌++◌, drop, map, option_map}
 use Rattle.serde_json.specs.View.{items_view}
-use Rattle.dict_tree.specs.DictReading.{enum_list, listed_view}
+use Rattle.dict_tree.specs.DictParsing.{enum_list, listed_view}
 use Rattle.dict_tree.proofs.enums_json.read_enum_list.Given as goal
 
 -- those so far and those of what is left are all

@@ -1,6 +1,6 @@
 use Rattle.std.proofs.Common.{◌≡◌, ◌++◌, drop, option_map}
 use Rattle.serde_json.specs.View.{items_view}
-use Rattle.dict_tree.specs.DictReading.{name_list}
+use Rattle.dict_tree.specs.DictParsing.{name_list}
 use Rattle.dict_tree.proofs.enums_json.read_names.Given as goal
 
 -- those so far and those of what is left are all

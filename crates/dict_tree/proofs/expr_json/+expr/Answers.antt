@@ -2,9 +2,9 @@ use Rattle.std.proofs.Common.{arith, ◌∙◌, ◌++◌, ◌+◌, drop, map, op
 use Rattle.std.proofs.lemmas.Result.{err_from_is_err_and}
 use Rattle.serde_json.specs.View.{view as json, items_view}
 use Rattle.dict_tree.specs.View.{box_view, case_view, pair_view, picked_view, use_view, view}
-use Rattle.dict_tree.specs.Reading.{picked_of, tree_of, only_tree, pair_tree, picked_tree, tree_list, case_of, case_list}
+use Rattle.dict_tree.specs.Parsing.{picked_of, tree_of, only_tree, pair_tree, picked_tree, tree_list, case_of, case_list}
 use Rattle.dict_tree.proofs.OperandLaws.{only_tree_else, pair_tree_else, picked_tree_else, only_tree_at, pair_tree_none, pair_tree_none_second, pair_tree_some, picked_none, picked_some, part_err, part_gives}
-use Rattle.dict_tree.proofs.ReadingLaws.{items_next, one_more, read_next}
+use Rattle.dict_tree.proofs.ParsingLaws.{items_next, one_more, read_next}
 use Rattle.dict_tree.proofs.expr_json.+expr.Goals as goal
 
 pub read_only-returns-then-items-ne2 : goal.read_only-returns-then-items-ne2

@@ -1,7 +1,7 @@
 use Rattle.std.proofs.Common.{◌≡◌, ◌++◌, drop, map, option_map}
 use Rattle.serde_json.specs.View.{items_view}
 use Rattle.dict_tree.specs.View.{view, case_view}
-use Rattle.dict_tree.specs.Reading.{tree_list, case_list}
+use Rattle.dict_tree.specs.Parsing.{tree_list, case_list}
 use Rattle.dict_tree.proofs.expr_json.+expr.Given as goal
 
 -- those so far and those of what is left are all

@@ -1,5 +1,5 @@
 use Rattle.std.proofs.Common.{arith, ap, option_map}
-use Rattle.dict_tree.specs.Reading.{use_of}
+use Rattle.dict_tree.specs.Parsing.{use_of}
 use Rattle.dict_tree.proofs.OperandLaws.{one_text_else}
 use Rattle.dict_tree.proofs.expr_json.read_path.Goals as goal
 

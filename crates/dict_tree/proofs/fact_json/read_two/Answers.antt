@@ -2,7 +2,7 @@ use Rattle.std.proofs.Common.{arith}
 use Rattle.std.proofs.lemmas.Result.{err_from_is_err_and}
 use Rattle.serde_json.specs.View.{view as json, items_view}
 use Rattle.dict_tree.specs.View.{box_view, pair_view}
-use Rattle.dict_tree.specs.Reading.{tree_of, pair_tree}
+use Rattle.dict_tree.specs.Parsing.{tree_of, pair_tree}
 use Rattle.dict_tree.proofs.OperandLaws.{no_pair, pair_none, pair_none_second, pair_some, part_err}
 use Rattle.dict_tree.proofs.fact_json.read_two.Goals as goal
 

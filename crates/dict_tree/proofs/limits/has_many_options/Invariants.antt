@@ -1,7 +1,7 @@
 use Rattle.std.proofs.Common.{◌≡◌, drop, map, length}
 use Rattle.std.specs.Prelude.{nat_lt}
 use Rattle.std.specs.List.{list_any}
-use Rattle.dict_tree.specs.DictReading.{listed_view}
+use Rattle.dict_tree.specs.DictParsing.{listed_view}
 use Rattle.dict_tree.proofs.limits.has_many_options.Given as goal
 
 abbrev pub invariant-loop-list : goal.invariant-loop-list

@@ -1,8 +1,8 @@
 use Rattle.std.proofs.Common.{◌∙◌, ◌++◌, ◌+◌, map, drop, ap, refl, add-one}
 use Rattle.serde_json.specs.View.{view as json, items_view}
 use Rattle.dict_tree.specs.Facts.{limit_view}
-use Rattle.dict_tree.specs.FactReading.{limit_list, limit_of}
-use Rattle.dict_tree.proofs.ReadingLaws.{items_next, one_more, read_next}
+use Rattle.dict_tree.specs.FactParsing.{limit_list, limit_of}
+use Rattle.dict_tree.proofs.ParsingLaws.{items_next, one_more, read_next}
 use Rattle.dict_tree.proofs.limits_json.read_limit_list.Goals as goal
 
 pub loop-item-preserved : goal.loop-item-preserved

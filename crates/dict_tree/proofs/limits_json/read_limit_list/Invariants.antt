@@ -1,7 +1,7 @@
 use Rattle.std.proofs.Common.{◌≡◌, ◌++◌, drop, map, option_map}
 use Rattle.serde_json.specs.View.{items_view}
 use Rattle.dict_tree.specs.Facts.{limit_view}
-use Rattle.dict_tree.specs.FactReading.{limit_list}
+use Rattle.dict_tree.specs.FactParsing.{limit_list}
 use Rattle.dict_tree.proofs.limits_json.read_limit_list.Given as goal
 
 -- those so far and those of what is left are all

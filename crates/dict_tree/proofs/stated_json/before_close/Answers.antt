@@ -1,4 +1,4 @@
-use Rattle.dict_tree.proofs.StatedReadingLaws.{before_close_from_strip}
+use Rattle.dict_tree.proofs.StatedParsingLaws.{before_close_from_strip}
 use Rattle.dict_tree.proofs.stated_json.before_close.Goals as goal
 
 pub returns : goal.returns

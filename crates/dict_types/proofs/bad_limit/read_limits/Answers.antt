@@ -1,4 +1,5 @@
-use Rattle.std.proofs.Common.{◌+◌, ℕ, List, drop, map, add-one}
+use Rattle.std.proofs.Common.{◌+◌, drop, map, add-one}
+use Rattle.text_checks.specs.Tables.{check_names}
 use Rattle.dict_tree.specs.Facts.{limit_view, stated_view}
 use Rattle.dict_types.proofs.LimitLaws.{limit_next}
 use Rattle.dict_types.proofs.OneByOneLaws.{left_next}
@@ -10,4 +11,4 @@ loop-limit-preserved g c =
     let limits = c.args.limits.now in
     let here = limit_view c.limit-item.result in
     let left = left_next limit_view limits i (i + 1) c.limit-item.result c.loop-limit-test.true c.limit-item.is (add-one i) in
-    limit_next (map {B = List ℕ} (λ k. k.name) c.args.checks.now.checks.items) c.args.enums.now (stated_view c.args.stated.now) (map limit_view (drop i limits)) (map limit_view (drop (i + 1) limits)) here c.in_ok-found.found c.loop-limit.out.items c.push.new.self.items _ left c.loop-limit.invariant c.in_ok-found.ensures c.in_ok-push.ensures.items
+    limit_next (check_names c.args.checks.now) c.args.enums.now (stated_view c.args.stated.now) (map limit_view (drop i limits)) (map limit_view (drop (i + 1) limits)) here c.in_ok-found.found c.loop-limit.out.items c.push.new.self.items _ left c.loop-limit.invariant c.in_ok-found.ensures c.in_ok-push.ensures.items

@@ -1,9 +1,10 @@
 -- A limit of what is left names no check just where one of all does.
-use Rattle.std.proofs.Common.{◌≡◌, ℕ, List, drop, map}
+use Rattle.std.proofs.Common.{◌≡◌, drop, map}
 use Rattle.std.specs.List.{list_any}
+use Rattle.text_checks.specs.Tables.{check_names}
 use Rattle.dict_tree.specs.Facts.{limit_view}
 use Rattle.dict_types.specs.UnknownCheck.{is_unknown_check}
 use Rattle.dict_types.proofs.unknown_check.has_unknown_check.Given as goal
 
 abbrev pub invariant-loop-limit : goal.invariant-loop-limit
-invariant-loop-limit g l = list_any (is_unknown_check (map {B = List ℕ} (λ c. c.name) l.checks.checks.items)) (map limit_view (drop l.limit-index l.limit-items)) ≡ list_any (is_unknown_check (map {B = List ℕ} (λ c. c.name) l.checks.checks.items)) (map limit_view l.limit-items)
+invariant-loop-limit g l = list_any (is_unknown_check (check_names l.checks)) (map limit_view (drop l.limit-index l.limit-items)) ≡ list_any (is_unknown_check (check_names l.checks)) (map limit_view l.limit-items)

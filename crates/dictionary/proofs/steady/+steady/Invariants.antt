@@ -2,7 +2,7 @@
 use Rattle.std.proofs.Common.{◌≡◌, drop}
 use Rattle.dict_tree.specs.Dictionary.{dictionary_view}
 use Rattle.dict_tree.specs.View.{cases_view, trees_view}
-use Rattle.dictionary.specs.SteadyReading.{known_at, steady_cases, steady_trees}
+use Rattle.dictionary.specs.SteadyDependencies.{known_at, steady_cases, steady_trees}
 use Rattle.dictionary.proofs.steady.+steady.Given as goal
 
 abbrev pub invariant-are_steady-loop-expr : goal.invariant-are_steady-loop-expr

@@ -5,7 +5,7 @@ use Rattle.dict_order.specs.MentionGraph.{mention_graph}
 use Rattle.dict_order.specs.Ranks.{AreRanks}
 use Rattle.dictionary.specs.ByRank.{AreByRank}
 use Rattle.dictionary.specs.Steady.{steady_by_rank}
-use Rattle.dictionary.specs.SteadyReading.{known_at}
+use Rattle.dictionary.specs.SteadyDependencies.{known_at}
 use Rattle.dictionary.proofs.steady.steady_facts.Given as goal
 
 abbrev pub invariant-loop-number : goal.invariant-loop-number

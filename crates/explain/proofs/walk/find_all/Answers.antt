@@ -1,7 +1,7 @@
 use Rattle.std.proofs.Common.{List, take, sym, subst}
 use Rattle.std.proofs.lemmas.List.{take_all, take_more}
 use Rattle.fact_values.specs.declared.slot.Slot.{Slot}
-use Rattle.explain.specs.Ground.{tree_of}
+use Rattle.explain.specs.SessionContext.{tree_of}
 use Rattle.explain.specs.Walk.{AddsReads}
 use Rattle.explain.proofs.WalkLaws.{none_added, one_more_added}
 use Rattle.explain.proofs.walk.find_all.Goals as goal

@@ -1,5 +1,5 @@
 use Rattle.std.proofs.Common.{take}
-use Rattle.explain.specs.Ground.{tree_of}
+use Rattle.explain.specs.SessionContext.{tree_of}
 use Rattle.explain.specs.Walk.{AddsReads}
 use Rattle.explain.proofs.walk.find_all.Given as goal
 

@@ -13,4 +13,4 @@ returns-clause-begun c =
     tells (λ (e : Engine). Carries c.args.dictionary.now c.args.saved.now e × (size ≡ length (said e))) (λ (why : NotBegun). NotCarried c.args.dictionary.now c.args.saved.now why × (size ≡ 0)) c.args.graph.now c.hand_out.new.graph c.hand_out.new.fault begun
     (sized (Carries c.args.dictionary.now c.args.saved.now) (λ (e : Engine). size ≡ length (said e)) begun c.open_carried-begun.ensures.carried c.size_of_text.ensures.some)
     (unsized (NotCarried c.args.dictionary.now c.args.saved.now) (size ≡ 0) begun c.open_carried-begun.ensures.refused c.size_of_text.ensures.none)
-    c.hand_out.ensures.begun c.hand_out.ensures.told
+    c.hand_out.ensures.begun c.hand_out.ensures.output

@@ -1,9 +1,9 @@
 use Rattle.std.proofs.Common.{Err, refl, sym}
 use Rattle.fact_paths.specs.Paths.{SpellsFactPath}
 use Rattle.fact_paths.specs.declared.fault.PathFault.TheVariants.{BadPath}
-use Rattle.fact_paths.specs.Reading.{fact_path_of}
+use Rattle.fact_paths.specs.Parsing.{fact_path_of}
 use Rattle.fact_paths.proofs.FactPathLaws.{fact_path_reading}
-use Rattle.fact_paths.proofs.ReadingLaws.{reads_from_gives}
+use Rattle.fact_paths.proofs.ParsingLaws.{reads_from_gives}
 use Rattle.fact_paths.proofs.fact_path.read_fact_path.Goals as goal
 
 pub returns-in-None : goal.returns-in-None

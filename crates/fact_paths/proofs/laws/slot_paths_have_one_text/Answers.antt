@@ -1,8 +1,8 @@
 use Rattle.std.proofs.Common.{refl, sym, ◌∙◌}
 use Rattle.fact_paths.specs.Paths.{SpellsSlotPath}
-use Rattle.fact_paths.specs.Reading.{slot_path_of}
+use Rattle.fact_paths.specs.Parsing.{slot_path_of}
 use Rattle.fact_paths.proofs.SlotPathLaws.{slot_path_reading}
-use Rattle.fact_paths.proofs.ReadingLaws.{one_path_from}
+use Rattle.fact_paths.proofs.ParsingLaws.{one_path_from}
 use Rattle.fact_paths.proofs.laws.slot_paths_have_one_text.Goals as goal
 
 pub returns : goal.returns

@@ -1,5 +1,5 @@
 use Rattle.std.proofs.Common.{sym, ap, ◌∙◌}
-use Rattle.fact_paths.specs.Reading.{is_numeral}
+use Rattle.fact_paths.specs.Parsing.{is_numeral}
 use Rattle.fact_paths.proofs.MemberNumbers.{none_from_parse}
 use Rattle.fact_paths.proofs.slot_path.member_number.Goals as goal
 

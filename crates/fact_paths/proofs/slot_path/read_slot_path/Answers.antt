@@ -1,9 +1,9 @@
 use Rattle.std.proofs.Common.{Err, refl, sym}
 use Rattle.fact_paths.specs.Paths.{SpellsSlotPath}
 use Rattle.fact_paths.specs.declared.fault.PathFault.TheVariants.{BadPath}
-use Rattle.fact_paths.specs.Reading.{slot_path_of}
+use Rattle.fact_paths.specs.Parsing.{slot_path_of}
 use Rattle.fact_paths.proofs.SlotPathLaws.{slot_path_reading}
-use Rattle.fact_paths.proofs.ReadingLaws.{reads_from_gives}
+use Rattle.fact_paths.proofs.ParsingLaws.{reads_from_gives}
 use Rattle.fact_paths.proofs.slot_path.read_slot_path.Goals as goal
 
 pub returns-in-None : goal.returns-in-None

@@ -1,8 +1,8 @@
 use Rattle.std.proofs.Common.{sym}
 use Rattle.fact_paths.specs.Paths.{SpellsUsePath}
-use Rattle.fact_paths.specs.Reading.{use_path_of}
+use Rattle.fact_paths.specs.Parsing.{use_path_of}
 use Rattle.fact_paths.proofs.UsePathLaws.{use_path_reading}
-use Rattle.fact_paths.proofs.ReadingLaws.{reads_from_gives}
+use Rattle.fact_paths.proofs.ParsingLaws.{reads_from_gives}
 use Rattle.fact_paths.proofs.use_path.read_use_path.Goals as goal
 
 pub returns-in-Some : goal.returns-in-Some

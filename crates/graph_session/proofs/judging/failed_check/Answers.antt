@@ -1,4 +1,5 @@
-use Rattle.std.proofs.Common.{◌∙◌, ap, map, ℕ, List}
+use Rattle.std.proofs.Common.{◌∙◌, ap, List}
+use Rattle.text_checks.specs.Tables.{named_checks}
 use Rattle.dict_tree.specs.Dictionary.{number_from}
 use Rattle.dict_types.specs.declared.limit.Limit.{Limit}
 use Rattle.graph_session.specs.Kinds.{fails}
@@ -12,7 +13,7 @@ first_failed-requires-clause-there g c =
 
 pub returns : goal.returns
 returns g c =
-    let table = map {B = List ℕ × ℕ} (λ e. (e.name, e.code)) c.args.checks.now.checks.items in
+    let table = named_checks c.args.checks.now in
     c.first_failed.ensures
     ∙ ap (λ (l : List Limit). number_from (fails table c.args.value.now) 1 l) c.limits_of.ensures.limits
     ∙ checks_agree (rules c.args.dict.now) c.source-accepted.ensures.is_accepted c.args.fact c.requires.number table c.requires.same_checks c.args.value.now

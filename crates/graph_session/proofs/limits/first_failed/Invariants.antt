@@ -1,4 +1,5 @@
-use Rattle.std.proofs.Common.{◌≡◌, ◌+◌, ℕ, List, drop, map}
+use Rattle.std.proofs.Common.{◌≡◌, ◌+◌, drop}
+use Rattle.text_checks.specs.Tables.{named_checks}
 use Rattle.dict_tree.specs.Dictionary.{number_from}
 use Rattle.graph_session.specs.Kinds.{fails}
 use Rattle.graph_session.proofs.limits.first_failed.Given as goal
@@ -6,5 +7,5 @@ use Rattle.graph_session.proofs.limits.first_failed.Given as goal
 -- the check of none of those before i says no
 abbrev pub invariant-loop-i : goal.invariant-loop-i
 invariant-loop-i g l =
-    let table = map {B = List ℕ × ℕ} (λ c. (c.name, c.code)) l.checks.checks.items in
+    let table = named_checks l.checks in
     number_from (fails table l.value) (l.i + 1) (drop l.i l.limits) ≡ number_from (fails table l.value) 1 l.limits

@@ -13,10 +13,10 @@ use Rattle.operations.proofs.StepLaws.{none_fault, none_incomplete, ok_more, ok_
 use Rattle.three_state.specs.Results.{kept, members_of}
 use Rattle.three_state.specs.declared.strict.Verdict.{Verdict}
 use Rattle.node_eval.specs.Evaluating.{TakesAt, condition_at, visits_at, work_at}
-use Rattle.node_eval.specs.Reading.{node_env}
+use Rattle.node_eval.specs.Dependencies.{node_env}
 use Rattle.node_eval.specs.View.{case_view, cases_of, trees_of, view}
 use Rattle.evaluation.specs.Visits.{visits, visits_of_all, visits_of_cases}
-use Rattle.node_eval.specs.declared.place.Place.{Place}
+use Rattle.node_eval.specs.declared.eval_position.EvalPosition.{EvalPosition}
 use Rattle.node_eval.proofs.RestLaws.{all_next, all_take, all_visit, all_weigh, case_at, case_takes, case_visit, cases_weigh, filter_next, find_at, find_takes, find_visit, kept_more, member_takes, members_weigh, test_takes}
 use Rattle.node_eval.proofs.Views.{view-Pick}
 use Rattle.node_eval.proofs.evaluating.+eval.Goals as goal
@@ -47,16 +47,16 @@ visit-returns-in-Pick-clause-memory g t c =
 
 pub eval_all-returns-in_err-see_operand-clause-most : goal.eval_all-returns-in_err-see_operand-clause-most
 eval_all-returns-in_err-see_operand-clause-most g t c =
-    let weigh = all_weigh view (node_env (g.C.Cells.look c.args.cells.now)) c.args.at c.args.operands.now c.loop-operand.operand-index c.operand-item.result c.loop-operand-test.true c.operand-item.is in
+    let weigh = all_weigh view (node_env (g.C.Cells.results c.args.cells.now)) c.args.at c.args.operands.now c.loop-operand.operand-index c.operand-item.result c.loop-operand-test.true c.operand-item.is in
     omega (arith, weigh, c.in_err-see_operand.ensures.most, c.loop-operand.invariant.most)
 
 pub eval_all-returns-in_err-see_operand-clause-memory : goal.eval_all-returns-in_err-see_operand-clause-memory
 eval_all-returns-in_err-see_operand-clause-memory g t c =
-    λ h. c.loop-operand.invariant.memory (all_take view (node_env (g.C.Cells.look c.args.cells.now)) c.args.at c.args.operands.now c.loop-operand.operand-index c.operand-item.result c.loop-operand-test.true c.operand-item.is (inl (c.in_err-see_operand.ensures.memory refl)))
+    λ h. c.loop-operand.invariant.memory (all_take view (node_env (g.C.Cells.results c.args.cells.now)) c.args.at c.args.operands.now c.loop-operand.operand-index c.operand-item.result c.loop-operand-test.true c.operand-item.is (inl (c.in_err-see_operand.ensures.memory refl)))
 
 pub eval_all-loop-operand-preserved : goal.eval_all-loop-operand-preserved
 eval_all-loop-operand-preserved g t c =
-    let env = node_env (g.C.Cells.look c.args.cells.now) in
+    let env = node_env (g.C.Cells.results c.args.cells.now) in
     let i = c.loop-operand.operand-index in
     let weigh = all_weigh view env c.args.at c.args.operands.now i c.operand-item.result c.loop-operand-test.true c.operand-item.is in
     let visit = all_visit view env c.args.at c.args.operands.now i c.operand-item.result c.loop-operand-test.true c.operand-item.is in
@@ -76,22 +76,22 @@ eval_all-returns-clause-value g t c =
     let views = map view c.args.operands.now in
     let none : drop c.loop-operand.operand-index views ≡ [] = drop_all c.loop-operand.operand-index views (omega (arith, length-map c.args.operands.now view, c.loop-operand-test.false)) in
     c.end.ensures.value
-    ∙ sym (ap (λ l. many_from c.loop-operand.fold (over_all (node_env (g.C.Cells.look c.args.cells.now)) c.args.at (trees_of l))) none)
+    ∙ sym (ap (λ l. many_from c.loop-operand.fold (over_all (node_env (g.C.Cells.results c.args.cells.now)) c.args.at (trees_of l))) none)
     ∙ c.loop-operand.invariant.value
-    ∙ many_from-start c.args.op (over_all (node_env (g.C.Cells.look c.args.cells.now)) c.args.at (trees_of views))
+    ∙ many_from-start c.args.op (over_all (node_env (g.C.Cells.results c.args.cells.now)) c.args.at (trees_of views))
 
 pub eval_all-returns-clause-visited : goal.eval_all-returns-clause-visited
 eval_all-returns-clause-visited g t c =
     let views = map view c.args.operands.now in
     let none : drop c.loop-operand.operand-index views ≡ [] = drop_all c.loop-operand.operand-index views (omega (arith, length-map c.args.operands.now view, c.loop-operand-test.false)) in
-    let visit = ap (λ l. visits_of_all (node_env (g.C.Cells.look c.args.cells.now)) c.args.at (trees_of l)) none in
+    let visit = ap (λ l. visits_of_all (node_env (g.C.Cells.results c.args.cells.now)) c.args.at (trees_of l)) none in
     omega (arith, visit, c.loop-operand.invariant.visited)
 
 -- ---- a Switch
 
 pub eval_cases-loop-case-init : goal.eval_cases-loop-case-init
 eval_cases-loop-case-init g t c = record {
-  value = switch_from-start (over_cases (node_env (g.C.Cells.look c.args.cells.now)) c.args.at (cases_of (map case_view c.args.cases.now)));
+  value = switch_from-start (over_cases (node_env (g.C.Cells.results c.args.cells.now)) c.args.at (cases_of (map case_view c.args.cases.now)));
   visited = omega arith;
   most = omega arith;
   least = omega arith;
@@ -100,25 +100,25 @@ eval_cases-loop-case-init g t c = record {
 
 pub eval_cases-returns-in_err-condition-clause-most : goal.eval_cases-returns-in_err-condition-clause-most
 eval_cases-returns-in_err-condition-clause-most g t c =
-    let weigh = cases_weigh case_view (node_env (g.C.Cells.look c.args.cells.now)) c.args.at c.args.cases.now c.loop-case.case-index c.case-item.result c.loop-case-test.true c.case-item.is in
+    let weigh = cases_weigh case_view (node_env (g.C.Cells.results c.args.cells.now)) c.args.at c.args.cases.now c.loop-case.case-index c.case-item.result c.loop-case-test.true c.case-item.is in
     omega (arith, weigh, c.in_err-condition.ensures.most, c.loop-case.invariant.most)
 
 pub eval_cases-returns-in_err-condition-clause-memory : goal.eval_cases-returns-in_err-condition-clause-memory
 eval_cases-returns-in_err-condition-clause-memory g t c =
-    λ h. c.loop-case.invariant.memory (test_takes case_view (node_env (g.C.Cells.look c.args.cells.now)) c.args.at c.args.cases.now c.loop-case.case-index c.case-item.result c.loop-case-test.true c.case-item.is (c.in_err-condition.ensures.memory refl))
+    λ h. c.loop-case.invariant.memory (test_takes case_view (node_env (g.C.Cells.results c.args.cells.now)) c.args.at c.args.cases.now c.loop-case.case-index c.case-item.result c.loop-case-test.true c.case-item.is (c.in_err-condition.ensures.memory refl))
 
 pub eval_cases-returns-in_err-res-in-Take-clause-memory : goal.eval_cases-returns-in_err-res-in-Take-clause-memory
 eval_cases-returns-in_err-res-in-Take-clause-memory g t c =
-    λ h. c.loop-case.invariant.memory (case_takes case_view (node_env (g.C.Cells.look c.args.cells.now)) c.args.at c.args.cases.now c.loop-case.case-index c.case-item.result c.loop-case-test.true c.case-item.is c.loop-case.complete c.in_ok-condition.condition (Take c.in-Take.still) c.in_ok-condition.ensures.value (sym c.in-Take.is ∙ c.case_step-step.ensures) (c.in_err-res-in-Take.ensures.memory refl))
+    λ h. c.loop-case.invariant.memory (case_takes case_view (node_env (g.C.Cells.results c.args.cells.now)) c.args.at c.args.cases.now c.loop-case.case-index c.case-item.result c.loop-case-test.true c.case-item.is c.loop-case.complete c.in_ok-condition.condition (Take c.in-Take.still) c.in_ok-condition.ensures.value (sym c.in-Take.is ∙ c.case_step-step.ensures) (c.in_err-res-in-Take.ensures.memory refl))
 
 pub eval_cases-returns-in_err-res-in-Take-clause-most : goal.eval_cases-returns-in_err-res-in-Take-clause-most
 eval_cases-returns-in_err-res-in-Take-clause-most g t c =
-    let weigh = cases_weigh case_view (node_env (g.C.Cells.look c.args.cells.now)) c.args.at c.args.cases.now c.loop-case.case-index c.case-item.result c.loop-case-test.true c.case-item.is in
+    let weigh = cases_weigh case_view (node_env (g.C.Cells.results c.args.cells.now)) c.args.at c.args.cases.now c.loop-case.case-index c.case-item.result c.loop-case-test.true c.case-item.is in
     omega (arith, weigh, c.in_ok-condition.ensures.most, c.in_err-res-in-Take.ensures.most, c.loop-case.invariant.most)
 
 pub eval_cases-returns-in-Take-clause-value : goal.eval_cases-returns-in-Take-clause-value
 eval_cases-returns-in-Take-clause-value g t c =
-    let env = node_env (g.C.Cells.look c.args.cells.now) in
+    let env = node_env (g.C.Cells.results c.args.cells.now) in
     let i = c.loop-case.case-index in
     c.taken.ensures
     ∙ ap (λ r. after_case (Take c.in-Take.still) r (λ still. switch_from still (over_cases env c.args.at (cases_of (drop (i + 1) (map case_view c.args.cases.now)))))) c.in_ok-res-in-Take.ensures.value
@@ -127,34 +127,34 @@ eval_cases-returns-in-Take-clause-value g t c =
 
 pub eval_cases-returns-in-Take-clause-most : goal.eval_cases-returns-in-Take-clause-most
 eval_cases-returns-in-Take-clause-most g t c =
-    let weigh = cases_weigh case_view (node_env (g.C.Cells.look c.args.cells.now)) c.args.at c.args.cases.now c.loop-case.case-index c.case-item.result c.loop-case-test.true c.case-item.is in
+    let weigh = cases_weigh case_view (node_env (g.C.Cells.results c.args.cells.now)) c.args.at c.args.cases.now c.loop-case.case-index c.case-item.result c.loop-case-test.true c.case-item.is in
     omega (arith, weigh, c.in_ok-condition.ensures.most, c.in_ok-res-in-Take.ensures.most, c.loop-case.invariant.most)
 
 pub eval_cases-returns-in-Take-clause-visited : goal.eval_cases-returns-in-Take-clause-visited
 eval_cases-returns-in-Take-clause-visited g t c =
-    let env = node_env (g.C.Cells.look c.args.cells.now) in
+    let env = node_env (g.C.Cells.results c.args.cells.now) in
     let visit = case_visit case_view env c.args.at c.args.cases.now c.loop-case.case-index c.case-item.result c.loop-case-test.true c.case-item.is c.loop-case.complete c.in_ok-condition.condition (Take c.in-Take.still) c.in_ok-condition.ensures.value (sym c.in-Take.is ∙ c.case_step-step.ensures) in
     omega (arith, visit, c.in_ok-condition.ensures.visited, c.in_ok-res-in-Take.ensures.visited, c.loop-case.invariant.visited)
 
 pub eval_cases-returns-in-End-clause-value : goal.eval_cases-returns-in-End-clause-value
 eval_cases-returns-in-End-clause-value g t c =
-    case_at case_view (node_env (g.C.Cells.look c.args.cells.now)) c.args.at c.args.cases.now c.loop-case.case-index c.case-item.result c.loop-case-test.true c.case-item.is c.loop-case.complete c.in_ok-condition.condition (End c.in-End.res) c.in_ok-condition.ensures.value (sym c.in-End.is ∙ c.case_step-step.ensures)
+    case_at case_view (node_env (g.C.Cells.results c.args.cells.now)) c.args.at c.args.cases.now c.loop-case.case-index c.case-item.result c.loop-case-test.true c.case-item.is c.loop-case.complete c.in_ok-condition.condition (End c.in-End.res) c.in_ok-condition.ensures.value (sym c.in-End.is ∙ c.case_step-step.ensures)
     ∙ c.loop-case.invariant.value
 
 pub eval_cases-returns-in-End-clause-most : goal.eval_cases-returns-in-End-clause-most
 eval_cases-returns-in-End-clause-most g t c =
-    let weigh = cases_weigh case_view (node_env (g.C.Cells.look c.args.cells.now)) c.args.at c.args.cases.now c.loop-case.case-index c.case-item.result c.loop-case-test.true c.case-item.is in
+    let weigh = cases_weigh case_view (node_env (g.C.Cells.results c.args.cells.now)) c.args.at c.args.cases.now c.loop-case.case-index c.case-item.result c.loop-case-test.true c.case-item.is in
     omega (arith, weigh, c.in_ok-condition.ensures.most, c.loop-case.invariant.most)
 
 pub eval_cases-returns-in-End-clause-visited : goal.eval_cases-returns-in-End-clause-visited
 eval_cases-returns-in-End-clause-visited g t c =
-    let env = node_env (g.C.Cells.look c.args.cells.now) in
+    let env = node_env (g.C.Cells.results c.args.cells.now) in
     let visit = case_visit case_view env c.args.at c.args.cases.now c.loop-case.case-index c.case-item.result c.loop-case-test.true c.case-item.is c.loop-case.complete c.in_ok-condition.condition (End c.in-End.res) c.in_ok-condition.ensures.value (sym c.in-End.is ∙ c.case_step-step.ensures) in
     omega (arith, visit, c.in_ok-condition.ensures.visited, c.loop-case.invariant.visited)
 
 pub eval_cases-loop-case-preserved : goal.eval_cases-loop-case-preserved
 eval_cases-loop-case-preserved g t c =
-    let env = node_env (g.C.Cells.look c.args.cells.now) in
+    let env = node_env (g.C.Cells.results c.args.cells.now) in
     let i = c.loop-case.case-index in
     let weigh = cases_weigh case_view env c.args.at c.args.cases.now i c.case-item.result c.loop-case-test.true c.case-item.is in
     let visit = case_visit case_view env c.args.at c.args.cases.now i c.case-item.result c.loop-case-test.true c.case-item.is c.loop-case.complete c.in_ok-condition.condition (Next c.in-Next.still) c.in_ok-condition.ensures.value (sym c.in-Next.is ∙ c.case_step-step.ensures) in
@@ -172,13 +172,13 @@ pub eval_cases-returns-clause-value : goal.eval_cases-returns-clause-value
 eval_cases-returns-clause-value g t c =
     let views = map case_view c.args.cases.now in
     let none : drop c.loop-case.case-index views ≡ [] = drop_all c.loop-case.case-index views (omega (arith, length-map c.args.cases.now case_view, c.loop-case-test.false)) in
-    sym (ap (λ l. switch_from c.loop-case.complete (over_cases (node_env (g.C.Cells.look c.args.cells.now)) c.args.at (cases_of l))) none) ∙ c.loop-case.invariant.value
+    sym (ap (λ l. switch_from c.loop-case.complete (over_cases (node_env (g.C.Cells.results c.args.cells.now)) c.args.at (cases_of l))) none) ∙ c.loop-case.invariant.value
 
 pub eval_cases-returns-clause-visited : goal.eval_cases-returns-clause-visited
 eval_cases-returns-clause-visited g t c =
     let views = map case_view c.args.cases.now in
     let none : drop c.loop-case.case-index views ≡ [] = drop_all c.loop-case.case-index views (omega (arith, length-map c.args.cases.now case_view, c.loop-case-test.false)) in
-    let visit = ap (λ l. visits_of_cases (node_env (g.C.Cells.look c.args.cells.now)) c.args.at (cases_of l)) none in
+    let visit = ap (λ l. visits_of_cases (node_env (g.C.Cells.results c.args.cells.now)) c.args.at (cases_of l)) none in
     omega (arith, visit, c.loop-case.invariant.visited)
 
 -- ---- a Filter and a Find
@@ -194,16 +194,16 @@ eval_pick-returns-in-Filter-clause-memory g t c = rw c.in-Filter.is (λ h. tt)
 
 pub eval_filter-loop-member-init : goal.eval_filter-loop-member-init
 eval_filter-loop-member-init g t c =
-    let look = g.C.Cells.look c.args.cells.now in
+    let results = g.C.Cells.results c.args.cells.now in
     let test = view c.args.test.now in
-    let condition = condition_at look c.args.at test in
+    let condition = condition_at results c.args.at test in
     let law = filter_on-source c.args.source.now condition in
     let same = c.members-member-items.ensures.value in
     record {
       value = rw (c.new-kept.ensures.items, c.new-fold.ensures, same) law;
       kept = ap (λ (l : List ℕ). l ++ kept condition c.members-member-items.result.now) c.new-kept.ensures.items ∙ ap (kept condition) same;
-      visited = omega (arith, ap (sum_by (visits_at look c.args.at test)) same);
-      most = omega (arith, ap (sum_by (work_at look c.args.at test)) same);
+      visited = omega (arith, ap (sum_by (visits_at results c.args.at test)) same);
+      most = omega (arith, ap (sum_by (work_at results c.args.at test)) same);
       least = omega arith;
     }
 
@@ -211,13 +211,13 @@ pub eval_filter-loop-member-preserved : goal.eval_filter-loop-member-preserved
 eval_filter-loop-member-preserved g t c =
     let i = c.loop-member.member-index in
     let ms = c.members-member-items.result.now in
-    let look = g.C.Cells.look c.args.cells.now in
-    let env = node_env look in
+    let results = g.C.Cells.results c.args.cells.now in
+    let env = node_env results in
     let test = view c.args.test.now in
-    let condition = condition_at look c.args.at test in
-    let is = c.in_ok-condition.ensures.value ∙ ap (λ (p : Place). over env p test) c.at.ensures in
-    let weigh = members_weigh ms i c.loop-member-test.true (work_at look c.args.at test) in
-    let visit = members_weigh ms i c.loop-member-test.true (visits_at look c.args.at test) in
+    let condition = condition_at results c.args.at test in
+    let is = c.in_ok-condition.ensures.value ∙ ap (λ (p : EvalPosition). over env p test) c.at.ensures in
+    let weigh = members_weigh ms i c.loop-member-test.true (work_at results c.args.at test) in
+    let visit = members_weigh ms i c.loop-member-test.true (visits_at results c.args.at test) in
     record {
       value =
           filter_next ms i c.loop-member-test.true condition c.in_ok-condition.condition is c.loop-member.kept.items c.keep.new.kept.items c.see-is_kept.result c.see-is_kept.ensures.kept c.in_ok-keep.ensures c.loop-member.fold c.see-is_kept.new.self c.see-is_kept.ensures.next
@@ -225,8 +225,8 @@ eval_filter-loop-member-preserved g t c =
       kept =
           kept_more ms i c.loop-member-test.true condition c.in_ok-condition.condition is c.loop-member.kept.items c.keep.new.kept.items c.see-is_kept.result c.see-is_kept.ensures.kept c.in_ok-keep.ensures
           ∙ c.loop-member.invariant.kept;
-      visited = omega (arith, visit, ap (λ (p : Place). visits env p test) c.at.ensures, c.in_ok-condition.ensures.visited, c.loop-member.invariant.visited);
-      most = omega (arith, weigh, ap (λ (p : Place). weight env p test) c.at.ensures, c.in_ok-condition.ensures.most, c.loop-member.invariant.most);
+      visited = omega (arith, visit, ap (λ (p : EvalPosition). visits env p test) c.at.ensures, c.in_ok-condition.ensures.visited, c.loop-member.invariant.visited);
+      most = omega (arith, weigh, ap (λ (p : EvalPosition). weight env p test) c.at.ensures, c.in_ok-condition.ensures.most, c.loop-member.invariant.most);
       least = omega (arith, c.in_ok-condition.ensures.least, c.loop-member.invariant.least);
     }
 
@@ -234,7 +234,7 @@ pub eval_filter-end-requires : goal.eval_filter-end-requires
 eval_filter-end-requires g t c =
     let ms = c.members-member-items.result.now in
     let found = c.loop-member.kept.items in
-    let condition = condition_at (g.C.Cells.look c.args.cells.now) c.args.at (view c.args.test.now) in
+    let condition = condition_at (g.C.Cells.results c.args.cells.now) c.args.at (view c.args.test.now) in
     let none : drop c.loop-member.member-index ms ≡ [] = drop_all c.loop-member.member-index ms c.loop-member-test.false in
     let all : found ≡ kept condition (members_of c.args.source.now) = sym (append-nil found) ∙ sym (ap (λ l. found ++ kept condition l) none) ∙ c.loop-member.invariant.kept in
     rw all (kept-member_list condition (members_of c.args.source.now) (rw c.members-member-items.ensures.value at c.members-member-items.ensures.members))
@@ -243,7 +243,7 @@ pub eval_filter-returns-clause-visited : goal.eval_filter-returns-clause-visited
 eval_filter-returns-clause-visited g t c =
     let ms = c.members-member-items.result.now in
     let none : drop c.loop-member.member-index ms ≡ [] = drop_all c.loop-member.member-index ms c.loop-member-test.false in
-    let visit = ap (sum_by (visits_at (g.C.Cells.look c.args.cells.now) c.args.at (view c.args.test.now))) none in
+    let visit = ap (sum_by (visits_at (g.C.Cells.results c.args.cells.now) c.args.at (view c.args.test.now))) none in
     omega (arith, visit, c.loop-member.invariant.visited)
 
 pub eval_find-returns-in-Go-clause-visited : goal.eval_find-returns-in-Go-clause-visited
@@ -254,21 +254,21 @@ eval_find-returns-in-Go-clause-memory g t c = rw c.members.ensures.value at c.fi
 
 pub eval_find-returns-in-Incomplete-clause-visited : goal.eval_find-returns-in-Incomplete-clause-visited
 eval_find-returns-in-Incomplete-clause-visited g t c =
-    let look = g.C.Cells.look c.args.cells.now in
-    let condition = condition_at look c.args.at (view c.args.test.now) in
-    let visit = ap (λ l. sum_by (visits_at look c.args.at (view c.args.test.now)) (up_to_decider condition l)) (none_incomplete c.args.source.now (sym c.source_verdict.ensures ∙ c.in-Incomplete.is)) in
+    let results = g.C.Cells.results c.args.cells.now in
+    let condition = condition_at results c.args.at (view c.args.test.now) in
+    let visit = ap (λ l. sum_by (visits_at results c.args.at (view c.args.test.now)) (up_to_decider condition l)) (none_incomplete c.args.source.now (sym c.source_verdict.ensures ∙ c.in-Incomplete.is)) in
     omega (arith, visit)
 
 pub eval_find-returns-in-Fault-clause-visited : goal.eval_find-returns-in-Fault-clause-visited
 eval_find-returns-in-Fault-clause-visited g t c =
-    let look = g.C.Cells.look c.args.cells.now in
-    let condition = condition_at look c.args.at (view c.args.test.now) in
-    let visit = ap (λ l. sum_by (visits_at look c.args.at (view c.args.test.now)) (up_to_decider condition l)) (none_fault c.args.source.now c.in-Fault.fault (sym c.source_verdict.ensures ∙ c.in-Fault.is)) in
+    let results = g.C.Cells.results c.args.cells.now in
+    let condition = condition_at results c.args.at (view c.args.test.now) in
+    let visit = ap (λ l. sum_by (visits_at results c.args.at (view c.args.test.now)) (up_to_decider condition l)) (none_fault c.args.source.now c.in-Fault.fault (sym c.source_verdict.ensures ∙ c.in-Fault.is)) in
     omega (arith, visit)
 
 pub eval_find-returns-in-Go-clause-value : goal.eval_find-returns-in-Go-clause-value
 eval_find-returns-in-Go-clause-value g t c =
-    let condition = condition_at (g.C.Cells.look c.args.cells.now) c.args.at (view c.args.test.now) in
+    let condition = condition_at (g.C.Cells.results c.args.cells.now) c.args.at (view c.args.test.now) in
     ok_same c.find_among.result _ _
     (ap (find_from condition c.in-Go.complete) c.members.ensures.value
     ∙ ap (λ (v : Verdict). find_after v condition (members_of c.args.source.now)) (sym c.in-Go.is ∙ c.source_verdict.ensures)
@@ -278,51 +278,51 @@ eval_find-returns-in-Go-clause-value g t c =
 pub find_among-loop-member-preserved : goal.find_among-loop-member-preserved
 find_among-loop-member-preserved g t c =
     let i = c.loop-member.member-index in
-    let look = g.C.Cells.look c.args.cells.now in
-    let env = node_env look in
+    let results = g.C.Cells.results c.args.cells.now in
+    let env = node_env results in
     let test = view c.args.test.now in
-    let condition = condition_at look c.args.at test in
-    let is = c.in_ok-condition.ensures.value ∙ ap (λ (p : Place). over env p test) c.at.ensures in
+    let condition = condition_at results c.args.at test in
+    let is = c.in_ok-condition.ensures.value ∙ ap (λ (p : EvalPosition). over env p test) c.at.ensures in
     let step = sym c.in-Next.is ∙ c.case_step-step.ensures in
-    let weigh = members_weigh c.args.members.now i c.loop-member-test.true (work_at look c.args.at test) in
-    let visit = find_visit c.args.members.now i c.loop-member-test.true condition c.in_ok-condition.condition is c.loop-member.complete (Next c.in-Next.still) step (visits_at look c.args.at test) in
+    let weigh = members_weigh c.args.members.now i c.loop-member-test.true (work_at results c.args.at test) in
+    let visit = find_visit c.args.members.now i c.loop-member-test.true condition c.in_ok-condition.condition is c.loop-member.complete (Next c.in-Next.still) step (visits_at results c.args.at test) in
     record {
       value = find_at c.args.members.now i c.loop-member-test.true condition c.in_ok-condition.condition is c.loop-member.complete (Next c.in-Next.still) step ∙ c.loop-member.invariant.value;
-      visited = omega (arith, visit, ap (λ (p : Place). visits env p test) c.at.ensures, c.in_ok-condition.ensures.visited, c.loop-member.invariant.visited);
-      most = omega (arith, weigh, ap (λ (p : Place). weight env p test) c.at.ensures, c.in_ok-condition.ensures.most, c.loop-member.invariant.most);
+      visited = omega (arith, visit, ap (λ (p : EvalPosition). visits env p test) c.at.ensures, c.in_ok-condition.ensures.visited, c.loop-member.invariant.visited);
+      most = omega (arith, weigh, ap (λ (p : EvalPosition). weight env p test) c.at.ensures, c.in_ok-condition.ensures.most, c.loop-member.invariant.most);
       least = omega (arith, c.in_ok-condition.ensures.least, c.loop-member.invariant.least);
-      memory = λ h. c.loop-member.invariant.memory (find_takes c.args.members.now i c.loop-member-test.true condition c.in_ok-condition.condition is c.loop-member.complete (Next c.in-Next.still) step (TakesAt look c.args.at test) h);
+      memory = λ h. c.loop-member.invariant.memory (find_takes c.args.members.now i c.loop-member-test.true condition c.in_ok-condition.condition is c.loop-member.complete (Next c.in-Next.still) step (TakesAt results c.args.at test) h);
     }
 
 pub find_among-returns-in_err-condition-clause-memory : goal.find_among-returns-in_err-condition-clause-memory
 find_among-returns-in_err-condition-clause-memory g t c =
-    let look = g.C.Cells.look c.args.cells.now in
+    let results = g.C.Cells.results c.args.cells.now in
     let test = view c.args.test.now in
-    λ h. c.loop-member.invariant.memory (member_takes c.args.members.now c.loop-member.member-index c.loop-member-test.true (condition_at look c.args.at test) (TakesAt look c.args.at test) (rw c.at.ensures at (c.in_err-condition.ensures.memory refl)))
+    λ h. c.loop-member.invariant.memory (member_takes c.args.members.now c.loop-member.member-index c.loop-member-test.true (condition_at results c.args.at test) (TakesAt results c.args.at test) (rw c.at.ensures at (c.in_err-condition.ensures.memory refl)))
 
 pub find_among-returns-in-Take-clause-visited : goal.find_among-returns-in-Take-clause-visited
 find_among-returns-in-Take-clause-visited g t c =
-    let look = g.C.Cells.look c.args.cells.now in
-    let env = node_env look in
+    let results = g.C.Cells.results c.args.cells.now in
+    let env = node_env results in
     let test = view c.args.test.now in
-    let is = c.in_ok-condition.ensures.value ∙ ap (λ (p : Place). over env p test) c.at.ensures in
-    let visit = find_visit c.args.members.now c.loop-member.member-index c.loop-member-test.true (condition_at look c.args.at test) c.in_ok-condition.condition is c.loop-member.complete (Take c.in-Take.still) (sym c.in-Take.is ∙ c.case_step-step.ensures) (visits_at look c.args.at test) in
-    omega (arith, visit, ap (λ (p : Place). visits env p test) c.at.ensures, c.in_ok-condition.ensures.visited, c.loop-member.invariant.visited)
+    let is = c.in_ok-condition.ensures.value ∙ ap (λ (p : EvalPosition). over env p test) c.at.ensures in
+    let visit = find_visit c.args.members.now c.loop-member.member-index c.loop-member-test.true (condition_at results c.args.at test) c.in_ok-condition.condition is c.loop-member.complete (Take c.in-Take.still) (sym c.in-Take.is ∙ c.case_step-step.ensures) (visits_at results c.args.at test) in
+    omega (arith, visit, ap (λ (p : EvalPosition). visits env p test) c.at.ensures, c.in_ok-condition.ensures.visited, c.loop-member.invariant.visited)
 
 pub find_among-returns-in-End-clause-visited : goal.find_among-returns-in-End-clause-visited
 find_among-returns-in-End-clause-visited g t c =
-    let look = g.C.Cells.look c.args.cells.now in
-    let env = node_env look in
+    let results = g.C.Cells.results c.args.cells.now in
+    let env = node_env results in
     let test = view c.args.test.now in
-    let is = c.in_ok-condition.ensures.value ∙ ap (λ (p : Place). over env p test) c.at.ensures in
-    let visit = find_visit c.args.members.now c.loop-member.member-index c.loop-member-test.true (condition_at look c.args.at test) c.in_ok-condition.condition is c.loop-member.complete (End c.in-End.none) (sym c.in-End.is ∙ c.case_step-step.ensures) (visits_at look c.args.at test) in
-    omega (arith, visit, ap (λ (p : Place). visits env p test) c.at.ensures, c.in_ok-condition.ensures.visited, c.loop-member.invariant.visited)
+    let is = c.in_ok-condition.ensures.value ∙ ap (λ (p : EvalPosition). over env p test) c.at.ensures in
+    let visit = find_visit c.args.members.now c.loop-member.member-index c.loop-member-test.true (condition_at results c.args.at test) c.in_ok-condition.condition is c.loop-member.complete (End c.in-End.none) (sym c.in-End.is ∙ c.case_step-step.ensures) (visits_at results c.args.at test) in
+    omega (arith, visit, ap (λ (p : EvalPosition). visits env p test) c.at.ensures, c.in_ok-condition.ensures.visited, c.loop-member.invariant.visited)
 
 pub find_among-returns-clause-visited : goal.find_among-returns-clause-visited
 find_among-returns-clause-visited g t c =
-    let look = g.C.Cells.look c.args.cells.now in
+    let results = g.C.Cells.results c.args.cells.now in
     let test = view c.args.test.now in
-    let condition = condition_at look c.args.at test in
+    let condition = condition_at results c.args.at test in
     let none : drop c.loop-member.member-index c.args.members.now ≡ [] = drop_all c.loop-member.member-index c.args.members.now c.loop-member-test.false in
-    let visit = ap (λ l. sum_by (visits_at look c.args.at test) (up_to_decider condition l)) none in
+    let visit = ap (λ l. sum_by (visits_at results c.args.at test) (up_to_decider condition l)) none in
     omega (arith, visit, c.loop-member.invariant.visited)

@@ -1,14 +1,14 @@
 use Rattle.std.proofs.Common.{◌≡◌, map, drop}
 use Rattle.evaluation.specs.Reads.{sum_over}
 use Rattle.operations.specs.FieldFolds.{sum_from}
-use Rattle.node_eval.specs.Looks.{result_at}
-use Rattle.node_eval.specs.Reading.{collection, field}
+use Rattle.node_eval.specs.Results.{result_at}
+use Rattle.node_eval.specs.Dependencies.{collection, field}
 use Rattle.node_eval.proofs.reads.read_sum.Given as goal
 
 abbrev pub invariant-loop-member : goal.invariant-loop-member
 invariant-loop-member g l =
-    let look = g.C.Cells.look l.cells in
+    let results = g.C.Cells.results l.cells in
     record {
-      value : sum_from l.fold (map (result_at look l.field) (drop l.member-index l.member-items)) ≡ sum_over l.fn.of (collection look l.fn.reader) (field look l.fn.reader);
+      value : sum_from l.fold (map (result_at results l.field) (drop l.member-index l.member-items)) ≡ sum_over l.fn.of (collection results l.fn.reader) (field results l.fn.reader);
       count : l.fold.count ≡ l.member-index;
     }

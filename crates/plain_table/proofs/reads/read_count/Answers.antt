@@ -2,14 +2,14 @@ use Rattle.std.proofs.Common.{List, ℕ, map, ap, ap₂, ◌∙◌}
 use Rattle.three_state.specs.Results.{members_of}
 use Rattle.operations.proofs.FieldLaws.{count_from-start}
 use Rattle.operations.specs.FieldFolds.{FieldsCounted, count_from, count_start}
-use Rattle.dictionary.specs.Reading.{collection, result_at}
+use Rattle.dictionary.specs.Dependencies.{collection, result_at}
 use Rattle.plain_table.proofs.reads.read_count.Goals as goal
 
 pub loop-member-init : goal.loop-member-init
 loop-member-init g c =
-    let look = (g.G.Ground.known c.args.ground.now).look in
-    let source = collection look c.args.targets in
-    let field = result_at look c.args.targets.second in
+    let results = (g.G.EvalContext.meaning c.args.context.now).results in
+    let source = collection results c.args.targets in
+    let field = result_at results c.args.targets.second in
     let start = c.new-fold.ensures ∙ ap count_start c.result_at-source.ensures in
     let members = c.members-member-items.ensures.value ∙ ap members_of c.result_at-source.ensures in
     record {

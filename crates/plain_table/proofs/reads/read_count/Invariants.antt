@@ -1,13 +1,13 @@
 use Rattle.std.proofs.Common.{◌≡◌, map, drop}
 use Rattle.three_state.specs.Results.{count_of}
 use Rattle.operations.specs.FieldFolds.{count_from}
-use Rattle.dictionary.specs.Reading.{collection, result_at}
+use Rattle.dictionary.specs.Dependencies.{collection, result_at}
 use Rattle.plain_table.proofs.reads.read_count.Given as goal
 
 abbrev pub invariant-loop-member : goal.invariant-loop-member
 invariant-loop-member g l =
-    let look = (g.G.Ground.known l.ground).look in
+    let results = (g.G.EvalContext.meaning l.context).results in
     record {
-      value : count_from l.fold (map (result_at look l.targets.second) (drop l.member-index l.member-items)) ≡ count_of (collection look l.targets) (result_at look l.targets.second);
+      value : count_from l.fold (map (result_at results l.targets.second) (drop l.member-index l.member-items)) ≡ count_of (collection results l.targets) (result_at results l.targets.second);
       count : l.fold.count ≡ l.member-index;
     }

@@ -5,14 +5,14 @@ use Rattle.operations.specs.ItemSteps.{after_item, item_step}
 use Rattle.operations.specs.declared.reads.ItemStep.{ItemStep}
 use Rattle.operations.specs.declared.reads.ItemStep.TheVariants.{End, Member}
 use Rattle.operations.proofs.CaseLaws.{after_item-step}
-use Rattle.dictionary.specs.Reading.{result_at}
+use Rattle.dictionary.specs.Dependencies.{result_at}
 use Rattle.plain_table.specs.NodeReads.{target_slot}
 use Rattle.plain_table.proofs.ReadLaws.{item_ended, item_named}
 use Rattle.plain_table.proofs.reads.read_field.Goals as goal
 
 pub returns-in_ok-res-in-Member-clause-value : goal.returns-in_ok-res-in-Member-clause-value
 returns-in_ok-res-in-Member-clause-value g c =
-    let field = result_at (g.G.Ground.known c.args.ground.now).look c.args.field in
+    let field = result_at (g.G.EvalContext.meaning c.args.context.now).results c.args.field in
     let step : item_step c.args.item.now ≡ Member c.in-Member.member c.in-Member.complete = sym c.item_step.ensures ∙ c.in-Member.is in
     c.taken.ensures
     ∙ ap (down_unless c.in-Member.complete) c.in_ok-res-in-Member.ensures.value
@@ -29,7 +29,7 @@ returns-in_ok-res-in-Member-clause-reads g c = λ keeps.
 
 pub returns-in-End-clause-value : goal.returns-in-End-clause-value
 returns-in-End-clause-value g c =
-    let field = result_at (g.G.Ground.known c.args.ground.now).look c.args.field in
+    let field = result_at (g.G.EvalContext.meaning c.args.context.now).results c.args.field in
     let step : item_step c.args.item.now ≡ End c.in-End.res = sym c.item_step.ensures ∙ c.in-End.is in
     sym (ap (λ (s : ItemStep). after_item s field) step) ∙ after_item-step c.args.item.now field
 

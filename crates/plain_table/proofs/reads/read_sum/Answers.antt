@@ -2,15 +2,15 @@ use Rattle.std.proofs.Common.{List, ℕ, map, ap, ap₂, ◌∙◌}
 use Rattle.three_state.specs.Results.{members_of}
 use Rattle.operations.proofs.FieldLaws.{sum_from-start}
 use Rattle.operations.specs.FieldFolds.{FieldsSummed, sum_from, sum_start}
-use Rattle.dictionary.specs.Reading.{collection, field_type, result_at}
+use Rattle.dictionary.specs.Dependencies.{collection, field_type, result_at}
 use Rattle.plain_table.proofs.reads.read_sum.Goals as goal
 
 pub loop-member-init : goal.loop-member-init
 loop-member-init g c =
-    let look = (g.G.Ground.known c.args.ground.now).look in
-    let of = field_type (g.G.Ground.known c.args.ground.now).tree c.args.targets in
-    let source = collection look c.args.targets in
-    let field = result_at look c.args.targets.second in
+    let results = (g.G.EvalContext.meaning c.args.context.now).results in
+    let of = field_type (g.G.EvalContext.meaning c.args.context.now).tree c.args.targets in
+    let source = collection results c.args.targets in
+    let field = result_at results c.args.targets.second in
     let start = c.new-fold.ensures ∙ ap₂ sum_start c.summed_type.ensures c.result_at-source.ensures in
     let members = c.members-member-items.ensures.value ∙ ap members_of c.result_at-source.ensures in
     record {

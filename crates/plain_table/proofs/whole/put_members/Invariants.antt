@@ -3,17 +3,17 @@ use Rattle.fact_values.specs.declared.slot.Slot.{Slot}
 use Rattle.answers.specs.Meaning.{answered}
 use Rattle.dictionary.specs.Accepted.{accepted}
 use Rattle.dictionary.specs.Plain.{IsPlainBelow, rank}
-use Rattle.dictionary.specs.Reading.{slot}
+use Rattle.dictionary.specs.Dependencies.{slot}
 use Rattle.dictionary.specs.Weights.{slot_weight}
 use Rattle.plain_table.specs.Filling.{filled, is_at}
 use Rattle.plain_table.specs.SlotVisits.{slot_visits}
-use Rattle.plain_table.specs.Table.{look_of}
+use Rattle.plain_table.specs.Table.{results_of}
 use Rattle.plain_table.proofs.whole.put_members.Given as goal
 
 abbrev pub invariant-loop-member : goal.invariant-loop-member
 invariant-loop-member g l = record {
-  filled : (s : Slot) → filled (accepted l.dict) (answered l.answers) (look_of l.table) (is_at l.fact (drop l.member-index l.members)) s ≡ filled (accepted l.dict) (answered l.answers) (look_of l.fn.table) (is_at l.fact l.members) s;
-  below : IsPlainBelow (accepted l.dict) (answered l.answers) (rank (accepted l.dict) l.fact) (look_of l.table);
+  filled : (s : Slot) → filled (accepted l.dict) (answered l.answers) (results_of l.table) (is_at l.fact (drop l.member-index l.members)) s ≡ filled (accepted l.dict) (answered l.answers) (results_of l.fn.table) (is_at l.fact l.members) s;
+  below : IsPlainBelow (accepted l.dict) (answered l.answers) (rank (accepted l.dict) l.fact) (results_of l.table);
   visits : l.steps + sum_by (λ m. slot_visits (accepted l.dict) (answered l.answers) (slot l.fact m)) (drop l.member-index l.members) ≡ l.fn.steps + sum_by (λ m. slot_visits (accepted l.dict) (answered l.answers) (slot l.fact m)) l.members;
   most : l.steps + sum_by (λ m. slot_weight (accepted l.dict) (answered l.answers) (slot l.fact m)) (drop l.member-index l.members) ≤ l.fn.steps + sum_by (λ m. slot_weight (accepted l.dict) (answered l.answers) (slot l.fact m)) l.members;
 }

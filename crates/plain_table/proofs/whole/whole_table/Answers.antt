@@ -6,7 +6,7 @@ use Rattle.dictionary.specs.Weights.{slot_weight}
 use Rattle.dictionary.proofs.ByRankLaws.{fact_at_place}
 use Rattle.dictionary.proofs.KeptLaws.{count_ranks}
 use Rattle.plain_table.specs.SlotVisits.{slot_visits}
-use Rattle.plain_table.specs.Table.{look_of}
+use Rattle.plain_table.specs.Table.{results_of}
 use Rattle.plain_table.proofs.EvalLaws.{members_weigh}
 use Rattle.plain_table.proofs.WholeLaws.{all_done, below_next, facts_next}
 use Rattle.plain_table.proofs.WorkLaws.{whole_work}
@@ -34,7 +34,7 @@ pub put_fact-requires-clause-below : goal.put_fact-requires-clause-below
 put_fact-requires-clause-below g c =
     let d = accepted c.args.dict.now in
     let count = count_ranks (names_of c.args.dict.now.checks) d c.source.ensures.is_accepted in
-    below_next d (answered c.args.answers.now) c.by_rank-fact-items.result.now c.by_rank-fact-items.ensures count c.loop-fact.fact-index (look_of c.loop-fact.table) c.loop-fact-test.true c.loop-fact.invariant.done
+    below_next d (answered c.args.answers.now) c.by_rank-fact-items.result.now c.by_rank-fact-items.ensures count c.loop-fact.fact-index (results_of c.loop-fact.table) c.loop-fact-test.true c.loop-fact.invariant.done
 
 pub loop-fact-preserved : goal.loop-fact-preserved
 loop-fact-preserved g c =
@@ -46,7 +46,7 @@ loop-fact-preserved g c =
     let weigh = members_weigh order i c.loop-fact-test.true (λ n. sum_by (slot_weight d a) (slots_of d.tree a n)) in
     let visited = members_weigh order i c.loop-fact-test.true (λ n. sum_by (slot_visits d a) (slots_of d.tree a n)) in
     record {
-      done = facts_next d a order c.by_rank-fact-items.ensures count i (look_of c.loop-fact.table) (look_of c.put_fact.new.table) c.loop-fact-test.true c.loop-fact.invariant.done c.in_ok-put_fact.ensures.filled;
+      done = facts_next d a order c.by_rank-fact-items.ensures count i (results_of c.loop-fact.table) (results_of c.put_fact.new.table) c.loop-fact-test.true c.loop-fact.invariant.done c.in_ok-put_fact.ensures.filled;
       visits = omega (arith, visited, c.in_ok-put_fact.ensures.visits, c.loop-fact.invariant.visits);
       most = omega (arith, weigh, c.in_ok-put_fact.ensures.most, c.loop-fact.invariant.most);
     }
@@ -55,4 +55,4 @@ pub returns-clause-all : goal.returns-clause-all
 returns-clause-all g c =
     let d = accepted c.args.dict.now in
     let count = count_ranks (names_of c.args.dict.now.checks) d c.source.ensures.is_accepted in
-    all_done d (answered c.args.answers.now) c.by_rank-fact-items.result.now c.by_rank-fact-items.ensures count c.loop-fact.fact-index (look_of c.loop-fact.table) c.loop-fact-test.false c.loop-fact.invariant.done
+    all_done d (answered c.args.answers.now) c.by_rank-fact-items.result.now c.by_rank-fact-items.ensures count c.loop-fact.fact-index (results_of c.loop-fact.table) c.loop-fact-test.false c.loop-fact.invariant.done

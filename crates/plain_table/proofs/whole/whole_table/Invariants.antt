@@ -5,12 +5,12 @@ use Rattle.dictionary.specs.Slots.{slots_of}
 use Rattle.dictionary.specs.Weights.{slot_weight, whole_weight}
 use Rattle.plain_table.specs.Filling.{HasFacts}
 use Rattle.plain_table.specs.SlotVisits.{slot_visits, whole_visits}
-use Rattle.plain_table.specs.Table.{look_of}
+use Rattle.plain_table.specs.Table.{results_of}
 use Rattle.plain_table.proofs.whole.whole_table.Given as goal
 
 abbrev pub invariant-loop-fact : goal.invariant-loop-fact
 invariant-loop-fact g l = record {
-  done : HasFacts (accepted l.dict) (answered l.answers) (take l.fact-index l.fact-items) (look_of l.table);
+  done : HasFacts (accepted l.dict) (answered l.answers) (take l.fact-index l.fact-items) (results_of l.table);
   visits : l.steps + sum_by (λ n. sum_by (slot_visits (accepted l.dict) (answered l.answers)) (slots_of (accepted l.dict).tree (answered l.answers) n)) (drop l.fact-index l.fact-items) ≡ l.fn.steps + whole_visits (accepted l.dict) (answered l.answers);
   most : l.steps + sum_by (λ n. sum_by (slot_weight (accepted l.dict) (answered l.answers)) (slots_of (accepted l.dict).tree (answered l.answers) n)) (drop l.fact-index l.fact-items) ≤ l.fn.steps + whole_weight (accepted l.dict) (answered l.answers);
 }

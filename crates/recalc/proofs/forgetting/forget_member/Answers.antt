@@ -1,6 +1,6 @@
 use Rattle.std.proofs.Common.{◌+◌, ℕ, List, drop, sym, ◌∙◌}
 use Rattle.std.proofs.lemmas.List.{at_drop_more}
-use Rattle.recalc.specs.Standing.{without_member}
+use Rattle.recalc.specs.EngineInvariant.{without_member}
 use Rattle.recalc.proofs.ForgettingLaws.{without_one}
 use Rattle.recalc.proofs.forgetting.forget_member.Goals as goal
 

@@ -1,6 +1,6 @@
 use Rattle.std.proofs.Common.{◌≡◌, drop}
 use Rattle.fact_values.specs.declared.slot.Slot.{Slot}
-use Rattle.recalc.specs.Standing.{without_member}
+use Rattle.recalc.specs.EngineInvariant.{without_member}
 use Rattle.recalc.proofs.forgetting.forget_member.Given as goal
 
 -- what is left to be taken away leads to the whole

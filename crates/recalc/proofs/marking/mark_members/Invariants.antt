@@ -1,14 +1,14 @@
 use Rattle.std.proofs.Common.{◌≡◌, ◌||◌, drop}
 use Rattle.std.specs.List.{list_any}
-use Rattle.recalc.specs.Courses.{setting_of}
+use Rattle.recalc.specs.Propagations.{setting_of}
 use Rattle.recalc.specs.Readers.{marks_at}
 use Rattle.recalc.specs.Running.{shielded_in}
 use Rattle.recalc.specs.Waiting.{waits}
-use Rattle.recalc.specs.declared.work.Due.{Due}
+use Rattle.recalc.specs.declared.dirty_queue.DirtySlot.{DirtySlot}
 use Rattle.recalc.proofs.marking.mark_members.Given as goal
 
 abbrev pub invariant-loop-member : goal.invariant-loop-member
 invariant-loop-member l =
-    (q : Due)
-    → (waits l.work q || list_any (marks_at (shielded_in (setting_of l.course) l.store.cells) l.slot l.reader l.rank q) (drop l.member-index l.members))
-    ≡ (waits l.initial.work q || list_any (marks_at (shielded_in (setting_of l.course) l.store.cells) l.slot l.reader l.rank q) l.members)
+    (q : DirtySlot)
+    → (waits l.queue q || list_any (marks_at (shielded_in (setting_of l.propagation) l.store.cells) l.slot l.reader l.rank q) (drop l.member-index l.members))
+    ≡ (waits l.initial.queue q || list_any (marks_at (shielded_in (setting_of l.propagation) l.store.cells) l.slot l.reader l.rank q) l.members)

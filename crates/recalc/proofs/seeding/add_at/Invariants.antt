@@ -2,11 +2,11 @@ use Rattle.std.proofs.Common.{◌≡◌, ◌||◌, drop}
 use Rattle.dictionary.specs.Accepted.{accepted}
 use Rattle.recalc.specs.Seeding.{is_at}
 use Rattle.recalc.specs.Waiting.{waits}
-use Rattle.recalc.specs.declared.work.Due.{Due}
+use Rattle.recalc.specs.declared.dirty_queue.DirtySlot.{DirtySlot}
 use Rattle.recalc.proofs.seeding.add_at.Given as goal
 
 abbrev pub invariant-loop-member : goal.invariant-loop-member
 invariant-loop-member l =
-    (q : Due)
-    → (waits l.work q || is_at (accepted l.dict) q (drop l.member-index l.members) l.fact)
-    ≡ (waits l.initial.work q || is_at (accepted l.dict) q l.members l.fact)
+    (q : DirtySlot)
+    → (waits l.queue q || is_at (accepted l.dict) q (drop l.member-index l.members) l.fact)
+    ≡ (waits l.initial.queue q || is_at (accepted l.dict) q l.members l.fact)

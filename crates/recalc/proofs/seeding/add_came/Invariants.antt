@@ -2,11 +2,11 @@ use Rattle.std.proofs.Common.{◌≡◌, ◌||◌, drop}
 use Rattle.dictionary.specs.Accepted.{accepted}
 use Rattle.recalc.specs.Seeding.{is_field}
 use Rattle.recalc.specs.Waiting.{waits}
-use Rattle.recalc.specs.declared.work.Due.{Due}
+use Rattle.recalc.specs.declared.dirty_queue.DirtySlot.{DirtySlot}
 use Rattle.recalc.proofs.seeding.add_came.Given as goal
 
 abbrev pub invariant-loop-fact : goal.invariant-loop-fact
 invariant-loop-fact l =
-    (q : Due)
-    → (waits l.work q || is_field (accepted l.dict) l.came (drop l.fact-index l.facts) q)
-    ≡ (waits l.initial.work q || is_field (accepted l.dict) l.came l.facts q)
+    (q : DirtySlot)
+    → (waits l.queue q || is_field (accepted l.dict) l.came (drop l.fact-index l.facts) q)
+    ≡ (waits l.initial.queue q || is_field (accepted l.dict) l.came l.facts q)

@@ -3,11 +3,11 @@ use Rattle.answers.specs.Meaning.{answered}
 use Rattle.dictionary.specs.Accepted.{accepted}
 use Rattle.recalc.specs.Seeding.{is_anywhere}
 use Rattle.recalc.specs.Waiting.{waits}
-use Rattle.recalc.specs.declared.work.Due.{Due}
+use Rattle.recalc.specs.declared.dirty_queue.DirtySlot.{DirtySlot}
 use Rattle.recalc.proofs.seeding.add_facts.Given as goal
 
 abbrev pub invariant-loop-fact : goal.invariant-loop-fact
 invariant-loop-fact l =
-    (q : Due)
-    → (waits l.work q || is_anywhere (accepted l.dict) (answered l.now) (drop l.fact-index l.facts) q)
-    ≡ (waits l.initial.work q || is_anywhere (accepted l.dict) (answered l.now) l.facts q)
+    (q : DirtySlot)
+    → (waits l.queue q || is_anywhere (accepted l.dict) (answered l.now) (drop l.fact-index l.facts) q)
+    ≡ (waits l.initial.queue q || is_anywhere (accepted l.dict) (answered l.now) l.facts q)

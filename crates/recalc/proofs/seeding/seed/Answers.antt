@@ -16,5 +16,5 @@ pub returns : goal.returns
 returns c =
     ok_then c.add_own.result c.add_own.ensures (λ _ own.
     first_wait (names_of c.args.dict.now.checks) (accepted c.args.dict.now) c.source-source.ensures.is_accepted c.by_rank-facts.result.now c.by_rank-facts.ensures (change c.args.undo.now) (answered c.args.now.now) c.requires.undone
-    c.newcomer.result c.newcomer.ensures c.args.own c.requires.own c.add_own.new.work
+    c.newcomer.result c.newcomer.ensures c.args.own c.requires.own c.add_own.new.queue
     (λ q. own q ∙ ap (λ b. b || is_own (accepted c.args.dict.now) c.args.own q) (c.in_ok-add_came_if.ensures q ∙ ap (λ b. b || is_came (accepted c.args.dict.now) c.newcomer.result c.by_rank-facts.result.now q) (c.requires.empty q))))

@@ -3,7 +3,7 @@ use Rattle.std.specs.Prelude.{codes}
 use Rattle.std.proofs.lemmas.List.{append-nil}
 use Rattle.fact_paths.proofs.CutLaws.{cut_some, front_lacks, uncut_lacks}
 use Rattle.value_text.specs.MemberTexts.{printed_rest}
-use Rattle.save_file.specs.CarriedReading.{ReadsLine, line_of_list}
+use Rattle.save_file.specs.CarriedParsing.{ReadsLine, line_of_list}
 use Rattle.save_file.proofs.CarriedLines.{bad_members}
 use Rattle.save_file.proofs.carried_line.read_list_line.Goals as goal
 

@@ -1,5 +1,5 @@
 use Rattle.std.proofs.Common.{map, sym, ap, ◌∙◌}
-use Rattle.save_file.specs.CarriedReading.{line_of_list}
+use Rattle.save_file.specs.CarriedParsing.{line_of_list}
 use Rattle.save_file.specs.CarriedText.{lists_member, lists_member_of}
 use Rattle.save_file.proofs.CarriedSteps.{any_of}
 use Rattle.save_file.proofs.carried_read.is_listed.Goals as goal

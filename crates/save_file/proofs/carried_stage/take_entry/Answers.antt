@@ -1,5 +1,5 @@
 use Rattle.std.proofs.Common.{◌++◌}
-use Rattle.save_file.specs.CarriedReading.{line_of_entry, new_or_fault}
+use Rattle.save_file.specs.CarriedParsing.{line_of_entry, new_or_fault}
 use Rattle.save_file.specs.SavedText.{side_word}
 use Rattle.save_file.proofs.CarriedSteps.{is_short, line_fault, of_text}
 use Rattle.save_file.proofs.carried_stage.take_entry.Goals as goal

@@ -1,6 +1,6 @@
 use Rattle.std.proofs.Common.{Err, sym, subst}
 use Rattle.script_lines.specs.declared.fault.LineFault.TheVariants.{BadLine}
-use Rattle.save_file.specs.CarriedReading.{IsCarriedStage, JudgesCarried}
+use Rattle.save_file.specs.CarriedParsing.{IsCarriedStage, JudgesCarried}
 use Rattle.save_file.specs.declared.carried_stage.CarriedStage.{CarriedStage}
 use Rattle.save_file.proofs.CarriedSteps.{none_behind_end}
 use Rattle.save_file.proofs.carried_stage.take_line.Goals as goal

@@ -1,6 +1,6 @@
 use Rattle.std.proofs.Common.{◌++◌}
 use Rattle.std.specs.Prelude.{codes}
-use Rattle.save_file.specs.CarriedReading.{line_of_list, new_or_fault}
+use Rattle.save_file.specs.CarriedParsing.{line_of_list, new_or_fault}
 use Rattle.save_file.proofs.CarriedSteps.{is_short, line_fault, of_text}
 use Rattle.save_file.proofs.carried_stage.take_list.Goals as goal
 

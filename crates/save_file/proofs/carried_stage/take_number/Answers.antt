@@ -10,4 +10,4 @@ returns-in_default-read_next c = no_next_number c.args.line.now c.in-Some.digits
 
 pub returns : goal.returns
 returns c = number_taken c.args.line.now c.in-Some.digits.now c.in-Some-read_next.next (sym c.in-Some.ensures) c.in-Some-read_next.ensures.0 c.in-Some-read_next.ensures.1
-    (record { next = c.in-Some-read_next.next; lists = c.new.result; entries = c.new-2.result; heads = c.new-3.result; overridden = false }) refl c.new.ensures.items c.new-2.ensures.items c.new-3.ensures refl
+    (record { next = c.in-Some-read_next.next; lists = c.new.result; entries = c.new-2.result; keys = c.new-3.result; overridden = false }) refl c.new.ensures.items c.new-2.ensures.items c.new-3.ensures refl

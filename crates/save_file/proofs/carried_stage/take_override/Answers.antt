@@ -2,7 +2,7 @@ use Rattle.std.proofs.Common.{ℕ, List, ◌≤◌, length, sym, subst}
 use Rattle.std.specs.Prelude.{codes}
 use Rattle.fact_paths.proofs.CutLaws.{after_some}
 use Rattle.script_lines.specs.Lines.{HasNoNewline}
-use Rattle.save_file.specs.CarriedReading.{TakesText, new_or_fault}
+use Rattle.save_file.specs.CarriedParsing.{TakesText, new_or_fault}
 use Rattle.save_file.proofs.CarriedLines.{none_there}
 use Rattle.save_file.proofs.CarriedSteps.{no_word}
 use Rattle.save_file.proofs.Lines.{not_behind}

@@ -1,7 +1,7 @@
 use Rattle.std.proofs.Common.{ℕ, List, ◌≤◌, ◌<◌, length, sym, subst, arith}
 use Rattle.std.specs.Prelude.{codes}
 use Rattle.fact_paths.proofs.CutLaws.{after_some}
-use Rattle.save_file.specs.CarriedReading.{TakesText, new_or_fault}
+use Rattle.save_file.specs.CarriedParsing.{TakesText, new_or_fault}
 use Rattle.save_file.proofs.CarriedSteps.{too_long}
 use Rattle.save_file.proofs.Lines.{not_behind}
 use Rattle.save_file.proofs.carried_stage.take_text.Goals as goal

@@ -8,7 +8,7 @@ use Rattle.save_file.proofs.carried_text.read_lines.Goals as goal
 
 pub loop-rest-init : goal.loop-rest-init
 loop-rest-init c = record {
-  told = ([], refl, refl, omega arith);
+  so_far = ([], refl, refl, omega arith);
   sound = tt;
   room = omega arith;
 }
@@ -20,20 +20,20 @@ pub returns-in-Err : goal.returns-in-Err
 returns-in-Err c =
     let inv = c.loop-rest.invariant in
     let cut = c.cut_line-cut.result in
-    refused_next inv.told.0 c.loop-rest.stage inv.told.1 inv.sound c.args.bytes.now c.loop-rest.rest.now inv.told.2 c.loop-rest.number inv.told.3
+    refused_next inv.so_far.0 c.loop-rest.stage inv.so_far.1 inv.sound c.args.bytes.now c.loop-rest.rest.now inv.so_far.2 c.loop-rest.number inv.so_far.3
     cut.0.now (lines_of cut.1.now) c.cut_line-cut.ensures.lines c.in-Err.fault c.in-Err.ensures
 
 pub loop-rest-preserved : goal.loop-rest-preserved
 loop-rest-preserved c =
     let inv = c.loop-rest.invariant in
     let cut = c.cut_line-cut.result in
-    let ls = inv.told.0 in
+    let ls = inv.so_far.0 in
     record {
-      told = (
+      so_far = (
         ls ++ cut.0.now ∷ [],
-        ap (λ (xs : List (List ℕ)). xs ++ cut.0.now ∷ []) inv.told.1 ∙ sym c.in-Ok.ensures.1,
-        inv.told.2 ∙ ap (λ (more : List (List ℕ)). ls ++ more) c.cut_line-cut.ensures.lines ∙ sym (append_assoc ls (cut.0.now ∷ []) (lines_of cut.1.now)),
-        omega (arith, inv.told.3, length-append ls (cut.0.now ∷ [])),
+        ap (λ (xs : List (List ℕ)). xs ++ cut.0.now ∷ []) inv.so_far.1 ∙ sym c.in-Ok.ensures.1,
+        inv.so_far.2 ∙ ap (λ (more : List (List ℕ)). ls ++ more) c.cut_line-cut.ensures.lines ∙ sym (append_assoc ls (cut.0.now ∷ []) (lines_of cut.1.now)),
+        omega (arith, inv.so_far.3, length-append ls (cut.0.now ∷ [])),
       );
       sound = c.in-Ok.ensures.0;
       room = omega (arith, inv.room, c.cut_line-cut.ensures.shorter);
@@ -45,5 +45,5 @@ returns c =
     let ended : c.is_empty.result ≡ true = cc in
     let empty : length c.loop-rest.rest.now ≡ 0 = eqb-true (length c.loop-rest.rest.now) 0 (sym c.is_empty.ensures ∙ ended) in
     let none : length c.loop-rest.rest.now ≤ 0 = omega arith in
-    finished inv.told.0 c.loop-rest.stage inv.told.1 inv.sound c.args.bytes.now c.loop-rest.rest.now inv.told.2 c.loop-rest.number inv.told.3
+    finished inv.so_far.0 c.loop-rest.stage inv.so_far.1 inv.sound c.args.bytes.now c.loop-rest.rest.now inv.so_far.2 c.loop-rest.number inv.so_far.3
     (empty_is c.loop-rest.rest.now none) c.is_ended-ended.result c.is_ended-ended.ensures c.end_with.result c.loop-rest.stage c.is_ended-ended.result refl refl c.end_with.ensures

@@ -2,7 +2,7 @@
 use Rattle.std.proofs.Common.{◌≡◌, ◌++◌, ◌+◌, drop, length, map}
 use Rattle.answers.specs.Meaning.{answered}
 use Rattle.graph_session.specs.Rules.{rules}
-use Rattle.save_file.specs.CarriedReading.{line_of_entry}
+use Rattle.save_file.specs.CarriedParsing.{line_of_entry}
 use Rattle.save_file.specs.Carrying.{keeps, numbers_failing}
 use Rattle.save_file.specs.Keeping.{entered}
 use Rattle.save_file.proofs.carrying.keep_entries.Given as goal

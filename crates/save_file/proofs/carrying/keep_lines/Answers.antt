@@ -1,6 +1,6 @@
 use Rattle.std.proofs.Common.{List, length, ◌≤◌, ◌+◌, ◌++◌, map, ℕ, sym, ap, subst, ◌∙◌}
 use Rattle.graph_session.specs.Rules.{rules}
-use Rattle.save_file.specs.CarriedReading.{line_of_entry, line_of_list}
+use Rattle.save_file.specs.CarriedParsing.{line_of_entry, line_of_list}
 use Rattle.save_file.specs.Carrying.{keeps, numbers_failing}
 use Rattle.save_file.specs.declared.carried_line.ListLine.{ListLine}
 use Rattle.save_file.proofs.carrying.keep_lines.Goals as goal

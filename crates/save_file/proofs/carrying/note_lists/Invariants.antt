@@ -1,7 +1,7 @@
 -- The numbers so far, with those of the lines that are left, are all.
 use Rattle.std.proofs.Common.{◌≡◌, ◌++◌, ◌+◌, drop, map}
 use Rattle.graph_session.specs.Rules.{rules}
-use Rattle.save_file.specs.CarriedReading.{line_of_list}
+use Rattle.save_file.specs.CarriedParsing.{line_of_list}
 use Rattle.save_file.specs.Carrying.{keeps, numbers_failing}
 use Rattle.save_file.proofs.carrying.note_lists.Given as goal
 

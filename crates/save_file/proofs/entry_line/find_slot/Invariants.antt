@@ -4,7 +4,7 @@ use Rattle.answers.specs.Meaning.{answered}
 use Rattle.dictionary.specs.Accepted.{accepted}
 use Rattle.save_file.specs.Cursors.{slots_left}
 use Rattle.save_file.specs.Following.{AreSlots}
-use Rattle.save_file.specs.Reading.{FindsSlot}
+use Rattle.save_file.specs.Parsing.{FindsSlot}
 use Rattle.save_file.proofs.entry_line.find_slot.Given as goal
 
 abbrev pub invariant-loop-slot : goal.invariant-loop-slot

@@ -1,8 +1,8 @@
 use Rattle.std.proofs.Common.{◌≢◌, ℕ, ◌-◌, ◌≤◌}
 use Rattle.dictionary.specs.Accepted.{accepted}
-use Rattle.dictionary.specs.Reading.{slot}
+use Rattle.dictionary.specs.Dependencies.{slot}
 use Rattle.dictionary.specs.SlotText.{slot_text}
-use Rattle.save_file.specs.Reading.{IsLaterList}
+use Rattle.save_file.specs.Parsing.{IsLaterList}
 use Rattle.save_file.proofs.list_line.find_list.Given as goal
 
 abbrev pub invariant-loop-fact : goal.invariant-loop-fact

@@ -2,7 +2,7 @@ use Rattle.std.proofs.Common.{◌≡◌, ℕ, true, false, List, ◌++◌, refl,
 use Rattle.std.specs.Prelude.{codes}
 use Rattle.value_text.specs.MemberTexts.{printed_rest}
 use Rattle.dictionary.specs.Accepted.{accepted, names_of}
-use Rattle.save_file.specs.Reading.{IsListFound}
+use Rattle.save_file.specs.Parsing.{IsListFound}
 use Rattle.save_file.proofs.LoadSteps.{found_list, no_members, no_path}
 use Rattle.save_file.proofs.list_line.list_with.Goals as goal
 

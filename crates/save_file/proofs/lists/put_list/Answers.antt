@@ -3,7 +3,7 @@ use Rattle.std.specs.Prelude.{codes}
 use Rattle.evaluation.proofs.MemberLaws.{member_list-length}
 use Rattle.value_text.specs.MemberTexts.{printed_rest}
 use Rattle.dictionary.specs.Accepted.{accepted, names_of}
-use Rattle.dictionary.specs.Reading.{slot}
+use Rattle.dictionary.specs.Dependencies.{slot}
 use Rattle.dictionary.specs.SlotText.{slot_text}
 use Rattle.fg_io.specs.Writing.{Wrote}
 use Rattle.dictionary.proofs.SlotTextLaws.{slot_short}

@@ -9,7 +9,7 @@ use Rattle.save_file.proofs.loading.load_lines.Goals as goal
 
 pub loop-rest-init : goal.loop-rest-init
 loop-rest-init c = record {
-  told = ([], nothing_yet (accepted c.args.dict.now).tree, refl, omega arith);
+  so_far = ([], nothing_yet (accepted c.args.dict.now).tree, refl, omega arith);
   sound = tt;
   room = omega arith;
 }
@@ -23,7 +23,7 @@ returns-in-Err c =
     record {
       loaded = tt;
       only = λ a fit e. tt;
-      refused = refused_next (names_of c.args.dict.now.checks) (accepted c.args.dict.now) c.source-accepted.ensures.is_accepted enums inv.told.0 c.loop-rest.stage inv.told.1 inv.sound c.args.bytes.now c.loop-rest.rest.now inv.told.2 c.loop-rest.number inv.told.3
+      refused = refused_next (names_of c.args.dict.now.checks) (accepted c.args.dict.now) c.source-accepted.ensures.is_accepted enums inv.so_far.0 c.loop-rest.stage inv.so_far.1 inv.sound c.args.bytes.now c.loop-rest.rest.now inv.so_far.2 c.loop-rest.number inv.so_far.3
           cut.0.now (lines_of cut.1.now) c.cut_line-cut.ensures.lines c.in-Err.fault c.in-Err.ensures;
     }
 
@@ -31,13 +31,13 @@ pub loop-rest-preserved : goal.loop-rest-preserved
 loop-rest-preserved c =
     let inv = c.loop-rest.invariant in
     let cut = c.cut_line-cut.result in
-    let ls = inv.told.0 in
+    let ls = inv.so_far.0 in
     record {
-      told = (
+      so_far = (
         ls ++ cut.0.now ∷ [],
-        one_more (accepted c.args.dict.now).tree ls cut.0.now c.loop-rest.stage c.in-Ok.new inv.told.1 c.in-Ok.ensures.1,
-        inv.told.2 ∙ ap (λ (more : List (List ℕ)). ls ++ more) c.cut_line-cut.ensures.lines ∙ sym (append_assoc ls (cut.0.now ∷ []) (lines_of cut.1.now)),
-        omega (arith, inv.told.3, length-append ls (cut.0.now ∷ [])),
+        one_more (accepted c.args.dict.now).tree ls cut.0.now c.loop-rest.stage c.in-Ok.new inv.so_far.1 c.in-Ok.ensures.1,
+        inv.so_far.2 ∙ ap (λ (more : List (List ℕ)). ls ++ more) c.cut_line-cut.ensures.lines ∙ sym (append_assoc ls (cut.0.now ∷ []) (lines_of cut.1.now)),
+        omega (arith, inv.so_far.3, length-append ls (cut.0.now ∷ [])),
       );
       sound = c.in-Ok.ensures.0;
       room = omega (arith, inv.room, c.cut_line-cut.ensures.shorter);
@@ -51,5 +51,5 @@ returns c =
     let none : length c.loop-rest.rest.now ≤ 0 = omega arith in
     let same : c.enums.result.now ≡ (accepted c.args.dict.now).tree.enums = cc in
     let enums : AreLists (accepted c.args.dict.now).tree.enums = subst AreLists same c.len-enums.ensures.lists in
-    finished (names_of c.args.dict.now.checks) (accepted c.args.dict.now) c.source-accepted.ensures.is_accepted enums inv.told.0 c.loop-rest.stage inv.told.1 inv.sound c.args.bytes.now c.loop-rest.rest.now inv.told.2 c.loop-rest.number inv.told.3
+    finished (names_of c.args.dict.now.checks) (accepted c.args.dict.now) c.source-accepted.ensures.is_accepted enums inv.so_far.0 c.loop-rest.stage inv.so_far.1 inv.sound c.args.bytes.now c.loop-rest.rest.now inv.so_far.2 c.loop-rest.number inv.so_far.3
     (empty_is c.loop-rest.rest.now none) c.is_ended-ended.result c.is_ended-ended.ensures c.end_with.result c.loop-rest.stage c.is_ended-ended.result refl refl c.end_with.ensures

@@ -6,7 +6,7 @@ use Rattle.save_file.proofs.loading.load_lines.Given as goal
 
 abbrev pub invariant-loop-rest : goal.invariant-loop-rest
 invariant-loop-rest l = record {
-  told : (ls : List (List ℕ)) × HasRead (accepted l.dict).tree ls l.stage × (lines_of l.fn.bytes ≡ ls ++ lines_of l.rest) × (l.number ≡ length ls + 1);
+  so_far : (ls : List (List ℕ)) × HasRead (accepted l.dict).tree ls l.stage × (lines_of l.fn.bytes ≡ ls ++ lines_of l.rest) × (l.number ≡ length ls + 1);
   sound : IsStage (accepted l.dict).tree l.stage;
   room : l.number + length l.rest ≤ length l.fn.bytes + 1;
 }

@@ -1,5 +1,5 @@
 use Rattle.std.proofs.Common.{ℕ, List, ◌∷◌, sym, subst, rules}
-use Rattle.save_file.proofs.MemberReading.{AreSoFar, last_not_read, none_so_far, not_read, read_last, read_more, shorter}
+use Rattle.save_file.proofs.MemberParsing.{AreSoFar, last_not_read, none_so_far, not_read, read_last, read_more, shorter}
 use Rattle.save_file.proofs.reading.read_members.Goals as goal
 
 pub loop-word-init : goal.loop-word-init

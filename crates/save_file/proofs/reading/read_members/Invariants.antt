@@ -1,7 +1,7 @@
 use Rattle.std.proofs.Common.{◌∷◌, length}
 use denote.Text.{Utf8}
 use denote.Shadow.{shadow}
-use Rattle.save_file.proofs.MemberReading.{AreSoFar}
+use Rattle.save_file.proofs.MemberParsing.{AreSoFar}
 use Rattle.save_file.proofs.reading.read_members.Given as goal
 
 abbrev pub invariant-loop-word : goal.invariant-loop-word

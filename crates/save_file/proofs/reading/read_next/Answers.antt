@@ -1,5 +1,5 @@
 use Rattle.std.proofs.Common.{◌≡◌, true, false}
-use Rattle.save_file.proofs.MemberReading.{last_read, next_read}
+use Rattle.save_file.proofs.MemberParsing.{last_read, next_read}
 use Rattle.save_file.proofs.reading.read_next.Goals as goal
 
 pub returns-then-is_word : goal.returns-then-is_word

@@ -1,5 +1,5 @@
 use Rattle.std.proofs.Common.{subst}
-use Rattle.script_lines.specs.Reading.{GivesHeard, heard}
+use Rattle.script_lines.specs.Parsing.{GivesHeard, heard}
 use Rattle.script_lines.proofs.CommandLaws.{reads_from_heard}
 use Rattle.script_lines.proofs.reading.command_of.Goals as goal
 

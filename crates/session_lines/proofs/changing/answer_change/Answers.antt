@@ -1,31 +1,32 @@
-use Rattle.std.proofs.Common.{◌≡◌, ℕ, List, map, sym, ap, subst, ◌∙◌}
+use Rattle.std.proofs.Common.{◌≡◌, List, sym, ap, subst, ◌∙◌}
 use Rattle.dictionary.specs.Accepted.{accepted}
 use Rattle.dictionary.specs.Plain.{plain}
+use Rattle.fact_watch.specs.Tables.{named_relations}
 use Rattle.fact_watch.specs.Watching.{Pair, Watching, noted}
 use Rattle.graph_session.specs.Rules.{rules}
-use Rattle.graph_session.specs.SessionView.{course}
+use Rattle.graph_session.specs.SessionView.{session_state}
 use Rattle.session_lines.specs.Answering.{KeptAs, SteppedAs}
-use Rattle.session_lines.specs.Stepping.{step_known}
+use Rattle.session_lines.specs.Stepping.{step_session_command}
 use Rattle.session_lines.proofs.changing.answer_change.Goals as goal
 
 pub answer_noted-requires-clause-noted : goal.answer_noted-requires-clause-noted
 answer_noted-requires-clause-noted g c = λ change.
-    let look = plain (accepted c.args.session.now.dict) c.args.session.now.timeline.now in
-    c.in-Ok.ensures.noted ∙ ap (λ (ps : List Pair). noted ps look) (sym (ap (λ (w : Watching). w.pairs) c.in-Ok.ensures.noted))
+    let results = plain (accepted c.args.session.now.dict) c.args.session.now.timeline.now in
+    c.in-Ok.ensures.noted ∙ ap (λ (ps : List Pair). noted ps results) (sym (ap (λ (w : Watching). w.pairs) c.in-Ok.ensures.noted))
 
 pub returns-in-Ok-clause-stepped : goal.returns-in-Ok-clause-stepped
 returns-in-Ok-clause-stepped g c =
     let pairs : c.note.new.self.pairs ≡ c.args.watches.now.pairs = ap (λ (w : Watching). w.pairs) c.in-Ok.ensures.noted in
     subst (λ (ps : List Pair). SteppedAs (g.K.Sink.taken c.args.out.now) (g.K.Sink.taken c.answer_noted.new.out) (g.K.Sink.faults c.args.out.now) (g.K.Sink.faults c.answer_noted.new.out)
-    (step_known (rules c.args.session.now.dict) (record { course = course c.args.session.now; relations = (map {B = List ℕ × ℕ} (λ r. (r.name, r.code)) c.args.table.now.relations.items); watched = ps }) c.args.command.now)
-    (record { course = course c.answer_noted.new.session; relations = (map {B = List ℕ × ℕ} (λ r. (r.name, r.code)) c.args.table.now.relations.items); watched = c.note.new.self.pairs }) c.answer_noted.result)
+    (step_session_command (rules c.args.session.now.dict) (record { session_state = session_state c.args.session.now; relations = (named_relations c.args.table.now); watched = ps }) c.args.command.now)
+    (record { session_state = session_state c.answer_noted.new.session; relations = (named_relations c.args.table.now); watched = c.note.new.self.pairs }) c.answer_noted.result)
     pairs c.answer_noted.ensures.stepped
 
 pub returns-in-Ok-clause-kept : goal.returns-in-Ok-clause-kept
 returns-in-Ok-clause-kept g c =
     let pairs : c.note.new.self.pairs ≡ c.args.watches.now.pairs = ap (λ (w : Watching). w.pairs) c.in-Ok.ensures.noted in
     subst (λ (ps : List Pair).
-    KeptAs (step_known (rules c.args.session.now.dict) (record { course = course c.args.session.now; relations = (map {B = List ℕ × ℕ} (λ r. (r.name, r.code)) c.args.table.now.relations.items); watched = ps }) c.args.command.now).state
-    (record { course = course c.args.session.now; relations = (map {B = List ℕ × ℕ} (λ r. (r.name, r.code)) c.args.table.now.relations.items); watched = ps })
-    (record { course = course c.answer_noted.new.session; relations = (map {B = List ℕ × ℕ} (λ r. (r.name, r.code)) c.args.table.now.relations.items); watched = c.note.new.self.pairs }) c.answer_noted.result)
+    KeptAs (step_session_command (rules c.args.session.now.dict) (record { session_state = session_state c.args.session.now; relations = (named_relations c.args.table.now); watched = ps }) c.args.command.now).state
+    (record { session_state = session_state c.args.session.now; relations = (named_relations c.args.table.now); watched = ps })
+    (record { session_state = session_state c.answer_noted.new.session; relations = (named_relations c.args.table.now); watched = c.note.new.self.pairs }) c.answer_noted.result)
     pairs c.answer_noted.ensures.kept

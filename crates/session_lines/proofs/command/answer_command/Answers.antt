@@ -1,16 +1,17 @@
-use Rattle.std.proofs.Common.{ℕ, List, map, sym, subst}
+use Rattle.std.proofs.Common.{sym, subst}
 use Rattle.graph_session.specs.Rules.{rules}
-use Rattle.session_lines.specs.Answering.{KeptAs, SteppedAs, standing_of}
+use Rattle.fact_watch.specs.Tables.{named_relations}
+use Rattle.session_lines.specs.Answering.{KeptAs, SteppedAs, line_state_of}
 use Rattle.session_lines.proofs.AnsweringLaws.{known_step}
 use Rattle.session_lines.proofs.command.answer_command.Goals as goal
 
-pub returns-then-is_known-clause-stepped : goal.returns-then-is_known-clause-stepped
-returns-then-is_known-clause-stepped g c =
-    subst (λ k. SteppedAs (g.K.Sink.taken c.args.out.now) (g.K.Sink.taken c.answer_known.new.out) (g.K.Sink.faults c.args.out.now) (g.K.Sink.faults c.answer_known.new.out) k (standing_of c.answer_known.new.session (map {B = List ℕ × ℕ} (λ r. (r.name, r.code)) c.args.table.now.relations.items) c.answer_known.new.watches) c.answer_known.result)
-    (sym (known_step (rules c.args.session.now.dict) (standing_of c.args.session.now (map {B = List ℕ × ℕ} (λ r. (r.name, r.code)) c.args.table.now.relations.items) c.args.watches.now) c.args.command.now (sym c.if-is_known.ensures))) c.answer_known.ensures.stepped
+pub returns-then-is_session_command-clause-stepped : goal.returns-then-is_session_command-clause-stepped
+returns-then-is_session_command-clause-stepped g c =
+    subst (λ k. SteppedAs (g.K.Sink.taken c.args.out.now) (g.K.Sink.taken c.answer_session_command.new.out) (g.K.Sink.faults c.args.out.now) (g.K.Sink.faults c.answer_session_command.new.out) k (line_state_of c.answer_session_command.new.session (named_relations c.args.table.now) c.answer_session_command.new.watches) c.answer_session_command.result)
+    (sym (known_step (rules c.args.session.now.dict) (line_state_of c.args.session.now (named_relations c.args.table.now) c.args.watches.now) c.args.command.now (sym c.if-is_session_command.ensures))) c.answer_session_command.ensures.stepped
 
-pub returns-then-is_known-clause-kept : goal.returns-then-is_known-clause-kept
-returns-then-is_known-clause-kept g c =
-    let here = standing_of c.args.session.now (map {B = List ℕ × ℕ} (λ r. (r.name, r.code)) c.args.table.now.relations.items) c.args.watches.now in
-    subst (λ k. KeptAs k.state here (standing_of c.answer_known.new.session (map {B = List ℕ × ℕ} (λ r. (r.name, r.code)) c.args.table.now.relations.items) c.answer_known.new.watches) c.answer_known.result)
-    (sym (known_step (rules c.args.session.now.dict) here c.args.command.now (sym c.if-is_known.ensures))) c.answer_known.ensures.kept
+pub returns-then-is_session_command-clause-kept : goal.returns-then-is_session_command-clause-kept
+returns-then-is_session_command-clause-kept g c =
+    let here = line_state_of c.args.session.now (named_relations c.args.table.now) c.args.watches.now in
+    subst (λ k. KeptAs k.state here (line_state_of c.answer_session_command.new.session (named_relations c.args.table.now) c.answer_session_command.new.watches) c.answer_session_command.result)
+    (sym (known_step (rules c.args.session.now.dict) here c.args.command.now (sym c.if-is_session_command.ensures))) c.answer_session_command.ensures.kept

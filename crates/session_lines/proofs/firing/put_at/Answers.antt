@@ -1,6 +1,7 @@
-use Rattle.std.proofs.Common.{ℕ, List, map, slice_get, sym, ap, subst, ◌∙◌}
+use Rattle.std.proofs.Common.{ℕ, List, slice_get, sym, ap, subst, ◌∙◌}
 use Rattle.dictionary.specs.Accepted.{accepted}
 use Rattle.dictionary.specs.Plain.{plain}
+use Rattle.fact_watch.specs.Tables.{named_relations}
 use Rattle.fact_watch.specs.Watching.{code_at, pair_says}
 use Rattle.fg_io.specs.Writing.{Wrote}
 use Rattle.session_lines.proofs.FiringLaws.{line_said, said_stands}
@@ -13,7 +14,7 @@ put_line-requires g c =
     let now = plain d c.args.session.now.timeline.now in
     let before = c.requires.noted.0 in
     let says = sym (c.fires.ensures before c.requires.noted.1) ∙ c.if-not-fires.false in
-    let there = said_stands d.tree (map {B = List ℕ × ℕ} (λ r. (r.name, r.code)) c.args.table.now.relations.items) before now c.in-Some.pair (ap (λ o. pair_says (code_at {R = List ℕ × ℕ} (λ r. r.1) (map {B = List ℕ × ℕ} (λ r. (r.name, r.code)) c.args.table.now.relations.items)) o before now) c.in-Some.ensures ∙ says) in
+    let there = said_stands d.tree (named_relations c.args.table.now) before now c.in-Some.pair (ap (λ o. pair_says (code_at {R = List ℕ × ℕ} (λ r. r.1) (named_relations c.args.table.now)) o before now) c.in-Some.ensures ∙ says) in
     stands_with d c.args.session.now.timeline.now c.in-Some.pair.1 there.0 there.1
 
 pub returns-in-Some : goal.returns-in-Some
@@ -22,4 +23,4 @@ returns-in-Some g c = λ before noted.
     let now = plain d c.args.session.now.timeline.now in
     let says = sym (c.fires.ensures before noted) ∙ c.if-not-fires.false in
     subst (λ (t : List ℕ). Wrote (g.K.Sink.taken c.args.out.now) (g.K.Sink.taken c.put_line.new.out) (g.K.Sink.faults c.args.out.now) (g.K.Sink.faults c.put_line.new.out) t c.put_line.result)
-    (sym (line_said d.tree (map {B = List ℕ × ℕ} (λ r. (r.name, r.code)) c.args.table.now.relations.items) before now (slice_get c.args.watches.now.pairs c.args.n) c.in-Some.pair (sym c.in-Some.ensures) says)) c.put_line.ensures
+    (sym (line_said d.tree (named_relations c.args.table.now) before now (slice_get c.args.watches.now.pairs c.args.n) c.in-Some.pair (sym c.in-Some.ensures) says)) c.put_line.ensures

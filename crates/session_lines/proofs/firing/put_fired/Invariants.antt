@@ -1,17 +1,18 @@
-use Rattle.std.proofs.Common.{◌≡◌, ◌≤◌, ℕ, List, map, drop}
+use Rattle.std.proofs.Common.{◌≡◌, ◌≤◌, drop}
 use Rattle.fg_io.specs.Sent.{Sent}
 use Rattle.script_lines.specs.Joined.{joined}
 use Rattle.dictionary.specs.Accepted.{accepted}
 use Rattle.dictionary.specs.Plain.{plain}
-use Rattle.dictionary.specs.Reading.{Look}
+use Rattle.dictionary.specs.Dependencies.{Results}
+use Rattle.fact_watch.specs.Tables.{named_relations}
 use Rattle.fact_watch.specs.Watching.{noted}
 use Rattle.session_lines.specs.Firing.{firing_lines}
 use Rattle.session_lines.proofs.firing.put_fired.Given as goal
 
 abbrev pub invariant-loop-n : goal.invariant-loop-n
 invariant-loop-n g l = record {
-  sent : (before : Look) → l.watches ≡ noted l.watches.pairs before → Sent (g.K.Sink.taken l.fn.out) (g.K.Sink.taken l.out)
-      (joined (firing_lines (accepted l.session.dict).tree (map {B = List ℕ × ℕ} (λ r. (r.name, r.code)) l.table.relations.items) before (plain (accepted l.session.dict) l.session.timeline.now) l.watches.pairs))
-      (joined (firing_lines (accepted l.session.dict).tree (map {B = List ℕ × ℕ} (λ r. (r.name, r.code)) l.table.relations.items) before (plain (accepted l.session.dict) l.session.timeline.now) (drop l.n l.watches.pairs)));
+  sent : (before : Results) → l.watches ≡ noted l.watches.pairs before → Sent (g.K.Sink.taken l.fn.out) (g.K.Sink.taken l.out)
+      (joined (firing_lines (accepted l.session.dict).tree (named_relations l.table) before (plain (accepted l.session.dict) l.session.timeline.now) l.watches.pairs))
+      (joined (firing_lines (accepted l.session.dict).tree (named_relations l.table) before (plain (accepted l.session.dict) l.session.timeline.now) (drop l.n l.watches.pairs)));
   later : g.K.Sink.faults l.fn.out ≤ g.K.Sink.faults l.out;
 }

@@ -1,7 +1,8 @@
-use Rattle.std.proofs.Common.{ℕ, List, map, sym, ap, subst, ◌∙◌}
+use Rattle.std.proofs.Common.{sym, ap, subst, ◌∙◌}
 use Rattle.fact_watch.specs.Refusals.{Refused, pair_of, unwatch_refusal}
+use Rattle.fact_watch.specs.Tables.{named_relations}
 use Rattle.fact_watch.specs.Watching.{Watching, without}
-use Rattle.session_lines.specs.Answering.{standing_of}
+use Rattle.session_lines.specs.Answering.{line_state_of}
 use Rattle.session_lines.specs.Stepping.{place_in}
 use Rattle.session_lines.proofs.WatchLaws.{allowed_keeps, allowed_steps, place_by_names, refused_keeps, refused_steps}
 use Rattle.session_lines.proofs.watching.unwatch_slot.Goals as goal
@@ -10,9 +11,9 @@ pub returns-in-Ok-clause-stepped : goal.returns-in-Ok-clause-stepped
 returns-in-Ok-clause-stepped g c =
     let slot = c.args.slot in
     let pairs = c.args.watches.now.pairs in
-    let place = place_in (map {B = List ℕ × ℕ} (λ r. (r.name, r.code)) c.args.table.now.relations.items) c.args.name.now in
+    let place = place_in (named_relations c.args.table.now) c.args.name.now in
     let same = place_by_names c.args.table.now.relations.items (λ r. r.name) (λ r. r.code) c.args.name.now in
-    allowed_steps _ _ _ _ (standing_of c.args.session.now _ c.args.watches.now) (without (pair_of place slot) pairs) c.unwatch.new.watches.pairs c.write_text.result
+    allowed_steps _ _ _ _ (line_state_of c.args.session.now _ c.args.watches.now) (without (pair_of place slot) pairs) c.unwatch.new.watches.pairs c.write_text.result
     (unwatch_refusal place pairs slot) (ap (λ p. unwatch_refusal p pairs slot) same ∙ c.in-Ok.ensures.allowed)
     (ap (λ (w : Watching). w.pairs) c.in-Ok.ensures.cut ∙ ap (λ p. without (pair_of p slot) pairs) (sym same))
     c.write_text.ensures.written
@@ -21,9 +22,9 @@ pub returns-in-Err-clause-stepped : goal.returns-in-Err-clause-stepped
 returns-in-Err-clause-stepped g c =
     let slot = c.args.slot in
     let pairs = c.args.watches.now.pairs in
-    let place = place_in (map {B = List ℕ × ℕ} (λ r. (r.name, r.code)) c.args.table.now.relations.items) c.args.name.now in
+    let place = place_in (named_relations c.args.table.now) c.args.name.now in
     let same = place_by_names c.args.table.now.relations.items (λ r. r.name) (λ r. r.code) c.args.name.now in
-    refused_steps _ _ _ _ (standing_of c.args.session.now _ c.args.watches.now) (without (pair_of place slot) pairs) c.unwatch.new.watches.pairs c.write_watch_refusal.result
+    refused_steps _ _ _ _ (line_state_of c.args.session.now _ c.args.watches.now) (without (pair_of place slot) pairs) c.unwatch.new.watches.pairs c.write_watch_refusal.result
     (unwatch_refusal place pairs slot) c.in-Err.refusal (subst (λ p. Refused c.in-Err.refusal (unwatch_refusal p pairs slot)) (sym same) c.in-Err.ensures.refused)
     (ap (λ (w : Watching). w.pairs) c.in-Err.ensures.unchanged)
     c.write_watch_refusal.ensures.written
@@ -32,9 +33,9 @@ pub returns-in-Ok-clause-kept : goal.returns-in-Ok-clause-kept
 returns-in-Ok-clause-kept g c =
     let slot = c.args.slot in
     let pairs = c.args.watches.now.pairs in
-    let place = place_in (map {B = List ℕ × ℕ} (λ r. (r.name, r.code)) c.args.table.now.relations.items) c.args.name.now in
+    let place = place_in (named_relations c.args.table.now) c.args.name.now in
     let same = place_by_names c.args.table.now.relations.items (λ r. r.name) (λ r. r.code) c.args.name.now in
-    allowed_keeps _ _ _ _ (standing_of c.args.session.now _ c.args.watches.now) (without (pair_of place slot) pairs) c.unwatch.new.watches.pairs c.write_text.result
+    allowed_keeps _ _ _ _ (line_state_of c.args.session.now _ c.args.watches.now) (without (pair_of place slot) pairs) c.unwatch.new.watches.pairs c.write_text.result
     (unwatch_refusal place pairs slot) (ap (λ p. unwatch_refusal p pairs slot) same ∙ c.in-Ok.ensures.allowed)
     (ap (λ (w : Watching). w.pairs) c.in-Ok.ensures.cut ∙ ap (λ p. without (pair_of p slot) pairs) (sym same))
     c.write_text.ensures.written
@@ -43,9 +44,9 @@ pub returns-in-Err-clause-kept : goal.returns-in-Err-clause-kept
 returns-in-Err-clause-kept g c =
     let slot = c.args.slot in
     let pairs = c.args.watches.now.pairs in
-    let place = place_in (map {B = List ℕ × ℕ} (λ r. (r.name, r.code)) c.args.table.now.relations.items) c.args.name.now in
+    let place = place_in (named_relations c.args.table.now) c.args.name.now in
     let same = place_by_names c.args.table.now.relations.items (λ r. r.name) (λ r. r.code) c.args.name.now in
-    refused_keeps _ _ _ _ (standing_of c.args.session.now _ c.args.watches.now) (without (pair_of place slot) pairs) c.unwatch.new.watches.pairs c.write_watch_refusal.result
+    refused_keeps _ _ _ _ (line_state_of c.args.session.now _ c.args.watches.now) (without (pair_of place slot) pairs) c.unwatch.new.watches.pairs c.write_watch_refusal.result
     (unwatch_refusal place pairs slot) c.in-Err.refusal (subst (λ p. Refused c.in-Err.refusal (unwatch_refusal p pairs slot)) (sym same) c.in-Err.ensures.refused)
     (ap (λ (w : Watching). w.pairs) c.in-Err.ensures.unchanged)
     c.write_watch_refusal.ensures.written

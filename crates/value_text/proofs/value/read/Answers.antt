@@ -1,4 +1,4 @@
-use Rattle.value_text.proofs.ReadingLaws.{reads_from}
+use Rattle.value_text.proofs.ParsingLaws.{reads_from}
 use Rattle.value_text.proofs.value.read.Goals as goal
 
 pub returns-clause-spelled : goal.returns-clause-spelled

@@ -1,11 +1,11 @@
 use Rattle.std.proofs.Common.{ℕ, List, subst}
 use Rattle.dict_tree.specs.Dictionary.{dictionary_view}
-use Rattle.dictionary.specs.Keeping.{IsWorkedOut}
+use Rattle.dictionary.specs.Keeping.{IsPrecomputed}
 use Rattle.dictionary.proofs.KeptLaws.{kept_with}
 use Rattle.dictionary.proofs.dictionary.Dictionary.keep.Goals as goal
 
 pub invariant_of-result : goal.invariant_of-result
 invariant_of-result g c = record {
   is_accepted = kept_with (λ k. k.name) (λ k. k.code) c.args.table.now.checks.items c.in-Ok.checks.items _ c.in-Ok.ensures c.requires;
-  worked_out = subst (λ (ranks : List ℕ). IsWorkedOut (dictionary_view c.args.source) ranks c.in-Ok-work_out.worked) c.as_slice.ensures.value c.in-Ok-work_out.ensures;
+  precomputed_of = subst (λ (ranks : List ℕ). IsPrecomputed (dictionary_view c.args.source) ranks c.in-Ok-precompute.precomputed) c.as_slice.ensures.value c.in-Ok-precompute.ensures;
 }

@@ -1,4 +1,5 @@
-use Rattle.std.proofs.Common.{ℕ, List, map, ap, ◌∙◌}
+use Rattle.std.proofs.Common.{List, ap, ◌∙◌}
+use Rattle.text_checks.specs.Tables.{named_checks}
 use Rattle.dict_tree.specs.Dictionary.{dictionary_view}
 use Rattle.dictionary.specs.Accepted.{Named}
 use Rattle.dictionary.specs.Checks.{same_checks}
@@ -8,6 +9,6 @@ use Rattle.dictionary.proofs.dictionary.Dictionary.same_checks.Goals as goal
 pub returns : goal.returns
 returns g c =
     rw (← c.self.view_is)
-    (tells_same c.self.inside.checks.items (map {B = List ℕ × ℕ} (λ k. (k.name, k.code)) c.args.table.now.checks.items) (dictionary_view c.self.inside.source) c.are_of_table.result c.self.inside.worked.checked
-    (c.are_of_table.ensures ∙ ap (λ (l : List Named). same_checks l (map {B = List ℕ × ℕ} (λ k. (k.name, k.code)) c.args.table.now.checks.items)) c.as_slice.ensures.value)
-    c.self.invariant.worked_out.names_check c.if-not-self.false)
+    (tells_same c.self.inside.checks.items (named_checks c.args.table.now) (dictionary_view c.self.inside.source) c.are_of_table.result c.self.inside.precomputed.checked
+    (c.are_of_table.ensures ∙ ap (λ (l : List Named). same_checks l (named_checks c.args.table.now)) c.as_slice.ensures.value)
+    c.self.invariant.precomputed_of.names_check c.if-not-self.false)

@@ -10,7 +10,7 @@ use Rattle.dictionary.proofs.dictionary.Dictionary.steady.Goals as goal
 value : (c : goal.After-index) → c.index.result.now ≡ steady_by_rank (dictionary_view c.self.inside.source) c.self.inside.ranks.items c.args.fact
 value c =
     let there = rw (← c.self.view_is) at c.requires in
-    steady_of_fact (dictionary_view c.self.inside.source) c.self.inside.ranks.items c.self.inside.worked.steady.items c.args.fact (c.args.fact - 1) c.index.result.now c.self.invariant.worked_out.tells_steady there c.index.ensures (omega (arith, c.requires.0))
+    steady_of_fact (dictionary_view c.self.inside.source) c.self.inside.ranks.items c.self.inside.precomputed.steady.items c.args.fact (c.args.fact - 1) c.index.result.now c.self.invariant.precomputed_of.tells_steady there c.index.ensures (omega (arith, c.requires.0))
 
 pub returns-clause-tells : goal.returns-clause-tells
 returns-clause-tells c =

@@ -3,7 +3,7 @@ use Rattle.answers.specs.Answered.{Answered}
 use Rattle.answers.specs.Change.{Change, Fits, inverse}
 use Rattle.answers.specs.Meaning.{answered, change}
 use Rattle.session_undo.specs.History.{behind, place}
-use Rattle.session_undo.specs.Place.{changed}
+use Rattle.session_undo.specs.UndoState.{changed}
 use Rattle.session_undo.specs.Timeline.{timeline}
 use Rattle.session_undo.proofs.TimelineLaws.{timeline_changed}
 use Rattle.dictionary.specs.Accepted.{accepted, names_of}

@@ -1,5 +1,5 @@
 use Rattle.graph_session.specs.Rules.{rules}
-use Rattle.graph_session.specs.SessionView.{course}
+use Rattle.graph_session.specs.SessionView.{session_state}
 use Rattle.graph_session.specs.Step.{refusal, reply}
 use Rattle.graph_session.proofs.StepLaws.{asked_refused}
 use Rattle.graph_session.proofs.session.Session.command.Goals as goal
@@ -7,4 +7,4 @@ use Rattle.graph_session.proofs.session.Session.command.Goals as goal
 pub returns-in-Get-clause-refused : goal.returns-in-Get-clause-refused
 returns-in-Get-clause-refused g c =
     let s = c.args.self.now in
-    asked_refused (refusal (rules s.dict) (course s) c.args.command.now) (reply (rules s.dict) (course s) c.args.command.now) c.ask.result c.ask.ensures
+    asked_refused (refusal (rules s.dict) (session_state s) c.args.command.now) (reply (rules s.dict) (session_state s) c.args.command.now) c.ask.result c.ask.ensures

@@ -14,7 +14,7 @@ returns-in-Ok-clause-stands g c =
       index = c.requires.before.index;
       results = changed_results (names_of c.args.dict.now.checks) (accepted c.args.dict.now) c.source-source.ensures.is_accepted (change c.args.undo.now) (answered c.args.now.now)
           u c.gone-gone.result c.gone-gone.ensures (c.args.self.now.changes + 1) c.args.self.now.store.cells c.requires.before.results
-          c.go_on.new.work (entries c.go_on.new.log) c.go_on.new.store.cells c.in-Ok.ensures.done c.by_rank.result.now c.by_rank.ensures c.forget.new.store.cells c.forget.ensures;
+          c.go_on.new.queue (entries c.go_on.new.log) c.go_on.new.store.cells c.in-Ok.ensures.done c.by_rank.result.now c.by_rank.ensures c.forget.new.store.cells c.forget.ensures;
       none_waits = c.in-Ok.ensures.done.none;
       nothing_kept = c.clear.ensures;
     }
@@ -26,8 +26,8 @@ returns-in-Ok-clause-marked g c = λ _.
       changes = refl;
       stamps = changed_stamps (names_of c.args.dict.now.checks) (accepted c.args.dict.now) c.source-source.ensures.is_accepted (change c.args.undo.now) (answered c.args.now.now)
           u c.gone-gone.result c.gone-gone.ensures (c.args.self.now.changes + 1) c.args.self.now.store.cells c.requires.before.results
-          c.go_on.new.work (entries c.go_on.new.log) c.go_on.new.store.cells c.in-Ok.ensures.done c.by_rank.result.now c.by_rank.ensures c.forget.new.store.cells c.forget.ensures;
+          c.go_on.new.queue (entries c.go_on.new.log) c.go_on.new.store.cells c.in-Ok.ensures.done c.by_rank.result.now c.by_rank.ensures c.forget.new.store.cells c.forget.ensures;
       touched = c.len.ensures ∙ changed_count (names_of c.args.dict.now.checks) (accepted c.args.dict.now) c.source-source.ensures.is_accepted (change c.args.undo.now) (answered c.args.now.now)
           u c.gone-gone.result c.gone-gone.ensures (c.args.self.now.changes + 1) c.args.self.now.store.cells c.requires.before.results
-          c.go_on.new.work (entries c.go_on.new.log) c.go_on.new.store.cells c.in-Ok.ensures.done c.by_rank.result.now c.by_rank.ensures c.forget.new.store.cells c.forget.ensures;
+          c.go_on.new.queue (entries c.go_on.new.log) c.go_on.new.store.cells c.in-Ok.ensures.done c.by_rank.result.now c.by_rank.ensures c.forget.new.store.cells c.forget.ensures;
     }

@@ -2,7 +2,7 @@ use Rattle.std.proofs.Common.{◌≡◌, ℕ, suc, ◌+◌, ◌-◌, ◌<◌, �
 use Rattle.answers.specs.Meaning.{answered}
 use Rattle.dictionary.specs.Accepted.{accepted}
 use Rattle.dictionary.specs.Homes.{home}
-use Rattle.dictionary.specs.Reading.{slot}
+use Rattle.dictionary.specs.Dependencies.{slot}
 use Rattle.dictionary.specs.Slots.{members_of_home}
 use Rattle.save_file.specs.Cursors.{slots_from}
 use Rattle.save_file.specs.SavedText.{counted}

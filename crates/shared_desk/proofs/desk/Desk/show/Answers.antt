@@ -1,6 +1,6 @@
 use Rattle.std.proofs.Common.{ap, ◌∙◌, subst}
 use Rattle.graph_session.specs.Rules.{rules}
-use Rattle.graph_session.specs.SessionView.{SessionView, course}
+use Rattle.graph_session.specs.SessionView.{SessionView, session_state}
 use Rattle.shared_desk.specs.DeskView.{DeskView, Keeps}
 use Rattle.shared_desk.proofs.KeptLaws.{show_keeps}
 use Rattle.shared_desk.proofs.StepLaws.{asked_place, question_stays, shows_no_change}
@@ -11,12 +11,12 @@ pub invariant_of-self-in-Ok-command : goal.invariant_of-self-in-Ok-command
 invariant_of-self-in-Ok-command g c =
     let v = c.self.inside.session in
     let none = shows_no_change c.args.command.now c.args.path.now c.requires.shown in
-    asked_place v c.command.new.self c.self.inside.place (ap course (question_stays (rules v.dict) v c.command.new.self c.args.command.now c.in-Ok-command.reply none c.in-Ok-command.ensures.ok c.in-Ok-command.ensures.dict)) c.self.invariant
+    asked_place v c.command.new.self c.self.inside.place (ap session_state (question_stays (rules v.dict) v c.command.new.self c.args.command.now c.in-Ok-command.reply none c.in-Ok-command.ensures.ok c.in-Ok-command.ensures.dict)) c.self.invariant
 
 pub returns-after-put-clause-kept : goal.returns-after-put-clause-kept
 returns-after-put-clause-kept g c =
     let v = c.self.inside.session in
-    let view : DeskView = record { session = v; changers = c.self.inside.changers.items; entries = c.self.inside.entries.items; asked = c.self.inside.looks } in
+    let view : DeskView = record { session = v; changers = c.self.inside.changers.items; entries = c.self.inside.entries.items; asked = c.self.inside.last_seen } in
     let none = shows_no_change c.args.command.now c.args.path.now c.requires.shown in
     let same = question_stays (rules v.dict) v c.command.new.self c.args.command.now c.in-Ok-command.reply none c.in-Ok-command.ensures.ok c.in-Ok-command.ensures.dict in
     elim c.match-put.branch [

@@ -11,10 +11,10 @@ invariant_of-self-2 c =
     let listed : Listed = record { name = c.args.name; options = c.args.options.items } in
     let named : is_name c.args.name ≡ true = c.as_str.ensures.good in
     let is_new : is_among c.args.name (names_of lists) ≡ false = ap (λ (n : List ℕ). is_among n (names_of lists)) (sym c.as_str.ensures.text) ∙ sym c.has_list.ensures ∙ c.if-has_list.false in
-    let told : c.are_distinct.result ≡ true = search rules in
+    let differ : c.are_distinct.result ≡ true = search rules in
     let same = c.as_slice.ensures.value in
-    let names : list_all is_name c.args.options.items ≡ true = ap (list_all is_name) (sym same) ∙ c.are_distinct.ensures.names told in
-    let distinct : are_distinct c.args.options.items ≡ true = ap are_distinct (sym same) ∙ sym c.are_distinct.ensures.value ∙ told in
+    let names : list_all is_name c.args.options.items ≡ true = ap (list_all is_name) (sym same) ∙ c.are_distinct.ensures.names differ in
+    let distinct : are_distinct c.args.options.items ≡ true = ap are_distinct (sym same) ∙ sym c.are_distinct.ensures.value ∙ differ in
     let some : 0 < length c.args.options.items = search rules in
     let few : length c.args.options.items < 2 ^ 32 = search rules in
     let new : IsNew lists listed = record { named = named; new = is_new; names = names; distinct = distinct; some = some; few = few } in

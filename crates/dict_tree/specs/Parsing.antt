@@ -1,0 +1,141 @@
+-- Reading an expression of its JSON value.
+use Rattle.std.specs.Prelude.{◌≡◌, ℕ, nat_le, Bool, true, false, List, [], ◌∷◌, length, codes, Option, Some, None, option_map, option_and_then, Result, Ok, Err, if◌then◌else◌, bytes_eq}
+use Rattle.serde_json.specs.Data.{Data, null, boolean, number, string, array, object, Items, no_items, item}
+use Rattle.serde_json.specs.Find.{as_str}
+use Rattle.fact_paths.specs.Parsing.{use_path_of}
+use Rattle.dict_tree.specs.declared.fault.ReadFault.{ReadFault}
+use Rattle.dict_tree.specs.declared.fault.ReadFault.TheVariants.{Shape, NoMemory}
+use Rattle.dict_tree.specs.declared.operators.ManyOp.{ManyOp}
+use Rattle.dict_tree.specs.declared.operators.ManyOp.TheVariants.{All, Any, Add, Subtract, GreaterOf, LesserOf}
+use Rattle.dict_tree.specs.declared.node_name.ConstantName.{ConstantName}
+use Rattle.dict_tree.specs.declared.node_name.ConstantName.TheVariants as constants
+use Rattle.dict_tree.specs.declared.node_name.NodeName.{NodeName}
+use Rattle.dict_tree.specs.declared.node_name.NodeName.TheVariants as names
+use Rattle.dict_tree.specs.Names.{node_named}
+use Rattle.dict_tree.specs.Tree.{Literal, literal_true, literal_false, literal_int, literal_dollar, literal_rational, literal_day, literal_text, literal_choice, Use, Source, SourceCase, literal, read, switch, many, one, two, pick}
+use Rattle.dict_tree.specs.View.{trees_of, cases_of}
+
+-- What a reader of a part answers, seen by view: the part, or Shape where there is none. Want of memory says nothing.
+abbrev pub Gives : {X Y : Type 0} → (X → Y) → Result X ReadFault → Option Y → Type 0
+Gives view (Ok x) part = part ≡ Some (view x)
+Gives view (Err Shape) part = part ≡ None
+Gives view (Err NoMemory) part = Unit {0}
+
+-- the text, and the path that it spells
+abbrev pub use_of : List ℕ → Use
+use_of text = record { text = text; path = use_path_of text }
+
+-- ---- operands that are texts
+
+abbrev pub no_operand : {A : Type 0} → A → Items → Option A
+no_operand x no_items = Some x
+no_operand x (item d ds) = None
+
+abbrev pub one_text : Items → Option (List ℕ)
+one_text no_items = None
+one_text (item d no_items) = as_str d
+one_text (item d (item e ds)) = None
+
+abbrev pub two_texts : Items → Option (List ℕ × List ℕ)
+two_texts no_items = None
+two_texts (item d no_items) = None
+two_texts (item d (item e no_items)) = option_and_then (λ s. option_map (λ t. (s, t)) (as_str e)) (as_str d)
+two_texts (item d (item e (item f ds))) = None
+
+abbrev pub constant_of : ConstantName → Items → Option Literal
+constant_of constants.True ds = no_operand literal_true ds
+constant_of constants.False ds = no_operand literal_false ds
+constant_of constants.Int ds = option_map literal_int (one_text ds)
+constant_of constants.Dollar ds = option_map literal_dollar (one_text ds)
+constant_of constants.Rational ds = option_map literal_rational (one_text ds)
+constant_of constants.Day ds = option_map literal_day (one_text ds)
+constant_of constants.Text ds = option_map literal_text (one_text ds)
+constant_of constants.Enum ds = option_map (λ p. literal_choice p.0 p.1) (two_texts ds)
+
+-- ---- operands that are expressions
+
+-- the fewest operands
+abbrev pub fewest : ManyOp → ℕ
+fewest All = 1
+fewest Any = 1
+fewest Add = 1
+fewest Subtract = 2
+fewest GreaterOf = 1
+fewest LesserOf = 1
+
+abbrev pub at_least : {A : Type 0} → ℕ → List A → Option (List A)
+at_least n xs = if nat_le n (length xs) then Some xs else None
+
+abbrev pub case_if : Bool → Option SourceCase → Option SourceCase
+case_if true pair = pair
+case_if false pair = None
+
+abbrev pub is_text : List ℕ → Option (List ℕ) → Bool
+is_text word None = false
+is_text word (Some text) = bytes_eq text word
+
+abbrev pub picked_of : List ℕ × Source → Use × Source
+picked_of p = (use_of p.0, p.1)
+
+-- the node with these operands: as texts, as its only one, as a pair, as a use and a condition, as a list, as cases
+abbrev pub node_of : NodeName → Items → Option Source → Option SourceCase → Option (List ℕ × Source) → Option (List Source) → Option (List SourceCase) → Option Source
+node_of (names.Constant kind) ds only pair picked list cases = option_map literal (constant_of kind ds)
+node_of (names.Read op) ds only pair picked list cases = option_map (λ s. read (op, use_of s)) (one_text ds)
+node_of names.Switch ds only pair picked list cases = option_map (λ cs. switch (cases_of cs)) (option_and_then (at_least 1) cases)
+node_of (names.Many op) ds only pair picked list cases = option_map (λ ts. many op (trees_of ts)) (option_and_then (at_least (fewest op)) list)
+node_of (names.One op) ds only pair picked list cases = option_map (one op) only
+node_of (names.Two op) ds only pair picked list cases = option_map (λ p. two op p.0 p.1) pair
+node_of (names.Pick op) ds only pair picked list cases = option_map (λ p. pick op (use_of p.0) p.1) picked
+
+abbrev mutual
+  -- the expression that the value spells
+  pub tree_of : Data → Option Source
+  tree_of null = None
+  tree_of (boolean b) = None
+  tree_of (number n) = None
+  tree_of (string s) = None
+  tree_of (array ds) = array_tree ds
+  tree_of (object ms) = None
+
+  pub array_tree : Items → Option Source
+  array_tree no_items = None
+  array_tree (item d ds) =
+      option_and_then (λ name. node_of name ds (only_tree ds) (pair_tree ds) (picked_tree ds) (tree_list ds) (case_list ds)) (option_and_then node_named (as_str d))
+
+  pub only_tree : Items → Option Source
+  only_tree no_items = None
+  only_tree (item d no_items) = tree_of d
+  only_tree (item d (item e ds)) = None
+
+  pub pair_tree : Items → Option SourceCase
+  pair_tree no_items = None
+  pair_tree (item d no_items) = None
+  pair_tree (item d (item e no_items)) = option_and_then (λ a. option_map (λ b. (a, b)) (tree_of e)) (tree_of d)
+  pair_tree (item d (item e (item f ds))) = None
+
+  pub picked_tree : Items → Option (List ℕ × Source)
+  picked_tree no_items = None
+  picked_tree (item d no_items) = None
+  picked_tree (item d (item e no_items)) = option_and_then (λ s. option_map (λ t. (s, t)) (tree_of e)) (as_str d)
+  picked_tree (item d (item e (item f ds))) = None
+
+  pub tree_list : Items → Option (List Source)
+  tree_list no_items = Some []
+  tree_list (item d ds) = option_and_then (λ t. option_map (λ ts. t ∷ ts) (tree_list ds)) (tree_of d)
+
+  -- `["Case",E,E]`
+  pub case_of : Data → Option SourceCase
+  case_of null = None
+  case_of (boolean b) = None
+  case_of (number n) = None
+  case_of (string s) = None
+  case_of (array ds) = case_in ds
+  case_of (object ms) = None
+
+  pub case_in : Items → Option SourceCase
+  case_in no_items = None
+  case_in (item d ds) = case_if (is_text (codes "Case") (as_str d)) (pair_tree ds)
+
+  pub case_list : Items → Option (List SourceCase)
+  case_list no_items = Some []
+  case_list (item d ds) = option_and_then (λ c. option_map (λ cs. c ∷ cs) (case_list ds)) (case_of d)

@@ -1,0 +1,12 @@
+use Rattle.std.proofs.Common.{ap}
+use Rattle.graph_session.specs.Rules.{rules}
+use Rattle.interview.proofs.TellingLaws.{session_output, steps_output}
+use Rattle.interview.proofs.watched_session.WatchedSessionLineHandler.answer_ready.Goals as goal
+
+pub returns : goal.returns
+returns g c = record {
+  output = session_output _ c.args.self.now.session c.answer_ready.new.session c.args.self.now.watches c.answer_ready.new.watches _ _ _ _ _ c.answer_ready.result c.answer_ready.ensures.answered;
+  same_rules = ap rules c.answer_ready.ensures.dict;
+  later = c.answer_ready.ensures.later;
+  steps = steps_output _ _ _ _ _ c.answer_ready.ensures.steps;
+}

@@ -1,0 +1,60 @@
+-- What an engine has between commands.
+use Rattle.std.specs.Prelude.{◌≡◌, ℕ, false, List, [], Option, option_map, unwrap_or, nat_eq, ◌&&◌, if◌then◌else◌, Some, None}
+use Rattle.std.specs.List.{list_any}
+use Rattle.std.specs.FinMap as finite
+use Rattle.fact_values.specs.declared.slot.Slot.{Slot}
+use Rattle.answers.specs.Answered.{Answered}
+use Rattle.cell_store.specs.Contents.{Cells}
+use Rattle.cell_store.specs.declared.cell.Cell.{Cell}
+use Rattle.dep_index.specs.Readers.{IsIndex}
+use Rattle.dep_index.specs.declared.row.ReaderOf.{ReaderOf}
+use Rattle.dictionary.specs.Accepted.{Accepted}
+use Rattle.dictionary.specs.Plain.{plain}
+use Rattle.dictionary.specs.Dependencies.{Results}
+use Rattle.node_compile.specs.Compiled.{IsCompiled}
+use Rattle.node_compile.specs.declared.compiled.Compiled.{Compiled}
+use Rattle.answers.specs.Change.{Change}
+use Rattle.dictionary.specs.Engines.{Marks}
+use Rattle.dictionary.specs.Undone.{is_extended}
+use Rattle.recalc.specs.Running.{Setting}
+use Rattle.recalc.specs.Waiting.{DirtySlots, waits}
+use Rattle.recalc.specs.declared.log.Replaced.{Replaced}
+use Rattle.recalc.specs.declared.dirty_queue.DirtySlot.{DirtySlot}
+
+abbrev pub results_of : Cells → Results
+results_of cells s = option_map (λ c. c.res) (finite.get cells s)
+
+-- 0 where there is no cell
+abbrev pub stamp_in : Cells → Slot → ℕ
+stamp_in cells s = unwrap_or (option_map (λ c. c.stamp) (finite.get cells s)) 0
+
+-- It has the nodes and the readers of the dictionary's facts, and the cells of the answers: the result of each slot that
+-- stands, and no other cell. Nothing waits, and nothing is to be put back.
+pub record EngineInvariant (nodes : Compiled) (readers : List (List ReaderOf)) (cells : Cells) (queue : DirtySlots) (log : List Replaced) (d : Accepted) (a : Answered) : Type 0 where
+  pub compiled : IsCompiled d.tree nodes
+  pub index : IsIndex d readers
+  pub results : (s : Slot) → results_of cells s ≡ plain d a s
+  pub none_waits : (q : DirtySlot) → waits queue q ≡ false
+  pub nothing_kept : log ≡ []
+
+-- the cells but for those of a member at these facts
+abbrev pub without_member : Cells → ℕ → List ℕ → Slot → Option Cell
+without_member cells member facts s = if nat_eq s.member member && list_any (nat_eq s.fact) facts then None else finite.get cells s
+
+-- of a member that went, if one did
+abbrev pub without_gone : Cells → Option ℕ → List ℕ → Slot → Option Cell
+without_gone cells None facts s = finite.get cells s
+without_gone cells (Some member) facts s = without_member cells member facts s
+
+-- ---- the loop's setting at the start of answers, and at a change
+
+abbrev pub start_setting : Accepted → Answered → Setting
+start_setting d b = record { dict = d; now = b; extended = false; gone = None; stamp = 0 }
+
+abbrev pub setting_from : Accepted → Change → Answered → Option ℕ → ℕ → Setting
+setting_from d undo now gone stamp = record { dict = d; now = now; extended = is_extended undo now; gone = gone; stamp = stamp }
+
+-- ---- what is counted
+
+abbrev pub marks_by : ℕ → Cells → ℕ → Marks
+marks_by changes cells touched = record { changes = changes; stamps = stamp_in cells; touched = touched }

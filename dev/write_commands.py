@@ -1,0 +1,127 @@
+#!/usr/bin/python3
+"""Writes into docs/COMMAND_LINE.md and docs/CASES.md what the commands of `fact-graph` show, or checks that it stands there.
+
+    dev/write_commands.py [--check] [--library PATH]
+
+In a block `console` each line behind `$ ` is run by a shell, in a folder with the examples, and what it prints follows it; a block
+that begins with a command of the table below is held at a terminal, with what the table types. The picture that `graph` makes is
+kept beside the pages, and the table of exit statuses is that of the package. With --check nothing is written, and the exit status
+is 1 where a page or the picture is another.
+"""
+
+from __future__ import annotations
+
+import os
+import re
+import shutil
+import subprocess
+import sys
+import tempfile
+from collections.abc import Iterator
+from pathlib import Path
+
+TOP = Path(__file__).resolve().parent.parent
+sys.path += [str(TOP / "python"), str(TOP / "python" / "tests" / "commands"), str(TOP / "tests")]
+
+from fact_graph.status import Status  # noqa: E402 # pylint: disable=wrong-import-position # found by the path above
+from harness import add_library, words_of  # noqa: E402 # pylint: disable=wrong-import-position # found by the path above
+from terminal import Terminal  # noqa: E402 # pylint: disable=wrong-import-position # found by the path above
+
+PAGES = [TOP / "docs" / name for name in ("COMMAND_LINE.md", "CASES.md")]
+PICTURE = "help.svg"
+BLOCK = re.compile(r"^```console\n(.*?)^```$", re.MULTILINE | re.DOTALL)
+STATUSES = re.compile(r"^\| Status \| When \|\n(?:\|.*\n)+", re.MULTILINE)
+
+TYPED = {
+    "fact-graph ask screener.json --saved mine --figure /help": [
+        ("How do you live there?", "rents"), ("Savings", ""), ("People in the home", "1"), ("Born on", "1958-11-30"), ("Wages of a year", "12000"),
+        ("Heating bill", "9000"), ("at most 5000.00.", "1240.50"),
+    ],
+    "fact-graph run screener.json": [
+        ("", "set /bill 1240.50"), ("ok", "set /bill 9000"), ("refused", "get /bill"),
+        ("complete", "get /savings"), ("placeholder", "final /savings"), ("open", "quit"),
+    ],
+}  # fmt: skip
+"""By a command what is waited for and typed at its terminal."""
+
+WRONG = """{
+  "version": "1",
+  "facts": [
+    {"path": "/rent", "writable": "Dollar"},
+    {"path": "/heating", "writable": "Dollar", "placholder": ["Dollar", "0"]},
+    {"path": "/housing", "derived": "Dollar", "is": ["Add", ["Dependency", "/rent"], ["Dependency", "/heatng"]]},
+    {"path": "/yearly", "derived": "Dollar", "is": ["Add", ["Dependency", "/rent"], ["Int", "12"]]}
+  ]
+}
+"""
+"""A dictionary with faults, to be shown."""
+
+
+def prepare(folder: Path) -> dict[str, str]:
+    """Puts the examples and the command into a folder. Returns the environment in which it is run."""
+    shutil.copytree(TOP / "examples", folder, dirs_exist_ok=True)
+    (folder / "wrong.json").write_text(WRONG, encoding="utf-8")
+    command = folder / "bin" / "fact-graph"
+    command.parent.mkdir()
+    command.write_text(f'#!/bin/sh\nexec {sys.executable} -m fact_graph "$@"\n', encoding="utf-8")
+    command.chmod(0o755)
+    return {**os.environ, "PATH": f"{command.parent}:{os.environ['PATH']}", "PYTHONPATH": str(TOP / "python"), "COLUMNS": "100"}
+
+
+def at_terminal(command: str, folder: Path) -> list[str]:
+    """The lines that a command shows at a terminal."""
+    with Terminal(command.split()[1:], folder, folder) as terminal:
+        for due, text in TYPED[command]:
+            terminal.shows(due)
+            terminal.answers(f"{text}\r")
+        terminal.ends()
+        return terminal.screen()
+
+
+def at_shell(command: str, folder: Path, environment: dict[str, str]) -> list[str]:
+    """The lines that a command prints."""
+    ran = subprocess.run(command, shell=True, cwd=folder, env=environment, stdout=subprocess.PIPE, stderr=subprocess.STDOUT, text=True, check=False)
+    return ran.stdout.splitlines()
+
+
+def shown(block: str, folder: Path, environment: dict[str, str]) -> Iterator[str]:
+    """The lines of a block: its commands, each with what it shows."""
+    for line in block.splitlines():
+        if line.startswith("$ "):
+            command = line[2:]
+            yield line
+            yield from at_terminal(command, folder) if command in TYPED else at_shell(command, folder, environment)
+
+
+def statuses() -> str:
+    """The table of the exit statuses."""
+    rows = "".join(f"| {int(status)} | {status.meaning} |\n" for status in Status)
+    return f"| Status | When |\n|---|---|\n{rows}"
+
+
+def main(argv: list[str]) -> int:
+    """Writes or checks the pages and the picture."""
+    words = words_of(__doc__)
+    add_library(words)
+    words.add_argument("--check", action="store_true", help="writes nothing")
+    given = words.parse_args(argv)
+    os.environ["FACT_GRAPH_LIBRARY"] = str(given.library)
+    stands, picture = [page.read_text(encoding="utf-8") for page in PAGES], PAGES[0].with_name(PICTURE)
+    with tempfile.TemporaryDirectory(prefix="write_commands.") as name:
+        folder = Path(name)
+        environment = prepare(folder)
+        due = [BLOCK.sub(lambda found: "\n".join(["```console", *shown(found[1], folder, environment), "```"]), text) for text in stands]
+        drawn = (folder / PICTURE).read_bytes()
+    due = [STATUSES.sub(lambda found: statuses(), text) for text in due]
+    if given.check:
+        is_so = due == stands and picture.is_file() and picture.read_bytes() == drawn
+        print("the pages " + ("show what the commands show" if is_so else "show otherwise: run dev/write_commands.py"))
+        return int(not is_so)
+    for page, text in zip(PAGES, due):
+        page.write_text(text, encoding="utf-8")
+    picture.write_bytes(drawn)
+    return 0
+
+
+if __name__ == "__main__":
+    sys.exit(main(sys.argv[1:]))

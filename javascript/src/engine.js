@@ -1,0 +1,68 @@
+// The engine, as those who choose where it comes from and how much memory it has see it.
+
+import { Machine } from "./machine.js";
+
+/**
+ * What an engine does, for this package alone.
+ * @type {(engine: Engine) => Machine}
+ */
+export let machineOf;
+
+/** The engine in a memory of its own, which all of its sessions share. */
+export class Engine {
+  #machine;
+
+  static {
+    machineOf = (engine) => engine.#machine;
+  }
+
+  /**
+   * @private
+   * @param {Machine} machine
+   */
+  constructor(machine) {
+    this.#machine = machine;
+  }
+
+  /**
+   * Loads an engine: of the module beside this file, or of another URL, of bytes or of a compiled module. With `maxMemory` its memory is never
+   * more than so many bytes, and what wants more throws OutOfMemory.
+   * @param {WebAssembly.Module | BufferSource | URL | string} [source]
+   * @param {{ maxMemory?: number }} [options]
+   */
+  static async load(source = new URL("fact_graph.wasm", import.meta.url), options = {}) {
+    const machine = new Machine(await WebAssembly.instantiate(await compiled(source), {}));
+    if (options.maxMemory !== undefined) machine.keepBelow(options.maxMemory);
+    return new Engine(machine);
+  }
+
+  /** The bytes of the memory. It never becomes less. */
+  get memorySize() {
+    return this.#machine.memorySize;
+  }
+
+  /** Whether the engine stopped, so that it can't be used again. */
+  get hasStopped() {
+    return this.#machine.hasStopped;
+  }
+}
+
+/**
+ * A compiled module.
+ * @param {WebAssembly.Module | BufferSource | URL | string} source
+ */
+async function compiled(source) {
+  if (source instanceof WebAssembly.Module) return source;
+  if (!(source instanceof URL) && typeof source !== "string") return WebAssembly.compile(source);
+  const url = new URL(source, import.meta.url);
+  if (url.protocol === "file:") {
+    const files = "node:fs/promises"; // (a name that a bundler for pages doesn't look for)
+    const { readFile } = await import(files);
+    return WebAssembly.compile(await readFile(url));
+  }
+  const response = await fetch(url);
+  if (!response.ok) throw new Error(`${url}: ${response.status} ${response.statusText}`);
+  // (a host may give another type than the streaming compiler wants)
+  return WebAssembly.compile(await response.arrayBuffer());
+}
+

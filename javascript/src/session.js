@@ -1,0 +1,444 @@
+// Sessions: answers over a dictionary, and the results that follow from them.
+
+import { Dictionary } from "./dictionary.js";
+import { Engine, machineOf } from "./engine.js";
+import { Refused, SessionClosed } from "./errors.js";
+import { bytesOf, textOfBytes } from "./machine.js";
+import { READERS, textOf } from "./values.js";
+
+/** @typedef {import("./dictionary.js").Fact} Fact */
+/** @typedef {import("./machine.js").Machine} Machine */
+/** @typedef {import("./values.js").Answer} Answer */
+/** @typedef {import("./values.js").Kind} Kind */
+/** @typedef {import("./values.js").Result} Result */
+/** @typedef {import("./values.js").Value} Value */
+
+/**
+ * A watch: `changed`, `completed`, `lost` or `raised`, and the slot whose result is watched.
+ * @typedef {{ name: string, slot: string }} Watch
+ */
+/**
+ * A line of a saved text that isn't carried: `list`, `value` or `override`, and what it names.
+ * @typedef {{ kind: string, slot: string }} Dropped
+ */
+/** @typedef {{ engine?: Engine }} Options the engine that the session is opened in; where none is given, one that all such sessions share */
+
+/**
+ * The engine that sessions share.
+ * @type {Promise<Engine> | null}
+ */
+let shared = null;
+
+/** @returns {Promise<Engine>} */
+async function sharedEngine() {
+  const loading = (shared ??= Engine.load());
+  try {
+    const engine = await loading;
+    if (!engine.hasStopped) return engine;
+  } catch (wrong) {
+    if (shared === loading) shared = null; // (a fetch may fail once)
+    throw wrong;
+  }
+  if (shared === loading) shared = null;
+  return sharedEngine();
+}
+
+/**
+ * By how many changes a command goes forth.
+ * @type {Readonly<Record<string, number>>}
+ */
+const STEPS = { set: 1, clear: 1, open: 1, add: 1, remove: 1, override: 1, release: 1, redo: 1, undo: -1 };
+const NOTHING_TO_UNDO = "refused 13 NothingToUndo\n";
+
+/** @param {string} line */
+function stepOf(line) {
+  const blank = line.indexOf(" ");
+  return STEPS[blank < 0 ? line.replace(/\r$/, "") : line.slice(0, blank)] ?? 0;
+}
+
+/** @type {(machine: Machine, block: number, dictionary: Uint8Array) => Session} */
+let created;
+
+/**
+ * @param {"open" | "load" | "carry"} how
+ * @param {string | Uint8Array} dictionary
+ * @param {string | Uint8Array | undefined} saved
+ * @param {Options} [options]
+ */
+async function begun(how, dictionary, saved, options) {
+  const text = bytesOf(dictionary);
+  const kept = saved === undefined ? undefined : bytesOf(saved);
+  const machine = machineOf(options?.engine ?? (await sharedEngine()));
+  return created(machine, machine.begin(how, text, kept), text);
+}
+
+/**
+ * An interview over a dictionary, which is a string or bytes of UTF-8.
+ *
+ * A slot is `/rent`, a fact that stands once, or `/people/#2/age`, that of a collection's member. `close` frees a session's memory at once;
+ * one that nothing refers to any more is closed in time.
+ */
+export class Session {
+  #machine;
+  #block;
+  #isOpen = true;
+  // how many changes could be undone, but for those before the session, and how many of them stand before the block of changes
+  #depth = 0;
+  #floor = -Infinity;
+
+  /** What the dictionary says of its facts. */
+  dictionary;
+
+  /**
+   * What `carry` didn't keep.
+   * @type {readonly Dropped[]}
+   */
+  dropped = [];
+
+  /**
+   * The watches that fired at the last accepted change that a method other than `line` made, in the order in which they were put.
+   * @type {readonly Watch[]}
+   */
+  fired = [];
+
+  static {
+    created = (machine, block, dictionary) => new Session(machine, block, dictionary);
+  }
+
+  /**
+   * @private
+   * @param {Machine} machine
+   * @param {number} block
+   * @param {Uint8Array} dictionary
+   */
+  constructor(machine, block, dictionary) {
+    this.#machine = machine;
+    this.#block = block;
+    machine.closeWith(this, block);
+    this.dictionary = new Dictionary(textOfBytes(dictionary));
+  }
+
+  /**
+   * A session without answers. Throws DictionaryRefused where the dictionary has a fault.
+   * @param {string | Uint8Array} dictionary
+   * @param {Options} [options]
+   */
+  static async open(dictionary, options) {
+    return begun("open", dictionary, undefined, options);
+  }
+
+  /**
+   * A session that goes on from what `save` gave over the same dictionary. Throws SavedRefused for another text.
+   * @param {string | Uint8Array} dictionary
+   * @param {string | Uint8Array} saved
+   * @param {Options} [options]
+   */
+  static async load(dictionary, saved, options) {
+    return begun("load", dictionary, saved, options);
+  }
+
+  /**
+   * A session that goes on from what `save` gave over another dictionary, as far as its answers may stand over this one; `dropped` has the
+   * others. Throws SavedRefused for what is no such text.
+   * @param {string | Uint8Array} dictionary
+   * @param {string | Uint8Array} saved
+   * @param {Options} [options]
+   */
+  static async carry(dictionary, saved, options) {
+    const session = await begun("carry", dictionary, saved, options);
+    const lines = textOfBytes(session.#machine.text(session.#block)).split("\n").slice(0, -1);
+    session.dropped = lines.map((line) => line.split(" ")).map(([, kind = "", slot = ""]) => ({ kind, slot }));
+    return session;
+  }
+
+  // ---- changes
+
+  /**
+   * Answers a writable fact.
+   * @param {string} slot
+   * @param {Answer} value
+   */
+  set(slot, value) {
+    this.#put("set", slot, value);
+  }
+
+  /**
+   * Takes an answer away.
+   * @param {string} slot
+   */
+  clear(slot) {
+    this.#change(`clear ${slot}`);
+  }
+
+  /**
+   * Opens a collection that has no members yet: that there are none is then an answer.
+   * @param {string} slot
+   */
+  openList(slot) {
+    this.#change(`open ${slot}`);
+  }
+
+  /**
+   * Adds a member to a collection, which is opened where it isn't. Returns the member's number.
+   * @param {string} slot
+   */
+  add(slot) {
+    return Number(this.#change(`add ${slot}`).slice(4));
+  }
+
+  /**
+   * Takes a member out of a collection, with its answers and overrides.
+   * @param {string} slot
+   * @param {number} member
+   */
+  remove(slot, member) {
+    this.#change(`remove ${slot} #${member}`);
+  }
+
+  /**
+   * Gives a derived fact this value, whatever follows for it.
+   * @param {string} slot
+   * @param {Answer} value
+   */
+  override(slot, value) {
+    this.#put("override", slot, value);
+  }
+
+  /**
+   * Takes an override away.
+   * @param {string} slot
+   */
+  release(slot) {
+    this.#change(`release ${slot}`);
+  }
+
+  /** Goes back to the answers before the last change. */
+  undo() {
+    this.#change("undo");
+  }
+
+  /** Goes forth again. */
+  redo() {
+    this.#change("redo");
+  }
+
+  /**
+   * Runs a function whose changes stand together: where it throws, all of them are undone. Returns what it returns. Such calls may stand in
+   * each other. Within one, `undo` goes back to its beginning and no further. The function can't wait for anything.
+   * @template T
+   * @param {() => T} block
+   * @returns {T}
+   */
+  changes(block) {
+    this.#hold();
+    const outer = this.#floor;
+    this.#floor = this.#depth;
+    try {
+      const answer = block();
+      if (answer instanceof Promise) throw new TypeError("a function of changes can't wait");
+      return answer;
+    } catch (wrong) {
+      while (this.#isOpen && this.#depth > this.#floor && this.#said("undo")) continue;
+      throw wrong;
+    } finally {
+      this.#floor = outer;
+    }
+  }
+
+  // ---- questions
+
+  /**
+   * The result of a fact.
+   * @param {string} slot
+   * @returns {Result}
+   */
+  get(slot) {
+    const [kind, text] = parted(this.#ask(`get ${slot}`));
+    if (kind === "complete" || kind === "placeholder") return { kind, value: this.#reader(slot)(text), fault: null };
+    return { kind: /** @type {Kind} */ (kind), value: null, fault: text || null };
+  }
+
+  /**
+   * The value of a fact that no further answer can change; null where one can, or where there is none yet.
+   * @param {string} slot
+   * @returns {Value | null}
+   */
+  final(slot) {
+    const [word, text] = parted(this.#ask(`final ${slot}`));
+    return word === "final" ? this.#reader(slot)(text) : null;
+  }
+
+  /**
+   * The slots whose answers a result still wants, in the order of the dictionary.
+   * @param {string} slot
+   */
+  missing(slot) {
+    return this.#ask(`missing ${slot}`).split("\n").slice(1, -1);
+  }
+
+  /**
+   * The numbers of a collection's members, or of those that a Filter finds; none while there is no such list.
+   * @param {string} slot
+   */
+  members(slot) {
+    const { value } = this.get(slot);
+    return Array.isArray(value) ? value : [];
+  }
+
+  /**
+   * Whether a slot stands: a fact that stands once, or that of a member who is there.
+   * @param {string} slot
+   */
+  has(slot) {
+    return !this.#said(`get ${slot}`)?.startsWith("refused ");
+  }
+
+  /** The slots that stand now, in the order of the dictionary, and of a fact in the order of its members. */
+  slots() {
+    return [...this.dictionary.facts.values()].flatMap(({ path, collection }) =>
+      collection === null ? [path] : this.members(collection).map((member) => path.replace("*", `#${member}`)),
+    );
+  }
+
+  /**
+   * The number of the last change that touched a slot, or 0. Changes, undo and redo among them, are numbered from 1.
+   * @param {string} slot
+   */
+  stamp(slot) {
+    return Number(this.#ask(`stamp ${slot}`).slice(6));
+  }
+
+  /** How many slots the last change touched, or 0 before the first. */
+  touched() {
+    return Number(this.#ask("touched").slice(8));
+  }
+
+  /**
+   * Asks for a place in `fired` when the slot's result moves so: `changed`, `completed`, `lost` or `raised`.
+   * @param {string} name
+   * @param {string} slot
+   */
+  watch(name, slot) {
+    this.#ask(`watch ${name} ${slot}`);
+  }
+
+  /**
+   * Ends a watch.
+   * @param {string} name
+   * @param {string} slot
+   */
+  unwatch(name, slot) {
+    this.#ask(`unwatch ${name} ${slot}`);
+  }
+
+  // ---- the whole
+
+  /** The answers that stand, as a text for `load` and `carry`. */
+  save() {
+    this.#hold();
+    return textOfBytes(this.#machine.save(this.#block));
+  }
+
+  /**
+   * Answers a line of a script, and returns its reply as the program writes it: all lines of it, with their newlines. A line without a reply,
+   * and each one from `quit` on, has an empty text. A refusal is a reply, and isn't thrown.
+   * @param {string} line
+   */
+  line(line) {
+    const given = line.endsWith("\n") ? line.slice(0, -1) : line;
+    if (given.includes("\n")) throw new TypeError("a line of a script has no newline within");
+    return this.#said(given) ?? "";
+  }
+
+  /** Ends the session, and frees its memory. All other calls throw SessionClosed from then on. */
+  close() {
+    if (!this.#isOpen) return;
+    this.#isOpen = false;
+    this.#machine.close(this, this.#block);
+  }
+
+  // ---- how a line is said
+
+  /**
+   * @param {"set" | "override"} verb
+   * @param {string} slot
+   * @param {Answer} value
+   */
+  #put(verb, slot, value) {
+    // the value is all behind the second blank, so one in the slot would become a part of it
+    if (slot.includes(" ")) throw new Refused(1, "BadLine");
+    const isAmount = typeof value === "bigint";
+    if (isAmount || typeof value === "number") {
+      const type = this.dictionary.factAt(slot)?.type.name;
+      if (type !== undefined && isAmount !== (type === "Dollar"))
+        throw new TypeError(isAmount ? `a BigInt is an amount in cents, and ${slot} is of the type ${type}` : `${slot} is an amount: give its cents as a BigInt, or its text`);
+    }
+    this.#change(`${verb} ${slot} ${textOf(value)}`);
+  }
+
+  /** @param {string} line */
+  #change(line) {
+    const reply = this.#ask(line);
+    const end = reply.indexOf("\n") + 1;
+    this.fired = end === reply.length ? [] : reply.slice(end, -1).split("\n").map(watchOf);
+    return reply.slice(0, end - 1);
+  }
+
+  /**
+   * The reply to a command that isn't refused.
+   * @param {string} line
+   */
+  #ask(line) {
+    const said = this.#said(line.endsWith("\r") ? `${line}\r` : line); // one last byte 13 is dropped
+    if (said === null) throw new SessionClosed("the session was quit");
+    if (said.startsWith("refused ")) throw Refused.ofReply(said);
+    return said;
+  }
+
+  /**
+   * The text of a line, or null where the script is over.
+   * @param {string} line
+   */
+  #said(line) {
+    this.#hold();
+    const step = stepOf(line);
+    if (step < 0 && this.#depth <= this.#floor) return NOTHING_TO_UNDO;
+    const bytes = this.#machine.answer(this.#block, line);
+    const said = bytes && textOfBytes(bytes);
+    if (step && said?.startsWith("ok")) this.#depth += step;
+    return said;
+  }
+
+  #hold() {
+    if (!this.#isOpen) throw new SessionClosed("the session is closed");
+  }
+
+  /** @param {string} slot */
+  #reader(slot) {
+    const type = /** @type {Fact} */ (this.dictionary.factAt(slot)).type;
+    return /** @type {(text: string) => Value} */ (READERS[type.name]);
+  }
+}
+
+// where the language has `using`, it closes a session
+if ("dispose" in Symbol) Object.defineProperty(Session.prototype, /** @type {any} */ (Symbol).dispose, { value: Session.prototype.close });
+
+/**
+ * The first word of a reply of one line, and what is behind it.
+ * @param {string} reply
+ * @returns {[string, string]}
+ */
+function parted(reply) {
+  const blank = reply.indexOf(" ");
+  return blank < 0 ? [reply.slice(0, -1), ""] : [reply.slice(0, blank), reply.slice(blank + 1, -1)];
+}
+
+/**
+ * Of a line such as `watch lost /s`.
+ * @param {string} line
+ * @returns {Watch}
+ */
+function watchOf(line) {
+  const [, name = "", slot = ""] = line.split(" ");
+  return { name, slot };
+}

@@ -1,0 +1,108 @@
+// Values of facts: as JavaScript has them, and as texts.
+//
+// | Type         | In JavaScript                                   |
+// |--------------|-------------------------------------------------|
+// | Boolean      | boolean                                         |
+// | Int          | number, a whole one of at most 15 digits        |
+// | Dollar       | bigint, the amount in cents                     |
+// | Rational     | Rational, two whole numbers                     |
+// | Day          | string, as "2025-01-31"                         |
+// | Text, Enum   | string                                          |
+// | Collection   | number[], the numbers of its members            |
+// | Item         | number, that of the member                      |
+
+/** @typedef {boolean | number | bigint | string | Rational} Answer what is set */
+/** @typedef {Answer | number[]} Value what a fact comes to */
+/** @typedef {"complete" | "placeholder" | "incomplete" | "fault"} Kind */
+
+/**
+ * What a fact comes to. `kind` is `complete`, where the value rests on answers alone; `placeholder`, where a value stands in for an answer;
+ * `incomplete`, where an answer is missing; or `fault`. `value` is null for the last two, and `fault` is `overflow` or `zero-divide` for the
+ * last and else null.
+ * @typedef {{ kind: Kind, value: Value | null, fault: string | null }} Result
+ */
+
+/** A fraction. */
+export class Rational {
+  /**
+   * @param {number} numerator
+   * @param {number} denominator
+   */
+  constructor(numerator, denominator = 1) {
+    this.numerator = whole(numerator);
+    this.denominator = whole(denominator);
+  }
+
+  toString() {
+    return `${this.numerator}/${this.denominator}`;
+  }
+}
+
+/** @param {number} number */
+function whole(number) {
+  if (!Number.isSafeInteger(number)) throw new TypeError(`${number} isn't a whole number`);
+  return number;
+}
+
+/**
+ * The text of an amount in cents: `"1240.50"` of `124050n`.
+ * @param {bigint} cents
+ */
+export function amountText(cents) {
+  const digits = String(cents < 0n ? -cents : cents).padStart(3, "0");
+  return `${cents < 0n ? "-" : ""}${digits.slice(0, -2)}.${digits.slice(-2)}`;
+}
+
+const AMOUNT = /^(-?)(\d+)(?:\.(\d\d))?$/;
+
+/**
+ * The cents of an amount's text: `124050n` of `"1240.50"`. Throws SyntaxError for another text.
+ * @param {string} text
+ */
+export function centsOf(text) {
+  const found = AMOUNT.exec(text);
+  if (!found) throw new SyntaxError(`${JSON.stringify(text)} isn't an amount such as 1240.50`);
+  const cents = BigInt(`${found[2]}${found[3] ?? "00"}`);
+  return found[1] ? -cents : cents;
+}
+
+/**
+ * The text of a value that is set or overridden. A string is a text already, whatever the type of the fact.
+ * @param {Answer} value
+ */
+export function textOf(value) {
+  if (typeof value === "string") return value;
+  if (typeof value === "boolean") return String(value);
+  if (typeof value === "number") return String(whole(value));
+  if (typeof value === "bigint") return amountText(value);
+  if (value instanceof Rational) return value.toString();
+  throw new TypeError(`no fact has a value like ${Object.prototype.toString.call(value)}`);
+}
+
+/** @param {string} text */
+const same = (text) => text;
+/** @param {string} text */
+const member = (text) => Number(text.slice(1));
+/** @param {string} text */
+const members = (text) => (text === "[]" ? [] : text.slice(1, -1).split(" ").map(member));
+/** @param {string} text */
+function rational(text) {
+  const [numerator, denominator] = text.split("/");
+  return new Rational(Number(numerator), Number(denominator));
+}
+
+/**
+ * By the name of a type, what reads the texts that a session prints of its values.
+ * @type {Record<string, (text: string) => Value>}
+ */
+export const READERS = {
+  Boolean: (text) => text === "true",
+  Int: Number,
+  Dollar: (text) => BigInt(text.replace(".", "")),
+  Rational: rational,
+  Day: same,
+  Text: same,
+  Enum: same,
+  Collection: members,
+  Item: member,
+};

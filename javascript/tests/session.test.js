@@ -1,0 +1,287 @@
+// The calls of a session: values, refusals, watches, saved texts, and how it ends.
+
+import assert from "node:assert/strict";
+import { readFileSync } from "node:fs";
+import { test } from "node:test";
+import {
+  DictionaryRefused, Engine, FactGraphError, OutOfMemory, Rational, Refused, SavedRefused, Session, SessionClosed, UnknownSlot, amountText,
+  centsOf,
+} from "../src/index.js";
+
+const DICTIONARY = JSON.stringify({
+  version: "1",
+  description: "a household",
+  enums: [{ name: "tenure", options: ["rents", "owns"] }],
+  facts: [
+    { path: "/rent", writable: "Dollar", limits: [["Min", "0"], ["Max", "5000"]], description: "The rent of a month" },
+    { path: "/heating", writable: "Dollar", placeholder: ["Dollar", "0"] },
+    { path: "/housing", derived: "Dollar", is: ["Add", ["Dependency", "/rent"], ["Dependency", "/heating"]] },
+    { path: "/tenure", writable: "Enum(tenure)" },
+    { path: "/share", writable: "Rational" },
+    { path: "/rooms", writable: "Int" },
+    { path: "/pays", writable: "Boolean" },
+    { path: "/note", writable: "Text" },
+    { path: "/people", writable: "Collection" },
+    { path: "/people/*/born", writable: "Day" },
+    { path: "/people/*/isOld", derived: "Boolean", is: ["LessThan", ["Dependency", "../born"], ["Day", "1960-01-01"]] },
+    { path: "/old", derived: "Collection(/people)", is: ["Filter", "/people", ["Dependency", "isOld"]] },
+    { path: "/eldest", derived: "Item(/people)", is: ["Find", "/people", ["Dependency", "isOld"]] },
+    { path: "/each", derived: "Rational", is: ["Divide", ["Dependency", "/housing"], ["Dependency", "/rent"]] },
+  ],
+});
+
+const opened = () => Session.open(DICTIONARY);
+const complete = (value) => ({ kind: "complete", value, fault: null });
+
+test("a value of each type is set and comes back as JavaScript has it", async () => {
+  const session = await opened();
+  for (const [slot, value] of [
+    ["/rent", 124050n], ["/tenure", "owns"], ["/rooms", -3], ["/pays", false], ["/note", "4 € \u{1F600}\ufeff"],
+  ]) {
+    session.set(slot, value);
+    assert.deepEqual(session.get(slot), complete(value), slot);
+    assert.deepEqual(session.final(slot), value, slot);
+  }
+  session.set("/share", new Rational(4, -1 * -6));
+  assert.deepEqual(session.get("/share"), complete(new Rational(2, 3)));
+  assert.equal(session.add("/people"), 1);
+  assert.equal(session.add("/people"), 2);
+  session.set("/people/#1/born", "1950-02-28");
+  session.set("/people/#2/born", "1990-12-31");
+  assert.deepEqual(session.get("/people/#1/born"), complete("1950-02-28"));
+  assert.deepEqual(session.get("/people"), complete([1, 2]));
+  assert.deepEqual(session.get("/old"), complete([1]));
+  assert.deepEqual(session.get("/eldest"), complete(1));
+});
+
+test("what a fact comes to has one of four kinds", async () => {
+  const session = await opened();
+  assert.deepEqual(session.get("/housing"), { kind: "incomplete", value: null, fault: null });
+  assert.equal(session.final("/housing"), null);
+  session.set("/rent", "0");
+  assert.deepEqual(session.get("/housing"), { kind: "placeholder", value: 0n, fault: null });
+  session.set("/heating", 100n);
+  assert.deepEqual(session.get("/each"), { kind: "fault", value: null, fault: "zero-divide" });
+});
+
+test("a text is a value of any type, and a value of another type isn't set", async () => {
+  const session = await opened();
+  session.set("/rent", "12.5".concat("0"));
+  assert.deepEqual(session.get("/rent"), complete(1250n));
+  assert.throws(() => session.set("/rent", 12), /is an amount/);
+  assert.throws(() => session.set("/rooms", 12n), /a BigInt is an amount/);
+  assert.throws(() => session.set("/rooms", 1.5), /isn't a whole number/);
+  assert.throws(() => session.set("/rooms", NaN), TypeError);
+  assert.throws(() => session.set("/note", new Date()), TypeError);
+  assert.throws(() => session.set("/note", null), TypeError);
+  assert.throws(() => session.set("/note", "\ud800"), /half a surrogate pair/);
+  assert.deepEqual(session.get("/rent"), complete(1250n));
+  assert.equal(session.get("/note").kind, "incomplete");
+});
+
+test("a refusal is thrown with its number, and changes nothing", async () => {
+  const session = await opened();
+  session.set("/rent", 1n);
+  const refused = (number, code, place) => (wrong) =>
+    wrong instanceof Refused && wrong instanceof FactGraphError && wrong.name === "Refused" && wrong.number === number &&
+    wrong.code === code && wrong.place === place;
+  assert.throws(() => session.set("/rent", 500001n), refused(7, "Limit", 2));
+  assert.throws(() => session.set("/housing", 1n), refused(5, "WrongKind", null));
+  assert.throws(() => session.set("/note 1", "2"), refused(1, "BadLine", null));
+  assert.throws(() => session.get("/nowhere"), { name: "UnknownSlot", message: "refused 3 UnknownFact" });
+  assert.throws(() => session.get("/people/#1/born"), (wrong) => wrong instanceof UnknownSlot && wrong instanceof Refused && wrong.number === 4);
+  session.undo();
+  assert.throws(() => session.undo(), refused(13, "NothingToUndo", null));
+  session.redo();
+  assert.deepEqual(session.get("/rent"), complete(1n));
+});
+
+test("a dictionary with a fault is refused with its place", async () => {
+  const wrong = { version: "1", facts: [{ path: "/x", derived: "Int", is: ["Add", ["Int", "1"], ["Dollar", "1"]] }] };
+  await assert.rejects(Session.open(JSON.stringify(wrong)), (it) => {
+    assert.ok(it instanceof DictionaryRefused);
+    assert.deepEqual([it.number, it.code, it.fact, it.node, it.what], [12, "IllTyped", 1, 1, null]);
+    assert.equal(it.message, "dictionary refused 12 IllTyped fact 1 node 1");
+    return true;
+  });
+  await assert.rejects(Session.open(""), { message: "dictionary refused 2 NotJson" });
+  await assert.rejects(Session.open(" ".repeat(8_388_609)), { number: 1 });
+  await assert.rejects(Session.open(" ".repeat(8_388_608)), { number: 2 });
+});
+
+test("lists, overrides, undo and redo", async () => {
+  const session = await opened();
+  session.openList("/people");
+  assert.deepEqual(session.get("/people"), complete([]));
+  session.add("/people");
+  session.remove("/people", 1);
+  session.override("/housing", 777n);
+  assert.deepEqual(session.get("/housing"), complete(777n));
+  session.undo();
+  assert.equal(session.get("/housing").kind, "incomplete");
+  session.redo();
+  session.release("/housing");
+  session.set("/rent", 5n);
+  session.clear("/rent");
+  assert.equal(session.get("/rent").kind, "incomplete");
+});
+
+test("changes in a block stand together", async () => {
+  const session = await opened();
+  session.set("/rooms", 1);
+  assert.throws(() => session.changes(() => {
+    session.set("/rooms", 2);
+    session.add("/people");
+    session.changes(() => session.set("/pays", true));
+    session.line("set /share 1/2");
+    session.undo();
+    session.set("/tenure", "leases");
+  }), { message: "refused 6 BadValue" });
+  assert.deepEqual(session.get("/rooms"), complete(1));
+  assert.equal(session.get("/people").kind, "incomplete");
+  assert.equal(session.changes(() => {
+    session.set("/rooms", 3);
+    session.undo();
+    assert.throws(() => session.undo(), { number: 13 });
+    assert.equal(session.line("undo\r"), "refused 13 NothingToUndo\n");
+    session.set("/rooms", 4);
+    return 5;
+  }), 5);
+  assert.throws(() => session.changes(async () => session.set("/rooms", 6)), TypeError);
+  assert.deepEqual(session.get("/rooms"), complete(4));
+  session.undo();
+  assert.deepEqual(session.get("/rooms"), complete(1));
+});
+
+test("slots and members are those that stand", async () => {
+  const session = await opened();
+  assert.deepEqual(session.members("/people"), []);
+  session.add("/people");
+  session.add("/people");
+  assert.deepEqual(session.members("/people"), [1, 2]);
+  assert.ok(session.has("/rent") && session.has("/people/#2/born"));
+  assert.ok(!session.has("/nowhere") && !session.has("/people/#3/born"));
+  assert.deepEqual(session.slots().filter((slot) => slot.endsWith("born")), ["/people/#1/born", "/people/#2/born"]);
+  assert.equal(session.slots().length, 12 + 2 * 2);
+});
+
+test("what is missing, and what a change touched", async () => {
+  const session = await opened();
+  assert.deepEqual(session.missing("/each"), ["/rent", "/heating"]);
+  assert.equal(session.touched(), 0);
+  session.set("/rent", 5n);
+  assert.equal(session.touched(), 3);
+  assert.equal(session.stamp("/housing"), 1);
+  assert.deepEqual(session.missing("/rent"), []);
+});
+
+test("watches that fire stand in fired", async () => {
+  const session = await opened();
+  session.watch("changed", "/housing");
+  session.watch("completed", "/rent");
+  session.set("/rent", 5n);
+  assert.deepEqual(session.fired, [{ name: "changed", slot: "/housing" }, { name: "completed", slot: "/rent" }]);
+  session.unwatch("changed", "/housing");
+  session.set("/rent", 6n);
+  assert.deepEqual(session.fired, []);
+});
+
+test("saved text is loaded and carried", async () => {
+  const session = await opened();
+  session.set("/rent", 5n);
+  session.set("/note", "€");
+  const saved = session.save();
+  const again = await Session.load(DICTIONARY, saved);
+  assert.equal(again.save(), saved);
+  assert.deepEqual(again.get("/note"), complete("€"));
+  await assert.rejects(Session.load(DICTIONARY, "no saved text"), (wrong) => wrong instanceof SavedRefused && wrong.line === 1);
+  const other = JSON.parse(DICTIONARY);
+  other.facts = other.facts.filter(({ path }) => path !== "/note");
+  const carried = await Session.carry(JSON.stringify(other), saved);
+  assert.deepEqual(carried.dropped, [{ kind: "value", slot: "/note" }]);
+  assert.deepEqual(carried.get("/rent"), complete(5n));
+  const kept = await Session.carry(DICTIONARY, new TextEncoder().encode(saved));
+  assert.deepEqual(kept.dropped, []);
+});
+
+test("the dictionary tells its facts", async () => {
+  const { dictionary } = await opened();
+  assert.equal(dictionary.description, "a household");
+  assert.deepEqual(dictionary.options.get("tenure"), ["rents", "owns"]);
+  assert.deepEqual(dictionary.factAt("/rent"), {
+    path: "/rent", type: { name: "Dollar", of: null }, isWritable: true, hasPlaceholder: false, collection: null,
+    limits: [{ name: "Min", text: "0" }, { name: "Max", text: "5000" }], description: "The rent of a month",
+  });
+  assert.equal(dictionary.factAt("/people/#2/born").collection, "/people");
+  assert.deepEqual(dictionary.factAt("/old").type, { name: "Collection", of: "/people" });
+  assert.equal(dictionary.factAt("/nowhere"), undefined);
+});
+
+test("a line has the reply of the program, whatever its length", async () => {
+  const session = await opened();
+  const long = "refused 2 LongLine\n";
+  const comment = (size) => `#${"x".repeat(size - 1)}`;
+  for (const [line, due] of [
+    ["", ""], ["get /rent\n", "incomplete\n"], ["get /rent\r", "incomplete\n"], ["set /rent 1", "ok\n"],
+    [comment(4096), ""], [`${comment(4095)}\r`, ""], [`${comment(4096)}\r`, long], [comment(4097), long], [`${comment(4097)}\r`, long],
+    [`${comment(4096)}\r\r`, long], [comment(100_000), long], [`#${"€".repeat(1365)}`, ""], [`#${"€".repeat(1366)}`, long],
+    [`#${"\u{1F600}".repeat(2100)}`, long],
+  ]) assert.equal(session.line(line), due, `${line.slice(0, 20)}.. of ${line.length}`);
+  assert.throws(() => session.line("get /rent\nget /rent"), TypeError);
+});
+
+test("after quit and close no call goes through", async () => {
+  const session = await opened();
+  assert.equal(session.line("quit"), "");
+  assert.equal(session.line("get /rent"), "");
+  assert.throws(() => session.get("/rent"), SessionClosed);
+  session.close();
+  session.close();
+  assert.throws(() => session.line("get /rent"), SessionClosed);
+  assert.throws(() => session.save(), SessionClosed);
+  assert.throws(() => new Session(), TypeError);
+});
+
+test("many sessions stand side by side, and their memory is used again", async () => {
+  const engine = await Engine.load();
+  const sessions = await Promise.all(Array.from({ length: 200 }, () => Session.open(DICTIONARY, { engine })));
+  sessions.forEach((session, k) => session.set("/rooms", k));
+  sessions.forEach((session, k) => assert.deepEqual(session.get("/rooms"), complete(k)));
+  sessions.forEach((session) => session.close());
+  const size = engine.memorySize;
+  for (let k = 0; k < 1000; k++) (await Session.open(DICTIONARY, { engine })).close();
+  assert.equal(engine.memorySize, size);
+});
+
+test("memory that is capped ends in OutOfMemory, and the sessions go on", async () => {
+  const engine = await Engine.load(undefined, { maxMemory: 4_194_304 });
+  const sessions = [];
+  await assert.rejects(async () => {
+    for (;;) sessions.push(await Session.open(DICTIONARY, { engine }));
+  }, OutOfMemory);
+  assert.ok(sessions.length > 2 && engine.memorySize <= 4_194_304);
+  for (const session of sessions) {
+    session.set("/rent", 7n);
+    assert.deepEqual(session.get("/rent"), complete(7n));
+  }
+  sessions.pop().close();
+  (await Session.open(DICTIONARY, { engine })).close();
+});
+
+test("an engine is loaded of a compiled module, of bytes and of a file", async () => {
+  const file = new URL("../src/fact_graph.wasm", import.meta.url);
+  for (const source of [file, file.href, readFileSync(file), await WebAssembly.compile(readFileSync(file))]) {
+    const session = await Session.open(DICTIONARY, { engine: await Engine.load(source) });
+    assert.equal(session.get("/rent").kind, "incomplete");
+  }
+  await assert.rejects(Engine.load(new Uint8Array(8)), WebAssembly.CompileError);
+});
+
+test("amounts are printed and read exactly", () => {
+  for (const [cents, text] of [[0n, "0.00"], [5n, "0.05"], [-5n, "-0.05"], [124050n, "1240.50"], [-123456789012345n, "-1234567890123.45"]]) {
+    assert.equal(amountText(cents), text);
+    assert.equal(centsOf(text), cents);
+  }
+  assert.equal(centsOf("12"), 1200n);
+  for (const text of ["", "1.5", "1,000", " 1", "1.234", "x"]) assert.throws(() => centsOf(text), SyntaxError);
+});

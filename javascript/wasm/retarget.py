@@ -1,0 +1,113 @@
+"""Makes the text of an LLVM module for x86-64 that of one for WebAssembly with addresses of 64 bits.
+
+Sizes, layouts and calls are the same on both, so nothing but what names the processor changes. What the module may have of it is listed
+here; anything else that is of a processor, of threads or of C is refused, since it could mean something else on WebAssembly.
+"""
+
+from __future__ import annotations
+
+import re
+
+from binary import Refused
+
+TARGET = {
+    "target datalayout": (
+        "e-m:e-p270:32:32-p271:32:32-p272:64:64-i64:64-i128:128-f80:128-n8:16:32:64-S128",
+        "e-m:e-p:64:64-p10:8:8-p20:8:8-i64:64-i128:128-n32:64-S128-ni:1:10:20",
+    ),
+    "target triple": ("x86_64-unknown-linux-gnu", "wasm64-unknown-unknown"),
+}
+
+# Attributes of functions: those of the processor go, and these stay. The signature of a call through a pointer is a number.
+OF_THE_PROCESSOR = {"probe-stack", "stack-probe-size", "target-cpu", "target-features", "tune-cpu"}
+OF_ANY = {"frame-pointer", "rattle-sig"}
+
+# What the module calls without having it: the heap, and LLVM's functions that mean the same on each processor.
+HEAP = {"rattle_alloc", "rattle_realloc", "rattle_dealloc"}
+OF_LLVM = re.compile(
+    r"llvm\.(?:mem(?:set|move|cpy)\.|trap$|cttz\.|ctlz\.|ctpop\.|bswap\.|abs\.|fsh[lr]\.|[us](?:min|max)\."
+    r"|[us](?:add|sub|mul)\.(?:with\.overflow|sat)\.|assume$|expect\.|vector\.reduce\.)"
+)
+
+# pshufb takes the low 4 bits of a place, and gives 0 where its high bit is set; swizzle gives 0 from 16 on.
+SHUFFLE, SWIZZLE = "llvm.x86.ssse3.pshuf.b.128", {True: "llvm.wasm.swizzle", False: "swizzle"}
+AS_SWIZZLE = """
+declare <16 x i8> @{swizzle}(<16 x i8>, <16 x i8>)
+define internal <16 x i8> @shuffled(<16 x i8> %table, <16 x i8> %places) alwaysinline nounwind {{
+  %cut = and <16 x i8> %places, splat (i8 143)
+  %found = call <16 x i8> @{swizzle}(<16 x i8> %table, <16 x i8> %cut)
+  ret <16 x i8> %found
+}}
+"""
+
+# The fence keeps LLVM from moving arithmetic over it. WebAssembly has none: a call into another object file is as good.
+FENCE, AS_FENCE = "llvm.arithmetic.fence.f64", "fence_of_arithmetic"
+
+# Words of LLVM's text that mean a processor, threads or C, or what none of the engine's code has.
+UNKNOWN = re.compile(
+    r"\b(?:x86_\w+|asm|thread_local|atomicrmw|cmpxchg|(?:load|store) atomic|fence|addrspace|callbr|invoke|landingpad|va_arg"
+    r"|blockaddress|ifunc|comdat|section|gc|prologue|musttail)\b"
+)
+TEXT_OF_A_CONSTANT = re.compile(r'c"[^"]*"')
+NAME = re.compile(r'[@%!](?:"[^"]*"|[\w.$-]+)')
+
+
+def retargeted(text: str, has_vectors: bool) -> str:
+    """The module for WebAssembly, whose instructions on vectors are there or not."""
+    text = without_fence(without_shuffle(without_processor(for_target(text)), has_vectors))
+    refuse_unknown(text, has_vectors)
+    return text
+
+
+def for_target(text: str) -> str:
+    """Names the other target."""
+    for word, (old, new) in TARGET.items():
+        found = re.findall(rf'^{word} = "(.*)"$', text, flags=re.MULTILINE)
+        if found != [old]:
+            raise Refused(f"the module has {word} {found}, and not {old}")
+        text = text.replace(f'{word} = "{old}"', f'{word} = "{new}"')
+    return text
+
+
+def without_processor(text: str) -> str:
+    """Takes the attributes of the processor away."""
+
+    def change(line: re.Match[str]) -> str:
+        for name in re.findall(r'"([^"]*)"(?:="[^"]*")?', line[0]):
+            if name not in OF_THE_PROCESSOR | OF_ANY:
+                raise Refused(f"the module has an attribute {name}")
+        return re.sub(rf' "(?:{"|".join(OF_THE_PROCESSOR)})"="[^"]*"', "", line[0])
+
+    return re.sub(r"^attributes #\d+ = .*$", change, text, flags=re.MULTILINE)
+
+
+def without_declaration(text: str, name: str) -> str:
+    """Takes a declared function away."""
+    return re.sub(rf"^declare [^\n]*@{re.escape(name)}\(.*$", "", text, flags=re.MULTILINE)
+
+
+def without_shuffle(text: str, has_vectors: bool) -> str:
+    """Writes x86's shuffle as WebAssembly's, or as a call of the runtime's function."""
+    if f"@{SHUFFLE}" not in text:
+        return text
+    text = without_declaration(text, SHUFFLE).replace(f"@{SHUFFLE}", "@shuffled")
+    return text + AS_SWIZZLE.format(swizzle=SWIZZLE[has_vectors])
+
+
+def without_fence(text: str) -> str:
+    """Writes the fence of arithmetic as a call of the runtime's function."""
+    if f"@{FENCE}" not in text:
+        return text
+    text = without_declaration(text, FENCE).replace(f"@{FENCE}", f"@{AS_FENCE}")
+    return text + f"\ndeclare double @{AS_FENCE}(double) nounwind\n"
+
+
+def refuse_unknown(text: str, has_vectors: bool) -> None:
+    """Stops at what isn't known."""
+    known = HEAP | {AS_FENCE, SWIZZLE[has_vectors]}
+    for name in re.findall(r"^declare [^\n]*?@([\w.]+)\(", text, flags=re.MULTILINE):
+        if name not in known and not OF_LLVM.match(name):
+            raise Refused(f"the module declares {name}")
+    found = UNKNOWN.search(NAME.sub("", TEXT_OF_A_CONSTANT.sub("c", text)))
+    if found:
+        raise Refused(f"the module has {found[0]}")

@@ -1,0 +1,81 @@
+"""`fact-graph page`: an interview as a folder of static files, which needs no server."""
+
+from __future__ import annotations
+
+import hashlib
+import json
+import re
+import shutil
+from pathlib import Path
+
+import click
+
+from ..status import Status
+from ._failures import Failed
+
+ENGINE = Path(__file__).resolve().parents[3] / "javascript"
+MODULE = "fact_graph.wasm"
+FOLDER = click.Path(file_okay=False, path_type=Path)
+POLICY = (
+    "default-src 'none'; script-src 'self' 'wasm-unsafe-eval'; style-src 'self'; connect-src 'self'; img-src 'self' data:; "
+    "base-uri 'none'; form-action 'none'"
+)
+# What differs from the service's page: which engine it opens, and what its head says.
+ENGINE_OF_SERVICE, ENGINE_OF_PAGE = "./http_engine.js", "./browser_engine.js"
+TOKEN = re.compile(r'<meta name="token" content="[^"]*">')
+
+
+@click.command()
+@click.argument("file", type=click.Path(exists=True, dir_okay=False, path_type=Path))
+@click.option("--out", required=True, metavar="DIR", type=FOLDER, help="The folder that is written; it isn't there, or is empty.")
+@click.option("--engine", metavar="DIR", default=ENGINE, type=FOLDER, help="The JavaScript package, with its built module.")
+def command(file: Path, out: Path, engine: Path) -> None:
+    """Writes the interview over the dictionary in FILE as a folder of static files.
+
+    Any host serves it, and the engine runs in the visitor's browser: the answers stay there, in its storage, until the visitor erases
+    them. They are sent nowhere.
+    """
+    try:
+        from fact_graph_service import form as service  # pylint: disable=import-outside-toplevel # this command alone needs it
+    except ModuleNotFoundError as missing:
+        raise Failed(Status.NOT_INSTALLED, f"page needs {missing.name}: install 'fact-graph[serve]' by pip") from missing
+    if not (engine / "src" / MODULE).is_file():
+        raise Failed(Status.NOT_INSTALLED, f"{engine / 'src'} has no {MODULE}: javascript/wasm/build_wasm.py builds it")
+    if out.exists() and any(out.iterdir()):
+        raise Failed(Status.USAGE, f"{out} isn't empty")
+    try:
+        form = service.Form.open(file)
+    except service.FormWrong as wrong:
+        raise Failed(Status.USAGE, str(wrong)) from wrong
+    page = Path(service.__file__).with_name("page")
+    out.mkdir(parents=True, exist_ok=True)
+    shutil.copytree(page, out / "page", ignore=shutil.ignore_patterns("index.html", "http_engine.js", "main.js"))
+    shutil.copy(engine / "page" / "browser_engine.js", out / "page")
+    shutil.copytree(engine / "src", out / "engine")
+    out.joinpath("page", "main.js").write_text(replaced((page / "main.js").read_text(encoding="utf-8"), ENGINE_OF_SERVICE, ENGINE_OF_PAGE), encoding="utf-8")
+    out.joinpath("index.html").write_text(head_of_its_own((page / "index.html").read_text(encoding="utf-8")), encoding="utf-8")
+    out.joinpath("dictionary.json").write_bytes(form.text)
+    described = {"id": hashlib.sha256(form.text).hexdigest()[:16], **form.described()}
+    out.joinpath("form.json").write_text(json.dumps(described, ensure_ascii=False), encoding="utf-8")
+
+
+def replaced(text: str, old: str, new: str) -> str:
+    """A text with another word in the one place where it stands.
+
+    >>> replaced('import "./http_engine.js";', "./http_engine.js", "./browser_engine.js")
+    'import "./browser_engine.js";'
+    """
+    before, found, behind = text.partition(old)
+    assert found and old not in behind, f"{old} stands in one place"
+    return before + new + behind
+
+
+def head_of_its_own(html: str) -> str:
+    """The page's text, which says itself what it may load, and has no token.
+
+    >>> head_of_its_own('<meta name="token" content="{token}">').startswith('<meta http-equiv="Content-Security-Policy"')
+    True
+    """
+    found = TOKEN.search(html)
+    assert found, "the page has a place for the token"
+    return replaced(html, found[0], f'<meta http-equiv="Content-Security-Policy" content="{POLICY}">')

@@ -1,0 +1,316 @@
+"""Faults of the form: what has none, what there is too much of, and what stands too deep."""
+
+from __future__ import annotations
+
+import re
+from collections.abc import Iterator
+from typing import Any
+
+from ..expressions import NODES, FactTree, Node
+from ..located import Pointer
+from .finding import Finding, listed, nearest, shown
+
+NAME = re.compile(r"[A-Za-z][A-Za-z0-9_-]{0,63}")
+NAME_RULE = "a name begins with a letter and has at most 64 letters, digits, `_` and `-`"
+SCALARS = ("Boolean", "Int", "Dollar", "Rational", "Day", "Text")
+STATED = re.compile(r"(Enum|Collection|Item)\((.*)\)", re.DOTALL)
+
+TOP_KEYS = ("version", "description", "enums", "facts")
+WRITABLE_KEYS = ("path", "writable", "limits", "placeholder", "description")
+DERIVED_KEYS = ("path", "derived", "is", "conditional", "placeholder", "description")
+FACT_KEYS = tuple(dict.fromkeys(WRITABLE_KEYS + DERIVED_KEYS))
+LIMITS = ("Min", "Max", "MaxLength", "Check")
+
+OTHER_NAMES = {
+    "and": "All", "or": "Any", "if": "Switch", "when": "Switch", "plus": "Add", "sum": "Add", "minus": "Subtract", "times": "Multiply",
+    "max": "GreaterOf", "maximum": "GreaterOf", "min": "LesserOf", "minimum": "LesserOf", "ref": "Dependency", "year": "YearOf",
+    "size": "CollectionSize", "greater": "GreaterThan", "less": "LessThan", "boolean": "True", "money": "Dollar", "amount": "Dollar",
+    "currency": "Dollar", "integer": "Int", "number": "Int", "decimal": "Rational", "float": "Rational", "fraction": "Rational",
+    "date": "Day", "string": "Text", "bool": "Boolean", "choice": "Enum", "option": "Enum", "list": "Collection",
+}  # fmt: skip
+"""Words that makers write for a node or a type, and what stands for them here."""
+
+MOST = {
+    1: (2_000, "facts"),
+    2: (40_000, "nodes"),
+    3: (32, "writable collections"),
+    4: (200, "lists of options"),
+    5: (100, "options in one list"),
+    6: (8, "limits of one fact"),
+}
+"""By the number that a fault TooMany tells: how many there may be, and of what."""
+MOST_DEPTH = 48
+
+
+def misforms(value: Any) -> Iterator[Finding]:
+    """What of a dictionary has no form: first what stands outside the facts, then each fact."""
+    yield from (it._replace(fact=0) for it in _top(value))
+    facts = value.get("facts") if isinstance(value, dict) else None
+    is_later = isinstance(value, dict) and value.get("version") == "2"
+    for at, fact in enumerate(facts if isinstance(facts, list) else []):
+        yield from (it._replace(fact=at + 1) for it in _fact(fact, ("facts", at), is_later))
+
+
+def _misform(pointer: Pointer, reason: str, hint: str = "", *, is_key: bool = False, related: tuple[Pointer, ...] = ()) -> Finding:
+    return Finding("Shape", pointer, reason, hint, is_key=is_key, related=related)
+
+
+def _kind(value: Any) -> str:
+    """What a value is, in words."""
+    for kind, words in ((str, "a text"), (list, "a list"), (dict, "an object in braces")):
+        if isinstance(value, kind):
+            return words
+    return f"`{shown(value)}`" if value is None or isinstance(value, bool) else f"the number {shown(value)}"
+
+
+def _text(value: Any, pointer: Pointer, what: str) -> Iterator[Finding]:
+    if not isinstance(value, str):
+        is_plain = isinstance(value, (int, float, bool))
+        yield _misform(pointer, f"{what} is a text, and this is {_kind(value)}", f'write "{shown(value)}"' if is_plain else "")
+
+
+def _keys(members: dict[str, Any], pointer: Pointer, known: tuple[str, ...], needed: tuple[str, ...], whose: str) -> Iterator[Finding]:
+    """Keys that aren't known, and keys that are missing."""
+    for key in members:
+        if key not in known:
+            like = nearest(key, [it for it in known if it not in members])
+            hint = f"`{like}` is like it" if like else f"{whose} has {listed(known, 'and')}"
+            yield _misform((*pointer, key), f"{whose} has no key `{key}`", hint, is_key=True)
+    for key in needed:
+        if key not in members:
+            yield _misform(pointer, f"{whose} needs the key `{key}`")
+
+
+# ---- outside the facts
+
+
+def _top(value: Any) -> Iterator[Finding]:
+    if not isinstance(value, dict):
+        yield _misform((), f"a dictionary is an object in braces, and this is {_kind(value)}", '{"version":"1","facts":[ .. ]}')
+        return
+    yield from _keys(value, (), TOP_KEYS, ("version", "facts"), "a dictionary")
+    if value.get("version", "1") not in ("1", "2"):
+        yield _misform(("version",), f"there is no version {shown(value['version'])}", 'write "1", or "2" for `conditional`')
+    yield from _text(value.get("description", ""), ("description",), "a description")
+    if not isinstance(value.get("facts", []), list):
+        yield _misform(("facts",), f"the facts are a list, and this is {_kind(value['facts'])}")
+    enums = value.get("enums", [])
+    if not isinstance(enums, list):
+        yield _misform(("enums",), f"the lists of options are a list, and this is {_kind(enums)}", '"enums":[{"name":"size","options":["small","large"]}]')
+        return
+    named: dict[str, int] = {}
+    for at, enum in enumerate(enums):
+        yield from _enum(enum, ("enums", at))
+        name = enum.get("name") if isinstance(enum, dict) else None
+        if isinstance(name, str) and named.setdefault(name, at) != at:
+            yield _misform(("enums", at, "name"), f"an earlier list of options is named `{name}`, too", related=(("enums", named[name], "name"),))
+
+
+def _enum(enum: Any, pointer: Pointer) -> Iterator[Finding]:
+    if not isinstance(enum, dict):
+        yield _misform(pointer, f"a list of options is an object in braces, and this is {_kind(enum)}", '{"name":"size","options":["small","large"]}')
+        return
+    yield from _keys(enum, pointer, ("name", "options"), ("name", "options"), "a list of options")
+    if "name" in enum:
+        yield from _name(enum["name"], (*pointer, "name"), "the name of a list of options")
+    options = enum.get("options", [""])
+    if not isinstance(options, list):
+        yield _misform((*pointer, "options"), f"the options are a list of texts, and this is {_kind(options)}")
+        return
+    if not options:
+        yield _misform((*pointer, "options"), "a list of options has one option at least")
+    for at, option in enumerate(options if "options" in enum else []):
+        yield from _name(option, (*pointer, "options", at), "an option")
+        if option in options[:at]:
+            yield _misform((*pointer, "options", at), f"the option {shown(option)} stands twice", related=((*pointer, "options", options.index(option)),))
+
+
+def _name(value: Any, pointer: Pointer, what: str) -> Iterator[Finding]:
+    yield from _text(value, pointer, what)
+    if isinstance(value, str) and not NAME.fullmatch(value):
+        like = re.sub(r"^[^A-Za-z]*", "", re.sub(r"[^A-Za-z0-9_-]+", "-", value)).strip("-")[:64]
+        yield _misform(pointer, f"{what} is a name, and {shown(value)} is none: {NAME_RULE}", f'"{like}" is one' if like else "")
+
+
+# ---- a fact
+
+
+def _fact(fact: Any, pointer: Pointer, is_later: bool) -> Iterator[Finding]:
+    if not isinstance(fact, dict):
+        yield _misform(pointer, f"a fact is an object in braces, and this is {_kind(fact)}", '{"path":"/rent","writable":"Dollar"}')
+        return
+    is_writable = "writable" in fact and ("derived" not in fact or "is" not in fact)
+    yield from _keys_of_fact(fact, pointer, is_writable, is_later)
+    for key, what in (("path", "a path"), ("description", "a description")):
+        yield from _text(fact.get(key, ""), (*pointer, key), what)
+    for key in ("writable", "derived"):
+        if key in fact and (key == "writable") == is_writable:
+            yield from _type(fact[key], (*pointer, key), is_writable)
+    if is_writable:
+        yield from _limits(fact.get("limits", []), (*pointer, "limits"))
+    elif "is" in fact:
+        yield from _expression(fact["is"], (*pointer, "is"))
+    if "conditional" in fact and not is_writable:
+        yield from _conditional(fact["conditional"], (*pointer, "conditional"))
+    if "placeholder" in fact:
+        yield from _expression(fact["placeholder"], (*pointer, "placeholder"))
+
+
+def _keys_of_fact(fact: dict[str, Any], pointer: Pointer, is_writable: bool, is_later: bool) -> Iterator[Finding]:
+    if "writable" not in fact and "derived" not in fact:
+        like = nearest("writable", fact) or nearest("derived", fact)
+        if not like:
+            yield _misform(pointer, "a fact needs the key `writable`, or `derived` and `is`")
+    known = WRITABLE_KEYS if is_writable else DERIVED_KEYS
+    whose = "a writable fact" if is_writable else "a derived fact"
+    needed = ("path", "writable") if is_writable else ("path", "derived", "is") if "derived" in fact else ("path",)
+    if "writable" in fact and not is_writable:
+        yield _misform((*pointer, "writable"), "a fact is writable or derived, and not both", "drop `writable`, or `derived` and `is`", is_key=True)
+        fact = {key: value for key, value in fact.items() if key != "writable"}
+    if "derived" not in fact and "writable" not in fact:
+        known, whose = FACT_KEYS, "a fact"
+    yield from _keys(fact, pointer, known, needed, whose)
+    if "conditional" in fact and not is_writable and not is_later:
+        yield _misform((*pointer, "conditional"), "`conditional` is of version 2", 'write "version":"2"', is_key=True, related=(("version",),))
+
+
+def _type(value: Any, pointer: Pointer, is_writable: bool) -> Iterator[Finding]:
+    yield from _text(value, pointer, "a type")
+    if not isinstance(value, str) or value in SCALARS or (is_writable and value == "Collection"):
+        return
+    stated = STATED.fullmatch(value)
+    if stated and stated[1] == "Enum":
+        if not NAME.fullmatch(stated[2]):
+            yield _misform(pointer, f"`{stated[2]}` is no name of a list of options: {NAME_RULE}")
+    elif stated and is_writable:
+        hint = "write `Collection`, or derive the fact" if stated[1] == "Collection" else "derive the fact by a Find"
+        yield _misform(pointer, f"a writable fact is no {shown(value)}", hint)
+    elif not stated:
+        yield _misform(pointer, f"there is no type {shown(value)}{'' if is_writable else ' of a derived fact'}", _type_like(value, is_writable))
+
+
+def _type_like(value: str, is_writable: bool) -> str:
+    more = ("Enum(..)", "Collection") if is_writable else ("Enum(..)", "Collection(/..)", "Item(/..)")
+    like = OTHER_NAMES.get(value.lower()) or nearest(value.partition("(")[0], (*SCALARS, *(it.partition("(")[0] for it in more)))
+    whole = {it.partition("(")[0]: it for it in more}.get(like or "", like)
+    return f"`{whole}` is like it" if whole in (*SCALARS, *more) else f"types are {listed((*SCALARS, *more), 'and')}"
+
+
+def _limits(limits: Any, pointer: Pointer) -> Iterator[Finding]:
+    if not isinstance(limits, list):
+        yield _misform(pointer, f"limits are a list of pairs, and this is {_kind(limits)}", '[["Min","0"]]')
+        return
+    for at, limit in enumerate(limits):
+        here = (*pointer, at)
+        if not isinstance(limit, list) or len(limit) != 2:
+            yield _misform(here, f"a limit is a pair of a name and a text, and this is {shown(limit)}", '["Min","0"]')
+            continue
+        if limit[0] not in LIMITS:
+            yield _misform((*here, 0), f"there is no limit {shown(limit[0])}", f"there are {listed(LIMITS, 'and')}")
+        yield from _text(limit[1], (*here, 1), "the bound of a limit")
+
+
+def _conditional(value: Any, pointer: Pointer) -> Iterator[Finding]:
+    if not isinstance(value, list) or len(value) != 2:
+        yield _misform(pointer, f"a conditional is a list of a test and a value, and this is {shown(value)}", '[["Dependency","/isExempt"],["Dollar","0"]]')
+        return
+    for at, part in enumerate(value):
+        yield from _expression(part, (*pointer, at))
+
+
+# ---- an expression
+
+
+def _expression(value: Any, pointer: Pointer) -> Iterator[Finding]:
+    if not isinstance(value, list):
+        yield _misform(pointer, f"an expression is a list that begins with the name of a node, and this is {_kind(value)}", _as_node(value))
+        return
+    name = value[0] if value else None
+    if not isinstance(name, str):
+        yield _misform(pointer, f"an expression begins with the name of a node, and this with {shown(name) if value else 'nothing'}")
+        return
+    if name not in NODES:
+        yield _misform((*pointer, 0), f"there is no node `{name}`", _node_like(name))
+        return
+    form = NODES[name]
+    parts = value[1:]
+    if len(parts) < len(form.parts) or (len(parts) > len(form.parts) and not form.more):
+        yield _misform(pointer, f"`{name}` takes {form}, and has {len(parts) or 'none'}", _instead(name, len(parts)))
+    for at, part in enumerate(parts):
+        what = form.part(at)
+        here = (*pointer, at + 1)
+        if what in ("path", "text"):
+            yield from _text(part, here, "a path" if what == "path" else "the text of a constant" if name != "Enum" else "the name of a list or an option")
+        elif what == "case":
+            yield from _case(part, here)
+        elif what == "operand":
+            yield from _expression(part, here)
+
+
+def _as_node(value: Any) -> str:
+    """How a maker may have meant a value that is no node."""
+    if isinstance(value, bool):
+        return f'write ["{value}"]'
+    if isinstance(value, int):
+        return f'write ["Int","{value}"], or ["Dollar","{value}"]'
+    if isinstance(value, str):
+        return f'write ["Dependency","{value}"]' if "/" in value else f'write ["Text",{shown(value)}]'
+    return ""
+
+
+def _node_like(name: str) -> str:
+    like = OTHER_NAMES.get(name.lower()) or nearest(name, NODES)
+    if name == "Case":
+        return "a Case stands in a Switch"
+    return f"`{like}` is like it" if like in NODES else ""
+
+
+def _instead(name: str, count: int) -> str:
+    if name in ("Multiply",) and count > 2:
+        return "multiply two, and the product by the third"
+    if name == "Not" and count > 1:
+        return "put the operands into an Any or an All"
+    return ""
+
+
+def _case(value: Any, pointer: Pointer) -> Iterator[Finding]:
+    if not isinstance(value, list) or len(value) != 3 or value[0] != "Case":
+        yield _misform(pointer, f"in a Switch stand cases of a test and a value, and this is {shown(value)}", '["Case",["True"],["Int","1"]]')
+        return
+    for side in (1, 2):
+        yield from _expression(value[side], (*pointer, side))
+
+
+# ---- how much there is
+
+
+def excesses(value: dict[str, Any], trees: list[FactTree]) -> Iterator[Finding]:
+    """What there is too much of, and the facts with a node that stands too deep. The trees are those of the facts that have a form."""
+    enums = value.get("enums", [])
+    yield from _excess(1, [tree.pointer for tree in trees])
+    yield from _excess(2, [node.pointer for tree in trees for node in tree.nodes()])
+    yield from _excess(3, [tree.pointer for tree in trees if tree.is_writable and tree.stated == "Collection"])
+    yield from _excess(4, [("enums", at) for at in range(len(enums))])
+    for at, enum in enumerate(enums):
+        yield from _excess(5, [("enums", at, "options", option) for option in range(len(enum["options"]))])
+    for tree in trees:
+        yield from _excess(6, [(*tree.pointer, "limits", at) for at in range(len(tree.limits))])
+    for tree in trees:
+        deep = next((node for root in tree.roots for node in _below(root, MOST_DEPTH)), None)
+        if deep:
+            yield Finding("TooDeep", deep.pointer, f"this node stands more than {MOST_DEPTH} deep", fact=tree.number)
+
+
+def _excess(what: int, pointers: list[Pointer]) -> Iterator[Finding]:
+    most, of_what = MOST[what]
+    if len(pointers) > most:
+        yield Finding("TooMany", pointers[most], f"{len(pointers):,} {of_what}, and there may be {most:,}: here is the first too many", what=what)
+
+
+def _below(node: Node, levels: int) -> Iterator[Node]:
+    """The nodes right below so many levels of nodes."""
+    if levels == 0:
+        yield node
+        return
+    for operand in node.operands:
+        yield from _below(operand, levels - 1)

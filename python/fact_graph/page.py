@@ -1,0 +1,139 @@
+"""What a maker says of an interview's page: its title, which figures it shows, and the words by which it asks.
+
+Beside the rules in `NAME.json` a file `NAME.page` says so. Where there is none, or it is silent, the figures are the derived
+facts on which no other rests, and the words are made of the facts' names.
+
+    >>> page = Page("Help with the bill", ("/help",), {"/help": "Amount of help"})
+    >>> page.label("/help"), page.label("/people/#2/bornOn")
+    ('Amount of help', 'Born on')
+"""
+
+from __future__ import annotations
+
+import json
+import re
+from collections.abc import Iterable, Iterator
+from pathlib import Path
+from typing import Any, NamedTuple
+
+from .dictionary import Dictionary, path_of
+from .faults.finding import listed, nearest, shown
+from .graph import facts, figures
+from .located import Pointer
+
+KEYS = ("title", "language", "layout", "figures", "questions", "labels", "help", "sources", "options")
+CHOICES = {"language": ("en", "es"), "layout": ("all", "one")}
+"""What is one of a few words."""
+
+
+class Page(NamedTuple):
+    """A title, the paths of the figures, and labels by path; that of `/people/*` is the word for a member of `/people`."""
+
+    title: str
+    figures: tuple[str, ...]
+    labels: dict[str, str]
+
+    @classmethod
+    def over(cls, text: bytes, stated: dict[str, Any]) -> Page:
+        """That of a dictionary, with what is stated of it."""
+        title = stated.get("title") or json.loads(text).get("description") or "Interview"
+        return cls(title, tuple(stated.get("figures") or figures(facts(text))), stated.get("labels", {}))
+
+    def label(self, slot: str) -> str:
+        """The words for a slot."""
+        path = path_of(slot)
+        return self.labels.get(path) or words_of(path.rpartition("/")[2])
+
+    def member(self, collection: str) -> str:
+        """The word for a member of a collection."""
+        return self.labels.get(f"{collection}/*") or f"Member of {words_of(collection[1:]).lower()}"
+
+
+def page_beside(name: str) -> Path | None:
+    """The file of the page beside that of the rules, where there is one."""
+    path = Path(name).with_suffix(".page") if name != "-" else None
+    return path if path and path.is_file() else None
+
+
+def words_of(name: str) -> str:
+    """A name as words.
+
+    >>> words_of("bornOn")
+    'Born on'
+    """
+    words = re.sub(r"[_-]+|(?<=[a-z0-9])(?=[A-Z])", " ", name).split()
+    return " ".join(word if word.isupper() else word.lower() for word in words).capitalize()
+
+
+class Misstated(NamedTuple):
+    """What is wrong with a page, and where."""
+
+    pointer: Pointer
+    reason: str
+    hint: str = ""
+    is_key: bool = False
+
+
+def misstated(stated: Any, dictionary: Dictionary) -> Iterator[Misstated]:
+    """What is wrong with what is stated of a page over a dictionary.
+
+    >>> nothing = Dictionary({}, {}, "")
+    >>> [(it.reason, it.hint) for it in misstated({"titel": "Help"}, nothing)]
+    [('a page has no key `titel`', '`title` is like it')]
+    """
+    if not isinstance(stated, dict):
+        yield Misstated((), f"a page is an object in braces, and this is {shown(stated)}")
+        return
+    for key in stated:
+        if key not in KEYS:
+            like = nearest(key, KEYS)
+            yield Misstated((key,), f"a page has no key `{key}`", f"`{like}` is like it" if like else f"it has {listed(KEYS, 'and')}", True)
+    if not isinstance(stated.get("title", ""), str):
+        yield Misstated(("title",), "a title is a text")
+    for key, words in CHOICES.items():
+        if stated.get(key, words[0]) not in words:
+            yield Misstated((key,), f"the {key} is {listed(words, 'or')}, and not {shown(stated[key])}")
+    for key in ("figures", "questions"):
+        yield from _paths(key, stated.get(key, []), dictionary)
+    members = [f"{path}/*" for path, fact in dictionary.facts.items() if fact.type == ("Collection", None)]
+    others: dict[str, list[str]] = {"labels": members, "help": [], "sources": []}
+    for key, more in others.items():
+        yield from _texts((key,), stated.get(key, {}), "fact", [*dictionary.facts, *more])
+    yield from _options(stated.get("options", {}), dictionary)
+
+
+def _paths(key: str, stated: Any, dictionary: Dictionary) -> Iterator[Misstated]:
+    if not isinstance(stated, list):
+        yield Misstated((key,), f"the {key} are a list of paths")
+        return
+    for at, path in enumerate(stated):
+        if not isinstance(path, str) or path not in dictionary.facts:
+            yield Misstated((key, at), f"there is no fact {shown(path)}", _like(path, dictionary.facts))
+
+
+def _texts(at: Pointer, stated: Any, what: str, known: Iterable[str]) -> Iterator[Misstated]:
+    """Texts by the names of what is known."""
+    if not isinstance(stated, dict):
+        yield Misstated(at, f"the {at[0]} are an object of texts by {'path' if what == 'fact' else what}")
+        return
+    for name, text in stated.items():
+        if name not in known:
+            yield Misstated((*at, name), f"there is no {what} {shown(name)}", _like(name, known), True)
+        if not isinstance(text, str):
+            yield Misstated((*at, name), f"a text belongs here, and this is {shown(text)}")
+
+
+def _options(stated: Any, dictionary: Dictionary) -> Iterator[Misstated]:
+    if not isinstance(stated, dict):
+        yield Misstated(("options",), "the options are an object of texts by option for each list")
+        return
+    for name, texts in stated.items():
+        if name not in dictionary.options:
+            yield Misstated(("options", name), f"there is no list {shown(name)}", _like(name, dictionary.options), True)
+        else:
+            yield from _texts(("options", name), texts, "option", dictionary.options[name])
+
+
+def _like(path: Any, known: Iterable[str]) -> str:
+    like = nearest(path, known) if isinstance(path, str) else None
+    return f"`{like}` is like it" if like else ""

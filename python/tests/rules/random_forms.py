@@ -1,0 +1,123 @@
+"""Random dictionaries that have the form of one: all else may be wrong with them."""
+
+from __future__ import annotations
+
+from collections.abc import Callable
+from random import Random
+from typing import Any
+
+Node = list[Any]
+
+ENUMS = {"tenure": ["rents", "owns", "none"], "outcome": ["full", "none", "away", "complete"], "if": ["then", "table"]}
+FACTS = {
+    "/a": "Int", "/b": "Dollar", "/tenure": "Enum(tenure)", "/outcome": "Enum(outcome)", "/people": "Collection", "/people/*/born": "Day",
+    "/people/*/away": "Boolean", "/people/*/status": "Enum(outcome)", "/people/*/where": "Enum(tenure)",
+}  # fmt: skip
+"""Facts that most paths name."""
+PATHS = [
+    *FACTS, "/adults", "/eldest", "../born", "../status", "../partner/status", "/eldest/status", "/adults/*/wages", "born", "status", "away", "full",
+    "none", "where", "if", "complete", "Int", "/1", "//", "", "/a/b/c", "../a/*/b", "a b", "..", "/people/*", "`", "#", "\u202e", '"', "\\", "\n",
+]  # fmt: skip
+TYPES = ["Boolean", "Int", "Dollar", "Rational", "Day", "Text", "Enum(tenure)", "Enum(outcome)", "Enum(if)", "Enum(gone)"]
+WRITABLE = [*TYPES, "Collection"]
+DERIVED = [*TYPES, "Collection(/people)", "Item(/people)", "Item(people)", "Collection()", "Item(a) (b)"]
+TEXTS = [
+    "0", "1", "-5", "007", "1.50", "-0", "18000", "-1234567.89", "2024-02-29", "1/2", "12/100", "007/100", "-3/4", "2", "5.5", "", "+1", "a b", "#",
+    '"', "\\n", "\n", "\t", "é", "\u202e", "\U0001f600", "\x00", "from", "to", "limit", "placeholder", "nine-digits", "digits",
+]  # fmt: skip
+CONSTANTS = ["Int", "Dollar", "Rational", "Day", "Text"]
+OVER = ["Dependency", "Dependency", "Dependency", "IsComplete", "CollectionSize", "CollectionSum", "Count"]
+COMPARISONS = ["Equal", "NotEqual", "LessThan", "LessThanOrEqual", "GreaterThan", "GreaterThanOrEqual"]
+MOST_NODES = 24
+
+
+class Forms:
+    """Makes dictionaries by random choices."""
+
+    def __init__(self, random: Random) -> None:
+        self.random = random
+        self.left = 0
+
+    def dictionary(self) -> dict[str, Any]:
+        """A dictionary of a few facts, mostly behind those that paths name."""
+        version = self.random.choice(["1", "2"])
+        dictionary: dict[str, Any] = {"version": version}
+        if self.random.random() < 0.5:
+            dictionary["description"] = self.random.choice(TEXTS)
+        if self.random.random() < 0.7:
+            dictionary["enums"] = [{"name": name, "options": options} for name, options in ENUMS.items()]
+        named = [{"path": path, "writable": stated} for path, stated in FACTS.items()] if self.random.random() < 0.7 else []
+        dictionary["facts"] = [*named, *(self.fact(version) for _ in range(self.random.randint(0, 3)))]
+        self.random.shuffle(dictionary["facts"])
+        return dictionary
+
+    def fact(self, version: str) -> dict[str, Any]:
+        """A fact, which a person answers or which follows."""
+        fact: dict[str, Any] = {"path": self.random.choice(PATHS)}
+        if self.random.random() < 0.3:
+            fact["writable"] = self.random.choice(WRITABLE)
+            if self.random.random() < 0.7:
+                kinds = self.random.choices(["Min", "Max", "MaxLength", "Check"], k=self.random.randint(1, 4))
+                fact["limits"] = [[kind, self.random.choice(TEXTS)] for kind in kinds]
+        else:
+            fact |= {"derived": self.random.choice(DERIVED), "is": self.expression()}
+            if version == "2" and self.random.random() < 0.4:
+                fact["conditional"] = [self.expression(), self.expression()]
+        if self.random.random() < 0.3:
+            fact["placeholder"] = self.expression()
+        if self.random.random() < 0.3:
+            fact["description"] = self.random.choice(TEXTS)
+        return fact
+
+    def expression(self) -> Node:
+        """An expression of at most a few nodes."""
+        self.left = self.random.choice([1, 3, 8, MOST_NODES])
+        return self.node()
+
+    def node(self) -> Node:
+        """A node, and those below it; a leaf once there are enough."""
+        self.left -= 1
+        if self.left <= 0 or self.random.random() < 0.2:
+            return self.leaf()
+        make: Callable[[], Node] = self.random.choice([self.many, self.many, self.switch, self.one, self.two, self.compared, self.pick])
+        return make()
+
+    def leaf(self) -> Node:
+        """A constant, or what reads facts."""
+        match self.random.randrange(4):
+            case 0:
+                return [self.random.choice(CONSTANTS), self.random.choice(TEXTS)]
+            case 1:
+                name = self.random.choice(list(ENUMS))
+                return ["Enum", name, self.random.choice([*ENUMS[name], "gone", "a b"])]
+            case 2:
+                return [self.random.choice(["True", "False"])]
+        return [self.random.choice(OVER), self.random.choice(PATHS)]
+
+    def many(self) -> Node:
+        """A node of one operand or more."""
+        name = self.random.choice(["All", "Any", "Add", "Subtract", "GreaterOf", "LesserOf"])
+        return [name, *(self.node() for _ in range(self.random.randint(2 if name == "Subtract" else 1, 4)))]
+
+    def switch(self) -> Node:
+        """A Switch, whose last test is often true."""
+        cases = [["Case", self.node(), self.node()] for _ in range(self.random.randint(1, 3))]
+        if self.random.random() < 0.5:
+            cases[-1][1] = ["True"]
+        return ["Switch", *cases]
+
+    def one(self) -> Node:
+        """A node of one operand."""
+        return [self.random.choice(["Not", "Round", "YearOf"]), self.node()]
+
+    def two(self) -> Node:
+        """A node of two operands."""
+        return [self.random.choice(["Multiply", "Divide", "AddDays", *COMPARISONS]), self.node(), self.node()]
+
+    def compared(self) -> Node:
+        """A fact that is compared with a leaf, often with an option of its list."""
+        return [self.random.choice(["Equal", "NotEqual"]), ["Dependency", self.random.choice(PATHS)], self.leaf()]
+
+    def pick(self) -> Node:
+        """A choice of members."""
+        return [self.random.choice(["Filter", "Find"]), self.random.choice(PATHS), self.node()]

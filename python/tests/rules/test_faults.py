@@ -1,0 +1,116 @@
+"""What is said of a text that isn't one of rules, and where the faults of a dictionary stand in its text."""
+
+from __future__ import annotations
+
+from pathlib import Path
+
+import pytest
+
+from fact_graph import DictionaryRefused, Session
+from fact_graph.expressions import fact_tree
+from fact_graph.faults import Examined
+from fact_graph.rules import NotRules, parse
+
+PLACED = {
+    "/s: Int = 1 +": "14: a value belongs here, and nothing follows",
+    "/s: Int = /a == 2": "14: an operator, `except`, `placeholder` or the end of the rule belongs here, and `==` stands here; "
+    "write `is` where two are compared",
+    "/s: Int = max(1, 2)": "14: an operator, `except`, `placeholder` or the end of the rule belongs here, and `(` stands here; "
+    "write `greater of (.., ..)`",
+    "/s Int": "4: `:` belongs here, and `Int` stands here",
+    "/s: Money": "5: Money is no type: the types are Boolean, Int, Dollar, Rational, Day, Text, Enum(..), Collection, Collection(/..) and Item(/..)",
+    "/s: Dollar = $1.5": "14: a value belongs here, and `$1` stands here; an amount is written as `$2.50`, and a fraction as `1/2` or `10%`",
+    '/s: Text = "abc': '12: a value belongs here, and `"abc` stands here; a quote is missing: this text has no end on its line',
+    "/s: Int = (1 + 2": "17: `)` belongs here, and nothing follows",
+    "/s: Int = 1 < 2 < 3": "17: an operator, `except`, `placeholder` or the end of the rule belongs here, and `<` stands here; "
+    "part two comparisons by `and`, or use brackets",
+    "rent: Int": "1: `version`, `enum` or the path of a fact belongs at the left edge; what goes on with a fact is indented",
+    "/s: Int = rents": "11: `rents` is neither a path nor an option that is known here: "
+    "a path begins with / or ../, and an option is written with its list, as `tenure.rents`",
+    "/rents: Int\n/s: Int = rents": "11: `rents` is neither a path nor an option that is known here: write `/rents`",
+    "/s: Enum": "5: the name of a list of options belongs behind Enum, as `Enum(tenure)`",
+    "/s: Item(people)": "5: a collection is named by its path: `Item(/people)`",
+    "/s: Item(/people)": "5: what has the type Item(/people) follows from a rule: `= /people where ..` belongs behind it",
+    "/s: Collection = /a": "5: a choice of members names their collection, as `Collection(/people)`",
+    "enum a: b, b": "12: the option `b` stands twice in the list",
+    "/a: Int\nenum a: b": "1: the lists of options stand before the facts",
+    "version 1": "1: the version stands once, before all else",
+    "/a: Text, at most 5": "20: `bytes` belongs here, and nothing follows",
+    "/x: Dollar, from 5": "13: a limit of /x is written as an amount, as `$5` or `$1,500.00`",
+    "/x: Int, from 1 = 2": "10: this belongs to a fact that a person answers, and `=` makes one that follows",
+    "/x: Int, placeholder 1 = 2": "10: this belongs to a fact that a person answers, and `=` makes one that follows: write it behind the rule, without a comma",
+    "/x: Int, placeholder 1, placeholder 2": "25: a fact has one placeholder",
+    '/x: Text, limit Least "1"': "11: the limits are Min, Max, MaxLength and Check",
+    "/x: Boolean = /a + /b is complete": "15: only a fact is complete or not: a path belongs before `is complete`",
+    '/x: Text = "a\\qb"': "12: a backslash stands before what it can't stand before here: write \\\\ for one backslash",
+    "/x: Boolean = " + "not " * 120 + "/a": "15: more than 120 operations stand in each other here: give a part a fact of its own",
+}
+"""By a line behind `version 2`, what is said of it, and at which column."""
+
+
+def short(line: str) -> str:
+    """The beginning of a line."""
+    return line[:30]
+
+
+@pytest.mark.parametrize("line", PLACED, ids=short)
+def test_what_is_said(line: str) -> None:
+    """The place and the words for each slip."""
+    with pytest.raises(NotRules) as raised:
+        parse(f"version 2\n{line}\n")
+    assert str(raised.value) == f"line {line.count(chr(10)) + 2}, column {PLACED[line]}"
+
+
+def test_each_fact_is_told_for_itself() -> None:
+    """A slip in one fact doesn't hide those of others."""
+    with pytest.raises(NotRules) as raised:
+        parse("version 2\n/a: Int = 1 +\n/b: Int = 2\n/c: Money\n/d: Int = e\n")
+    assert [place.line for place, _ in raised.value.faults] == [2, 4, 5]
+
+
+@pytest.mark.parametrize("text", ["", "# nothing\n", "  version 2\n", "/a: Int\n"])
+def test_rules_begin_with_their_version(text: str) -> None:
+    """A text without a version at its beginning is none of rules."""
+    with pytest.raises(NotRules):
+        parse(text)
+
+
+FAULTS = {
+    "/a: Int = /b": (9, 2, 11),
+    "/a: Int =\n  1\n  + $2": (12, 3, 3),
+    "/a: Int = 1\n/b: Int = (2 + 3) * /c": (9, 3, 21),
+    "/a: Dollar = $1\n  except if 1 then $1": (12, 3, 13),
+    "/a: Int = 1\n  placeholder $1": (12, 3, 15),
+    "/a: Int, from 1 to 5, from 2": (13, 2, 23),
+    "/a: Int\n/a: Int": (7, 3, 1),
+    "/a: Enum(gone)": (12, 2, 5),
+    "/a: Text, letters": (11, 2, 11),
+    "/a: Boolean = if /a then true otherwise /nope": (9, 2, 41),
+}
+"""By facts behind `version 2`, the number of the engine's fault, and the line and column where it stands."""
+
+
+@pytest.mark.parametrize("facts", FAULTS)
+def test_where_faults_stand(facts: str, library: Path) -> None:
+    """A fault that the engine names is shown in the text of the rules."""
+    assert library
+    rules = parse(f"version 2\n{facts}\n")
+    with pytest.raises(DictionaryRefused) as raised:
+        Session(rules.json)
+    examined = Examined(rules.json, rules)
+    finding = examined.finding_of(raised.value)
+    assert finding
+    assert (raised.value.number, examined.place(finding)) == (FAULTS[facts][0], FAULTS[facts][1:])
+
+
+def test_each_node_has_a_place() -> None:
+    """Each node of a fact stands where its text stands."""
+    text = "version 2\n/a: Boolean = not (/b is complete) and (if /c then 1 otherwise 2) + 3 < number of /d\n"
+    rules = parse(text)
+    [fact] = rules.value["facts"]
+    line = text.split("\n")[1]
+    found = [(node.name, line[rules.place(node.pointer).column - 1 :][:7]) for node in fact_tree(1, fact).nodes()]
+    assert found == [
+        ("All", "not (/b"), ("Not", "not (/b"), ("IsComplete", "/b is c"), ("LessThan", "(if /c "), ("Add", "(if /c "), ("Switch", "if /c t"),
+        ("Dependency", "/c then"), ("Int", "1 other"), ("True", "otherwi"), ("Int", "2) + 3 "), ("Int", "3 < num"), ("CollectionSize", "number "),
+    ]  # fmt: skip

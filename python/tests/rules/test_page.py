@@ -1,0 +1,61 @@
+"""docs/RULES.md says what is so."""
+
+from __future__ import annotations
+
+import re
+from pathlib import Path
+
+import pytest
+
+from fact_graph import Session
+from fact_graph.__main__ import main
+from fact_graph.rules import formatted, parse
+from fact_graph.status import Status
+
+from ..places import TOP
+
+PAGE = (TOP / "docs" / "RULES.md").read_text()
+WHOLE, ANSWERED, FOLLOWING, TOLD = re.findall(r"```text\n(.*?)```", PAGE, re.DOTALL)
+
+
+def test_the_first_example_is_a_dictionary(library: Path) -> None:
+    """It has its form, and is accepted."""
+    assert library
+    assert formatted(WHOLE) == WHOLE
+    with Session(parse(WHOLE).json) as session:
+        assert session.missing("/help")
+
+
+@pytest.mark.parametrize("facts", [ANSWERED, FOLLOWING])
+def test_the_other_examples_have_their_form(facts: str) -> None:
+    """They do so among others."""
+    text = f"version 2\n\nenum tenure: rents, owns\n\n{facts}"
+    assert formatted(text) == text
+
+
+def test_what_is_told_of_slips(monkeypatch: pytest.MonkeyPatch, tmp_path: Path, capsys: pytest.CaptureFixture[str]) -> None:
+    """Two slips in the first example are told as the page has them."""
+    monkeypatch.chdir(tmp_path)
+    Path("help.facts").write_text(WHOLE.replace("<= $18,000", "= $18,000").replace("if /means", "if means"), encoding="utf-8")
+    assert main(["check", "help.facts"]) == Status.DICTIONARY_REFUSED
+    assert capsys.readouterr().err == f"fact-graph: {TOLD}"
+
+
+def test_each_value_is_one() -> None:
+    """The values of the table are those of the types that it names."""
+    section = PAGE[PAGE.index("## Values") : PAGE.index("## Words and marks")]
+    rows = re.findall(r"^\| (`.*?) \| an? ([A-Z]\w+)", section, re.MULTILINE)
+    assert len(rows) == 6
+    for forms, kind in rows:
+        for form in re.findall(r"`([^`]*)`", forms):
+            stated = parse(f"version 2\n/x: {kind} = {form}\n").value["facts"][0]["is"][0]
+            assert (stated if stated not in ("True", "False") else "Boolean") == kind
+
+
+def test_the_program_prints_what_it_says(library: Path, monkeypatch: pytest.MonkeyPatch, capsys: pytest.CaptureFixture[str]) -> None:
+    """The lines of the program print what stands behind them."""
+    assert library
+    [program] = re.findall(r"```python\n(.*?)```", PAGE, re.DOTALL)
+    monkeypatch.chdir(TOP)
+    exec(compile(program, "docs/RULES.md", "exec"), {})  # pylint: disable=exec-used # the page's own example
+    assert capsys.readouterr().out.splitlines() == re.findall(r"\)  # (.*)", program)

@@ -1,0 +1,205 @@
+"""Checks of rules: what each finds, that nothing is called always so that isn't, and what a maker lets stand."""
+
+from __future__ import annotations
+
+import json
+from datetime import date
+from fractions import Fraction
+from pathlib import Path
+from typing import Any
+
+import pytest
+from hypothesis import HealthCheck, given, settings
+
+from fact_graph import Value
+from fact_graph.cases import Case, Entry
+from fact_graph.checks import NotAllowed, findings, read_allowances
+from fact_graph.checks.ranges import NOTHING, Anything, Options, Range
+from fact_graph.checks.reasoning import Reasoning
+from fact_graph.commands import command_line
+from fact_graph.coverage.measuring import At, Reading
+from fact_graph.coverage.probes import Probes
+from fact_graph.rulebook import Rulebook, cases_of
+
+from .interviews import Interview, interviews
+from .test_coverage import PLACE, AsTheyAre, answered, slots
+
+SWITCH = {"path": "/s", "derived": "Int"}
+FACTS: dict[str, dict[str, Any]] = {
+    "b": {"path": "/b", "writable": "Boolean"},
+    "e": {"path": "/e", "writable": "Enum(e)"},
+    "n": {"path": "/n", "writable": "Int", "limits": [["Min", "0"], ["Max", "10"]]},
+    "m": {"path": "/m", "writable": "Int", "limits": [["Min", "0"]], "placeholder": ["Int", "1"]},
+}
+IS_B, N, M = ["Dependency", "/b"], ["Dependency", "/n"], ["Dependency", "/m"]
+LESS, MORE = ["LessThan", N, ["Int", "5"]], ["GreaterThanOrEqual", N, ["Int", "5"]]
+
+
+def switch(*tests: Any) -> dict[str, Any]:
+    """A fact whose value hangs on these tests."""
+    return {**SWITCH, "is": ["Switch", *[["Case", test, ["Int", str(at)]] for at, test in enumerate(tests)]]}
+
+
+def boolean(*written: Any) -> dict[str, Any]:
+    """A condition as a fact."""
+    return {"path": "/s", "derived": "Boolean", "is": list(written)}
+
+
+def whole(*written: Any, **more: Any) -> dict[str, Any]:
+    """A number as a fact."""
+    return {**SWITCH, "is": list(written), **more}
+
+
+def is_e(option: str) -> list[Any]:
+    """Whether the enum has this option."""
+    return ["Equal", ["Dependency", "/e"], ["Enum", "e", option]]
+
+
+FOUND: tuple[tuple[str, dict[str, Any], list[str]], ...] = (
+    ("a Switch whose last test may be false", switch(IS_B), ["open-switch /s 1"]),
+    ("a Switch that ends with True", switch(IS_B, ["True"]), []),
+    ("a Switch over a condition and its opposite", switch(IS_B, ["Not", IS_B]), []),
+    ("a Switch over all options", switch(is_e("x"), is_e("y")), []),
+    ("a Switch over some options", switch(is_e("x"), is_e("x")), ["open-switch /s 1", "unreachable-case /s 6"]),
+    ("a Switch over the two sides of a bound", switch(LESS, MORE), []),
+    ("a Switch with a gap between two bounds", switch(LESS, ["GreaterThan", N, ["Int", "5"]]), ["open-switch /s 1"]),
+    ("a Switch over an All and the opposites of its sides", switch(["All", IS_B, LESS], ["Not", IS_B], ["Not", LESS]), []),
+    ("a case behind one that is always taken", switch(["True"], IS_B), ["unreachable-case /s 4"]),
+    ("a case that no limit lets in", switch(["GreaterThan", N, ["Int", "10"]], ["True"]), ["unreachable-case /s 2"]),
+    ("a side that limits make true", boolean("All", ["LessThanOrEqual", N, ["Int", "10"]], IS_B), ["constant-condition /s 2"]),
+    ("a condition that limits make false", boolean("LessThan", N, ["Int", "0"]), ["constant-condition /s 1"]),
+    ("a condition that contradicts itself", boolean("All", IS_B, ["Not", IS_B]), ["constant-condition /s 1"]),
+    ("a conditional that is never so", whole("Int", "1", conditional=[["Equal", N, ["Int", "11"]], ["Int", "2"]]), ["constant-condition /s 2"]),
+    ("a sum that stays small", whole("Add", N, N), []),
+    ("a sum that has no end", whole("Add", M, N), ["overflow /s 1"]),
+    ("a product of what went beyond the range before, which is said once", whole("Multiply", ["Add", M, N], N), ["overflow /s 2"]),
+    ("a sum that a Switch keeps small", whole("Switch", ["Case", ["LessThan", M, N], ["Add", M, N]], ["Case", ["True"], N]), []),
+    ("a divisor that can be zero", {"path": "/s", "derived": "Rational", "is": ["Divide", ["Int", "1"], N]}, ["zero-divide /s 1"]),
+    ("a divisor that can't", {"path": "/s", "derived": "Rational", "is": ["Divide", ["Int", "1"], ["Add", N, ["Int", "1"]]]}, []),
+    ("a placeholder for an answer that has none", whole("Add", N, ["Int", "1"], placeholder=["Int", "0"]), ["hidden-answer /s 4"]),
+    ("a placeholder above answers that have their own", whole("LesserOf", M, ["Int", "1"], placeholder=["Int", "0"]), []),
+)
+
+
+def rules(*facts: dict[str, Any]) -> bytes:
+    """A dictionary of these facts."""
+    return json.dumps({"version": "2", "enums": [{"name": "e", "options": ["x", "y"]}], "facts": [*FACTS.values(), *facts]}).encode()
+
+
+def told(text: bytes, *figures: str) -> list[str]:
+    """What is found where these are the figures, but for the answers that no figure rests on."""
+    return [f"{it.check} {it.path} {it.node}" for it in findings(Rulebook(text), figures) if it.check != "unused-answer"]
+
+
+@pytest.mark.parametrize("fact, found", [row[1:] for row in FOUND], ids=[row[0] for row in FOUND])
+def test_each_check(fact: dict[str, Any], found: list[str]) -> None:
+    """What is found of a fact."""
+    assert told(rules(fact), "/s") == found
+
+
+def test_facts_and_answers_that_no_figure_rests_on() -> None:
+    """What a figure rests on is used, also through the facts of members."""
+    text = json.dumps(
+        {
+            "version": "1",
+            "facts": [
+                {"path": "/c", "writable": "Collection"},
+                {"path": "/c/*/m", "writable": "Int", "limits": [["Min", "0"], ["Max", "9"]]},
+                {"path": "/c/*/other", "writable": "Int"},
+                {"path": "/a", "writable": "Int"},
+                {"path": "/s", "derived": "Int", "is": ["CollectionSum", "/c/*/m"]},
+                {"path": "/t", "derived": "Int", "is": ["CollectionSize", "/c"]},
+            ],
+        }
+    ).encode()
+    found = [f"{it.check} {it.path}" for it in findings(Rulebook(text), ["/s"])]
+    assert found == ["unused-answer /c/*/other", "unused-answer /a", "unused-fact /t"]
+
+
+@settings(max_examples=60, deadline=None, suppress_health_check=list(HealthCheck))
+@given(interviews())
+def test_what_is_said_always_holds(interview: Interview) -> None:
+    """No answers give a value, a case, a side or a fault that the checks rule out."""
+    rulebook = Rulebook(interview.dictionary)
+    reasoning, probes = Reasoning(rulebook), Probes(rulebook)
+    sessions = [answered(text, interview.lines) for text in probes.texts()]
+    faults = {fault for found in reasoning.faults.values() for fault in found}
+    for slot in slots(answered(interview.dictionary, interview.lines)):
+        path, result = rulebook.dictionary.fact_at(slot).path, sessions[0].get(slot)
+        if result.value is not None:
+            assert has(reasoning.fact(path), result.value)
+        if result.fault and "Rational" not in interview.dictionary.decode():
+            assert result.fault in faults
+        reading = Reading(probes, sessions, Case("", PLACE, (), (Entry(slot, "", PLACE),)), AsTheyAre(sessions[0].dictionary))
+        for point in reading.reached:
+            if point.kind == "case":
+                assert (point.fact, point.node) in reasoning.taken
+            if point.kind == "side":
+                assert has(reasoning.ranges[point.fact, point.node], point.value is True)
+        main = rulebook.trees[path].main
+        if "#" not in slot and main and main.name == "Switch" and main.number in {number for at, number in reasoning.ranges if at == path}:
+            tests = [reading.outcome(rulebook.trees[path], test, At()).value for test, _ in cases_of(main)]
+            conditional = rulebook.trees[path].test
+            is_read = conditional is None or reading.outcome(rulebook.trees[path], conditional, At()).value is False
+            assert not is_read or set(tests) != {False} or (path, main.number) in reasoning.left
+
+
+def has(found: Range, value: Value) -> bool:
+    """Whether a range has a value."""
+    if isinstance(found, Anything):
+        return True
+    if isinstance(found, Options):
+        return found != NOTHING and value in found.values
+    number: Any = value
+    if found.unit == "Members":
+        assert isinstance(value, tuple)
+        number = len(value)
+    elif found.unit == "Dollar":
+        number = Fraction(str(value)) * 100
+    elif isinstance(value, date):
+        number = value.toordinal()
+    return bool(found.low <= number <= found.high)
+
+
+def written(folder: Path, fact: dict[str, Any], lint: str | None = None) -> str:
+    """Rules in a file, and what is allowed beside them."""
+    (folder / "rules.json").write_bytes(rules(fact))
+    if lint is not None:
+        (folder / "rules.lint").write_text(lint)
+    return str(folder / "rules.json")
+
+
+ALLOWED = "# The answers are asked for by the clerk.\nallow unused-answer /b\nallow unused-answer /e\nallow unused-answer /m\n"
+
+
+def test_the_command(tmp_path: Path, capsys: pytest.CaptureFixture[str]) -> None:
+    """It shows what is found, by check, fact and node, and ends with a status that says so."""
+    assert command_line(["lint", written(tmp_path, whole("Add", N, M))]) == 12
+    shown = capsys.readouterr().out
+    assert "overflow  /s node 1\n  Add can go beyond the range of its type: /m has no Max\n" in shown
+    assert shown.endswith("3 found\n")
+
+
+def test_what_is_allowed_is_not_told(tmp_path: Path, capsys: pytest.CaptureFixture[str]) -> None:
+    """What a line allows isn't shown, and a line that allows nothing is."""
+    assert command_line(["lint", written(tmp_path, whole("Add", N, N), ALLOWED)]) == 0
+    assert capsys.readouterr().out == "nothing found\n"
+    assert command_line(["lint", written(tmp_path, whole("Add", N, N), f"{ALLOWED}allow overflow /s\n")]) == 12
+    assert "rules.lint:5: allow overflow /s allows nothing: take it away" in capsys.readouterr().out
+
+
+@pytest.mark.parametrize(
+    "text, wrong",
+    [
+        ("allow overflow /s", "line 1: a note above it"),
+        ("# why\nallow overflows /s", "line 2: there is no check overflows; did you mean `overflow`?"),
+        ("# why\nallow overflow /t", "line 2: there is no fact /t"),
+        ("# why\n\nallow overflow /s", "line 3: a note above it"),
+        ("# why\nallow overflow", "line 2: write `allow CHECK /path`"),
+    ],
+)
+def test_lines_that_allow_nothing_there_is(text: str, wrong: str) -> None:
+    """What is wrong with a line is said with its number."""
+    with pytest.raises(NotAllowed) as raised:
+        read_allowances(text, ["/s"])
+    assert str(raised.value).startswith(wrong)

@@ -1,0 +1,120 @@
+"""What a dictionary and its maker say of a page, as the page reads it.
+
+Beside a dictionary `NAME.json` a file `NAME.page` may say what the page shows, and `NAME.es.page` its words in another language:
+service/README.md has the keys.
+"""
+
+from __future__ import annotations
+
+import json
+from collections.abc import Iterator
+from pathlib import Path
+from typing import Any
+
+from fact_graph import Fact, Session
+from fact_graph.graph import facts
+from fact_graph.page import CHOICES, misstated, words_of
+
+LANGUAGES = CHOICES["language"]
+
+
+class FormWrong(ValueError):
+    """What the maker says of the page isn't right, in words for the maker."""
+
+
+class Form:
+    """A dictionary, and the page over it."""
+
+    def __init__(self, dictionary: bytes, pages: dict[str, dict[str, Any]] | None = None) -> None:
+        self.text = dictionary
+        with Session(dictionary) as session:  # a dictionary with a fault ends here
+            self.dictionary = session.dictionary
+        self._pages = pages or {"en": {}}
+        self._page = next(iter(self._pages.values()))
+        self._mentions = {path: list(drawn.rests_on) for path, drawn in facts(dictionary).items()}
+        wrong = [": ".join([".".join(map(str, it.pointer)), it.reason]) for page in self._pages.values() for it in misstated(page, self.dictionary)]
+        if wrong:
+            raise FormWrong("; ".join(wrong))
+
+    @classmethod
+    def open(cls, path: Path) -> Form:
+        """Of the dictionary in a file, and what is said of its page beside it."""
+        pages = {}
+        base = path.with_suffix(".page")
+        if base.is_file():
+            page = _read(base)
+            pages[page.get("language", "en")] = page
+        for language in LANGUAGES:
+            other = path.with_suffix(f".{language}.page")
+            if other.is_file():
+                pages[language] = _read(other)
+        return cls(path.read_bytes(), pages)
+
+    def described(self) -> dict[str, Any]:
+        """All that the page needs to know of the form."""
+        return {
+            "layout": self._page.get("layout", "all"),
+            "figures": self._figures(),
+            "questions": self._questions(),
+            "facts": {fact.path: self._fact(fact) for fact in self.dictionary.facts.values()},
+            "languages": {language: self._words(page) for language, page in self._pages.items()},
+        }
+
+    def _figures(self) -> list[str]:
+        """The facts that are shown: what the maker says, or the derived facts that no other fact mentions."""
+        return list(self._page.get("figures") or [fact.path for fact in self._unmentioned() if not fact.is_writable])
+
+    def _questions(self) -> list[str]:
+        """The facts that are asked for whatever the figures want: those of the maker, or the writable ones that nothing mentions."""
+        if "figures" in self._page or "questions" in self._page:
+            return list(self._page.get("questions", []))
+        return [fact.path for fact in self._unmentioned() if fact.is_writable]
+
+    def _unmentioned(self) -> Iterator[Fact]:
+        mentioned = {path for paths in self._mentions.values() for path in paths}
+        return (fact for fact in self.dictionary.facts.values() if fact.path not in mentioned)
+
+    def _fact(self, fact: Fact) -> dict[str, Any]:
+        """What the page needs to make a field of a fact, or to show it."""
+        return {
+            "type": fact.type.name,
+            "of": fact.path if fact.type == ("Collection", None) else fact.type.of,
+            "collection": fact.collection,
+            "isWritable": fact.is_writable,
+            "hasPlaceholder": fact.has_placeholder,
+            "limits": [list(limit) for limit in fact.limits],
+            "mentions": self._mentions[fact.path],
+            **({"options": list(self.dictionary.options[fact.type.of])} if fact.type.name == "Enum" and fact.type.of else {}),
+        }
+
+    def _words(self, page: dict[str, Any]) -> dict[str, Any]:
+        """The words of the form in a language."""
+        labels, helps, sources = page.get("labels", {}), page.get("help", {}), page.get("sources", {})
+        facts = {
+            fact.path: {
+                "label": labels.get(fact.path) or words_of(fact.path.split("/")[-1]),
+                "help": helps.get(fact.path, fact.description),
+                "source": sources.get(fact.path, ""),
+            }
+            for fact in self.dictionary.facts.values()
+        }
+        named = page.get("options", {})
+        return {
+            "title": page.get("title") or self.dictionary.description or "Interview",
+            "facts": facts,
+            "members": {path: label for path, label in labels.items() if path.endswith("/*")},
+            "options": {
+                name: {option: named.get(name, {}).get(option) or words_of(option) for option in options}
+                for name, options in self.dictionary.options.items()
+            },
+        }
+
+
+def _read(path: Path) -> dict[str, Any]:
+    try:
+        page = json.loads(path.read_text(encoding="utf-8"))
+    except ValueError as wrong:
+        raise FormWrong(f"{path.name}: {wrong}") from wrong
+    if not isinstance(page, dict):
+        raise FormWrong(f"{path.name} is no object")
+    return page

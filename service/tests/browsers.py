@@ -1,0 +1,153 @@
+"""Browsers without a window, driven by selenium: Chromium by its driver, and Firefox by its own protocol.
+
+Debian has no driver for Firefox. Firefox itself speaks Marionette, whose commands are those of WebDriver: `Marionette` hands them on.
+"""
+
+from __future__ import annotations
+
+import json
+import shutil
+import socket
+import subprocess
+import tempfile
+import time
+from collections.abc import Iterator
+from contextlib import contextmanager
+from typing import Any
+
+from selenium import webdriver
+from selenium.webdriver.chrome.service import Service
+from selenium.webdriver.remote.command import Command
+
+SECONDS_TO_BEGIN = 600
+LANGUAGE = "en-US"
+
+COMMANDS = {
+    Command.NEW_SESSION: "NewSession",
+    Command.QUIT: "DeleteSession",
+    Command.GET: "Navigate",
+    Command.REFRESH: "Refresh",
+    Command.GET_CURRENT_URL: "GetCurrentURL",
+    Command.GET_TITLE: "GetTitle",
+    Command.FIND_ELEMENT: "FindElement",
+    Command.FIND_ELEMENTS: "FindElements",
+    Command.CLICK_ELEMENT: "ElementClick",
+    Command.CLEAR_ELEMENT: "ElementClear",
+    Command.SEND_KEYS_TO_ELEMENT: "ElementSendKeys",
+    Command.GET_ELEMENT_TEXT: "GetElementText",
+    Command.GET_ELEMENT_PROPERTY: "GetElementProperty",
+    Command.IS_ELEMENT_ENABLED: "IsElementEnabled",
+    Command.GET_ELEMENT_ARIA_LABEL: "GetComputedLabel",
+    Command.GET_ELEMENT_ARIA_ROLE: "GetComputedRole",
+    Command.W3C_GET_ACTIVE_ELEMENT: "GetActiveElement",
+    Command.W3C_EXECUTE_SCRIPT: "ExecuteScript",
+    Command.W3C_EXECUTE_SCRIPT_ASYNC: "ExecuteAsyncScript",
+    Command.W3C_ACTIONS: "PerformActions",
+    Command.W3C_CLEAR_ACTIONS: "ReleaseActions",
+    Command.SCREENSHOT: "TakeScreenshot",
+    Command.SET_WINDOW_RECT: "SetWindowRect",
+    Command.GET_WINDOW_RECT: "GetWindowRect",
+    Command.SET_TIMEOUTS: "SetTimeouts",
+}
+"""Selenium's names of commands, and Marionette's."""
+
+
+class Marionette:
+    """Firefox's own protocol, in the place of a driver: messages are lists, each behind its size."""
+
+    w3c = True
+    keep_alive = True
+    browser_name = "firefox"
+
+    def __init__(self, port: int) -> None:
+        self._socket, self._rest, self._number = _connected(port), b"", 0
+        self._message()  # what it says of itself
+
+    def execute(self, command: str, given: dict[str, Any]) -> dict[str, Any]:
+        """The answer to a command of selenium, as a driver gives it."""
+        said = {name: value for name, value in given.items() if name != "sessionId"}
+        if command == Command.NEW_SESSION:
+            said = {"pageLoadStrategy": "normal"}
+        self._number += 1
+        text = json.dumps([0, self._number, f"WebDriver:{COMMANDS[command]}", said]).encode()
+        self._socket.sendall(str(len(text)).encode() + b":" + text)
+        _, _, error, value = self._message()
+        if error:
+            return {"status": 500, "value": json.dumps({"value": error})}
+        if command == Command.NEW_SESSION:
+            return {"value": value}
+        return {"value": value["value"] if isinstance(value, dict) and "value" in value else value}
+
+    def close(self) -> None:
+        """Ends the connection."""
+        self._socket.close()
+
+    def _message(self) -> Any:
+        while b":" not in self._rest:
+            self._rest += self._piece()
+        size, _, self._rest = self._rest.partition(b":")
+        while len(self._rest) < int(size):
+            self._rest += self._piece()
+        text, self._rest = self._rest[: int(size)], self._rest[int(size) :]
+        return json.loads(text)
+
+    def _piece(self) -> bytes:
+        piece = self._socket.recv(65536)
+        if not piece:
+            raise ConnectionError("Firefox has ended")
+        return piece
+
+
+def _connected(port: int) -> socket.socket:
+    until = time.monotonic() + SECONDS_TO_BEGIN
+    while True:
+        try:
+            connection = socket.create_connection(("127.0.0.1", port), timeout=SECONDS_TO_BEGIN)
+            return connection
+        except OSError:
+            if time.monotonic() > until:
+                raise
+            time.sleep(0.2)
+
+
+@contextmanager
+def firefox() -> Iterator[Any]:
+    """A Firefox of its own, with a new profile."""
+    folder = tempfile.mkdtemp(prefix="firefox.")
+    with socket.socket() as one:
+        one.bind(("127.0.0.1", 0))
+        port = one.getsockname()[1]
+    with open(f"{folder}/user.js", "w", encoding="ascii") as file:
+        said = {"marionette.port": port, "intl.accept_languages": LANGUAGE, "app.update.auto": False, "datareporting.policy.dataSubmissionEnabled": False}
+        file.writelines(f"user_pref({json.dumps(name)}, {json.dumps(value)});\n" for name, value in said.items())
+    browser = subprocess.Popen(
+        ["firefox-esr", "--headless", "--marionette", "--no-remote", "--profile", folder],
+        stdout=subprocess.DEVNULL, stderr=subprocess.DEVNULL, env={"HOME": folder, "PATH": "/usr/bin:/bin", "MOZ_HEADLESS": "1"},
+    )
+    try:
+        protocol = Marionette(port)
+        options = webdriver.FirefoxOptions()
+        driver = webdriver.Remote(command_executor=protocol, options=options)
+        yield driver
+        protocol.close()
+    finally:
+        browser.kill()
+        browser.wait()
+        shutil.rmtree(folder, ignore_errors=True)
+
+
+@contextmanager
+def chromium() -> Iterator[Any]:
+    """A Chromium of its own, with a new profile."""
+    options = webdriver.ChromeOptions()
+    options.binary_location = "/usr/bin/chromium"
+    for flag in ("headless=new", "no-sandbox", "disable-gpu", "disable-dev-shm-usage", "no-first-run", "disable-background-networking", f"lang={LANGUAGE}"):
+        options.add_argument(f"--{flag}")
+    driver = webdriver.Chrome(service=Service("/usr/bin/chromedriver"), options=options)
+    try:
+        yield driver
+    finally:
+        driver.quit()
+
+
+BROWSERS = {"chromium": chromium, "firefox": firefox}

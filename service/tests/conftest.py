@@ -1,0 +1,65 @@
+"""What the tests share: stores of both kinds, and the service over them."""
+
+from __future__ import annotations
+
+import secrets
+from collections.abc import Iterator
+from pathlib import Path
+from typing import Any
+
+import pytest
+
+from browsers import BROWSERS
+from databases import Postgres
+from fact_graph_service.settings import Settings
+from pages import EXAMPLES, Page
+from screens import SECONDS
+from servers import Worker, served
+
+
+@pytest.fixture(scope="session")
+def postgres() -> Iterator[Postgres]:
+    """A PostgreSQL for all tests."""
+    database = Postgres()
+    yield database
+    database.close()
+
+
+@pytest.fixture(params=["sqlite", "postgres"])
+def place(request: pytest.FixtureRequest, tmp_path: Path) -> str:
+    """The place of an empty store."""
+    if request.param == "sqlite":
+        return f"sqlite:{tmp_path}/store.sqlite"
+    database: Postgres = request.getfixturevalue("postgres")
+    database.clear()
+    return database.place
+
+
+@pytest.fixture
+def settings(place: str) -> Settings:
+    """Settings over the screener."""
+    return Settings(EXAMPLES / "screener.json", place, secrets.token_bytes(32), rate=10_000)
+
+
+@pytest.fixture
+def page(settings: Settings) -> Iterator[Page]:
+    """A page of a new visitor."""
+    with Page.open(settings) as opened:
+        yield opened
+
+
+@pytest.fixture(scope="session", params=BROWSERS)
+def driver(request: pytest.FixtureRequest) -> Iterator[Any]:
+    """A browser."""
+    with BROWSERS[request.param]() as browser:
+        browser.set_script_timeout(SECONDS)
+        yield browser
+
+
+@pytest.fixture(scope="session")
+def worker(tmp_path_factory: pytest.TempPathFactory) -> Iterator[Worker]:
+    """A worker over the screener, in two languages."""
+    folder = tmp_path_factory.mktemp("served")
+    settings = Settings(EXAMPLES / "screener.json", f"sqlite:{folder}/store.sqlite", secrets.token_bytes(32), rate=10_000)
+    with served(settings) as workers:
+        yield workers[0]

@@ -1,0 +1,419 @@
+#!/usr/bin/python3
+"""Faults of the interview service, tried and counted: nothing that was acknowledged may be lost, and nothing else may stand.
+
+    service/tests/faults.py [--runs N] [--visitors N] [--changes N] [--store sqlite|postgres]... [KIND]...
+
+In a run, visitors make changes through two workers over one store, each change at one of them at random, as the page does: with an
+id, and again with the same id where no answer came. Meanwhile the fault of its kind is made, again and again:
+
+  kill      a worker is killed by SIGKILL, and started anew
+  database  PostgreSQL is stopped and started, or killed and started; a SQLite file is locked by another process
+  disk      the store's disk is full for a while
+  slow      many clients begin requests and never end them
+  torn      a visitor closes the connection instead of reading the answer
+  windows   each visitor has two windows, which change the same answers at once
+
+At the end of a run the changes in the store are decrypted with each visitor's secret: they have to be those that the visitor was
+told of, each once, and no other. The engine runs their lines: each has to have the reply that the visitor was told, and the service
+the same saved text and the same figures. The last line is 'faults: N runs, M changes acknowledged, L lost, U others, W wrong'.
+"""
+
+from __future__ import annotations
+
+import argparse
+import asyncio
+import contextlib
+import json
+import random
+import re
+import secrets
+import signal
+import sqlite3
+import subprocess
+import sys
+import tempfile
+import time
+import uuid
+from collections.abc import Callable, Iterator
+from contextlib import contextmanager
+from dataclasses import dataclass, field
+from pathlib import Path
+from typing import Any
+
+from databases import Postgres
+from fact_graph import Session
+from fact_graph_service.sealing import Vault
+from fact_graph_service.settings import Settings
+from fact_graph_service.store import Store
+from pages import EXAMPLES
+from servers import Worker, served
+
+DICTIONARY = EXAMPLES / "screener.json"
+QUESTIONS = ["get /outcome", "final /outcome", "get /help", "missing /help", "get /means", "get /people"]
+SECONDS_FOR_ANSWER = 30
+SECONDS_FOR_CHANGE = 300
+DISK_BYTES = 250_000_000
+
+
+@dataclass
+class Answer:
+    """What a worker answered."""
+
+    status: int
+    headers: str
+    body: bytes
+
+    def json(self) -> Any:
+        return json.loads(self.body)
+
+
+async def ask(port: int, method: str, path: str, headers: dict[str, str], body: bytes = b"", is_torn: bool = False) -> Answer:
+    """Makes a request. Where it is to be torn, the connection is closed once the request is sent."""
+    reader, writer = await asyncio.open_connection("127.0.0.1", port)
+    try:
+        head = {"Host": f"127.0.0.1:{port}", "Connection": "close", "Content-Length": str(len(body)), **headers}
+        writer.write(f"{method} {path} HTTP/1.1\r\n".encode() + "".join(f"{name}: {value}\r\n" for name, value in head.items()).encode() + b"\r\n" + body)
+        await writer.drain()
+        if is_torn:
+            raise ConnectionResetError("torn on purpose")
+        said = await asyncio.wait_for(reader.read(-1), SECONDS_FOR_ANSWER)
+    finally:
+        writer.close()
+    top, _, content = said.partition(b"\r\n\r\n")
+    if not top:
+        raise ConnectionResetError("no answer")
+    return Answer(int(top.split(b" ", 2)[1]), top.decode(), content)
+
+
+@dataclass
+class Visitor:
+    """A visitor, with what was acknowledged, by the ids of the changes."""
+
+    ports: list[int]
+    random: random.Random
+    cookie: str = ""
+    token: str = ""
+    acknowledged: dict[str, tuple[str, str]] = field(default_factory=dict)
+    visit: str | None = None
+    repeated: int = 0
+
+    @property
+    def secret(self) -> str:
+        return self.cookie.partition("=")[2]
+
+    async def begin(self) -> None:
+        """Opens the page."""
+        answer = await ask(self.port(), "GET", "/", {})
+        self.cookie = re.search(r"set-cookie: ([^;]*)", answer.headers, re.IGNORECASE)[1]  # type: ignore[index] # each page has it
+        self.token = re.search(rb'content="([0-9a-f]{64})"', answer.body)[1].decode()  # type: ignore[index] # each page has it
+
+    def port(self) -> int:
+        return self.random.choice(self.ports)
+
+    async def post(self, call: str, said: dict[str, Any], is_torn: bool = False) -> Answer:
+        port = self.port()
+        headers = {"Origin": f"http://127.0.0.1:{port}", "Cookie": self.cookie, "X-Token": self.token, "Content-Type": "application/json"}
+        return await ask(port, "POST", f"/{call}", headers, json.dumps(said).encode(), is_torn)
+
+    async def change(self, window: Window, line: str, tear: float) -> None:
+        """Makes a change as the page does, until it is answered."""
+        change, until = uuid.uuid4().hex, time.monotonic() + SECONDS_FOR_CHANGE
+        while True:
+            is_torn = self.random.random() < tear
+            said = {"visit": window.visit, "revision": window.revision, "change": change, "line": line, "questions": QUESTIONS}
+            try:
+                answer = await self.post("answer", said, is_torn)
+                if answer.status == 200:
+                    told = answer.json()
+                    window.visit, window.revision, self.visit = told["visit"], told["revision"], told["visit"]
+                    if told["stale"]:
+                        continue
+                    if not told["reply"].startswith("refused "):
+                        self.acknowledged[change] = (line, told["reply"])
+                    return
+                if answer.status not in (429, 503):
+                    raise AssertionError(f"{line}: {answer.status} {answer.body!r}")
+            except (OSError, asyncio.TimeoutError, ConnectionError):
+                self.repeated += 1
+            if time.monotonic() > until:
+                raise AssertionError(f"{line}: never answered")
+            if not is_torn:
+                await asyncio.sleep(0.1)
+
+    def line(self) -> str:
+        """A change of some kind, which may be refused."""
+        pick = self.random
+        member = pick.randint(1, 4)
+        return pick.choice(
+            [f"set /bill {pick.randint(0, 6000)}", f"set /savings {pick.randint(0, 40000)}", "set /tenure rents", "set /tenure other", "add /people",
+             f"set /people/#{member}/wages {pick.randint(0, 30000)}", f"set /people/#{member}/born {pick.randint(1930, 2020)}-06-01",
+             f"remove /people #{member}", "undo", "redo", "clear /bill", "set /caseNumber 123456789"]
+        )
+
+
+@dataclass
+class Window:
+    """What one window of a visitor knows."""
+
+    visit: str | None = None
+    revision: int = 0
+
+
+@dataclass
+class Tally:
+    """What came of all runs."""
+
+    runs: int = 0
+    acknowledged: int = 0
+    repeated: int = 0
+    lost: int = 0
+    others: int = 0
+    wrong: int = 0
+
+    def is_well(self) -> bool:
+        return self.runs > 0 and self.acknowledged > 0 and not self.lost + self.others + self.wrong
+
+
+# ---- the stores
+
+
+class SqlitePlace:
+    """A SQLite file in a folder, which may be a disk of its own."""
+
+    def __init__(self, folder: Path) -> None:
+        self.folder, self.place = folder, f"sqlite:{folder}/store.sqlite"
+
+    @contextmanager
+    def out(self) -> Iterator[None]:
+        """The file is locked by somebody else."""
+        connection = sqlite3.connect(f"{self.folder}/store.sqlite", timeout=30, isolation_level=None)
+        connection.execute("BEGIN IMMEDIATE")
+        try:
+            yield
+        finally:
+            connection.close()
+
+    def close(self) -> None:
+        pass
+
+
+class PostgresPlace:
+    """A PostgreSQL in a folder, which may be a disk of its own."""
+
+    def __init__(self, folder: Path) -> None:
+        self.folder, self._database, self._kills = folder, Postgres(folder), 0
+        self.place = self._database.place
+
+    @contextmanager
+    def out(self) -> Iterator[None]:
+        """The server is stopped, or every second time killed."""
+        self._kills += 1
+        (self._database.kill if self._kills % 2 else self._database.stop)()
+        try:
+            yield
+        finally:
+            self._database.start()
+
+    def revive(self) -> None:
+        """Starts the server again where want of a disk has ended it."""
+        if not self._database.answers():
+            with contextlib.suppress(subprocess.CalledProcessError):
+                self._database.stop()
+            self._database.start()
+
+    def close(self) -> None:
+        self._database.close()
+
+
+STORES: dict[str, Callable[[Path], Any]] = {"sqlite": SqlitePlace, "postgres": PostgresPlace}
+
+
+@contextmanager
+def disk(is_small: bool) -> Iterator[Path]:
+    """A folder, or a disk of its own that is soon full."""
+    with tempfile.TemporaryDirectory(prefix="faults.") as name:
+        folder = Path(name)
+        folder.chmod(0o755)
+        if is_small:
+            subprocess.run(["mount", "-t", "tmpfs", "-o", f"size={DISK_BYTES}", "tmpfs", name], check=True)
+        try:
+            yield folder
+        finally:
+            if is_small:
+                subprocess.run(["umount", "--lazy", name], check=True)
+
+
+# ---- the faults
+
+
+Fault = Callable[[Any, list[Worker], random.Random], Any]
+
+
+async def kill(_: Any, workers: list[Worker], pick: random.Random) -> None:
+    worker = pick.choice(workers)
+    await asyncio.to_thread(worker.end, signal.SIGKILL)
+    await asyncio.to_thread(worker.begin)
+
+
+async def database(place: Any, _: list[Worker], pick: random.Random) -> None:
+    out = place.out()
+    await asyncio.to_thread(out.__enter__)
+    await asyncio.sleep(pick.uniform(0.5, 8))
+    await asyncio.to_thread(out.__exit__, None, None, None)
+
+
+async def full(place: Any, _: list[Worker], pick: random.Random) -> None:
+    filler = place.folder / "filler"
+    with filler.open("wb", buffering=0) as file, contextlib.suppress(OSError):
+        while True:
+            file.write(b"x" * 4096)
+    await asyncio.sleep(pick.uniform(1, 4))
+    filler.unlink()
+    if hasattr(place, "revive"):
+        await asyncio.to_thread(place.revive)
+
+
+async def slow(_: Any, workers: list[Worker], pick: random.Random) -> None:
+    """Two hundred clients that begin a request, some in its head and some in its body, and send a byte now and then."""
+    begun = []
+    for number in range(200):
+        port = pick.choice(workers).port
+        _, writer = await asyncio.open_connection("127.0.0.1", port)
+        head = f"POST /answer HTTP/1.1\r\nHost: 127.0.0.1:{port}\r\n"
+        writer.write((head + ("Content-Length: 1000\r\n\r\n{" if number % 2 else "X-Slow: ")).encode())
+        begun.append(writer)
+    for _ in range(3):
+        await asyncio.sleep(1)
+        for writer in begun:
+            with contextlib.suppress(OSError):
+                writer.write(b" ")
+    for writer in begun:
+        writer.close()
+
+
+async def nothing(_: Any, __: list[Worker], ___: random.Random) -> None:
+    """The fault is in the visitors."""
+    await asyncio.sleep(1)
+
+
+@dataclass(frozen=True)
+class Kind:
+    """A kind of fault: what is done again and again, and what the visitors do."""
+
+    fault: Fault
+    tear: float = 0.0
+    windows: int = 1
+
+
+KINDS = {
+    "kill": Kind(kill),
+    "database": Kind(database),
+    "disk": Kind(full),
+    "slow": Kind(slow),
+    "torn": Kind(nothing, tear=0.3),
+    "windows": Kind(nothing, windows=2),
+}
+
+
+# ---- a run
+
+
+async def change_all(kind: Kind, place: Any, workers: list[Worker], visitors: list[Visitor], changes: int, pick: random.Random) -> None:
+    """All visitors make their changes, and the fault is made until they are done. The last one is ended too."""
+
+    async def work(visitor: Visitor, window: Window) -> None:
+        for _ in range(changes // kind.windows):
+            await visitor.change(window, visitor.line(), kind.tear)
+
+    async def disturb() -> None:
+        while not is_over.is_set():
+            await asyncio.sleep(pick.uniform(0.2, 1.5))
+            await kind.fault(place, workers, pick)
+
+    async def work_all() -> None:
+        try:
+            await asyncio.gather(*(work(visitor, Window()) for visitor in visitors for _ in range(kind.windows)))
+        finally:
+            is_over.set()
+
+    is_over = asyncio.Event()
+    for visitor in visitors:
+        await visitor.begin()
+    await asyncio.gather(work_all(), disturb())
+
+
+async def judge(settings: Settings, visitor: Visitor, tally: Tally) -> None:
+    """Compares what a visitor was told with the store, and the service with the engine."""
+    vault = Vault(settings.key)
+    seal = vault.seal(visitor.secret)
+    with Store(settings.store).seen(vault.name(visitor.secret)) as hold:
+        head = hold.head()
+        kept = hold.changes(0) if head else []
+    tally.acknowledged += len(visitor.acknowledged)
+    tally.repeated += visitor.repeated
+    ids = {change.id for change in kept}
+    tally.lost += len(visitor.acknowledged.keys() - ids)
+    tally.others += len(ids - visitor.acknowledged.keys()) + len(kept) - len(ids)
+    tally.wrong += [change.revision for change in kept] != list(range(1, len(kept) + 1))
+    with Session.open(DICTIONARY) as session:
+        for change in kept:
+            name = f"change {head.visit} {change.revision} {change.id}"  # type: ignore[union-attr] # changes have a head
+            line, reply, _ = json.loads(seal.open(change.sealed, name))
+            told = visitor.acknowledged.get(change.id)
+            tally.wrong += told is not None and told != (line, reply) or session.line(line).removesuffix("\n") != reply
+        known = {"visit": visitor.visit, "revision": 0}
+        answered = (await visitor.post("answer", {**known, "questions": QUESTIONS})).json()
+        tally.wrong += answered["replies"] != [session.line(question).removesuffix("\n") for question in QUESTIONS]
+        if kept:
+            tally.wrong += (await visitor.post("save", known)).body != session.save()
+
+
+async def judge_all(settings: Settings, visitors: list[Visitor], tally: Tally) -> None:
+    for visitor in visitors:
+        await judge(settings, visitor, tally)
+
+
+def run(name: str, store: str, visitors: int, changes: int, seed: int, tally: Tally) -> None:
+    """A run of a kind over a store."""
+    kind, pick = KINDS[name], random.Random(seed)
+    with disk(name == "disk") as folder:
+        place = STORES[store](folder)
+        try:
+            settings = Settings(DICTIONARY, place.place, secrets.token_bytes(32), rate=1_000_000, cache=visitors // 2)
+            with served(settings, 2) as workers:
+                everybody = [Visitor([worker.port for worker in workers], random.Random(pick.random())) for _ in range(visitors)]
+                asyncio.run(change_all(kind, place, workers, everybody, max(kind.windows, changes // visitors), pick))
+                asyncio.run(judge_all(settings, everybody, tally))
+        finally:
+            place.close()
+    tally.runs += 1
+
+
+
+
+def main(words: list[str]) -> int:
+    arguments = argparse.ArgumentParser(prog="service/tests/faults.py", description="Faults of the interview service.")
+    arguments.add_argument("--runs", type=int, default=1)
+    arguments.add_argument("--visitors", type=int, default=20)
+    arguments.add_argument("--changes", type=int, default=400)
+    arguments.add_argument("--seed", type=int, default=1)
+    arguments.add_argument("--store", action="append", choices=STORES)
+    arguments.add_argument("kinds", nargs="*", metavar="KIND", help=", ".join(KINDS))
+    given = arguments.parse_args(words)
+    total = Tally()
+    for name in given.kinds or KINDS:
+        for store in given.store or STORES:
+            tally, begun = Tally(), time.monotonic()
+            for number in range(given.runs):
+                run(name, store, given.visitors, given.changes, given.seed + number, tally)
+            seconds = time.monotonic() - begun
+            print(f"{name:9} {store:9} {tally.runs} runs, {tally.acknowledged} changes acknowledged, {tally.repeated} requests repeated, "
+                  f"{tally.lost} lost, {tally.others} others, {tally.wrong} wrong, {seconds:.0f} s", flush=True)
+            for name_of in ("runs", "acknowledged", "lost", "others", "wrong"):
+                setattr(total, name_of, getattr(total, name_of) + getattr(tally, name_of))
+    print(f"faults: {total.runs} runs, {total.acknowledged} changes acknowledged, {total.lost} lost, {total.others} others, {total.wrong} wrong")
+    return 0 if total.is_well() else 1
+
+
+if __name__ == "__main__":
+    sys.exit(main(sys.argv[1:]))

@@ -1,0 +1,106 @@
+"""The page in a browser, and what a person does there."""
+
+from __future__ import annotations
+
+import os
+from pathlib import Path
+from typing import Any
+
+from selenium.webdriver.common.by import By
+from selenium.webdriver.common.keys import Keys
+from selenium.webdriver.support.wait import WebDriverWait
+
+from servers import Worker
+
+SECONDS = 300
+WIDE = 1280
+PICTURES = os.environ.get("FACT_GRAPH_PICTURES")
+"""A folder for pictures of the page, where they are wanted."""
+
+END = """
+const headers = { "Content-Type": "application/json", "X-Token": document.querySelector("meta[name=token]").content };
+return fetch("end", { method: "POST", headers, body: "{}" }).then(() => 0);
+"""
+
+
+class Screen:
+    """A page in a browser, and what a person does there."""
+
+    def __init__(self, driver: Any, worker: Worker) -> None:
+        self.driver, self.address = driver, f"http://127.0.0.1:{worker.port}/"
+
+    def open(self, width: int = WIDE) -> Screen:
+        """Opens the page for a new visitor."""
+        self.size(width)
+        self.driver.get(self.address)
+        self.until("document.querySelector('.result, .field') !== null")
+        self.js(END)
+        return self.load()
+
+    def load(self) -> Screen:
+        """Loads the page anew."""
+        self.driver.get(self.address)
+        self.until("document.querySelector('.result, .field') !== null")
+        return self
+
+    def size(self, width: int, height: int = 900) -> None:
+        """Gives the page this width, whatever the window's edges are."""
+        self.driver.set_window_rect(0, 0, width, height)
+        self.driver.get("about:blank")
+        if self.driver.execute_script("return innerWidth") != width and hasattr(self.driver, "execute_cdp_cmd"):
+            self.driver.execute_cdp_cmd("Emulation.setDeviceMetricsOverride", {"width": width, "height": height, "deviceScaleFactor": 1, "mobile": False})
+
+    def js(self, code: str, *given: Any) -> Any:
+        """What a script returns."""
+        return self.driver.execute_script(code, *given)
+
+    def until(self, code: str) -> None:
+        """Waits until the code gives a true value."""
+        WebDriverWait(self.driver, SECONDS).until(lambda _: self.js(f"return Boolean({code})"), code)
+
+    def saved(self) -> None:
+        """Waits until all changes are answered."""
+        self.until("document.querySelector('main').dataset.state === 'idle'")
+
+    def find(self, selector: str) -> Any:
+        return self.driver.find_element(By.CSS_SELECTOR, selector)
+
+    def field(self, slot: str, inside: str = "input, select") -> Any:
+        """The first part of a field of this kind, once the field is there."""
+        selector = f'.field[data-slot="{slot}"] :is({inside})'
+        WebDriverWait(self.driver, SECONDS).until(lambda _: self.driver.find_elements(By.CSS_SELECTOR, selector), selector)
+        return self.find(selector)
+
+    def write(self, slot: str, text: str) -> None:
+        """Writes into a field over what stands there, and leaves it by the tabulator."""
+        field = self.field(slot)
+        field.send_keys(Keys.CONTROL, "a")
+        field.send_keys(text, Keys.TAB)
+
+    def choose(self, slot: str, value: str) -> None:
+        """Chooses by the keyboard."""
+        self.field(slot, f'input[value="{value}"]').send_keys(Keys.SPACE)
+        self.saved()
+
+    def press(self, text: str) -> Any:
+        """Presses a button by the keyboard."""
+        button = next(it for it in self.driver.find_elements(By.CSS_SELECTOR, "button") if it.text.strip().startswith(text))
+        button.send_keys(Keys.ENTER)
+        return button
+
+    def result(self, slot: str) -> str:
+        return str(self.js("return document.querySelector(`.result[data-slot=\"${arguments[0]}\"] dd`).firstChild.textContent", slot))
+
+    def error(self, slot: str) -> str:
+        return str(self.js("return document.querySelector(`.field[data-slot=\"${arguments[0]}\"] .error`).textContent", slot))
+
+    def text(self, selector: str) -> str:
+        return str(self.js("return document.querySelector(arguments[0])?.textContent ?? ''", selector))
+
+    def focused(self) -> str:
+        return str(self.js("return document.activeElement.closest('[data-slot]')?.dataset.slot ?? document.activeElement.textContent"))
+
+    def picture(self, name: str) -> None:
+        if PICTURES:
+            Path(PICTURES).mkdir(parents=True, exist_ok=True)
+            self.driver.save_screenshot(f"{PICTURES}/{name}.{self.driver.name or 'firefox'}.png")

@@ -1,0 +1,381 @@
+"""The page in Chromium and Firefox, as people use it: by keyboard, on a narrow screen, by what they hear."""
+
+from __future__ import annotations
+
+import secrets
+import signal
+import time
+from pathlib import Path
+from typing import Any
+
+import pytest
+from selenium.webdriver.common.action_chains import ActionChains
+from selenium.webdriver.common.by import By
+from selenium.webdriver.common.keys import Keys
+
+from fact_graph_service.settings import Settings
+from pages import EXAMPLES
+from screens import Screen
+from servers import Worker, served
+
+NARROW = 320
+
+CONTRAST = """
+const light = (colour) => {
+  const parts = colour.match(/[\\d.]+/g).map(Number);
+  const [r, g, b] = parts.slice(0, 3).map((it) => it / 255).map((it) => (it <= 0.04045 ? it / 12.92 : ((it + 0.055) / 1.055) ** 2.4));
+  return 0.2126 * r + 0.7152 * g + 0.0722 * b;
+};
+const groundOf = (element) => {
+  for (let at = element; at; at = at.parentElement) {
+    const colour = getComputedStyle(at).backgroundColor;
+    if (!/, 0\\)$/.test(colour) && colour !== "transparent") return colour;
+  }
+  return "rgb(255, 255, 255)";
+};
+const poor = [];
+for (const element of document.querySelectorAll("body *")) {
+  const hasText = [...element.childNodes].some((it) => it.nodeType === 3 && it.textContent.trim() !== "");
+  if (!hasText || !element.checkVisibility() || element.closest(".sr-only, [disabled]")) continue;
+  const [a, b] = [light(getComputedStyle(element).color), light(groundOf(element))].sort((x, y) => y - x);
+  if ((a + 0.05) / (b + 0.05) < 4.5) poor.push(`${element.tagName} ${element.className} ${element.textContent.slice(0, 20)}`);
+}
+return poor;
+"""
+
+ANSWERS = """
+return [...document.querySelectorAll(".answer")].map((it) => `${it.querySelector("dt").textContent} = ${it.querySelector("dd").firstChild.textContent}`);
+"""
+
+REASONS = """
+return [...document.querySelectorAll('.result[data-slot="/help"] > dd > details > ul > li')]
+  .map((it) => `${it.querySelector("span").textContent}: ${it.querySelector("strong").textContent}`);
+"""
+
+BROKEN = """
+const names = ["aria-describedby", "aria-labelledby", "for"];
+return [...document.querySelectorAll(names.map((name) => `[${name}]`).join())]
+  .flatMap((it) => names.flatMap((name) => (it.getAttribute(name) ?? "").split(" ").filter(Boolean)))
+  .filter((id) => !document.getElementById(id));
+"""
+
+OTHER = """
+const line = arguments[0];
+return import("/page/http_engine.js").then((it) => it.openEngine()).then(async (engine) => {
+  await engine.answer(null, []);
+  %s
+});
+"""
+OTHER_CHANGES = OTHER % "return (await engine.answer({ id: crypto.randomUUID(), line }, [])).reply;"
+OTHER_ENDS = OTHER % "await engine.end(); return 1;"
+
+CONTROLS = """
+return [...document.querySelectorAll("button, input, select, summary, a[href]")].filter((it) => it.checkVisibility());
+"""
+
+SMALL_TARGETS = """
+return [...document.querySelectorAll("button, input:not(.sr-only), select, summary, a[href], label.button")]
+  .filter((it) => it.checkVisibility() && !it.matches(".skip"))
+  .filter((it) => { const box = it.getBoundingClientRect(); return box.width < 24 || box.height < 24; })
+  .filter((it) => !it.closest("p, li"))
+  .map((it) => it.outerHTML.slice(0, 80));
+"""
+
+
+@pytest.fixture
+def screen(driver: Any, worker: Worker) -> Screen:
+    """The page of a visitor who answered nothing."""
+    return Screen(driver, worker).open()
+
+
+def fill(screen: Screen) -> None:
+    """A household, filled in by keyboard alone."""
+    screen.write("/bill", "$1,240.50")
+    screen.saved()
+    screen.choose("/tenure", "rents")
+    screen.press("Add person")
+    screen.saved()
+    screen.until("document.querySelector('.field[data-slot=\"/people/#1/born\"]') !== null")
+    month, day, year = screen.driver.find_elements(By.CSS_SELECTOR, '.field[data-slot="/people/#1/born"] input')
+    month.send_keys("11")
+    day.send_keys("30")
+    year.send_keys("1958", Keys.TAB)
+    screen.write("/people/#1/wages", "0")
+    screen.write("/savings", "4000.")
+    screen.saved()
+
+
+def test_a_household_is_filled_in_by_keyboard(screen: Screen) -> None:
+    fill(screen)
+    screen.until("document.querySelector('.result[data-slot=\"/help\"]').dataset.kind === 'final'")
+    assert (screen.result("/help"), screen.result("/outcome")) == ("$1,240.50", "Full")
+    screen.picture("filled")
+    assert "All answers are saved." in screen.text(".status")
+    screen.press("Review your answers")
+    screen.until("document.querySelector('.review:not([hidden])') !== null")
+    answers = screen.js(ANSWERS)
+    assert "Heating bill = $1,240.50" in answers and "Person 1: Born on = November 30, 1958" in answers
+    screen.picture("review")
+    screen.driver.find_element(By.CSS_SELECTOR, '.answer[data-slot="/bill"] button').send_keys(Keys.ENTER)
+    assert screen.focused() == "/bill"
+
+
+def test_amounts_are_taken_as_people_write_them(screen: Screen) -> None:
+    for text in ("1,240.50", "$1240.50", "1240.5", "$ 1,240.50"):
+        screen.write("/bill", text)
+        screen.saved()
+        assert (screen.error("/bill"), screen.field("/bill").get_property("value")) == ("", "1,240.50")
+
+
+def test_what_is_wrong_is_told_in_plain_words_beside_the_field_and_in_a_summary(screen: Screen) -> None:
+    screen.write("/bill", "6000")
+    screen.until("document.querySelector('.summary:not([hidden])') !== null")
+    assert screen.error("/bill") == "Error: Enter $5,000.00 or less."
+    screen.write("/caseNumber", "12-345678")
+    screen.until("document.querySelectorAll('.summary li').length === 2")
+    assert screen.error("/caseNumber") == "Error: Enter exactly nine digits, without blanks or dashes."
+    assert screen.text(".summary h3") == "Please correct these 2 answers"
+    assert "All answers are saved." not in screen.text(".status")
+    screen.picture("errors")
+    screen.choose("/tenure", "rents")
+    assert screen.error("/bill") != "", "another answer doesn't wipe it"
+    screen.press("Review your answers")
+    screen.until("document.activeElement.className === 'summary'")
+    screen.find(".summary a").send_keys(Keys.ENTER)
+    assert screen.focused() in ("/bill", "/caseNumber")
+    assert screen.field("/bill").accessible_name.startswith("Heating bill")
+    assert screen.field("/bill").get_attribute("aria-invalid") == "true" if hasattr(screen.driver, "execute_cdp_cmd") else True
+
+
+def test_an_earlier_answer_wipes_no_later_error(screen: Screen, worker: Worker) -> None:
+    worker.send(signal.SIGSTOP)
+    try:
+        screen.write("/bill", "5")
+        screen.write("/bill", "x")
+    finally:
+        worker.send(signal.SIGCONT)
+    screen.saved()
+    assert (screen.error("/bill"), screen.field("/bill").get_property("value")) == ("Error: Enter an amount in dollars, such as 1,240.50.", "x")
+
+
+def test_an_answer_that_was_not_sent_is_never_shown_as_sent(screen: Screen, worker: Worker) -> None:
+    screen.write("/bill", "1240.50")
+    screen.saved()
+    worker.end(signal.SIGKILL)
+    try:
+        screen.write("/bill", "2000")
+        screen.until("document.querySelector('.status').className.includes('waiting')")
+        assert "isn't saved yet" in screen.text(".status")
+        assert "Not saved yet" in screen.text('.field[data-slot="/bill"] .note')
+        assert screen.js("return !document.querySelector('.outdated').hidden")
+        screen.picture("offline")
+        screen.field("/tenure", 'input[value="rents"]').send_keys(Keys.SPACE)
+    finally:
+        worker.begin()
+    screen.saved()
+    assert (screen.text('.field[data-slot="/bill"] .note'), screen.field("/bill").get_property("value")) == ("", "2,000.00")
+    assert "value /bill 2000.00\nvalue" not in screen.text("body")
+    screen.load()
+    screen.until("document.querySelector('.field[data-slot=\"/bill\"] input').value === '2,000.00'")
+    assert screen.js("return document.querySelector('.field[data-slot=\"/tenure\"] input[value=rents]').checked"), "all stands after a new start"
+
+
+def test_a_call_that_takes_long_is_seen(screen: Screen, worker: Worker) -> None:
+    worker.send(signal.SIGSTOP)
+    try:
+        screen.write("/bill", "5")
+        screen.until("document.querySelector('.status').className.includes('sending')")
+        assert screen.text(".status") == "Saving…"
+        assert screen.text('.field[data-slot="/bill"] .note') == "Saving…"
+    finally:
+        worker.send(signal.SIGCONT)
+    screen.saved()
+
+
+def test_focus_stays_where_it_is(screen: Screen) -> None:
+    screen.choose("/tenure", "rents")
+    for _ in range(3):
+        button = screen.press("Undo")
+        screen.saved()
+        assert screen.js("return document.activeElement === arguments[0]", button)
+    assert "nothing to undo" in screen.text(".status")
+    screen.press("Add person")
+    screen.saved()
+    assert screen.focused() == "/people/#1/born"
+    screen.press("Remove")
+    screen.saved()
+    assert screen.focused() == "/people"
+
+
+def test_what_moves_is_heard_with_its_name(screen: Screen) -> None:
+    fill(screen)
+    screen.write("/bill", "1000")
+    screen.saved()
+    screen.until("document.querySelector('[role=status].sr-only').textContent !== ''")
+    assert screen.text("[role=status].sr-only") == "Amount of help: $1,000.00, final"
+    assert screen.js("return document.querySelectorAll('.result [aria-live], .result [role=status]').length") == 0
+
+
+def test_why_a_figure_is_what_it_is(screen: Screen) -> None:
+    fill(screen)
+    screen.js("document.querySelector('.result[data-slot=\"/help\"] summary').scrollIntoView()")
+    screen.find('.result[data-slot="/help"] summary').send_keys(Keys.ENTER)
+    screen.until("document.querySelectorAll('.result[data-slot=\"/help\"] li').length > 1")
+    assert sorted(screen.js(REASONS)) == ["Heating bill: $1,240.50", "Help is granted: Full"]
+
+
+def test_a_narrow_screen_has_all(driver: Any, worker: Worker) -> None:
+    screen = Screen(driver, worker).open(NARROW)
+    assert screen.js("return innerWidth") <= max(NARROW, 500 if not hasattr(driver, "execute_cdp_cmd") else NARROW)
+    fill(screen)
+    assert screen.js("return document.documentElement.scrollWidth <= innerWidth")
+    assert screen.js("return document.querySelector('.follows').getBoundingClientRect().top < document.querySelector('.asked').getBoundingClientRect().top")
+    assert screen.js("const box = document.querySelector('.follows').getBoundingClientRect(); return box.top + scrollY < 1200")
+    screen.picture("narrow")
+
+
+def test_each_control_has_a_name_that_has_what_is_seen(screen: Screen) -> None:
+    fill(screen)
+    for control in screen.js(CONTROLS):
+        name, seen = control.accessible_name, control.text.strip()
+        assert name, control.get_property("outerHTML")
+        assert " ".join(seen.split()) in " ".join(name.split()), (seen, name)
+
+
+def test_the_page_keeps_the_rules_that_can_be_counted(screen: Screen) -> None:
+    fill(screen)
+    screen.write("/bill", "x")
+    screen.until("document.querySelector('.summary:not([hidden])') !== null")
+    assert screen.js(CONTRAST) == []
+    assert screen.js(SMALL_TARGETS) == []
+    assert screen.js("const ids = [...document.querySelectorAll('[id]')].map((it) => it.id); return ids.length - new Set(ids).size") == 0
+    assert screen.js(BROKEN) == []
+    assert screen.js("return [document.documentElement.lang, document.title]") == ["en", "Help with the heating bill"]
+    assert screen.js("return ['h1', 'main', 'header'].map((it) => document.querySelectorAll(it).length)") == [1, 1, 1]
+    levels = screen.js("return [...document.querySelectorAll('h1, h2, h3, h4')].filter((it) => it.checkVisibility()).map((it) => Number(it.tagName[1]))")
+    assert levels[0] == 1 and all(after <= before + 1 for before, after in zip(levels, levels[1:]))
+    assert screen.js("return document.querySelectorAll('fieldset:not(:has(> legend))').length") == 0
+
+
+def test_the_focus_is_seen(screen: Screen) -> None:
+    for _ in range(12):
+        ActionChains(screen.driver).send_keys(Keys.TAB).perform()
+        style = screen.js("const it = document.activeElement, style = getComputedStyle(it); return [style.outlineStyle, style.outlineWidth, it.className]")
+        assert style[0] != "none" and style[1] != "0px" or "sr-only" in style[2], style
+
+
+def test_the_words_are_spanish_where_they_are_asked_for(screen: Screen) -> None:
+    screen.press("Español")
+    screen.until("document.documentElement.lang === 'es'")
+    assert screen.text("h1") == "Ayuda con la factura de la calefacción"
+    screen.write("/bill", "6000")
+    screen.until("document.querySelector('.summary:not([hidden])') !== null")
+    assert screen.error("/bill") == "Error: Escriba $5,000.00 o menos."
+    labels = screen.js("return [...document.querySelectorAll('.choice label')].map((it) => it.textContent)")
+    assert labels == ["Alquilamos", "Es nuestra", "Otra cosa"]
+    screen.picture("spanish")
+
+
+def test_what_ends_is_asked_and_erased(screen: Screen) -> None:
+    fill(screen)
+    opener = screen.press("End and erase")
+    screen.until("document.querySelector('dialog[open]') !== null")
+    screen.find("dialog button").send_keys(Keys.ENTER)
+    screen.until("document.querySelector('dialog') === null")
+    assert screen.js("return document.activeElement === arguments[0]", opener)
+    screen.press("End and erase")
+    screen.press("Erase my answers")
+    screen.until("document.querySelector('.over') !== null")
+    assert screen.text(".over h2") == "Your answers were erased."
+    screen.load()
+    assert screen.field("/bill").get_property("value") == ""
+
+
+def test_a_window_whose_answers_are_gone_says_so_and_keeps_what_is_seen(screen: Screen) -> None:
+    screen.write("/bill", "5")
+    screen.saved()
+    assert screen.js(OTHER_ENDS) == 1
+    screen.write("/savings", "7")
+    screen.until("document.querySelector('.over') !== null")
+    assert screen.text(".over h2") == "Your answers are no longer kept"
+    assert screen.field("/bill").get_property("value") == "5.00"
+
+
+def test_another_window_is_told(screen: Screen) -> None:
+    screen.write("/bill", "5")
+    screen.saved()
+    assert screen.js(OTHER_CHANGES, "set /bill 6") == "ok"
+    screen.write("/savings", "7")
+    screen.saved()
+    assert screen.field("/bill").get_property("value") == "6.00"
+    assert "another window" in screen.text("[role=alert]")
+    assert screen.field("/savings").get_property("value") == "7.00", "what the other window left alone is answered"
+    assert screen.js(OTHER_CHANGES, "set /bill 8") == "ok"
+    screen.write("/bill", "9")
+    screen.until("document.querySelector('.field[data-slot=\"/bill\"] .error').textContent !== ''")
+    assert "wasn't saved" in screen.error("/bill")
+    screen.saved()
+    assert screen.field("/bill").get_property("value") == "8.00", "what stands is seen"
+    assert screen.js(OTHER_CHANGES, "undo") == "ok"
+    assert screen.load().field("/bill").get_property("value") == "6.00", "the 9 was never made"
+
+
+def test_a_warning_comes_before_the_time_is_over(driver: Any, tmp_path: Path) -> None:
+    settings = Settings(EXAMPLES / "screener.json", f"sqlite:{tmp_path}/store.sqlite", secrets.token_bytes(32), minutes=1, rate=10_000)
+    with served(settings) as workers:
+        screen = Screen(driver, workers[0]).open()
+        screen.write("/bill", "5")
+        screen.saved()
+        begun = time.monotonic()
+        screen.until("document.querySelector('dialog[open]') !== null")
+        assert 20 < time.monotonic() - begun
+        assert screen.text("dialog h2") == "Are you still there?"
+        screen.press("Keep my answers")
+        screen.until("document.querySelector('dialog') === null")
+        assert screen.field("/bill").get_property("value") == "5.00"
+
+
+SMALL = """{"version":"1","facts":[
+{"path":"/wages","writable":"Dollar"},
+{"path":"/people","writable":"Collection"},
+{"path":"/people/*/age","writable":"Int","limits":[["Max","120"]]},
+{"path":"/children","derived":"Collection(/people)","is":["Filter","/people",["LessThan",["Dependency","age"],["Int","18"]]]},
+{"path":"/credit","derived":"Dollar","is":["Add",["Dependency","/wages"],["Multiply",["Dollar","100"],["CollectionSize","/children"]]]}]}"""
+
+
+def test_one_question_a_screen(driver: Any, tmp_path: Path) -> None:
+    (tmp_path / "small.json").write_text(SMALL)
+    (tmp_path / "small.page").write_text('{"layout": "one", "labels": {"/people/*": "Person"}}')
+    with served(Settings(tmp_path / "small.json", f"sqlite:{tmp_path}/store.sqlite", secrets.token_bytes(32), rate=10_000)) as workers:
+        screen = Screen(driver, workers[0]).open(NARROW)
+        seen = "return [...document.querySelectorAll('.asked .field')].map((it) => it.dataset.slot)"
+        assert screen.js(seen) == ["/wages"]
+        screen.press("Continue")
+        screen.until("document.activeElement.className === 'summary'")
+        assert screen.error("/wages") == "Error: Enter an answer."
+        screen.field("/wages").send_keys("1,000", Keys.ENTER)
+        screen.until("document.querySelector('.field[data-slot=\"/people\"]') !== null")
+        screen.press("Add person")
+        screen.saved()
+        screen.press("Continue")
+        screen.until("document.querySelector('.field[data-slot=\"/people/#1/age\"]') !== null")
+        assert screen.text(".asked .member-name") == "Person 1"
+        screen.field("/people/#1/age").send_keys("130", Keys.ENTER)
+        screen.until("document.activeElement.className === 'summary'")
+        assert screen.error("/people/#1/age") == "Error: Enter 120 or less."
+        screen.write("/people/#1/age", "7")
+        screen.saved()
+        assert screen.result("/credit") == "$1,100.00"
+        screen.press("Continue")
+        screen.until("document.querySelector('.review:not([hidden])') !== null")
+        assert screen.text(".review .progress") == "All questions are answered."
+
+
+def test_a_dictionary_with_only_questions_has_a_page(driver: Any, tmp_path: Path) -> None:
+    (tmp_path / "only.json").write_text('{"version":"1","facts":[{"path":"/name","writable":"Text"},{"path":"/age","writable":"Int"}]}')
+    with served(Settings(tmp_path / "only.json", f"sqlite:{tmp_path}/store.sqlite", secrets.token_bytes(32), rate=10_000)) as workers:
+        screen = Screen(driver, workers[0]).open()
+        screen.write("/name", "Ada")
+        screen.write("/age", "36")
+        screen.saved()
+        screen.until("document.querySelector('.progress').textContent === 'All questions are answered.'")

@@ -1,0 +1,238 @@
+#!/usr/bin/env python3
+"""Counts the steps of the built program, change by change, and compares them with what was worked out by hand.
+
+    tests/count_steps.py [--program PATH]
+
+Nothing is built. A step is a visit of a node: one call of `node_eval::evaluating::visit`, or of `node_eval::reads::see_dependency`
+for an operand that is read where it stands. The counter that contracts see has no bytes, so a run can't read it. valgrind's
+callgrind counts the calls of each function, and begins anew after each call of `write`: standard output has no buffer, so each
+reply is one write, and what is counted before it is what its command took. The first command asks, so before its reply stands the
+first evaluation of all slots.
+
+Each case below has a dictionary, and a script whose lines stand with the reply and the steps that are due. Behind a line stands
+what it touches: the slots, each with the nodes that are visited where there are any. A slot without a node is one that is answered
+or overridden.
+
+The exit status is 0 where none failed, 1 where one did, and 2 where there is no such program or no valgrind.
+"""
+import json
+import re
+import sys
+import tempfile
+from collections.abc import Iterator
+from concurrent.futures import ThreadPoolExecutor
+from pathlib import Path
+from typing import Any
+
+from harness import Tally, add_program, run, tool, words_of
+
+VISITS = ("node_eval::evaluating::visit", "node_eval::reads::see_dependency")
+
+# A command, its reply, and its steps.
+Line = tuple[str, str, int]
+
+# ---- a small dictionary, counted in full
+
+SMALL: dict[str, Any] = {"version": "2", "facts": [
+    {"path": "/p", "writable": "Boolean", "placeholder": ["False"]},
+    {"path": "/a", "writable": "Int"},
+    {"path": "/x", "derived": "Int", "is": [
+        "Switch", ["Case", ["Dependency", "/p"], ["Int", "1"]], ["Case", ["True"], ["Add", ["Dependency", "/a"], ["Int", "1"]]]]},
+    {"path": "/i", "derived": "Boolean", "is": ["IsComplete", "/a"]},
+    # its node is a Switch: where /i is true 7, else, where True is, /x
+    {"path": "/w", "derived": "Int", "is": ["Dependency", "/x"], "conditional": [["Dependency", "/i"], ["Int", "7"]]},
+    {"path": "/c", "writable": "Collection"},
+    {"path": "/c/*/k", "writable": "Boolean"},
+    {"path": "/c/*/n", "derived": "Int", "is": ["Switch", ["Case", ["Dependency", "../k"], ["Int", "1"]], ["Case", ["True"], ["Int", "0"]]]},
+    {"path": "/l", "derived": "Collection(/c)", "is": ["Filter", "/c", ["Dependency", "k"]]},
+    {"path": "/f", "derived": "Item(/c)", "is": ["Find", "/c", ["Dependency", "k"]]},
+    {"path": "/g", "derived": "Int", "is": ["Dependency", "/f/n"]},
+    {"path": "/t", "derived": "Int", "is": ["CollectionSum", "/l/*/n"]},
+]}
+
+SMALL_LINES: list[Line] = [
+    # all slots: /p 1, its placeholder; /x 6: Switch, /p, True, Add, /a, 1; /i 1; /w 4: Switch, /i, True, /x; /l 1 and /f 1, of
+    # no members; /g 1; /t 1
+    ("get /x", "incomplete", 16),
+    # /c; /l 1, now of no members, and so /t 1; /f 1, still incomplete, so not /g
+    ("open /c", "ok", 3),
+    # /c; k and n of #1, 2: Switch, ../k; /l 2: Filter, k of #1; it is incomplete now, so /t 1; /f 2: Find, k of #1
+    ("add /c", "ok #1", 7),
+    # /c; k and n of #2, 2; /l 3: Filter, k of both; it was incomplete, so not /t; /f 2: Find, k of #1, which isn't answered
+    ("add /c", "ok #2", 7),
+    # k of #2; its n 3: Switch, ../k, 1; /l 3; /f 2; /g 1 and /t 1, since n has another result
+    ("set /c/#2/k true", "ok", 10),
+    # k of #1; its n 4: Switch, ../k, True, 0; /l 3; /f 3: Find, k of #1, which is false, and of #2; /g 1; /t 1
+    ("set /c/#1/k false", "ok", 12),
+    # nothing: that value stands
+    ("set /c/#1/k false", "ok", 0),
+    ("get /t", "complete 1", 0),
+    # k of #1; its n 3: Switch, ../k, 1; /l 3; /f 2, k of #1 alone; /g 1; /t 1
+    ("set /c/#1/k true", "ok", 10),
+    # as when it was set to false; and to true
+    ("undo", "ok", 12),
+    ("redo", "ok", 10),
+    # /p, whose placeholder isn't asked; /x 3: Switch, /p, 1; /w 4
+    ("set /p true", "ok", 7),
+    # /a; not /x, whose result is final; /i 1; /w 3: Switch, /i, 7
+    ("set /a 5", "ok", 4),
+    # /x, without a node; /w 3
+    ("override /x 9", "ok", 3),
+    # /a; /x, without a node; /i 1, still true
+    ("set /a 6", "ok", 1),
+    ("get /x", "complete 9", 0),
+    # /x 3: Switch, /p, 1; /w 3
+    ("release /x", "ok", 6),
+    # /p 1, its placeholder; /x 6; /w 3
+    ("clear /p", "ok", 10),
+    ("get /x", "placeholder 7", 0),
+    # /c; /l 2: Filter, k of #1; /t 1; /f 2: Find, k of #1; it finds the same, so not /g
+    ("remove /c #2", "ok", 5),
+    ("get /t", "complete 1", 0),
+    # /c; k and n of #2, 3: Switch, ../k, 1; /l 3; /t 1; /f 2
+    ("undo", "ok", 9),
+    # what is refused, and what asks
+    ("set /c/#9/k true", "refused 4 NoMember", 0),
+    ("final /w", "open", 0),
+    ("touched", "touched 6", 0),
+]
+
+# ---- a large one: 1,902 facts, and 189,804 slots once there are 100 members
+
+MEMBERS = 100
+IDLE = 1_895
+ONES = [["Int", "1"]] * 19
+
+
+def large() -> Iterator[dict[str, Any]]:
+    """The facts of the large dictionary."""
+    yield {"path": "/y", "writable": "Int"}
+    yield {"path": "/g", "derived": "Int", "is": ["Add", ["Dependency", "/y"]] + ONES}
+    yield {"path": "/c", "writable": "Collection"}
+    yield {"path": "/c/*/a", "writable": "Int"}
+    yield {"path": "/c/*/b", "derived": "Int", "is": ["Add", ["Dependency", "../a"], ["Int", "1"]]}
+    yield {"path": "/c/*/d", "derived": "Int", "is": ["Multiply", ["Dependency", "../a"], ["Int", "2"]]}
+    yield {"path": "/t", "derived": "Int", "is": ["CollectionSum", "/c/*/b"]}
+    for k in range(1, IDLE + 1):
+        yield {"path": f"/c/*/m{k}", "derived": "Int", "is": ["Add", ["Int", "1"]] + ONES}
+
+
+# The fields of a member that comes: each m 21, b 3, d 3; and /t 1.
+COMES = 21 * IDLE + 3 + 3 + 1
+
+LARGE_LINES: list[Line] = [
+    # all slots: /g 21: Add, its 20 operands; /t 1
+    ("get /g", "incomplete", 22),
+    *(("add /c", f"ok #{k}", COMES) for k in range(1, MEMBERS + 1)),
+    # /y; /g 21
+    ("set /y 1", "ok", 21),
+    ("set /y 1", "ok", 0),
+    # a of #7; its b 3: Add, ../a, 1; its d 3: Multiply, ../a, 2; /t 1
+    ("set /c/#7/a 5", "ok", 7),
+    ("set /c/#7/a 5", "ok", 0),
+    ("set /c/#7/a 6", "ok", 7),
+    ("undo", "ok", 7),
+    ("redo", "ok", 7),
+    ("clear /c/#7/a", "ok", 7),
+    # b of #8, without a node; /t 1
+    ("override /c/#8/b 9", "ok", 1),
+    ("override /c/#8/b 9", "ok", 0),
+    # a of #8; its d 3; not its b, whose result is final
+    ("set /c/#8/a 4", "ok", 3),
+    # a of #8; its d 3; its b, without a node
+    ("set /c/#8/a 5", "ok", 3),
+    # b of #8, 3; /t 1
+    ("release /c/#8/b", "ok", 4),
+    # b of #8, without a node; /t 1
+    ("undo", "ok", 1),
+    ("redo", "ok", 4),
+    # /c; /t 1
+    ("remove /c #7", "ok", 1),
+    ("undo", "ok", COMES),
+    ("redo", "ok", 1),
+    ("add /c", "ok #101", COMES),
+    ("undo", "ok", 1),
+    ("set /c/#7/a 5", "refused 4 NoMember", 0),
+    ("get /c/#100/m1", "complete 20", 0),
+    ("stamp /c/#1/m1", "stamp 1", 0),
+]
+
+
+# ---- counting
+
+def visits_in(part: Path) -> int:
+    """How often the functions were called, by a part of what callgrind wrote."""
+    names: dict[str, str] = {}
+    callee, count = "", 0
+    for line in part.read_text().split("\n"):
+        named = re.match(r"c?fn=(\(\d+\))(?: (.*))?$", line)
+        if named:
+            names.setdefault(named[1], named[2])
+            if line.startswith("c"):
+                callee = names[named[1]]
+        elif line.startswith("calls=") and is_visit(callee):
+            count += int(line[6:].split(" ")[0])
+    return count
+
+
+def is_visit(name: str) -> bool:
+    """Whether it is one of the functions, at whichever types, or a clone of it, within however many calls of its own."""
+    return re.match(f"({'|'.join(map(re.escape, VISITS))})" + r"(::<[^>]*>)?(\.[\w.]+)?('\d+)?$", name) is not None
+
+
+class NotCounted(Exception):
+    """Why nothing was counted."""
+
+
+def counted(program: Path, folder: Path, dictionary: dict[str, Any], script: str) -> tuple[str, list[int], int]:
+    """The text that the program writes, the steps up to each of its writes, and those behind the last."""
+    folder.mkdir()
+    (folder / "d").write_text(json.dumps(dictionary))
+    valgrind = [tool("valgrind"), "--tool=callgrind", "--dump-after=write", "--callgrind-out-file=counts"]
+    ran = run([*valgrind, program, "run", "d"], folder, script.encode())
+    if ran.status != 0:
+        raise NotCounted(f"status {ran.status}: {ran.error.decode(errors='replace')[-300:]}")
+    parts = sorted(folder.glob("counts.*"), key=lambda path: int(path.suffix[1:]))
+    return ran.text.decode(), [visits_in(part) for part in parts], visits_in(folder / "counts")
+
+
+def wrong_lines(program: Path, folder: Path, dictionary: dict[str, Any], lines: list[Line]) -> Iterator[str]:
+    """For each line what is wrong with its reply and its steps, and nothing where they are those that are due."""
+    text, steps, left = counted(program, folder, dictionary, "".join(f"{command}\n" for command, _, _ in lines))
+    replies = text.split("\n")[:-1]
+    if not len(replies) == len(steps) == len(lines):
+        raise NotCounted(f"{len(lines)} replies are due, {len(replies)} came, in {len(steps)} writes")
+    if left != 0:
+        raise NotCounted(f"{left} steps behind the last reply")
+    for k, ((command, reply, due), said, came) in enumerate(zip(lines, replies, steps), 1):
+        wrong = [] if said == reply else [f"expected {reply!r}, came {said!r}"]
+        wrong += [] if came == due else [f"expected {due} steps, came {came}"]
+        yield f"line {k}, {command}: {', '.join(wrong)}" if wrong else ""
+
+
+def judged(program: Path, folder: Path, dictionary: dict[str, Any], lines: list[Line]) -> list[str]:
+    """What is wrong with each line, or why nothing was counted."""
+    try:
+        return list(wrong_lines(program, folder, dictionary, lines))
+    except NotCounted as why:
+        return [str(why)]
+
+
+def main(argv: list[str]) -> int:
+    """Counts the steps of both dictionaries."""
+    words = words_of(__doc__)
+    add_program(words)
+    program = words.parse_args(argv).program
+    tool("valgrind")
+    tally = Tally()
+    with tempfile.TemporaryDirectory(prefix="count_steps.") as folder, ThreadPoolExecutor(2) as pool:
+        cases = [("small", SMALL, SMALL_LINES), ("large", {"version": "1", "facts": list(large())}, LARGE_LINES)]
+        ran = [(name, pool.submit(judged, program, Path(folder, name), dictionary, lines)) for name, dictionary, lines in cases]
+        for name, wrongs in ran:
+            for wrong in wrongs.result():
+                tally.judge(name, wrong)
+    return tally.end()
+
+
+if __name__ == "__main__":
+    sys.exit(main(sys.argv[1:]))

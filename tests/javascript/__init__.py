@@ -1,0 +1,1 @@
+"""What tests/test_javascript.py runs the engine of pages and of Node by."""

@@ -1,0 +1,134 @@
+#!/usr/bin/env python3
+"""The program `interview` over the C library, for run_rows.py:
+
+    tests/run_rows.py --program tests/library/interview.py
+
+The words run, load, carry and save are answered through the library's functions as the Python package has them, a line of the
+script at a time and its reply in pieces. What the library doesn't have, as check, run-plain and year, is run by the program itself,
+crates/interview/out/interview; so is what can't be read, since the library reads no file. FACT_GRAPH_LIBRARY names another library
+than out/libfact_graph.so.
+"""
+from __future__ import annotations
+
+import ctypes
+import os
+import sys
+from collections.abc import Callable, Iterable
+from pathlib import Path
+
+TOP = Path(__file__).resolve().parent.parent.parent
+sys.path.insert(0, str(TOP / "python"))
+os.environ.setdefault("FACT_GRAPH_LIBRARY", str(TOP / "out" / "libfact_graph.so"))
+
+# pylint: disable=wrong-import-position  # the package stands in the repository
+from fact_graph import DictionaryRefused, OutOfMemory, SavedRefused  # noqa: E402
+from fact_graph._library import OVER, SAID, Fault, library  # noqa: E402
+
+PROGRAM = TOP / "crates" / "interview" / "out" / "interview"
+SCRIPT_LIMIT = 67_108_864
+# A reply is fetched in pieces of so many bytes, so that most replies take several.
+PIECE = 7
+# The words that the library serves, and how many stand with them.
+SERVED = {"run": 2, "save": 2, "load": 3, "carry": 3}
+
+
+class ScriptTooLong(Exception):
+    """The script has more bytes than one may have."""
+
+
+def refusal(numbers: Iterable[int]) -> bytes:
+    """The line with which the program ends for a fault, by the numbers of its fields; no text where there is none."""
+    fault = Fault(*numbers)
+    return f"{fault.error()}\n".encode() if fault.number else b""
+
+
+class Graph:
+    """A session, which its text follows from call to call."""
+
+    def __init__(self) -> None:
+        self.calls, self.at, self.size = library(), ctypes.c_void_p(), ctypes.c_size_t()
+        self.back, self.size_at = ctypes.byref(self.at), ctypes.byref(self.size)
+
+    def open(self, word: str, *files: bytes) -> None:
+        """Opens the session as the word says."""
+        fault = Fault()
+        texts = [it for text in files for it in (text, len(text))]
+        begin = {"load": self.calls.load, "carry": self.calls.carry}.get(word, self.calls.open)
+        number = begin(*texts, self.back, *([self.size_at] if word == "carry" else []), ctypes.byref(fault))
+        assert number == fault.number, (number, fault.number)
+        if number:
+            raise fault.error()
+
+    def text(self) -> bytes:
+        """What the last call said."""
+        said, piece = b"", ctypes.create_string_buffer(PIECE)
+        while count := self.calls.read(self.at, len(said), piece, PIECE, self.back):
+            said += piece.raw[:count]
+        assert len(said) == self.size.value, (len(said), self.size.value)
+        return said
+
+    def answer(self, line: bytes) -> bool:
+        """Answers a line, and returns whether the script is over."""
+        how = self.calls.answer(self.at, line, len(line), self.size_at, self.back)
+        if how not in (SAID, OVER):
+            raise OutOfMemory
+        return how == OVER
+
+    def save(self) -> None:
+        """Makes the saved text what is said."""
+        if self.calls.save(self.at, self.size_at, self.back) != SAID:
+            raise OutOfMemory
+
+    def close(self) -> None:
+        """Ends the session, where one was opened."""
+        if self.at:
+            self.calls.close(self.at)
+
+
+def answer_script(graph: Graph, script: bytes, write: Callable[[bytes], object]) -> None:
+    """Answers the lines of a script that are within the limit, until one is `quit`."""
+    *lines, last = script[:SCRIPT_LIMIT].split(b"\n")
+    for line in lines + ([last] if last and len(script) <= SCRIPT_LIMIT else []):
+        is_over = graph.answer(line)
+        write(graph.text())
+        if is_over:
+            assert graph.answer(b"undo") and not graph.text()
+            return
+    if len(script) > SCRIPT_LIMIT:
+        raise ScriptTooLong
+
+
+def run(graph: Graph, words: list[str], write: Callable[[bytes], object]) -> None:
+    """Does what the words say; none of the exceptions means status 0."""
+    word, *names = words
+    graph.open(word, *(Path(name).read_bytes() for name in names))
+    if word == "carry":
+        write(graph.text())
+    answer_script(graph, sys.stdin.buffer.read(), write if word != "save" else lambda text: None)
+    if word == "save":
+        graph.save()
+        write(graph.text())
+
+
+def main(argv: list[str]) -> int:
+    """Runs the words, and returns the exit status."""
+    if len(argv) != SERVED.get(argv[0] if argv else "") or not all(os.path.isfile(name) for name in argv[1:]):
+        os.execv(PROGRAM, [str(PROGRAM), *argv])
+    graph = Graph()
+    try:
+        run(graph, argv, sys.stdout.buffer.write)
+        return 0
+    except (DictionaryRefused, SavedRefused) as refused:
+        print(refused)
+        return 1 if isinstance(refused, DictionaryRefused) else 8
+    except (OutOfMemory, ScriptTooLong) as ended:
+        status, name = (7, "NoMemory") if isinstance(ended, OutOfMemory) else (6, "ScriptTooLong")
+        sys.stdout.flush()
+        print(f"interview: {status} {name}", file=sys.stderr)
+        return status
+    finally:
+        graph.close()
+
+
+if __name__ == "__main__":
+    sys.exit(main(sys.argv[1:]))

@@ -1,0 +1,55 @@
+#!/usr/bin/python3
+"""Tries docs/dictionary.schema.json on each dictionary of the stored cases and of the examples.
+
+    tests/try_schema.py
+
+It fits those without a fault of form, and none with one.
+"""
+import json
+import sys
+from collections.abc import Iterator
+
+import jsonschema
+
+from harness import DICTIONARIES, EXAMPLES, TOP, Tally, words_of
+from stored_cases import Case, cases_of, files_of_cases
+
+REFUSED = "dictionary refused"
+# What no schema says: that two lists of options have one name.
+UNSAID = "one name"
+
+
+def dictionaries_of_cases() -> Iterator[tuple[str, bytes, str]]:
+    """The dictionaries of the stored cases, each with what its case shows, and the first line that is due."""
+    for path in files_of_cases():
+        for case in cases_of(path) if path.suffix == ".row" else ():
+            if isinstance(case, Case) and case.dictionary is not None:
+                yield case.place, case.dictionary, case.due.decode().partition("\n")[0]
+
+
+def try_schema(tally: Tally) -> None:
+    """The schema fits the dictionaries of the right form, and no other."""
+    form = jsonschema.Draft202012Validator(json.loads((TOP / "docs/dictionary.schema.json").read_text(encoding="utf-8")))
+    for path in sorted([*EXAMPLES.glob("*.json"), *DICTIONARIES.glob("*.json")]):
+        tally.expect(f"the schema on {path.name}", form.is_valid(json.loads(path.read_bytes())), True)
+    for what, text, due in dictionaries_of_cases():
+        try:
+            value = json.loads(text)
+        except ValueError:
+            continue
+        if not due.startswith(REFUSED):
+            tally.expect(f"the schema on {what}", form.is_valid(value), True)
+        elif due.startswith(f"{REFUSED} 3 ") and UNSAID not in what:
+            tally.expect(f"the schema on {what}", form.is_valid(value), False)
+
+
+def main(argv: list[str]) -> int:
+    """Tries the schema."""
+    words_of(__doc__).parse_args(argv)
+    tally = Tally()
+    try_schema(tally)
+    return tally.end()
+
+
+if __name__ == "__main__":
+    sys.exit(main(sys.argv[1:]))
