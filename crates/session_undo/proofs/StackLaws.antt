@@ -1,8 +1,8 @@
 -- The newest edit is the last of the list that keeps it.
-use Rattle.std.proofs.Common.{◌≡◌, List, [], ◌∷◌, ◌++◌, refl, sym, ap, ◌∙◌, map, Option, length, ◌-◌, arith}
+use Rattle.std.proofs.Common.{◌≡◌, ◌≤◌, ℕ, List, [], ◌∷◌, ◌++◌, refl, sym, ap, ◌∙◌, map, Option, length, ◌-◌, arith}
 use mathlib.Core.List.{reverse_aux}
-use Rattle.std.specs.Prelude.{slice_get, option_map}
-use Rattle.std.proofs.lemmas.List.{reverse-append}
+use Rattle.std.specs.Prelude.{drop, option_map, reverse, slice_get, take}
+use Rattle.std.proofs.lemmas.List.{length-drop, length-reverse, reverse-append, take-append-drop, take-map, take_at}
 use Rattle.answers.specs.Answered.{Answered}
 use Rattle.answers.specs.Change.{Change, applied, inverse}
 use Rattle.answers.specs.Meaning.{change}
@@ -32,3 +32,16 @@ newest_moved from left to new e back a b popped pushed made undone =
     ap (λ (n : Answered). record { back = stack left; now = n; ahead = stack new }) made
     ∙ ap (λ (l : List Change). record { back = stack left; now = applied (change e) a; ahead = l }) (ap stack pushed ∙ stack_pushed to back ∙ ap (λ (c : Change). c ∷ stack to) undone)
     ∙ ap (λ (l : List Change). moved l a (stack to)) (sym (ap stack popped ∙ stack_pushed left e))
+
+-- ---- the newest edits of a list
+
+last_reversed : (es : List Edit) (most : ℕ) → most ≤ length es → reverse (drop (length es - most) es) ≡ take most (reverse es)
+last_reversed es most within =
+    let early = take (length es - most) es in
+    let late = drop (length es - most) es in
+    let count : length (reverse late) ≡ most = length-reverse late ∙ length-drop (length es - most) es ∙ omega arith in
+    sym (ap (λ (l : List Edit). take most (reverse l)) (sym (take-append-drop (length es - most) es)) ∙ ap (take most) (reverse-append early late) ∙ take_at (reverse late) (reverse early) most count)
+
+-- the last edits are the newest changes
+pub last_newest : (es : List Edit) (most : ℕ) → most ≤ length es → stack (drop (length es - most) es) ≡ take most (stack es)
+last_newest es most within = ap (map change) (last_reversed es most within) ∙ sym (take-map change most (reverse es))

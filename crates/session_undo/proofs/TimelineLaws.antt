@@ -1,13 +1,14 @@
 -- Steps over changes are steps over whole answers.
-use Rattle.std.proofs.Common.{◌≡◌, List, [], ◌∷◌, refl, ap}
+use Rattle.std.proofs.Common.{◌≡◌, ℕ, zero, suc, List, [], ◌∷◌, refl, ap}
+use Rattle.std.specs.Prelude.{take}
 use Rattle.answers.specs.Answered.{Answered}
 use Rattle.answers.specs.Change.{Change, Fits, applied, inverse}
 use Rattle.answers.specs.WellFormed.{WellFormed}
 use Rattle.answers.proofs.ChangeLaws.{fits_inverse_undoes}
 use Rattle.answers.proofs.FitsLaws.{inverse_fits}
 use Rattle.answers.proofs.WellLaws.{applied_well}
-use Rattle.session_undo.specs.UndoState.{UndoState, moved, moved_back, moved_forth, turned, changed, FitInTurn, Kept}
-use Rattle.session_undo.specs.Timeline.{timeline, timeline_back, timeline_forth, timeline_change, timeline_turned, trace, back_to}
+use Rattle.session_undo.specs.UndoState.{UndoState, moved, moved_back, moved_forth, turned, changed, forgotten, FitInTurn, Kept}
+use Rattle.session_undo.specs.Timeline.{timeline, timeline_back, timeline_forth, timeline_change, timeline_turned, timeline_forgotten, trace, back_to}
 
 -- one step along the changes
 back_timeline : (cs : List Change) (a : Answered) (ds : List Change) → WellFormed a → FitInTurn cs a → timeline (moved cs a ds) ≡ back_to (trace cs a) a (trace ds a)
@@ -47,3 +48,20 @@ pub kept_changed : (p : UndoState) (c : Change) → Kept p → Fits c p.now → 
 kept_changed p c k fits =
     let back : applied (inverse c p.now) (applied c p.now) ≡ p.now = fits_inverse_undoes c p.now k.well fits in
     record { well = applied_well c p.now k.well fits; back = (inverse_fits c p.now k.well fits, rw back k.back); ahead = tt }
+
+-- changes that are forgotten
+trace_taken : (n : ℕ) (cs : List Change) (a : Answered) → trace (take n cs) a ≡ take n (trace cs a)
+trace_taken zero cs a = refl
+trace_taken (suc n) [] a = refl
+trace_taken (suc n) (c ∷ cs) a = ap (λ (bs : List Answered). applied c a ∷ bs) (trace_taken n cs (applied c a))
+
+fit_taken : (n : ℕ) (cs : List Change) (a : Answered) → FitInTurn cs a → FitInTurn (take n cs) a
+fit_taken zero cs a fit = tt
+fit_taken (suc n) [] a fit = tt
+fit_taken (suc n) (c ∷ cs) a (fits, rest) = (fits, fit_taken n cs (applied c a) rest)
+
+pub forgotten_timeline : (most : ℕ) (p : UndoState) → timeline (forgotten most p) ≡ timeline_forgotten most (timeline p)
+forgotten_timeline most p = ap (λ (bs : List Answered). record { before = bs; now = p.now; after = trace p.ahead p.now }) (trace_taken most p.back p.now)
+
+pub kept_forgotten : (most : ℕ) (p : UndoState) → Kept p → Kept (forgotten most p)
+kept_forgotten most p k = record { well = k.well; back = fit_taken most p.back p.now k.back; ahead = k.ahead }

@@ -1,9 +1,9 @@
 -- What holds of every history.
-use Rattle.std.specs.Prelude.{◌≡◌, List, length}
+use Rattle.std.specs.Prelude.{◌≡◌, ℕ, List, length}
 use Rattle.answers.specs.Change.{Change, Fits, applied}
 use Rattle.answers.specs.WellFormed.{WellFormed}
-use Rattle.session_undo.specs.UndoState.{UndoState, moved_back, moved_forth, changed, made, undone, redone, FitInTurn, Kept}
-use Rattle.session_undo.specs.Timeline.{timeline, timeline_back, timeline_forth, timeline_change}
+use Rattle.session_undo.specs.UndoState.{UndoState, moved_back, moved_forth, changed, forgotten, made, undone, redone, FitInTurn, Kept}
+use Rattle.session_undo.specs.Timeline.{timeline, timeline_back, timeline_forth, timeline_change, timeline_forgotten}
 
 -- n changes that fit in turn, and n steps back: the answers before them, and the changes that led back from those
 abbrev pub UndoneIsBefore : Type 0
@@ -26,6 +26,9 @@ ForthIsOverAnswers = (p : UndoState) → Kept p → timeline (moved_forth p) ≡
 abbrev pub ChangeIsOverAnswers : Type 0
 ChangeIsOverAnswers = (p : UndoState) (c : Change) → Kept p → Fits c p.now → timeline (changed p c) ≡ timeline_change (timeline p) (applied c p.now)
 
+abbrev pub ForgettingIsOverAnswers : Type 0
+ForgettingIsOverAnswers = (most : ℕ) (p : UndoState) → timeline (forgotten most p) ≡ timeline_forgotten most (timeline p)
+
 abbrev pub BackKeeps : Type 0
 BackKeeps = (p : UndoState) → Kept p → Kept (moved_back p)
 
@@ -34,3 +37,6 @@ ForthKeeps = (p : UndoState) → Kept p → Kept (moved_forth p)
 
 abbrev pub ChangeKeeps : Type 0
 ChangeKeeps = (p : UndoState) (c : Change) → Kept p → Fits c p.now → Kept (changed p c)
+
+abbrev pub ForgettingKeeps : Type 0
+ForgettingKeeps = (most : ℕ) (p : UndoState) → Kept p → Kept (forgotten most p)

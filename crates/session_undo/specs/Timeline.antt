@@ -1,5 +1,5 @@
 -- A history as a list of whole answers and a place in it.
-use Rattle.std.specs.Prelude.{List, [], ◌∷◌}
+use Rattle.std.specs.Prelude.{ℕ, List, [], ◌∷◌, take}
 use Rattle.answers.specs.Answered.{Answered}
 use Rattle.answers.specs.Change.{Change, applied}
 use Rattle.session_undo.specs.UndoState.{UndoState}
@@ -29,6 +29,10 @@ timeline_forth t = timeline_turned (timeline_back (timeline_turned t))
 -- what lies after the place is cut, and these answers are appended
 abbrev pub timeline_change : Timeline → Answered → Timeline
 timeline_change t a = record { before = t.now ∷ t.before; now = a; after = [] }
+
+-- of the answers before the place the nearest are kept, so many at most
+abbrev pub timeline_forgotten : ℕ → Timeline → Timeline
+timeline_forgotten most t = record { before = take most t.before; now = t.now; after = t.after }
 
 -- the answers that changes pass, one after another
 abbrev pub trace : List Change → Answered → List Answered

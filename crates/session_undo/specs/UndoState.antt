@@ -1,5 +1,5 @@
 -- Answers between the changes that lead back from them and those that lead forth, and steps over these.
-use Rattle.std.specs.Prelude.{ℕ, zero, suc, List, [], ◌∷◌}
+use Rattle.std.specs.Prelude.{ℕ, zero, suc, List, [], ◌∷◌, take}
 use Rattle.answers.specs.Answered.{Answered}
 use Rattle.answers.specs.Change.{Change, Fits, applied, inverse}
 use Rattle.answers.specs.WellFormed.{WellFormed}
@@ -28,6 +28,10 @@ moved_forth p = turned (moved_back (turned p))
 -- a change is made: its inverse leads back, and what lay ahead is cut
 abbrev pub changed : UndoState → Change → UndoState
 changed p c = record { back = inverse c p.now ∷ p.back; now = applied c p.now; ahead = [] }
+
+-- of the changes that lead back the newest are kept, so many at most
+abbrev pub forgotten : ℕ → UndoState → UndoState
+forgotten most p = record { back = take most p.back; now = p.now; ahead = p.ahead }
 
 -- changes made one after another, and as many steps back, or forth
 abbrev pub made : List Change → UndoState → UndoState

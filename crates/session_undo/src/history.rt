@@ -1,5 +1,5 @@
 // The edits that lead back, and those that lead forth again.
-ghost use Rattle.std.specs.Prelude.{◌≡◌, ◌<◌, ◌↔◌, [], ◌∷◌, OnOk, OnErr, IfErr, IsOk, vec_len, vec_capacity, option_map};
+ghost use Rattle.std.specs.Prelude.{◌≡◌, ◌<◌, ◌↔◌, [], ◌∷◌, OnOk, OnErr, IfErr, IsOk, take, vec_len, vec_capacity, option_map};
 ghost use Rattle.std.specs.declared.result.Result.TheVariants.{Err};
 ghost use Rattle.answers.specs.Meaning.{answered, change};
 ghost use Rattle.session_undo.specs.UndoState.{moved, moved_back, moved_forth};
@@ -76,6 +76,14 @@ impl History {
         }
     }
 
+    /// Forgets all changes that lead back but the newest, so many at most: those before them can't be undone any more.
+    pub fn keep_newest(&mut self, most: usize)
+        ensures back { behind self.new ≡ take most (behind self.old) }
+        ensures ahead { ahead_of self.new ≡ ahead_of self.old }
+    {
+        keep_last(&mut self.back, most);
+    }
+
     /// Goes to the answers before the last change that stands.
     pub fn back(&mut self, answers: &mut Answers) -> Result<(), UndoRefusal>
         requires { NewestFits (behind self.old) (answered answers.old) }
@@ -123,6 +131,18 @@ fn last(edits: &[Edit]) -> Option<&Edit>
     ensures { option_map (λ e. change e.now) result ≡ first (stack edits.now) }
 {
     edits.last()
+}
+
+/// Drops all edits of a list but the newest.
+fn keep_last(edits: &mut Vec<Edit>, most: usize)
+    ensures { stack edits.new.items ≡ take most (stack edits.old.items) }
+{
+    let count = edits.len();
+    if count <= most {
+        return;
+    }
+    edits.rotate_left(count - most);
+    edits.truncate(most);
 }
 
 /// Applies the newest edit of a list, and puts its inverse on the other. For want of memory all is

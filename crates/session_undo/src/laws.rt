@@ -1,5 +1,5 @@
 // What holds of every history. Each function's contract is the theorem.
-ghost use Rattle.session_undo.specs.Laws.{UndoneIsBefore, UndoneKeepsEarlier, RedoneIsAfter, BackIsOverAnswers, ForthIsOverAnswers, ChangeIsOverAnswers, BackKeeps, ForthKeeps, ChangeKeeps};
+ghost use Rattle.session_undo.specs.Laws.{UndoneIsBefore, UndoneKeepsEarlier, RedoneIsAfter, BackIsOverAnswers, ForthIsOverAnswers, ChangeIsOverAnswers, ForgettingIsOverAnswers, BackKeeps, ForthKeeps, ChangeKeeps, ForgettingKeeps};
 
 /// Undoing as many changes as were just made gives the answers before them, and leaves the earlier
 /// changes as they were; redoing these gives the answers after them.
@@ -10,16 +10,18 @@ pub fn undo_gives_back()
 {}
 
 /// Seen as whole answers before and after a place, a step back or forth moves the place by one, and
-/// a change cuts what lies after it.
+/// a change cuts what lies after it. Changes that are forgotten take the farthest answers before it.
 pub fn edits_lead_to_whole_answers()
     ensures back { BackIsOverAnswers }
     ensures forth { ForthIsOverAnswers }
     ensures change { ChangeIsOverAnswers }
+    ensures forgetting { ForgettingIsOverAnswers }
 {}
 
-/// Edits that fit one after another, back and forth, go on to do so after each step and change.
+/// Edits that fit one after another, back and forth, go on to do so after each step and change, and where some are forgotten.
 pub fn edits_go_on_to_fit()
     ensures back { BackKeeps }
     ensures forth { ForthKeeps }
     ensures change { ChangeKeeps }
+    ensures forgetting { ForgettingKeeps }
 {}
