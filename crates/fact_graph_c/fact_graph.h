@@ -5,8 +5,8 @@
  * its size comes from the call, and its bytes by `fact_graph_read`, in one piece or in several.
  *
  * For all functions:
- * - A `fact_graph` is a session that `fact_graph_open`, `fact_graph_load` or `fact_graph_carry` opened and that
- *   `fact_graph_close` didn't end. A call takes it, and gives it back through `back`, which may be where it came from:
+ * - A `fact_graph` is a session that `fact_graph_open`, `fact_graph_open_built_in`, `fact_graph_load` or `fact_graph_carry` opened
+ *   and that `fact_graph_close` didn't end. A call takes it, and gives it back through `back`, which may be where it came from:
  *   `fact_graph_answer(graph, line, size, &text_size, &graph)`. A copy of it is the same session.
  * - A session has one call at a time, and may go to another thread between calls only as far as the program orders the calls.
  *   Calls of different sessions may run side by side.
@@ -76,6 +76,8 @@ typedef struct fact_graph_fault {
 #define FACT_GRAPH_FAULT_MEMORY 15u
 /* The dictionary is accepted, and the saved text is refused. */
 #define FACT_GRAPH_FAULT_SAVED 16u
+/* The words name no dictionary that comes with the library. */
+#define FACT_GRAPH_FAULT_UNKNOWN 17u
 
 /* Why a command changed nothing: the number in a reply such as `refused 5 WrongKind`. */
 #define FACT_GRAPH_REFUSED_BAD_LINE 1u
@@ -114,6 +116,12 @@ typedef struct fact_graph_fault {
  * the first fault, with all of it in `fault`, and `graph` as it was. */
 uint32_t fact_graph_open(const uint8_t *dictionary, size_t dictionary_size, fact_graph *graph, fact_graph_fault *fault);
 
+/* Opens a session over a dictionary that comes with the library, with no answers and no text. `words` are `year 2023` (filing
+ * status, dependents and standard deduction of that tax year), `year 2024` (the same of that year) or `income 2023` (of 2023, and
+ * the rate schedule and the child tax credit behind it); else the fault is FACT_GRAPH_FAULT_UNKNOWN. Otherwise as
+ * `fact_graph_open`. */
+uint32_t fact_graph_open_built_in(const uint8_t *words, size_t words_size, fact_graph *graph, fact_graph_fault *fault);
+
 /* Opens a session over the dictionary with the answers of its own saved text, as `interview load` does. Otherwise as
  * `fact_graph_open`. */
 uint32_t fact_graph_load(const uint8_t *dictionary, size_t dictionary_size, const uint8_t *saved, size_t saved_size,
@@ -133,9 +141,23 @@ uint32_t fact_graph_answer(fact_graph graph, const uint8_t *line, size_t line_si
  * are as before. Returns FACT_GRAPH_SAID or FACT_GRAPH_NO_MEMORY. */
 uint32_t fact_graph_save(fact_graph graph, size_t *text_size, fact_graph *back);
 
+/* Says which slots the evaluation of a slot reads, by the results of now: why its result is what it is. `slot` is its path, as
+ * behind `get`. The paths of those that stand become the session's text, each in a line, each once, in the order in which they are
+ * first read, the members' behind a `*` among them. A slot with an answer of its own, or with an override, reads none. Where
+ * `slot` names no slot, the text is why, as `get` says it: `refused 3 UnknownFact`, say. The session is as before. Returns
+ * FACT_GRAPH_SAID or FACT_GRAPH_NO_MEMORY. */
+uint32_t fact_graph_reads(fact_graph graph, const uint8_t *slot, size_t slot_size, size_t *text_size, fact_graph *back);
+
+/* Forgets all changes that can be undone but the newest `most`. What can be redone, the answers, the results, the stamps and the
+ * text are as before. A host that calls it behind each line bounds what a session keeps for undo. */
+void fact_graph_keep_changes(fact_graph graph, size_t most, fact_graph *back);
+
+/* Gives back the memory of the session's text, which is empty then. All else is as before. */
+void fact_graph_trim(fact_graph graph, fact_graph *back);
+
 /* Copies the session's text from the byte `from` on, counted from 0, as far as `out` has room. Returns how many bytes were
- * copied: 0 behind the end. The text stays until the next call of `fact_graph_answer` or `fact_graph_save`, so it can be copied
- * in pieces, each from where the last one ended. It takes no memory. */
+ * copied: 0 behind the end. The text stays until the next call that says one, or `fact_graph_trim`, so it can be copied in
+ * pieces, each from where the last one ended. It takes no memory. */
 size_t fact_graph_read(fact_graph graph, size_t from, uint8_t *out, size_t out_size, fact_graph *back);
 
 /* Ends a session, and frees its memory. No copy of it may be used again. */

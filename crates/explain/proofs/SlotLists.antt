@@ -1,13 +1,15 @@
 -- Slots in lists.
 use Rattle.std.proofs.Common.{◌≡◌, ◌+◌, ◌≤◌, Bool, true, false, ◌&&◌, ◌||◌, IsTrue, if◌then◌else◌, List, [], ◌∷◌, ◌++◌, filter, flat_map, length, refl, sym, ap, subst, ◌∙◌, arith}
+use Rattle.std.specs.Prelude.{All}
 use Rattle.std.specs.List.{list_all}
+use Rattle.std.proofs.lemmas.List.Elements.{All-cons, All-head, All-nil, All-tail}
 use Rattle.std.proofs.lemmas.List.Folds.{list_any-append}
 use Rattle.fact_values.specs.declared.slot.Slot.{Slot}
 use Rattle.common_lemmas.proofs.Bools.{and_intro, both, or_left, or_right}
 use Rattle.dictionary.specs.Slots.{slot_same}
 use Rattle.dictionary.proofs.SlotLaws.{slot_same-equal, slot_same-itself}
 use Rattle.evaluation.specs.Mentioned.{AllOf}
-use Rattle.explain.specs.Reads.{is_in}
+use Rattle.explain.specs.Reads.{is_in, new_among}
 
 -- ---- where a slot is in a list
 
@@ -106,3 +108,50 @@ one_fewer p q h t out was (x ∷ xs) i = by (slot_same t x) refl i (one_fewer p 
     by : (same : Bool) → slot_same t x ≡ same → IsTrue (same || is_in t xs) → (IsTrue (is_in t xs) → length (filter p xs) + 1 ≤ length (filter q xs)) → length (filter p (x ∷ xs)) + 1 ≤ length (filter q (x ∷ xs))
     by true e i rest = here (slot_same-equal t x e)
     by false e i rest = more (p x) (q x) (filter p xs) (filter q xs) (h x) (rest i)
+
+-- ---- those of a list that aren't known
+
+swap_known : (p i j : Bool) → ((p || i) || j) ≡ (p || (i || j))
+swap_known true i j = refl
+swap_known false i j = refl
+
+-- of two lists, where those of the first are known behind it
+pub new_among-append : (known : Slot → Bool) (xs ys : List Slot) → new_among known (xs ++ ys) ≡ new_among known xs ++ new_among (λ t. known t || is_in t xs) ys
+new_among-append known [] ys = ap (λ (p : Slot → Bool). new_among p ys) (λ i t. or_false_back (known t) i)
+  where
+    or_false_back : (b : Bool) → b ≡ (b || false)
+    or_false_back true = refl
+    or_false_back false = refl
+new_among-append known (x ∷ xs) ys = by (known x) refl
+  where
+    -- one that is known is no news, nor where it stands again
+    again : (t : Slot) (same : Bool) → slot_same t x ≡ same → known x ≡ true → (known t || is_in t xs) ≡ (known t || (same || is_in t xs))
+    again t true e old = rw (ap known (slot_same-equal t x e) ∙ old) refl
+    again t false e old = refl
+
+    by : (old : Bool) → known x ≡ old
+        → (if old then new_among known (xs ++ ys) else x ∷ new_among (λ t. known t || slot_same t x) (xs ++ ys)) ≡ (if old then new_among known xs else x ∷ new_among (λ t. known t || slot_same t x) xs) ++ new_among (λ t. known t || is_in t (x ∷ xs)) ys
+    by true e = new_among-append known xs ys ∙ ap (λ (p : Slot → Bool). new_among known xs ++ new_among p ys) (λ i t. again t (slot_same t x) refl e i)
+    by false e =
+        ap (λ (ts : List Slot). x ∷ ts) (
+        new_among-append (λ t. known t || slot_same t x) xs ys
+        ∙ ap (λ (p : Slot → Bool). new_among (λ t. known t || slot_same t x) xs ++ new_among p ys) (λ i t. swap_known (known t) (slot_same t x) (is_in t xs) i)
+        )
+
+-- what holds of all of a list holds of those that aren't known
+pub all_new : (P : Slot → Type 0) (known : Slot → Bool) (xs : List Slot) → All P xs → All P (new_among known xs)
+all_new P known [] h = All-nil P
+all_new P known (x ∷ xs) h = by (known x)
+  where
+    by : (old : Bool) → All P (if old then new_among known xs else x ∷ new_among (λ t. known t || slot_same t x) xs)
+    by true = all_new P known xs (All-tail P x xs h)
+    by false = All-cons P x (new_among (λ t. known t || slot_same t x) xs) (All-head P x xs h) (all_new P (λ t. known t || slot_same t x) xs (All-tail P x xs h))
+
+-- and all that pass a test do
+pub all_pass : (p : Slot → Bool) (xs : List Slot) → All (λ t. IsTrue (p t)) (filter p xs)
+all_pass p [] = All-nil (λ t. IsTrue (p t))
+all_pass p (x ∷ xs) = by (p x) refl
+  where
+    by : (passes : Bool) → p x ≡ passes → All (λ t. IsTrue (p t)) (if passes then x ∷ filter p xs else filter p xs)
+    by true e = All-cons (λ t. IsTrue (p t)) x (filter p xs) e (all_pass p xs)
+    by false e = all_pass p xs

@@ -1,6 +1,8 @@
 -- A walk finds exactly what is read.
-use Rattle.std.proofs.Common.{◌≡◌, ℕ, ◌+◌, Bool, true, false, not, ◌&&◌, ◌||◌, IsTrue, if◌then◌else◌, List, [], ◌∷◌, ◌++◌, filter, length-append, ◌-◌, take, refl, sym, ap, subst, ◌∙◌, arith}
+use Rattle.std.proofs.Common.{◌≡◌, ℕ, ◌+◌, Bool, true, false, not, ◌&&◌, ◌||◌, IsTrue, if◌then◌else◌, List, [], ◌∷◌, ◌++◌, filter, length-append, ◌-◌, take, refl, sym, ap, subst, ◌∙◌, arith, append_assoc}
 use Rattle.std.specs.Cmp.{both_ways}
+use Rattle.std.proofs.lemmas.List.{append-nil}
+use Rattle.std.proofs.lemmas.List.Elements.{filter-append}
 use Rattle.fact_values.specs.declared.slot.Slot.{Slot}
 use Rattle.dict_tree.specs.Dictionary.{Dictionary as Tree}
 use Rattle.common_lemmas.proofs.Bools.{both, or_false, or_left, or_right}
@@ -10,10 +12,10 @@ use Rattle.dictionary.specs.Slots.{slot_same, standing, stands}
 use Rattle.dictionary.proofs.SlotLaws.{listed_stand, slot_same-equal, slot_same-itself}
 use Rattle.explain.specs.declared.found.Found.{Found}
 use Rattle.explain.specs.Found.{has}
-use Rattle.explain.specs.Reads.{is_in, is_read, slot_reads, standing_reads}
+use Rattle.explain.specs.Reads.{is_in, is_read, new_among, slot_reads, standing_reads}
 use Rattle.explain.specs.Walk.{AddsReads, IsWalked}
 use Rattle.explain.proofs.ReachLaws.{closed_reads, reads_itself, reads_on}
-use Rattle.explain.proofs.SlotLists.{in_append, in_filter, no_more, one_fewer}
+use Rattle.explain.proofs.SlotLists.{in_append, in_filter, new_among-append, no_more, one_fewer}
 
 -- ---- tests
 
@@ -36,6 +38,7 @@ module _ (d : Tree) (a : Answered) where
   pub skipped : (slot : Slot) (f : Found) (todo : List Slot) → stands d a slot ≡ false → AddsReads d a (slot ∷ []) f f todo todo
   skipped slot f todo out = record {
     found = λ s. sym (ap (λ (b : Bool). has f s || is_in s (if b then slot ∷ [] else [])) out ∙ or_false (has f s));
+    order = sym (ap (λ (b : Bool). todo ++ new_among (has f) (if b then slot ∷ [] else [])) out ∙ append-nil todo);
     kept = λ s i. i;
     fresh = λ s i. or_left (has f s) (is_in s todo) i;
     of_these = λ s i. or_left (is_in s todo) (has f s) i;
@@ -62,9 +65,13 @@ module _ (d : Tree) (a : Answered) where
     here : has after slot ≡ true
     here = added slot ∙ or_left (slot_same slot slot) (has before slot) (slot_same-itself slot)
 
+    order_one : (todo : List Slot) → todo ++ (if has before slot then [] else slot ∷ []) ≡ todo ++ new_among (has before) (filter (stands d a) (slot ∷ []))
+    order_one todo = ap (λ (b : Bool). todo ++ new_among (has before) (if b then slot ∷ [] else [])) (sym there)
+
     pub pushed : (todo todo' : List Slot) → true ≡ not (has before slot) → todo' ≡ todo ++ slot ∷ [] → AddsReads d a (slot ∷ []) before after todo todo'
     pushed todo todo' new e = rw e (record {
       found = found_one;
+      order = ap (λ (b : Bool). todo ++ (if b then [] else slot ∷ [])) (is_new (has before slot) new) ∙ order_one todo;
       kept = λ s i. in_append s todo (slot ∷ []) ∙ or_left (is_in s todo) (is_in s (slot ∷ [])) i;
       fresh = λ s i.
           either (slot_same s slot) (has before s) (IsTrue (has before s || is_in s (todo ++ slot ∷ []))) (sym (added s) ∙ i)
@@ -79,10 +86,15 @@ module _ (d : Tree) (a : Answered) where
           let long = length-append todo (slot ∷ []) in
           omega arith;
     })
+      where
+        is_new : (b : Bool) → true ≡ not b → false ≡ b
+        is_new true e = absurd (cc)
+        is_new false e = refl
 
     pub known : (todo : List Slot) → false ≡ not (has before slot) → AddsReads d a (slot ∷ []) before after todo todo
     known todo old = record {
       found = found_one;
+      order = sym (append-nil todo) ∙ ap (λ (b : Bool). todo ++ (if b then [] else slot ∷ [])) (sym (is_old (has before slot) old)) ∙ order_one todo;
       kept = λ s i. i;
       fresh = λ s i.
           or_left (has before s) (is_in s todo)
@@ -100,6 +112,7 @@ module _ (d : Tree) (a : Answered) where
   pub none_added : (f : Found) (todo : List Slot) → AddsReads d a [] f f todo todo
   none_added f todo = record {
     found = λ s. sym (or_false (has f s));
+    order = sym (append-nil todo);
     kept = λ s i. i;
     fresh = λ s i. or_left (has f s) (is_in s todo) i;
     of_these = λ s i. or_left (is_in s todo) (has f s) i;
@@ -122,6 +135,17 @@ module _ (d : Tree) (a : Answered) where
             k.found s
             ∙ ap (λ (b : Bool). b || is_in s (filter (stands d a) (x ∷ []))) (h.found s)
             ∙ rw (in_filter (stands d a) s xs, in_filter (stands d a) s (x ∷ []), in_filter (stands d a) s (xs ++ x ∷ []), in_append s xs (x ∷ [])) (parts (has before s) (is_in s xs) (is_in s (x ∷ [])) (stands d a s));
+        order =
+            let here = filter (stands d a) xs in
+            let next = filter (stands d a) (x ∷ []) in
+            k.order
+            ∙ ap (λ (ts : List Slot). ts ++ new_among (has mid) next) h.order
+            ∙ append_assoc todo (new_among (has before) here) (new_among (has mid) next)
+            ∙ ap (λ (ts : List Slot). todo ++ ts) (
+            ap (λ (p : Slot → Bool). new_among (has before) here ++ new_among p next) (λ i s. h.found s i)
+            ∙ sym (new_among-append (has before) here next)
+            ∙ ap (new_among (has before)) (sym (filter-append (stands d a) xs (x ∷ [])))
+            );
         kept = λ s i. k.kept s (h.kept s i);
         fresh = λ s i.
             either (has mid s) (is_in s todo'') (IsTrue (has before s || is_in s todo'')) (k.fresh s i)

@@ -1,5 +1,5 @@
 -- Which slots the evaluation of a slot reads, by the results of then.
-use Rattle.std.specs.Prelude.{ℕ, zero, suc, Bool, if◌then◌else◌, List, [], ◌∷◌, ◌++◌, filter, flat_map, Option, Some, None, is_some}
+use Rattle.std.specs.Prelude.{ℕ, zero, suc, Bool, false, ◌||◌, if◌then◌else◌, List, [], ◌∷◌, ◌++◌, filter, flat_map, Option, Some, None, is_some}
 use Rattle.std.specs.List.{list_any}
 use Rattle.fact_values.specs.declared.slot.Slot.{Slot}
 use Rattle.dict_tree.specs.Dictionary.{Dictionary as Tree}
@@ -44,6 +44,15 @@ slot_reads d a s = at_fact (fact_at d.tree.facts s.fact) [] (fact_reads d.tree a
 -- of those, the ones that stand: a slot that doesn't has no result
 abbrev pub standing_reads : Accepted → Answered → Slot → List Slot
 standing_reads d a s = filter (stands d.tree a) (slot_reads d a s)
+
+-- those that aren't known: each once, in the order in which they are met
+abbrev pub new_among : (Slot → Bool) → List Slot → List Slot
+new_among known [] = []
+new_among known (s ∷ ss) = if known s then new_among known ss else s ∷ new_among (λ t. known t || slot_same t s) ss
+
+-- the slots that a slot reads, without those that these read: each once, in the order in which it first reads them
+abbrev pub reads : Accepted → Answered → Slot → List Slot
+reads d a s = new_among (λ t. false) (standing_reads d a s)
 
 -- a slot reads itself and what each slot that it reads reads, over so many steps from one to the next
 unfoldable pub reads_within : Accepted → Answered → ℕ → Slot → List Slot

@@ -1,5 +1,5 @@
 -- A walk from slot to slot: what is found, and what is still to be walked.
-use Rattle.std.specs.Prelude.{◌≡◌, ℕ, ◌+◌, ◌≤◌, ◌||◌, not, IsTrue, List, filter, length}
+use Rattle.std.specs.Prelude.{◌≡◌, ℕ, ◌+◌, ◌≤◌, ◌||◌, ◌++◌, not, IsTrue, List, filter, length}
 use Rattle.fact_values.specs.declared.slot.Slot.{Slot}
 use Rattle.dict_tree.specs.Dictionary.{Dictionary as Tree}
 use Rattle.answers.specs.Answered.{Answered}
@@ -7,15 +7,16 @@ use Rattle.dictionary.specs.Accepted.{Accepted}
 use Rattle.dictionary.specs.Slots.{standing, stands}
 use Rattle.explain.specs.declared.found.Found.{Found}
 use Rattle.explain.specs.Found.{has}
-use Rattle.explain.specs.Reads.{is_in, is_read, standing_reads}
+use Rattle.explain.specs.Reads.{is_in, is_read, new_among, standing_reads}
 
 -- how many slots that stand aren't found yet
 abbrev pub unfound : Tree → Answered → Found → ℕ
 unfound d a f = length (filter (λ s. not (has f s)) (standing d a))
 
--- Those of the slots that stand are found beside those before; what is new is to be walked, and what is found is not.
+-- Those of the slots that stand are found beside those before; what is new is to be walked, in order, and what is found is not.
 pub record AddsReads (d : Tree) (a : Answered) (slots : List Slot) (before after : Found) (todo todo' : List Slot) : Type 0 where
   pub found : (s : Slot) → has after s ≡ (has before s || is_in s (filter (stands d a) slots))
+  pub order : todo' ≡ todo ++ new_among (has before) (filter (stands d a) slots)
   pub kept : (s : Slot) → IsTrue (is_in s todo) → IsTrue (is_in s todo')
   pub fresh : (s : Slot) → IsTrue (has after s) → IsTrue (has before s || is_in s todo')
   pub of_these : (s : Slot) → IsTrue (is_in s todo') → IsTrue (is_in s todo || has after s)

@@ -36,8 +36,8 @@ fn find_one<E: FactEngine>(
     }
 }
 
-// Finds those of the slots that stand. Those that are new are to be walked.
-fn find_all<E: FactEngine>(
+/// Finds those of the slots that stand. Those that are new are to be walked, in order.
+pub fn find_all<E: FactEngine>(
     session: &Session<E>,
     slots: &[Slot],
     found: &mut Found,

@@ -4,7 +4,6 @@ use Rattle.std.proofs.lemmas.Bool.Decides.{nat_tests}
 use Rattle.std.proofs.lemmas.List.{append-nil}
 use Rattle.fg_io.specs.Outside.{Rose}
 use Rattle.fg_io.specs.Sent.{Sent}
-use Rattle.fg_io.proofs.SentLaws.{sent_whole}
 use Rattle.script_lines.specs.Lines.{ScriptLine, whole, long}
 use Rattle.script_lines.specs.Parsing.{command, heard_in}
 use Rattle.script_lines.specs.declared.command.Command.TheVariants.{Get}
@@ -23,11 +22,13 @@ use Rattle.fact_watch.specs.Watching.{Watching}
 use Rattle.session_lines.specs.Answering.{line_state_of}
 use Rattle.session_lines.specs.Stepping.{LineState, State, Step, open_at, replies, state_after, step, step_answered, step_command, step_heard}
 use Rattle.fact_graph_c.specs.Answering.{Stays, TakesStep, line_given, rules_of, said, state_of}
+use Rattle.fact_graph_c.specs.Room.{room_for}
 use Rattle.fact_graph_c.specs.Sound.{IsSound}
 use Rattle.session_lines.specs.Tables.{standard_relations}
 use Rattle.fact_graph_c.specs.declared.engine.Engine.{Engine}
 use Rattle.fact_graph_c.specs.declared.text.Text.{Text}
 use Rattle.fact_graph_c.proofs.RoomLaws.{fills_still}
+use Rattle.fact_graph_c.proofs.TextLaws.{put_behind, put_whole, room_stays}
 
 -- a line is given whole exactly where it isn't too long
 pub given_long : (line : List ℕ) → 4096 < length line → line_given line ≡ long
@@ -45,7 +46,7 @@ module _ (old new : Engine) (line : List ℕ) where
   pub takes_step : (over : Bool) (relations : List Named) (lines : List ScriptLine)
       → relations ≡ standard_relations → lines ≡ line_given line ∷ []
       → old.over ≡ false → said old ≡ [] → new.over ≡ over
-      → Sent (Some (said old)) (Some (said new)) (replies (rules_of old) (open_at (line_state_of old.session relations old.watches)) lines) []
+      → Sent (Some (old.text.room ∷ said old)) (Some (new.text.room ∷ said new)) (replies (rules_of old) (open_at (line_state_of old.session relations old.watches)) lines) []
       → state_after (rules_of old) (open_at (line_state_of old.session relations old.watches)) lines ≡ record { standing = line_state_of new.session relations new.watches; over = over }
       → TakesStep old new line over
   takes_step over relations lines standard given goes_on empty ends sent left =
@@ -56,7 +57,7 @@ module _ (old new : Engine) (line : List ℕ) where
       let state : state_after r here lines ≡ (step r (state_of old) (line_given line)).state = λ i. state_after r (stands i) (given i) in
       let now : state_of new ≡ record { standing = line_state_of new.session relations new.watches; over = over } = λ i. record { standing = line_state_of new.session (sym standard i) new.watches; over = ends i } in
       record {
-        text = sent_whole (Some (said old)) (Some (said new)) (replies r here lines) sent ∙ ap (λ (t : List ℕ). t ++ replies r here lines) empty ∙ text ∙ append-nil (step r (state_of old) (line_given line)).text;
+        text = put_whole old.text.room new.text.room (said old) (said new) (replies r here lines) sent ∙ ap (λ (t : List ℕ). t ++ replies r here lines) empty ∙ text ∙ append-nil (step r (state_of old) (line_given line)).text;
         state = now ∙ sym left ∙ state;
         ends = ends;
       }
@@ -85,20 +86,21 @@ stays old new relations standard empty kept over =
 
 -- the text was longer than the room for it, so that its step changes nothing
 pub stays_full : (old : Engine) (line : List ℕ) (session : SessionView) (watches : Watching) (text : Text) (relations : List Named) (lines : List ScriptLine) (rest : List ℕ)
-    → IsSound old → AnswersFit (accepted session.dict).tree session.timeline.now → session.dict ≡ old.session.dict
+    → IsSound old → room_for (length old.watches.pairs) ≤ old.text.room → AnswersFit (accepted session.dict).tree session.timeline.now → session.dict ≡ old.session.dict
     → relations ≡ standard_relations → lines ≡ line_given line ∷ [] → said old ≡ [] → Rose old.text.faults text.faults
-    → Sent (Some (said old)) (Some text.bytes.items) (replies (rules_of old) (open_at (line_state_of old.session relations old.watches)) lines) rest
+    → Sent (Some (old.text.room ∷ said old)) (Some (text.room ∷ text.bytes.items)) (replies (rules_of old) (open_at (line_state_of old.session relations old.watches)) lines) rest
     → state_after (rules_of old) (open_at (line_state_of old.session relations old.watches)) lines ≡ open_at (line_state_of session relations watches)
     → line_state_of session relations watches ≡ line_state_of old.session relations old.watches
-stays_full old line session watches text relations lines rest sound fit same standard given empty rose sent left =
+stays_full old line session watches text relations lines rest sound roomy fit same standard given empty rose sent left =
     let r = rules_of old in
     let here : LineState = line_state_of old.session relations old.watches in
     let made : Step = step r (open_at here) (line_given line) in
     let fits : AnswersFit (accepted old.session.dict).tree session.timeline.now = subst (λ (k : Kept). AnswersFit (accepted k).tree session.timeline.now) same fit in
     let whole_text : replies r (open_at here) lines ≡ made.text = ap (replies r (open_at here)) given ∙ append-nil made.text in
-    let filled : 262144 ≤ length text.bytes.items = text.full (omega (arith, rose)) in
-    let long_text : 262144 ≤ length made.text = omega (arith, filled, ap length sent.took, length-append (said old) sent.front, ap length empty, ap length sent.split, length-append sent.front rest, ap length whole_text) in
-    fills_still r here (line_state_of session relations watches) sound.is_accepted sound.fit.well fits standard sound.few (line_given line) (ap (state_after r (open_at here)) (sym given) ∙ left) long_text
+    let filled : text.room ≤ length text.bytes.items = text.full (omega (arith, rose)) in
+    let roomy_still : room_for (length old.watches.pairs) ≤ text.room = subst (λ (n : ℕ). room_for (length old.watches.pairs) ≤ n) (sym (room_stays _ _ _ _ _ rest sent)) roomy in
+    let long_text : text.room ≤ length made.text = omega (arith, filled, ap length (put_behind _ _ _ _ _ rest sent), length-append (said old) sent.front, ap length empty, ap length sent.split, length-append sent.front rest, ap length whole_text) in
+    fills_still r here (line_state_of session relations watches) sound.is_accepted sound.fit.well fits standard text.room roomy_still (line_given line) (ap (state_after r (open_at here)) (sym given) ∙ left) long_text
 
 -- ---- `get`
 

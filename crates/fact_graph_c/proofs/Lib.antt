@@ -2,4 +2,5 @@ pub mod AnsweringLaws
 pub mod CallLaws
 pub mod OpeningLaws
 pub mod RoomLaws
+pub mod TextLaws
 mod Values

@@ -15,11 +15,11 @@ use Rattle.save_file.specs.SavedText.{saved}
 use Rattle.save_file.specs.declared.fault.LoadFault.{LoadFault}
 use Rattle.save_file.specs.declared.fault.LoadFault.TheVariants as loads
 use Rattle.fact_graph_c.specs.Answering.{said}
-use Rattle.fact_graph_c.specs.Openings.{Accepts, CarriesOver, IsBadText, IsBegun, IsFaultOfText, LoadsOver, NotOpened, NotResumed, Opens, RefusesOver}
+use Rattle.fact_graph_c.specs.Openings.{Accepts, Brings, CarriesOver, IsBadText, IsBegun, IsFaultOfText, LoadsOver, NotBrought, NotOpened, NotResumed, Opens, OpensBuiltIn, RefusesOver}
 use Rattle.session_lines.specs.Tables.{standard_checks, standard_relations}
 use Rattle.fact_graph_c.specs.declared.engine.Engine.{Engine}
 use Rattle.fact_graph_c.specs.declared.fault.NotBegun.{NotBegun}
-use Rattle.fact_graph_c.specs.declared.fault.NotBegun.TheVariants.{Dictionary, Saved}
+use Rattle.fact_graph_c.specs.declared.fault.NotBegun.TheVariants.{Dictionary, Saved, Unknown}
 
 -- ---- begun
 
@@ -71,6 +71,7 @@ pub resumes : (Over : Rules → List ℕ → Engine → Type 0) (IsText : Rules 
 resumes Over IsText bytes text r (Ok x) accepts is = ((r, accepts, is.0), tt)
 resumes Over IsText bytes text r (Err (Dictionary fault)) accepts is = (tt, subst (Refuses (IsFault bytes (names_of standard_checks))) (sym is.1) tt)
 resumes Over IsText bytes text r (Err (Saved line)) accepts is = (tt, (r, accepts, is.1))
+resumes Over IsText bytes text r (Err Unknown) accepts is = (tt, is.1)
 
 -- ---- or not
 
@@ -88,3 +89,11 @@ memory_refuses IsText text (Err why) memory = subst (RefusesOver IsText text) (s
 pub not_resumed : (IsText : Rules → List ℕ → Type 0) (bytes text : List ℕ) (why : NotBegun) → NotOpened bytes why → NotResumed IsText bytes text why
 not_resumed IsText bytes text (Dictionary fault) refused = refused
 not_resumed IsText bytes text (Saved line) refused = absurd refused
+not_resumed IsText bytes text Unknown refused = absurd refused
+
+-- ---- over what comes with the library
+
+pub opens_built_in : (words : List ℕ) (r : Rules) (a : Answered) (result : Result Boxed NotBegun) → Brings words r → a ≡ start → Begins r a [] result
+    → IfOk result (λ x. OpensBuiltIn words x.value) × IfErr result (NotBrought words)
+opens_built_in words r a (Ok x) brings none begun = ((r, brings, subst (λ (b : Answered). IsBegun r b [] x.value) none begun.0), tt)
+opens_built_in words r a (Err why) brings none begun = (tt, subst (NotBrought words) (sym begun.1) refl)

@@ -30,7 +30,7 @@ use Rattle.session_lines.specs.Replies.{bad_line_text, line_with, long_line_text
 use Rattle.session_lines.specs.Stepping.{LineState, State, Step, fired, open_at, place_in, put_watch, cut_watch, said, step, step_answered, step_command, step_heard, step_writing, missing_answer, watch_decided}
 use Rattle.session_lines.proofs.FiringLaws.{said_stands}
 use Rattle.session_lines.proofs.PrintLaws.{stands_with}
-use Rattle.fact_graph_c.specs.Room.{room}
+use Rattle.fact_graph_c.specs.Room.{room_for}
 use Rattle.session_lines.specs.Tables.{standard_relations}
 
 standard_short : (place : ℕ) → length (name_at standard_relations place) ≤ 9
@@ -42,7 +42,7 @@ standard_short (suc (suc (suc (suc place)))) = omega arith
 
 -- what the session goes by, and where it stands before a step and behind it
 module _ (r : Rules) (s now : LineState) (is_accepted : IsAccepted (names_of r.checks) r.accepted) (well : WellFormed s.session_state.timeline.now) (fit : AnswersFit (tree_of r) now.session_state.timeline.now)
-    (standard : s.relations ≡ standard_relations) (few : length s.watched ≤ 1000) where
+    (standard : s.relations ≡ standard_relations) (room : ℕ) (roomy : room_for (length s.watched) ≤ room) where
   -- ---- the lines of the watches
 
   abbrev results : Results
@@ -129,12 +129,12 @@ module _ (r : Rules) (s now : LineState) (is_accepted : IsAccepted (names_of r.c
           let here : c ≡ now.session_state = ap (λ (t : LineState). t.session_state) at in
           let lines_here : length (fired r s c) ≤ 161 * length s.watched = subst (λ (d : SessionState). length (fired r s d) ≤ 161 * length s.watched) (sym here) (lines_short s.watched) in
           let whole_text : said r s asked (reply_text r c reply) c ≡ line_with (reply_text r c reply) ++ fired r s c = ap (λ (b : Bool). if b then line_with (reply_text r c reply) ++ fired r s c else line_with (reply_text r c reply)) change in
-          absurd (omega (arith, full, ap length whole_text, length-append (line_with (reply_text r c reply)) (fired r s c), length-append (reply_text r c reply) (10 ∷ []), short change, lines_here, few))
+          absurd (omega (arith, full, ap length whole_text, length-append (line_with (reply_text r c reply)) (fired r s c), length-append (reply_text r c reply) (10 ∷ []), short change, lines_here, roomy))
       by at full false question = sym at ∙ ap (λ (d : SessionState). record s { session_state = d }) (same question)
 
   -- of a watch
   watched : (pairs : List Pair) (o : Option WatchRefusal) → FillsStill (watch_decided s pairs o)
-  watched pairs None = λ is full. absurd (omega (arith, full))
+  watched pairs None = λ is full. absurd (omega (arith, full, roomy))
   watched pairs (Some refusal) = writing (watch_refusal_text refusal)
 
   put : (name : List ℕ) (found : Result Slot Refusal) → FillsStill (put_watch s name found)

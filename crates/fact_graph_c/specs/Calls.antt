@@ -1,9 +1,10 @@
 -- What C is told.
-use Rattle.std.specs.Prelude.{◌≡◌, ◌⊎◌, ℕ, List, length, Option, Some}
+use Rattle.std.specs.Prelude.{◌≡◌, ◌⊎◌, ℕ, List, [], length, Option, Some}
+use Rattle.graph_session.specs.SessionView.{bounded_to}
 use Rattle.fact_graph_c.specs.Answering.{Answers, said}
 use Rattle.fact_graph_c.specs.Faults.{fault_numbers, plain}
 use Rattle.fact_graph_c.specs.Outcomes.{outcome_number}
-use Rattle.fact_graph_c.specs.Saving.{Saves}
+use Rattle.fact_graph_c.specs.Saying.{Says}
 use Rattle.fact_graph_c.specs.declared.engine.Engine.{Engine}
 use Rattle.fact_graph_c.specs.declared.fault.Fault.{Fault}
 use Rattle.fact_graph_c.specs.declared.fault.NotBegun.{NotBegun}
@@ -25,11 +26,29 @@ pub record AnswersCall (old : Engine) (line : List ℕ) (text_size : ℕ) (hande
   pub number : result ≡ outcome_number outcome
   pub size : text_size ≡ length (said new)
 
--- the answers were saved so
-pub record SavesCall (old : Engine) (text_size : ℕ) (handed_back : Option Engine) (result : ℕ) : Type 0 where
+-- such a text was said, and the session behind it is handed back
+pub record SaysCall (IsText : List ℕ → Type 0) (old : Engine) (text_size : ℕ) (handed_back : Option Engine) (result : ℕ) : Type 0 where
   pub new : Engine
   pub outcome : Outcome
-  pub saved : Saves old new outcome
+  pub says : Says IsText old new outcome
   pub back : handed_back ≡ Some new
   pub number : result ≡ outcome_number outcome
   pub size : text_size ≡ length (said new)
+
+-- the newest changes can be undone, so many at most, and all else is as before
+pub record KeepsChanges (old : Engine) (most : ℕ) (handed_back : Option Engine) : Type 0 where
+  pub new : Engine
+  pub back : handed_back ≡ Some new
+  pub session : new.session ≡ bounded_to most old.session
+  pub watches : new.watches ≡ old.watches
+  pub over : new.over ≡ old.over
+  pub text : said new ≡ said old
+
+-- nothing is said any more, and all else is as before
+pub record TrimsText (old : Engine) (handed_back : Option Engine) : Type 0 where
+  pub new : Engine
+  pub back : handed_back ≡ Some new
+  pub session : new.session ≡ old.session
+  pub watches : new.watches ≡ old.watches
+  pub over : new.over ≡ old.over
+  pub text : said new ≡ []

@@ -4,7 +4,7 @@ use Rattle.dictionary.specs.declared.fault.DictFault.{DictFault}
 use Rattle.dictionary.specs.declared.fault.DictFault.TheVariants.{TooLong, NotJson, Shape, TooMany, TooDeep, BadPath, DuplicatePath, NoCollection, UnknownPath, WrongPlace, UnknownCheck, IllTyped, BadLimit, Cycle, NoMemory}
 use Rattle.fact_graph_c.specs.declared.fault.Fault.{Fault}
 use Rattle.fact_graph_c.specs.declared.fault.NotBegun.{NotBegun}
-use Rattle.fact_graph_c.specs.declared.fault.NotBegun.TheVariants.{Dictionary, Saved}
+use Rattle.fact_graph_c.specs.declared.fault.NotBegun.TheVariants.{Dictionary, Saved, Unknown}
 
 -- what a field is where the fault has no such number
 abbrev pub absent : ℕ
@@ -37,7 +37,8 @@ dictionary_fault (BadLimit fact) = at_fact 13 fact
 dictionary_fault (Cycle fact) = at_fact 14 fact
 dictionary_fault NoMemory = plain 15
 
--- of a saved text the line at which it is refused
+-- of a saved text the line at which it is refused; 17 where words name no dictionary
 abbrev pub fault_numbers : NotBegun → Fault
 fault_numbers (Dictionary fault) = dictionary_fault fault
 fault_numbers (Saved line) = fault_with 16 absent absent absent line
+fault_numbers Unknown = plain 17

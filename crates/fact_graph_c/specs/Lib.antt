@@ -5,6 +5,8 @@ pub mod Faults
 pub mod Held
 pub mod Openings
 pub mod Outcomes
+pub mod Reading
 pub mod Room
 pub mod Saving
+pub mod Saying
 pub mod Sound

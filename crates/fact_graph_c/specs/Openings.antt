@@ -1,5 +1,7 @@
 -- How a session is begun, and why it isn't.
-use Rattle.std.specs.Prelude.{◌≡◌, ◌⊎◌, ℕ, ◌<◌, ◌≤◌, true, List, [], length}
+use Rattle.std.specs.Prelude.{◌≡◌, ◌⊎◌, ℕ, ◌<◌, ◌≤◌, true, List, [], length, Option, Some, None}
+use Rattle.built_in.specs.BuiltIns.{IsBrought, built_in_of}
+use Rattle.built_in.specs.declared.built_in.BuiltIn.{BuiltIn}
 use Rattle.answers.specs.Answered.{Answered, start}
 use Rattle.dictionary.specs.Accepted.{names_of}
 use Rattle.dictionary.specs.Faults.{AreAccepted, IsFault, Refuses}
@@ -18,7 +20,7 @@ use Rattle.fact_graph_c.specs.Answering.{rules_of, said, state_of}
 use Rattle.session_lines.specs.Tables.{standard_checks, standard_relations}
 use Rattle.fact_graph_c.specs.declared.engine.Engine.{Engine}
 use Rattle.fact_graph_c.specs.declared.fault.NotBegun.{NotBegun}
-use Rattle.fact_graph_c.specs.declared.fault.NotBegun.TheVariants.{Dictionary, Saved}
+use Rattle.fact_graph_c.specs.declared.fault.NotBegun.TheVariants.{Dictionary, Saved, Unknown}
 
 -- ---- begun
 
@@ -39,6 +41,14 @@ Accepts bytes r = AreAccepted bytes (names_of standard_checks) r.accepted × (r.
 -- with no answers
 abbrev pub Opens : List ℕ → Engine → Type 0
 Opens bytes e = (r : Rules) × Accepts bytes r × IsBegun r start [] e
+
+-- the words are those of a dictionary that comes with the library, and these are its rules: it names no check
+abbrev pub Brings : List ℕ → Rules → Type 0
+Brings words r = (b : BuiltIn) × (built_in_of words ≡ Some b) × IsBrought b r.accepted × (r.checks ≡ [])
+
+-- over it, with no answers
+abbrev pub OpensBuiltIn : List ℕ → Engine → Type 0
+OpensBuiltIn words e = (r : Rules) × Brings words r × IsBegun r start [] e
 
 -- over these rules with the answers of which the bytes are the saved text
 abbrev pub LoadsOver : Rules → List ℕ → Engine → Type 0
@@ -67,6 +77,7 @@ IsBadText IsText bytes n = ((saved_limit < length bytes) × (n ≡ 0)) ⊎ ((len
 abbrev pub RefusesOver : (List ℕ → Type 0) → List ℕ → NotBegun → Type 0
 RefusesOver IsText text (Dictionary fault) = fault ≡ NoMemory
 RefusesOver IsText text (Saved line) = IsBadText IsText text line
+RefusesOver IsText text Unknown = ⊥
 
 -- what a fault of a saved text comes to
 abbrev pub IsFaultOfText : LoadFault → NotBegun → Type 0
@@ -77,11 +88,19 @@ IsFaultOfText loads.NoMemory why = why ≡ Dictionary NoMemory
 abbrev pub NotOpened : List ℕ → NotBegun → Type 0
 NotOpened bytes (Dictionary fault) = Refuses (IsFault bytes (names_of standard_checks)) fault
 NotOpened bytes (Saved line) = ⊥
+NotOpened bytes Unknown = ⊥
+
+-- the words are those of none, or there was no memory
+abbrev pub NotBrought : List ℕ → NotBegun → Type 0
+NotBrought words (Dictionary fault) = fault ≡ NoMemory
+NotBrought words (Saved line) = ⊥
+NotBrought words Unknown = built_in_of words ≡ None
 
 -- or the dictionary is accepted, and the text is refused
 abbrev pub NotResumed : (Rules → List ℕ → Type 0) → List ℕ → List ℕ → NotBegun → Type 0
 NotResumed IsText bytes text (Dictionary fault) = Refuses (IsFault bytes (names_of standard_checks)) fault
 NotResumed IsText bytes text (Saved line) = (r : Rules) × Accepts bytes r × IsBadText (IsText r) text line
+NotResumed IsText bytes text Unknown = ⊥
 
 abbrev pub NotLoaded : List ℕ → List ℕ → NotBegun → Type 0
 NotLoaded bytes text why = NotResumed (λ r. IsSavedText (tree_of r)) bytes text why

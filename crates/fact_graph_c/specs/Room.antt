@@ -1,6 +1,6 @@
 -- How much may be said without memory.
-use Rattle.std.specs.Prelude.{ℕ}
+use Rattle.std.specs.Prelude.{ℕ, ◌+◌, ◌*◌}
 
--- so many bytes
-abbrev pub room : ℕ
-room = 262144
+-- so many bytes, where so many slots are watched: the reply of a change, with a line of each watch, has fewer
+abbrev pub room_for : ℕ → ℕ
+room_for watches = 64 + 161 * watches

@@ -1,15 +1,17 @@
 // Answers lines.
-ghost use Rattle.std.specs.Prelude.{◌≡◌, ◌+◌, ◌-◌, ◌<◌, ◌≤◌, ◌^◌, ◌∷◌, [], ◌++◌, false, IfOk, OnErr, length};
+ghost use Rattle.std.specs.Prelude.{◌≡◌, ◌+◌, ◌*◌, ◌-◌, ◌<◌, ◌≤◌, ◌^◌, ◌∷◌, [], ◌++◌, false, IfOk, OnErr, OnOk, length};
 ghost use Rattle.script_lines.specs.Lines.{ready_lines};
 ghost use Rattle.text_checks.specs.Tables.{named_checks};
 ghost use Rattle.fact_watch.specs.Tables.{named_relations};
 ghost use Rattle.fact_graph_c.specs.Answering.{Answers, line_given, said};
+ghost use Rattle.fact_graph_c.specs.Room.{room_for};
 ghost use Rattle.fact_graph_c.specs.Sound.{IsSound};
 ghost use Rattle.session_lines.specs.Tables.{standard_checks, standard_relations};
 
 use crate::asking::{answer_get, asked_path};
 use crate::engine::Engine;
 use crate::outcome::Outcome;
+use fact_values::NoMemory;
 use fact_watch::WatchTable;
 use script_lines::Ready;
 use session_lines::{Progress, answer_ready, standard_checks, standard_relations};
@@ -37,6 +39,14 @@ fn readied(line: &[u8]) -> (Ready, &[u8])
     }
 }
 
+// How many bytes a reply may take behind a change, where so many slots are watched.
+fn room_of(watches: u32) -> usize
+    requires { watches ≤ 1000 }
+    ensures { result ≡ room_for watches }
+{
+    64 + 161 * watches as usize
+}
+
 // What is true of an engine. Nothing is done.
 fn know(engine: &Engine)
     ensures { IsSound engine.now }
@@ -61,6 +71,7 @@ fn answer_open<L: Ledger>(
         ≡ standard_relations }
     requires goes_on { engine.old.over ≡ false }
     requires empty { said engine.old ≡ [] }
+    requires roomy { room_for (length engine.old.watches.pairs) ≤ engine.old.text.room }
     requires few { engine.old.session.changes < 2 ^ 63 }
     ensures answered { Answers engine.old engine.new line.now result }
     ensures dict { engine.new.session.dict ≡ engine.old.session.dict }
@@ -113,12 +124,24 @@ fn answer_uncounted<L: Ledger>(
         ≡ standard_relations }
     requires goes_on { engine.old.over ≡ false }
     requires empty { said engine.old ≡ [] }
+    requires roomy { room_for (length engine.old.watches.pairs) ≤ engine.old.text.room }
     requires few { engine.old.session.changes < 2 ^ 63 }
     ensures answered { Answers engine.old engine.new line.now result }
     ensures dict { engine.new.session.dict ≡ engine.old.session.dict }
 {
     let mut steps = Steps::<L>::new(blank);
     answer_open(alloc, engine, checks, relations, line, &mut steps)
+}
+
+// Takes the memory that the text of a change may want, before anything is changed.
+fn make_room(engine: &mut Engine) -> Result<(), NoMemory>
+    ensures said { said engine.new ≡ [] }
+    ensures session { engine.new.session ≡ engine.old.session }
+    ensures watches { engine.new.watches ≡ engine.old.watches }
+    ensures over { engine.new.over ≡ engine.old.over }
+    ensures roomy { OnOk result (room_for (length engine.new.watches.pairs) ≤ engine.new.text.room) }
+{
+    engine.text.make_room(room_of(engine.watches.len()))
 }
 
 // Answers a line.
@@ -143,7 +166,12 @@ fn answer_by(
     if engine.session.changes() >= MOST_CHANGES {
         return Outcome::NoMemory;
     }
-    answer_uncounted::<Brand>(alloc, engine, checks, relations, line, Blank::new(1))
+    match make_room(engine) {
+        Err(NoMemory) => Outcome::NoMemory,
+        Ok(()) => {
+            answer_uncounted::<Brand>(alloc, engine, checks, relations, line, Blank::new(1))
+        }
+    }
 }
 
 // Makes the table of relations, and answers a line.

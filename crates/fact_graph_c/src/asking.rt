@@ -1,11 +1,12 @@
 // Answers `get`. It changes nothing, so it needs none of the tables, which cost more to make than it takes.
 ghost use Rattle.std.specs.Prelude.{◌≡◌, ◌+◌, ◌≤◌, ◌<◌, ◌++◌, ℕ, List, [], false, IfSome, length};
-ghost use Rattle.script_lines.specs.Parsing.{command, heard_in};
+ghost use Rattle.script_lines.specs.Parsing.{command as heard, heard_in};
 ghost use Rattle.script_lines.specs.declared.command.Command.TheVariants.{Get};
 ghost use Rattle.graph_session.specs.Rules.{rules};
 ghost use Rattle.graph_session.specs.SessionView.{session_state};
 ghost use Rattle.fact_graph_c.specs.Answering.{Answers};
 ghost use Rattle.fact_graph_c.specs.Asking.{text_of_get};
+ghost use Rattle.fact_graph_c.specs.Reading.{path_heard};
 
 use crate::engine::Engine;
 use crate::outcome::Outcome;
@@ -20,9 +21,10 @@ use value_text::Line;
 /// The most bytes of a line.
 const LINE: usize = 4_096;
 
-// The path of `get`, and none of another command.
-fn path_of_get(command: Command) -> Option<SlotPath>
-    ensures { IfSome result (λ path. command ≡ Get path) }
+/// The path of `get`, and none of another command.
+pub fn path_of_get(command: Command) -> Option<SlotPath>
+    ensures path { result ≡ path_heard (heard command) }
+    ensures get { IfSome result (λ path. command ≡ Get path) }
 {
     match command {
         Command::Get(path) => Some(path),
@@ -34,7 +36,7 @@ fn path_of_get(command: Command) -> Option<SlotPath>
 pub fn asked_path(alloc: Global, over: bool, line: &[u8]) -> Option<SlotPath>
     ensures goes_on { IfSome result (λ _. over ≡ false) }
     ensures short { IfSome result (λ _. length line.now ≤ 4096) }
-    ensures heard { IfSome result (λ path. heard_in line.now ≡ command (Get path)) }
+    ensures says_get { IfSome result (λ path. heard_in line.now ≡ heard (Get path)) }
 {
     if over {
         return None;
@@ -66,7 +68,7 @@ fn print_get(session: &Session<Recalc>, path: &SlotPath, line: &mut Line)
 // Answers `get` of the path.
 fn answer_path(engine: &mut Engine, path: &SlotPath) -> Outcome
     requires goes_on { engine.old.over ≡ false }
-    ensures answered { (line : List ℕ) → length line ≤ 4096 → heard_in line ≡ command (Get path.now)
+    ensures answered { (line : List ℕ) → length line ≤ 4096 → heard_in line ≡ heard (Get path.now)
         → Answers engine.old engine.new line result }
     ensures dict { engine.new.session.dict ≡ engine.old.session.dict }
 {
@@ -86,7 +88,7 @@ fn answer_path(engine: &mut Engine, path: &SlotPath) -> Outcome
 /// The same, and the path is let go.
 pub fn answer_get(engine: &mut Engine, path: SlotPath) -> Outcome
     requires goes_on { engine.old.over ≡ false }
-    ensures answered { (line : List ℕ) → length line ≤ 4096 → heard_in line ≡ command (Get path)
+    ensures answered { (line : List ℕ) → length line ≤ 4096 → heard_in line ≡ heard (Get path)
         → Answers engine.old engine.new line result }
     ensures dict { engine.new.session.dict ≡ engine.old.session.dict }
 {

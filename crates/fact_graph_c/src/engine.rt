@@ -1,5 +1,6 @@
 // What stands behind a handle.
-ghost use Rattle.std.specs.Prelude.{◌≡◌};
+ghost use Rattle.graph_session.specs.Refusals.{SameChecks};
+ghost use Rattle.graph_session.specs.Rules.{rules};
 ghost use Rattle.session_lines.specs.Tables.{standard_checks};
 
 use crate::text::Text;
@@ -7,7 +8,8 @@ use fact_watch::Watches;
 use graph_session::Session;
 use recalc::Recalc;
 
-/// A session over a dictionary that was accepted with the standard checks, its watches, and what the last call said.
+/// A session over a dictionary that was accepted with the standard checks, or that names none, its watches, and what the last
+/// call said.
 #[derive(Drop)]
 pub struct Engine {
     pub session: Session<Recalc>,
@@ -16,5 +18,5 @@ pub struct Engine {
     pub over: bool,
     /// What the last call said.
     pub text: Text,
-    pub ghost same: { session.dict.checks ≡ standard_checks },
+    pub ghost same: { SameChecks (rules session.dict) standard_checks },
 }

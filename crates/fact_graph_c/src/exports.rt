@@ -2,18 +2,24 @@
 // and which engine it hands back.
 ghost use Rattle.std.specs.Prelude.{◌≡◌, ◌++◌, ℕ, List, length, take, drop, min, IfOk, IfErr, Some};
 ghost use Rattle.fact_graph_c.specs.Answering.{said};
-ghost use Rattle.fact_graph_c.specs.Calls.{AnswersCall, BeginsCall, SavesCall};
+ghost use Rattle.fact_graph_c.specs.Calls.{AnswersCall, BeginsCall, KeepsChanges, SaysCall, TrimsText};
 ghost use Rattle.fact_graph_c.specs.Faults.{fault_numbers, plain};
-ghost use Rattle.fact_graph_c.specs.Openings.{Carries, Loads, NotCarried, NotLoaded, NotOpened, Opens};
+ghost use Rattle.fact_graph_c.specs.Openings.{Carries, Loads, NotBrought, NotCarried, NotLoaded, NotOpened, Opens, OpensBuiltIn};
+ghost use Rattle.fact_graph_c.specs.Outcomes.{outcome_number};
+ghost use Rattle.fact_graph_c.specs.Reading.{IsReads};
+ghost use Rattle.fact_graph_c.specs.Saving.{IsSaved};
 
 use crate::answering::answer;
+use crate::bringing::open_built_in;
 use crate::engine::Engine;
 use crate::fault::{Fault, NotBegun, fault_of, no_fault};
 use crate::handle::Handle;
 use crate::opening::{open, open_carried, open_loaded};
-use crate::outcome::number_of;
+use crate::outcome::{Outcome, number_of};
+use crate::reading::say_reads;
 use crate::saving::save_answers;
 use crate::session_slot::{SessionSlot, keep};
+use crate::text::Text;
 use std::alloc::Global;
 
 // How long the text of a session is that begins.
@@ -41,6 +47,22 @@ fn hand_out(begun: Result<Box<Engine>, NotBegun>, graph: &mut SessionSlot, fault
     }
 }
 
+// Hands a session back to C, and tells how the call on it ended and how long its text is.
+fn hand_back(
+    engine: Box<Engine>,
+    outcome: Outcome,
+    text_size: &mut usize,
+    back: &mut SessionSlot,
+) -> u32
+    ensures size { text_size.new ≡ length (said engine.value) }
+    ensures back { back.new.value ≡ Some engine.value }
+    ensures number { result ≡ outcome_number outcome }
+{
+    *text_size = engine.text.len();
+    *back = keep(engine);
+    number_of(outcome)
+}
+
 /// Opens a session over a dictionary.
 #[unsafe(no_mangle)]
 pub extern "C" fn fact_graph_open(
@@ -53,6 +75,21 @@ pub extern "C" fn fact_graph_open(
     ensures number { result ≡ fault.new.number }
 {
     hand_out(open(alloc, dictionary), graph, fault);
+    fault.number
+}
+
+/// Opens a session over a dictionary that comes with the library.
+#[unsafe(no_mangle)]
+pub extern "C" fn fact_graph_open_built_in(
+    alloc: Global,
+    words: &[u8],
+    graph: &mut SessionSlot,
+    fault: &mut Fault,
+) -> u32
+    ensures begun { BeginsCall (OpensBuiltIn words.now) (NotBrought words.now) graph.old graph.new fault.new }
+    ensures number { result ≡ fault.new.number }
+{
+    hand_out(open_built_in(alloc, words), graph, fault);
     fault.number
 }
 
@@ -105,9 +142,7 @@ pub extern "C" fn fact_graph_answer(
 {
     let mut engine = graph.into_box();
     let outcome = answer(alloc, &mut engine, line);
-    *text_size = engine.text.len();
-    *back = keep(engine);
-    number_of(outcome)
+    hand_back(engine, outcome, text_size, back)
 }
 
 /// Makes the saved text.
@@ -117,13 +152,47 @@ pub extern "C" fn fact_graph_save(
     text_size: &mut usize,
     back: &mut SessionSlot,
 ) -> u32
-    ensures { SavesCall graph.value text_size.new back.new.value result }
+    ensures { SaysCall (IsSaved graph.value) graph.value text_size.new back.new.value result }
 {
     let mut engine = graph.into_box();
     let outcome = save_answers(&mut engine);
-    *text_size = engine.text.len();
+    hand_back(engine, outcome, text_size, back)
+}
+
+/// Says the slots that a slot reads.
+#[unsafe(no_mangle)]
+pub extern "C" fn fact_graph_reads(
+    alloc: Global,
+    graph: Handle,
+    slot: &[u8],
+    text_size: &mut usize,
+    back: &mut SessionSlot,
+) -> u32
+    ensures { SaysCall (IsReads graph.value slot.now) graph.value text_size.new back.new.value result }
+{
+    let mut engine = graph.into_box();
+    let outcome = say_reads(alloc, &mut engine, slot);
+    hand_back(engine, outcome, text_size, back)
+}
+
+/// Keeps the newest changes, so many at most: those before them can't be undone any more.
+#[unsafe(no_mangle)]
+pub extern "C" fn fact_graph_keep_changes(graph: Handle, most: usize, back: &mut SessionSlot)
+    ensures { KeepsChanges graph.value most back.new.value }
+{
+    let mut engine = graph.into_box();
+    engine.session.keep_changes(most);
     *back = keep(engine);
-    number_of(outcome)
+}
+
+/// Gives back the memory of the text.
+#[unsafe(no_mangle)]
+pub extern "C" fn fact_graph_trim(alloc: Global, graph: Handle, back: &mut SessionSlot)
+    ensures { TrimsText graph.value back.new.value }
+{
+    let mut engine = graph.into_box();
+    engine.text = Text::new(alloc);
+    *back = keep(engine);
 }
 
 /// Copies the text from a place on.

@@ -14,13 +14,16 @@ pub enum NotBegun {
     Dictionary(DictFault),
     /// The saved text is refused at the line of this number, from 1. The number is 0 where the text is too long.
     Saved(u32),
+    /// The words are those of no dictionary that comes with the library.
+    Unknown,
 }
 
 /// The same as numbers.
 #[repr(C)]
 #[derive(Clone, Copy)]
 pub struct Fault {
-    /// 0 where there is none, from 1 to 14 that of a dictionary, 15 for want of memory, 16 for a saved text.
+    /// 0 where there is none, from 1 to 14 that of a dictionary, 15 for want of memory, 16 for a saved text, 17 for words
+    /// that name no dictionary.
     pub number: u32,
     /// The fact at fault, from 1.
     pub fact: u32,
@@ -117,5 +120,6 @@ pub fn fault_of(why: NotBegun) -> Fault
     match why {
         NotBegun::Dictionary(fault) => fault_of_dictionary(fault),
         NotBegun::Saved(line) => at_line(16, line),
+        NotBegun::Unknown => plain(17),
     }
 }

@@ -5,6 +5,7 @@ ghost use Rattle.std.specs.Prelude.{◌≡◌};
 
 mod answering;
 mod asking;
+mod bringing;
 mod engine;
 mod exports;
 mod fault;
@@ -12,6 +13,7 @@ mod handle;
 mod loose;
 mod opening;
 mod outcome;
+mod reading;
 mod saving;
 mod session_slot;
 mod text;

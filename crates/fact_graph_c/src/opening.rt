@@ -5,6 +5,7 @@ ghost use Rattle.text_checks.specs.Tables.{named_checks};
 ghost use Rattle.dictionary.specs.Accepted.{accepted};
 ghost use Rattle.dictionary.specs.Fits.{AnswersFit};
 ghost use Rattle.dictionary.specs.declared.fault.DictFault.TheVariants.{NoMemory as WantsMemory};
+ghost use Rattle.graph_session.specs.Refusals.{SameChecks};
 ghost use Rattle.graph_session.specs.Rules.{rules, tree_of};
 ghost use Rattle.save_file.specs.CarriedText.{IsCarriedText};
 ghost use Rattle.save_file.specs.Carrying.{IsCarry};
@@ -52,7 +53,7 @@ fn boxed(alloc: Global, engine: Engine) -> Result<Box<Engine>, NotBegun>
 
 // A session that nobody has used, and what it has said.
 fn unused(alloc: Global, session: Session<Recalc>, text: Text) -> Engine
-    requires { session.dict.checks ≡ standard_checks }
+    requires { SameChecks (rules session.dict) standard_checks }
     ensures session { result.session ≡ session }
     ensures unwatched { result.watches ≡ nothing_watched }
     ensures open { result.over ≡ false }
@@ -73,7 +74,7 @@ fn begin(
     answers: Answers,
     text: Text,
 ) -> Result<Box<Engine>, NotBegun>
-    requires same { dict.checks ≡ standard_checks }
+    requires same { SameChecks (rules dict) standard_checks }
     requires fit { AnswersFit (accepted dict).tree (answered answers) }
     ensures begun { IfOk result (λ e. IsBegun (rules dict) (answered answers) text.bytes.items e.value) }
     ensures memory { IfErr result (λ why. why ≡ OfDictionary WantsMemory) }
@@ -84,17 +85,14 @@ fn begin(
     }
 }
 
-// The same, with nothing said.
-fn begin_silent(alloc: Global, dict: Dictionary, answers: Answers) -> Result<Box<Engine>, NotBegun>
-    requires same { dict.checks ≡ standard_checks }
+/// The same, with nothing said.
+pub fn begin_silent(alloc: Global, dict: Dictionary, answers: Answers) -> Result<Box<Engine>, NotBegun>
+    requires same { SameChecks (rules dict) standard_checks }
     requires fit { AnswersFit (accepted dict).tree (answered answers) }
     ensures begun { IfOk result (λ e. IsBegun (rules dict) (answered answers) [] e.value) }
     ensures memory { IfErr result (λ why. why ≡ OfDictionary WantsMemory) }
 {
-    match Text::new(alloc) {
-        Ok(text) => begin(alloc, dict, answers, text),
-        Err(NoMemory) => Err(wants_memory()),
-    }
+    begin(alloc, dict, answers, Text::new(alloc))
 }
 
 // The dictionary that the bytes spell, or its first fault.
@@ -145,7 +143,7 @@ fn dropped_text(alloc: Global, saved: &[u8], dropped: &[u32]) -> Result<Text, No
     ensures { (text : List ℕ) → IsDroppedText saved.now dropped.now text
         → IfOk result (λ t. t.bytes.items ≡ text) }
 {
-    let mut text = Text::new(alloc)?;
+    let mut text = Text::new(alloc);
     match put_dropped(saved, dropped, &mut text) {
         Ok(()) => Ok(text),
         Err(Failed) => Err(NoMemory),

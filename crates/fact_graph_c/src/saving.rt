@@ -1,6 +1,7 @@
 // Saves the answers of a session.
 ghost use Rattle.std.specs.Prelude.{◌≡◌};
-ghost use Rattle.fact_graph_c.specs.Saving.{Saves};
+ghost use Rattle.fact_graph_c.specs.Saving.{IsSaved};
+ghost use Rattle.fact_graph_c.specs.Saying.{Says};
 
 use crate::engine::Engine;
 use crate::outcome::Outcome;
@@ -9,7 +10,7 @@ use save_file::save;
 
 /// Says the saved text of the answers that stand.
 pub fn save_answers(engine: &mut Engine) -> Outcome
-    ensures { Saves engine.old engine.new result }
+    ensures { Says (IsSaved engine.old) engine.old engine.new result }
 {
     engine.text.clear();
     match save(

@@ -3,33 +3,45 @@ ghost use Rattle.std.specs.Prelude.{◌≡◌, ◌+◌, ◌*◌, ◌<◌, ◌≤
 ghost use Rattle.std.specs.Io.{WritesAtMost};
 ghost use Rattle.std.specs.Io.KnownBytes.{WriteAppends};
 ghost use Rattle.fg_io.specs.Outside.{HasCause};
-ghost use Rattle.fact_graph_c.specs.Room.{room};
-
 use fact_values::NoMemory;
 use fg_io::{Failed, Sink};
 use std::alloc::Global;
-
-/// How many bytes are taken without memory: the reply of a change, with the lines of 1,000 watches, has fewer.
-const ROOM: usize = 262_144;
 
 /// Bytes that were said. It fails to take more where the room is full and there is no memory.
 #[derive(Drop)]
 pub struct Text {
     pub bytes: Vec<u8>,
+    /// How many bytes are taken without memory.
+    pub room: usize,
     pub faults: u64,
     pub ghost roomy: { room ≤ vec_capacity bytes },
     pub ghost full: { 0 < faults → room ≤ length bytes.items },
 }
 
 impl Text {
-    /// Nothing is said.
-    pub fn new(alloc: Global) -> Result<Text, NoMemory>
-        ensures { IfOk result (λ text. text.bytes.items ≡ []) }
+    /// Nothing is said, and no memory is taken.
+    pub fn new(alloc: Global) -> Text
+        ensures { result.bytes.items ≡ [] }
     {
-        Ok(Text {
-            bytes: Vec::with_capacity(alloc, ROOM)?,
+        Text {
+            bytes: Vec::new(alloc),
+            room: 0,
             faults: 0,
-        })
+        }
+    }
+
+    /// Takes the memory for a text of so many bytes. What was said is taken back.
+    pub fn make_room(&mut self, room: usize) -> Result<(), NoMemory>
+        ensures said { self.new.bytes.items ≡ [] }
+        ensures roomy { OnOk result (room ≤ self.new.room) }
+    {
+        self.clear();
+        if room <= self.room {
+            return Ok(());
+        }
+        self.bytes.reserve(room)?;
+        self.room = room;
+        Ok(())
     }
 
     /// Takes back what was said.
@@ -63,15 +75,17 @@ impl Text {
 }
 
 impl Sink for Text {
+    ghost use Rattle.std.specs.Prelude.{◌∷◌};
     ghost use Rattle.std.specs.declared.option.Option.TheVariants.{Some};
 
-    ghost taken = { λ text. Some text.bytes.items };
+    // Its room stands before the bytes, so that whoever puts bytes is known to leave it.
+    ghost taken = { λ text. Some (text.room ∷ text.bytes.items) };
 
     ghost faults = { λ text. text.faults };
 
     fn put(&mut self, piece: &[u8]) -> Result<usize, Failed> {
-        if self.bytes.len() < ROOM {
-            let count = piece.len().min(ROOM - self.bytes.len());
+        if self.bytes.len() < self.room {
+            let count = piece.len().min(self.room - self.bytes.len());
             self.bytes.extend_from_slice(&piece[..count]).unwrap();
             return Ok(count);
         }

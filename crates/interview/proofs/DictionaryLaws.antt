@@ -22,11 +22,12 @@ use Rattle.tax_income.proofs.IncomeLaw.{income_tables_hold}
 use Rattle.interview.specs.declared.fetching.Fetched.{Fetched}
 use Rattle.interview.specs.declared.fetching.Fetched.TheVariants as fetches
 use Rattle.interview.specs.declared.status.Status.{Status}
-use Rattle.interview.specs.declared.built_in.BuiltIn.{BuiltIn}
-use Rattle.interview.specs.declared.built_in.BuiltIn.TheVariants.{Year2023, Year2024, Income2023}
+use Rattle.built_in.specs.declared.built_in.BuiltIn.{BuiltIn}
+use Rattle.built_in.specs.declared.built_in.BuiltIn.TheVariants.{Year2023, Year2024, Income2023}
 use Rattle.fg_io.specs.Outside.{MayHold, Contents, missing}
 use Rattle.interview.specs.Words.{Origin, file, program}
-use Rattle.interview.specs.Dictionaries.{Content, Gives, HasFault, IsAcceptedAs, IsBrought, MayGive, brought, facts_of, spelled}
+use Rattle.built_in.specs.BuiltIns.{IsBrought, facts_of}
+use Rattle.interview.specs.Dictionaries.{Content, Gives, HasFault, IsAcceptedAs, MayGive, brought, spelled}
 use Rattle.answers.specs.Answered.{Answered}
 use Rattle.interview.specs.Interview.{TablesHoldIn}
 use Rattle.dictionary.proofs.AcceptedLaws.{one_accepted}
@@ -53,26 +54,6 @@ unfolding facts_of
 brought_has_none Year2023 = no_fault_2023
 brought_has_none Year2024 = no_fault_2024
 brought_has_none Income2023 = no_fault_of_income
-
--- what the program brings is accepted as this
-pub brings : (IsThis : Accepted → Type 0) (r : Result Kept NoMemory) → IfOk r (λ d. IsThis (accepted d)) → IfOk r (λ d. d.checks ≡ []) → IfOk r (λ d. IsThis (accepted d) × (d.checks ≡ []))
-brings IsThis (Ok d) h k = (h, k)
-brings IsThis (Err fault) h k = tt
-
--- and names no check
-year_names_none : (y : Year) → has_check (dictionary (figures y)) ≡ false
-year_names_none y = refl
-
-income_names_none : (y : Year) → has_check (income_dictionary (figures y)) ≡ false
-income_names_none y = refl
-
-pub year_brings_no_check : (y : Year) (r : Result Kept NoMemory) → IfOk r (λ d. IsOfYear y (accepted d)) → IfOk r (λ d. has_check (accepted d).tree ≡ false)
-year_brings_no_check y (Ok d) h = ap has_check h.facts ∙ year_names_none y
-year_brings_no_check y (Err fault) h = tt
-
-pub income_brings_no_check : (r : Result Kept NoMemory) → IfOk r (λ d. IsOfIncome (accepted d)) → IfOk r (λ d. has_check (accepted d).tree ≡ false)
-income_brings_no_check (Ok d) h = ap has_check h.facts ∙ income_names_none tables_2023
-income_brings_no_check (Err fault) h = tt
 
 -- what is fetched comes from a file
 pub obtains_file : (contents : List ℕ → Contents) (name : List ℕ) (checks : List Named) (r : Result Fetched Status) → IfOk r (FetchedAs (contents name) checks) → IfOk r (ObtainedAs contents (file name) checks)

@@ -6,9 +6,10 @@ use Rattle.dictionary.specs.Accepted.{Named}
 use Rattle.dictionary.proofs.EnumLists.{read_lists}
 use Rattle.graph_session.specs.Rules.{Rules, tree_of}
 use Rattle.tax_2023.specs.Facts.{filing_statuses}
-use Rattle.interview.specs.declared.built_in.BuiltIn.{BuiltIn}
-use Rattle.interview.specs.declared.built_in.BuiltIn.TheVariants.{Year2023, Year2024, Income2023}
-use Rattle.interview.specs.Dictionaries.{Content, IsAcceptedAs, IsBrought, brought, spelled}
+use Rattle.built_in.specs.declared.built_in.BuiltIn.{BuiltIn}
+use Rattle.built_in.specs.declared.built_in.BuiltIn.TheVariants.{Year2023, Year2024, Income2023}
+use Rattle.built_in.specs.BuiltIns.{IsBrought}
+use Rattle.interview.specs.Dictionaries.{Content, IsAcceptedAs, brought, spelled}
 
 years_lists : AreLists filing_statuses
 years_lists = record { few = omega arith; distinct = refl; listed = refl }

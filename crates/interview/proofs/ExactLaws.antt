@@ -10,7 +10,7 @@ use Rattle.script_lines.specs.Lines.{ScriptLine, ended_lines}
 use Rattle.dictionary.specs.Accepted.{names_of}
 use Rattle.dictionary.specs.Faults.{IsFault}
 use Rattle.graph_session.specs.Rules.{Rules}
-use Rattle.interview.specs.declared.built_in.BuiltIn.{BuiltIn}
+use Rattle.built_in.specs.declared.built_in.BuiltIn.{BuiltIn}
 use Rattle.interview.specs.declared.status.Status.{Status}
 use Rattle.interview.specs.declared.status.Status.TheVariants.{Done, DictionaryRefused, Usage, FetchFault, ReadFault, WriteFault, ScriptTooLong, NoMemory, SavedRefused}
 use Rattle.interview.specs.declared.words.Mode.{Mode}

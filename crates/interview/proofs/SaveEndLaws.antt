@@ -7,7 +7,7 @@ use Rattle.fg_io.proofs.SentLaws.{appends_none}
 use Rattle.fg_io.specs.Outside.{MayBe, missing}
 use Rattle.dictionary.specs.declared.fault.DictFault.{DictFault}
 use Rattle.graph_session.specs.Rules.{Rules}
-use Rattle.interview.specs.declared.built_in.BuiltIn.{BuiltIn}
+use Rattle.built_in.specs.declared.built_in.BuiltIn.{BuiltIn}
 use Rattle.interview.specs.declared.status.Status.{Status}
 use Rattle.interview.specs.declared.status.Status.TheVariants.{Done, DictionaryRefused, Usage, FetchFault, ReadFault, WriteFault, ScriptTooLong, NoMemory, SavedRefused}
 use Rattle.interview.specs.Words.{IsCheck, IsRun, IsSave, Origin, file, program}

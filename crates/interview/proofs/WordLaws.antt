@@ -3,8 +3,8 @@ use Rattle.std.proofs.Common.{◌≡◌, ℕ, ◌≤◌, List, [], ◌∷◌, Op
 use Rattle.std.specs.Prelude.{bytes_eq, codes, decimal, false, if◌then◌else◌}
 use Rattle.std.proofs.lemmas.Bool.{false_from_ne_true}
 use Rattle.common_lemmas.proofs.Bytes.{same_bytes}
-use Rattle.interview.specs.declared.built_in.BuiltIn.{BuiltIn}
-use Rattle.interview.specs.declared.built_in.BuiltIn.TheVariants.{Year2023, Year2024, Income2023}
+use Rattle.built_in.specs.declared.built_in.BuiltIn.{BuiltIn}
+use Rattle.built_in.specs.declared.built_in.BuiltIn.TheVariants.{Year2023, Year2024, Income2023}
 use Rattle.interview.specs.declared.words.Mode.{Mode}
 use Rattle.interview.specs.declared.words.Mode.TheVariants.{Incremental, Plain, Desk}
 use Rattle.interview.specs.Words.{Beginning, Fetches, HasNoForm, IsCheck, IsFrom, IsGen, IsRun, IsRunOver, IsSave, Origin, by_carry, by_load, file, program, unanswered}

@@ -1,38 +1,13 @@
 -- The dictionary of a run: what it is judged by, and as what it is accepted.
 use Rattle.std.specs.Prelude.{◌≡◌, ℕ, List, []}
 use Rattle.fg_io.specs.Outside.{MayHold, Contents, holds}
-use Rattle.dict_tree.specs.Dictionary.{Dictionary as Tree}
 use Rattle.dictionary.specs.declared.fault.DictFault.{DictFault}
 use Rattle.dictionary.specs.Accepted.{Accepted, Named, names_of}
 use Rattle.dictionary.specs.Faults.{AreAccepted, IsFault, IsFaultOf}
 use Rattle.graph_session.specs.Rules.{Rules}
-use Rattle.tax_2023.specs.Facts.{dictionary}
-use Rattle.tax_2023.specs.Figures.{figures}
-use Rattle.tax_2023.specs.Laws.{IsOfYear}
-use Rattle.tax_2023.specs.Years.{Year, tables_2023, tables_2024}
-use Rattle.tax_income.specs.Facts.{income_dictionary}
-use Rattle.tax_income.specs.Laws.{IsOfIncome}
-use Rattle.interview.specs.declared.built_in.BuiltIn.{BuiltIn}
-use Rattle.interview.specs.declared.built_in.BuiltIn.TheVariants.{Year2023, Year2024, Income2023}
+use Rattle.built_in.specs.BuiltIns.{IsBrought, facts_of}
+use Rattle.built_in.specs.declared.built_in.BuiltIn.{BuiltIn}
 use Rattle.interview.specs.Words.{Origin, file, program}
-
--- ---- dictionaries that the program brings with it
-
--- the written tables whose facts it has
-abbrev pub tables_of : BuiltIn → Year
-tables_of Year2023 = tables_2023
-tables_of Year2024 = tables_2024
-tables_of Income2023 = tables_2023
-
--- its facts
-unfoldable pub facts_of : BuiltIn → Tree
-facts_of Income2023 = income_dictionary (figures tables_2023)
-facts_of b = dictionary (figures (tables_of b))
-
--- it is accepted with these facts
-abbrev pub IsBrought : BuiltIn → Accepted → Type 0
-IsBrought Income2023 d = IsOfIncome d
-IsBrought b d = IsOfYear (tables_of b) d
 
 -- ---- what a dictionary is judged by
 

@@ -9,7 +9,7 @@ use Rattle.graph_session.specs.Rules.{Rules}
 use Rattle.interview.specs.declared.status.Status.{Status}
 use Rattle.interview.specs.declared.status.Status.TheVariants.{Done, DictionaryRefused, Usage, FetchFault, ReadFault, WriteFault, ScriptTooLong, NoMemory, SavedRefused}
 use Rattle.interview.specs.Devices.{Rises, SentNothing, SentPart, SentWhole}
-use Rattle.interview.specs.declared.built_in.BuiltIn.{BuiltIn}
+use Rattle.built_in.specs.declared.built_in.BuiltIn.{BuiltIn}
 use Rattle.interview.specs.Beginnings.{Basis, Brings, IsRefusedStart, IsStart, MayBring, Start}
 use Rattle.interview.specs.Dictionaries.{Content, Gives, HasFault, IsAcceptedAs, MayGive}
 use Rattle.interview.specs.Interview.{ChecksTo, Defined, RunsTo, TablesHoldIn, defined_fault, defined_saved_refused, usage}

@@ -17,12 +17,13 @@ use Rattle.tax_income.specs.Answers.{AreNumbered}
 use Rattle.tax_income.specs.Laws.{HasIncomeTables}
 use Rattle.tax_income.specs.Tables.{Numbered}
 use Rattle.answers.specs.Answered.{Answered}
-use Rattle.interview.specs.declared.built_in.BuiltIn.{BuiltIn}
-use Rattle.interview.specs.declared.built_in.BuiltIn.TheVariants.{Income2023}
+use Rattle.built_in.specs.declared.built_in.BuiltIn.{BuiltIn}
+use Rattle.built_in.specs.declared.built_in.BuiltIn.TheVariants.{Income2023}
 use Rattle.interview.specs.declared.words.Mode.{Mode}
 use Rattle.interview.specs.Meanings.{Meaning, meaning_of}
 use Rattle.interview.specs.Beginnings.{Basis, IsRefusedStart, IsStart, Start}
-use Rattle.interview.specs.Dictionaries.{Content, HasFault, IsAcceptedAs, tables_of}
+use Rattle.built_in.specs.BuiltIns.{tables_of}
+use Rattle.interview.specs.Dictionaries.{Content, HasFault, IsAcceptedAs}
 
 -- a text, and the status that comes with it
 pub record Defined : Type 0 where

@@ -9,7 +9,6 @@ ghost use Rattle.session_lines.specs.Tables.{standard_checks, standard_relations
 ghost use Rattle.interview.specs.Codes.{code_of};
 
 mod at_desk;
-mod built_in;
 mod checking;
 mod counting;
 mod ending;

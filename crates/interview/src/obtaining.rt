@@ -3,10 +3,10 @@ ghost use Rattle.std.specs.Prelude.{◌≡◌, ◌≤◌, IfErr, IfOk};
 ghost use Rattle.text_checks.specs.Tables.{named_checks};
 ghost use Rattle.interview.specs.StepEnds.{NotObtained, ObtainedAs};
 ghost use Rattle.interview.specs.Words.{origin_of, program};
-ghost use Rattle.interview.specs.declared.built_in.BuiltIn.{BuiltIn};
+ghost use Rattle.built_in.specs.declared.built_in.BuiltIn.{BuiltIn};
 
 use crate::Status;
-use crate::built_in::bring;
+use built_in::bring;
 use crate::fetching::{Fetched, fetch};
 use crate::words::Origin;
 use fact_values::NoMemory;

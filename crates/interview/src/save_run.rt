@@ -15,7 +15,7 @@ ghost use Rattle.interview.specs.SaveEnds.{SaveEnds};
 ghost use Rattle.interview.specs.ScriptEnds.{script_did};
 ghost use Rattle.interview.specs.StepEnds.{EndedBy};
 ghost use Rattle.interview.specs.Words.{IsSave, origin_of, program};
-ghost use Rattle.interview.specs.declared.built_in.BuiltIn.{BuiltIn};
+ghost use Rattle.built_in.specs.declared.built_in.BuiltIn.{BuiltIn};
 ghost use Rattle.interview.specs.declared.status.Status.TheVariants.{Done};
 
 use crate::Status;

@@ -15,7 +15,7 @@ ghost use Rattle.interview.specs.Meanings.{IsBeginning, Meaning, meaning_of, of_
 ghost use Rattle.session_lines.specs.Stepping.{at_start};
 ghost use Rattle.desk_lines.specs.DeskStepping.{desk_at_start};
 ghost use Rattle.interview.specs.Words.{IsGen, IsRun, IsSave, beginning_of, program, texts, unanswered};
-ghost use Rattle.interview.specs.declared.built_in.BuiltIn.{BuiltIn};
+ghost use Rattle.built_in.specs.declared.built_in.BuiltIn.{BuiltIn};
 
 use crate::Status;
 use crate::checking::check;

@@ -2,7 +2,7 @@
 ghost use Rattle.std.specs.Prelude.{◌≡◌, [], ◌∷◌, codes};
 ghost use Rattle.interview.specs.Words.{IsForm, texts};
 
-use crate::built_in::BuiltIn;
+use built_in::BuiltIn;
 use fact_paths::read_member_number;
 
 /// Where the dictionary of a run comes from.

@@ -5,3 +5,4 @@ pub mod Steps
 pub mod Laws
 pub mod Answering
 pub mod Tables
+pub mod Reading

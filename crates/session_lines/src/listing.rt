@@ -43,8 +43,8 @@ fn put_slot<E: FactEngine, K: Sink>(
     put_text(line.bytes(), out)
 }
 
-// Puts the paths of slots that stand, in order.
-fn put_slots<E: FactEngine, K: Sink>(
+/// Puts the paths of slots that stand, in order, each in a line.
+pub fn put_slots<E: FactEngine, K: Sink>(
     session: &Session<E>,
     slots: &[Slot],
     out: &mut K,

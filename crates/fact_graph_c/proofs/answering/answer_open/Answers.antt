@@ -24,7 +24,7 @@ pub returns-in-Unwritten : goal.returns-in-Unwritten
 returns-in-Unwritten g c = record {
   answered = stays _ _ _ c.requires.relations c.clear-in-Unwritten.ensures
       (stays_full c.args.engine.now c.args.line.now c.answer_ready.new.session c.answer_ready.new.watches c.answer_ready.new.out _ _ c.in-Unwritten.ensures.answered.1.0
-      c.know.ensures c.know-in-Unwritten.ensures.fit c.answer_ready.ensures.dict c.requires.relations c.readied-ready.ensures.lines c.requires.empty c.in-Unwritten.ensures.answered.0 c.in-Unwritten.ensures.answered.1.1 c.in-Unwritten.ensures.kept)
+      c.know.ensures c.requires.roomy c.know-in-Unwritten.ensures.fit c.answer_ready.ensures.dict c.requires.relations c.readied-ready.ensures.lines c.requires.empty c.in-Unwritten.ensures.answered.0 c.in-Unwritten.ensures.answered.1.1 c.in-Unwritten.ensures.kept)
       refl;
   dict = c.answer_ready.ensures.dict;
 }

@@ -1,6 +1,6 @@
-use Rattle.std.proofs.Common.{◌≡◌, length, ap, subst, ◌∙◌}
+use Rattle.std.proofs.Common.{◌≡◌, ap, subst, ◌∙◌}
 use Rattle.fact_graph_c.specs.declared.engine.Engine.{Engine}
-use Rattle.fact_graph_c.specs.Answering.{Answers, said}
+use Rattle.fact_graph_c.specs.Answering.{Answers}
 use Rattle.fact_graph_c.proofs.exports.fact_graph_answer.Goals as goal
 
 pub returns : goal.returns
@@ -11,7 +11,7 @@ returns c =
       outcome = c.answer-outcome.result;
       answered = subst (λ (e : Engine). Answers e c.answer-outcome.new.engine c.args.line.now c.answer-outcome.result) engine c.answer-outcome.ensures.answered;
       dict = c.answer-outcome.ensures.dict ∙ ap (λ (e : Engine). e.session.dict) engine;
-      back = c.keep.ensures;
-      number = c.number_of.ensures;
-      size = c.len.ensures ∙ ap (λ (e : Engine). length (said e)) c.deref.ensures;
+      back = c.hand_back.ensures.back;
+      number = c.hand_back.ensures.number;
+      size = c.hand_back.ensures.size;
     }

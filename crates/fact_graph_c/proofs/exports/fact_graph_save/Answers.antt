@@ -1,7 +1,7 @@
-use Rattle.std.proofs.Common.{◌≡◌, length, ap, subst, ◌∙◌}
+use Rattle.std.proofs.Common.{◌≡◌, subst, ◌∙◌}
 use Rattle.fact_graph_c.specs.declared.engine.Engine.{Engine}
-use Rattle.fact_graph_c.specs.Answering.{said}
-use Rattle.fact_graph_c.specs.Saving.{Saves}
+use Rattle.fact_graph_c.specs.Saving.{IsSaved}
+use Rattle.fact_graph_c.specs.Saying.{Says}
 use Rattle.fact_graph_c.proofs.exports.fact_graph_save.Goals as goal
 
 pub returns : goal.returns
@@ -10,8 +10,8 @@ returns c =
     record {
       new = c.save_answers-outcome.new.engine;
       outcome = c.save_answers-outcome.result;
-      saved = subst (λ (e : Engine). Saves e c.save_answers-outcome.new.engine c.save_answers-outcome.result) engine c.save_answers-outcome.ensures;
-      back = c.keep.ensures;
-      number = c.number_of.ensures;
-      size = c.len.ensures ∙ ap (λ (e : Engine). length (said e)) c.deref.ensures;
+      says = subst (λ (e : Engine). Says (IsSaved e) e c.save_answers-outcome.new.engine c.save_answers-outcome.result) engine c.save_answers-outcome.ensures;
+      back = c.hand_back.ensures.back;
+      number = c.hand_back.ensures.number;
+      size = c.hand_back.ensures.size;
     }

@@ -1,9 +1,8 @@
-// The dictionaries that the program brings with it.
+// The dictionaries, by their words.
 ghost use Rattle.std.specs.Prelude.{◌≡◌, [], false, IfOk};
 ghost use Rattle.dictionary.specs.Accepted.{accepted};
 ghost use Rattle.dictionary.specs.Checks.{has_check};
-ghost use Rattle.graph_session.specs.Rules.{rules};
-ghost use Rattle.interview.specs.Dictionaries.{IsAcceptedAs, brought};
+ghost use Rattle.built_in.specs.BuiltIns.{IsBrought, built_in_of};
 
 use dictionary::Dictionary;
 use fact_values::NoMemory;
@@ -11,7 +10,7 @@ use std::alloc::Global;
 use tax_2023::{year_2023, year_2024};
 use tax_income::income_2023;
 
-/// A dictionary that the program brings with it.
+/// A dictionary that comes with the program and the library.
 #[derive(Clone, Copy)]
 pub enum BuiltIn {
     /// Filing status, dependents and standard deduction of 2023.
@@ -22,9 +21,21 @@ pub enum BuiltIn {
     Income2023,
 }
 
-/// The dictionary that the program brings with it. It has no fault, and names no check.
+/// The dictionary of these words: `year 2023`, `year 2024` or `income 2023`.
+pub fn named(words: &str) -> Option<BuiltIn>
+    ensures { result ≡ built_in_of words.now }
+{
+    match words {
+        "year 2023" => Some(BuiltIn::Year2023),
+        "year 2024" => Some(BuiltIn::Year2024),
+        "income 2023" => Some(BuiltIn::Income2023),
+        _ => None,
+    }
+}
+
+/// The dictionary. It has no fault, and names no check.
 pub fn bring(alloc: Global, built_in: BuiltIn) -> Result<Dictionary, NoMemory>
-    ensures accepted { IfOk result (λ d. IsAcceptedAs [] (brought built_in) (rules d)) }
+    ensures accepted { IfOk result (λ d. IsBrought built_in (accepted d) × (d.checks ≡ [])) }
     ensures no_check { IfOk result (λ d. has_check (accepted d).tree ≡ false) }
 {
     match built_in {

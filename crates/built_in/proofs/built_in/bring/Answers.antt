@@ -2,8 +2,8 @@ use Rattle.dictionary.specs.Accepted.{Accepted}
 use Rattle.tax_2023.specs.Laws.{IsOfYear}
 use Rattle.tax_2023.specs.Years.{tables_2023, tables_2024}
 use Rattle.tax_income.specs.Laws.{IsOfIncome}
-use Rattle.interview.proofs.DictionaryLaws.{brings, income_brings_no_check, year_brings_no_check}
-use Rattle.interview.proofs.built_in.bring.Goals as goal
+use Rattle.built_in.proofs.BroughtLaws.{brings, income_brings_no_check, year_brings_no_check}
+use Rattle.built_in.proofs.built_in.bring.Goals as goal
 
 pub returns-in-Year2023 : goal.returns-in-Year2023
 returns-in-Year2023 c = record {

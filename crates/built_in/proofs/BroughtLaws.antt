@@ -1,0 +1,32 @@
+-- What comes with the program is accepted, and names no check.
+use Rattle.std.proofs.Common.{◌≡◌, false, [], Result, Ok, Err, refl, ap, ◌∙◌}
+use Rattle.std.specs.Prelude.{IfOk}
+use Rattle.fact_values.specs.declared.memory.NoMemory.{NoMemory}
+use Rattle.dictionary.specs.Accepted.{Accepted, Kept, accepted}
+use Rattle.dictionary.specs.Checks.{has_check}
+use Rattle.tax_2023.specs.Facts.{dictionary}
+use Rattle.tax_2023.specs.Figures.{figures}
+use Rattle.tax_2023.specs.Laws.{IsOfYear}
+use Rattle.tax_2023.specs.Years.{Year, tables_2023}
+use Rattle.tax_income.specs.Facts.{income_dictionary}
+use Rattle.tax_income.specs.Laws.{IsOfIncome}
+
+-- it is accepted as this
+pub brings : (IsThis : Accepted → Type 0) (r : Result Kept NoMemory) → IfOk r (λ d. IsThis (accepted d)) → IfOk r (λ d. d.checks ≡ []) → IfOk r (λ d. IsThis (accepted d) × (d.checks ≡ []))
+brings IsThis (Ok d) h k = (h, k)
+brings IsThis (Err fault) h k = tt
+
+-- and names no check
+year_names_none : (y : Year) → has_check (dictionary (figures y)) ≡ false
+year_names_none y = refl
+
+income_names_none : (y : Year) → has_check (income_dictionary (figures y)) ≡ false
+income_names_none y = refl
+
+pub year_brings_no_check : (y : Year) (r : Result Kept NoMemory) → IfOk r (λ d. IsOfYear y (accepted d)) → IfOk r (λ d. has_check (accepted d).tree ≡ false)
+year_brings_no_check y (Ok d) h = ap has_check h.facts ∙ year_names_none y
+year_brings_no_check y (Err fault) h = tt
+
+pub income_brings_no_check : (r : Result Kept NoMemory) → IfOk r (λ d. IsOfIncome (accepted d)) → IfOk r (λ d. has_check (accepted d).tree ≡ false)
+income_brings_no_check (Ok d) h = ap has_check h.facts ∙ income_names_none tables_2023
+income_brings_no_check (Err fault) h = tt
