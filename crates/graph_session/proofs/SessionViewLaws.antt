@@ -1,7 +1,8 @@
 -- What contracts see of a session after a change, and after one that failed.
 use Rattle.std.proofs.Common.{◌≡◌, ℕ, ◌+◌, Bool, IsTrue, if◌then◌else◌, [], ◌∷◌, Some, None}
+use Rattle.std.specs.Prelude.{take}
 use Rattle.answers.specs.Change.{Change, applied, inverse}
-use Rattle.session_undo.specs.UndoState.{UndoState, changed}
+use Rattle.session_undo.specs.UndoState.{UndoState, changed, forgotten}
 use Rattle.session_undo.specs.Timeline.{Timeline}
 use Rattle.dictionary.specs.Accepted.{Kept, accepted}
 use Rattle.dictionary.specs.Engines.{AreMarkedBy, AreSameMarks, Marks}
@@ -23,3 +24,7 @@ shown_same k t n offered m m' f = λ i. record { dict = k; timeline = t; changes
 -- the place after a change, by its parts
 pub place_changed : (p q : UndoState) (c : Change) → q.back ≡ inverse c p.now ∷ p.back → q.now ≡ applied c p.now → q.ahead ≡ [] → q ≡ changed p c
 place_changed p q c b n a = λ i. record { back = b i; now = n i; ahead = a i }
+
+-- and where changes were forgotten
+pub place_forgotten : (p q : UndoState) (most : ℕ) → q.back ≡ take most p.back → q.now ≡ p.now → q.ahead ≡ p.ahead → q ≡ forgotten most p
+place_forgotten p q most b n a = λ i. record { back = b i; now = n i; ahead = a i }

@@ -1,7 +1,7 @@
 -- What a session keeps goes on to hold, after a change and after a step back or forth.
-use Rattle.std.proofs.Common.{◌≡◌, ℕ, ◌+◌, ◌≤◌, Bool, true, false, List, [], ◌∷◌, Option, Some, refl, sym, ap, ◌∙◌, subst}
+use Rattle.std.proofs.Common.{◌≡◌, ℕ, ◌+◌, ◌≤◌, false, List, [], ◌∷◌, Option, Some, refl, sym, ap, ◌∙◌, subst}
 use Rattle.std.specs.List.{All}
-use Rattle.std.proofs.lemmas.List.Elements.{All-cons, All-head, All-nil, All-tail}
+use Rattle.std.proofs.lemmas.List.Elements.{All-cons, All-head, All-nil, All-tail, All-take}
 use Rattle.dict_tree.specs.Dictionary.{Dictionary as Tree}
 use Rattle.answers.specs.Answered.{Answered}
 use Rattle.answers.specs.Change.{Change, Fits, applied, inverse}
@@ -14,9 +14,9 @@ use Rattle.session_undo.specs.declared.direction.Direction.{Direction}
 use Rattle.session_undo.specs.declared.direction.Direction.TheVariants.{Back, Forth}
 use Rattle.session_undo.specs.declared.history.History.{History}
 use Rattle.session_undo.specs.History.{first, place}
-use Rattle.session_undo.specs.UndoState.{FitInTurn, Kept as IsKeptState, UndoState, changed, moved, moved_back, turned}
-use Rattle.session_undo.specs.Timeline.{Timeline, back_to, timeline, timeline_back, timeline_change, timeline_forth, timeline_turned, trace}
-use Rattle.session_undo.proofs.TimelineLaws.{kept_changed, kept_moved_back, timeline_changed, timeline_moved_back, timeline_moved_forth}
+use Rattle.session_undo.specs.UndoState.{FitInTurn, Kept as IsKeptState, UndoState, changed, forgotten, moved, moved_back, turned}
+use Rattle.session_undo.specs.Timeline.{Timeline, back_to, timeline, timeline_back, timeline_change, timeline_forgotten, timeline_forth, timeline_turned, trace}
+use Rattle.session_undo.proofs.TimelineLaws.{forgotten_timeline, kept_changed, kept_forgotten, kept_moved_back, timeline_changed, timeline_moved_back, timeline_moved_forth}
 use Rattle.dictionary.specs.Accepted.{Kept, accepted, names_of}
 use Rattle.dictionary.specs.Allowed.{IsAllowed}
 use Rattle.dictionary.specs.Fits.{AnswersFit}
@@ -52,6 +52,9 @@ module _ (d : Tree) where
   fit_stepped Forth t all = fit_turned (timeline_back (timeline_turned t)) (fit_back (timeline_turned t) (fit_turned t all))
   fit_stepped Back t all = fit_back t all
 
+  pub fit_forgotten : (most : ℕ) (t : Timeline) → AllFit d t → AllFit d (timeline_forgotten most t)
+  fit_forgotten most t all = record { before = All-take (AnswersFit d) most t.before all.before; now = all.now; after = all.after }
+
 -- ---- what a session keeps
 
 pub sound_changed : (k : Kept) (p : UndoState) (c : Change) → IsSound k p → Fits c p.now → IsAllowed (accepted k) p.now c → IsSound k (changed p c)
@@ -62,6 +65,13 @@ sound_changed k p c s fits allowed =
       kept = kept_changed p c s.kept fits;
       fit = subst (AllFit d) (sym (timeline_changed p c s.kept fits)) (fit_change d (timeline p) (applied c p.now) s.fit (allowed_changes_fit (names_of k.checks) (accepted k) s.is_accepted p.now c s.fit.now fits allowed));
     }
+
+pub sound_forgotten : (k : Kept) (p : UndoState) (most : ℕ) → IsSound k p → IsSound k (forgotten most p)
+sound_forgotten k p most s = record {
+  is_accepted = s.is_accepted;
+  kept = kept_forgotten most p s.kept;
+  fit = subst (AllFit (accepted k).tree) (sym (forgotten_timeline most p)) (fit_forgotten (accepted k).tree most (timeline p) s.fit);
+}
 
 sound_turned : (k : Kept) (p : UndoState) → IsSound k p → IsSound k (turned p)
 sound_turned k p s = record {

@@ -7,7 +7,7 @@ use Rattle.fact_values.specs.declared.value.Value.{Value}
 use Rattle.fact_values.specs.contracts.value.Value as value
 use Rattle.answers.specs.Finite.{Numbered}
 use Rattle.answers.specs.Answered.{Answered, Entry}
-use Rattle.session_undo.specs.Timeline.{Timeline}
+use Rattle.session_undo.specs.Timeline.{Timeline, timeline_forgotten}
 use Rattle.dictionary.specs.Accepted.{Accepted, Kept, accepted}
 use Rattle.dictionary.specs.contracts.dictionary.Dictionary as dictionary
 use Rattle.graph_session.specs.Counts.{Counts, next_counts, no_counts}
@@ -45,6 +45,10 @@ moved d c t = record {
   counts = option_map (next_counts d c.timeline.now t.now (c.changes + 1)) c.counts;
 }
 
+-- the newest changes can be undone, so many at most; all else is as before
+abbrev pub bounded : ℕ → SessionState → SessionState
+bounded most c = record { timeline = timeline_forgotten most c.timeline; changes = c.changes; counts = c.counts }
+
 abbrev pub view_at : Kept → SessionState → SessionView
 view_at k c = record { dict = k; timeline = c.timeline; changes = c.changes; counts = c.counts }
 
@@ -53,6 +57,9 @@ start_at k a offered = view_at k (begun (accepted k) a offered)
 
 abbrev pub moved_to : SessionView → Timeline → SessionView
 moved_to s t = view_at s.dict (moved (accepted s.dict) (session_state s) t)
+
+abbrev pub bounded_to : ℕ → SessionView → SessionView
+bounded_to most s = view_at s.dict (bounded most (session_state s))
 
 -- ---- codes
 

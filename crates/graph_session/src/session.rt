@@ -16,7 +16,7 @@ ghost use Rattle.graph_session.specs.Moves.{step_command};
 ghost use Rattle.graph_session.specs.Naming.{slot_of as slot_named};
 ghost use Rattle.graph_session.specs.Refusals.{Refused, SameChecks, decided, first_of, slot_found, stamp_refusals, when};
 ghost use Rattle.graph_session.specs.Rules.{rules, tree_of};
-ghost use Rattle.graph_session.specs.SessionView.{session_state, moved_to, start_at};
+ghost use Rattle.graph_session.specs.SessionView.{bounded_to, session_state, moved_to, start_at};
 ghost use Rattle.graph_session.specs.Step.{most_steps, refusal, reply, step, timeline_by, with_change};
 ghost use Rattle.graph_session.specs.declared.reply.Refusal.TheVariants.{NoStamps};
 ghost use Rattle.graph_session.specs.declared.reply.Reply.TheVariants as replies;
@@ -142,6 +142,13 @@ impl<E: FactEngine> Session<E> {
         ensures { result ≡ stamp_offered (stands (accepted self.now.dict).tree self.now.timeline.now slot) self.now.counts slot }
     {
         self.engine.stamp(slot)
+    }
+
+    /// Keeps the newest changes, so many at most: those before them can't be undone any more. All else is as it was.
+    pub fn keep_changes(&mut self, most: usize)
+        ensures { self.new ≡ bounded_to most self.old }
+    {
+        self.history.keep_newest(most);
     }
 
     // Makes a change, with its results. For want of memory all is as before.
