@@ -35,6 +35,10 @@ names_of lists = map (λ listed. listed.name) lists
 abbrev pub list_place : List ℕ → List Listed → Option ℕ
 list_place name lists = place_in name (names_of lists)
 
+-- the name of the list at a place
+abbrev pub name_at : List Listed → ℕ → Option (List ℕ)
+name_at lists list = option_map (λ listed. listed.name) (slice_get lists list)
+
 -- the options of the list at a place
 abbrev pub options_at : List Listed → ℕ → Option (List (List ℕ))
 options_at lists list = option_map (λ listed. listed.options) (slice_get lists list)

@@ -2,7 +2,7 @@
 ghost use Rattle.std.specs.Prelude.{◌≡◌, ◌+◌, ◌<◌, ◌≤◌, ◌^◌, [], ◌∷◌, ◌++◌, length, vec_len, option_copied, IfErr, IfSome, IsTrue, OnErr, OnOk, false};
 ghost use Rattle.std.specs.List.{list_all};
 ghost use Rattle.fact_paths.specs.Names.{is_name};
-ghost use Rattle.value_text.specs.Enums.{Accepts, AreLists, Listed, Refuses, are_distinct as distinct, is_among as among, list_place, option_at, options_at, option_place_in, place_in, lists_of, names_of};
+ghost use Rattle.value_text.specs.Enums.{Accepts, AreLists, Listed, Refuses, are_distinct as distinct, is_among as among, list_place, name_at, option_at, options_at, option_place_in, place_in, lists_of, names_of};
 ghost use Rattle.value_text.specs.declared.enum_lists.ListFault.TheVariants.{NoMemory};
 
 use fact_paths::Name;
@@ -108,8 +108,16 @@ impl EnumLists {
         place_among(options, option)
     }
 
-    // The options of the list at a place.
-    fn options(&self, list: u32) -> Option<&[Name]>
+    /// The name of the list at a place, from 0.
+    pub fn name(&self, list: u32) -> Option<&str>
+        ensures { option_copied result ≡ name_at self.now list }
+    {
+        let (name, _) = self.lists.get_index(list as usize)?;
+        Some(name.as_str())
+    }
+
+    /// The options of the list at a place, from 0.
+    pub fn options(&self, list: u32) -> Option<&[Name]>
         ensures value { option_copied result ≡ options_at self.now list }
         ensures lists { AreLists self.now }
     {
