@@ -1,5 +1,5 @@
 -- While the missing answers of a slot are missing, its result stays: by induction on its rank.
-use Rattle.std.proofs.Common.{◌≡◌, ℕ, zero, suc, ◌+◌, ◌<◌, Bool, true, ◌&&◌, if◌then◌else◌, IsTrue, is_none, is_some, List, [], ◌∷◌, ◌++◌, flat_map, map, Option, Some, None, unwrap_or, refl, sym, ap, subst, ◌∙◌, arith}
+use Rattle.std.proofs.Common.{◌≡◌, ℕ, zero, suc, ◌<◌, Bool, true, ◌&&◌, if◌then◌else◌, IsTrue, is_none, is_some, List, [], ◌∷◌, ◌++◌, flat_map, map, Option, Some, None, unwrap_or, refl, sym, ap, subst, ◌∙◌, arith}
 use Rattle.std.specs.Prelude.{option_map}
 use Rattle.std.specs.FinMap as map_of
 use Rattle.std.specs.List.{list_all}

@@ -122,7 +122,7 @@ new_among-append known [] ys = ap (λ (p : Slot → Bool). new_among p ys) (λ i
     or_false_back : (b : Bool) → b ≡ (b || false)
     or_false_back true = refl
     or_false_back false = refl
-new_among-append known (x ∷ xs) ys = by (known x) refl
+new_among-append known (x ∷ xs) ys = by (known x) refl (new_among-append known xs ys) (new_among-append (λ t. known t || slot_same t x) xs ys)
   where
     -- one that is known is no news, nor where it stands again
     again : (t : Slot) (same : Bool) → slot_same t x ≡ same → known x ≡ true → (known t || is_in t xs) ≡ (known t || (same || is_in t xs))
@@ -130,28 +130,29 @@ new_among-append known (x ∷ xs) ys = by (known x) refl
     again t false e old = refl
 
     by : (old : Bool) → known x ≡ old
+        → new_among known (xs ++ ys) ≡ new_among known xs ++ new_among (λ t. known t || is_in t xs) ys
+        → new_among (λ t. known t || slot_same t x) (xs ++ ys) ≡ new_among (λ t. known t || slot_same t x) xs ++ new_among (λ t. (known t || slot_same t x) || is_in t xs) ys
         → (if old then new_among known (xs ++ ys) else x ∷ new_among (λ t. known t || slot_same t x) (xs ++ ys)) ≡ (if old then new_among known xs else x ∷ new_among (λ t. known t || slot_same t x) xs) ++ new_among (λ t. known t || is_in t (x ∷ xs)) ys
-    by true e = new_among-append known xs ys ∙ ap (λ (p : Slot → Bool). new_among known xs ++ new_among p ys) (λ i t. again t (slot_same t x) refl e i)
-    by false e =
+    by true e there here = there ∙ ap (λ (p : Slot → Bool). new_among known xs ++ new_among p ys) (λ i t. again t (slot_same t x) refl e i)
+    by false e there here =
         ap (λ (ts : List Slot). x ∷ ts) (
-        new_among-append (λ t. known t || slot_same t x) xs ys
-        ∙ ap (λ (p : Slot → Bool). new_among (λ t. known t || slot_same t x) xs ++ new_among p ys) (λ i t. swap_known (known t) (slot_same t x) (is_in t xs) i)
+        here ∙ ap (λ (p : Slot → Bool). new_among (λ t. known t || slot_same t x) xs ++ new_among p ys) (λ i t. swap_known (known t) (slot_same t x) (is_in t xs) i)
         )
 
 -- what holds of all of a list holds of those that aren't known
 pub all_new : (P : Slot → Type 0) (known : Slot → Bool) (xs : List Slot) → All P xs → All P (new_among known xs)
 all_new P known [] h = All-nil P
-all_new P known (x ∷ xs) h = by (known x)
+all_new P known (x ∷ xs) h = by (known x) (all_new P known xs (All-tail P x xs h)) (all_new P (λ t. known t || slot_same t x) xs (All-tail P x xs h))
   where
-    by : (old : Bool) → All P (if old then new_among known xs else x ∷ new_among (λ t. known t || slot_same t x) xs)
-    by true = all_new P known xs (All-tail P x xs h)
-    by false = All-cons P x (new_among (λ t. known t || slot_same t x) xs) (All-head P x xs h) (all_new P (λ t. known t || slot_same t x) xs (All-tail P x xs h))
+    by : (old : Bool) → All P (new_among known xs) → All P (new_among (λ t. known t || slot_same t x) xs) → All P (if old then new_among known xs else x ∷ new_among (λ t. known t || slot_same t x) xs)
+    by true there here = there
+    by false there here = All-cons P x (new_among (λ t. known t || slot_same t x) xs) (All-head P x xs h) here
 
 -- and all that pass a test do
 pub all_pass : (p : Slot → Bool) (xs : List Slot) → All (λ t. IsTrue (p t)) (filter p xs)
 all_pass p [] = All-nil (λ t. IsTrue (p t))
-all_pass p (x ∷ xs) = by (p x) refl
+all_pass p (x ∷ xs) = by (p x) refl (all_pass p xs)
   where
-    by : (passes : Bool) → p x ≡ passes → All (λ t. IsTrue (p t)) (if passes then x ∷ filter p xs else filter p xs)
-    by true e = All-cons (λ t. IsTrue (p t)) x (filter p xs) e (all_pass p xs)
-    by false e = all_pass p xs
+    by : (passes : Bool) → p x ≡ passes → All (λ t. IsTrue (p t)) (filter p xs) → All (λ t. IsTrue (p t)) (if passes then x ∷ filter p xs else filter p xs)
+    by true e rest = All-cons (λ t. IsTrue (p t)) x (filter p xs) e rest
+    by false e rest = rest
