@@ -1,5 +1,5 @@
 // Answers lines.
-ghost use Rattle.std.specs.Prelude.{◌≡◌, ◌+◌, ◌*◌, ◌-◌, ◌<◌, ◌≤◌, ◌^◌, ◌∷◌, [], ◌++◌, false, IfOk, OnErr, OnOk, length};
+ghost use Rattle.std.specs.Prelude.{◌≡◌, ◌+◌, ◌*◌, ◌-◌, ◌<◌, ◌≤◌, ◌^◌, ◌∷◌, [], ◌++◌, false, IfOk, OnErr, length};
 ghost use Rattle.script_lines.specs.Lines.{ready_lines};
 ghost use Rattle.text_checks.specs.Tables.{named_checks};
 ghost use Rattle.fact_watch.specs.Tables.{named_relations};
@@ -133,17 +133,6 @@ fn answer_uncounted<L: Ledger>(
     answer_open(alloc, engine, checks, relations, line, &mut steps)
 }
 
-// Takes the memory that the text of a change may want, before anything is changed.
-fn make_room(engine: &mut Engine) -> Result<(), NoMemory>
-    ensures said { said engine.new ≡ [] }
-    ensures session { engine.new.session ≡ engine.old.session }
-    ensures watches { engine.new.watches ≡ engine.old.watches }
-    ensures over { engine.new.over ≡ engine.old.over }
-    ensures roomy { OnOk result (room_for (length engine.new.watches.pairs) ≤ engine.new.text.room) }
-{
-    engine.text.make_room(room_of(engine.watches.len()))
-}
-
 // Answers a line.
 fn answer_by(
     alloc: Global,
@@ -166,7 +155,7 @@ fn answer_by(
     if engine.session.changes() >= MOST_CHANGES {
         return Outcome::NoMemory;
     }
-    match make_room(engine) {
+    match engine.text.make_room(room_of(engine.watches.len())) {
         Err(NoMemory) => Outcome::NoMemory,
         Ok(()) => {
             answer_uncounted::<Brand>(alloc, engine, checks, relations, line, Blank::new(1))
