@@ -86,7 +86,11 @@ fn begin(
 }
 
 /// The same, with nothing said.
-pub fn begin_silent(alloc: Global, dict: Dictionary, answers: Answers) -> Result<Box<Engine>, NotBegun>
+pub fn begin_silent(
+    alloc: Global,
+    dict: Dictionary,
+    answers: Answers,
+) -> Result<Box<Engine>, NotBegun>
     requires same { SameChecks (rules dict) standard_checks }
     requires fit { AnswersFit (accepted dict).tree (answered answers) }
     ensures begun { IfOk result (λ e. IsBegun (rules dict) (answered answers) [] e.value) }

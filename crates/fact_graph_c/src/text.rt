@@ -3,6 +3,7 @@ ghost use Rattle.std.specs.Prelude.{◌≡◌, ◌+◌, ◌*◌, ◌<◌, ◌≤
 ghost use Rattle.std.specs.Io.{WritesAtMost};
 ghost use Rattle.std.specs.Io.KnownBytes.{WriteAppends};
 ghost use Rattle.fg_io.specs.Outside.{HasCause};
+
 use fact_values::NoMemory;
 use fg_io::{Failed, Sink};
 use std::alloc::Global;

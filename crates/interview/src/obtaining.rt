@@ -6,9 +6,9 @@ ghost use Rattle.interview.specs.Words.{origin_of, program};
 ghost use Rattle.built_in.specs.declared.built_in.BuiltIn.{BuiltIn};
 
 use crate::Status;
-use built_in::bring;
 use crate::fetching::{Fetched, fetch};
 use crate::words::Origin;
+use built_in::bring;
 use fact_values::NoMemory;
 use fg_io::Shelf;
 use std::alloc::Global;
