@@ -4,7 +4,8 @@
     bench/load_service.py [--library PATH] [--visitors N] [--rate N] [--seconds N]
 
 Each request is a change with the page's questions behind it. `--rate` is how many a second are aimed at, 200 where none is given; 0
-makes them without a pause. It prints the changes made, the times until they were answered, and the processor time of each part.
+makes them without a pause. It prints the changes made, the times until they were answered, and the processor time of each part. Nothing
+is judged: the exit status is 0, and 2 where the library or a tool is wanting.
 """
 
 from __future__ import annotations

@@ -4,6 +4,7 @@ import os
 import subprocess
 import sys
 import tempfile
+from argparse import ArgumentParser
 from collections.abc import Iterable, Sequence
 from pathlib import Path
 from typing import NamedTuple, NoReturn
@@ -12,7 +13,7 @@ sys.path += [str(Path(__file__).resolve().parent.parent / folder) for folder in 
 
 # pylint: disable=wrong-import-position,wrong-import-order # found by the path above
 from crates import Crate, crates  # noqa: E402
-from harness import EXAMPLES, TOP, Word, a_program, add_library, add_program, tool, words_of  # noqa: E402
+from harness import EXAMPLES, TOP, Word, a_program, add_library, add_program, tool, words_of as words_of_runner  # noqa: E402
 
 __all__ = [
     "EXAMPLES", "TOP", "Crate", "Run", "Word", "a_program", "add_library", "add_program", "add_up", "crates", "give_up", "least", "timed", "tool", "words_of",
@@ -20,6 +21,7 @@ __all__ = [
 ]
 
 RUNS = 5
+STATUSES = "The exit status is 0 where all was timed, 1 where a run failed or took longer than it may, and 2 where something isn't there."
 
 
 class Run(NamedTuple):
@@ -29,6 +31,13 @@ class Run(NamedTuple):
     system: float
     peak: int  # memory, in KiB
     text: bytes
+
+
+def words_of(doc: str | None) -> ArgumentParser:
+    """The words of a benchmark's command line, with its module's text and the exit statuses as the help."""
+    words = words_of_runner(doc)
+    words.epilog = STATUSES
+    return words
 
 
 def give_up(why: str) -> NoReturn:

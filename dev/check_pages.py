@@ -7,8 +7,9 @@
 - docs/crates.svg is drawn of these rows: the words up to the colon are those in the crate's box.
 - docs/PROVED.md has rows for each crate with code, in the same order.
 - README.md has a line for each of these crates, its first row there: the main claim, and the clause that carries it.
-- A block of code behind `<!-- from PATH -->` stands so in that file.
-- A link in a page leads to a file that is there, and behind `#` to a heading of it.
+- README.md and docs/PROVING.md have the minutes of docs/GATE.md, of the last run from nothing that dev/gate_times.py wrote there.
+- A block of code below `<!-- from PATH -->` stands so in that file.
+- A link in a page leads to a file that is there, and what follows a `#` to a heading of it.
 
 With --write what is made from other pages is written anew. Else it says what differs, and the exit status is 1 where something does.
 """
@@ -21,7 +22,10 @@ from pathlib import Path
 from crates import TOP, Crate, crates
 from draw_crates import draw
 
-ARCHITECTURE, PROVED, README, PICTURE = (TOP / name for name in ("docs/ARCHITECTURE.md", "docs/PROVED.md", "README.md", "docs/crates.svg"))
+DOCS = TOP / "docs"
+ARCHITECTURE, PROVED, GATE, PROVING = (DOCS / f"{name}.md" for name in ("ARCHITECTURE", "PROVED", "GATE", "PROVING"))
+README, PICTURE = TOP / "README.md", DOCS / "crates.svg"
+PROGRAM = "interview"
 ROW = re.compile(r"^\| \[`(\w+)`\]\(\.\./crates/\w+\) \| (.*) \| (.*?) ?\|$", re.MULTILINE)
 CLAIM = re.compile(r"^\| `(\w+)` \| (.*) \| (.*) \|$", re.MULTILINE)
 MADE = re.compile(r"(<!-- made by dev/check_pages\.py --write -->\n).*?(<!-- end -->)", re.DOTALL)
@@ -29,6 +33,14 @@ CITED = re.compile(r"<!-- from (\S+) -->\n```\w*\n(.*?)```", re.DOTALL)
 # Without claims of their own.
 WITHOUT_CODE = {"common_lemmas"}
 LINK = re.compile(r"\[[^\]]*\]\(([^)\s]+)\)")
+# A crate's minutes in docs/GATE.md, and those of the run.
+TIMES = re.compile(r"^\| (\w+) \| ([\d.]+) \| ([\d.]+) \| ([\d.]+)(?: \(\d+\))? \| ([\d.]+) \|$", re.MULTILINE)
+RUN = re.compile(r"The run took (\d+) minutes on (\d+)\.")
+# The words with minutes, by page.
+TIMED = {
+    README: ["some {program} minutes of one processor", "it took {run} minutes on {processors} processors"],
+    PROVING: ["Of {all} minutes of one processor the proofs are {proofs}, the tests {tests}, and the wrong bodies {edits}"],
+}
 
 
 def read(path: Path) -> str:
@@ -60,6 +72,37 @@ def readme(page: str, proved: str) -> str:
     rows = ["| Crate | Main claim | Clause |", "|---|---|---|"]
     rows += [f"| [`{name}`](crates/{name}) | {claim} | {clause} |" for name, claim, clause in CLAIM.findall(proved)]
     return MADE.sub(lambda made: made[1] + "\n".join([*rows, made[2]]), page)
+
+
+def minutes(gate: str) -> dict[str, str]:
+    """The minutes of the page on the gate by what they are of; none where it has no run from nothing."""
+    rows, run, known = {name: [*map(float, cells)] for name, *cells in TIMES.findall(gate)}, RUN.search(gate), {it.name: it for it in crates()}
+    if run is None or "all" not in rows:
+        return {}
+    program = sum(rows[name][0] for name in (PROGRAM, *all_below(known[PROGRAM], known)) if name in rows)
+    taken = dict(zip(("proofs", "tests", "edits", "all"), rows["all"])) | {"program": program}
+    return {what: f"{each:.0f}" for what, each in taken.items()} | {"run": run[1], "processors": run[2]}
+
+
+def with_any_minutes(words: str) -> str:
+    """The pattern of words with minutes."""
+    return re.sub(r"\{\w+\}", r"\\d+", words)
+
+
+def timed(path: Path, page: str) -> str:
+    """The page, with the minutes of the page on the gate."""
+    taken = minutes(read(GATE))
+    for words in TIMED[path] if taken else ():
+        page = re.sub(with_any_minutes(words), words.format_map(taken), page)
+    return page
+
+
+def wrong_times() -> Iterator[str]:
+    """Where minutes are wanting."""
+    if not minutes(read(GATE)):
+        yield "docs/GATE.md has no run from nothing: run dev/gate_times.py docs/GATE.md --anew"
+    for path, said in TIMED.items():
+        yield from (f"{path.relative_to(TOP)} doesn't say: {words}" for words in said if not re.search(with_any_minutes(words), read(path)))
 
 
 def picture(page: str) -> str:
@@ -120,7 +163,9 @@ def main(argv: list[str]) -> int:
     wrong = [*wrong_order([row[0] for row in ROW.findall(page)], [it.name for it in crates()], ARCHITECTURE)]
     with_code = [it.name for it in crates() if not it.is_of_tests and it.name not in WITHOUT_CODE]
     wrong += wrong_order([claim[0] for claim in CLAIM.findall(proved)], with_code, PROVED)
-    made = {} if wrong else {ARCHITECTURE: page, README: readme(read(README), proved), PICTURE: picture(page)}
+    wrong += wrong_times()
+    texts = {ARCHITECTURE: page, README: timed(README, readme(read(README), proved)), PROVING: timed(PROVING, read(PROVING)), PICTURE: picture(page)}
+    made = {} if wrong else texts
     for path, text in made.items():
         if is_writing:
             path.write_text(text, encoding="utf-8")

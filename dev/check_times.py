@@ -4,7 +4,8 @@
     dev/check_times.py CRATE..    after `rt check --jobs 1` of each from nothing (delete its out/ first)
 
 A check writes each module of a proof as it ends, one after another; the seconds between two of these files are counted for the
-function, lemma file or definition of the later one. What was kept from before isn't written and isn't counted.
+function, lemma file or definition of the later one. What was kept from before isn't written and isn't counted. Nothing is judged: the
+exit status is 0, and 2 where a name is no crate's.
 """
 import argparse
 import collections

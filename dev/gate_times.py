@@ -3,11 +3,13 @@
 
     dev/gate_times.py PAGE [--anew]    runs `rt ci` at the top of the repository and writes the times into the page, as Markdown
 
-The times stand between two marks of the page. `--anew` proves all, and they are then those of this run alone, with the minutes that it
-took. What an earlier run kept takes no time, so without the word the page keeps for each crate and phase what stood there, where this
-run took less. Each half second every
-running `rattle` of the gate is looked at, and its processor time is counted for the crate that it names and for the phase that its
-command and folder show, so a row may miss the last half second of a check. It ends as the gate does.
+The times stand between two marks of the page. With --anew all is proved, and they are those of this run alone, with the minutes that
+it took. Else what an earlier run kept takes no time, so the page keeps for each crate and phase what stood there, where this run took
+less. Each half second every running `rattle` of the gate is looked at, and its processor time is counted for the crate that it names
+and for the phase that its command and folder show, so a row may miss the last half second of a check.
+
+Other pages have minutes of docs/GATE.md: run dev/check_pages.py --write after this. The exit status is that of the gate, and 2 where
+the page has no marks.
 """
 import argparse
 import collections
@@ -143,8 +145,8 @@ def times(seen: Seen, kept: dict[str, list[str]], minutes: float | None) -> str:
 def main(argv: list[str]) -> int:
     """Runs the gate."""
     words = argparse.ArgumentParser(description=__doc__, formatter_class=argparse.RawDescriptionHelpFormatter)
-    words.add_argument("page", type=Path, metavar="PAGE")
-    words.add_argument("--anew", action="store_true")
+    words.add_argument("page", type=Path, metavar="PAGE", help="docs/GATE.md")
+    words.add_argument("--anew", action="store_true", help="proves all, as from nothing")
     given = words.parse_args(argv)
     if not MARKED.search(read(given.page)):
         words.error(f"{given.page} has no marks for the times")

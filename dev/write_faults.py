@@ -3,11 +3,12 @@
 
     dev/write_faults.py [--check]
 
-With --check nothing is written, and the exit status is 1 where the page has other tables.
+With --check nothing is written, and the exit status is 1 where the page has other tables. Else it is 0.
 """
 
 from __future__ import annotations
 
+import argparse
 import sys
 from collections.abc import Iterator
 from pathlib import Path
@@ -48,14 +49,14 @@ def written(page: str, tables: dict[str, list[dict[str, Any]]]) -> Iterator[str]
             yield line
 
 
-def main(words: list[str]) -> int:
+def main(argv: list[str]) -> int:
     """Writes or checks the page."""
-    if words not in ([], ["--check"]):
-        print(__doc__, file=sys.stderr)
-        return 2
+    words = argparse.ArgumentParser(description=__doc__, formatter_class=argparse.RawDescriptionHelpFormatter)
+    words.add_argument("--check", action="store_true", help="writes nothing")
+    given = words.parse_args(argv)
     stands = PAGE.read_text(encoding="utf-8")
     due = "\n".join(written(stands, tomllib.loads(TEXTS.read_text(encoding="utf-8")))) + "\n"
-    if words:
+    if given.check:
         print("docs/FAULTS.md " + ("has the tables of texts.toml" if due == stands else "has other tables than texts.toml: run dev/write_faults.py"))
         return int(due != stands)
     PAGE.write_text(due, encoding="utf-8")

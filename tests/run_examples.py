@@ -4,16 +4,25 @@
     tests/run_examples.py [--program PATH]
 
 Each example with a script is run, each household of a tax year, also on to its tax, and a desk of several parties; a session is
-saved and gone on from; each dictionary whose line is given is checked. Nothing is built. An example passes where the text is the
-same to the byte, the exit status is 0, and nothing comes on standard error. The exit status is 0 where none failed, 1 where some
-did, and 2 where there is no such program.
+saved and gone on from; each dictionary whose line is given is checked. So is each transcript of README.md and docs/ run, a block of
+text with a command and its reply in each line, and a note perhaps: `<!-- transcript: WORDS -->` above it has the words of the command
+line, in which `above` is the block of JSON above it, or `of SCRIPT`, a script of the examples of which it is a part. Nothing is built.
+An example passes where the text is the same to the byte, the exit status is 0, and nothing comes on standard error. The exit status is
+0 where none failed, 1 where some did, and 2 where there is no such program.
 """
 import difflib
 import os
+import re
 import sys
+import tempfile
 from collections.abc import Iterator
+from pathlib import Path
 
-from harness import EXAMPLES, Ended, Tally, add_program, run, words_of
+from harness import EXAMPLES, TOP, Ended, Tally, add_program, run, words_of
+
+MARK = "<!-- transcript: "
+TRANSCRIPT = re.compile(MARK + r"(.*) -->\n```text\n((?:(?!```).*\n)*)```$", re.MULTILINE)
+JSON = re.compile(r"^```json\n((?:(?!```).*\n)*)```$", re.MULTILINE)
 
 
 def examples() -> Iterator[tuple[str, str, str, list[str]]]:
@@ -39,6 +48,43 @@ def difference(due: Ended, came: Ended) -> str:
     return "\n".join([f"status {came.status}", came.error.decode(errors="backslashreplace"), *difflib.unified_diff(wanted, got, "due", "came", lineterm="")])
 
 
+def turns(block: str) -> list[tuple[str, str]]:
+    """The commands of a transcript, each with its reply. Where no command stands in a line, the reply before goes on."""
+    lines = [re.split(r" {2,}", line) for line in block.splitlines()]
+    return [(command, reply[0] if reply else "") for command, *reply in lines]
+
+
+def run_transcript(words: list[str], shown: list[tuple[str, str]], page: str, program: Path) -> str:
+    """What is wrong with a transcript: the program is run over its commands, in a folder with the examples' files and the page's JSON."""
+    script = "".join(f"{command}\n" for command, _ in shown if command)
+    due = "".join(f"{reply}\n" for _, reply in shown if reply)
+    with tempfile.TemporaryDirectory(prefix="transcript.") as name:
+        folder = Path(name)
+        for path in EXAMPLES.glob("*.json"):
+            (folder / path.name).symlink_to(path)
+        (folder / "above").write_text("".join(JSON.findall(page)[-1:]), encoding="utf-8")
+        return difference(Ended.due(due.encode(), 0), run([program, *words], folder, script.encode()))
+
+
+def part_of(script: str, shown: list[tuple[str, str]]) -> str:
+    """What is wrong with a transcript that is a part of an example, whose commands have a reply of one line each."""
+    commands = [line for line in (EXAMPLES / script).read_text(encoding="utf-8").splitlines() if line and not line.startswith("#")]
+    whole = iter(zip(commands, (EXAMPLES / script).with_suffix(".replies").read_text(encoding="utf-8").splitlines(), strict=True))
+    lost = [turn for turn in shown if turn not in whole]
+    return f"{script} doesn't go on with {' and '.join(lost[0])}" if lost else ""
+
+
+def judge_transcripts(path: Path, program: Path, tally: Tally) -> None:
+    """Judges each transcript of a page."""
+    page, place = path.read_text(encoding="utf-8"), path.relative_to(TOP)
+    found = list(TRANSCRIPT.finditer(page))
+    tally.expect(f"the marks of {place} that stand above a transcript", len(found), page.count(MARK))
+    for block in found:
+        words, shown = block[1].split(), turns(block[2])
+        wrong = part_of(words[1], shown) if words[0] == "of" else run_transcript(words, shown, page[: block.start()], program)
+        tally.judge(f"{place}: {block[1]}: {shown[0][0]}", wrong)
+
+
 def main(argv: list[str]) -> int:
     """Runs the examples."""
     words = words_of(__doc__)
@@ -49,6 +95,8 @@ def main(argv: list[str]) -> int:
         with open(EXAMPLES / script, "rb") as source:
             came = run([program, *command], EXAMPLES, source)
         tally.judge(name, difference(Ended.due((EXAMPLES / due).read_bytes(), 0), came))
+    for page in [TOP / "README.md", *sorted((TOP / "docs").glob("*.md"))]:
+        judge_transcripts(page, program, tally)
     return tally.end()
 
 

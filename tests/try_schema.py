@@ -3,7 +3,8 @@
 
     tests/try_schema.py
 
-It fits those without a fault of form, and none with one.
+It has to fit those without a fault of form, and none with one. A line is printed for each that it judges otherwise. The exit status is
+0 where there is none, and 1 where there is one.
 """
 import json
 import sys

@@ -1,11 +1,13 @@
 #!/usr/bin/env python3
 """Makes a WebAssembly module whose memory and tables have addresses of 64 bits one whose addresses have 32.
 
-  lower.py FROM TO [--tables-alone]
+  javascript/wasm/lower.py FROM TO [--tables-alone]
 
 In the module addresses stay numbers of 64 bits; before each instruction that takes one, its upper half is dropped. So the module has to
 keep below 4 GiB: its memory has at most 65,536 pages, and memory.grow gives -1 beyond them, as ever. What isn't known here is
 refused: an import, a section, an instruction, an offset of more than 32 bits. With --tables-alone the memory stays as it is.
+
+The exit status is 0 where it was written, and 1 where the module has what isn't known.
 """
 
 from __future__ import annotations
@@ -290,8 +292,8 @@ def lowered(module: bytes, with_memory: bool = True) -> bytes:
 
 
 def main(argv: list[str]) -> int:
-    """Lowers a file. The exit status is 1 where it has what isn't known."""
-    arguments = argparse.ArgumentParser(prog="lower.py", description="Makes a module with addresses of 64 bits one of 32.")
+    """Lowers a file."""
+    arguments = argparse.ArgumentParser(description=__doc__, formatter_class=argparse.RawDescriptionHelpFormatter)
     arguments.add_argument("--tables-alone", action="store_true")
     arguments.add_argument("source", type=Path, metavar="FROM")
     arguments.add_argument("to", type=Path, metavar="TO")

@@ -30,8 +30,8 @@ def main(words: Sequence[str] | None = None) -> int:
     except ModuleNotFoundError as missing:
         if missing.name not in PACKAGES:
             raise
-        print(f"fact-graph: the command line needs {missing.name}: install 'fact-graph[commands]' by pip,", file=sys.stderr)
-        print(f"or {PACKAGES[missing.name]} by apt", file=sys.stderr)
+        print(f"fact-graph: the command line needs {missing.name}: apt install {PACKAGES[missing.name]} brings it,", file=sys.stderr)
+        print("and so does pip install './python[commands]' at the top of the repository", file=sys.stderr)
         return Status.NOT_INSTALLED
 
 

@@ -15,7 +15,8 @@ id, and again with the same id where no answer came. Meanwhile the fault of its 
 
 At the end of a run the changes in the store are decrypted with each visitor's secret: they have to be those that the visitor was
 told of, each once, and no other. The engine runs their lines: each has to have the reply that the visitor was told, and the service
-the same saved text and the same figures. The last line is 'faults: N runs, M changes acknowledged, L lost, U others, W wrong'.
+the same saved text and the same figures. The last line is 'faults: N runs, M changes acknowledged, L lost, U others, W wrong'. The exit
+status is 0 where nothing was lost, else or wrong, and 1 where something was.
 """
 
 from __future__ import annotations
@@ -40,6 +41,9 @@ from dataclasses import dataclass, field
 from pathlib import Path
 from typing import Any
 
+sys.path[:0] = [str(Path(__file__).resolve().parents[2] / folder) for folder in ("python", "service")]
+
+# pylint: disable=wrong-import-position # found by the path above
 from databases import Postgres
 from fact_graph import Session
 from fact_graph_service.sealing import Vault
@@ -392,7 +396,7 @@ def run(name: str, store: str, visitors: int, changes: int, seed: int, tally: Ta
 
 
 def main(words: list[str]) -> int:
-    arguments = argparse.ArgumentParser(prog="service/tests/faults.py", description="Faults of the interview service.")
+    arguments = argparse.ArgumentParser(description=__doc__, formatter_class=argparse.RawDescriptionHelpFormatter)
     arguments.add_argument("--runs", type=int, default=1)
     arguments.add_argument("--visitors", type=int, default=20)
     arguments.add_argument("--changes", type=int, default=400)

@@ -15,6 +15,7 @@ from typing import Any, NamedTuple
 import pytest
 
 from fact_graph.commands import command_line
+from fact_graph.status import Status
 from pages import EXAMPLES
 from screens import Screen
 from test_examples import commands, play
@@ -40,6 +41,12 @@ def hosted(folder: Path) -> Iterator[Host]:
         threading.Thread(target=server.serve_forever, daemon=True).start()
         yield Host(server.server_address[1])
         server.shutdown()
+
+
+def test_where_the_engine_comes_from_is_said(tmp_path: Path, capsys: pytest.CaptureFixture[str]) -> None:
+    words = ["page", str(EXAMPLES / "screener.json"), "--out", str(tmp_path / "site"), "--engine", str(tmp_path)]
+    assert command_line(words) == Status.NOT_INSTALLED
+    assert "--engine names the folder javascript" in capsys.readouterr().err
 
 
 @pytest.mark.parametrize("name", ["screener", "everything"])

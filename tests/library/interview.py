@@ -113,6 +113,8 @@ def run(graph: Graph, words: list[str], write: Callable[[bytes], object]) -> Non
 def main(argv: list[str]) -> int:
     """Runs the words, and returns the exit status."""
     if len(argv) != SERVED.get(argv[0] if argv else "") or not all(os.path.isfile(name) for name in argv[1:]):
+        if not PROGRAM.is_file():
+            sys.exit(f"interview.py: no program is built at {PROGRAM}")
         os.execv(PROGRAM, [str(PROGRAM), *argv])
     graph = Graph()
     try:

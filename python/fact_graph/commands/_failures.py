@@ -21,6 +21,9 @@ STATUSES = (
 )
 """The exit statuses of what commands raise, the first that holds."""
 
+SERVICE_FROM = "pip install './python[commands,serve]' ./service at the top of the repository brings it"
+"""What is said where the service, or what it needs, isn't installed."""
+
 
 class Failed(click.ClickException):
     """Raised to end a command with a status and a line on standard error."""

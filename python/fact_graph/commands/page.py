@@ -11,10 +11,11 @@ from pathlib import Path
 import click
 
 from ..status import Status
-from ._failures import Failed
+from ._failures import SERVICE_FROM, Failed
 
 ENGINE = Path(__file__).resolve().parents[3] / "javascript"
 MODULE = "fact_graph.wasm"
+ENGINE_FROM = "in the repository javascript/wasm/build_wasm.py builds it, and --engine names the folder javascript there"
 FOLDER = click.Path(file_okay=False, path_type=Path)
 POLICY = (
     "default-src 'none'; script-src 'self' 'wasm-unsafe-eval'; style-src 'self'; connect-src 'self'; img-src 'self' data:; "
@@ -38,9 +39,9 @@ def command(file: Path, out: Path, engine: Path) -> None:
     try:
         from fact_graph_service import form as service  # pylint: disable=import-outside-toplevel # this command alone needs it
     except ModuleNotFoundError as missing:
-        raise Failed(Status.NOT_INSTALLED, f"page needs {missing.name}: install 'fact-graph[serve]' by pip") from missing
+        raise Failed(Status.NOT_INSTALLED, f"page needs {missing.name}: {SERVICE_FROM}") from missing
     if not (engine / "src" / MODULE).is_file():
-        raise Failed(Status.NOT_INSTALLED, f"{engine / 'src'} has no {MODULE}: javascript/wasm/build_wasm.py builds it")
+        raise Failed(Status.NOT_INSTALLED, f"{engine / 'src'} has no {MODULE}: {ENGINE_FROM}")
     if out.exists() and any(out.iterdir()):
         raise Failed(Status.USAGE, f"{out} isn't empty")
     try:

@@ -8,7 +8,7 @@ from pathlib import Path
 import click
 
 from ..status import Status
-from ._failures import Failed
+from ._failures import SERVICE_FROM, Failed
 
 
 @click.command()
@@ -45,7 +45,7 @@ def command(file: Path, host: str, port: int, workers: int, proxy: str, store: s
         from fact_graph_service.form import Form, FormWrong
         from fact_graph_service.settings import Settings, SettingsWrong
     except ModuleNotFoundError as missing:
-        raise Failed(Status.NOT_INSTALLED, f"serve needs {missing.name}: install 'fact-graph[serve]' by pip") from missing
+        raise Failed(Status.NOT_INSTALLED, f"serve needs {missing.name}: {SERVICE_FROM}") from missing
     said = {"dictionary": str(file), "store": store or os.environ.get("FACT_GRAPH_STORE") or f"sqlite:{file.with_suffix('.sqlite')}"}
     said |= {name: number for name, number in numbers.items() if number is not None}
     said |= {"origins": " ".join(origins or (f"http://127.0.0.1:{port}", f"http://localhost:{port}"))}

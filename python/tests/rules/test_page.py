@@ -1,7 +1,8 @@
-"""docs/RULES.md says what is so."""
+"""docs/RULES.md says what is so, and README.md of rules as text."""
 
 from __future__ import annotations
 
+import json
 import re
 from pathlib import Path
 
@@ -24,6 +25,23 @@ def test_the_first_example_is_a_dictionary(library: Path) -> None:
     assert formatted(WHOLE) == WHOLE
     with Session(parse(WHOLE).json) as session:
         assert session.missing("/help")
+
+
+@pytest.mark.parametrize(("savings", "outcome", "due"), [("9999.99", "full", "840.50"), ("18000", "half", "420.00"), ("18000.01", "none", "0.00")])
+def test_the_first_example_pays_by_its_outcome(library: Path, savings: str, outcome: str, due: str) -> None:
+    """A home without people gets all of the bill, half of it in whole dollars, or nothing."""
+    assert library
+    with Session(parse(WHOLE).json) as session:
+        session.open_list("/people")
+        session["/savings"], session["/bill"] = savings, "840.50"
+        assert (session["/outcome"], str(session.final("/help"))) == (outcome, due)
+
+
+def test_the_dictionary_of_the_first_page_is_one_in_both_forms() -> None:
+    """As people write it, and as the engine reads it."""
+    [(text, value)] = re.findall(r"```text\n(.*?)```\n\n```json\n(.*?)```", (TOP / "README.md").read_text(), re.DOTALL)
+    assert formatted(text) == text
+    assert parse(text).value == json.loads(value)
 
 
 @pytest.mark.parametrize("facts", [ANSWERED, FOLLOWING])
