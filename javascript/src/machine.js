@@ -1,9 +1,9 @@
 // The module and its memory: the functions of fact_graph.h, and the texts that go in and come out.
 
-import { DictionaryRefused, EngineStopped, OutOfMemory, SavedRefused } from "./errors.js";
+import { DictionaryRefused, EngineStopped, OutOfMemory, SavedRefused, UnknownDictionary } from "./errors.js";
 
 const SAID = 0, OVER = 1;
-const FAULT_MEMORY = 15, FAULT_SAVED = 16;
+const FAULT_MEMORY = 15, FAULT_SAVED = 16, FAULT_UNKNOWN = 17;
 const ABSENT = 0xffffffff;
 // One byte more than the engine takes is refused as all that is longer, so no more is handed over.
 const LINE = 4_097, DICTIONARY = 8_388_609, SAVED = 67_108_865;
@@ -170,8 +170,9 @@ export class Machine {
   }
 
   /**
-   * Begins a session: `open` over a dictionary, `load` or `carry` with a saved text. Returns its block.
-   * @param {"open" | "load" | "carry"} how
+   * Begins a session: `open` over a dictionary, `load` or `carry` with a saved text, or `open_built_in` over the dictionary of these words
+   * that comes with the engine. Returns its block.
+   * @param {"open" | "load" | "carry" | "open_built_in"} how
    * @param {Uint8Array} dictionary
    * @param {Uint8Array} [saved]
    */
@@ -204,6 +205,7 @@ export class Machine {
   #fault(number, at) {
     if (number === FAULT_MEMORY) return new OutOfMemory("no memory for a session");
     if (number === FAULT_SAVED) return new SavedRefused(this.number(at + 16));
+    if (number === FAULT_UNKNOWN) return new UnknownDictionary("no dictionary of these words comes with the engine");
     const [fact, node, what] = [4, 8, 12].map((from) => this.number(at + from)).map((place) => (place === ABSENT ? null : place));
     return new DictionaryRefused(number, fact ?? null, node ?? null, what ?? null);
   }
@@ -249,6 +251,36 @@ export class Machine {
     if (how === OVER) return null;
     if (how !== SAID) throw new OutOfMemory("no memory for the reply");
     return this.text(block);
+  }
+
+  /**
+   * The bytes of the paths of the slots that a slot reads, each with its newline, or of a refusal; the next call ends them.
+   * @param {number} block
+   * @param {string} slot
+   */
+  reads(block, slot) {
+    this.#reserve(this.#input, ROOM);
+    const size = this.#putLine(slot);
+    const how = this.call("fact_graph_reads", this.number(block + HANDLE), this.#input.at, size, block + SIZE, block + HANDLE);
+    if (how !== SAID) throw new OutOfMemory("no memory for the slots");
+    return this.text(block);
+  }
+
+  /**
+   * Forgets all changes of a session that can be undone but the newest.
+   * @param {number} block
+   * @param {number} most
+   */
+  keepChanges(block, most) {
+    this.call("fact_graph_keep_changes", this.number(block + HANDLE), Math.min(most, ABSENT), block + HANDLE);
+  }
+
+  /**
+   * Gives back the memory of a session's text.
+   * @param {number} block
+   */
+  trim(block) {
+    this.call("fact_graph_trim", this.number(block + HANDLE), block + HANDLE);
   }
 
   /**

@@ -15,7 +15,7 @@ from fact_graph import DictionaryRefused, SavedRefused, Session
 
 from .calls import replies
 
-# Files all of whose cases are of words that the library doesn't serve.
+# Files all of whose cases are of words that the package doesn't serve.
 OTHERS = ("gen.py", "desk.py", "desk.row", "years.row", "income.py", "income.row")
 FILES = [path for path in files_of_cases() if path.name not in OTHERS]
 # The plain session evaluates everything anew, so what is larger would take it too long.
@@ -25,18 +25,18 @@ of_each_file = pytest.mark.parametrize("path", FILES, ids=lambda path: str(path.
 
 
 def cases(path: Path) -> Iterator[Served]:
-    """The cases of a file that the library serves, each check that is refused as a run, too."""
+    """The cases of a file that the library serves over a text, each check that is refused as a run, too."""
     for case in cases_of(path):
         if isinstance(case, Malformed):
             raise case
-        yield from filter(None, map(served, also(case)))
+        yield from (it for it in map(served, also(case)) if it and it.word != "built-in")
 
 
 def begun(case: Served) -> Session:
     """The session of a case."""
     if case.saved is None:
         return Session(case.dictionary)
-    return (Session.load if case.case.words[0] == "load" else Session.carry)(case.dictionary, case.saved)
+    return (Session.load if case.word == "load" else Session.carry)(case.dictionary, case.saved)
 
 
 def by_lines(session: Session, script: bytes) -> str:
@@ -55,7 +55,7 @@ def said(case: Served, answered: Callable[[Session, bytes], str]) -> tuple[bytes
     with session:
         dropped = "".join(f"dropped {kind} {slot}\n" for kind, slot in session.dropped)
         text = answered(session, case.case.script)
-        return session.save() if case.case.words[0] == "save" else (dropped + text).encode(), 0
+        return session.save() if case.word == "save" else (dropped + text).encode(), 0
 
 
 def wrong_in(path: Path, answered: Callable[[Session, bytes], str]) -> list[str]:
@@ -82,7 +82,7 @@ def plain_cases(path: Path) -> Iterator[Served]:
     """The cases of a file that a plain session has: runs of a dictionary that is accepted, none of them large."""
     for case in cases(path):
         is_small = len(case.dictionary) + len(case.case.script) < LARGEST_PLAIN
-        if case.case.words[0] == "run" and case.case.status == 0 and is_small:
+        if case.word == "run" and case.case.status == 0 and is_small:
             yield case
 
 
