@@ -4,6 +4,8 @@ from pathlib import Path
 
 TOP = Path(__file__).resolve().parent.parent
 HEADER = TOP / "crates" / "fact_graph_c" / "fact_graph.h"
+# What the numbers of the header mean, in words. It is no part of the library.
+TEXTS = HEADER.with_name("fact_graph_text.h")
 
 _text = HEADER.read_text(encoding="utf-8")
 MAJOR, MINOR, PATCH = (int(re.findall(rf"#define FACT_GRAPH_VERSION_{part} (\d+)\n", _text)[0]) for part in ("MAJOR", "MINOR", "PATCH"))
