@@ -148,6 +148,15 @@ uint32_t fact_graph_save(fact_graph graph, size_t *text_size, fact_graph *back);
  * FACT_GRAPH_SAID or FACT_GRAPH_NO_MEMORY. */
 uint32_t fact_graph_reads(fact_graph graph, const uint8_t *slot, size_t slot_size, size_t *text_size, fact_graph *back);
 
+/* Says the session's dictionary as JSON, laid out over lines, in version 2: `fact_graph_open` of this text opens a session over the
+ * same dictionary, where the text has at most FACT_GRAPH_DICTIONARY_LIMIT bytes. Descriptions aren't kept. The session is as before.
+ * Returns FACT_GRAPH_SAID or FACT_GRAPH_NO_MEMORY. */
+uint32_t fact_graph_dictionary(fact_graph graph, size_t *text_size, fact_graph *back);
+
+/* Says the facts of the session's dictionary, each in a line, in their order: `PATH writable TYPE` or `PATH derived TYPE`, as the
+ * dictionary writes them. The session is as before. Returns FACT_GRAPH_SAID or FACT_GRAPH_NO_MEMORY. */
+uint32_t fact_graph_facts(fact_graph graph, size_t *text_size, fact_graph *back);
+
 /* Forgets all changes that can be undone but the newest `most`. What can be redone, the answers, the results, the stamps and the
  * text are as before. A host that calls it behind each line bounds what a session keeps for undo. */
 void fact_graph_keep_changes(fact_graph graph, size_t most, fact_graph *back);

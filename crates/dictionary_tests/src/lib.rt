@@ -1,4 +1,4 @@
-//! The tests of what no run of the program shows of the crates that judge and order a dictionary, and of the operations of
+//! The tests of what no run of the program shows of the crates that print, judge and order a dictionary, and of the operations of
 //! its nodes.
 #![tactic(auto)]
 
@@ -8,6 +8,8 @@ mod accepting_tests;
 mod checks;
 #[cfg(test)]
 mod dict_order_tests;
+#[cfg(test)]
+mod dict_print_tests;
 #[cfg(test)]
 mod dict_types_tests;
 #[cfg(test)]

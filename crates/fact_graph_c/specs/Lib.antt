@@ -5,6 +5,7 @@ pub mod Faults
 pub mod Held
 pub mod Openings
 pub mod Outcomes
+pub mod Printing
 pub mod Reading
 pub mod Room
 pub mod Saving

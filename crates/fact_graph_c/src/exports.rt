@@ -1,11 +1,12 @@
 // What C calls. fact_graph.h says what C must uphold. Each contract says of the engine that a handle holds what the call answers,
 // and which engine it hands back.
 ghost use Rattle.std.specs.Prelude.{◌≡◌, ◌++◌, ℕ, List, length, take, drop, min, IfOk, IfErr, Some};
-ghost use Rattle.fact_graph_c.specs.Answering.{said};
+ghost use Rattle.fact_graph_c.specs.Answering.{rules_of, said};
 ghost use Rattle.fact_graph_c.specs.Calls.{AnswersCall, BeginsCall, KeepsChanges, SaysCall, TrimsText};
 ghost use Rattle.fact_graph_c.specs.Faults.{fault_numbers, plain};
 ghost use Rattle.fact_graph_c.specs.Openings.{Carries, Loads, NotBrought, NotCarried, NotLoaded, NotOpened, Opens, OpensBuiltIn};
 ghost use Rattle.fact_graph_c.specs.Outcomes.{outcome_number};
+ghost use Rattle.fact_graph_c.specs.Printing.{IsDictionaryText, IsFactsText};
 ghost use Rattle.fact_graph_c.specs.Reading.{IsReads};
 ghost use Rattle.fact_graph_c.specs.Saving.{IsSaved};
 
@@ -16,6 +17,7 @@ use crate::fault::{Fault, NotBegun, fault_of, no_fault};
 use crate::handle::Handle;
 use crate::opening::{open, open_carried, open_loaded};
 use crate::outcome::{Outcome, number_of};
+use crate::printing::{say_dictionary, say_facts};
 use crate::reading::say_reads;
 use crate::saving::save_answers;
 use crate::session_slot::{SessionSlot, keep};
@@ -172,6 +174,36 @@ pub extern "C" fn fact_graph_reads(
 {
     let mut engine = graph.into_box();
     let outcome = say_reads(alloc, &mut engine, slot);
+    hand_back(engine, outcome, text_size, back)
+}
+
+/// Says the dictionary as JSON.
+#[unsafe(no_mangle)]
+pub extern "C" fn fact_graph_dictionary(
+    alloc: Global,
+    graph: Handle,
+    text_size: &mut usize,
+    back: &mut SessionSlot,
+) -> u32
+    ensures { SaysCall (IsDictionaryText (rules_of graph.value)) graph.value text_size.new back.new.value result }
+{
+    let mut engine = graph.into_box();
+    let outcome = say_dictionary(alloc, &mut engine);
+    hand_back(engine, outcome, text_size, back)
+}
+
+/// Says the dictionary's facts.
+#[unsafe(no_mangle)]
+pub extern "C" fn fact_graph_facts(
+    alloc: Global,
+    graph: Handle,
+    text_size: &mut usize,
+    back: &mut SessionSlot,
+) -> u32
+    ensures { SaysCall (IsFactsText (rules_of graph.value)) graph.value text_size.new back.new.value result }
+{
+    let mut engine = graph.into_box();
+    let outcome = say_facts(alloc, &mut engine);
     hand_back(engine, outcome, text_size, back)
 }
 

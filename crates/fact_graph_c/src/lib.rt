@@ -13,6 +13,7 @@ mod handle;
 mod loose;
 mod opening;
 mod outcome;
+mod printing;
 mod reading;
 mod saving;
 mod session_slot;

@@ -1,0 +1,4 @@
+pub mod JoiningLaws
+pub mod NestingLaws
+pub mod PrintedLaws
+pub mod SpellingLaws

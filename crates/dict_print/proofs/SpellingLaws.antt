@@ -1,0 +1,163 @@
+-- What is printed spells the dictionary.
+use Rattle.std.proofs.Common.{◌≡◌, inl, inr, ℕ, List, [], ◌∷◌, length, Bool, true, ◌&&◌, Option, Some, None, refl, sym, ap, subst}
+use Rattle.std.specs.Prelude.{◌≢◌, codes, nat_lt, option_map}
+use Rattle.std.specs.List.{All, list_all}
+use Rattle.std.proofs.lemmas.List.Elements.{All-head, All-tail}
+use Rattle.common_lemmas.proofs.Bools.{both}
+use Rattle.serde_json.specs.Data.{Data, string, array, object, Items, no_members, put}
+use Rattle.serde_json.specs.Find.{get}
+use Rattle.fact_paths.specs.Names.{is_name}
+use Rattle.fact_paths.specs.Paths.{SpellsFactPath}
+use Rattle.value_text.specs.Enums.{Listed, AreLists, is_listed, are_options, are_distinct}
+use Rattle.dict_tree.specs.Tree.{Source, SourceCase}
+use Rattle.dict_tree.specs.Facts.{Fact, Bound}
+use Rattle.dict_tree.specs.Forms.{IsReadFrom, HasForm, HasOptionForm, HasConditionalForm, HasKind, IsWellFormed}
+use Rattle.dict_tree.specs.Dictionary.{Dictionary}
+use Rattle.dict_tree.specs.Json.{json_of}
+use Rattle.dict_tree.specs.FactParsing.{writable_keys, derived_keys}
+use Rattle.dict_tree.specs.FactJson.{IsObjectOf, IsOptionalText, IsNamed, items_from, stated_text, limit_json, conditional_json, SpellLimits, SpellsOptional, SpellsRequired, SpellsConditional, SpellsWritable, SpellsDerived, SpellsFact}
+use Rattle.dict_tree.specs.DictJson.{AreSpelled, SpellsEnum, SpellEnums, SpellsTop, SpellsDictionary, enum_keys, top_keys, version_text}
+use Rattle.dict_print.specs.DictionaryJson.{put_some, some_array, enum_json, fact_json, json_by_main, writable_json, derived_json, dictionary_json, IsPrintable}
+
+-- ---- lists of options
+
+some_options : (xs : List (List ℕ)) → nat_lt 0 (length xs) ≡ true → xs ≢ []
+some_options [] h e = absurd cc
+some_options (x ∷ xs) h e = absurd cc
+
+enum_spelled : (e : Listed) → is_listed e ≡ true → SpellsEnum (enum_json e) e
+enum_spelled e h =
+    let p = both (nat_lt (length e.options) 4294967296) (is_name e.name && are_options e.options) h in
+    let n = both (is_name e.name) (are_options e.options) p.1 in
+    let o = both (nat_lt 0 (length e.options)) (list_all is_name e.options && are_distinct e.options) n.1 in
+    let d = both (list_all is_name e.options) (are_distinct e.options) o.1 in
+    record { keys = refl; name = refl; named = n.0; options = refl; all_named = d.0; some = some_options e.options o.0; distinct = d.1 }
+
+enums_spelled : (es : List Listed) → list_all is_listed es ≡ true → AreSpelled SpellsEnum (items_from enum_json es) es
+enums_spelled [] h = tt
+enums_spelled (e ∷ es) h = let p = both (is_listed e) (list_all is_listed es) h in (enum_spelled e p.0, enums_spelled es p.1)
+
+lists_spelled : (es : List Listed) → AreLists es → SpellEnums (some_array enum_json es) es
+lists_spelled [] h = refl
+lists_spelled (e ∷ es) h = (items_from enum_json (e ∷ es), refl, enums_spelled (e ∷ es) h.listed, h.distinct)
+
+-- ---- the members of a fact
+
+limits_spelled : (ls : List Bound) → SpellLimits (some_array limit_json ls) ls
+limits_spelled [] = refl
+limits_spelled (l ∷ ls) = refl
+
+optional_spelled : (o : Option Source) → HasOptionForm o → SpellsOptional (option_map json_of o) o
+optional_spelled None h = tt
+optional_spelled (Some t) h = (h, refl)
+
+conditional_spelled : (o : Option SourceCase) → HasConditionalForm o → SpellsConditional (option_map conditional_json o) o
+conditional_spelled None h = tt
+conditional_spelled (Some c) h = (h.0, h.1, refl)
+
+-- an object whose members are those of a writable fact, each where it is found
+record WritableParts (d : Data) (text stated : List ℕ) (limits placeholder : Option Data) : Type 0 where
+  keys : IsObjectOf writable_keys d
+  description : get (codes "description") d ≡ None
+  path : get (codes "path") d ≡ Some (string text)
+  stated_is : get (codes "writable") d ≡ Some (string stated)
+  limits_are : get (codes "limits") d ≡ limits
+  placeholder_is : get (codes "placeholder") d ≡ placeholder
+
+writable_parts : (text stated : List ℕ) (limits placeholder : Option Data)
+    → WritableParts (object (put (codes "path") (string text) (put (codes "writable") (string stated) (put_some (codes "limits") limits (put_some (codes "placeholder") placeholder no_members))))) text stated limits placeholder
+writable_parts text stated None None = record { keys = refl; description = refl; path = refl; stated_is = refl; limits_are = refl; placeholder_is = refl }
+writable_parts text stated None (Some p) = record { keys = refl; description = refl; path = refl; stated_is = refl; limits_are = refl; placeholder_is = refl }
+writable_parts text stated (Some l) None = record { keys = refl; description = refl; path = refl; stated_is = refl; limits_are = refl; placeholder_is = refl }
+writable_parts text stated (Some l) (Some p) = record { keys = refl; description = refl; path = refl; stated_is = refl; limits_are = refl; placeholder_is = refl }
+
+-- the same of a fact that follows from others
+record DerivedParts (d : Data) (text stated : List ℕ) (main : Data) (conditional placeholder : Option Data) : Type 0 where
+  keys : IsObjectOf (derived_keys true) d
+  description : get (codes "description") d ≡ None
+  path : get (codes "path") d ≡ Some (string text)
+  stated_is : get (codes "derived") d ≡ Some (string stated)
+  main_is : get (codes "is") d ≡ Some main
+  conditional_is : get (codes "conditional") d ≡ conditional
+  placeholder_is : get (codes "placeholder") d ≡ placeholder
+
+derived_parts : (text stated : List ℕ) (main : Data) (conditional placeholder : Option Data)
+    → DerivedParts (object (put (codes "path") (string text) (put (codes "derived") (string stated) (put (codes "is") main (put_some (codes "conditional") conditional (put_some (codes "placeholder") placeholder no_members)))))) text stated main conditional placeholder
+derived_parts text stated main None None = record { keys = refl; description = refl; path = refl; stated_is = refl; main_is = refl; conditional_is = refl; placeholder_is = refl }
+derived_parts text stated main None (Some p) = record { keys = refl; description = refl; path = refl; stated_is = refl; main_is = refl; conditional_is = refl; placeholder_is = refl }
+derived_parts text stated main (Some c) None = record { keys = refl; description = refl; path = refl; stated_is = refl; main_is = refl; conditional_is = refl; placeholder_is = refl }
+derived_parts text stated main (Some c) (Some p) = record { keys = refl; description = refl; path = refl; stated_is = refl; main_is = refl; conditional_is = refl; placeholder_is = refl }
+
+-- ---- facts
+
+writable_spelled : (f : Fact) → IsReadFrom SpellsFactPath f.path_text f.path → f.main ≡ None → HasKind f None → HasOptionForm f.placeholder → IsNamed f.stated → SpellsWritable (writable_json f) f
+writable_spelled f path main kind placeholder named =
+    let p = writable_parts f.path_text (stated_text f.stated) (some_array limit_json f.limits) (option_map json_of f.placeholder) in
+    record {
+      keys = p.keys;
+      description = subst IsOptionalText (sym p.description) tt;
+      path = p.path;
+      read_path = path;
+      stated = p.stated_is;
+      kind = (kind.0, named);
+      limits = subst (λ o. SpellLimits o f.limits) (sym p.limits_are) (limits_spelled f.limits);
+      main = main;
+      conditional = kind.1;
+      placeholder = subst (λ o. SpellsOptional o f.placeholder) (sym p.placeholder_is) (optional_spelled f.placeholder placeholder);
+    }
+
+main_spelled : (o : Option Data) (m : Option Source) (t : Source) → o ≡ Some (json_of t) → m ≡ Some t → HasForm t → SpellsRequired o m
+main_spelled o m t e main form = rw (e, main) (form, refl)
+
+derived_spelled : (f : Fact) (t : Source) → IsReadFrom SpellsFactPath f.path_text f.path → f.main ≡ Some t → HasKind f (Some t) → HasConditionalForm f.conditional → HasOptionForm f.placeholder → IsNamed f.stated → SpellsDerived true (derived_json f t) f
+derived_spelled f t path main kind conditional placeholder named =
+    let p = derived_parts f.path_text (stated_text f.stated) (json_of t) (option_map conditional_json f.conditional) (option_map json_of f.placeholder) in
+    record {
+      keys = p.keys;
+      description = subst IsOptionalText (sym p.description) tt;
+      path = p.path;
+      read_path = path;
+      stated = p.stated_is;
+      kind = (kind.0, named);
+      limits = kind.2;
+      main = main_spelled (get (codes "is") (derived_json f t)) f.main t p.main_is main kind.1;
+      conditional = subst (λ o. SpellsConditional o f.conditional) (sym p.conditional_is) (conditional_spelled f.conditional conditional);
+      placeholder = subst (λ o. SpellsOptional o f.placeholder) (sym p.placeholder_is) (optional_spelled f.placeholder placeholder);
+    }
+
+by_main : (f : Fact) (m : Option Source) → f.main ≡ m → HasKind f m → IsReadFrom SpellsFactPath f.path_text f.path → HasConditionalForm f.conditional → HasOptionForm f.placeholder → IsNamed f.stated → SpellsFact true (json_by_main f m) f
+by_main f None main kind path conditional placeholder named = inl (writable_spelled f path main kind placeholder named)
+by_main f (Some t) main kind path conditional placeholder named = inr (derived_spelled f t path main kind conditional placeholder named)
+
+fact_spelled : (f : Fact) → IsWellFormed f → IsNamed f.stated → SpellsFact true (fact_json f) f
+fact_spelled f h named = by_main f f.main refl h.kind h.path h.conditional h.placeholder named
+
+facts_spelled : (fs : List Fact) → All IsWellFormed fs → All (λ f. IsNamed f.stated) fs → AreSpelled (SpellsFact true) (items_from fact_json fs) fs
+facts_spelled [] h named = tt
+facts_spelled (f ∷ fs) h named =
+    (fact_spelled f (All-head IsWellFormed f fs h) (All-head (λ g. IsNamed g.stated) f fs named), facts_spelled fs (All-tail IsWellFormed f fs h) (All-tail (λ g. IsNamed g.stated) f fs named))
+
+-- ---- the whole
+
+record TopParts (d facts : Data) (enums : Option Data) : Type 0 where
+  keys : IsObjectOf top_keys d
+  description : get (codes "description") d ≡ None
+  version : get (codes "version") d ≡ Some (string (version_text true))
+  enums_are : get (codes "enums") d ≡ enums
+  facts_are : get (codes "facts") d ≡ Some facts
+
+top_parts : (facts : Data) (enums : Option Data) → TopParts (object (put (codes "version") (string (version_text true)) (put (codes "facts") facts (put_some (codes "enums") enums no_members)))) facts enums
+top_parts facts None = record { keys = refl; description = refl; version = refl; enums_are = refl; facts_are = refl }
+top_parts facts (Some e) = record { keys = refl; description = refl; version = refl; enums_are = refl; facts_are = refl }
+
+pub printed_spells : (d : Dictionary) → IsPrintable d → SpellsDictionary (dictionary_json d) d
+printed_spells d h =
+    let p = top_parts (array (items_from fact_json d.facts)) (some_array enum_json d.enums) in
+    let top : SpellsTop (dictionary_json d) true d.enums (items_from fact_json d.facts) = record {
+      keys = p.keys;
+      description = subst IsOptionalText (sym p.description) tt;
+      version = p.version;
+      enums = subst (λ o. SpellEnums o d.enums) (sym p.enums_are) (lists_spelled d.enums h.lists);
+      facts = p.facts_are;
+    } in
+    record { later = true; items = items_from fact_json d.facts; top = top; facts = facts_spelled d.facts h.valid.well_formed h.named }

@@ -1,0 +1,76 @@
+-- The JSON form in which a dictionary is printed.
+use Rattle.std.specs.Prelude.{◌≡◌, ℕ, List, [], ◌∷◌, map, codes, true, Option, Some, None, option_map}
+use Rattle.std.specs.List.{All}
+use Rattle.serde_json.specs.Data.{Data, string, array, object, no_items, item, Members, no_members, put}
+use Rattle.value_text.specs.Enums.{Listed, AreLists}
+use Rattle.dict_tree.specs.Tree.{Source, SourceCase}
+use Rattle.dict_tree.specs.Facts.{Fact}
+use Rattle.dict_tree.specs.Dictionary.{Dictionary, IsValid}
+use Rattle.dict_tree.specs.Json.{node_json, json_of}
+use Rattle.dict_tree.specs.FactJson.{items_from, stated_text, limit_json, conditional_json, IsNamed}
+use Rattle.dict_tree.specs.DictJson.{version_text}
+
+-- ---- members of an object
+
+-- a member more, where there is a value for it
+abbrev pub put_some : List ℕ → Option Data → Members → Members
+put_some key None members = members
+put_some key (Some d) members = put key d members
+
+-- an array, where there is anything to list
+abbrev pub some_array : {X : Type 0} → (X → Data) → List X → Option Data
+some_array json [] = None
+some_array json (x ∷ xs) = Some (array (items_from json (x ∷ xs)))
+
+-- ---- cases of a switch
+
+abbrev pub case_json : SourceCase → Data
+case_json c = node_json (codes "Case") (item (json_of c.0) (item (json_of c.1) no_items))
+
+-- ---- lists of options
+
+abbrev pub enum_json : Listed → Data
+enum_json e = object (put (codes "name") (string e.name) (put (codes "options") (array (items_from string e.options)) no_members))
+
+-- ---- facts
+
+abbrev pub last_members : Fact → Members
+last_members f = put_some (codes "placeholder") (option_map json_of f.placeholder) no_members
+
+abbrev pub writable_members : Fact → Members
+writable_members f = put (codes "path") (string f.path_text) (put (codes "writable") (string (stated_text f.stated)) (put_some (codes "limits") (some_array limit_json f.limits) (last_members f)))
+
+abbrev pub writable_json : Fact → Data
+writable_json f = object (writable_members f)
+
+abbrev pub derived_members : Fact → Source → Members
+derived_members f main =
+    put (codes "path") (string f.path_text) (put (codes "derived") (string (stated_text f.stated)) (put (codes "is") (json_of main) (put_some (codes "conditional") (option_map conditional_json f.conditional) (last_members f))))
+
+abbrev pub derived_json : Fact → Source → Data
+derived_json f main = object (derived_members f main)
+
+-- a fact with a main expression is derived, and another is writable
+abbrev pub json_by_main : Fact → Option Source → Data
+json_by_main f None = writable_json f
+json_by_main f (Some main) = derived_json f main
+
+abbrev pub fact_json : Fact → Data
+fact_json f = json_by_main f f.main
+
+-- ---- the whole
+
+abbrev pub all_members : Dictionary → Members
+all_members d = put (codes "version") (string (version_text true)) (put (codes "facts") (array (items_from fact_json d.facts)) (put_some (codes "enums") (some_array enum_json d.enums) no_members))
+
+-- in version 2, with no member for enums where there are none
+abbrev pub dictionary_json : Dictionary → Data
+dictionary_json d = object (all_members d)
+
+-- ---- which dictionaries have this form
+
+-- the rules of every source: the limits, and names where names are due
+pub record IsPrintable (d : Dictionary) : Type 0 where
+  pub valid : IsValid d
+  pub lists : AreLists d.enums
+  pub named : All (λ f. IsNamed f.stated) d.facts

@@ -1,0 +1,4 @@
+pub mod DictionaryJson
+pub mod FactsText
+pub mod Joining
+pub mod Laws

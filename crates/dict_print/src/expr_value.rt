@@ -1,0 +1,106 @@
+// Builds the JSON value of an expression.
+ghost use Rattle.std.specs.Prelude.{◌≡◌, codes, IfOk};
+ghost use Rattle.serde_json.specs.Data.{item, no_items, string};
+ghost use Rattle.serde_json.specs.View.{view as json};
+ghost use Rattle.dict_tree.specs.View.{view, case_view, cases_view, literal_of, trees_view};
+ghost use Rattle.dict_tree.specs.Json.{json_of, json_of_cases, json_of_trees, literal_json, node_json};
+ghost use Rattle.dict_print.specs.DictionaryJson.{case_json};
+
+use crate::node_value::{
+    bare_node, named_items, node_of_one, node_of_pick, node_of_two, push_value, text_node,
+    texts_node,
+};
+use crate::word::{word_of_many, word_of_one, word_of_pick, word_of_read, word_of_two};
+use dict_tree::{Case, Constant, Expr};
+use fact_values::NoMemory;
+use serde_json::Value;
+use std::alloc::Global;
+
+fn constant_value(alloc: Global, constant: &Constant) -> Result<Value, NoMemory>
+    ensures { IfOk result (λ v. json v ≡ literal_json (literal_of constant.now)) }
+{
+    match constant {
+        Constant::True => bare_node(alloc, "True"),
+        Constant::False => bare_node(alloc, "False"),
+        Constant::Int(text) => text_node(alloc, "Int", text.as_str()),
+        Constant::Dollar(text) => text_node(alloc, "Dollar", text.as_str()),
+        Constant::Rational(text) => text_node(alloc, "Rational", text.as_str()),
+        Constant::Day(text) => text_node(alloc, "Day", text.as_str()),
+        Constant::Text(text) => text_node(alloc, "Text", text.as_str()),
+        Constant::Choice(name, option) => {
+            texts_node(alloc, "Enum", name.as_str(), option.as_str())
+        }
+    }
+}
+
+/// The value that spells the expression.
+#[tactic(auto, using(dict_tree::proofs::Views::views))]
+#[cycle(expr)]
+pub fn expr_value(alloc: Global, expr: &Expr) -> Result<Value, NoMemory>
+    ensures { IfOk result (λ v. json v ≡ json_of (view expr.now)) }
+{
+    match expr {
+        Expr::Const(constant) => constant_value(alloc, constant),
+        Expr::Read(op, path) => text_node(alloc, word_of_read(*op), path.text.as_str()),
+        Expr::Switch(cases) => switch_value(alloc, cases),
+        Expr::Many(op, operands) => many_value(alloc, word_of_many(*op), operands),
+        Expr::One(op, operand) => one_value(alloc, word_of_one(*op), operand),
+        Expr::Two(op, first, second) => {
+            let first = expr_value(alloc, first)?;
+            let second = expr_value(alloc, second)?;
+            node_of_two(alloc, word_of_two(*op), first, second)
+        }
+        Expr::Pick(op, path, condition) => {
+            pick_value(alloc, word_of_pick(*op), path.text.as_str(), condition)
+        }
+    }
+}
+
+#[cycle(expr)]
+fn one_value(alloc: Global, name: &str, operand: &Expr) -> Result<Value, NoMemory>
+    ensures { IfOk result (λ v. json v ≡ node_json name.now (item (json_of (view operand.now)) no_items)) }
+{
+    let operand = expr_value(alloc, operand)?;
+    node_of_one(alloc, name, operand)
+}
+
+#[cycle(expr)]
+fn pick_value(alloc: Global, name: &str, text: &str, condition: &Expr) -> Result<Value, NoMemory>
+    ensures { IfOk result (λ v. json v ≡ node_json name.now (item (string text.now) (item (json_of (view condition.now)) no_items))) }
+{
+    let condition = expr_value(alloc, condition)?;
+    node_of_pick(alloc, name, text, condition)
+}
+
+#[cycle(expr)]
+fn many_value(alloc: Global, name: &str, operands: &[Expr]) -> Result<Value, NoMemory>
+    ensures { IfOk result (λ v. json v ≡ node_json name.now (json_of_trees (trees_view operands.now))) }
+{
+    let mut items = named_items(alloc, name)?;
+    for operand in operands {
+        let value = expr_value(alloc, operand)?;
+        push_value(&mut items, value)?;
+    }
+    Ok(Value::Array(items))
+}
+
+#[cycle(expr)]
+fn switch_value(alloc: Global, cases: &[Case]) -> Result<Value, NoMemory>
+    ensures { IfOk result (λ v. json v ≡ node_json (codes "Switch") (json_of_cases (cases_view cases.now))) }
+{
+    let mut items = named_items(alloc, "Switch")?;
+    for case in cases {
+        let value = case_value(alloc, case)?;
+        push_value(&mut items, value)?;
+    }
+    Ok(Value::Array(items))
+}
+
+#[cycle(expr)]
+fn case_value(alloc: Global, case: &Case) -> Result<Value, NoMemory>
+    ensures { IfOk result (λ v. json v ≡ case_json (case_view case.now)) }
+{
+    let test = expr_value(alloc, &case.test)?;
+    let outcome = expr_value(alloc, &case.outcome)?;
+    node_of_two(alloc, "Case", test, outcome)
+}

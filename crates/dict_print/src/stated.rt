@@ -1,0 +1,55 @@
+// The text of a type as a fact states it.
+ghost use Rattle.std.specs.Prelude.{◌≡◌, ◌++◌, codes, string_bytes, OnOk};
+ghost use Rattle.dict_tree.specs.Facts.{stated_view};
+ghost use Rattle.dict_tree.specs.FactJson.{IsNamed, scalar_text, stated_text};
+
+use dict_tree::TypeText;
+use fact_values::{FactType, NoMemory};
+
+/// Appends a text.
+pub fn push(out: &mut String, text: &str) -> Result<(), NoMemory>
+    ensures { OnOk result (string_bytes out.new ≡ string_bytes out.old ++ text.now) }
+{
+    out.push_str(text)?;
+    Ok(())
+}
+
+// The text of a type that needs no name.
+fn scalar_word(scalar: FactType) -> &'static str
+    ensures { result.now ≡ scalar_text scalar }
+{
+    match scalar {
+        FactType::Boolean => "Boolean",
+        FactType::Int => "Int",
+        FactType::Dollar => "Dollar",
+        FactType::Rational => "Rational",
+        FactType::Day => "Day",
+        FactType::Text => "Text",
+        FactType::Enum(_) => "",
+        FactType::Collection(_) => "",
+        FactType::Item(_) => "",
+    }
+}
+
+// Appends the front, the name or path, and `)`.
+fn push_enclosed(out: &mut String, front: &str, text: &str) -> Result<(), NoMemory>
+    ensures { OnOk result (string_bytes out.new ≡ string_bytes out.old ++ (front.now ++ (text.now ++ codes ")"))) }
+{
+    push(out, front)?;
+    push(out, text)?;
+    push(out, ")")
+}
+
+/// Appends the text of a type.
+pub fn push_stated(out: &mut String, stated: &TypeText) -> Result<(), NoMemory>
+    ensures text { OnOk result (string_bytes out.new ≡ string_bytes out.old ++ stated_text (stated_view stated.now)) }
+    ensures named { IsNamed (stated_view stated.now) }
+{
+    match stated {
+        TypeText::Scalar(scalar) => push(out, scalar_word(*scalar)),
+        TypeText::EnumOf(name) => push_enclosed(out, "Enum(", name.as_str()),
+        TypeText::WritableList => push(out, "Collection"),
+        TypeText::ListOf(path) => push_enclosed(out, "Collection(", path.text.as_str()),
+        TypeText::ItemOf(path) => push_enclosed(out, "Item(", path.text.as_str()),
+    }
+}
