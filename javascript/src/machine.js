@@ -11,8 +11,8 @@ const LINE = 4_097, DICTIONARY = 8_388_609, SAVED = 67_108_865;
 const HANDLE = 0, SIZE = 8, FAULT = 16, BLOCK = 40;
 // The least room for lines and replies. A line of 4,096 bytes and one character more has less.
 const ROOM = 8_192;
-// A room of more bytes isn't kept.
-const KEPT = 1_048_576;
+// A room of more bytes isn't kept, nor a session's text of more.
+const KEPT = 1_048_576, KEPT_TEXT = 65_536;
 // A text of so many characters is short: it is written and read in less time one by one.
 const SHORT = 100;
 
@@ -254,6 +254,20 @@ export class Machine {
   }
 
   /**
+   * The bytes of what a call says that changes nothing, which the next call ends.
+   * @param {"save" | "reads" | "dictionary"} name
+   * @param {number} block
+   * @param {...number} given
+   */
+  #saidBy(name, block, ...given) {
+    const how = this.call(`fact_graph_${name}`, this.number(block + HANDLE), ...given, block + SIZE, block + HANDLE);
+    if (how !== SAID) throw new OutOfMemory("no memory for the text");
+    const text = this.text(block);
+    if (text.length > KEPT_TEXT) this.call("fact_graph_trim", this.number(block + HANDLE), block + HANDLE);
+    return text;
+  }
+
+  /**
    * The bytes of the paths of the slots that a slot reads, each with its newline, or of a refusal; the next call ends them.
    * @param {number} block
    * @param {string} slot
@@ -261,9 +275,15 @@ export class Machine {
   reads(block, slot) {
     this.#reserve(this.#input, ROOM);
     const size = this.#putLine(slot);
-    const how = this.call("fact_graph_reads", this.number(block + HANDLE), this.#input.at, size, block + SIZE, block + HANDLE);
-    if (how !== SAID) throw new OutOfMemory("no memory for the slots");
-    return this.text(block);
+    return this.#saidBy("reads", block, this.#input.at, size);
+  }
+
+  /**
+   * The bytes of a session's dictionary as JSON, which the next call ends.
+   * @param {number} block
+   */
+  dictionary(block) {
+    return this.#saidBy("dictionary", block);
   }
 
   /**
@@ -276,21 +296,11 @@ export class Machine {
   }
 
   /**
-   * Gives back the memory of a session's text.
-   * @param {number} block
-   */
-  trim(block) {
-    this.call("fact_graph_trim", this.number(block + HANDLE), block + HANDLE);
-  }
-
-  /**
    * The bytes of a session's saved text, which the next call ends.
    * @param {number} block
    */
   save(block) {
-    const how = this.call("fact_graph_save", this.number(block + HANDLE), block + SIZE, block + HANDLE);
-    if (how !== SAID) throw new OutOfMemory("no memory for the saved text");
-    return this.text(block);
+    return this.#saidBy("save", block);
   }
 
   /**

@@ -68,6 +68,7 @@ class Library:
         self.answer: Call = function("answer", c_uint32, graph, *text, at, at)
         self.save: Call = function("save", c_uint32, graph, at, at)
         self.reads: Call = function("reads", c_uint32, graph, *text, at, at)
+        self.dictionary: Call = function("dictionary", c_uint32, graph, at, at)
         self.keep_changes: Callable[..., None] = function("keep_changes", None, graph, c_size_t, at)
         self.trim: Callable[..., None] = function("trim", None, graph, at)
         self.read: Call = function("read", c_size_t, graph, c_size_t, at, c_size_t, at)

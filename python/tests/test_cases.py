@@ -15,8 +15,8 @@ from fact_graph import DictionaryRefused, SavedRefused, Session
 
 from .calls import replies
 
-# Files all of whose cases are of words that the package doesn't serve.
-OTHERS = ("gen.py", "desk.py", "desk.row", "years.row", "income.py", "income.row")
+# Files all of whose cases are of words that the library doesn't serve.
+OTHERS = ("gen.py", "desk.py", "desk.row")
 FILES = [path for path in files_of_cases() if path.name not in OTHERS]
 # The plain session evaluates everything anew, so what is larger would take it too long.
 LARGEST_PLAIN = 100_000
@@ -25,15 +25,17 @@ of_each_file = pytest.mark.parametrize("path", FILES, ids=lambda path: str(path.
 
 
 def cases(path: Path) -> Iterator[Served]:
-    """The cases of a file that the library serves over a text, each check that is refused as a run, too."""
+    """The cases of a file that the library serves, each check that is refused as a run, too."""
     for case in cases_of(path):
         if isinstance(case, Malformed):
             raise case
-        yield from (it for it in map(served, also(case)) if it and it.word != "built-in")
+        yield from filter(None, map(served, also(case)))
 
 
 def begun(case: Served) -> Session:
     """The session of a case."""
+    if case.word == "built-in":
+        return Session.built_in(case.dictionary.decode())
     if case.saved is None:
         return Session(case.dictionary)
     return (Session.load if case.word == "load" else Session.carry)(case.dictionary, case.saved)
@@ -81,8 +83,11 @@ def test_each_call_has_the_stored_reply(path: Path) -> None:
 def plain_cases(path: Path) -> Iterator[Served]:
     """The cases of a file that a plain session has: runs of a dictionary that is accepted, none of them large."""
     for case in cases(path):
+        if case.word == "built-in":
+            with begun(case) as session:
+                case = case._replace(dictionary=session.source)
         is_small = len(case.dictionary) + len(case.case.script) < LARGEST_PLAIN
-        if case.word == "run" and case.case.status == 0 and is_small:
+        if case.word in ("run", "built-in") and case.case.status == 0 and is_small:
             yield case
 
 

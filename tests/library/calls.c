@@ -189,13 +189,13 @@ static void change(fact_graph *graph, int count, size_t most) {
 
 static void bounds_what_is_kept(void) {
   fact_graph graph = opened();
-  change(&graph, 1000, 10);
+  change(&graph, 100, 10);
 #ifdef FAILING
   size_t before = held;
-  change(&graph, 3000, 10);
+  change(&graph, 300, 10);
   CHECK(held <= before);
-  change(&graph, 3000, SIZE_MAX);
-  CHECK(held > before + (size_t)3000 * 16);
+  change(&graph, 300, SIZE_MAX);
+  CHECK(held > before + (size_t)300 * 16);
 #endif
   fact_graph_keep_changes(graph, 10, &graph);
   for (int k = 0; k < 10; k++) replies(&graph, "undo", "ok\n");
@@ -243,11 +243,10 @@ static void gives_back_a_long_text(void) {
 #ifdef FAILING
   size_t before = held;
 #endif
-  text saved = saved_text(&graph);
-  CHECK(saved.size > 100000);
-  free(saved.bytes);
+  size_t size = 0;
+  CHECK(fact_graph_save(graph, &size, &graph) == FACT_GRAPH_SAID && size > 100000);
 #ifdef FAILING
-  CHECK(held >= before + 100000);
+  CHECK(held >= before + size);
   fact_graph_trim(graph, &graph);
   CHECK(held == before);
 #endif
