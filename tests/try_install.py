@@ -5,13 +5,15 @@
 
 The library is taken from the folder of PATH, with its archive. It is installed twice: to a prefix, and to one below --destdir with a
 libdir of its own, as a package would be. The hosts are the examples of docs/EMBEDDING.md in C and in C++, as they stand on the page:
-each is built by pkg-config and by CMake, with the shared library and with the archive, and has to print what stands below it. Of the
+each is built by pkg-config and by CMake, with the shared library and with the archive, runs in a folder with the examples, and has to
+print what stands below it. So have those in Python, which run over the shared library as it was installed. Of the
 installed files it is tested which names they export and need, of the header that it is C11 and C++17 by itself, and that its numbers are
 those of docs/FAULTS.md, and of the header of texts that C99 and C++17 take it, and what it says of each number. A line is printed for each part that failed; the exit status is 0 where none did, 1 where one
 did, and 2 where there is no such library or a tool is missing.
 """
 import os
 import re
+import shutil
 import subprocess
 import sys
 import tempfile
@@ -79,11 +81,19 @@ class Host(NamedTuple):
     text: str
 
 
+def blocks(language: str) -> list[tuple[str, str]]:
+    """The examples in a language, each with what it prints."""
+    found = [(code, text) for word, code, text in BLOCKS.findall(PAGE.read_text(encoding="utf-8")) if word == language]
+    assert len(found) == 2, f"{PAGE.name} has {len(found)} examples in {language}"
+    return found
+
+
 def hosts() -> Iterator[Host]:
     """The examples in C and C++, with what they print."""
-    found = {word: (code, text) for word, code, text in BLOCKS.findall(PAGE.read_text(encoding="utf-8"))}
-    yield Host("host.c", tool(os.environ.get("CC", "cc")), "-std=c11", *found["c"])
-    yield Host("host.cpp", tool(os.environ.get("CXX", "c++"), "g++"), "-std=c++17", *found["cpp"])
+    for at, (code, text) in enumerate(blocks("c")):
+        yield Host(f"host{at}.c", tool(os.environ.get("CC", "cc")), "-std=c11", code, text)
+    for at, (code, text) in enumerate(blocks("cpp")):
+        yield Host(f"host{at}.cpp", tool(os.environ.get("CXX", "c++"), "g++"), "-std=c++17", code, text)
 
 
 def said(words: list[Word], folder: Path, environment: Mapping[str, str] | None = None) -> str:
@@ -117,6 +127,14 @@ def by_pkg_config(tally: Tally, where: Installed, host: Host, folder: Path) -> N
         tally.expect(f"{host.name} is built by pkg-config, {way}", made, "")
         tally.expect(f"{host.name} by pkg-config, {way}", said([program], folder, {"LD_LIBRARY_PATH": str(where.libraries)}), host.text)
         tally.expect(f"whether {program.name} asks for the library", SONAME in needed(program), way == "shared")
+
+
+def by_python(tally: Tally, where: Installed, folder: Path) -> None:
+    """Runs the examples in Python over the shared library."""
+    shutil.copytree(TOP / "python" / "fact_graph", folder / "package" / "fact_graph", ignore=shutil.ignore_patterns("__pycache__", "*.so"))
+    found = {"PYTHONPATH": str(folder / "package"), "FACT_GRAPH_LIBRARY": str(where.libraries / SONAME)}
+    for at, (code, text) in enumerate(blocks("python")):
+        tally.expect(f"the example {at} in Python", said([sys.executable, "-B", "-c", code], folder, found), text)
 
 
 def by_cmake(tally: Tally, where: Installed, every: list[Host], folder: Path) -> None:
@@ -215,9 +233,10 @@ def main(argv: list[str]) -> int:
         every = list(hosts())
         for k, where in enumerate(places):
             folder = top / f"hosts {k}"
-            folder.mkdir()
+            shutil.copytree(TOP / "examples", folder / "examples")
             for host in every:
                 by_pkg_config(tally, where, host, folder)
+            by_python(tally, where, folder)
             by_cmake(tally, where, every, folder)
             names(tally, where)
             header(tally, where, folder)

@@ -55,17 +55,17 @@ class Rules(NamedTuple):
 def opened(words: str) -> Rules:
     """The rules that words name: those of a tax year, as `year 2023`, also where a file has that name; else a file, or `-` for
     standard input."""
-    if BUILT_IN.fullmatch(words):
-        return built_in(words)
-    text = read(words)
+    text = text_named(words)
     return written(words, text) if is_written(words, text) else Rules(words, text)
 
 
-def built_in(words: str) -> Rules:
-    """Rules that come with the library."""
+def text_named(words: str) -> bytes:
+    """The text of the rules that words name."""
+    if not BUILT_IN.fullmatch(words):
+        return read(words)
     try:
         with Session.built_in(words) as session:
-            return Rules(words, session.source)
+            return session.source
     except UnknownDictionary as unknown:
         raise Failed(Status.USAGE, f"no rules {words} come with fact-graph, which has year 2023, year 2024 and income 2023") from unknown
 
