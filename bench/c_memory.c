@@ -1,4 +1,5 @@
-/* Shows the memory of sessions of the C library, for bench/c_library.py, which compiles it with FAILING: so what the blocks hold is counted.
+/* Shows the memory of sessions of the C library, for bench/c_library.py. That compiles it with FAILING, so that what the blocks hold is
+ * counted.
  *
  *   memory DICTIONARY
  *

@@ -67,7 +67,7 @@ HEAD = """/* What the numbers of fact_graph.h mean, in words. dev/write_faults.p
 
 #include <stdint.h>
 
-/* What a number is of: one of FACT_GRAPH_FAULT_.., why no session was opened, or of FACT_GRAPH_REFUSED_.., why a command changed nothing. */
+/* What a number is of: FACT_GRAPH_FAULT_.., why no session was opened, or FACT_GRAPH_REFUSED_.., why a command changed nothing. */
 """
 DEFINED = """
 /* What the fault or the refusal of this number says, in English and ASCII; names, and what is typed, stand between backticks. Where it

@@ -6,10 +6,10 @@
 The library is taken from the folder of PATH, with its archive. It is installed twice: to a prefix, and to one below --destdir with a
 libdir of its own, as a package would be. The hosts are the examples of docs/EMBEDDING.md in C and in C++, as they stand on the page:
 each is built by pkg-config and by CMake, with the shared library and with the archive, runs in a folder with the examples, and has to
-print what stands below it. So have those in Python, which run over the shared library as it was installed. Of the
-installed files it is tested which names they export and need, of the header that it is C11 and C++17 by itself, and that its numbers are
-those of docs/FAULTS.md, and of the header of texts that C99 and C++17 take it, and what it says of each number. A line is printed for each part that failed; the exit status is 0 where none did, 1 where one
-did, and 2 where there is no such library or a tool is missing.
+print what stands below it. So have those in Python, which run over the shared library as it was installed. Of the installed files it is
+tested which names they export and need; of the header that it is C11 and C++17 by itself, and that its numbers are those of docs/FAULTS.md;
+of the header of texts that C99 and C++17 take it, and what it says of each number. A line is printed for each part that failed; the exit
+status is 0 where none did, 1 where one did, and 2 where there is no such library or a tool is missing.
 """
 import os
 import re

@@ -6,7 +6,7 @@
 
 #include <stdint.h>
 
-/* What a number is of: one of FACT_GRAPH_FAULT_.., why no session was opened, or of FACT_GRAPH_REFUSED_.., why a command changed nothing. */
+/* What a number is of: FACT_GRAPH_FAULT_.., why no session was opened, or FACT_GRAPH_REFUSED_.., why a command changed nothing. */
 #define FACT_GRAPH_TEXT_FAULT 0u
 #define FACT_GRAPH_TEXT_REFUSED 1u
 

@@ -80,7 +80,8 @@ def test_a_block_may_end_the_session() -> None:
 
 def test_copies_keep_as_many() -> None:
     session = answered(3, 2)
-    for other in (copy.copy(session), pickle.loads(pickle.dumps(session)), Session.load(SUM, session.save(), undo=2), Session.carry(SUM, session.save(), undo=2)):
+    begun = [begin(SUM, session.save(), undo=2) for begin in (Session.load, Session.carry)]
+    for other in (copy.copy(session), pickle.loads(pickle.dumps(session)), *begun):
         for number in range(5):
             other["/a"] = number
         assert undone(other) == 2

@@ -2,10 +2,11 @@
  *
  *   calls WORDS SCRIPT
  *
- * Tries fact_graph_reads, fact_graph_keep_changes and fact_graph_trim over a dictionary of its own. Then it opens a session over the
- * dictionary that comes with the library by these words, as `year 2023`, and prints the replies to the script. Where it is compiled
- * with FAILING, each allocation of each call fails in turn, and what the blocks of memory hold is counted. Exits with 1 where anything
- * isn't as the header says. */
+ * Tries fact_graph_reads, fact_graph_dictionary, fact_graph_facts, fact_graph_keep_changes and fact_graph_trim over a dictionary of its
+ * own. Then it opens a session over the dictionary that comes with the library by these words, as `year 2023`, and one over the text
+ * that the first says of its dictionary. The replies of the first to the script are printed, and both have to end with the same answers.
+ * Where it is compiled with FAILING, each allocation of each call fails in turn, and what the blocks of memory hold is counted. Exits
+ * with 1 where anything isn't as the header says. */
 #include "failing.h"
 
 static const char dictionary[] =
@@ -136,6 +137,64 @@ static void reads_change_nothing(void) {
   fact_graph_close(graph);
 }
 
+/* ---- fact_graph_dictionary, fact_graph_facts */
+
+static const char facts[] =
+    "/a writable Dollar\n"
+    "/b writable Dollar\n"
+    "/s derived Dollar\n"
+    "/people writable Collection\n"
+    "/people/*/name writable Text\n"
+    "/people/*/wages writable Dollar\n"
+    "/people/*/share derived Dollar\n"
+    "/total derived Dollar\n"
+    "/t derived Dollar\n";
+
+/* What a call says that takes nothing but the session, whose answers are the same before and after. */
+static text said_by(uint32_t (*call)(fact_graph, size_t *, fact_graph *), fact_graph *graph) {
+  text before = saved_text(graph);
+  size_t size = 1;
+  uint32_t how;
+  WITH_MEMORY(how = call(*graph, &size, graph), how == FACT_GRAPH_NO_MEMORY, CHECK(size == 0), (void)0);
+  CHECK(how == FACT_GRAPH_SAID);
+  text said = whole(graph, size), after = saved_text(graph);
+  CHECK(same(before, after));
+  free(before.bytes);
+  free(after.bytes);
+  return said;
+}
+
+/* A session over the text of another's dictionary, which says the same of it. */
+static fact_graph over_the_same(fact_graph *graph) {
+  text stated = said_by(fact_graph_dictionary, graph), listed = said_by(fact_graph_facts, graph);
+  fact_graph other = {NULL};
+  fact_graph_fault fault = {0};
+  CHECK(fact_graph_open(stated.bytes, stated.size, &other, &fault) == 0);
+  text stated_again = said_by(fact_graph_dictionary, &other), listed_again = said_by(fact_graph_facts, &other);
+  CHECK(same(stated, stated_again) && same(listed, listed_again));
+  free(stated.bytes);
+  free(listed.bytes);
+  free(stated_again.bytes);
+  free(listed_again.bytes);
+  return other;
+}
+
+static void says_its_dictionary(void) {
+  fact_graph graph = opened();
+  replies(&graph, "set /a 5", "ok\n");
+  text listed = said_by(fact_graph_facts, &graph);
+  CHECK(is(listed, facts));
+  free(listed.bytes);
+  fact_graph other = over_the_same(&graph);
+  replies(&other, "get /a", "incomplete\n");
+  replies(&other, "set /a 5", "ok\n");
+  reads_are(&other, "/t", "/a\n/b\n");
+  replies(&graph, "stamp /a", "stamp 1\n");
+  replies(&graph, "undo", "ok\n");
+  fact_graph_close(other);
+  fact_graph_close(graph);
+}
+
 /* ---- fact_graph_keep_changes */
 
 static void keeps_changes(size_t most, int undone, const char *first_undo) {
@@ -263,6 +322,9 @@ static void goes_on_when_over(void) {
   free(reply.bytes);
   reads_are(&graph, "/s", "/a\n/b\n");
   reads_are(&graph, "/nowhere", "refused 3 UnknownFact\n");
+  text listed = said_by(fact_graph_facts, &graph);
+  CHECK(is(listed, facts));
+  free(listed.bytes);
   fact_graph_keep_changes(graph, 0, &graph);
   fact_graph_trim(graph, &graph);
   CHECK(is_empty(&graph));
@@ -303,6 +365,7 @@ int main(int count, char **words) {
   reads_what_is_read_now();
   reads_no_slot();
   reads_change_nothing();
+  says_its_dictionary();
   keeps_changes(0, 0, "refused 13 NothingToUndo\n");
   keeps_changes(1, 0, "ok\n");
   keeps_changes(4, 0, "ok\n");
@@ -315,9 +378,14 @@ int main(int count, char **words) {
   gives_back_a_long_text();
   goes_on_when_over();
   knows_no_others();
-  fact_graph graph = built_in(words[1]);
+  fact_graph graph = built_in(words[1]), other = over_the_same(&graph);
   text script = file(words[2]);
-  CHECK(!answers(&graph, script, stdout));
+  CHECK(!answers(&graph, script, stdout) && !answers(&other, script, NULL));
+  text saved = saved_text(&graph), saved_again = saved_text(&other);
+  CHECK(same(saved, saved_again));
+  free(saved.bytes);
+  free(saved_again.bytes);
+  fact_graph_close(other);
   fact_graph_close(graph);
   free(script.bytes);
   fprintf(stderr, "calls: %ld allocations failed\n", failed);

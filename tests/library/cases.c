@@ -3,8 +3,9 @@
  *   cases FOLDER WORD..
  *
  * The case n, from 0, has the nth word, run, load, carry, save or built-in, and the files FOLDER/n.d, a dictionary, or for built-in the
- * words of one that comes with the library, FOLDER/n.script, and for load and carry FOLDER/n.s, a saved text. What the case says is written to FOLDER/n.out. Standard output has a line for each case:
- * the fault's number, fact, node, what and line, where the number 0 says that there is none. */
+ * words of one that comes with the library, FOLDER/n.script, and for load and carry FOLDER/n.s, a saved text. What the case says is
+ * written to FOLDER/n.out. Standard output has a line for each case: the fault's number, fact, node, what and line, where the number 0
+ * says that there is none. */
 #include "host.h"
 
 static text read_in(const char *folder, int n, const char *ending) {

@@ -37,7 +37,10 @@ def chain(length: int) -> str:
 @pytest.mark.parametrize(
     ("words", "due"),
     [
-        (["/d", "--saved", "mine"], ["/d complete 17", "  /c complete 11", "    /b complete 6", "      /a complete 5", "    /a complete 5", "  /b complete 6 (above)"]),
+        (
+            ["/d", "--saved", "mine"],
+            ["/d complete 17", "  /c complete 11", "    /b complete 6", "      /a complete 5", "    /a complete 5", "  /b complete 6 (above)"],
+        ),
         (["/d", "--saved", "mine", "--depth", "1"], ["/d complete 17", "  /c complete 11 (reads 2)", "  /b complete 6 (reads 1)"]),
         (["/d", "--saved", "mine", "--depth", "0"], ["/d complete 17 (reads 2)"]),
         (["/a", "--saved", "mine", "--depth", "0"], ["/a complete 5"]),
