@@ -106,9 +106,9 @@ class Session:  # pylint: disable=too-many-instance-attributes # what its calls 
         Raises `UnknownDictionary` for other words.
 
         >>> session = Session.built_in("year 2023")
-        >>> session["/married"] = False
-        >>> session.missing("/filingStatus")
-        ['/spouseDied', '/paidHalfOfHome']
+        >>> session["/married"] = session["/fileJointly"] = True
+        >>> session["/filingStatus"]
+        'marriedFilingJointly'
         """
         session, text = cls.__new__(cls), _bytes_of(words)
         session._begin(None, lambda graph, fault: library().open_built_in(text, len(text), graph, fault), undo)

@@ -8,12 +8,13 @@ from fact_graph.__main__ import main
 from fact_graph.status import Status
 
 EXAMPLES = Path(__file__).resolve().parents[3] / "examples"
-THREE = '{"version":"1","facts":[%s,%s,%s,%s]}' % (
+FACTS = (
     '{"path":"/a","writable":"Int"}',
     '{"path":"/b","derived":"Int","is":["Add",["Dependency","/a"],["Int","1"]]}',
     '{"path":"/c","derived":"Int","is":["Add",["Dependency","/b"],["Dependency","/a"]]}',
     '{"path":"/d","derived":"Int","is":["Add",["Dependency","/c"],["Dependency","/b"]]}',
 )
+RULES = '{"version":"1","facts":[' + ",".join(FACTS) + "]}"
 
 Shown = pytest.CaptureFixture[str]
 
@@ -21,7 +22,7 @@ Shown = pytest.CaptureFixture[str]
 @pytest.fixture(name="folder")
 def _folder(tmp_path: Path, monkeypatch: pytest.MonkeyPatch) -> Path:
     """The current folder, with rules and with answers."""
-    (tmp_path / "d.json").write_text(THREE)
+    (tmp_path / "d.json").write_text(RULES)
     (tmp_path / "mine").write_text("saved 1\nnext 1\nvalue /a 5\nend\n")
     monkeypatch.chdir(tmp_path)
     return tmp_path
@@ -71,7 +72,7 @@ def test_a_slot_that_there_is_not(slot: str, said: str, capsys: Shown) -> None:
 
 @pytest.mark.parametrize("words", [["year", "2023"], ["year 2023"]])
 def test_the_words_of_a_year_never_name_a_file(words: list[str], folder: Path, capsys: Shown) -> None:
-    (folder / "year 2023").write_text(THREE)
+    (folder / "year 2023").write_text(RULES)
     assert main(["run", *words, str(EXAMPLES / "years" / "2023.script")]) == Status.DONE
     assert capsys.readouterr().out == (EXAMPLES / "years" / "2023.replies").read_text()
     assert main(["check", *words]) == Status.DONE
