@@ -1,10 +1,11 @@
 #!/usr/bin/env python3
-"""Times calls of the C library from a host in C.
+"""Times calls of the C library from a host in C, and shows the memory of sessions.
 
     bench/c_library.py [--library PATH]
 
-Nothing is built but the host, bench/c_library.c. The least time of many short runs of each call is shown, over the screener with three
-members. The exit status is 1 where a `get` of an amount with its read takes more than a microsecond, and 2 where there is no library.
+Nothing is built but the hosts, bench/c_library.c and bench/c_memory.c. The least time of many short runs of each call is shown, over the
+screener with three members; and the bytes of the blocks of the heap that a session has: opened, changed, with a hundred members, with 1,000
+watches. The exit status is 1 where a `get` of an amount with its read takes more than a microsecond, and 2 where there is no library.
 """
 import re
 import subprocess
@@ -31,6 +32,8 @@ def main(argv: list[str]) -> int:
         flags = ["-O2", f"-I{TOP / 'crates' / 'fact_graph_c'}", f"-Wl,-rpath,{library.parent}"]
         host = compiled(TOP / "bench" / "c_library.c", Path(folder, "host"), library, *flags)
         shown = subprocess.run([host, EXAMPLES / "screener.json", script], check=True, stdout=subprocess.PIPE, text=True).stdout
+        counting = compiled(TOP / "bench" / "c_memory.c", Path(folder, "memory"), library, "-DFAILING", *flags)
+        shown += subprocess.run([counting, EXAMPLES / "screener.json"], check=True, stdout=subprocess.PIPE, text=True).stdout
     print(shown, end="")
     return 1 if float(re.findall(r"([\d.]+) us", shown)[0]) > LIMIT else 0
 

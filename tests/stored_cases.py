@@ -21,6 +21,8 @@ NO_STAMPS = b"refused 15 NoStamps"
 # system refuses has no part there.
 SERVED = {"run": 2, "save": 2, "load": 3, "carry": 3}
 SERVED_STATUSES = {0, 1, 8}
+# The dictionaries that come with the program and the library.
+BUILT_IN = ("year 2023", "year 2024", "income 2023")
 
 
 # A case as a module of cases makes it: what it shows, the words, the file `d` or None, the script, the text, the status, and the file `s`
@@ -273,12 +275,15 @@ class Served(NamedTuple):
     """A case that the library serves."""
 
     case: Case
-    dictionary: bytes
+    word: str  # `run`, `save`, `load`, `carry`; or `built-in`, a run over a dictionary that comes with the library
+    dictionary: bytes  # its text, or the words of the one that comes with the library
     saved: bytes | None
 
 
 def served(case: Case) -> Served | None:
     """The case with its files, or None where the library doesn't serve it."""
+    if " ".join(case.words) in BUILT_IN and case.status in SERVED_STATUSES:
+        return Served(case, "built-in", " ".join(case.words).encode(), None)
     if not case.words or len(case.words) != SERVED.get(case.words[0]) or case.status not in SERVED_STATUSES:
         return None
     texts = {"d": case.dictionary, "s": case.saved}
@@ -286,4 +291,4 @@ def served(case: Case) -> Served | None:
     dictionary, *saved = ({**texts, **shared}.get(word) for word in case.words[1:])
     if dictionary is None or None in saved:
         return None
-    return Served(case, dictionary, saved[0] if saved else None)
+    return Served(case, case.words[0], dictionary, saved[0] if saved else None)

@@ -5,13 +5,15 @@
 
 The library is taken from the folder of PATH, with its archive. It is installed twice: to a prefix, and to one below --destdir with a
 libdir of its own, as a package would be. The hosts are the examples of docs/EMBEDDING.md in C and in C++, as they stand on the page:
-each is built by pkg-config and by CMake, with the shared library and with the archive, and has to print what stands below it. Of the
-installed files it is tested which names they export and need, and of the header that it is C11 and C++17 by itself, and that its
-numbers are those of docs/FAULTS.md. A line is printed for each part that failed; the exit status is 0 where none did, 1 where one
-did, and 2 where there is no such library or a tool is missing.
+each is built by pkg-config and by CMake, with the shared library and with the archive, runs in a folder with the examples, and has to
+print what stands below it. So have those in Python, which run over the shared library as it was installed. Of the installed files it is
+tested which names they export and need; of the header that it is C11 and C++17 by itself, and that its numbers are those of docs/FAULTS.md;
+of the header of texts that C99 and C++17 take it, and what it says of each number. A line is printed for each part that failed; the exit
+status is 0 where none did, 1 where one did, and 2 where there is no such library or a tool is missing.
 """
 import os
 import re
+import shutil
 import subprocess
 import sys
 import tempfile
@@ -19,10 +21,11 @@ from collections.abc import Iterator, Mapping
 from pathlib import Path
 from typing import NamedTuple
 
+import tomllib
 from harness import TOP, Tally, Word, add_library, run, tool, words_of
 
 sys.path.insert(0, str(TOP / "tools"))
-from header import ARCHIVE, FUNCTIONS, HEADER, SHARED, SONAME, VERSION  # noqa: E402 # pylint: disable=wrong-import-position # found by the path above
+from header import ARCHIVE, FUNCTIONS, HEADER, SHARED, SONAME, TEXTS, VERSION  # noqa: E402 # pylint: disable=wrong-import-position # found by the path above
 
 PAGE = TOP / "docs" / "EMBEDDING.md"
 BLOCKS = re.compile(r"^```(\w+)\n((?:(?!```).*\n)*)```\n\n```text\n((?:(?!```).*\n)*)```$", re.MULTILINE)
@@ -37,6 +40,20 @@ PROGRAM = """add_executable({way}-{name} {name})
 target_link_libraries({way}-{name} PRIVATE fact_graph::{way})
 """
 WAYS = ("shared", "static")
+TABLES = TOP / "python" / "fact_graph" / "faults" / "texts.toml"
+# The numbers whose texts are asked for: those that there are, and more.
+MOST = [*range(30), 2**32 - 1]
+TELLING = f"""#include <HEADER>
+#include <stdio.h>
+
+int main(void) {{
+  static const uint32_t numbers[] = {{{", ".join(f"{number}u" for number in MOST)}}};
+  for (uint32_t kind = 0; kind < 3; kind += 1) {{
+    for (size_t at = 0; at < sizeof numbers / sizeof numbers[0]; at += 1) puts(fact_graph_text(kind, numbers[at]));
+  }}
+  return 0;
+}}
+"""
 # The numbers of refusals that no session of the library gives: that of the plain engine, and those of a desk.
 ELSEWHERE = {15, 20, 21}
 
@@ -64,11 +81,19 @@ class Host(NamedTuple):
     text: str
 
 
+def blocks(language: str) -> list[tuple[str, str]]:
+    """The examples in a language, each with what it prints."""
+    found = [(code, text) for word, code, text in BLOCKS.findall(PAGE.read_text(encoding="utf-8")) if word == language]
+    assert len(found) == 2, f"{PAGE.name} has {len(found)} examples in {language}"
+    return found
+
+
 def hosts() -> Iterator[Host]:
     """The examples in C and C++, with what they print."""
-    found = {word: (code, text) for word, code, text in BLOCKS.findall(PAGE.read_text(encoding="utf-8"))}
-    yield Host("host.c", tool(os.environ.get("CC", "cc")), "-std=c11", *found["c"])
-    yield Host("host.cpp", tool(os.environ.get("CXX", "c++"), "g++"), "-std=c++17", *found["cpp"])
+    for at, (code, text) in enumerate(blocks("c")):
+        yield Host(f"host{at}.c", tool(os.environ.get("CC", "cc")), "-std=c11", code, text)
+    for at, (code, text) in enumerate(blocks("cpp")):
+        yield Host(f"host{at}.cpp", tool(os.environ.get("CXX", "c++"), "g++"), "-std=c++17", code, text)
 
 
 def said(words: list[Word], folder: Path, environment: Mapping[str, str] | None = None) -> str:
@@ -102,6 +127,14 @@ def by_pkg_config(tally: Tally, where: Installed, host: Host, folder: Path) -> N
         tally.expect(f"{host.name} is built by pkg-config, {way}", made, "")
         tally.expect(f"{host.name} by pkg-config, {way}", said([program], folder, {"LD_LIBRARY_PATH": str(where.libraries)}), host.text)
         tally.expect(f"whether {program.name} asks for the library", SONAME in needed(program), way == "shared")
+
+
+def by_python(tally: Tally, where: Installed, folder: Path) -> None:
+    """Runs the examples in Python over the shared library."""
+    shutil.copytree(TOP / "python" / "fact_graph", folder / "package" / "fact_graph", ignore=shutil.ignore_patterns("__pycache__", "*.so"))
+    found = {"PYTHONPATH": str(folder / "package"), "FACT_GRAPH_LIBRARY": str(where.libraries / SONAME)}
+    for at, (code, text) in enumerate(blocks("python")):
+        tally.expect(f"the example {at} in Python", said([sys.executable, "-B", "-c", code], folder, found), text)
 
 
 def by_cmake(tally: Tally, where: Installed, every: list[Host], folder: Path) -> None:
@@ -162,7 +195,27 @@ def header(tally: Tally, where: Installed, folder: Path) -> None:
     due = {(kind, number, name) for kind, number, name in rows if kind == "dictionary" or number not in ELSEWHERE}
     constants = re.findall(r"^#define FACT_GRAPH_(FAULT|REFUSED)_(\w+) (\d+)u$", HEADER.read_text(encoding="utf-8"), re.MULTILINE)
     came = {("dictionary" if kind == "FAULT" else "refused ", int(number), name.title().replace("_", "")) for kind, name, number in constants}
-    tally.expect("the numbers of the header", came - {("dictionary", 15, "Memory"), ("dictionary", 16, "Saved")}, due)
+    tally.expect("the numbers of the header", came, due)
+
+
+def texts(tally: Tally, where: Installed, folder: Path) -> None:
+    """What the header of texts says of each number, and of some that there aren't, in both languages."""
+    for name, compiler, standard in (("texts.c", "cc", "-std=c99"), ("texts.cpp", "c++", "-std=c++17")):
+        (folder / name).write_text(TELLING.replace("HEADER", TEXTS.name), encoding="utf-8")
+        words: list[Word] = [tool(compiler), standard, *WARNINGS, f"-I{where.root / 'include'}", name, "-o", name + ".out"]
+        tally.expect(f"the texts by themselves, {standard}", said(words, folder), "")
+        came = said([folder / f"{name}.out"], folder)
+        tally.expect(f"the texts, {standard}", came, "".join(f"{text}\n" for text in due_texts()))
+
+
+def due_texts() -> Iterator[str]:
+    """What TELLING has to print, by the rows of the tables."""
+    tables = tomllib.loads(TABLES.read_text(encoding="utf-8"))
+    for rows in (tables["dictionary"] + tables["library"], tables["command"], []):
+        for number in MOST:
+            of_it = [row for row in rows if row["number"] == number]
+            parts = [(f"`{row['line']}`: " if len(of_it) > 1 else "") + row["says"] for row in of_it]
+            yield " ".join(parts) or "There is no text for this number."
 
 
 def main(argv: list[str]) -> int:
@@ -180,12 +233,14 @@ def main(argv: list[str]) -> int:
         every = list(hosts())
         for k, where in enumerate(places):
             folder = top / f"hosts {k}"
-            folder.mkdir()
+            shutil.copytree(TOP / "examples", folder / "examples")
             for host in every:
                 by_pkg_config(tally, where, host, folder)
+            by_python(tally, where, folder)
             by_cmake(tally, where, every, folder)
             names(tally, where)
             header(tally, where, folder)
+            texts(tally, where, folder)
             versions(tally, where, folder)
     return tally.end()
 

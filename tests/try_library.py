@@ -7,9 +7,12 @@ Nothing is built but the hosts.
 
 - tests/library/sessions.c runs each script of examples/ over its dictionary with each allocation failing in turn, after which each
   call has to say the same as ever, and once more under valgrind and with the compiler's sanitizers.
+- tests/library/calls.c tries the calls beside lines in the same three ways: what a slot reads, how many changes are kept, a text that is
+  given back, and the dictionaries that come with the library.
 - tests/library/threads.c does so in eight threads at the same time, with the sanitizers.
 - tests/library/cases.c runs the stored cases of tests/rows that the library serves under valgrind and with the sanitizers, each line
-  and each text in a block of exactly its size: no access may be wild, and nothing may leak.
+  and each text in a block of exactly its size: no access may be wild, and nothing may leak. The households of the tax years are among
+  them.
 - tests/library/interview.py is the program over the library, for run_rows.py: all stored cases, with each reply in pieces.
 
 A line is printed for each part; the exit status is 0 where all passed, 1 where one failed, and 2 where there is no such library, no
@@ -55,6 +58,13 @@ def examples() -> Iterator[tuple[str, Path, Path, Path]]:
             yield script.stem, dictionary, script, replies
 
 
+def brought() -> Iterator[tuple[str, Path, Path]]:
+    """The households of the dictionaries that come with the library: the words, the script and the replies."""
+    for word, folder in (("year", "years"), ("income", "income")):
+        for script in sorted((EXAMPLES / folder).glob("*.script")):
+            yield f"{word} {script.stem}", script, script.with_suffix(".replies")
+
+
 def runs(what: str, command: list[Word], replies: Path) -> bool:
     """Whether the host ends well, with these replies."""
     ended = run(command, TOP, b"")
@@ -71,21 +81,21 @@ def dealt(cases: list[Served], lanes: int) -> list[list[Served]]:
 
 def wrong_in(folder: str, group: list[Served], lines: list[str]) -> Iterator[str]:
     """The cases of a group whose text isn't the one that is due."""
-    for n, (line, (case, _, _)) in enumerate(zip(lines, group)):
+    for n, (line, it) in enumerate(zip(lines, group)):
         refusal, text = interview.refusal(map(int, line.split())), Path(folder, f"{n}.out").read_bytes()
-        if (refusal or text) != case.due or refusal and text:
-            yield case.place
+        if (refusal or text) != it.case.due or refusal and text:
+            yield it.case.place
 
 
 def check_group(command: list[Word], group: list[Served]) -> list[str]:
     """Runs a group of cases in one process. Says what is wrong; nothing where all pass."""
     with tempfile.TemporaryDirectory(prefix="try_library.") as folder:
-        for n, (case, dictionary, saved) in enumerate(group):
-            Path(folder, f"{n}.d").write_bytes(dictionary)
-            Path(folder, f"{n}.script").write_bytes(case.script)
-            if saved is not None:
-                Path(folder, f"{n}.s").write_bytes(saved)
-        ended = subprocess.run([*command, folder, *(it.case.words[0] for it in group)], capture_output=True, text=True, errors="replace", check=False)
+        for n, it in enumerate(group):
+            Path(folder, f"{n}.d").write_bytes(it.dictionary)
+            Path(folder, f"{n}.script").write_bytes(it.case.script)
+            if it.saved is not None:
+                Path(folder, f"{n}.s").write_bytes(it.saved)
+        ended = subprocess.run([*command, folder, *(it.word for it in group)], capture_output=True, text=True, errors="replace", check=False)
         lines = ended.stdout.splitlines()
         wrong = list(wrong_in(folder, group, lines))
         if ended.returncode or ended.stderr or len(lines) != len(group):
@@ -119,11 +129,17 @@ def main(argv: list[str]) -> int:
         plain, failing = host(library, folder, "sessions", "sessions.c"), host(library, folder, "failing", "sessions.c", "-DFAILING", "-O1")
         sanitized = host(library, folder, "sanitized", "sessions.c", *SANITIZED)
         threads = host(library, folder, "threads", "threads.c", "-pthread", *SANITIZED)
+        calls, failing_calls = host(library, folder, "calls", "calls.c"), host(library, folder, "failing_calls", "calls.c", "-DFAILING", "-O1")
+        sanitized_calls = host(library, folder, "sanitized_calls", "calls.c", *SANITIZED)
         for name, dictionary, script, replies in examples():
             passed.append(runs(f"{name} under valgrind", [*VALGRIND, plain, dictionary, script], replies))
             passed.append(runs(f"{name} with sanitizers", [sanitized, dictionary, script], replies))
             passed.append(runs(f"{name} in eight threads", [threads, dictionary, script], replies))
             passed.append(runs(f"{name} with failing allocations", [failing, dictionary, script], replies))
+        for words_of_it, script, replies in brought():
+            passed.append(runs(f"{words_of_it} under valgrind", [*VALGRIND, calls, words_of_it, script], replies))
+            passed.append(runs(f"{words_of_it} with sanitizers", [sanitized_calls, words_of_it, script], replies))
+            passed.append(runs(f"{words_of_it} with failing allocations", [failing_calls, words_of_it, script], replies))
         passed.append(stored_cases_pass("under valgrind", [*VALGRIND, host(library, folder, "cases", "cases.c")]))
         passed.append(stored_cases_pass("with sanitizers", [host(library, folder, "sanitized_cases", "cases.c", *SANITIZED)]))
     passed.append(in_pieces(library))

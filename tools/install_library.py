@@ -5,7 +5,7 @@
 
 Below the prefix then stand
 
-    include/fact_graph.h
+    include/fact_graph.h and include/fact_graph_text.h
     lib/libfact_graph.so.1.0.0 with its links, and lib/libfact_graph.a
     lib/pkgconfig/fact_graph.pc             for pkg-config
     lib/cmake/fact_graph/                   for CMake: find_package(fact_graph 1 CONFIG), fact_graph::shared and fact_graph::static
@@ -23,7 +23,7 @@ import tempfile
 from collections.abc import Iterator
 from pathlib import Path, PurePosixPath
 
-from header import ARCHIVE, HEADER, LINK, MAJOR, SHARED, SONAME, TOP, VERSION
+from header import ARCHIVE, HEADER, LINK, MAJOR, SHARED, SONAME, TEXTS, TOP, VERSION
 
 LICENSE = "CC0-1.0"
 TEMPLATES = TOP / "tools" / "package"
@@ -63,6 +63,7 @@ def install(built: Path, root: Path, prefix: PurePosixPath, libdir: PurePosixPat
     }
     for place, data, mode in (
         (PurePosixPath("include", HEADER.name), HEADER.read_bytes(), 0o644),
+        (PurePosixPath("include", TEXTS.name), TEXTS.read_bytes(), 0o644),
         (libdir / SHARED, (built / SHARED).read_bytes(), 0o755),
         (libdir / ARCHIVE, (built / ARCHIVE).read_bytes(), 0o644),
         (libdir / "pkgconfig" / "fact_graph.pc", filled("fact_graph.pc", words), 0o644),

@@ -112,6 +112,13 @@ typedef struct fact_graph_fault {
 #define FACT_GRAPH_DICTIONARY_LIMIT 8388608u
 #define FACT_GRAPH_SAVED_LIMIT 67108864u
 
+/* The address of a text for a call: `bytes`, or where that is null, as the data of an empty std::string_view or of an empty span is, the
+ * address of a byte of its own. It is compiled into the program that calls it. */
+static inline const uint8_t *fact_graph_bytes(const void *bytes) {
+  static const uint8_t none = 0;
+  return bytes != NULL ? (const uint8_t *)bytes : &none;
+}
+
 /* Opens a session over the dictionary, with no answers and no text. Returns 0, and the session through `graph`; or the number of
  * the first fault, with all of it in `fault`, and `graph` as it was. */
 uint32_t fact_graph_open(const uint8_t *dictionary, size_t dictionary_size, fact_graph *graph, fact_graph_fault *fault);

@@ -40,6 +40,9 @@ export class DictionaryRefused extends FactGraphError {
   }
 }
 
+/** No dictionary of these words comes with the engine. */
+export class UnknownDictionary extends FactGraphError {}
+
 /** The saved text is none of the dictionary's. `line` is its first wrong line, from 1, or 0 for a text that is too long. */
 export class SavedRefused extends FactGraphError {
   /** @param {number} line */

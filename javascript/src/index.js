@@ -2,7 +2,7 @@
 
 export { Dictionary } from "./dictionary.js";
 export { Engine } from "./engine.js";
-export { DictionaryRefused, EngineStopped, FactGraphError, OutOfMemory, Refused, SavedRefused, SessionClosed, UnknownSlot } from "./errors.js";
+export { DictionaryRefused, EngineStopped, FactGraphError, OutOfMemory, Refused, SavedRefused, SessionClosed, UnknownDictionary, UnknownSlot } from "./errors.js";
 export { Session } from "./session.js";
 export { Rational, amountText, centsOf } from "./values.js";
 

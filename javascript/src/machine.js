@@ -1,9 +1,9 @@
 // The module and its memory: the functions of fact_graph.h, and the texts that go in and come out.
 
-import { DictionaryRefused, EngineStopped, OutOfMemory, SavedRefused } from "./errors.js";
+import { DictionaryRefused, EngineStopped, OutOfMemory, SavedRefused, UnknownDictionary } from "./errors.js";
 
 const SAID = 0, OVER = 1;
-const FAULT_MEMORY = 15, FAULT_SAVED = 16;
+const FAULT_MEMORY = 15, FAULT_SAVED = 16, FAULT_UNKNOWN = 17;
 const ABSENT = 0xffffffff;
 // One byte more than the engine takes is refused as all that is longer, so no more is handed over.
 const LINE = 4_097, DICTIONARY = 8_388_609, SAVED = 67_108_865;
@@ -11,8 +11,8 @@ const LINE = 4_097, DICTIONARY = 8_388_609, SAVED = 67_108_865;
 const HANDLE = 0, SIZE = 8, FAULT = 16, BLOCK = 40;
 // The least room for lines and replies. A line of 4,096 bytes and one character more has less.
 const ROOM = 8_192;
-// A room of more bytes isn't kept.
-const KEPT = 1_048_576;
+// A room of more bytes isn't kept, nor a session's text of more.
+const KEPT = 1_048_576, KEPT_TEXT = 65_536;
 // A text of so many characters is short: it is written and read in less time one by one.
 const SHORT = 100;
 
@@ -170,8 +170,9 @@ export class Machine {
   }
 
   /**
-   * Begins a session: `open` over a dictionary, `load` or `carry` with a saved text. Returns its block.
-   * @param {"open" | "load" | "carry"} how
+   * Begins a session: `open` over a dictionary, `load` or `carry` with a saved text, or `open_built_in` over the dictionary of these words
+   * that comes with the engine. Returns its block.
+   * @param {"open" | "load" | "carry" | "open_built_in"} how
    * @param {Uint8Array} dictionary
    * @param {Uint8Array} [saved]
    */
@@ -204,6 +205,7 @@ export class Machine {
   #fault(number, at) {
     if (number === FAULT_MEMORY) return new OutOfMemory("no memory for a session");
     if (number === FAULT_SAVED) return new SavedRefused(this.number(at + 16));
+    if (number === FAULT_UNKNOWN) return new UnknownDictionary("no dictionary of these words comes with the engine");
     const [fact, node, what] = [4, 8, 12].map((from) => this.number(at + from)).map((place) => (place === ABSENT ? null : place));
     return new DictionaryRefused(number, fact ?? null, node ?? null, what ?? null);
   }
@@ -252,13 +254,53 @@ export class Machine {
   }
 
   /**
+   * The bytes of what a call says that changes nothing, which the next call ends.
+   * @param {"save" | "reads" | "dictionary"} name
+   * @param {number} block
+   * @param {...number} given
+   */
+  #saidBy(name, block, ...given) {
+    const how = this.call(`fact_graph_${name}`, this.number(block + HANDLE), ...given, block + SIZE, block + HANDLE);
+    if (how !== SAID) throw new OutOfMemory("no memory for the text");
+    const text = this.text(block);
+    if (text.length > KEPT_TEXT) this.call("fact_graph_trim", this.number(block + HANDLE), block + HANDLE);
+    return text;
+  }
+
+  /**
+   * The bytes of the paths of the slots that a slot reads, each with its newline, or of a refusal; the next call ends them.
+   * @param {number} block
+   * @param {string} slot
+   */
+  reads(block, slot) {
+    this.#reserve(this.#input, ROOM);
+    const size = this.#putLine(slot);
+    return this.#saidBy("reads", block, this.#input.at, size);
+  }
+
+  /**
+   * The bytes of a session's dictionary as JSON, which the next call ends.
+   * @param {number} block
+   */
+  dictionary(block) {
+    return this.#saidBy("dictionary", block);
+  }
+
+  /**
+   * Forgets all changes of a session that can be undone but the newest.
+   * @param {number} block
+   * @param {number} most
+   */
+  keepChanges(block, most) {
+    this.call("fact_graph_keep_changes", this.number(block + HANDLE), Math.min(most, ABSENT), block + HANDLE);
+  }
+
+  /**
    * The bytes of a session's saved text, which the next call ends.
    * @param {number} block
    */
   save(block) {
-    const how = this.call("fact_graph_save", this.number(block + HANDLE), block + SIZE, block + HANDLE);
-    if (how !== SAID) throw new OutOfMemory("no memory for the saved text");
-    return this.text(block);
+    return this.#saidBy("save", block);
   }
 
   /**

@@ -21,7 +21,11 @@ import { READERS, textOf } from "./values.js";
  * A line of a saved text that isn't carried: `list`, `value` or `override`, and what it names.
  * @typedef {{ kind: string, slot: string }} Dropped
  */
-/** @typedef {{ engine?: Engine }} Options the engine that the session is opened in; where none is given, one that all such sessions share */
+/**
+ * The engine that the session is opened in; where none is given, one that all such sessions share. And how many changes at most are kept for
+ * `undo`, the newest; where that isn't given, all are. A function of `changes` keeps all of its own until it ends.
+ * @typedef {{ engine?: Engine, undo?: number }} Options
+ */
 
 /**
  * The engine that sessions share.
@@ -56,20 +60,28 @@ function stepOf(line) {
   return STEPS[blank < 0 ? line.replace(/\r$/, "") : line.slice(0, blank)] ?? 0;
 }
 
-/** @type {(machine: Machine, block: number, dictionary: Uint8Array) => Session} */
+/** @type {(machine: Machine, block: number, dictionary: Uint8Array, undo: number) => Session} */
 let created;
 
 /**
- * @param {"open" | "load" | "carry"} how
+ * @param {"open" | "load" | "carry" | "open_built_in"} how
  * @param {string | Uint8Array} dictionary
  * @param {string | Uint8Array | undefined} saved
  * @param {Options} [options]
  */
 async function begun(how, dictionary, saved, options) {
+  const undo = options?.undo ?? Infinity;
+  if (!(undo >= 0)) throw new RangeError(`undo is how many changes are kept, from 0 on, and no ${undo}`);
   const text = bytesOf(dictionary);
   const kept = saved === undefined ? undefined : bytesOf(saved);
   const machine = machineOf(options?.engine ?? (await sharedEngine()));
-  return created(machine, machine.begin(how, text, kept), text);
+  const block = machine.begin(how, text, kept);
+  try {
+    return created(machine, block, how === "open_built_in" ? machine.dictionary(block) : text, Math.floor(undo));
+  } catch (wrong) {
+    machine.end(block); // there was no memory for its dictionary
+    throw wrong;
+  }
 }
 
 /**
@@ -81,6 +93,7 @@ async function begun(how, dictionary, saved, options) {
 export class Session {
   #machine;
   #block;
+  #undo;
   #isOpen = true;
   // how many changes could be undone, but for those before the session, and how many of them stand before the block of changes
   #depth = 0;
@@ -102,7 +115,7 @@ export class Session {
   fired = [];
 
   static {
-    created = (machine, block, dictionary) => new Session(machine, block, dictionary);
+    created = (machine, block, dictionary, undo) => new Session(machine, block, dictionary, undo);
   }
 
   /**
@@ -110,10 +123,12 @@ export class Session {
    * @param {Machine} machine
    * @param {number} block
    * @param {Uint8Array} dictionary
+   * @param {number} undo
    */
-  constructor(machine, block, dictionary) {
+  constructor(machine, block, dictionary, undo) {
     this.#machine = machine;
     this.#block = block;
+    this.#undo = undo;
     machine.closeWith(this, block);
     this.dictionary = new Dictionary(textOfBytes(dictionary));
   }
@@ -125,6 +140,16 @@ export class Session {
    */
   static async open(dictionary, options) {
     return begun("open", dictionary, undefined, options);
+  }
+
+  /**
+   * A session without answers over a dictionary that comes with the engine: `year 2023`, `year 2024` or `income 2023`. Throws
+   * UnknownDictionary for other words.
+   * @param {string} words
+   * @param {Options} [options]
+   */
+  static async builtIn(words, options) {
+    return begun("open_built_in", words, undefined, options);
   }
 
   /**
@@ -242,6 +267,7 @@ export class Session {
       throw wrong;
     } finally {
       this.#floor = outer;
+      this.#forget();
     }
   }
 
@@ -274,6 +300,18 @@ export class Session {
    */
   missing(slot) {
     return this.#ask(`missing ${slot}`).split("\n").slice(1, -1);
+  }
+
+  /**
+   * The slots that a result is worked out from, each once, in the order in which they are first read: why it is what it is. A slot with an
+   * answer of its own, or with an override, reads none; one that has none reads what its placeholder does.
+   * @param {string} slot
+   */
+  reads(slot) {
+    this.#hold();
+    const said = textOfBytes(this.#machine.reads(this.#block, asLine(slot)));
+    if (said.startsWith("refused ")) throw Refused.ofReply(said);
+    return said.split("\n").slice(0, -1);
   }
 
   /**
@@ -389,7 +427,7 @@ export class Session {
    * @param {string} line
    */
   #ask(line) {
-    const said = this.#said(line.endsWith("\r") ? `${line}\r` : line); // one last byte 13 is dropped
+    const said = this.#said(asLine(line));
     if (said === null) throw new SessionClosed("the session was quit");
     if (said.startsWith("refused ")) throw Refused.ofReply(said);
     return said;
@@ -405,8 +443,18 @@ export class Session {
     if (step < 0 && this.#depth <= this.#floor) return NOTHING_TO_UNDO;
     const bytes = this.#machine.answer(this.#block, line);
     const said = bytes && textOfBytes(bytes);
-    if (step && said?.startsWith("ok")) this.#depth += step;
+    if (step && said?.startsWith("ok")) {
+      this.#depth += step;
+      this.#forget();
+    }
     return said;
+  }
+
+  // forgets the changes that are more than are to be kept, unless a function of changes runs, which may take back all of its own
+  #forget() {
+    if (!this.#isOpen || this.#depth <= this.#undo || this.#floor !== -Infinity) return;
+    this.#machine.keepChanges(this.#block, this.#undo);
+    this.#depth = this.#undo;
   }
 
   #hold() {
@@ -422,6 +470,14 @@ export class Session {
 
 // where the language has `using`, it closes a session
 if ("dispose" in Symbol) Object.defineProperty(Session.prototype, /** @type {any} */ (Symbol).dispose, { value: Session.prototype.close });
+
+/**
+ * A text as a line, of which one last byte 13 is dropped.
+ * @param {string} text
+ */
+function asLine(text) {
+  return text.endsWith("\r") ? `${text}\r` : text;
+}
 
 /**
  * The first word of a reply of one line, and what is behind it.

@@ -4,8 +4,8 @@ import assert from "node:assert/strict";
 import { readFileSync } from "node:fs";
 import { test } from "node:test";
 import {
-  DictionaryRefused, Engine, FactGraphError, OutOfMemory, Rational, Refused, SavedRefused, Session, SessionClosed, UnknownSlot, amountText,
-  centsOf,
+  DictionaryRefused, Engine, FactGraphError, OutOfMemory, Rational, Refused, SavedRefused, Session, SessionClosed, UnknownDictionary, UnknownSlot,
+  amountText, centsOf,
 } from "../src/index.js";
 
 const DICTIONARY = JSON.stringify({
@@ -284,4 +284,68 @@ test("amounts are printed and read exactly", () => {
   }
   assert.equal(centsOf("12"), 1200n);
   for (const text of ["", "1.5", "1,000", " 1", "1.234", "x"]) assert.throws(() => centsOf(text), SyntaxError);
+});
+
+// ---- calls beside lines
+
+test("a slot reads the slots that its result is worked out from", async () => {
+  const session = await opened();
+  assert.deepEqual(session.reads("/housing"), ["/rent", "/heating"]);
+  assert.deepEqual(session.reads("/rent"), []);
+  session.add("/people");
+  assert.deepEqual(session.reads("/people/#1/isOld"), ["/people/#1/born"]);
+  session.override("/housing", 3n);
+  assert.deepEqual(session.reads("/housing"), []);
+  for (const [slot, message] of [
+    ["/nowhere", "refused 3 UnknownFact"], ["/people/#2/born", "refused 4 NoMember"], ["", "refused 1 BadLine"], ["/rent\r", "refused 1 BadLine"],
+    ["x".repeat(1_001), "refused 1 BadLine"], ["x".repeat(9_000), "refused 1 BadLine"],
+  ]) {
+    assert.throws(() => session.reads(slot), { message });
+  }
+  assert.throws(() => session.reads("/nowhere"), UnknownSlot);
+  session.close();
+  assert.throws(() => session.reads("/rent"), SessionClosed);
+});
+
+function undone(session) {
+  for (let count = 0; ; count++) if (session.line("undo") !== "ok\n") return count;
+}
+
+test("the newest changes are kept for undo", async () => {
+  for (const [undo, due] of [[undefined, 5], [0, 0], [1, 1], [2.5, 2], [5, 5], [2 ** 40, 5], [Infinity, 5]]) {
+    const session = await Session.open(DICTIONARY, { undo });
+    for (let rent = 1n; rent <= 5n; rent++) session.set("/rent", rent);
+    assert.equal(undone(session), due);
+    assert.equal(session.get("/rent").value, due === 5 ? null : BigInt(5 - due));
+    for (let k = 0; k < due; k++) session.redo();
+    assert.equal(session.get("/rent").value, 5n);
+    session.close();
+  }
+  for (const undo of [-1, NaN]) await assert.rejects(Session.open(DICTIONARY, { undo }), RangeError);
+});
+
+test("a function of changes keeps all of its own until it ends", async () => {
+  const session = await Session.load(DICTIONARY, "saved 1\nnext 1\nend\n", { undo: 2 });
+  session.set("/rent", 1n);
+  const fill = () => {
+    for (let rooms = 0; rooms < 10; rooms++) session.set("/rooms", rooms);
+  };
+  assert.throws(() => session.changes(() => { fill(); throw new Error("stop"); }), /stop/);
+  assert.equal(session.get("/rooms").value, null);
+  assert.equal(session.get("/rent").value, 1n);
+  session.changes(fill);
+  assert.equal(undone(session), 2);
+  assert.equal(session.get("/rooms").value, 7);
+});
+
+test("a dictionary comes with the engine", async () => {
+  for (const [words, script] of [["year 2023", "years/2023"], ["income 2023", "income/2023"]]) {
+    const session = await Session.builtIn(words);
+    const read = (ending) => readFileSync(new URL(`../../examples/${script}.${ending}`, import.meta.url), "utf8");
+    assert.equal(read("script").split("\n").map((line) => session.line(line)).join(""), read("replies"));
+    assert.equal(session.get("/standardDeduction").value, 3_070_000n);
+    assert.ok(session.slots().every((slot) => session.has(slot)));
+  }
+  assert.equal((await Session.builtIn("year 2024")).dictionary.facts.size, 45);
+  await assert.rejects(Session.builtIn("year 2022"), UnknownDictionary);
 });

@@ -22,6 +22,7 @@ from .errors import (
     SessionBusy,
     SessionClosed,
     SessionForked,
+    UnknownDictionary,
     UnknownSlot,
 )
 from .session import Dropped, Session, Watch
@@ -48,6 +49,7 @@ __all__ = [
     "SessionBusy",
     "SessionClosed",
     "SessionForked",
+    "UnknownDictionary",
     "UnknownSlot",
     "Value",
     "Watch",

@@ -10,7 +10,7 @@ from ctypes import c_char_p, c_size_t, c_uint32, c_void_p
 from pathlib import Path
 from typing import Any
 
-from .errors import DictionaryRefused, FactGraphError, LibraryMissing, OutOfMemory, SavedRefused
+from .errors import DictionaryRefused, FactGraphError, LibraryMissing, OutOfMemory, SavedRefused, UnknownDictionary
 
 NAME = "libfact_graph.so"
 # By this name the system has a library of this version.
@@ -20,6 +20,7 @@ VARIABLE = "FACT_GRAPH_LIBRARY"
 ABSENT = 2**32 - 1
 FAULT_MEMORY = 15
 FAULT_SAVED = 16
+FAULT_UNKNOWN = 17
 SAID = 0
 OVER = 1
 NO_MEMORY = 2
@@ -43,6 +44,8 @@ class Fault(ctypes.Structure):
             return OutOfMemory("no memory for a session")
         if self.number == FAULT_SAVED:
             return SavedRefused(self.line)
+        if self.number == FAULT_UNKNOWN:
+            return UnknownDictionary("no dictionary of these words comes with the library")
         return DictionaryRefused(self.number, self.place("fact"), self.place("node"), self.place("what"))
 
 
@@ -59,10 +62,15 @@ class Library:
             return found
 
         self.open: Call = function("open", c_uint32, *text, at, at)
+        self.open_built_in: Call = function("open_built_in", c_uint32, *text, at, at)
         self.load: Call = function("load", c_uint32, *text, *text, at, at)
         self.carry: Call = function("carry", c_uint32, *text, *text, at, at, at)
         self.answer: Call = function("answer", c_uint32, graph, *text, at, at)
         self.save: Call = function("save", c_uint32, graph, at, at)
+        self.reads: Call = function("reads", c_uint32, graph, *text, at, at)
+        self.dictionary: Call = function("dictionary", c_uint32, graph, at, at)
+        self.keep_changes: Callable[..., None] = function("keep_changes", None, graph, c_size_t, at)
+        self.trim: Callable[..., None] = function("trim", None, graph, at)
         self.read: Call = function("read", c_size_t, graph, c_size_t, at, c_size_t, at)
         self.close: Callable[[c_void_p], None] = function("close", None, graph)
 

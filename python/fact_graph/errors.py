@@ -103,6 +103,14 @@ class DictionaryRefused(FactGraphError):
         return f"dictionary refused {self.number} {self.name}" + "".join(f" {word} {at}" for word, at in places if at is not None)
 
 
+class UnknownDictionary(FactGraphError, LookupError):
+    """No dictionary of these words comes with the library.
+
+    >>> issubclass(UnknownDictionary, LookupError)
+    True
+    """
+
+
 class SavedRefused(FactGraphError):
     """The saved text is none of the dictionary's. `line` is its first wrong line, from 1, or 0 for a text that is too long.
 

@@ -18,6 +18,8 @@ from .values import KINDS, READERS, Answer, Result, Value, text_of, text_of_int
 
 # A reply of so many bytes is read in place; a longer one gets room of its own.
 ROOM = 1280
+# The library keeps no text of more bytes once it was read.
+KEPT = 65_536
 # What the size of a text is until the call says it.
 UNSAID = ctypes.c_size_t(-1).value
 # By the verb of a line, how many changes more `undo` can take back where it is answered by ok.
@@ -64,11 +66,17 @@ class Session:  # pylint: disable=too-many-instance-attributes # what its calls 
     ended, raises `SessionBusy`; each call in a forked child raises `SessionForked`. A copy of a session, or one that was pickled,
     is a session of its own, which goes on from the same answers as `load` does.
 
+    With `undo` a session keeps so many changes at most that `undo` can take back, the newest, and forgets those before them; a
+    block of `changes` keeps all of its own until it ends. Without it all are kept, 56 bytes and more for each.
+
     Raises `DictionaryRefused` where the dictionary has a fault.
     """
 
     dictionary: Dictionary
     """What the dictionary says of its facts."""
+
+    source: bytes
+    """The dictionary's text as it was given, or as the library says that of one that comes with it."""
 
     dropped: tuple[Dropped, ...] = ()
     """What `carry` didn't keep."""
@@ -77,22 +85,37 @@ class Session:  # pylint: disable=too-many-instance-attributes # what its calls 
     """The watches that fired at the last accepted change that a method other than `line` made, in the order in which they were
     put. Where threads share the session it may be another thread's change."""
 
-    def __init__(self, dictionary: bytes | str) -> None:
+    def __init__(self, dictionary: bytes | str, *, undo: int | None = None) -> None:
         text = _bytes_of(dictionary)
-        self._begin(text, lambda graph, fault: library().open(text, len(text), graph, fault))
+        self._begin(text, lambda graph, fault: library().open(text, len(text), graph, fault), undo)
 
     @classmethod
-    def open(cls, source: bytes | str | os.PathLike[str]) -> Session:
+    def open(cls, source: bytes | str | os.PathLike[str], *, undo: int | None = None) -> Session:
         """A session without answers, over the dictionary in the file at a path, or over one that is given as bytes.
 
         >>> session = Session.open("screener.json")
         >>> session.missing("/help")
         ['/tenure', '/savings', '/people']
         """
-        return cls(source if isinstance(source, bytes) else Path(source).read_bytes())
+        return cls(source if isinstance(source, bytes) else Path(source).read_bytes(), undo=undo)
 
     @classmethod
-    def load(cls, dictionary: bytes | str, saved: bytes | str) -> Session:
+    def built_in(cls, words: str, *, undo: int | None = None) -> Session:
+        """A session without answers over a dictionary that comes with the library: `year 2023`, `year 2024` or `income 2023`.
+
+        Raises `UnknownDictionary` for other words.
+
+        >>> session = Session.built_in("year 2023")
+        >>> session["/married"] = session["/fileJointly"] = True
+        >>> session["/filingStatus"]
+        'marriedFilingJointly'
+        """
+        session, text = cls.__new__(cls), _bytes_of(words)
+        session._begin(None, lambda graph, fault: library().open_built_in(text, len(text), graph, fault), undo)
+        return session
+
+    @classmethod
+    def load(cls, dictionary: bytes | str, saved: bytes | str, *, undo: int | None = None) -> Session:
         """A session that goes on from what `save` gave over the same dictionary. Raises `SavedRefused` for another text.
 
         >>> dictionary = '{"version":"1","facts":[{"path":"/rent","writable":"Dollar"}]}'
@@ -100,11 +123,11 @@ class Session:  # pylint: disable=too-many-instance-attributes # what its calls 
         Decimal('800.00')
         """
         session, text, kept = cls.__new__(cls), _bytes_of(dictionary), _bytes_of(saved)
-        session._begin(text, lambda graph, fault: library().load(text, len(text), kept, len(kept), graph, fault))
+        session._begin(text, lambda graph, fault: library().load(text, len(text), kept, len(kept), graph, fault), undo)
         return session
 
     @classmethod
-    def carry(cls, dictionary: bytes | str, saved: bytes | str) -> Session:
+    def carry(cls, dictionary: bytes | str, saved: bytes | str, *, undo: int | None = None) -> Session:
         """A session that goes on from what `save` gave over another dictionary, as far as its answers may stand over this
         one; `dropped` has the others. Raises `SavedRefused` for what is no such text.
 
@@ -114,12 +137,14 @@ class Session:  # pylint: disable=too-many-instance-attributes # what its calls 
         """
         session, text, kept = cls.__new__(cls), _bytes_of(dictionary), _bytes_of(saved)
         size = ctypes.c_size_t()
-        session._begin(text, lambda graph, fault: library().carry(text, len(text), kept, len(kept), graph, ctypes.byref(size), fault))
+        session._begin(text, lambda graph, fault: library().carry(text, len(text), kept, len(kept), graph, ctypes.byref(size), fault), undo)
         lines = session._text(size.value).decode().splitlines()
         session.dropped = tuple(Dropped(*line.split(" ")[1:]) for line in lines)
         return session
 
-    def _begin(self, dictionary: bytes, begin: Callable[..., int]) -> None:
+    def _begin(self, dictionary: bytes | None, begin: Callable[..., int], undo: int | None) -> None:
+        if undo is not None and undo < 0:
+            raise ValueError(f"undo is how many changes are kept, from 0 on, and no {undo}")
         calls, graph, fault = library(), ctypes.c_void_p(), Fault()
         if begin(ctypes.byref(graph), ctypes.byref(fault)):
             raise fault.error()
@@ -131,6 +156,7 @@ class Session:  # pylint: disable=too-many-instance-attributes # what its calls 
         # (a thread that holds it may come again, from a signal's handler: it is told so and doesn't wait for itself)
         self._lock: Any = threading.RLock()
         self._is_busy = False
+        self._undo = undo  # how many it may at most
         self._depth = 0  # how many changes `undo` can take back
         self._step = 0  # how many more it can where the last line made a change, as long as that isn't counted
         self._floor = -1  # how many it leaves within the block of changes that is open
@@ -138,9 +164,9 @@ class Session:  # pylint: disable=too-many-instance-attributes # what its calls 
         self._size_at = ctypes.addressof(self._size)
         self._room: Any = ctypes.create_string_buffer(ROOM)
         self._room_at = ctypes.addressof(self._room)
-        self._answer, self._read, self._save = calls.answer, calls.read, calls.save
-        self._source = dictionary
-        self.dictionary = Dictionary.of_json(dictionary)
+        self._answer, self._read = calls.answer, calls.read
+        self.source = self._say_all(calls.dictionary) if dictionary is None else dictionary
+        self.dictionary = Dictionary.of_json(self.source)
         self._readers = {path: READERS[fact.type.name] for path, fact in self.dictionary.facts.items()}
         _sessions.add(self)
 
@@ -269,6 +295,7 @@ class Session:  # pylint: disable=too-many-instance-attributes # what its calls 
                 raise
             finally:
                 self._floor = outer
+                self._forget()
 
     # ---- questions
 
@@ -308,6 +335,21 @@ class Session:  # pylint: disable=too-many-instance-attributes # what its calls 
         ['/savings', '/people']
         """
         return self._ask("missing " + slot).splitlines()[1:]
+
+    def reads(self, slot: str) -> list[str]:
+        """The slots that a result is worked out from, each once, in the order in which they are first read: why it is what it is.
+
+        A slot with an answer of its own, or with an override, reads none; one that has none reads what its placeholder does.
+
+        >>> session = Session.open("screener.json")
+        >>> session.reads("/size"), session.reads("/bill")
+        (['/people'], [])
+        """
+        given = _as_line(slot)
+        said = self._say_all(library().reads, given, len(given)).decode()
+        if said.startswith("refused "):
+            raise Refused.of_reply(said)
+        return said.splitlines()
 
     def members(self, slot: str) -> tuple[int, ...]:
         """The numbers of a collection's members, or of those that a Filter finds; none while there is no such list.
@@ -438,16 +480,7 @@ class Session:  # pylint: disable=too-many-instance-attributes # what its calls 
         >>> session.save()
         b'saved 1\\nnext 1\\nvalue /bill 900.00\\nend\\n'
         """
-        with self._lock:
-            self._hold()
-            self._is_busy = True
-            try:
-                how = self._save(self._graph, self._size_at, self._back)
-                if how == SAID:
-                    return self._text(self._size.value)
-            finally:
-                self._is_busy = False
-        raise _unsaid(how)
+        return self._say_all(library().save)
 
     def line(self, line: str | bytes) -> str:
         """Answers a line of a script, and returns its reply as the program writes it: all lines of it, with their newlines.
@@ -488,8 +521,8 @@ class Session:  # pylint: disable=too-many-instance-attributes # what its calls 
         with contextlib.suppress(SessionForked):
             self.close()
 
-    def __reduce__(self) -> tuple[Callable[[bytes, bytes], Session], tuple[bytes, bytes]]:
-        return type(self).load, (self._source, self.save())
+    def __reduce__(self) -> tuple[Callable[..., Session], tuple[type[Session], bytes, bytes, int | None]]:
+        return _gone_on, (type(self), self.source, self.save(), self._undo)
 
     def __repr__(self) -> str:
         return f"<{type(self).__name__} over {len(self.dictionary.facts)} facts{'' if self._is_open else ', closed'}>"
@@ -509,8 +542,7 @@ class Session:  # pylint: disable=too-many-instance-attributes # what its calls 
 
     def _ask(self, line: str, step: int = 0) -> str:
         """The reply to a command that isn't refused."""
-        given = _bytes_of(line)
-        said = self._say(given + b"\r" if given.endswith(b"\r") else given, step)  # one last byte 13 is dropped
+        said = self._say(_as_line(line), step)
         if said is None:
             raise SessionClosed("the session was quit")
         if said.startswith("refused "):
@@ -534,11 +566,28 @@ class Session:  # pylint: disable=too-many-instance-attributes # what its calls 
                     text: bytes = self._room[:size] if size < ROOM else self._text(self._size.value)
                     if step:
                         self._count(text)
+                        self._forget()
                     return text.decode()
             finally:
                 self._is_busy = False
         if how == OVER:
             return None
+        raise _unsaid(how)
+
+    def _say_all(self, call: Callable[..., int], *given: object) -> bytes:
+        """The text of a call that changes nothing, of which the library keeps no memory where it is long."""
+        with self._lock:
+            self._hold()
+            self._is_busy = True
+            try:
+                how = call(self._graph, *given, self._size_at, self._back)
+                if how == SAID:
+                    text = self._text(self._size.value)
+                    if len(text) > KEPT:
+                        library().trim(self._graph, self._back)
+                    return text
+            finally:
+                self._is_busy = False
         raise _unsaid(how)
 
     def _text(self, size: int) -> bytes:
@@ -566,6 +615,12 @@ class Session:  # pylint: disable=too-many-instance-attributes # what its calls 
         # (nothing is called in between, so no handler of a signal comes between the two)
         self._depth, self._step = self._depth + self._step * is_made, 0
 
+    def _forget(self) -> None:
+        """Forgets the changes that are more than are to be kept, unless a block is open, which may take back all of its own."""
+        if self._undo is not None and self._floor < 0 and self._depth > self._undo and self._is_open:
+            library().keep_changes(self._graph, self._undo, self._back)
+            self._depth = self._undo
+
     def _take_back(self) -> None:
         """Undoes all changes of the block that is open."""
         with self._lock:
@@ -576,6 +631,7 @@ class Session:  # pylint: disable=too-many-instance-attributes # what its calls 
     def _leave(self) -> None:
         """Leaves the session to the process that this one was forked from."""
         self._end.detach()
+        self._undo = None
         self._lock = _LeftToParent()
 
     def _reader(self, slot: str) -> Callable[[str], Value]:
@@ -599,6 +655,17 @@ def _leave_all() -> None:
 
 _sessions: weakref.WeakSet[Session] = weakref.WeakSet()
 os.register_at_fork(after_in_child=_leave_all)
+
+
+def _gone_on(kind: type[Session], dictionary: bytes, saved: bytes, undo: int | None) -> Session:
+    """A copy of a session."""
+    return kind.load(dictionary, saved, undo=undo)
+
+
+def _as_line(text: str | bytes) -> bytes:
+    """The bytes of a line, whose last byte 13 is no part of what ends it: one such is dropped."""
+    given = _bytes_of(text)
+    return given + b"\r" if given.endswith(b"\r") else given
 
 
 def _unsaid(how: int) -> FactGraphError:

@@ -16,7 +16,7 @@ from fact_graph import DictionaryRefused, SavedRefused, Session
 from .calls import replies
 
 # Files all of whose cases are of words that the library doesn't serve.
-OTHERS = ("gen.py", "desk.py", "desk.row", "years.row", "income.py", "income.row")
+OTHERS = ("gen.py", "desk.py", "desk.row")
 FILES = [path for path in files_of_cases() if path.name not in OTHERS]
 # The plain session evaluates everything anew, so what is larger would take it too long.
 LARGEST_PLAIN = 100_000
@@ -34,9 +34,11 @@ def cases(path: Path) -> Iterator[Served]:
 
 def begun(case: Served) -> Session:
     """The session of a case."""
+    if case.word == "built-in":
+        return Session.built_in(case.dictionary.decode())
     if case.saved is None:
         return Session(case.dictionary)
-    return (Session.load if case.case.words[0] == "load" else Session.carry)(case.dictionary, case.saved)
+    return (Session.load if case.word == "load" else Session.carry)(case.dictionary, case.saved)
 
 
 def by_lines(session: Session, script: bytes) -> str:
@@ -55,7 +57,7 @@ def said(case: Served, answered: Callable[[Session, bytes], str]) -> tuple[bytes
     with session:
         dropped = "".join(f"dropped {kind} {slot}\n" for kind, slot in session.dropped)
         text = answered(session, case.case.script)
-        return session.save() if case.case.words[0] == "save" else (dropped + text).encode(), 0
+        return session.save() if case.word == "save" else (dropped + text).encode(), 0
 
 
 def wrong_in(path: Path, answered: Callable[[Session, bytes], str]) -> list[str]:
@@ -81,8 +83,11 @@ def test_each_call_has_the_stored_reply(path: Path) -> None:
 def plain_cases(path: Path) -> Iterator[Served]:
     """The cases of a file that a plain session has: runs of a dictionary that is accepted, none of them large."""
     for case in cases(path):
+        if case.word == "built-in":
+            with begun(case) as session:
+                case = case._replace(dictionary=session.source)
         is_small = len(case.dictionary) + len(case.case.script) < LARGEST_PLAIN
-        if case.case.words[0] == "run" and case.case.status == 0 and is_small:
+        if case.word in ("run", "built-in") and case.case.status == 0 and is_small:
             yield case
 
 

@@ -11,7 +11,7 @@ from oracle.evaluation import Evaluation
 from oracle.session import Session as Plain
 from oracle.session import extends
 
-from fact_graph import Session
+from fact_graph import Refused, Session
 
 from .calls import reply
 from .dictionaries import VALUES, dictionaries
@@ -19,6 +19,14 @@ from .dictionaries import VALUES, dictionaries
 FULL = "refused 13 NothingToUndo\n"
 PATHS = ("/nowhere", "/c", "/c/#1/f0", "/c/#99/f3", "/d/#2/f1", "f1", "/c/*/f1", "/f1 ", "/c/#0/f1", "/c/#1000001/f1")
 LINES = (b"", b"# a note", b"get", b"undo ", b"watch changed", b"remove /c #01", b"\xff", b"set /f0", b"x" * 4_097, b"touched\r", b"get /f0\r\r")
+
+
+def reads(session: Session, slot: str) -> list[str]:
+    """The slots that a slot reads, or the refusal."""
+    try:
+        return session.reads(slot)
+    except Refused as refused:
+        return [str(refused)]
 
 
 class Stop(Exception):
@@ -113,6 +121,12 @@ class Sessions(RuleBasedStateMachine):
         """A question."""
         self.say(f"{verb} {self.slot(data)}".encode())
 
+    @rule(data=st.data())
+    def why(self, data: st.DataObject) -> None:
+        """Which slots a slot reads."""
+        slot = self.slot(data)
+        assert reads(self.by_lines, slot) == reads(self.by_calls, slot) == self.plain.reads(slot)
+
     @rule(data=st.data(), verb=st.sampled_from(("watch", "watch", "unwatch")), name=st.sampled_from(("changed", "completed", "lost", "raised", "moved", "")))
     def watch(self, data: st.DataObject, verb: str, name: str) -> None:
         """A watch that is put or taken out."""
@@ -159,6 +173,8 @@ class Sessions(RuleBasedStateMachine):
         assert list(self.by_calls) == slots
         for line in ["touched", *(f"{verb} {slot}" for slot in slots for verb in ("get", "final", "stamp", "missing"))]:
             assert self.by_lines.line(line) == self.plain.line(line.encode()), line
+        for slot in slots:
+            assert self.by_lines.reads(slot) == self.plain.reads(slot), slot
 
 
 TestSessions = Sessions.TestCase

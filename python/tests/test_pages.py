@@ -53,13 +53,13 @@ def test_in_python(block: Block, installed: Path, outside: Path, bare: dict[str,
 
 
 @pytest.mark.parametrize("block", blocks("c"), ids=place_of)
-def test_in_c(block: Block, library: Path, tmp_path: Path) -> None:
+def test_in_c(block: Block, library: Path, outside: Path, tmp_path: Path) -> None:
     source, host = tmp_path / "host.c", tmp_path / "host"
     source.write_text(block.code)
     header = TOP / "crates" / "fact_graph_c"
     flags = ["-std=c11", "-Wall", "-Wextra", "-Werror", f"-I{header}", f"-Wl,-rpath,{library.parent}"]
     subprocess.run(["cc", *flags, source, library, "-o", host], check=True)
-    assert subprocess.run([host], capture_output=True, text=True, check=True).stdout == block.text
+    assert subprocess.run([host], capture_output=True, text=True, check=True, cwd=outside).stdout == block.text
 
 
 def test_the_pages_of_the_package_have_examples() -> None:

@@ -31,7 +31,7 @@ def given(place: str, word: str, texts: tuple[bytes, bytes, bytes], status: int,
 
 def of_served(it: Served) -> Given:
     """A stored case."""
-    return given(it.case.place, it.case.words[0], (it.dictionary, it.saved or b"", it.case.script), it.case.status, it.case.due)
+    return given(it.case.place, it.word, (it.dictionary, it.saved or b"", it.case.script), it.case.status, it.case.due)
 
 
 def stored() -> Iterator[Given]:

@@ -2,9 +2,10 @@
  *
  *   cases FOLDER WORD..
  *
- * The case n, from 0, has the nth word, run, load, carry or save, and the files FOLDER/n.d, a dictionary, FOLDER/n.script, and for
- * load and carry FOLDER/n.s, a saved text. What the case says is written to FOLDER/n.out. Standard output has a line for each case:
- * the fault's number, fact, node, what and line, where the number 0 says that there is none. */
+ * The case n, from 0, has the nth word, run, load, carry, save or built-in, and the files FOLDER/n.d, a dictionary, or for built-in the
+ * words of one that comes with the library, FOLDER/n.script, and for load and carry FOLDER/n.s, a saved text. What the case says is
+ * written to FOLDER/n.out. Standard output has a line for each case: the fault's number, fact, node, what and line, where the number 0
+ * says that there is none. */
 #include "host.h"
 
 static text read_in(const char *folder, int n, const char *ending) {
@@ -59,6 +60,7 @@ static uint32_t begin(const char *word, text dictionary, text saved, fact_graph 
   if (strcmp(word, "carry") == 0) {
     return fact_graph_carry(dictionary.bytes, dictionary.size, saved.bytes, saved.size, graph, size, fault);
   }
+  if (strcmp(word, "built-in") == 0) return fact_graph_open_built_in(dictionary.bytes, dictionary.size, graph, fault);
   return fact_graph_open(dictionary.bytes, dictionary.size, graph, fault);
 }
 

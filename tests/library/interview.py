@@ -3,8 +3,8 @@
 
     tests/run_rows.py --program tests/library/interview.py
 
-The words run, load, carry and save are answered through the library's functions as the Python package has them, a line of the
-script at a time and its reply in pieces. What the library doesn't have, as check, run-plain and year, is run by the program itself,
+The words run, load, carry and save, and the tax years, are answered through the library's functions as the Python package has them, a
+line of the script at a time and its reply in pieces. What the library doesn't have, as check and run-plain, is run by the program itself,
 crates/interview/out/interview; so is what can't be read, since the library reads no file. FACT_GRAPH_LIBRARY names another library
 than out/libfact_graph.so.
 """
@@ -28,8 +28,9 @@ PROGRAM = TOP / "crates" / "interview" / "out" / "interview"
 SCRIPT_LIMIT = 67_108_864
 # A reply is fetched in pieces of so many bytes, so that most replies take several.
 PIECE = 7
-# The words that the library serves, and how many stand with them.
+# The words that the library serves, and how many stand with them, and the dictionaries that come with it.
 SERVED = {"run": 2, "save": 2, "load": 3, "carry": 3}
+BUILT_IN = (["year", "2023"], ["year", "2024"], ["income", "2023"])
 
 
 class ScriptTooLong(Exception):
@@ -53,7 +54,7 @@ class Graph:
         """Opens the session as the word says."""
         fault = Fault()
         texts = [it for text in files for it in (text, len(text))]
-        begin = {"load": self.calls.load, "carry": self.calls.carry}.get(word, self.calls.open)
+        begin = {"load": self.calls.load, "carry": self.calls.carry, "built-in": self.calls.open_built_in}.get(word, self.calls.open)
         number = begin(*texts, self.back, *([self.size_at] if word == "carry" else []), ctypes.byref(fault))
         assert number == fault.number, (number, fault.number)
         if number:
@@ -101,7 +102,10 @@ def answer_script(graph: Graph, script: bytes, write: Callable[[bytes], object])
 def run(graph: Graph, words: list[str], write: Callable[[bytes], object]) -> None:
     """Does what the words say; none of the exceptions means status 0."""
     word, *names = words
-    graph.open(word, *(Path(name).read_bytes() for name in names))
+    if words in BUILT_IN:
+        graph.open("built-in", " ".join(words).encode())
+    else:
+        graph.open(word, *(Path(name).read_bytes() for name in names))
     if word == "carry":
         write(graph.text())
     answer_script(graph, sys.stdin.buffer.read(), write if word != "save" else lambda text: None)
@@ -112,7 +116,8 @@ def run(graph: Graph, words: list[str], write: Callable[[bytes], object]) -> Non
 
 def main(argv: list[str]) -> int:
     """Runs the words, and returns the exit status."""
-    if len(argv) != SERVED.get(argv[0] if argv else "") or not all(os.path.isfile(name) for name in argv[1:]):
+    is_over_files = len(argv) == SERVED.get(argv[0] if argv else "") and all(os.path.isfile(name) for name in argv[1:])
+    if not is_over_files and argv not in BUILT_IN:
         if not PROGRAM.is_file():
             sys.exit(f"interview.py: no program is built at {PROGRAM}")
         os.execv(PROGRAM, [str(PROGRAM), *argv])

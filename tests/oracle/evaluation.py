@@ -89,6 +89,11 @@ class Evaluation:
             self._done[slot] = place.result(), place.reads
         return self._done[slot]
 
+    def reads(self, slot: Slot) -> list[Slot]:
+        """The slots that the evaluation of a slot itself reads and that stand, each once, in the order in which it first reads them."""
+        standing = set(self.slots())
+        return [it for it in dict.fromkeys(self.evaluated(slot)[1]) if it in standing]
+
     def is_answered(self, slot: Slot) -> bool:
         """Whether a writable slot has an answer."""
         return slot.path in self.answers.lists or slot in self.answers.values

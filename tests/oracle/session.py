@@ -246,6 +246,14 @@ class Session:
 
     # ---- the whole
 
+    def reads(self, path: str) -> list[str]:
+        """What the library says of the slots that a slot reads: their paths, or the refusal that `get` has."""
+        said = self.line(f"get {path}".encode())
+        slot = self.dictionary.slot_of(path)
+        if said.startswith("refused ") or slot is None:
+            return said.splitlines()
+        return [str(it) for it in self.now.reads(slot)]
+
     def save(self) -> bytes:
         """The answers that stand, as saved text."""
         answers = self.now.answers

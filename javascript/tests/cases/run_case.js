@@ -1,9 +1,11 @@
-// A case of the program, run over the engine: its words, dictionary, saved text and script; and the text and the status that it ends with.
+// A case of the program, run over the engine: its word, dictionary, saved text and script; and the text and the status that it ends with.
+// Of `built-in` the dictionary is the words of one that comes with the engine.
 
 import { DictionaryRefused, SavedRefused } from "../../src/errors.js";
 
 const encoder = new TextEncoder();
-const WORDS = ["run", "save", "load", "carry"];
+const WORDS = ["run", "save", "load", "carry", "built-in"];
+const BEGINNINGS = { run: "open", save: "open", "built-in": "open_built_in" };
 const DONE = 0, DICTIONARY_REFUSED = 1, SAVED_REFUSED = 8;
 
 /** The lines of a script, each without its newline; the last one only where it isn't empty. */
@@ -42,7 +44,7 @@ export function runCase(machine, { word, dictionary, saved, script }) {
   if (!WORDS.includes(word)) throw new Error(`no case of ${word}`);
   let block;
   try {
-    block = word === "load" || word === "carry" ? machine.begin(word, dictionary, saved) : machine.begin("open", dictionary);
+    block = word in BEGINNINGS ? machine.begin(BEGINNINGS[word], dictionary) : machine.begin(word, dictionary, saved);
   } catch (wrong) {
     if (wrong instanceof DictionaryRefused) return { status: DICTIONARY_REFUSED, text: encoder.encode(`${wrong.message}\n`) };
     if (wrong instanceof SavedRefused) return { status: SAVED_REFUSED, text: encoder.encode(`${wrong.message}\n`) };

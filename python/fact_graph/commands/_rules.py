@@ -11,7 +11,7 @@ from typing import TYPE_CHECKING, Any, NamedTuple, TypeVar
 import click
 from click.shell_completion import CompletionItem
 
-from ..errors import DictionaryRefused
+from ..errors import DictionaryRefused, UnknownDictionary
 from ..faults import Examined, Source
 from ..session import Session
 from ..status import Status
@@ -53,11 +53,21 @@ class Rules(NamedTuple):
 
 
 def opened(words: str) -> Rules:
-    """The rules that words name: a file's name, or `-` for standard input."""
-    if BUILT_IN.fullmatch(words):
-        raise Failed(Status.NOT_INSTALLED, f"this build has no rules of its own, so none of {words}")
-    text = read(words)
+    """The rules that words name: those of a tax year, as `year 2023`, also where a file has that name; else a file, or `-` for
+    standard input."""
+    text = text_named(words)
     return written(words, text) if is_written(words, text) else Rules(words, text)
+
+
+def text_named(words: str) -> bytes:
+    """The text of the rules that words name."""
+    if not BUILT_IN.fullmatch(words):
+        return read(words)
+    try:
+        with Session.built_in(words) as session:
+            return session.source
+    except UnknownDictionary as unknown:
+        raise Failed(Status.USAGE, f"no rules {words} come with fact-graph, which has year 2023, year 2024 and income 2023") from unknown
 
 
 def is_written(name: str, text: bytes) -> bool:
@@ -136,7 +146,7 @@ class SavedText(click.ParamType):
 
 
 def rules_argument(function: Function) -> Function:
-    """Decorates a command's function that takes `rules`, named by the word FILE."""
+    """Decorates a command's function that takes `rules`, named by the word FILE, or by two as `year 2023`."""
     return click.argument("rules", type=RulesName(), metavar="FILE")(function)
 
 

@@ -11,7 +11,7 @@ from ..faults import Examined
 from ..status import Status
 from ._failures import Failed
 from ._faults import found
-from ._rules import is_written, parsed_as, read
+from ._rules import is_written, parsed_as, read, text_named
 
 SHAPE = 3
 
@@ -25,7 +25,7 @@ def command(name: str, output: str | None, check: str | None) -> Status:
 
     One dictionary has one text: its JSON is the same behind both. A comment is of the text alone.
     """
-    text = read(name)
+    text = text_named(name)
     other = parsed_as(name, text).json if is_written(name, text) else _text(name, text)
     if check is not None:
         return _checked(check, read(check), other, name)

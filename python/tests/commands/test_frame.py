@@ -33,7 +33,7 @@ def test_what_went_wrong_is_a_status_and_a_line(tmp_path: Path, capsys: pytest.C
         (["nothing"], Status.USAGE, "No such command 'nothing'"),
         (["check"], Status.USAGE, "Missing argument 'FILE'"),
         (["check", str(tmp_path / "none")], Status.FETCH_FAULT, "none: No such file or directory"),
-        (["check", "year", "2023"], Status.NOT_INSTALLED, "no rules of its own"),
+        (["check", "year", "2022"], Status.USAGE, "no rules year 2022 come with fact-graph"),
     ):
         assert main(words) == status
         assert said in capsys.readouterr().err

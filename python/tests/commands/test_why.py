@@ -1,0 +1,105 @@
+"""Why a figure is what it is, and the rules that come with the library."""
+
+from pathlib import Path
+
+import pytest
+
+from fact_graph.__main__ import main
+from fact_graph.status import Status
+
+EXAMPLES = Path(__file__).resolve().parents[3] / "examples"
+FACTS = (
+    '{"path":"/a","writable":"Int"}',
+    '{"path":"/b","derived":"Int","is":["Add",["Dependency","/a"],["Int","1"]]}',
+    '{"path":"/c","derived":"Int","is":["Add",["Dependency","/b"],["Dependency","/a"]]}',
+    '{"path":"/d","derived":"Int","is":["Add",["Dependency","/c"],["Dependency","/b"]]}',
+)
+RULES = '{"version":"1","facts":[' + ",".join(FACTS) + "]}"
+
+Shown = pytest.CaptureFixture[str]
+
+
+@pytest.fixture(name="folder")
+def _folder(tmp_path: Path, monkeypatch: pytest.MonkeyPatch) -> Path:
+    """The current folder, with rules and with answers."""
+    (tmp_path / "d.json").write_text(RULES)
+    (tmp_path / "mine").write_text("saved 1\nnext 1\nvalue /a 5\nend\n")
+    monkeypatch.chdir(tmp_path)
+    return tmp_path
+
+
+def chain(length: int) -> str:
+    """Rules of so many facts, each of which rests on the one before."""
+    derived = [f'{{"path":"/f{k}","derived":"Int","is":["Dependency","/f{k - 1}"]}}' for k in range(1, length)]
+    return '{"version":"1","facts":[' + ",".join(['{"path":"/f0","writable":"Int"}', *derived]) + "]}"
+
+
+@pytest.mark.usefixtures("folder")
+@pytest.mark.parametrize(
+    ("words", "due"),
+    [
+        (
+            ["/d", "--saved", "mine"],
+            ["/d complete 17", "  /c complete 11", "    /b complete 6", "      /a complete 5", "    /a complete 5", "  /b complete 6 (above)"],
+        ),
+        (["/d", "--saved", "mine", "--depth", "1"], ["/d complete 17", "  /c complete 11 (reads 2)", "  /b complete 6 (reads 1)"]),
+        (["/d", "--saved", "mine", "--depth", "0"], ["/d complete 17 (reads 2)"]),
+        (["/a", "--saved", "mine", "--depth", "0"], ["/a complete 5"]),
+        (["/c"], ["/c incomplete", "  /b incomplete", "    /a incomplete", "  /a incomplete"]),
+    ],
+)
+def test_what_a_figure_rests_on(words: list[str], due: list[str], capsys: Shown) -> None:
+    assert main(["why", "d.json", *words]) == Status.DONE
+    assert capsys.readouterr().out.splitlines() == due
+
+
+def test_a_long_chain_is_shown(folder: Path, capsys: Shown) -> None:
+    (folder / "long.json").write_text(chain(2_000))
+    assert main(["why", "long.json", "/f1999"]) == Status.DONE
+    assert capsys.readouterr().out.splitlines()[-1] == "  " * 1_999 + "/f0 incomplete"
+
+
+@pytest.mark.usefixtures("folder")
+@pytest.mark.parametrize(
+    ("slot", "said"),
+    [("/nowhere", "/nowhere: refused 3 UnknownFact: "), ("a", "a: refused 1 BadLine: ")],
+)
+def test_a_slot_that_there_is_not(slot: str, said: str, capsys: Shown) -> None:
+    assert main(["why", "d.json", slot]) == Status.COMMAND_REFUSED
+    shown = capsys.readouterr()
+    assert (shown.out, shown.err.startswith(f"fact-graph: {said}")) == ("", True)
+
+
+@pytest.mark.parametrize("words", [["year", "2023"], ["year 2023"]])
+def test_the_words_of_a_year_never_name_a_file(words: list[str], folder: Path, capsys: Shown) -> None:
+    (folder / "year 2023").write_text(RULES)
+    assert main(["run", *words, str(EXAMPLES / "years" / "2023.script")]) == Status.DONE
+    assert capsys.readouterr().out == (EXAMPLES / "years" / "2023.replies").read_text()
+    assert main(["check", *words]) == Status.DONE
+    assert capsys.readouterr().out.startswith("year 2023: accepted, 45 facts, ")
+    assert main(["check", "./year 2023"]) == Status.DONE
+    assert capsys.readouterr().out == "./year 2023: accepted, 4 facts, 9 nodes\n"
+
+
+@pytest.mark.usefixtures("folder")
+@pytest.mark.parametrize(
+    "words",
+    [["convert", "year", "2024"], ["graph", "income", "2023", "--text"], ["missing", "income", "2023", "/taxAfterCredits"], ["lint", "year", "2023"]],
+)
+def test_commands_take_the_rules_of_a_year(words: list[str], capsys: Shown) -> None:
+    assert main(words) in (Status.DONE, Status.FINDINGS)
+    assert capsys.readouterr().out
+
+
+@pytest.mark.usefixtures("folder")
+def test_a_year_that_there_is_not(capsys: Shown) -> None:
+    assert main(["why", "year", "2022", "/married"]) == Status.USAGE
+    assert "no rules year 2022 come with fact-graph" in capsys.readouterr().err
+
+
+@pytest.mark.usefixtures("folder")
+def test_answers_of_a_year_are_saved_and_asked_why(folder: Path, capsys: Shown) -> None:
+    assert main(["save", "year", "2023", str(EXAMPLES / "years" / "2023.script")]) == Status.DONE
+    (folder / "couple").write_text(capsys.readouterr().out)
+    assert main(["why", "year", "2023", "/standardDeduction", "--saved", "couple", "--depth", "0"]) == Status.DONE
+    assert capsys.readouterr().out.startswith("/standardDeduction complete 30700.00 (reads ")

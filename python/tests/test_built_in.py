@@ -1,0 +1,103 @@
+"""The dictionaries that come with the library, what a slot reads, and the memory of long texts."""
+
+from __future__ import annotations
+
+import copy
+import ctypes
+from pathlib import Path
+
+import pytest
+
+from fact_graph import DictionaryRefused, Refused, Session, UnknownDictionary, UnknownSlot
+from fact_graph._library import library
+from fact_graph.session import KEPT
+
+from .calls import replies
+from .places import EXAMPLES, SUM
+
+HOUSEHOLDS = {"year 2023": EXAMPLES / "years" / "2023.script", "income 2023": EXAMPLES / "income" / "2023.script"}
+FACTS = {"year 2023": 45, "year 2024": 45, "income 2023": 69}
+
+
+@pytest.mark.parametrize(("words", "script"), HOUSEHOLDS.items())
+def test_a_household_has_its_replies(words: str, script: Path) -> None:
+    lines, due = script.read_bytes(), script.with_suffix(".replies").read_text()
+    with Session.built_in(words) as session, Session.built_in(words) as by_calls, Session(session.source) as of_text:
+        for other in (session, of_text):
+            assert "".join(map(other.line, lines.split(b"\n"))) == due
+        assert replies(by_calls, lines) == due
+        assert session.save() == of_text.save() == by_calls.save()
+        again = copy.copy(session)
+        assert list(again) == list(session) and again.save() == session.save()
+        assert all(session.reads(slot) == of_text.reads(slot) for slot in session)
+
+
+@pytest.mark.parametrize("words", FACTS)
+def test_its_text_is_its_dictionary(words: str) -> None:
+    with Session.built_in(words) as session, Session(session.source) as of_text:
+        assert len(session.dictionary.facts) == FACTS[words]
+        assert (of_text.dictionary, of_text.source) == (session.dictionary, session.source)
+
+
+@pytest.mark.parametrize("words", ["", "year", "year 2022", "year 2023 ", "income 2024", "Year 2023"])
+def test_there_are_no_others(words: str) -> None:
+    with pytest.raises(UnknownDictionary):
+        Session.built_in(words)
+
+
+def test_a_text_is_kept_as_it_was_given() -> None:
+    with Session(SUM) as session:
+        assert session.source == SUM.encode()
+    with pytest.raises(DictionaryRefused):
+        Session("year 2023")
+
+
+# ---- what a slot reads
+
+
+def test_what_a_slot_reads() -> None:
+    with Session.open(EXAMPLES / "screener.json") as session:
+        assert session.reads("/bill") == []
+        assert session.reads("/size") == ["/people"]
+        session.add("/people")
+        assert session.reads("/adults") == ["/people", "/people/#1/adult"]
+        session.override("/size", 3)
+        assert session.reads("/size") == []
+
+
+@pytest.mark.parametrize("slot", ["", "a", "/a ", " /a", "/a\n", "/a\r", "/people/*/born", "x" * 1_000, "x" * 1_001, "x" * 5_000, "/\ud800"])
+def test_what_is_no_path_reads_nothing(slot: str) -> None:
+    with Session(SUM) as session:
+        with pytest.raises(Refused) as raised:
+            session.reads(slot)
+        assert str(raised.value) == "refused 1 BadLine"
+
+
+@pytest.mark.parametrize("slot", ["/nowhere", "/people/#1/born", "/people/#1/nothing"])
+def test_a_slot_that_does_not_stand_reads_nothing(slot: str) -> None:
+    with Session.open(EXAMPLES / "screener.json") as session:
+        with pytest.raises(UnknownSlot) as of_get:
+            session.get(slot)
+        with pytest.raises(UnknownSlot) as of_reads:
+            session.reads(slot)
+        assert str(of_reads.value) == str(of_get.value)
+
+
+# ---- memory
+
+
+def kept(session: Session) -> int:
+    """How many bytes of the last text the library keeps, as far as ten are asked for."""
+    room = ctypes.create_string_buffer(10)
+    return library().read(session._graph, 0, room, 10, session._back)  # pylint: disable=protected-access # which no public call shows
+
+
+def test_a_long_text_is_given_back() -> None:
+    text = '{"version":"1","facts":[{"path":"/p","writable":"Collection"},{"path":"/p/*/t","writable":"Text"}]}'
+    with Session(text) as session:
+        assert session.save() and kept(session) == 10
+        for _ in range(70):
+            session[f"/p/#{session.add('/p')}/t"] = "x" * 1_000
+        assert len(session.save()) > KEPT and kept(session) == 0
+        session.undo()
+        assert session.get("/p/#70/t").kind == "incomplete"
