@@ -13,8 +13,7 @@ from browsers import BROWSERS
 from databases import Postgres
 from fact_graph_service.settings import Settings
 from pages import EXAMPLES, Page
-from screens import SECONDS
-from servers import Worker, served
+from servers import SECONDS, Worker, served
 
 
 @pytest.fixture(scope="session")
