@@ -94,36 +94,37 @@ def main(argv: list[str]) -> int:  # pylint: disable=too-many-locals  # what the
     # pylint: disable=import-outside-toplevel # the package finds its library when it is imported
     from databases import Postgres
     from fact_graph_service.settings import Settings
-    from servers import Worker, free_port
+    from servers import Worker, held_ports
 
-    folder, database, port = Path(tempfile.mkdtemp(prefix="load_service.")), Postgres(), free_port()
-    address = f"http://127.0.0.1:{port}"
-    settings = Settings(TOP / "examples" / "screener.json", database.place, secrets.token_bytes(32), origins=(address,), rate=1_000_000)
-    workers = [Worker(settings, free_port()) for _ in range(2)]
-    for worker in workers:
-        worker.begin()
-    servers = " ".join(f"server 127.0.0.1:{worker.port};" for worker in workers)
-    (folder / "nginx.conf").write_text(NGINX.format(folder=folder, port=port, servers=servers), encoding="ascii")
-    with subprocess.Popen([tool("nginx", "nginx-light"), "-p", folder, "-c", folder / "nginx.conf"], stderr=subprocess.DEVNULL) as front:
-        time.sleep(2)
-        (folder / "visitors").write_text("".join(visitor(address) for _ in range(given.visitors)), encoding="ascii")
-        parts = {"nginx": tree(front.pid), "workers": [worker.pid for worker in workers], "PostgreSQL": database.pids()}
-        before = {name: sum(seconds_of(pid) for pid in pids) for name, pids in parts.items()}
-        pause = 1000 * THREADS // given.rate if given.rate else 0
-        script = ["-s", str(TOP / "bench" / "service.lua"), address, "--"]
-        own = [str(folder / "visitors"), str(pause), str(THREADS), json.dumps(questions()), address]
-        command = [tool("wrk"), f"-t{THREADS}", f"-c{THREADS}", f"-d{given.seconds}s", "--latency", *script, *own]
-        ran = subprocess.run(command, check=True, capture_output=True, text=True)
-        print(ran.stdout)
-        parts["PostgreSQL"] = database.pids()
-        changes = database.count("changes")
-        print(f"{changes} changes in the store, {changes / given.seconds:.0f} a second")
-        for name, pids in parts.items():
-            shown(name, before[name], pids, changes)
-        print("memory of the workers:", ", ".join(f"{worker.megabytes():.0f} MB" for worker in workers))
-        front.terminate()
-    for worker in workers:
-        worker.end()
+    folder, database = Path(tempfile.mkdtemp(prefix="load_service.")), Postgres()
+    with held_ports(3) as (port, *worker_ports):
+        address = f"http://127.0.0.1:{port}"
+        settings = Settings(TOP / "examples" / "screener.json", database.place, secrets.token_bytes(32), origins=(address,), rate=1_000_000)
+        workers = [Worker(settings, worker_port) for worker_port in worker_ports]
+        for worker in workers:
+            worker.begin()
+        servers = " ".join(f"server 127.0.0.1:{worker.port};" for worker in workers)
+        (folder / "nginx.conf").write_text(NGINX.format(folder=folder, port=port, servers=servers), encoding="ascii")
+        with subprocess.Popen([tool("nginx", "nginx-light"), "-p", folder, "-c", folder / "nginx.conf"], stderr=subprocess.DEVNULL) as front:
+            time.sleep(2)
+            (folder / "visitors").write_text("".join(visitor(address) for _ in range(given.visitors)), encoding="ascii")
+            parts = {"nginx": tree(front.pid), "workers": [worker.pid for worker in workers], "PostgreSQL": database.pids()}
+            before = {name: sum(seconds_of(pid) for pid in pids) for name, pids in parts.items()}
+            pause = 1000 * THREADS // given.rate if given.rate else 0
+            script = ["-s", str(TOP / "bench" / "service.lua"), address, "--"]
+            own = [str(folder / "visitors"), str(pause), str(THREADS), json.dumps(questions()), address]
+            command = [tool("wrk"), f"-t{THREADS}", f"-c{THREADS}", f"-d{given.seconds}s", "--latency", *script, *own]
+            ran = subprocess.run(command, check=True, capture_output=True, text=True)
+            print(ran.stdout)
+            parts["PostgreSQL"] = database.pids()
+            changes = database.count("changes")
+            print(f"{changes} changes in the store, {changes / given.seconds:.0f} a second")
+            for name, pids in parts.items():
+                shown(name, before[name], pids, changes)
+            print("memory of the workers:", ", ".join(f"{worker.megabytes():.0f} MB" for worker in workers))
+            front.terminate()
+        for worker in workers:
+            worker.end()
     database.close()
     shutil.rmtree(folder)
     return 0

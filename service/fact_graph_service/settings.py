@@ -36,7 +36,7 @@ class Settings:
     """The addresses of the page as browsers have them, without a path, as `https://help.example.gov`."""
 
     minutes: int = 60
-    """How long answers are kept after the last request."""
+    """How long answers are kept after the last change, or after the visitor asked to keep them."""
 
     sessions: int = 100_000
     """How many visitors' answers the store takes."""

@@ -20,8 +20,10 @@ import psycopg
 
 LOG = logging.getLogger(__name__)
 
+SECONDS_TO_CONNECT = 5
 SECONDS_FOR_LOCK = 5
 SECONDS_FOR_CALL = 10
+LOCK_OF_TABLES, LOCK_OF_ERASING = 20770117, 20770118
 
 SCHEMA = """
 CREATE TABLE IF NOT EXISTS dictionaries (digest TEXT PRIMARY KEY, text {bytes} NOT NULL);
@@ -73,11 +75,15 @@ class Kind:
     connect: Callable[[], Any]
     bytes: str
     mark: str
+    tables: str
+    """Has a row where the tables are there."""
     begin: str
+    """Begins a transaction that has the lock of a number until its end. It reads what stands once it has the lock."""
     begin_to_read: str
     locked: str
-    lock_all: str
     failures: tuple[type[Exception], ...]
+    is_torn: Callable[[Any], bool]
+    """Whether the database has ended a connection."""
 
 
 def kind_of(place: str) -> Kind:
@@ -88,22 +94,24 @@ def kind_of(place: str) -> Kind:
             connect=lambda: _sqlite(path),
             bytes="BLOB",
             mark="?",
+            tables="SELECT 1 FROM sqlite_master WHERE name = 'dictionaries'",
             begin="BEGIN IMMEDIATE",  # the whole file's lock
             begin_to_read="BEGIN",
             locked="",
-            lock_all="SELECT 1",
             failures=(sqlite3.Error,),
+            is_torn=lambda _: False,
         )
     if place.startswith(("postgresql://", "postgres://")):
         return Kind(
             connect=lambda: _postgres(place),
             bytes="BYTEA",
             mark="%s",
-            begin="BEGIN",
+            tables="SELECT 1 WHERE to_regclass('dictionaries') IS NOT NULL",
+            begin="BEGIN ISOLATION LEVEL READ COMMITTED; SELECT pg_advisory_xact_lock({lock})",
             begin_to_read="BEGIN ISOLATION LEVEL REPEATABLE READ READ ONLY",
             locked="FOR UPDATE",
-            lock_all="SELECT pg_advisory_xact_lock(20770117)",  # a number of this application's own
             failures=(psycopg.Error,),
+            is_torn=lambda connection: bool(connection.closed),
         )
     raise ValueError(f"a store is sqlite:PATH or postgresql://.., and not {place}")
 
@@ -123,18 +131,18 @@ def _postgres(place: str) -> psycopg.Connection[Any]:
         place,
         autocommit=True,
         options=f"{options} -c synchronous_commit=on",
-        connect_timeout=SECONDS_FOR_LOCK,
+        connect_timeout=SECONDS_TO_CONNECT,
         keepalives_idle=SECONDS_FOR_CALL,
         tcp_user_timeout=SECONDS_FOR_CALL * 1000,
     )
 
 
 class Hold:
-    """A transaction over one session. Where it is held to change, nobody else changes the session meanwhile."""
+    """A transaction over one session. Where it is held to change, nobody else begins or changes the session meanwhile."""
 
     def __init__(self, kind: Kind, connection: Any, name: bytes, is_to_change: bool) -> None:
         self._kind, self._connection, self._name = kind, connection, name
-        self._locked = kind.locked if is_to_change else ""
+        self._locked = kind.locked if is_to_change else ""  # a row that is read to be changed isn't erased before that as one whose time is over
 
     def head(self) -> Head | None:
         """The session's row, or None where there is none or its time is over."""
@@ -159,7 +167,7 @@ class Hold:
         return bytes(row[0])
 
     def begin(self, head: Head, most: int) -> None:
-        """Begins the session. Raises `StoreFull` where the store has as many as it may."""
+        """Begins the session, which isn't there or whose time is over. Raises `StoreFull` where the store has as many as it may."""
         self._run("DELETE FROM sessions WHERE name = ?", self._name)
         row = self._row("SELECT count(*) FROM sessions")
         if row is None or row[0] >= most:
@@ -201,9 +209,11 @@ class Store:
         self._idle: queue.LifoQueue[Any] = queue.LifoQueue()
 
     def prepare(self, digest: str, dictionary: bytes) -> None:
-        """Makes the tables where they aren't there, and keeps the dictionary. Raises `StoreFailed`."""
-        with self._transaction(self._kind.begin) as connection:
-            connection.execute(self._kind.lock_all)
+        """Makes the tables where they aren't there, and keeps the dictionary. Where all is there it waits for nobody. Raises
+        `StoreFailed`."""
+        if self._has(digest):
+            return
+        with self._transaction(self._kind.begin.format(lock=LOCK_OF_TABLES)) as connection:
             for statement in SCHEMA.replace("{bytes}", self._kind.bytes).split(";"):
                 connection.execute(statement)
             insert = "INSERT INTO dictionaries (digest, text) VALUES (?, ?) ON CONFLICT DO NOTHING"
@@ -212,7 +222,7 @@ class Store:
     @contextmanager
     def held(self, name: bytes) -> Iterator[Hold]:
         """The session, to change it: what the block did is written at its end, or else nothing of it."""
-        with self._transaction(self._kind.begin) as connection:
+        with self._transaction(self._kind.begin.format(lock=_lock_of(name))) as connection:
             yield Hold(self._kind, connection, name, True)
 
     @contextmanager
@@ -223,7 +233,7 @@ class Store:
 
     def expire(self) -> int:
         """Erases the sessions whose time is over, and says how many."""
-        with self._transaction(self._kind.begin) as connection:
+        with self._transaction(self._kind.begin.format(lock=LOCK_OF_ERASING)) as connection:
             erased: int = connection.execute("DELETE FROM sessions WHERE expires <= " + self._kind.mark, (int(time.time()),)).rowcount
             return erased
 
@@ -238,6 +248,14 @@ class Store:
             while True:
                 self._idle.get_nowait().close()
 
+    def _has(self, digest: str) -> bool:
+        """Whether a dictionary is kept."""
+        with self._transaction(self._kind.begin_to_read) as connection:
+            if connection.execute(self._kind.tables).fetchone() is None:
+                return False
+            select = "SELECT 1 FROM dictionaries WHERE digest = ?"
+            return connection.execute(select.replace("?", self._kind.mark), (digest,)).fetchone() is not None
+
     @contextmanager
     def _transaction(self, begin: str) -> Iterator[Any]:
         """A transaction on a connection of its own. One that fails is closed, so that nothing of it stays."""
@@ -251,24 +269,27 @@ class Store:
             LOG.warning("the store failed: %s", type(wrong).__name__)
             raise StoreFailed from wrong  # pylint: disable=bad-exception-cause # it is the database's
         except BaseException:
-            self._roll_back(connection)
+            if connection is not None:
+                self._roll_back(connection)
             raise
         self._idle.put(connection)
 
     def _connection(self, begin: str) -> Any:
-        """A connection in a new transaction: an idle one, or a new one where the idle ones were torn meanwhile."""
+        """A connection in a new transaction: an idle one, or a new one where there is none or the idle ones were torn meanwhile."""
         while True:
             try:
-                connection = self._idle.get_nowait()
+                connection, is_new = self._idle.get_nowait(), False
             except queue.Empty:
-                connection = self._kind.connect()
-                connection.execute(begin)
-                return connection
+                connection, is_new = self._kind.connect(), True
             try:
                 connection.execute(begin)
                 return connection
             except self._kind.failures:  # pylint: disable=catching-non-exception # those of the database
+                is_torn = self._kind.is_torn(connection)
                 self._drop(connection)
+                if is_new or not is_torn:
+                    raise
+                self.close()  # the other idle ones were torn with it
 
     def _roll_back(self, connection: Any) -> None:
         """Undoes what a transaction did, where the store had no part in its failure."""
@@ -283,3 +304,8 @@ class Store:
         if connection is not None:
             with suppress(*self._kind.failures):
                 connection.close()
+
+
+def _lock_of(name: bytes) -> int:
+    """The number of a session's lock. Where two sessions have the same one, the calls of one wait for those of the other."""
+    return int.from_bytes(name[:8], "big") >> 1  # PostgreSQL's numbers have a sign

@@ -16,7 +16,7 @@ from collections.abc import Sequence
 from dataclasses import dataclass
 from typing import NamedTuple
 
-from fact_graph import Session
+from fact_graph import SavedRefused, Session
 
 from . import history
 from .history import Snapshot
@@ -33,7 +33,7 @@ class Ended(Exception):
 
 
 class Damaged(Exception):
-    """A line that was accepted has another reply now, as over another library."""
+    """A line that was accepted has another reply now, or a snapshot isn't taken any more, as by another library: which one it is."""
 
 
 class Asked(NamedTuple):
@@ -90,6 +90,13 @@ class Call:
     def snapshot(self, head: Head) -> Snapshot:
         """The snapshot of the session's row."""
         return Snapshot.of_bytes(self.seal.open(head.snapshot, f"snapshot {head.visit} {head.base}"))
+
+    def begun(self, head: Head, dictionary: bytes) -> Session:
+        """The session as it stood at the snapshot."""
+        try:
+            return self.snapshot(head).session(dictionary)
+        except SavedRefused as refused:
+            raise Damaged(f"snapshot {head.visit} {head.base}") from refused
 
     def sealed(self, visit: str, base: int, snapshot: Snapshot) -> bytes:
         """A snapshot for the row."""
@@ -236,13 +243,13 @@ class Visitors:
         """The session as the store has it, out of memory as far as it goes. It is put back by `_keep`, where all went well."""
         kept = self._take(name)
         if kept is None or not kept.is_behind(head):
-            session = call.snapshot(head).session(self._dictionary_of(call, head))
+            session = call.begun(head, self._dictionary_of(call, head))
             kept = Kept(session, head.visit, head.digest, head.base, head.base)
         if kept.revision < head.revision:
             for change in call.hold.changes(kept.revision):
                 line, reply, _ = call.read(head.visit, change)
                 if kept.session.line(line).removesuffix("\n") != reply:
-                    raise Damaged(f"revision {change.revision}")
+                    raise Damaged(f"change {head.visit} {change.revision} {change.id}")
             kept.revision = head.revision
         return kept
 

@@ -6,6 +6,7 @@ Debian has no driver for Firefox. Firefox itself speaks Marionette, whose comman
 from __future__ import annotations
 
 import json
+import re
 import shutil
 import socket
 import subprocess
@@ -13,13 +14,15 @@ import tempfile
 import time
 from collections.abc import Iterator
 from contextlib import contextmanager
+from pathlib import Path
 from typing import Any
 
 from selenium import webdriver
 from selenium.webdriver.chrome.service import Service
 from selenium.webdriver.remote.command import Command
 
-SECONDS_TO_BEGIN = 600
+from servers import SECONDS
+
 LANGUAGE = "en-US"
 
 COMMANDS = {
@@ -60,7 +63,7 @@ class Marionette:
     browser_name = "firefox"
 
     def __init__(self, port: int) -> None:
-        self._socket, self._rest, self._number = _connected(port), b"", 0
+        self._socket, self._rest, self._number = socket.create_connection(("127.0.0.1", port), SECONDS), b"", 0
         self._message()  # what it says of itself
 
     def execute(self, command: str, given: dict[str, Any]) -> dict[str, Any]:
@@ -98,34 +101,29 @@ class Marionette:
         return piece
 
 
-def _connected(port: int) -> socket.socket:
-    until = time.monotonic() + SECONDS_TO_BEGIN
-    while True:
-        try:
-            connection = socket.create_connection(("127.0.0.1", port), timeout=SECONDS_TO_BEGIN)
-            return connection
-        except OSError:
-            if time.monotonic() > until:
-                raise
-            time.sleep(0.2)
+def _port_of(browser: subprocess.Popen[bytes], file: Path) -> int:
+    """The port that Firefox has chosen, once it writes it into a file of its profile."""
+    until = time.monotonic() + SECONDS
+    while not (file.is_file() and file.read_text(encoding="ascii")):
+        if browser.poll() is not None or time.monotonic() > until:
+            raise RuntimeError("Firefox didn't begin")
+        time.sleep(0.2)
+    return int(file.read_text(encoding="ascii"))
 
 
 @contextmanager
 def firefox() -> Iterator[Any]:
     """A Firefox of its own, with a new profile."""
     folder = tempfile.mkdtemp(prefix="firefox.")
-    with socket.socket() as one:
-        one.bind(("127.0.0.1", 0))
-        port = one.getsockname()[1]
     with open(f"{folder}/user.js", "w", encoding="ascii") as file:
-        said = {"marionette.port": port, "intl.accept_languages": LANGUAGE, "app.update.auto": False, "datareporting.policy.dataSubmissionEnabled": False}
+        said = {"marionette.port": 0, "intl.accept_languages": LANGUAGE, "app.update.auto": False, "datareporting.policy.dataSubmissionEnabled": False}
         file.writelines(f"user_pref({json.dumps(name)}, {json.dumps(value)});\n" for name, value in said.items())
     browser = subprocess.Popen(
         ["firefox-esr", "--headless", "--marionette", "--no-remote", "--profile", folder],
         stdout=subprocess.DEVNULL, stderr=subprocess.DEVNULL, env={"HOME": folder, "PATH": "/usr/bin:/bin", "MOZ_HEADLESS": "1"},
     )
     try:
-        protocol = Marionette(port)
+        protocol = Marionette(_port_of(browser, Path(folder) / "MarionetteActivePort"))
         options = webdriver.FirefoxOptions()
         driver = webdriver.Remote(command_executor=protocol, options=options)
         yield driver
@@ -136,6 +134,23 @@ def firefox() -> Iterator[Any]:
         shutil.rmtree(folder, ignore_errors=True)
 
 
+class Driver(Service):
+    """Chromium's driver, at a port that it chooses itself."""
+
+    def start(self) -> None:
+        """Starts the driver, and waits until it says its port."""
+        # pylint: disable-next=consider-using-with # it is ended by `stop`
+        self.process = subprocess.Popen([self.path, "--port=0"], stdout=subprocess.PIPE, text=True)
+        said = ""
+        for line in self.process.stdout or ():
+            said += line
+            found = re.search(r"successfully on port (\d+)", line)
+            if found:
+                self.port = int(found[1])
+                return
+        raise RuntimeError(f"Chromium's driver didn't begin\n{said}")
+
+
 @contextmanager
 def chromium() -> Iterator[Any]:
     """A Chromium of its own, with a new profile."""
@@ -143,7 +158,7 @@ def chromium() -> Iterator[Any]:
     options.binary_location = "/usr/bin/chromium"
     for flag in ("headless=new", "no-sandbox", "disable-gpu", "disable-dev-shm-usage", "no-first-run", "disable-background-networking", f"lang={LANGUAGE}"):
         options.add_argument(f"--{flag}")
-    driver = webdriver.Chrome(service=Service("/usr/bin/chromedriver"), options=options)
+    driver = webdriver.Chrome(service=Driver("/usr/bin/chromedriver"), options=options)
     try:
         yield driver
     finally:

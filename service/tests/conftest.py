@@ -11,10 +11,18 @@ import pytest
 
 from browsers import BROWSERS
 from databases import Postgres
+from fact_graph_service import app, store
 from fact_graph_service.settings import Settings
 from pages import EXAMPLES, Page
-from screens import SECONDS
-from servers import Worker, served
+from servers import SECONDS, Worker, served
+
+
+@pytest.fixture(autouse=True)
+def patience(monkeypatch: pytest.MonkeyPatch) -> None:
+    """Here a call may take as long as it does on a slow machine."""
+    for name in ("SECONDS_TO_CONNECT", "SECONDS_FOR_LOCK", "SECONDS_FOR_CALL"):
+        monkeypatch.setattr(store, name, SECONDS)
+    monkeypatch.setattr(app, "SECONDS_FOR_BODY", SECONDS)
 
 
 @pytest.fixture(scope="session")

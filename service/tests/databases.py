@@ -13,9 +13,14 @@ from pathlib import Path
 
 import psycopg
 
+from servers import SECONDS
+
 BIN = max(Path("/usr/lib/postgresql").glob("*/bin"), default=Path("/usr/bin"))
 USER = "postgres"
-SECONDS_TO_BEGIN = 120
+
+
+class Failed(Exception):
+    """A program of PostgreSQL failed: what it said."""
 
 
 class Postgres:
@@ -39,20 +44,18 @@ class Postgres:
     def start(self) -> None:
         """Starts the server, and waits until it answers. After a crash its other processes have to end first."""
         options = f"-c listen_addresses='' -c unix_socket_directories={self.folder} -c max_connections=120"
-        until = time.monotonic() + SECONDS_TO_BEGIN
+        until = time.monotonic() + SECONDS
         while True:
             try:
-                return self._run("pg_ctl", "-D", self.folder / "data", "-l", self.folder / "log", "-w", "-o", options, "start")
-            except subprocess.CalledProcessError:
-                if self.answers():
-                    return None
+                return self._control("start", "-l", self.folder / "log", "-o", options)
+            except Failed:
                 if time.monotonic() > until:
                     raise
                 time.sleep(1)
 
     def stop(self) -> None:
         """Stops the server at once, and with it what is under way."""
-        self._run("pg_ctl", "-D", self.folder / "data", "-w", "-m", "fast", "stop")
+        self._control("stop", "-m", "fast")
 
     def kill(self) -> None:
         """Kills the server, as a crash does."""
@@ -61,8 +64,12 @@ class Postgres:
             time.sleep(0.1)
 
     def close(self) -> None:
-        """Ends the server, and removes its folder."""
-        self.stop()
+        """Ends the server, where it is still there, and removes its folder."""
+        try:
+            self._control("stop", "-m", "immediate")
+        except Failed:
+            if self.answers():
+                raise
         shutil.rmtree(self.folder)
 
     def pids(self) -> list[int]:
@@ -84,13 +91,20 @@ class Postgres:
     def answers(self) -> bool:
         """Whether the server takes connections."""
         try:
-            psycopg.connect(self.place, connect_timeout=1).close()
+            psycopg.connect(self.place, connect_timeout=10).close()
         except psycopg.Error:
             return False
         return True
 
+    def _control(self, what: str, *words: object) -> None:
+        self._run("pg_ctl", what, "-D", self.folder / "data", "-w", "-t", SECONDS, *words)
+
     def _run(self, name: str, *words: object) -> None:
+        """Runs a program of PostgreSQL. What it says is only of use where it fails: that the file of a killed server's number is
+        still there is no fault."""
         command = [str(BIN / name), *map(str, words)]
         if os.geteuid() == 0:
             command = ["setpriv", f"--reuid={self._user}", f"--regid={self._user}", "--clear-groups", *command]
-        subprocess.run(command, check=True, stdout=subprocess.DEVNULL, cwd=self.folder)
+        ran = subprocess.run(command, cwd=self.folder, stdout=subprocess.PIPE, stderr=subprocess.STDOUT, text=True, check=False)
+        if ran.returncode:
+            raise Failed(f"{name}: status {ran.returncode}\n{ran.stdout}")

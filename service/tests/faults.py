@@ -25,6 +25,7 @@ import argparse
 import asyncio
 import contextlib
 import json
+import os
 import random
 import re
 import secrets
@@ -44,19 +45,26 @@ from typing import Any
 sys.path[:0] = [str(Path(__file__).resolve().parents[2] / folder) for folder in ("python", "service")]
 
 # pylint: disable=wrong-import-position # found by the path above
-from databases import Postgres
+from databases import Failed, Postgres
 from fact_graph import Session
 from fact_graph_service.sealing import Vault
 from fact_graph_service.settings import Settings
-from fact_graph_service.store import Store
+from fact_graph_service.store import Store, StoreFailed
 from pages import EXAMPLES
-from servers import Worker, served
+from servers import SECONDS, Worker, served
 
 DICTIONARY = EXAMPLES / "screener.json"
 QUESTIONS = ["get /outcome", "final /outcome", "get /help", "missing /help", "get /means", "get /people"]
+MINUTES = 24 * 60
 SECONDS_FOR_ANSWER = 30
-SECONDS_FOR_CHANGE = 300
+AGAIN = (408, 429, 503)
+"""The statuses at which a page makes its request again."""
 DISK_BYTES = 250_000_000
+LOG_BYTES = 4_000
+
+
+class Unserved(Exception):
+    """A request that wasn't answered as a page's has to be."""
 
 
 @dataclass
@@ -72,7 +80,8 @@ class Answer:
 
 
 async def ask(port: int, method: str, path: str, headers: dict[str, str], body: bytes = b"", is_torn: bool = False) -> Answer:
-    """Makes a request. Where it is to be torn, the connection is closed once the request is sent."""
+    """Makes a request. Where it is to be torn, the connection is closed once the request is sent. Raises OSError where no whole
+    answer comes."""
     reader, writer = await asyncio.open_connection("127.0.0.1", port)
     try:
         head = {"Host": f"127.0.0.1:{port}", "Connection": "close", "Content-Length": str(len(body)), **headers}
@@ -84,8 +93,9 @@ async def ask(port: int, method: str, path: str, headers: dict[str, str], body: 
     finally:
         writer.close()
     top, _, content = said.partition(b"\r\n\r\n")
-    if not top:
-        raise ConnectionResetError("no answer")
+    size = re.search(rb"\r\ncontent-length: (\d+)", top, re.IGNORECASE)
+    if size is None or len(content) != int(size[1]):
+        raise ConnectionResetError("no whole answer")
     return Answer(int(top.split(b" ", 2)[1]), top.decode(), content)
 
 
@@ -107,42 +117,42 @@ class Visitor:
 
     async def begin(self) -> None:
         """Opens the page."""
-        answer = await ask(self.port(), "GET", "/", {})
+        answer = await self.ask("GET", "/")
         self.cookie = re.search(r"set-cookie: ([^;]*)", answer.headers, re.IGNORECASE)[1]  # type: ignore[index] # each page has it
         self.token = re.search(rb'content="([0-9a-f]{64})"', answer.body)[1].decode()  # type: ignore[index] # each page has it
 
-    def port(self) -> int:
-        return self.random.choice(self.ports)
+    async def post(self, call: str, said: dict[str, Any], tear: float = 0.0) -> Answer:
+        """Makes a call of the page."""
+        own = {"Origin": f"http://127.0.0.1:{self.ports[0]}", "Cookie": self.cookie, "X-Token": self.token, "Content-Type": "application/json"}
+        return await self.ask("POST", f"/{call}", own, json.dumps(said).encode(), tear)
 
-    async def post(self, call: str, said: dict[str, Any], is_torn: bool = False) -> Answer:
-        port = self.port()
-        headers = {"Origin": f"http://127.0.0.1:{port}", "Cookie": self.cookie, "X-Token": self.token, "Content-Type": "application/json"}
-        return await ask(port, "POST", f"/{call}", headers, json.dumps(said).encode(), is_torn)
-
-    async def change(self, window: Window, line: str, tear: float) -> None:
-        """Makes a change as the page does, until it is answered."""
-        change, until = uuid.uuid4().hex, time.monotonic() + SECONDS_FOR_CHANGE
+    async def ask(self, method: str, path: str, headers: dict[str, str] | None = None, body: bytes = b"", tear: float = 0.0) -> Answer:
+        """Makes a request at any of the workers, and makes it again as the page does until it is answered. Raises `Unserved`."""
+        until = time.monotonic() + SECONDS
         while True:
             is_torn = self.random.random() < tear
-            said = {"visit": window.visit, "revision": window.revision, "change": change, "line": line, "questions": QUESTIONS}
             try:
-                answer = await self.post("answer", said, is_torn)
+                answer = await ask(self.random.choice(self.ports), method, path, headers or {}, body, is_torn)
                 if answer.status == 200:
-                    told = answer.json()
-                    window.visit, window.revision, self.visit = told["visit"], told["revision"], told["visit"]
-                    if told["stale"]:
-                        continue
-                    if not told["reply"].startswith("refused "):
-                        self.acknowledged[change] = (line, told["reply"])
-                    return
-                if answer.status not in (429, 503):
-                    raise AssertionError(f"{line}: {answer.status} {answer.body!r}")
-            except (OSError, asyncio.TimeoutError, ConnectionError):
-                self.repeated += 1
-            if time.monotonic() > until:
-                raise AssertionError(f"{line}: never answered")
+                    return answer
+                came, is_to_be_asked_again = f"{answer.status} {answer.body!r}", answer.status in AGAIN
+            except OSError as wrong:
+                came, is_to_be_asked_again = repr(wrong), True
+            if not is_to_be_asked_again or time.monotonic() > until:
+                raise Unserved(f"{method} {path} {body!r}: {came}")
+            self.repeated += 1
             if not is_torn:
                 await asyncio.sleep(0.1)
+
+    async def change(self, window: Window, line: str, tear: float) -> None:
+        """Makes a change as the page does, and again where another window has gone on."""
+        change, is_stale, told = uuid.uuid4().hex, True, {}
+        while is_stale:
+            said = {"visit": window.visit, "revision": window.revision, "change": change, "line": line, "questions": QUESTIONS}
+            told = (await self.post("answer", said, tear)).json()
+            window.visit, window.revision, self.visit, is_stale = told["visit"], told["revision"], told["visit"], told["stale"]
+        if not told["reply"].startswith("refused "):
+            self.acknowledged[change] = (line, told["reply"])
 
     def line(self) -> str:
         """A change of some kind, which may be refused."""
@@ -190,7 +200,7 @@ class SqlitePlace:
     @contextmanager
     def out(self) -> Iterator[None]:
         """The file is locked by somebody else."""
-        connection = sqlite3.connect(f"{self.folder}/store.sqlite", timeout=30, isolation_level=None)
+        connection = sqlite3.connect(f"{self.folder}/store.sqlite", timeout=SECONDS, isolation_level=None, check_same_thread=False)
         connection.execute("BEGIN IMMEDIATE")
         try:
             yield
@@ -221,7 +231,7 @@ class PostgresPlace:
     def revive(self) -> None:
         """Starts the server again where want of a disk has ended it."""
         if not self._database.answers():
-            with contextlib.suppress(subprocess.CalledProcessError):
+            with contextlib.suppress(Failed):
                 self._database.stop()
             self._database.start()
 
@@ -262,8 +272,10 @@ async def kill(_: Any, workers: list[Worker], pick: random.Random) -> None:
 async def database(place: Any, _: list[Worker], pick: random.Random) -> None:
     out = place.out()
     await asyncio.to_thread(out.__enter__)
-    await asyncio.sleep(pick.uniform(0.5, 8))
-    await asyncio.to_thread(out.__exit__, None, None, None)
+    try:
+        await asyncio.sleep(pick.uniform(0.5, 8))
+    finally:
+        await asyncio.to_thread(out.__exit__, None, None, None)
 
 
 async def full(place: Any, _: list[Worker], pick: random.Random) -> None:
@@ -271,10 +283,12 @@ async def full(place: Any, _: list[Worker], pick: random.Random) -> None:
     with filler.open("wb", buffering=0) as file, contextlib.suppress(OSError):
         while True:
             file.write(b"x" * 4096)
-    await asyncio.sleep(pick.uniform(1, 4))
-    filler.unlink()
-    if hasattr(place, "revive"):
-        await asyncio.to_thread(place.revive)
+    try:
+        await asyncio.sleep(pick.uniform(1, 4))
+    finally:
+        filler.unlink()
+        if hasattr(place, "revive"):
+            await asyncio.to_thread(place.revive)
 
 
 async def slow(_: Any, workers: list[Worker], pick: random.Random) -> None:
@@ -323,34 +337,51 @@ KINDS = {
 
 
 async def change_all(kind: Kind, place: Any, workers: list[Worker], visitors: list[Visitor], changes: int, pick: random.Random) -> None:
-    """All visitors make their changes, and the fault is made until they are done. The last one is ended too."""
+    """All visitors make their changes, and the fault is made until they are done. The last one is ended too. Between two of them a
+    change is answered, so that all are at last, however slow the machine is."""
 
     async def work(visitor: Visitor, window: Window) -> None:
         for _ in range(changes // kind.windows):
             await visitor.change(window, visitor.line(), kind.tear)
+            is_answered.set()
 
     async def disturb() -> None:
         while not is_over.is_set():
             await asyncio.sleep(pick.uniform(0.2, 1.5))
             await kind.fault(place, workers, pick)
+            if not is_over.is_set():
+                is_answered.clear()
+                await is_answered.wait()
 
     async def work_all() -> None:
         try:
             await asyncio.gather(*(work(visitor, Window()) for visitor in visitors for _ in range(kind.windows)))
         finally:
             is_over.set()
+            is_answered.set()
 
-    is_over = asyncio.Event()
+    is_over, is_answered = asyncio.Event(), asyncio.Event()
     for visitor in visitors:
         await visitor.begin()
     await asyncio.gather(work_all(), disturb())
 
 
-async def judge(settings: Settings, visitor: Visitor, tally: Tally) -> None:
+def answering(place: str) -> Store:
+    """The store, once it answers."""
+    store, until = Store(place), time.monotonic() + SECONDS
+    while True:
+        try:
+            store.check()
+            return store
+        except StoreFailed:
+            if time.monotonic() > until:
+                raise
+
+
+async def judge(store: Store, vault: Vault, visitor: Visitor, tally: Tally) -> None:
     """Compares what a visitor was told with the store, and the service with the engine."""
-    vault = Vault(settings.key)
     seal = vault.seal(visitor.secret)
-    with Store(settings.store).seen(vault.name(visitor.secret)) as hold:
+    with store.seen(vault.name(visitor.secret)) as hold:
         head = hold.head()
         kept = hold.changes(0) if head else []
     tally.acknowledged += len(visitor.acknowledged)
@@ -373,26 +404,30 @@ async def judge(settings: Settings, visitor: Visitor, tally: Tally) -> None:
 
 
 async def judge_all(settings: Settings, visitors: list[Visitor], tally: Tally) -> None:
+    store = answering(settings.store)
     for visitor in visitors:
-        await judge(settings, visitor, tally)
+        await judge(store, Vault(settings.key), visitor, tally)
+    store.close()
 
 
 def run(name: str, store: str, visitors: int, changes: int, seed: int, tally: Tally) -> None:
-    """A run of a kind over a store."""
+    """A run of a kind over a store. Where a visitor isn't served it is told, with the end of what the workers said."""
     kind, pick = KINDS[name], random.Random(seed)
-    with disk(name == "disk") as folder:
+    with disk(name == "disk") as folder, tempfile.TemporaryFile() as log:
         place = STORES[store](folder)
         try:
-            settings = Settings(DICTIONARY, place.place, secrets.token_bytes(32), rate=1_000_000, cache=visitors // 2)
-            with served(settings, 2) as workers:
+            settings = Settings(DICTIONARY, place.place, secrets.token_bytes(32), minutes=MINUTES, rate=1_000_000, cache=visitors // 2)
+            with served(settings, 2, log) as workers:
                 everybody = [Visitor([worker.port for worker in workers], random.Random(pick.random())) for _ in range(visitors)]
                 asyncio.run(change_all(kind, place, workers, everybody, max(kind.windows, changes // visitors), pick))
                 asyncio.run(judge_all(settings, everybody, tally))
+        except Unserved as wrong:
+            tally.wrong += 1
+            log.seek(max(0, log.seek(0, os.SEEK_END) - LOG_BYTES))
+            print(f"failed: {name} {store}, seed {seed}: {wrong}\n{log.read().decode(errors='replace')}", flush=True)
         finally:
             place.close()
     tally.runs += 1
-
-
 
 
 def main(words: list[str]) -> int:

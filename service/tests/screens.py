@@ -10,9 +10,8 @@ from selenium.webdriver.common.by import By
 from selenium.webdriver.common.keys import Keys
 from selenium.webdriver.support.wait import WebDriverWait
 
-from servers import Worker
+from servers import SECONDS, Worker
 
-SECONDS = 300
 WIDE = 1280
 PICTURES = os.environ.get("FACT_GRAPH_PICTURES")
 """A folder for pictures of the page, where they are wanted."""

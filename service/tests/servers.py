@@ -12,22 +12,28 @@ import time
 import urllib.error
 import urllib.request
 from collections.abc import Iterator
-from contextlib import contextmanager
+from contextlib import ExitStack, contextmanager
 from pathlib import Path
 from typing import IO
 
 from fact_graph_service.settings import Settings
 
 TOP = Path(__file__).resolve().parents[2]
-SECONDS_TO_BEGIN = 120
+SECONDS = 600
+"""After so long without what it waits for, a test has failed. It is far more than a slow machine takes."""
 
 
-def free_port() -> int:
-    """A port that nobody listens on."""
-    with socket.socket() as one:
-        one.bind(("127.0.0.1", 0))
-        port: int = one.getsockname()[1]
-        return port
+@contextmanager
+def held_ports(count: int) -> Iterator[list[int]]:
+    """Ports that nobody else gets meanwhile: each is held by a socket that doesn't listen, beside which a server may."""
+    with ExitStack() as held:
+        ports = []
+        for _ in range(count):
+            holder = held.enter_context(socket.socket())
+            holder.setsockopt(socket.SOL_SOCKET, socket.SO_REUSEADDR, 1)
+            holder.bind(("127.0.0.1", 0))
+            ports.append(holder.getsockname()[1])
+        yield ports
 
 
 class Worker:
@@ -44,7 +50,7 @@ class Worker:
         words = [sys.executable, "-m", "uvicorn", "--factory", "fact_graph_service.app:application", "--no-access-log", "--port", str(self.port)]
         # pylint: disable-next=consider-using-with # it is ended by `end`
         self._process = subprocess.Popen(words, env=environment, stdout=self._log, stderr=self._log)
-        until = time.monotonic() + SECONDS_TO_BEGIN
+        until = time.monotonic() + SECONDS
         while not self.is_well():
             if self._process.poll() is not None or time.monotonic() > until:
                 raise RuntimeError(f"no worker began at port {self.port}")
@@ -82,19 +88,21 @@ class Worker:
     def wait(self) -> int:
         """Waits until the process has ended, and returns its exit status."""
         assert self._process is not None
-        return self._process.wait(60)
+        return self._process.wait(SECONDS)
+
+    def close(self) -> None:
+        """Kills the process, where it was ever started and is still there."""
+        if self._process is not None:
+            self.end(signal.SIGKILL)
 
 
 @contextmanager
-def served(settings: Settings, count: int = 1) -> Iterator[list[Worker]]:
+def served(settings: Settings, count: int = 1, log: IO[bytes] | int = subprocess.DEVNULL) -> Iterator[list[Worker]]:
     """Workers that serve at ports of their own, each of which is a page's address. `settings.origins` is theirs."""
-    ports = [free_port() for _ in range(count)]
-    origins = tuple(f"http://127.0.0.1:{port}" for port in ports)
-    workers = [Worker(dataclasses.replace(settings, origins=origins), port) for port in ports]
-    for worker in workers:
-        worker.begin()
-    try:
-        yield workers
-    finally:
+    with held_ports(count) as ports, ExitStack() as begun:
+        origins = tuple(f"http://127.0.0.1:{port}" for port in ports)
+        workers = [Worker(dataclasses.replace(settings, origins=origins), port, log) for port in ports]
         for worker in workers:
-            worker.end(signal.SIGKILL)
+            begun.callback(worker.close)
+            worker.begin()
+        yield workers

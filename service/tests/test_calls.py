@@ -2,14 +2,17 @@
 
 from __future__ import annotations
 
+import threading
 import uuid
 from pathlib import Path
+from typing import Any
 
 import pytest
 
 from fact_graph import Session
 from fact_graph_service import history
 from fact_graph_service.settings import Settings
+from fact_graph_service.store import Head, Hold
 
 from pages import EXAMPLES, Page
 
@@ -66,6 +69,29 @@ def test_an_old_window_does_no_harm_and_is_told(page: Page) -> None:
     told = other.change("undo", "get /bill")
     assert (told["stale"], told["reply"], told["replies"], told["revision"]) == (True, None, ["complete 6.00"], 2)
     assert other.change("undo", "get /bill")["replies"] == ["complete 5.00"]
+
+
+def test_of_two_windows_that_begin_at_once_one_is_told(settings: Settings, monkeypatch: pytest.MonkeyPatch) -> None:
+    with Page.open(settings) as page, Page.open(settings) as other:
+        other.client.cookies = page.client.cookies
+        other.load()
+        told: list[dict[str, Any]] = []
+        changing = threading.Thread(target=lambda: told.append(other.change("set /bill 6", "get /bill")))
+        begin = Hold.begin
+
+        def begin_beside(hold: Hold, head: Head, most: int) -> None:
+            """Begins a session while the other window, at another worker, makes its change too: that is answered only after this."""
+            if changing.ident is None:
+                changing.start()
+                changing.join(2)
+            begin(hold, head, most)
+
+        monkeypatch.setattr(Hold, "begin", begin_beside)
+        assert page.change("set /bill 5")["reply"] == "ok"
+        changing.join()
+        assert (told[0]["stale"], told[0]["reply"], told[0]["replies"]) == (True, None, ["complete 5.00"])
+        assert other.change("set /bill 7")["reply"] == "ok"
+        assert page.change("set /bill 8")["stale"]
 
 
 def test_a_window_of_an_ended_stay_is_told(page: Page) -> None:

@@ -4,7 +4,9 @@ from __future__ import annotations
 
 import secrets
 import signal
+import sqlite3
 import time
+from contextlib import closing
 from pathlib import Path
 from typing import Any
 
@@ -16,7 +18,7 @@ from selenium.webdriver.common.keys import Keys
 from fact_graph_service.settings import Settings
 from pages import EXAMPLES
 from screens import Screen
-from servers import Worker, served
+from servers import SECONDS, Worker, served
 
 NARROW = 320
 
@@ -68,6 +70,26 @@ return import("/page/http_engine.js").then((it) => it.openEngine()).then(async (
 """
 OTHER_CHANGES = OTHER % "return (await engine.answer({ id: crypto.randomUUID(), line }, [])).reply;"
 OTHER_ENDS = OTHER % "await engine.end(); return 1;"
+
+# What the page shows of a change of the bill that is on its way. It goes from one to the other, so that all is looked at in one instant.
+SHOWS = """
+[".status", '.field[data-slot="/bill"] .note'].map((it) => document.querySelector(it).textContent)"""
+SENDING = f"{SHOWS}.every((it) => it === 'Saving…')"
+WAITING = f"""
+document.querySelector(".status").classList.contains("waiting") && !document.querySelector(".outdated").hidden
+  && {SHOWS}.every((it) => /isn't saved yet|Not saved yet/.test(it))"""
+
+# Keeps the answers at the warning, as soon as a person can.
+KEEPS = """
+const seen = new MutationObserver(() => {
+  const dialog = document.querySelector("dialog[open]");
+  if (!dialog) return;
+  seen.disconnect();
+  document.body.dataset.warned = dialog.querySelector("h2").textContent;
+  dialog.querySelector("button").click();
+});
+seen.observe(document.body, { subtree: true, childList: true, attributes: true });
+"""
 
 CONTROLS = """
 return [...document.querySelectorAll("button, input, select, summary, a[href]")].filter((it) => it.checkVisibility());
@@ -164,10 +186,7 @@ def test_an_answer_that_was_not_sent_is_never_shown_as_sent(screen: Screen, work
     worker.end(signal.SIGKILL)
     try:
         screen.write("/bill", "2000")
-        screen.until("document.querySelector('.status').className.includes('waiting')")
-        assert "isn't saved yet" in screen.text(".status")
-        assert "Not saved yet" in screen.text('.field[data-slot="/bill"] .note')
-        assert screen.js("return !document.querySelector('.outdated').hidden")
+        screen.until(WAITING)
         screen.picture("offline")
         screen.field("/tenure", 'input[value="rents"]').send_keys(Keys.SPACE)
     finally:
@@ -184,9 +203,7 @@ def test_a_call_that_takes_long_is_seen(screen: Screen, worker: Worker) -> None:
     worker.send(signal.SIGSTOP)
     try:
         screen.write("/bill", "5")
-        screen.until("document.querySelector('.status').className.includes('sending')")
-        assert screen.text(".status") == "Saving…"
-        assert screen.text('.field[data-slot="/bill"] .note') == "Saving…"
+        screen.until(SENDING)
     finally:
         worker.send(signal.SIGCONT)
     screen.saved()
@@ -321,18 +338,40 @@ def test_another_window_is_told(screen: Screen) -> None:
 
 
 def test_a_warning_comes_before_the_time_is_over(driver: Any, tmp_path: Path) -> None:
-    settings = Settings(EXAMPLES / "screener.json", f"sqlite:{tmp_path}/store.sqlite", secrets.token_bytes(32), minutes=1, rate=10_000)
-    with served(settings) as workers:
-        screen = Screen(driver, workers[0]).open()
+    file = tmp_path / "store.sqlite"
+    with served(Settings(EXAMPLES / "screener.json", f"sqlite:{file}", secrets.token_bytes(32), minutes=1, rate=10_000)) as (worker,):
+        screen = Screen(driver, worker).open()
+        begun = time.monotonic()
         screen.write("/bill", "5")
         screen.saved()
-        begun = time.monotonic()
-        screen.until("document.querySelector('dialog[open]') !== null")
+        screen.js(KEEPS)
+        with closing(sqlite3.connect(file, timeout=SECONDS)) as store, store:
+            store.execute("UPDATE sessions SET expires = expires + 3600")  # for a slow machine; the page knows of a minute
+        screen.until("document.body.dataset.warned")
         assert 20 < time.monotonic() - begun
-        assert screen.text("dialog h2") == "Are you still there?"
-        screen.press("Keep my answers")
+        assert screen.js("return document.body.dataset.warned") == "Are you still there?"
         screen.until("document.querySelector('dialog') === null")
         assert screen.field("/bill").get_property("value") == "5.00"
+        with closing(sqlite3.connect(file)) as store:
+            assert store.execute("SELECT expires FROM sessions").fetchone()[0] <= time.time() + 60, "a minute from when they were kept"
+
+
+def test_who_has_answers_that_cannot_be_read_can_start_over(driver: Any, tmp_path: Path) -> None:
+    file = tmp_path / "store.sqlite"
+    with served(Settings(EXAMPLES / "screener.json", f"sqlite:{file}", secrets.token_bytes(32), rate=10_000)) as (worker,):
+        screen = Screen(driver, worker).open()
+        screen.write("/bill", "5")
+        screen.saved()
+        worker.end(signal.SIGKILL)
+        with closing(sqlite3.connect(file, timeout=SECONDS)) as store, store:
+            store.execute("UPDATE changes SET sealed = x'00'")
+        worker.begin()
+        driver.get(screen.address)
+        screen.until("document.querySelector('.status')?.textContent.includes('is tried again')")
+        screen.press("Start over")
+        screen.until("document.querySelector('dialog[open]') !== null")
+        screen.press("Erase and start over")
+        assert screen.field("/bill").get_property("value") == ""
 
 
 SMALL = """{"version":"1","facts":[

@@ -132,9 +132,10 @@ def test_who_only_looks_takes_no_place(settings: Settings) -> None:
 
 
 def test_answers_end_with_their_time(settings: Settings, monkeypatch: pytest.MonkeyPatch) -> None:
+    now = time.time()
+    monkeypatch.setattr(time, "time", lambda: now)
     with Page.open(dataclasses.replace(settings, minutes=1)) as page:
         page.change("set /bill 5")
-        now = time.time()
         monkeypatch.setattr(time, "time", lambda: now + 50)
         assert page.told(page.post("stay"))["seconds"] == 60
         monkeypatch.setattr(time, "time", lambda: now + 100)

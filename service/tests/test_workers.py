@@ -2,15 +2,17 @@
 
 from __future__ import annotations
 
+import json
 import os
 import secrets
 import shutil
 import signal
-import sqlite3
+import socket
 import subprocess
 import sys
-import threading
 import time
+from collections.abc import Iterator
+from contextlib import contextmanager
 from pathlib import Path
 from typing import Any
 
@@ -18,70 +20,101 @@ import httpx
 
 from fact_graph_service.settings import Settings
 from pages import EXAMPLES, Page
-from servers import TOP, free_port, served
+from servers import SECONDS, TOP, Worker, held_ports, served
 
 
 def page_at(port: int) -> Page:
     """The page of a new visitor at a worker."""
     origin = f"http://127.0.0.1:{port}"
-    return Page(httpx.Client(base_url=origin, timeout=60), origin).load()
+    return Page(httpx.Client(base_url=origin, timeout=SECONDS), origin).load()
+
+
+def answered_at_the_end(worker: Worker, page: Page, said: dict[str, Any]) -> bytes:
+    """The answer to a change of which the worker had the head when it was ended, and gets the body only then."""
+    body = json.dumps({"visit": page.visit, "revision": page.revision, **said}).encode()
+    cookie = "; ".join(f"{name}={value}" for name, value in page.client.cookies.items())
+    head = {"Host": f"127.0.0.1:{worker.port}", "Origin": page.origin, "Cookie": cookie, "X-Token": page.token, "Content-Length": str(len(body))}
+    lines = ["POST /answer HTTP/1.1", *(f"{name}: {value}" for name, value in head.items()), "Expect: 100-continue", "", ""]
+    with socket.create_connection(("127.0.0.1", worker.port), SECONDS) as connection, connection.makefile("rb") as answer:
+        connection.sendall("\r\n".join(lines).encode())
+        assert answer.readline() == b"HTTP/1.1 100 Continue\r\n", "it has begun, and asks for the body"
+        worker.send(signal.SIGTERM)
+        while worker.is_well():
+            time.sleep(0.05)
+        connection.sendall(body)
+        return answer.read()
 
 
 def test_a_worker_that_is_ended_answers_what_it_has_begun(tmp_path: Path) -> None:
     settings = Settings(EXAMPLES / "screener.json", f"sqlite:{tmp_path}/store.sqlite", secrets.token_bytes(32))
-    told: list[dict[str, Any]] = []
     with served(settings) as (worker,):
-        page = page_at(worker.port)
-        lock = sqlite3.connect(tmp_path / "store.sqlite", isolation_level=None)
-        lock.execute("BEGIN IMMEDIATE")
-        asking = threading.Thread(target=lambda: told.append(page.change("set /bill 5", "get /bill")))
-        asking.start()
-        time.sleep(1)
-        worker.send(signal.SIGTERM)
-        time.sleep(1)
-        lock.execute("ROLLBACK")
-        asking.join()
-        assert worker.wait() == 0
-        assert not worker.is_well()
-        worker.begin()
-        assert (told[0]["replies"], page.ask("get /bill")) == (["complete 5.00"], ["complete 5.00"])
+        page, told = page_at(worker.port), b" 408 "
+        while b" 408 " in told:  # the body has to come within some seconds, which a slow machine may miss
+            told = answered_at_the_end(worker, page, {"change": "a", "line": "set /bill 5", "questions": ["get /bill"]})
+            assert worker.wait() == 0
+            assert not worker.is_well()
+            worker.begin()
+        assert b"HTTP/1.1 200 OK" in told and json.loads(told.rpartition(b"\r\n")[2])["replies"] == ["complete 5.00"]
+        assert page.ask("get /bill") == ["complete 5.00"]
 
 
-def serve(folder: Path, *words: str) -> subprocess.Popen[str]:
-    """The command line, in a folder."""
-    environment = {**os.environ, "PYTHONPATH": os.pathsep.join([str(TOP / "python"), str(TOP / "service")])}
+@contextmanager
+def serving(folder: Path, *words: str, **variables: str) -> Iterator[subprocess.Popen[str]]:
+    """The command line, in a folder, with variables of the environment."""
+    environment = {**os.environ, **variables, "PYTHONPATH": os.pathsep.join([str(TOP / "python"), str(TOP / "service")])}
     command = [sys.executable, "-m", "fact_graph", "serve", *words]
-    return subprocess.Popen(command, cwd=folder, env=environment, stdout=subprocess.DEVNULL, stderr=subprocess.PIPE, text=True)
+    with subprocess.Popen(command, cwd=folder, env=environment, stdout=subprocess.DEVNULL, stderr=subprocess.PIPE, text=True) as server:
+        try:
+            yield server
+        finally:
+            server.kill()
+
+
+def wait_for(server: subprocess.Popen[str], port: int) -> None:
+    """Waits until the command line serves."""
+    until = time.monotonic() + SECONDS
+    while True:
+        try:
+            httpx.get(f"http://127.0.0.1:{port}/health")
+            return
+        except httpx.HTTPError:
+            assert server.poll() is None and time.monotonic() < until
+            time.sleep(0.1)
 
 
 def test_one_command_serves_a_dictionary_and_keeps_the_answers_beside_it(tmp_path: Path) -> None:
     shutil.copy(EXAMPLES / "screener.json", tmp_path)
-    port = free_port()
     page: Page | None = None
-    for bill in ("5", "6"):
-        server = serve(tmp_path, "screener.json", "--port", str(port), "--minutes", "30")
-        until = time.monotonic() + 120
-        while True:
-            try:
-                httpx.get(f"http://127.0.0.1:{port}/health")
-                break
-            except httpx.HTTPError:
-                assert server.poll() is None and time.monotonic() < until
-                time.sleep(0.1)
-        page = page or page_at(port)
-        told = page.change(f"set /bill {bill}")
-        assert told["reply"] == "ok" and 1790 < told["seconds"] <= 1800
-        server.send_signal(signal.SIGTERM)
-        assert server.wait() == 0
+    with held_ports(1) as (port,):
+        for bill in ("5", "6"):
+            with serving(tmp_path, "screener.json", "--port", str(port), "--minutes", "30") as server:
+                wait_for(server, port)
+                page = page or page_at(port)
+                told = page.change(f"set /bill {bill}")
+                assert told["reply"] == "ok" and 0 < told["seconds"] <= 1800
+                server.send_signal(signal.SIGTERM)
+                assert server.wait() == 0
     assert page is not None and page.revision == 2
     assert (tmp_path / "screener.sqlite").is_file()
+
+
+def test_settings_may_stand_in_the_environment(tmp_path: Path) -> None:
+    shutil.copy(EXAMPLES / "screener.json", tmp_path)
+    said = {"FACT_GRAPH_STORE": f"sqlite:{tmp_path}/own.sqlite", "FACT_GRAPH_ORIGINS": "https://help.example.gov https://help.example.org"}
+    with held_ports(1) as (port,), serving(tmp_path, "screener.json", "--port", str(port), **said) as server:
+        wait_for(server, port)
+        hosts = ("help.example.gov", "help.example.org", f"127.0.0.1:{port}")
+        assert [httpx.get(f"http://127.0.0.1:{port}/", headers={"Host": host}, timeout=SECONDS).status_code for host in hosts] == [200, 200, 421]
+    assert (tmp_path / "own.sqlite").is_file()
 
 
 def test_what_the_maker_misstates_is_told(tmp_path: Path) -> None:
     shutil.copy(EXAMPLES / "screener.json", tmp_path)
     (tmp_path / "screener.page").write_text('{"figures": ["/help", "/halp"]}', encoding="utf-8")
-    server = serve(tmp_path, "screener.json")
-    said = server.communicate()[1]
-    assert server.returncode == 2 and "figures.1: there is no fact" in said and "/halp" in said
-    server = serve(tmp_path, "screener.json", "--store", "mysql:x")
-    assert server.communicate() and server.returncode == 2
+    with serving(tmp_path, "screener.json") as server:
+        said = server.communicate()[1]
+        assert server.returncode == 2 and "figures.1: there is no fact" in said and "/halp" in said
+    (tmp_path / "screener.page").unlink()
+    with serving(tmp_path, "screener.json", "--store", "mysql:x") as server:
+        said = server.communicate()[1]
+        assert server.returncode == 2 and "mysql:x" in said

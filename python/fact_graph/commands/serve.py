@@ -29,7 +29,7 @@ from ._failures import SERVICE_FROM, Failed
     help="The page's address as browsers have it, as https://help.example.gov. May be given several times.",
 )
 @click.option("--proxy", metavar="ADDRESSES", default="127.0.0.1", show_default=True, help="The proxies whose word on the visitor's address is taken.")
-@click.option("--minutes", metavar="N", help="How long answers are kept after the last request.  [default: 60]")
+@click.option("--minutes", metavar="N", help="How long answers are kept after the last change.  [default: 60]")
 @click.option("--sessions", metavar="N", help="How many visitors' answers the store takes.  [default: 100000]")
 @click.option("--cache", metavar="N", help="How many sessions a worker keeps in memory.  [default: 500]")
 @click.option("--rate", metavar="N", help="How many requests a second one address may make.  [default: 20]")
@@ -48,7 +48,7 @@ def command(file: Path, host: str, port: int, workers: int, proxy: str, store: s
         raise Failed(Status.NOT_INSTALLED, f"serve needs {missing.name}: {SERVICE_FROM}") from missing
     said = {"dictionary": str(file), "store": store or os.environ.get("FACT_GRAPH_STORE") or f"sqlite:{file.with_suffix('.sqlite')}"}
     said |= {name: number for name, number in numbers.items() if number is not None}
-    said |= {"origins": " ".join(origins or (f"http://127.0.0.1:{port}", f"http://localhost:{port}"))}
+    said |= {"origins": " ".join(origins) or os.environ.get("FACT_GRAPH_ORIGINS") or f"http://127.0.0.1:{port} http://localhost:{port}"}
     try:
         Form.open(file)
         settings = Settings.of_environment({**os.environ, **{f"FACT_GRAPH_{name.upper()}": value for name, value in said.items()}})

@@ -213,7 +213,7 @@ export class Interview {
   async erase(isNewStart) {
     this.outbox.drop();
     try {
-      if (this.screen && this.session.revision > 0) await this.engine.end();
+      if (this.session.revision !== 0) await this.engine.end();
     } catch (wrong) {
       if (!(wrong instanceof Ended)) return this.fail(wrong);
     }
