@@ -1,5 +1,5 @@
 -- What a line leaves that a host gives.
-use Rattle.std.proofs.Common.{◌≡◌, refl, Option, None, ℕ, ◌<◌, ◌≤◌, Bool, true, false, nat_le, if◌then◌else◌, List, [], ◌∷◌, ◌++◌, length, length-append, Some, sym, ap, subst, ◌∙◌, arith}
+use Rattle.std.proofs.Common.{◌≡◌, inl, inr, refl, Option, None, ℕ, ◌<◌, ◌≤◌, Bool, true, false, nat_le, if◌then◌else◌, List, [], ◌∷◌, ◌++◌, length, length-append, Some, sym, ap, subst, ◌∙◌, arith}
 use Rattle.std.proofs.lemmas.Bool.Decides.{nat_tests}
 use Rattle.std.proofs.lemmas.List.{append-nil}
 use Rattle.fg_io.specs.Outside.{Rose}
@@ -9,26 +9,36 @@ use Rattle.script_lines.specs.Parsing.{command, heard_in}
 use Rattle.script_lines.specs.declared.command.Command.TheVariants.{Get}
 use Rattle.fact_paths.specs.declared.slot_path.SlotPath.{SlotPath}
 use Rattle.graph_session.specs.Naming.{slot_of}
-use Rattle.graph_session.specs.Refusals.{decided, first_of, slot_refusals}
-use Rattle.graph_session.specs.Rules.{Rules, tree_of}
+use Rattle.graph_session.specs.Refusals.{SameChecks, decided, first_of, slot_refusals}
+use Rattle.graph_session.specs.Rules.{Rules, rules, tree_of}
 use Rattle.graph_session.specs.declared.reply.Refusal.{Refusal}
 use Rattle.graph_session.specs.declared.reply.Reply.TheVariants.{Answer}
 use Rattle.session_lines.specs.Replies.{line_with}
 use Rattle.fact_graph_c.specs.Asking.{text_of_found, text_of_get}
 use Rattle.dictionary.specs.Accepted.{Kept, Named, accepted}
+use Rattle.dictionary.specs.Checks.{has_check}
 use Rattle.dictionary.specs.Fits.{AnswersFit}
 use Rattle.graph_session.specs.SessionView.{SessionView, session_state}
 use Rattle.fact_watch.specs.Watching.{Watching}
 use Rattle.session_lines.specs.Answering.{line_state_of}
 use Rattle.session_lines.specs.Stepping.{LineState, State, Step, open_at, replies, state_after, step, step_answered, step_command, step_heard}
 use Rattle.fact_graph_c.specs.Answering.{Stays, TakesStep, line_given, rules_of, said, state_of}
+use Rattle.fact_graph_c.specs.Checks.{HasStandardChecks}
 use Rattle.fact_graph_c.specs.Room.{room_for}
 use Rattle.fact_graph_c.specs.Sound.{IsSound}
-use Rattle.session_lines.specs.Tables.{standard_relations}
+use Rattle.session_lines.specs.Tables.{standard_checks, standard_relations}
 use Rattle.fact_graph_c.specs.declared.engine.Engine.{Engine}
 use Rattle.fact_graph_c.specs.declared.text.Text.{Text}
 use Rattle.fact_graph_c.proofs.RoomLaws.{fills_still}
 use Rattle.fact_graph_c.proofs.TextLaws.{put_behind, put_whole, room_stays}
+
+-- the checks of a table are those of the session's dictionary, or no fact of it has a check
+pub same_checks : (k : Kept) (table : List Named) → table ≡ standard_checks → HasStandardChecks k → SameChecks (rules k) table
+same_checks k table is same = by (has_check (accepted k).tree) refl
+  where
+    by : (b : Bool) → has_check (accepted k).tree ≡ b → SameChecks (rules k) table
+    by true e = inl (same e ∙ sym is)
+    by false e = inr e
 
 -- a line is given whole exactly where it isn't too long
 pub given_long : (line : List ℕ) → 4096 < length line → line_given line ≡ long

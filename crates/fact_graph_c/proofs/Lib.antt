@@ -1,7 +1,7 @@
 pub mod AnsweringLaws
+pub mod BuiltInLaws
 pub mod CallLaws
 pub mod OpeningLaws
-pub mod ReadingLaws
 pub mod RoomLaws
 pub mod TextLaws
 mod Values

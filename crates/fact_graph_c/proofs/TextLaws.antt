@@ -3,11 +3,11 @@ use Rattle.std.proofs.Common.{◌≡◌, ℕ, List, [], ◌∷◌, ◌++◌, Som
 use Rattle.fg_io.specs.Sent.{Sent}
 use Rattle.fg_io.proofs.SentLaws.{sent_whole}
 
-behind : List ℕ → List ℕ
+abbrev behind : List ℕ → List ℕ
 behind [] = []
 behind (b ∷ bs) = bs
 
-first_of : List ℕ → ℕ
+abbrev first_of : List ℕ → ℕ
 first_of [] = 0
 first_of (b ∷ bs) = b
 

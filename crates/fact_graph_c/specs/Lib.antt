@@ -1,6 +1,7 @@
 pub mod Answering
 pub mod Asking
 pub mod Calls
+pub mod Checks
 pub mod Faults
 pub mod Held
 pub mod Openings

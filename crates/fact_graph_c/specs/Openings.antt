@@ -1,5 +1,5 @@
 -- How a session is begun, and why it isn't.
-use Rattle.std.specs.Prelude.{◌≡◌, ◌⊎◌, ℕ, ◌<◌, ◌≤◌, true, List, [], length, Option, Some, None}
+use Rattle.std.specs.Prelude.{◌≡◌, ◌⊎◌, ℕ, ◌<◌, ◌≤◌, true, List, [], length, Some, None}
 use Rattle.built_in.specs.BuiltIns.{IsBrought, built_in_of}
 use Rattle.built_in.specs.declared.built_in.BuiltIn.{BuiltIn}
 use Rattle.answers.specs.Answered.{Answered, start}

@@ -1,7 +1,5 @@
 // What stands behind a handle.
-ghost use Rattle.graph_session.specs.Refusals.{SameChecks};
-ghost use Rattle.graph_session.specs.Rules.{rules};
-ghost use Rattle.session_lines.specs.Tables.{standard_checks};
+ghost use Rattle.fact_graph_c.specs.Checks.{HasStandardChecks};
 
 use crate::text::Text;
 use fact_watch::Watches;
@@ -18,5 +16,5 @@ pub struct Engine {
     pub over: bool,
     /// What the last call said.
     pub text: Text,
-    pub ghost same: { SameChecks (rules session.dict) standard_checks },
+    pub ghost same: { HasStandardChecks session.dict },
 }

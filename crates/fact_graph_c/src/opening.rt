@@ -5,7 +5,6 @@ ghost use Rattle.text_checks.specs.Tables.{named_checks};
 ghost use Rattle.dictionary.specs.Accepted.{accepted};
 ghost use Rattle.dictionary.specs.Fits.{AnswersFit};
 ghost use Rattle.dictionary.specs.declared.fault.DictFault.TheVariants.{NoMemory as WantsMemory};
-ghost use Rattle.graph_session.specs.Refusals.{SameChecks};
 ghost use Rattle.graph_session.specs.Rules.{rules, tree_of};
 ghost use Rattle.save_file.specs.CarriedText.{IsCarriedText};
 ghost use Rattle.save_file.specs.Carrying.{IsCarry};
@@ -13,6 +12,7 @@ ghost use Rattle.save_file.specs.Dropped.{IsDroppedText};
 ghost use Rattle.save_file.specs.Loading.{IsSavedText};
 ghost use Rattle.fact_watch.specs.Watching.{nothing_watched};
 ghost use Rattle.fact_graph_c.specs.Answering.{said};
+ghost use Rattle.fact_graph_c.specs.Checks.{HasStandardChecks};
 ghost use Rattle.fact_graph_c.specs.Openings.{Accepts, Carries, CarriesOver, IsBegun, IsFaultOfText, Loads, LoadsOver, NotCarried, NotLoaded, NotOpened, Opens, RefusesOver, saved_limit};
 ghost use Rattle.session_lines.specs.Tables.{standard_checks};
 ghost use Rattle.fact_graph_c.specs.declared.fault.NotBegun.TheVariants.{Dictionary as OfDictionary};
@@ -53,7 +53,7 @@ fn boxed(alloc: Global, engine: Engine) -> Result<Box<Engine>, NotBegun>
 
 // A session that nobody has used, and what it has said.
 fn unused(alloc: Global, session: Session<Recalc>, text: Text) -> Engine
-    requires { SameChecks (rules session.dict) standard_checks }
+    requires { HasStandardChecks session.dict }
     ensures session { result.session ≡ session }
     ensures unwatched { result.watches ≡ nothing_watched }
     ensures open { result.over ≡ false }
@@ -74,7 +74,7 @@ fn begin(
     answers: Answers,
     text: Text,
 ) -> Result<Box<Engine>, NotBegun>
-    requires same { SameChecks (rules dict) standard_checks }
+    requires same { HasStandardChecks dict }
     requires fit { AnswersFit (accepted dict).tree (answered answers) }
     ensures begun { IfOk result (λ e. IsBegun (rules dict) (answered answers) text.bytes.items e.value) }
     ensures memory { IfErr result (λ why. why ≡ OfDictionary WantsMemory) }
@@ -91,7 +91,7 @@ pub fn begin_silent(
     dict: Dictionary,
     answers: Answers,
 ) -> Result<Box<Engine>, NotBegun>
-    requires same { SameChecks (rules dict) standard_checks }
+    requires same { HasStandardChecks dict }
     requires fit { AnswersFit (accepted dict).tree (answered answers) }
     ensures begun { IfOk result (λ e. IsBegun (rules dict) (answered answers) [] e.value) }
     ensures memory { IfErr result (λ why. why ≡ OfDictionary WantsMemory) }

@@ -42,6 +42,7 @@ impl Text {
         }
         self.bytes.reserve(room)?;
         self.room = room;
+        self.faults = 0;
         Ok(())
     }
 

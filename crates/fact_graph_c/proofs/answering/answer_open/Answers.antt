@@ -1,6 +1,9 @@
 use Rattle.std.proofs.Common.{true, false, refl}
-use Rattle.fact_graph_c.proofs.AnsweringLaws.{stays, stays_full, takes_step}
+use Rattle.fact_graph_c.proofs.AnsweringLaws.{same_checks, stays, stays_full, takes_step}
 use Rattle.fact_graph_c.proofs.answering.answer_open.Goals as goal
+
+pub answer_ready-requires-clause-same_checks : goal.answer_ready-requires-clause-same_checks
+answer_ready-requires-clause-same_checks g c = same_checks c.args.engine.now.session.dict _ c.requires.checks c.args.engine.now.same
 
 pub returns-in-More : goal.returns-in-More
 returns-in-More g c = record {

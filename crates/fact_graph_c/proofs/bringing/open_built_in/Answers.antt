@@ -1,4 +1,4 @@
-use Rattle.std.proofs.Common.{inr, sym, subst}
+use Rattle.std.proofs.Common.{◌≡◌, true, false, sym, subst, ◌∙◌}
 use Rattle.dictionary.specs.Accepted.{accepted}
 use Rattle.dictionary.specs.Fits.{AnswersFit}
 use Rattle.dictionary.proofs.FitStart.{start_fits}
@@ -6,7 +6,7 @@ use Rattle.fact_graph_c.proofs.OpeningLaws.{opens_built_in}
 use Rattle.fact_graph_c.proofs.bringing.open_built_in.Goals as goal
 
 pub begin_silent-requires-clause-same : goal.begin_silent-requires-clause-same
-begin_silent-requires-clause-same c = inr c.in-Ok.ensures.no_check
+begin_silent-requires-clause-same c = λ named. absurd (let no : true ≡ false = sym named ∙ c.in-Ok.ensures.no_check in cc)
 
 pub begin_silent-requires-clause-fit : goal.begin_silent-requires-clause-fit
 begin_silent-requires-clause-fit c = subst (AnswersFit (accepted c.in-Ok.dict).tree) (sym c.new.ensures) (start_fits (accepted c.in-Ok.dict).tree)
