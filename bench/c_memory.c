@@ -1,10 +1,10 @@
-/* Shows the memory of sessions of the C library, for bench/c_library.py. That compiles it with FAILING, so that what the blocks hold is
- * counted.
+/* Shows the memory of sessions of the C library, for bench/c_library.py.
  *
  *   memory DICTIONARY
  *
  * Over the screener, or the tax year of 2023, a session is opened, changed, given members and watches. A line is printed for each: the
  * bytes of all blocks that the session has, and what of it. */
+#define FAILING /* so that what the blocks hold is counted */
 #include "../tests/library/failing.h"
 
 static size_t before = 0;

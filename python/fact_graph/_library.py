@@ -49,7 +49,7 @@ class Fault(ctypes.Structure):
         return DictionaryRefused(self.number, self.place("fact"), self.place("node"), self.place("what"))
 
 
-class Library:
+class Library:  # pylint: disable=too-many-instance-attributes # a function each
     """The functions of the library."""
 
     def __init__(self, loaded: ctypes.CDLL) -> None:
