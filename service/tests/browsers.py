@@ -139,7 +139,7 @@ class Driver(Service):
 
     def start(self) -> None:
         """Starts the driver, and waits until it says its port."""
-        # pylint: disable-next=consider-using-with # it is ended by `stop`
+        # pylint: disable-next=consider-using-with,attribute-defined-outside-init # it is ended by `stop`, and the class above reads it
         self.process = subprocess.Popen([self.path, "--port=0"], stdout=subprocess.PIPE, text=True)
         said = ""
         for line in self.process.stdout or ():

@@ -345,7 +345,7 @@ def test_a_warning_comes_before_the_time_is_over(driver: Any, tmp_path: Path) ->
         screen.write("/bill", "5")
         screen.saved()
         screen.js(KEEPS)
-        with closing(sqlite3.connect(file, timeout=SECONDS)) as store, store:
+        with closing(sqlite3.connect(file, timeout=SECONDS)) as store, store:  # pylint: disable=confusing-with-statement # its transaction
             store.execute("UPDATE sessions SET expires = expires + 3600")  # for a slow machine; the page knows of a minute
         screen.until("document.body.dataset.warned")
         assert 20 < time.monotonic() - begun
@@ -363,7 +363,7 @@ def test_who_has_answers_that_cannot_be_read_can_start_over(driver: Any, tmp_pat
         screen.write("/bill", "5")
         screen.saved()
         worker.end(signal.SIGKILL)
-        with closing(sqlite3.connect(file, timeout=SECONDS)) as store, store:
+        with closing(sqlite3.connect(file, timeout=SECONDS)) as store, store:  # pylint: disable=confusing-with-statement # its transaction
             store.execute("UPDATE changes SET sealed = x'00'")
         worker.begin()
         driver.get(screen.address)

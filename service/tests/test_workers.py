@@ -101,10 +101,11 @@ def test_one_command_serves_a_dictionary_and_keeps_the_answers_beside_it(tmp_pat
 def test_settings_may_stand_in_the_environment(tmp_path: Path) -> None:
     shutil.copy(EXAMPLES / "screener.json", tmp_path)
     said = {"FACT_GRAPH_STORE": f"sqlite:{tmp_path}/own.sqlite", "FACT_GRAPH_ORIGINS": "https://help.example.gov https://help.example.org"}
-    with held_ports(1) as (port,), serving(tmp_path, "screener.json", "--port", str(port), **said) as server:
-        wait_for(server, port)
-        hosts = ("help.example.gov", "help.example.org", f"127.0.0.1:{port}")
-        assert [httpx.get(f"http://127.0.0.1:{port}/", headers={"Host": host}, timeout=SECONDS).status_code for host in hosts] == [200, 200, 421]
+    with held_ports(1) as (port,):
+        with serving(tmp_path, "screener.json", "--port", str(port), **said) as server:
+            wait_for(server, port)
+            hosts = ("help.example.gov", "help.example.org", f"127.0.0.1:{port}")
+            assert [httpx.get(f"http://127.0.0.1:{port}/", headers={"Host": host}, timeout=SECONDS).status_code for host in hosts] == [200, 200, 421]
     assert (tmp_path / "own.sqlite").is_file()
 
 
