@@ -243,10 +243,14 @@ def test_a_signal_within_a_call_loses_count_of_nothing(session: Session, is_made
         signal.raise_signal(signal.SIGINT)
         return how
 
-    with pytest.raises(KeyboardInterrupt), session.changes():
-        session["/b"] = 2
-        with mock.patch.object(session, "_answer", interrupted):
-            session["/a"] = 3
+    handler = signal.signal(signal.SIGINT, signal.default_int_handler)  # which a process in the background hasn't
+    try:
+        with pytest.raises(KeyboardInterrupt), session.changes():
+            session["/b"] = 2
+            with mock.patch.object(session, "_answer", interrupted):
+                session["/a"] = 3
+    finally:
+        signal.signal(signal.SIGINT, handler)
     assert session.save() == b"saved 1\nnext 1\nvalue /a 1.00\nend\n"
 
 
