@@ -255,16 +255,24 @@ test("many sessions stand side by side, and their memory is used again", async (
 
 test("memory that is capped ends in OutOfMemory, and the sessions go on", async () => {
   const engine = await Engine.load(undefined, { maxMemory: 4_194_304 });
-  const sessions = [];
+  const first = await Session.open(DICTIONARY, { engine });
+  let rent = 0n;
+  first.set("/rent", rent);
+  const sessions = [first];
   await assert.rejects(async () => {
     for (;;) sessions.push(await Session.open(DICTIONARY, { engine }));
   }, OutOfMemory);
   assert.ok(sessions.length > 2 && engine.memorySize <= 4_194_304);
+  assert.throws(() => {
+    for (;; rent++) first.set("/rent", rent + 1n);
+  }, OutOfMemory);
+  // what half of them had is memory for the changes of the others
+  for (const session of sessions.splice(sessions.length / 2)) session.close();
+  assert.deepEqual(first.get("/rent"), complete(rent));
   for (const session of sessions) {
     session.set("/rent", 7n);
     assert.deepEqual(session.get("/rent"), complete(7n));
   }
-  sessions.pop().close();
   (await Session.open(DICTIONARY, { engine })).close();
 });
 
