@@ -6,7 +6,7 @@ import copy
 import pickle
 import signal
 import threading
-from collections.abc import Callable
+from collections.abc import Callable, Iterator
 from decimal import Decimal
 from unittest import mock
 
@@ -28,6 +28,14 @@ def _session() -> Session:
 @pytest.fixture(name="screener")
 def _screener() -> Session:
     return Session.open(EXAMPLES / "screener.json")
+
+
+@pytest.fixture(name="interrupts")
+def _interrupts() -> Iterator[None]:
+    # what runs behind a shell's `&` ignores this signal
+    before = signal.signal(signal.SIGINT, signal.default_int_handler)
+    yield
+    signal.signal(signal.SIGINT, before)
 
 
 # ---- a container
@@ -233,6 +241,7 @@ def test_other_threads_wait_for_the_end_of_a_block(session: Session) -> None:
     assert said == [None] and session.save() == b"saved 1\nnext 1\nvalue /b 5.00\nend\n"
 
 
+@pytest.mark.usefixtures("interrupts")
 @pytest.mark.parametrize("is_made", [True, False])
 def test_a_signal_within_a_call_loses_count_of_nothing(session: Session, is_made: bool) -> None:
     session["/a"] = 1
@@ -243,14 +252,10 @@ def test_a_signal_within_a_call_loses_count_of_nothing(session: Session, is_made
         signal.raise_signal(signal.SIGINT)
         return how
 
-    handler = signal.signal(signal.SIGINT, signal.default_int_handler)  # which a process in the background hasn't
-    try:
-        with pytest.raises(KeyboardInterrupt), session.changes():
-            session["/b"] = 2
-            with mock.patch.object(session, "_answer", interrupted):
-                session["/a"] = 3
-    finally:
-        signal.signal(signal.SIGINT, handler)
+    with pytest.raises(KeyboardInterrupt), session.changes():
+        session["/b"] = 2
+        with mock.patch.object(session, "_answer", interrupted):
+            session["/a"] = 3
     assert session.save() == b"saved 1\nnext 1\nvalue /a 1.00\nend\n"
 
 
