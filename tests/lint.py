@@ -11,6 +11,7 @@ something was, and 2 where a linter isn't installed.
 import os
 import subprocess
 import sys
+import sysconfig
 from collections.abc import Iterator
 from concurrent.futures import ThreadPoolExecutor
 from pathlib import Path
@@ -19,7 +20,8 @@ from harness import TOP, Tally, tool, words_of
 
 # What no package is: it goes by the top's pyproject.toml.
 OWN = ("bench", "dev", "tests", "tools")
-WARNINGS = ["-std=c11", "-Wall", "-Wextra", "-Wpedantic", "-Wconversion", "-Icrates/fact_graph_c", "-Ijavascript/wasm/runtime"]
+HEADERS = ["-Icrates/fact_graph_c", "-Ijavascript/wasm/runtime", f"-isystem{sysconfig.get_path('include')}"]
+WARNINGS = ["-std=c11", "-Wall", "-Wextra", "-Wpedantic", "-Wconversion", *HEADERS]
 # What is C for WebAssembly alone is read as such by clang-tidy. The compiler reads it where it is built.
 OF_WASM = ("javascript/wasm/runtime", "javascript/wasm/testing")
 FOR_WASM = ["--target=wasm64-unknown-unknown", "-mbulk-memory", "-msimd128"]

@@ -4,7 +4,7 @@
     tests/test_javascript.py [--program PATH] [PART..]
 
 - steps: what each step of javascript/wasm meets and refuses, and the runtime in C under the sanitizers, by pytest
-- types: the package's types, and those of the engine of a page that needs no server, by tsc
+- types: the package's types, those of the engine of a page that needs no server, and those of what bench/webassembly.py times, by tsc
 - same: two builds have the same bytes; the first is the module of the parts below
 - node: the package's own tests, and those of the runtime as WebAssembly, where each allocation fails in turn, by node --test
 - cases: the stored cases that a library serves, in Node; and once more over the module as binaryen lowers it, without vectors
@@ -72,7 +72,7 @@ class Parts:
         self.ends_well("steps", ["/usr/bin/python3", "-m", "pytest", "-q", "-p", "no:cacheprovider", "tests"], WASM)
 
     def types(self) -> None:
-        """The package's types, and those of the page's engine, where it stands in a page."""
+        """The package's types, those of the page's engine, where it stands in a page, and those of what is timed."""
         self.ends_well("types", [tool("tsc"), "-p", "."])
         page = self.folder / "page"
         shutil.copytree(TOP / "service" / "fact_graph_service" / "page", page / "page")
@@ -80,6 +80,7 @@ class Parts:
         shutil.copytree(JAVASCRIPT / "src", page / "engine")
         words = ["--allowJs", "--checkJs", "--noEmit", "--strict", "--target", "ES2022", "--module", "ES2022", "--moduleResolution", "node"]
         self.ends_well("types of the page's engine", [tool("tsc"), *words, "page/browser_engine.js"], page)
+        self.ends_well("types of what is timed", [tool("tsc"), *words, "bench/webassembly/page.js"], TOP)
 
     def same(self) -> None:
         """Two builds."""

@@ -1,10 +1,10 @@
 #!/usr/bin/python3
-"""Tests the Python package of python/ over the C library, by pytest and hypothesis.
+"""Tests the Python package of python/ over the C library, by pytest and hypothesis: by its compiled module, and again by ctypes alone.
 
-    tests/test_python.py [--library PATH] [ARGUMENT OF pytest..]
+    tests/test_python.py [--library PATH] [--by compiled|ctypes] [ARGUMENT OF pytest..]
 
-Nothing is built but the package's distributions, in a folder for the while. The exit status is that of pytest, and 2 where there
-is no such library.
+Nothing is built but the compiled module and the package's distributions, in folders for the while. The exit status is that of pytest, and
+2 where there is no such library or the module can't be built.
 """
 import os
 import subprocess
@@ -12,14 +12,21 @@ import sys
 
 from harness import TOP, add_library, words_of
 
+WAYS = ("compiled", "ctypes")
+
 
 def main(argv: list[str]) -> int:
     """Runs the package's tests."""
     words = words_of(__doc__)
     add_library(words)
+    words.add_argument("--by", choices=WAYS, help="in one of the two ways alone")
     given, rest = words.parse_known_args(argv)
-    command = [sys.executable, "-B", "-m", "pytest", *rest]
-    return subprocess.run(command, cwd=TOP / "python", env={**os.environ, "FACT_GRAPH_LIBRARY": str(given.library)}, check=False).returncode
+    status = 0
+    for way in [given.by] if given.by else WAYS:
+        command = [sys.executable, "-B", "-m", "pytest", "--by", way, *rest]
+        ended = subprocess.run(command, cwd=TOP / "python", env={**os.environ, "FACT_GRAPH_LIBRARY": str(given.library)}, check=False)
+        status = status or ended.returncode
+    return status
 
 
 if __name__ == "__main__":

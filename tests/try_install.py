@@ -1,4 +1,4 @@
-#!/usr/bin/env python3
+#!/usr/bin/python3
 """Installs the C library, and builds hosts against what was installed, away from the repository.
 
     tests/try_install.py [--library PATH]
@@ -6,10 +6,11 @@
 The library is taken from the folder of PATH, with its archive. It is installed twice: to a prefix, and to one below --destdir with a
 libdir of its own, as a package would be. The hosts are the examples of docs/EMBEDDING.md in C and in C++, as they stand on the page:
 each is built by pkg-config and by CMake, with the shared library and with the archive, runs in a folder with the examples, and has to
-print what stands below it. So have those in Python, which run over the shared library as it was installed. Of the installed files it is
-tested which names they export and need; of the header that it is C11 and C++17 by itself, and that its numbers are those of docs/FAULTS.md;
-of the header of texts that C99 and C++17 take it, and what it says of each number. A line is printed for each part that failed; the exit
-status is 0 where none did, 1 where one did, and 2 where there is no such library or a tool is missing.
+print what stands below it. So have those in Python, which run over the shared library as it was installed, by ctypes and by the package's
+compiled module. Of the installed files it is tested which names they export and need; of the header that it is C11 and C++17 by itself, and
+that its numbers are those of docs/FAULTS.md; of the header of texts that C99 and C++17 take it, and what it says of each number. A line is
+printed for each part that failed; the exit status is 0 where none did, 1 where one did, and 2 where there is no such library or a tool is
+missing.
 """
 import os
 import re
@@ -22,6 +23,7 @@ from pathlib import Path
 from typing import NamedTuple
 
 import tomllib
+from compiled_module import build_compiled
 from harness import TOP, Tally, Word, add_library, run, tool, words_of
 
 sys.path.insert(0, str(TOP / "tools"))
@@ -130,11 +132,15 @@ def by_pkg_config(tally: Tally, where: Installed, host: Host, folder: Path) -> N
 
 
 def by_python(tally: Tally, where: Installed, folder: Path) -> None:
-    """Runs the examples in Python over the shared library."""
-    shutil.copytree(TOP / "python" / "fact_graph", folder / "package" / "fact_graph", ignore=shutil.ignore_patterns("__pycache__", "*.so"))
-    found = {"PYTHONPATH": str(folder / "package"), "FACT_GRAPH_LIBRARY": str(where.libraries / SONAME)}
-    for at, (code, text) in enumerate(blocks("python")):
-        tally.expect(f"the example {at} in Python", said([sys.executable, "-B", "-c", code], folder, found), text)
+    """Runs the examples in Python over the shared library, in both ways in which the package calls it."""
+    package = folder / "package" / "fact_graph"
+    shutil.copytree(TOP / "python" / "fact_graph", package, ignore=shutil.ignore_patterns("__pycache__", "*.so"))
+    found = {"PYTHONPATH": str(package.parent), "FACT_GRAPH_LIBRARY": str(where.libraries / SONAME)}
+    for way in ("ctypes", "compiled"):
+        if way == "compiled":
+            shutil.copy(build_compiled(folder / "built"), package)
+        for at, (code, text) in enumerate(blocks("python")):
+            tally.expect(f"the example {at} in Python, {way}", said([sys.executable, "-B", "-c", code], folder, found), text)
 
 
 def by_cmake(tally: Tally, where: Installed, every: list[Host], folder: Path) -> None:

@@ -10,6 +10,7 @@ Nothing is built but the hosts.
 - tests/library/calls.c tries the calls beside lines in the same three ways: what a slot reads, how many changes are kept, a text that is
   given back, and the dictionaries that come with the library.
 - tests/library/threads.c does so in eight threads at the same time, with the sanitizers.
+- tests/library/resumed.c resumes from saved texts that came from outside, under valgrind, with the sanitizers and with each allocation failing in turn.
 - tests/library/cases.c runs the stored cases of tests/rows that the library serves under valgrind and with the sanitizers, each line
   and each text in a block of exactly its size: no access may be wild, and nothing may leak. The households of the tax years are among
   them.
@@ -69,6 +70,16 @@ def runs(what: str, command: list[Word], replies: Path) -> bool:
     """Whether the host ends well, with these replies."""
     ended = run(command, TOP, b"")
     return say((ended.text, ended.status) == (replies.read_bytes(), 0), what, ended.error.decode(errors="replace").strip())
+
+
+def resumed(library: Path, folder: str) -> Iterator[bool]:
+    """Whether sessions are resumed from texts that came from outside as they have to be."""
+    ways: list[tuple[str, list[str], list[str]]] = [
+        ("under valgrind", VALGRIND, []), ("with sanitizers", [], SANITIZED), ("with failing allocations", [], ["-DFAILING", "-O1"]),
+    ]
+    for number, (how, front, flags) in enumerate(ways):
+        ended = run([*front, host(library, folder, f"resumed_{number}", "resumed.c", *flags)], TOP, b"")
+        yield say((ended.text, ended.status) == (b"", 0), f"resumed texts {how}", ended.error.decode(errors="replace").strip())
 
 
 # ---- the stored cases
@@ -140,6 +151,7 @@ def main(argv: list[str]) -> int:
             passed.append(runs(f"{words_of_it} under valgrind", [*VALGRIND, calls, words_of_it, script], replies))
             passed.append(runs(f"{words_of_it} with sanitizers", [sanitized_calls, words_of_it, script], replies))
             passed.append(runs(f"{words_of_it} with failing allocations", [failing_calls, words_of_it, script], replies))
+        passed.extend(resumed(library, folder))
         passed.append(stored_cases_pass("under valgrind", [*VALGRIND, host(library, folder, "cases", "cases.c")]))
         passed.append(stored_cases_pass("with sanitizers", [host(library, folder, "sanitized_cases", "cases.c", *SANITIZED)]))
     passed.append(in_pieces(library))

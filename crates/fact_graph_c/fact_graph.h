@@ -5,8 +5,9 @@
  * its size comes from the call, and its bytes by `fact_graph_read`, in one piece or in several.
  *
  * For all functions:
- * - A `fact_graph` is a session that `fact_graph_open`, `fact_graph_open_built_in`, `fact_graph_load` or `fact_graph_carry` opened
- *   and that `fact_graph_close` didn't end. A call takes it, and gives it back through `back`, which may be where it came from:
+ * - A `fact_graph` is a session that `fact_graph_open`, `fact_graph_open_built_in`, `fact_graph_load`, `fact_graph_carry` or
+ *   `fact_graph_resume` opened and that `fact_graph_close` didn't end. A call takes it, and gives it back through `back`, which may be
+ *   where it came from:
  *   `fact_graph_answer(graph, line, size, &text_size, &graph)`. A copy of it is the same session.
  * - A session has one call at a time, and may go to another thread between calls only as far as the program orders the calls.
  *   Calls of different sessions may run side by side.
@@ -139,6 +140,13 @@ uint32_t fact_graph_load(const uint8_t *dictionary, size_t dictionary_size, cons
 uint32_t fact_graph_carry(const uint8_t *dictionary, size_t dictionary_size, const uint8_t *saved, size_t saved_size,
                           fact_graph *graph, size_t *text_size, fact_graph_fault *fault);
 
+/* Opens a session over the dictionary with what may be taken of a saved text that came from outside, as from a person's upload: no
+ * override, and the values that `set` would take. Its text has a line for each line that isn't kept, by their order in the saved
+ * text: `dropped list /N` where the dictionary has no writable collection of the name, `dropped override SLOT`, and `dropped value
+ * SLOT`, with what `set` replies behind it, as `dropped value /n refused 7 Limit 1`. Otherwise as `fact_graph_carry`. */
+uint32_t fact_graph_resume(const uint8_t *dictionary, size_t dictionary_size, const uint8_t *saved, size_t saved_size,
+                           fact_graph *graph, size_t *text_size, fact_graph_fault *fault);
+
 /* Answers a line, which is given without its newline. Its reply, with the newlines of all its lines, becomes the session's text,
  * and `text_size` is its size. A line without a reply, as an empty one, has an empty text. A line of more than 4,096 bytes is
  * refused as LongLine. Returns FACT_GRAPH_SAID, FACT_GRAPH_OVER or FACT_GRAPH_NO_MEMORY. */
@@ -175,6 +183,10 @@ void fact_graph_trim(fact_graph graph, fact_graph *back);
  * copied: 0 behind the end. The text stays until the next call that says one, or `fact_graph_trim`, so it can be copied in
  * pieces, each from where the last one ended. It takes no memory. */
 size_t fact_graph_read(fact_graph graph, size_t from, uint8_t *out, size_t out_size, fact_graph *back);
+
+/* The version of the library that runs, in the form of FACT_GRAPH_VERSION_NUMBER: a host that was built with another header can
+ * tell. */
+uint32_t fact_graph_version(void);
 
 /* Ends a session, and frees its memory. No copy of it may be used again. */
 void fact_graph_close(fact_graph graph);

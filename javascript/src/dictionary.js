@@ -18,6 +18,12 @@
  * }} Fact
  */
 
+/**
+ * A fact as the engine lists it: its path, whether it is answered, where it isn't it follows from others, and its type. `collection` is as
+ * that of a Fact.
+ * @typedef {{ path: string, isWritable: boolean, type: FactType, collection: string | null }} ListedFact
+ */
+
 /** @typedef {{ path: string, writable?: string, derived?: string, placeholder?: unknown, limits?: [string, string][], description?: string }} StatedFact */
 /** @typedef {{ facts: StatedFact[], enums?: { name: string, options: string[] }[], description?: string }} Stated */
 
@@ -31,11 +37,29 @@ function typeOf(text) {
 }
 
 /**
+ * @param {string} path
+ * @returns {string | null}
+ */
+function collectionOf(path) {
+  const at = path.indexOf("/*/");
+  return at < 0 ? null : path.slice(0, at);
+}
+
+/**
+ * A fact of the engine's line, as `/bill writable Dollar`.
+ * @param {string} line
+ * @returns {ListedFact}
+ */
+export function listedFact(line) {
+  const [path = "", kind, ...type] = line.split(" ");
+  return { path, isWritable: kind === "writable", type: typeOf(type.join(" ")), collection: collectionOf(path) };
+}
+
+/**
  * @param {StatedFact} stated
  * @returns {Fact}
  */
 function factOf(stated) {
-  const at = stated.path.indexOf("/*/");
   return {
     path: stated.path,
     type: typeOf(String(stated.writable ?? stated.derived)),
@@ -43,7 +67,7 @@ function factOf(stated) {
     hasPlaceholder: stated.placeholder !== undefined,
     limits: (stated.limits ?? []).map(([name, text]) => ({ name, text })),
     description: stated.description ?? "",
-    collection: at < 0 ? null : stated.path.slice(0, at),
+    collection: collectionOf(stated.path),
   };
 }
 

@@ -9,6 +9,7 @@ export { Rational, amountText, centsOf } from "./values.js";
 /** @typedef {import("./dictionary.js").Fact} Fact */
 /** @typedef {import("./dictionary.js").FactType} FactType */
 /** @typedef {import("./dictionary.js").Limit} Limit */
+/** @typedef {import("./dictionary.js").ListedFact} ListedFact */
 /** @typedef {import("./session.js").Dropped} Dropped */
 /** @typedef {import("./session.js").Options} Options */
 /** @typedef {import("./session.js").Watch} Watch */

@@ -9,18 +9,17 @@ const ABSENT = 0xffffffff;
 const LINE = 4_097, DICTIONARY = 8_388_609, SAVED = 67_108_865;
 // A session has a block of the memory: its handle, the size of its text, and its fault of five numbers.
 const HANDLE = 0, SIZE = 8, FAULT = 16, BLOCK = 40;
-// The least room for lines and replies. A line of 4,096 bytes and one character more has less.
-const ROOM = 8_192;
-// A room of more bytes isn't kept, nor a session's text of more.
-const KEPT = 1_048_576, KEPT_TEXT = 65_536;
-// A text of so many characters is short: it is written and read in less time one by one.
+// The room for replies, of which a longer one is read in pieces: once a line is answered, no memory is wanting.
+const ROOM = 65_536;
+// A line of so many characters, or a reply of so many bytes, is short: it is written and read in less time by its numbers.
 const SHORT = 100;
+// The bits of four bytes that no character of ASCII has.
+const NOT_ASCII = 0x80808080;
 
 const encoder = new TextEncoder();
 const decoder = new TextDecoder("utf-8", { fatal: true, ignoreBOM: true });
 
-/** @typedef {Record<string, (...numbers: number[]) => number>} Calls */
-/** @typedef {{ at: number, size: number }} Room */
+/** @typedef {(...numbers: number[]) => number} Call */
 
 /**
  * The bytes of a text. Throws TypeError where it isn't well formed.
@@ -37,28 +36,22 @@ export function bytesOf(text) {
  * @param {Uint8Array} bytes
  */
 export function textOfBytes(bytes) {
-  if (bytes.length > SHORT) return decoder.decode(bytes);
-  let text = "";
-  for (let k = 0; k < bytes.length; k++) {
-    const byte = /** @type {number} */ (bytes[k]);
-    if (byte > 127) return decoder.decode(bytes);
-    text += String.fromCharCode(byte);
-  }
-  return text;
+  return decoder.decode(bytes);
 }
 
 /** An instance of the module, whose sessions share its memory. Each call of it ends before the next begins. */
 export class Machine {
+  /** @type {Record<string, Call>} */
   #calls;
+  #answer;
+  #read;
   #memory;
   #bytes;
   #numbers;
   /** @type {unknown} */
   #stopped = null;
-  /** @type {Room} */
-  #input = { at: 0, size: 0 };
-  /** @type {Room} */
-  #output = { at: 0, size: 0 };
+  #input;
+  #output;
   // sessions that nobody closed, nor can
   #abandoned = new FinalizationRegistry((/** @type {number} */ block) => this.end(block));
 
@@ -66,10 +59,15 @@ export class Machine {
    * @param {WebAssembly.Instance} instance
    */
   constructor(instance) {
-    this.#calls = /** @type {Calls} */ (/** @type {unknown} */ (instance.exports));
+    this.#calls = /** @type {Record<string, Call>} */ (/** @type {unknown} */ (instance.exports));
+    // each line calls these two, and not by `call`, which makes a list of the numbers
+    this.#answer = /** @type {Call} */ (this.#calls.fact_graph_answer);
+    this.#read = /** @type {Call} */ (this.#calls.fact_graph_read);
     this.#memory = /** @type {WebAssembly.Memory} */ (instance.exports.memory);
     this.#bytes = new Uint8Array(this.#memory.buffer);
     this.#numbers = new DataView(this.#memory.buffer);
+    this.#input = this.#taken(LINE);
+    this.#output = this.#taken(ROOM);
   }
 
   /** The bytes of the memory. It never becomes less. */
@@ -96,20 +94,26 @@ export class Machine {
    * @param {...number} numbers
    */
   call(name, ...numbers) {
-    if (this.#stopped) throw stopped(this.#stopped);
-    let answer;
+    this.#hold();
     try {
-      answer = /** @type {(...numbers: number[]) => number} */ (this.#calls[name])(...numbers);
+      return /** @type {Call} */ (this.#calls[name])(...numbers) >>> 0;
     } catch (cause) {
-      this.#stopped = cause;
+      this.#stopped = cause; // (first, since little of the stack may be left)
       throw stopped(cause);
+    } finally {
+      this.#look();
     }
-    if (this.#bytes.buffer !== this.#memory.buffer) {
-      // the memory grew
-      this.#bytes = new Uint8Array(this.#memory.buffer);
-      this.#numbers = new DataView(this.#memory.buffer);
-    }
-    return answer >>> 0;
+  }
+
+  #hold() {
+    if (this.#stopped) throw stopped(this.#stopped);
+  }
+
+  /** Looks at the memory anew where it grew: the views of before have nothing then. */
+  #look() {
+    if (this.#bytes.length) return;
+    this.#bytes = new Uint8Array(this.#memory.buffer);
+    this.#numbers = new DataView(this.#memory.buffer);
   }
 
   /**
@@ -128,20 +132,6 @@ export class Machine {
   }
 
   /**
-   * Gives a room so many bytes.
-   * @param {Room} room
-   * @param {number} size
-   */
-  #reserve(room, size) {
-    if (room.size >= size && (room.size <= KEPT || size > KEPT)) return;
-    if (room.at) this.call("release", room.at);
-    room.at = room.size = 0;
-    const wanted = Math.max(size, ROOM);
-    room.at = this.#taken(wanted);
-    room.size = wanted;
-  }
-
-  /**
    * Puts bytes into a block of their own.
    * @param {Uint8Array} bytes
    * @returns {[number, number]} where it is, and its size
@@ -157,7 +147,7 @@ export class Machine {
    * @param {string | Uint8Array} line
    */
   #putLine(line) {
-    const bytes = this.#bytes, at = this.#input.at;
+    const bytes = this.#bytes, at = this.#input;
     if (typeof line === "string" && line.length <= SHORT) {
       let size = 0;
       for (let code; size < line.length && (code = line.charCodeAt(size)) < 128; size++) bytes[at + size] = code;
@@ -245,17 +235,41 @@ export class Machine {
    * @param {string | Uint8Array} line
    */
   answer(block, line) {
-    this.#reserve(this.#input, ROOM);
+    return this.#says(block, line) ? this.text(block) : null;
+  }
+
+  /**
+   * Answers a line of a session, and returns its reply; null from `quit` on.
+   * @param {number} block
+   * @param {string} line
+   */
+  reply(block, line) {
+    return this.#says(block, line) ? this.#said(block) : null;
+  }
+
+  /**
+   * Answers a line, and tells whether the script goes on.
+   * @param {number} block
+   * @param {string | Uint8Array} line
+   */
+  #says(block, line) {
     const size = this.#putLine(line);
-    const how = this.call("fact_graph_answer", this.number(block + HANDLE), this.#input.at, size, block + SIZE, block + HANDLE);
-    if (how === OVER) return null;
-    if (how !== SAID) throw new OutOfMemory("no memory for the reply");
-    return this.text(block);
+    this.#hold();
+    let how;
+    try {
+      how = this.#answer(this.number(block + HANDLE), this.#input, size, block + SIZE, block + HANDLE);
+    } catch (cause) {
+      this.#stopped = cause;
+      throw stopped(cause);
+    }
+    this.#look();
+    if (how !== SAID && how !== OVER) throw new OutOfMemory("no memory for the reply");
+    return how === SAID;
   }
 
   /**
    * The bytes of what a call says that changes nothing, which the next call ends.
-   * @param {"save" | "reads" | "dictionary"} name
+   * @param {"save" | "reads" | "dictionary" | "facts"} name
    * @param {number} block
    * @param {...number} given
    */
@@ -263,7 +277,7 @@ export class Machine {
     const how = this.call(`fact_graph_${name}`, this.number(block + HANDLE), ...given, block + SIZE, block + HANDLE);
     if (how !== SAID) throw new OutOfMemory("no memory for the text");
     const text = this.text(block);
-    if (text.length > KEPT_TEXT) this.call("fact_graph_trim", this.number(block + HANDLE), block + HANDLE);
+    if (text.length > ROOM) this.call("fact_graph_trim", this.number(block + HANDLE), block + HANDLE);
     return text;
   }
 
@@ -273,9 +287,7 @@ export class Machine {
    * @param {string} slot
    */
   reads(block, slot) {
-    this.#reserve(this.#input, ROOM);
-    const size = this.#putLine(slot);
-    return this.#saidBy("reads", block, this.#input.at, size);
+    return this.#saidBy("reads", block, this.#input, this.#putLine(slot));
   }
 
   /**
@@ -284,6 +296,14 @@ export class Machine {
    */
   dictionary(block) {
     return this.#saidBy("dictionary", block);
+  }
+
+  /**
+   * The bytes of the list of its facts, which the next call ends.
+   * @param {number} block
+   */
+  facts(block) {
+    return this.#saidBy("facts", block);
   }
 
   /**
@@ -309,10 +329,58 @@ export class Machine {
    */
   text(block) {
     const size = this.number(block + SIZE);
-    this.#reserve(this.#output, size);
-    const { at } = this.#output;
-    const count = this.call("fact_graph_read", this.number(block + HANDLE), 0, at, size, block + HANDLE);
-    return this.#bytes.subarray(at, at + count);
+    if (size <= ROOM) return this.#piece(block, 0);
+    const whole = new Uint8Array(size);
+    for (let from = 0; from < size; from += ROOM) whole.set(this.#piece(block, from), from);
+    return whole;
+  }
+
+  /**
+   * What a session said last.
+   * @param {number} block
+   */
+  #said(block) {
+    const size = this.number(block + SIZE);
+    if (size > SHORT) return textOfBytes(this.text(block));
+    this.#copy(block, 0);
+    const numbers = this.#numbers, end = this.#output + size;
+    let text = "", at = this.#output;
+    for (; at + 8 <= end; at += 8) {
+      const a = numbers.getUint32(at, true), b = numbers.getUint32(at + 4, true);
+      if ((a | b) & NOT_ASCII) return textOfBytes(this.text(block));
+      text += String.fromCharCode(a & 127, (a >> 8) & 127, (a >> 16) & 127, a >> 24, b & 127, (b >> 8) & 127, (b >> 16) & 127, b >> 24);
+    }
+    for (; at < end; at++) {
+      const byte = numbers.getUint8(at);
+      if (byte > 127) return textOfBytes(this.text(block));
+      text += String.fromCharCode(byte);
+    }
+    return text;
+  }
+
+  /**
+   * The bytes of what a session said last, from one on, as far as there is room for them.
+   * @param {number} block
+   * @param {number} from
+   */
+  #piece(block, from) {
+    const count = this.#copy(block, from);
+    return this.#bytes.subarray(this.#output, this.#output + count);
+  }
+
+  /**
+   * Copies what a session said last, from a byte on, into the room for replies. Returns how many bytes were copied.
+   * @param {number} block
+   * @param {number} from
+   */
+  #copy(block, from) {
+    this.#hold();
+    try {
+      return this.#read(this.number(block + HANDLE), from, this.#output, ROOM, block + HANDLE);
+    } catch (cause) {
+      this.#stopped = cause;
+      throw stopped(cause);
+    }
   }
 }
 

@@ -1,12 +1,12 @@
 // Sessions: answers over a dictionary, and the results that follow from them.
 
-import { Dictionary } from "./dictionary.js";
+import { Dictionary, listedFact, pathOf } from "./dictionary.js";
 import { Engine, machineOf } from "./engine.js";
 import { Refused, SessionClosed } from "./errors.js";
 import { bytesOf, textOfBytes } from "./machine.js";
 import { READERS, textOf } from "./values.js";
 
-/** @typedef {import("./dictionary.js").Fact} Fact */
+/** @typedef {import("./dictionary.js").ListedFact} ListedFact */
 /** @typedef {import("./machine.js").Machine} Machine */
 /** @typedef {import("./values.js").Answer} Answer */
 /** @typedef {import("./values.js").Kind} Kind */
@@ -60,7 +60,7 @@ function stepOf(line) {
   return STEPS[blank < 0 ? line.replace(/\r$/, "") : line.slice(0, blank)] ?? 0;
 }
 
-/** @type {(machine: Machine, block: number, dictionary: Uint8Array, undo: number) => Session} */
+/** @type {(machine: Machine, block: number, source: string, undo: number, dropped: Dropped[]) => Session} */
 let created;
 
 /**
@@ -77,9 +77,11 @@ async function begun(how, dictionary, saved, options) {
   const machine = machineOf(options?.engine ?? (await sharedEngine()));
   const block = machine.begin(how, text, kept);
   try {
-    return created(machine, block, how === "open_built_in" ? machine.dictionary(block) : text, Math.floor(undo));
+    const dropped = how === "carry" ? linesOf(machine.text(block)).map(droppedOf) : [];
+    const source = how === "open_built_in" ? textOfBytes(machine.dictionary(block)) : typeof dictionary === "string" ? dictionary : textOfBytes(text);
+    return created(machine, block, source, Math.floor(undo), dropped);
   } catch (wrong) {
-    machine.end(block); // there was no memory for its dictionary
+    machine.end(block); // there was no memory for its texts
     throw wrong;
   }
 }
@@ -94,19 +96,20 @@ export class Session {
   #machine;
   #block;
   #undo;
+  #source;
+  /** @type {Dictionary | null} */
+  #dictionary = null;
+  #facts;
   #isOpen = true;
   // how many changes could be undone, but for those before the session, and how many of them stand before the block of changes
   #depth = 0;
   #floor = -Infinity;
 
-  /** What the dictionary says of its facts. */
-  dictionary;
-
   /**
    * What `carry` didn't keep.
    * @type {readonly Dropped[]}
    */
-  dropped = [];
+  dropped;
 
   /**
    * The watches that fired at the last accepted change that a method other than `line` made, in the order in which they were put.
@@ -115,22 +118,25 @@ export class Session {
   fired = [];
 
   static {
-    created = (machine, block, dictionary, undo) => new Session(machine, block, dictionary, undo);
+    created = (machine, block, source, undo, dropped) => new Session(machine, block, source, undo, dropped);
   }
 
   /**
    * @private
    * @param {Machine} machine
    * @param {number} block
-   * @param {Uint8Array} dictionary
+   * @param {string} source
    * @param {number} undo
+   * @param {Dropped[]} dropped
    */
-  constructor(machine, block, dictionary, undo) {
+  constructor(machine, block, source, undo, dropped) {
     this.#machine = machine;
     this.#block = block;
+    this.#source = source;
     this.#undo = undo;
+    this.dropped = dropped;
+    this.#facts = new Map(linesOf(machine.facts(block)).map((line) => [line.slice(0, line.indexOf(" ")), listedFact(line)]));
     machine.closeWith(this, block);
-    this.dictionary = new Dictionary(textOfBytes(dictionary));
   }
 
   /**
@@ -170,10 +176,7 @@ export class Session {
    * @param {Options} [options]
    */
   static async carry(dictionary, saved, options) {
-    const session = await begun("carry", dictionary, saved, options);
-    const lines = textOfBytes(session.#machine.text(session.#block)).split("\n").slice(0, -1);
-    session.dropped = lines.map((line) => line.split(" ")).map(([, kind = "", slot = ""]) => ({ kind, slot }));
-    return session;
+    return begun("carry", dictionary, saved, options);
   }
 
   // ---- changes
@@ -239,7 +242,7 @@ export class Session {
 
   /** Goes back to the answers before the last change. */
   undo() {
-    this.#change("undo");
+    this.#change("undo", -1);
   }
 
   /** Goes forth again. */
@@ -263,7 +266,7 @@ export class Session {
       if (answer instanceof Promise) throw new TypeError("a function of changes can't wait");
       return answer;
     } catch (wrong) {
-      while (this.#isOpen && this.#depth > this.#floor && this.#said("undo")) continue;
+      while (this.#isOpen && this.#depth > this.#floor && this.#said("undo", -1)) continue;
       throw wrong;
     } finally {
       this.#floor = outer;
@@ -328,12 +331,25 @@ export class Session {
    * @param {string} slot
    */
   has(slot) {
-    return !this.#said(`get ${slot}`)?.startsWith("refused ");
+    return !this.#said(`get ${slot}`, 0)?.startsWith("refused ");
+  }
+
+  /**
+   * The facts of the dictionary by their paths, in its order, as the engine lists them: of which kind and type each is.
+   * @returns {ReadonlyMap<string, ListedFact>}
+   */
+  facts() {
+    return new Map(this.#facts);
+  }
+
+  /** What the dictionary's text says of its facts: placeholders, limits, options and descriptions, too. */
+  get dictionary() {
+    return (this.#dictionary ??= new Dictionary(this.#source));
   }
 
   /** The slots that stand now, in the order of the dictionary, and of a fact in the order of its members. */
   slots() {
-    return [...this.dictionary.facts.values()].flatMap(({ path, collection }) =>
+    return [...this.#facts.values()].flatMap(({ path, collection }) =>
       collection === null ? [path] : this.members(collection).map((member) => path.replace("*", `#${member}`)),
     );
   }
@@ -385,7 +401,7 @@ export class Session {
   line(line) {
     const given = line.endsWith("\n") ? line.slice(0, -1) : line;
     if (given.includes("\n")) throw new TypeError("a line of a script has no newline within");
-    return this.#said(given) ?? "";
+    return this.#said(given, stepOf(given)) ?? "";
   }
 
   /** Ends the session, and frees its memory. All other calls throw SessionClosed from then on. */
@@ -407,16 +423,19 @@ export class Session {
     if (slot.includes(" ")) throw new Refused(1, "BadLine");
     const isAmount = typeof value === "bigint";
     if (isAmount || typeof value === "number") {
-      const type = this.dictionary.factAt(slot)?.type.name;
+      const type = this.#factAt(slot)?.type.name;
       if (type !== undefined && isAmount !== (type === "Dollar"))
         throw new TypeError(isAmount ? `a BigInt is an amount in cents, and ${slot} is of the type ${type}` : `${slot} is an amount: give its cents as a BigInt, or its text`);
     }
     this.#change(`${verb} ${slot} ${textOf(value)}`);
   }
 
-  /** @param {string} line */
-  #change(line) {
-    const reply = this.#ask(line);
+  /**
+   * The first line of the reply to a change, which goes forth by a step, or back by one.
+   * @param {string} line
+   */
+  #change(line, step = 1) {
+    const reply = this.#ask(line, step);
     const end = reply.indexOf("\n") + 1;
     this.fired = end === reply.length ? [] : reply.slice(end, -1).split("\n").map(watchOf);
     return reply.slice(0, end - 1);
@@ -426,8 +445,8 @@ export class Session {
    * The reply to a command that isn't refused.
    * @param {string} line
    */
-  #ask(line) {
-    const said = this.#said(asLine(line));
+  #ask(line, step = 0) {
+    const said = this.#said(asLine(line), step);
     if (said === null) throw new SessionClosed("the session was quit");
     if (said.startsWith("refused ")) throw Refused.ofReply(said);
     return said;
@@ -436,13 +455,12 @@ export class Session {
   /**
    * The text of a line, or null where the script is over.
    * @param {string} line
+   * @param {number} step by how many changes it goes forth
    */
-  #said(line) {
+  #said(line, step) {
     this.#hold();
-    const step = stepOf(line);
     if (step < 0 && this.#depth <= this.#floor) return NOTHING_TO_UNDO;
-    const bytes = this.#machine.answer(this.#block, line);
-    const said = bytes && textOfBytes(bytes);
+    const said = this.#machine.reply(this.#block, line);
     if (step && said?.startsWith("ok")) {
       this.#depth += step;
       this.#forget();
@@ -462,8 +480,13 @@ export class Session {
   }
 
   /** @param {string} slot */
+  #factAt(slot) {
+    return this.#facts.get(slot) ?? this.#facts.get(pathOf(slot));
+  }
+
+  /** @param {string} slot */
   #reader(slot) {
-    const type = /** @type {Fact} */ (this.dictionary.factAt(slot)).type;
+    const { type } = /** @type {ListedFact} */ (this.#factAt(slot));
     return /** @type {(text: string) => Value} */ (READERS[type.name]);
   }
 }
@@ -487,6 +510,24 @@ function asLine(text) {
 function parted(reply) {
   const blank = reply.indexOf(" ");
   return blank < 0 ? [reply.slice(0, -1), ""] : [reply.slice(0, blank), reply.slice(blank + 1, -1)];
+}
+
+/**
+ * The lines of a text, without their newlines.
+ * @param {Uint8Array} text
+ */
+function linesOf(text) {
+  return textOfBytes(text).split("\n").slice(0, -1);
+}
+
+/**
+ * Of a line such as `dropped value /people/#2/born`.
+ * @param {string} line
+ * @returns {Dropped}
+ */
+function droppedOf(line) {
+  const [, kind = "", slot = ""] = line.split(" ");
+  return { kind, slot };
 }
 
 /**

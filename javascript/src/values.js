@@ -98,7 +98,7 @@ function rational(text) {
 export const READERS = {
   Boolean: (text) => text === "true",
   Int: Number,
-  Dollar: (text) => BigInt(text.replace(".", "")),
+  Dollar: (text) => BigInt(text.slice(0, -3) + text.slice(-2)),
   Rational: rational,
   Day: same,
   Text: same,

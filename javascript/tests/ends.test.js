@@ -24,7 +24,7 @@ test("an engine that stops says so, and sessions that are opened from then on ha
     const within = (depth, call) => depth ? within(depth - 1, call) : call();
     const told = (call) => { try { return call(); } catch (wrong) { return wrong; } };
     let reply;
-    for (let depth = 0; depth < 100_000 && !(reply instanceof EngineStopped); depth += 10) {
+    for (let depth = 0; depth < 10_000 && !(reply instanceof EngineStopped); depth++) {
       const deep = told(() => within(depth, () => before.line("get /x")));
       if (typeof deep !== "string" && !(deep instanceof RangeError || deep instanceof EngineStopped)) throw deep;
       reply = told(() => before.line("get /x"));

@@ -204,6 +204,18 @@ test("saved text is loaded and carried", async () => {
   assert.deepEqual(kept.dropped, []);
 });
 
+test("the engine lists the facts", async () => {
+  const session = await opened();
+  const facts = session.facts();
+  assert.deepEqual([...facts.keys()], [...session.dictionary.facts.keys()]);
+  for (const { path, isWritable, type, collection } of session.dictionary.facts.values())
+    assert.deepEqual(facts.get(path), { path, isWritable, type, collection });
+  facts.clear();
+  assert.equal(session.facts().get("/people/*/born").collection, "/people");
+  session.close();
+  assert.equal(session.facts().get("/housing").isWritable, false);
+});
+
 test("the dictionary tells its facts", async () => {
   const { dictionary } = await opened();
   assert.equal(dictionary.description, "a household");

@@ -11,7 +11,7 @@ dictionary is written, and docs/FAULTS.md what each refusal means. What is refus
 examples here and below are over the dictionary examples/screener.json.
 """
 
-from .dictionary import Dictionary, Fact, FactType, Limit
+from .dictionary import Dictionary, Fact, FactType, Limit, ListedFact
 from .errors import (
     DictionaryRefused,
     FactGraphError,
@@ -41,6 +41,7 @@ __all__ = [
     "Kind",
     "LibraryMissing",
     "Limit",
+    "ListedFact",
     "OutOfMemory",
     "Refused",
     "Result",

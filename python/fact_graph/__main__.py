@@ -11,14 +11,14 @@ from collections.abc import Sequence
 from .status import Status
 
 PACKAGES = {
-    "click": "python3-click",
-    "jinja2": "python3-jinja2",
-    "lark": "python3-lark",
-    "prompt_toolkit": "python3-prompt-toolkit",
-    "rich": "python3-rich",
-    "yaml": "python3-yaml",
+    "click": ("python3-click", "click"),
+    "jinja2": ("python3-jinja2", "Jinja2"),
+    "lark": ("python3-lark", "lark"),
+    "prompt_toolkit": ("python3-prompt-toolkit", "prompt-toolkit"),
+    "rich": ("python3-rich", "rich"),
+    "yaml": ("python3-yaml", "PyYAML"),
 }
-"""What the commands need, and Debian's names of the packages that have it."""
+"""What the commands need, and the names of the packages that have it: Debian's, and that for pip."""
 
 
 def main(words: Sequence[str] | None = None) -> int:
@@ -30,8 +30,8 @@ def main(words: Sequence[str] | None = None) -> int:
     except ModuleNotFoundError as missing:
         if missing.name not in PACKAGES:
             raise
-        print(f"fact-graph: the command line needs {missing.name}: apt install {PACKAGES[missing.name]} brings it,", file=sys.stderr)
-        print("and so does pip install './python[commands]' at the top of the repository", file=sys.stderr)
+        of_debian, of_pip = PACKAGES[missing.name]
+        print(f"fact-graph: the command line needs {missing.name}: apt install {of_debian} brings it, and so does pip install {of_pip}", file=sys.stderr)
         return Status.NOT_INSTALLED
 
 

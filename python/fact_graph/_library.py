@@ -65,14 +65,23 @@ class Library:  # pylint: disable=too-many-instance-attributes # a function each
         self.open_built_in: Call = function("open_built_in", c_uint32, *text, at, at)
         self.load: Call = function("load", c_uint32, *text, *text, at, at)
         self.carry: Call = function("carry", c_uint32, *text, *text, at, at, at)
+        self.resume: Call = function("resume", c_uint32, *text, *text, at, at, at)
         self.answer: Call = function("answer", c_uint32, graph, *text, at, at)
         self.save: Call = function("save", c_uint32, graph, at, at)
         self.reads: Call = function("reads", c_uint32, graph, *text, at, at)
         self.dictionary: Call = function("dictionary", c_uint32, graph, at, at)
+        self.facts: Call = function("facts", c_uint32, graph, at, at)
         self.keep_changes: Callable[..., None] = function("keep_changes", None, graph, c_size_t, at)
         self.trim: Callable[..., None] = function("trim", None, graph, at)
         self.read: Call = function("read", c_size_t, graph, c_size_t, at, c_size_t, at)
         self.close: Callable[[c_void_p], None] = function("close", None, graph)
+
+
+def last_text(calls: Library, graph: c_void_p, size: int) -> bytes:
+    """The text of the last call on a session, of which the size is known."""
+    room = ctypes.create_string_buffer(size + 1)
+    calls.read(graph, 0, room, size, ctypes.byref(graph))
+    return room.raw[:size]
 
 
 def place() -> str:

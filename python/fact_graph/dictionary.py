@@ -3,6 +3,7 @@
 from __future__ import annotations
 
 import json
+from dataclasses import dataclass
 from typing import Any, NamedTuple
 
 
@@ -38,6 +39,39 @@ class Limit(NamedTuple):
     text: str
 
 
+@dataclass(frozen=True, slots=True)
+class ListedFact:
+    """A fact as the library lists it: its path, whether it is answered, where it isn't it follows from others, and its type.
+
+    >>> from fact_graph import Session
+    >>> Session.open("screener.json").facts()["/people/*/wages"]
+    ListedFact(path='/people/*/wages', is_writable=True, type=FactType(name='Dollar', of=None))
+    """
+
+    path: str
+    is_writable: bool
+    type: FactType
+
+    @classmethod
+    def of_line(cls, line: str) -> ListedFact:
+        """Of the library's line, as `/bill writable Dollar`.
+
+        >>> ListedFact.of_line("/size derived Int")
+        ListedFact(path='/size', is_writable=False, type=FactType(name='Int', of=None))
+        """
+        path, kind, type_text = line.split(" ", 2)
+        return cls(path, kind == "writable", FactType.of_text(type_text))
+
+    @property
+    def collection(self) -> str | None:
+        """The path of the collection whose members have the fact, or None where it stands once.
+
+        >>> ListedFact.of_line("/people/*/wages writable Dollar").collection
+        '/people'
+        """
+        return collection_of(self.path)
+
+
 class Fact(NamedTuple):
     """A fact of a dictionary. That of a collection's members has a path like `/people/*/born`.
 
@@ -62,8 +96,7 @@ class Fact(NamedTuple):
         >>> Session.open("screener.json").dictionary.facts["/people/*/born"].collection
         '/people'
         """
-        front, star, _ = self.path.partition("/*/")
-        return front if star else None
+        return collection_of(self.path)
 
 
 class Dictionary(NamedTuple):
@@ -105,6 +138,16 @@ class Dictionary(NamedTuple):
         '/people/*/born'
         """
         return self.facts[path_of(slot)]
+
+
+def collection_of(path: str) -> str | None:
+    """The path of the collection whose members have a fact, or None where it stands once.
+
+    >>> collection_of("/people/*/born"), collection_of("/bill")
+    ('/people', None)
+    """
+    front, star, _ = path.partition("/*/")
+    return front if star else None
 
 
 def path_of(slot: str) -> str:

@@ -1,7 +1,7 @@
 """What a maker says of an interview's page: its title, which figures it shows, and the words by which it asks.
 
-Beside the rules in `NAME.json` a file `NAME.page` says so. Where there is none, or it is silent, the figures are the derived
-facts on which no other rests, and the words are made of the facts' names.
+Beside the rules in `NAME.json` a file `NAME.page` says so, and so does a file of the package for the rules that come with it. Where
+there is none, or it is silent, the figures are the derived facts on which no other rests, and the words are made of the facts' names.
 
     >>> page = Page("Help with the bill", ("/help",), {"/help": "Amount of help"})
     >>> page.label("/help"), page.label("/people/#2/bornOn")
@@ -16,14 +16,23 @@ from collections.abc import Iterable, Iterator
 from pathlib import Path
 from typing import Any, NamedTuple
 
-from .dictionary import Dictionary, path_of
+from .built_in import is_built_in, page_of
+from .dictionary import Dictionary, Fact, path_of
 from .faults.finding import listed, nearest, shown
 from .graph import facts, figures
 from .located import Pointer
 
-KEYS = ("title", "language", "layout", "figures", "questions", "labels", "help", "sources", "options")
+KEYS = ("title", "introduction", "language", "layout", "figures", "questions", "groups", "headings", "purposes", "labels", "help", "sources", "options")
 CHOICES = {"language": ("en", "es"), "layout": ("all", "one")}
 """What is one of a few words."""
+PURPOSES = {
+    "Day": ("bday",),
+    "Text": (
+        "name", "given-name", "additional-name", "family-name", "organization", "organization-title", "address-line1", "address-line2",
+        "address-level2", "address-level1", "postal-code", "country-name", "email", "tel",
+    ),
+}  # fmt: skip
+"""What a question may ask of the person who answers, by its type, in the words by which browsers fill it in."""
 
 
 class Page(NamedTuple):
@@ -49,10 +58,16 @@ class Page(NamedTuple):
         return self.labels.get(f"{collection}/*") or f"Member of {words_of(collection[1:]).lower()}"
 
 
-def page_beside(name: str) -> Path | None:
-    """The file of the page beside that of the rules, where there is one."""
-    path = Path(name).with_suffix(".page") if name != "-" else None
-    return path if path and path.is_file() else None
+def page_beside(name: str, language: str = "") -> Path | None:
+    """The file of the page beside that of the rules, or with those that come along, where there is one; in a language its words alone.
+
+    >>> page_beside("screener.json", "es")
+    PosixPath('screener.es.page')
+    """
+    if name == "-":
+        return None
+    path = (page_of(name) if is_built_in(name) else Path(name)).with_suffix(f".{language}.page" if language else ".page")
+    return path if path.is_file() else None
 
 
 def words_of(name: str) -> str:
@@ -90,25 +105,71 @@ def misstated(stated: Any, dictionary: Dictionary) -> Iterator[Misstated]:
             yield Misstated((key,), f"a page has no key `{key}`", f"`{like}` is like it" if like else f"it has {listed(KEYS, 'and')}", True)
     if not isinstance(stated.get("title", ""), str):
         yield Misstated(("title",), "a title is a text")
+    if not _is_list_of_texts(stated.get("introduction", [])):
+        yield Misstated(("introduction",), "an introduction is a list of texts, one for each paragraph")
     for key, words in CHOICES.items():
         if stated.get(key, words[0]) not in words:
             yield Misstated((key,), f"the {key} is {listed(words, 'or')}, and not {shown(stated[key])}")
     for key in ("figures", "questions"):
-        yield from _paths(key, stated.get(key, []), dictionary)
+        yield from _paths((key,), stated.get(key, []), dictionary)
+    groups = stated.get("groups", {})
+    yield from _groups(groups, dictionary)
+    yield from _texts(("headings",), stated.get("headings", {}), "group", groups if isinstance(groups, dict) else {})
     members = [f"{path}/*" for path, fact in dictionary.facts.items() if fact.type == ("Collection", None)]
     others: dict[str, list[str]] = {"labels": members, "help": [], "sources": []}
     for key, more in others.items():
         yield from _texts((key,), stated.get(key, {}), "fact", [*dictionary.facts, *more])
+    yield from _purposes(stated.get("purposes", {}), dictionary)
     yield from _options(stated.get("options", {}), dictionary)
 
 
-def _paths(key: str, stated: Any, dictionary: Dictionary) -> Iterator[Misstated]:
+def _is_list_of_texts(stated: Any) -> bool:
+    return isinstance(stated, list) and all(isinstance(text, str) for text in stated)
+
+
+def _paths(at: Pointer, stated: Any, dictionary: Dictionary) -> Iterator[Misstated]:
     if not isinstance(stated, list):
-        yield Misstated((key,), f"the {key} are a list of paths")
+        yield Misstated(at, f"the {at[0]} are a list of paths" if len(at) == 1 else "a group is a list of paths")
         return
-    for at, path in enumerate(stated):
+    for number, path in enumerate(stated):
         if not isinstance(path, str) or path not in dictionary.facts:
-            yield Misstated((key, at), f"there is no fact {shown(path)}", _like(path, dictionary.facts))
+            yield Misstated((*at, number), f"there is no fact {shown(path)}", _like(path, dictionary.facts))
+
+
+def _groups(stated: Any, dictionary: Dictionary) -> Iterator[Misstated]:
+    """What is wrong with the groups of questions."""
+    if not isinstance(stated, dict):
+        yield Misstated(("groups",), "the groups are an object of lists of paths by group")
+        return
+    seen: set[str] = set()
+    for name, paths in stated.items():
+        yield from _paths(("groups", name), paths, dictionary)
+        for number, path in enumerate(paths if _is_list_of_texts(paths) else []):
+            reason = _why_not_in_group(dictionary.facts.get(path), path in seen)
+            if reason:
+                yield Misstated(("groups", name, number), f"{shown(path)} {reason}")
+            seen.add(path)
+
+
+def _why_not_in_group(fact: Fact | None, is_seen: bool) -> str:
+    """Why a fact may not stand in a group; an empty text where it may, or where there is none."""
+    if fact is None:
+        return ""
+    if not fact.is_writable:
+        return "is worked out, and a group is of questions"
+    if fact.collection:
+        return f"is asked with the other questions on a member of {fact.collection}, so it stands in no group"
+    return "stands in a group before" if is_seen else ""
+
+
+def _purposes(stated: Any, dictionary: Dictionary) -> Iterator[Misstated]:
+    """What is wrong with what is said of the person who answers."""
+    yield from _texts(("purposes",), stated, "fact", dictionary.facts)
+    for path, purpose in stated.items() if isinstance(stated, dict) else ():
+        known = PURPOSES.get(dictionary.facts[path].type.name, ()) if path in dictionary.facts else (purpose,)
+        if isinstance(purpose, str) and purpose not in known:
+            reason = f"the purpose of a {dictionary.facts[path].type.name} is {listed(known, 'or')}" if known else f"{shown(path)} has a type without purposes"
+            yield Misstated(("purposes", path), reason)
 
 
 def _texts(at: Pointer, stated: Any, what: str, known: Iterable[str]) -> Iterator[Misstated]:

@@ -5,26 +5,27 @@ from __future__ import annotations
 import contextlib
 import ctypes
 import os
+import re
 import threading
 import weakref
 from collections.abc import Callable, Iterator
 from pathlib import Path
 from typing import Any, NamedTuple, NoReturn
 
-from ._library import NO_MEMORY, OVER, SAID, Fault, library
-from .dictionary import Dictionary, path_of
+from ._answering import answering
+from ._library import NO_MEMORY, OVER, SAID, Fault, last_text, library
+from .dictionary import Dictionary, ListedFact, path_of
 from .errors import FactGraphError, OutOfMemory, Refused, SessionBusy, SessionClosed, SessionForked
 from .values import KINDS, READERS, Answer, Result, Value, text_of, text_of_int
 
-# A reply of so many bytes is read in place; a longer one gets room of its own.
-ROOM = 1280
 # The library keeps no text of more bytes once it was read.
 KEPT = 65_536
-# What the size of a text is until the call says it.
-UNSAID = ctypes.c_size_t(-1).value
 # By the verb of a line, how many changes more `undo` can take back where it is answered by ok.
 STEPS = dict.fromkeys((b"set", b"clear", b"open", b"add", b"remove", b"override", b"release", b"redo"), 1)
 NOTHING_TO_UNDO = "refused 13 NothingToUndo\n"
+
+# The words of dictionaries that may come with the library.
+BUILT_IN_WORDS = re.compile(r"(year|income) ([0-9]{4})")
 
 
 class Watch(NamedTuple):
@@ -39,14 +40,26 @@ class Watch(NamedTuple):
 
 
 class Dropped(NamedTuple):
-    """A line of a saved text that isn't carried: `list`, `value` or `override`, and what it names.
+    """A line of a saved text that isn't kept: `list`, `value` or `override`, and what it names. Of a value that `resume` doesn't
+    take, `refused` is what `set` refuses it with.
 
-    >>> Dropped("value", "/people/#2/born")
-    Dropped(kind='value', slot='/people/#2/born')
+    >>> Dropped("override", "/people/#2/isAdult")
+    Dropped(kind='override', slot='/people/#2/isAdult', refused=None)
     """
 
     kind: str
     slot: str
+    refused: Refused | None = None
+
+    @staticmethod
+    def of_line(line: str) -> Dropped:
+        """Of a line that a session says.
+
+        >>> print(Dropped.of_line("dropped value /bill refused 7 Limit 2").refused)
+        refused 7 Limit 2
+        """
+        _, kind, slot, *reply = line.split(" ", 3)
+        return Dropped(kind, slot, Refused.of_reply(reply[0]) if reply else None)
 
 
 class Session:  # pylint: disable=too-many-instance-attributes # what its calls are made with is at hand
@@ -72,31 +85,35 @@ class Session:  # pylint: disable=too-many-instance-attributes # what its calls 
     Raises `DictionaryRefused` where the dictionary has a fault.
     """
 
-    dictionary: Dictionary
-    """What the dictionary says of its facts."""
-
     source: bytes
     """The dictionary's text as it was given, or as the library says that of one that comes with it."""
 
     dropped: tuple[Dropped, ...] = ()
-    """What `carry` didn't keep."""
+    """What `carry` or `resume` didn't keep."""
 
     fired: tuple[Watch, ...] = ()
     """The watches that fired at the last accepted change that a method other than `line` made, in the order in which they were
     put. Where threads share the session it may be another thread's change."""
 
+    _dictionary: Dictionary | None = None
+
     def __init__(self, dictionary: bytes | str, *, undo: int | None = None) -> None:
         text = _bytes_of(dictionary)
-        self._begin(text, lambda graph, fault: library().open(text, len(text), graph, fault), undo)
+        self._begin(text, lambda graph, _, fault: library().open(text, len(text), graph, fault), undo)
 
     @classmethod
     def open(cls, source: bytes | str | os.PathLike[str], *, undo: int | None = None) -> Session:
-        """A session without answers, over the dictionary in the file at a path, or over one that is given as bytes.
+        """A session without answers, over the dictionary in the file at a path, over one that is given as bytes, or over the one
+        that comes with the library under these words, as `built_in` has it: a file of such a name is given as a `Path`.
 
         >>> session = Session.open("screener.json")
         >>> session.missing("/help")
         ['/tenure', '/savings', '/people']
+        >>> Session.open("year 2023").get("/filingStatus").kind
+        'incomplete'
         """
+        if isinstance(source, str) and BUILT_IN_WORDS.fullmatch(source):
+            return cls.built_in(source, undo=undo)
         return cls(source if isinstance(source, bytes) else Path(source).read_bytes(), undo=undo)
 
     @classmethod
@@ -111,7 +128,7 @@ class Session:  # pylint: disable=too-many-instance-attributes # what its calls 
         'marriedFilingJointly'
         """
         session, text = cls.__new__(cls), _bytes_of(words)
-        session._begin(None, lambda graph, fault: library().open_built_in(text, len(text), graph, fault), undo)
+        session._begin(None, lambda graph, _, fault: library().open_built_in(text, len(text), graph, fault), undo)
         return session
 
     @classmethod
@@ -123,7 +140,7 @@ class Session:  # pylint: disable=too-many-instance-attributes # what its calls 
         Decimal('800.00')
         """
         session, text, kept = cls.__new__(cls), _bytes_of(dictionary), _bytes_of(saved)
-        session._begin(text, lambda graph, fault: library().load(text, len(text), kept, len(kept), graph, fault), undo)
+        session._begin(text, lambda graph, _, fault: library().load(text, len(text), kept, len(kept), graph, fault), undo)
         return session
 
     @classmethod
@@ -133,23 +150,37 @@ class Session:  # pylint: disable=too-many-instance-attributes # what its calls 
 
         >>> dictionary = '{"version":"1","facts":[{"path":"/income","writable":"Dollar"}]}'
         >>> Session.carry(dictionary, "saved 1\\nnext 1\\nvalue /rent 800.00\\nend\\n").dropped
-        (Dropped(kind='value', slot='/rent'),)
+        (Dropped(kind='value', slot='/rent', refused=None),)
         """
+        return cls._kept_of(library().carry, dictionary, saved, undo)
+
+    @classmethod
+    def resume(cls, dictionary: bytes | str, saved: bytes | str, *, undo: int | None = None) -> Session:
+        """A session that goes on from a saved text which came from outside, as from a person's upload: as `carry`, but it takes
+        no override, and each value of `dropped` has what `set` refuses it with.
+
+        >>> dictionary = '{"version":"1","facts":[{"path":"/rooms","writable":"Int","limits":[["Max","9"]]}]}'
+        >>> [dropped] = Session.resume(dictionary, "saved 1\\nnext 1\\nvalue /rooms 12\\nend\\n").dropped
+        >>> print(dropped.slot, dropped.refused)
+        /rooms refused 7 Limit 1
+        """
+        return cls._kept_of(library().resume, dictionary, saved, undo)
+
+    @classmethod
+    def _kept_of(cls, call: Callable[..., int], dictionary: bytes | str, saved: bytes | str, undo: int | None) -> Session:
         session, text, kept = cls.__new__(cls), _bytes_of(dictionary), _bytes_of(saved)
-        size = ctypes.c_size_t()
-        session._begin(text, lambda graph, fault: library().carry(text, len(text), kept, len(kept), graph, ctypes.byref(size), fault), undo)
-        lines = session._text(size.value).decode().splitlines()
-        session.dropped = tuple(Dropped(*line.split(" ")[1:]) for line in lines)
+        session._begin(text, lambda graph, size, fault: call(text, len(text), kept, len(kept), graph, size, fault), undo)
         return session
 
     def _begin(self, dictionary: bytes | None, begin: Callable[..., int], undo: int | None) -> None:
         if undo is not None and undo < 0:
             raise ValueError(f"undo is how many changes are kept, from 0 on, and no {undo}")
-        calls, graph, fault = library(), ctypes.c_void_p(), Fault()
-        if begin(ctypes.byref(graph), ctypes.byref(fault)):
-            raise fault.error()
+        calls, graph, size, fault = library(), ctypes.c_void_p(), ctypes.c_size_t(), Fault()
         # addresses are passed in less time than references
-        self._graph, self._back = graph, ctypes.addressof(graph)
+        self._back, self._size_at = ctypes.addressof(graph), ctypes.addressof(size)
+        if begin(self._back, self._size_at, ctypes.addressof(fault)):
+            raise fault.error()
+        self._graph, self._size = graph, size
         self._end = weakref.finalize(self, calls.close, graph)
         self._end.atexit = False  # a daemon thread may be in a call then, and the system takes the memory back
         self._is_open = True
@@ -160,15 +191,23 @@ class Session:  # pylint: disable=too-many-instance-attributes # what its calls 
         self._depth = 0  # how many changes `undo` can take back
         self._step = 0  # how many more it can where the last line made a change, as long as that isn't counted
         self._floor = -1  # how many it leaves within the block of changes that is open
-        self._size = ctypes.c_size_t()
-        self._size_at = ctypes.addressof(self._size)
-        self._room: Any = ctypes.create_string_buffer(ROOM)
-        self._room_at = ctypes.addressof(self._room)
-        self._answer, self._read = calls.answer, calls.read
+        self._answer = answering(calls, graph, size)
+        self.dropped = tuple(map(Dropped.of_line, self._text().decode().splitlines()))
         self.source = self._say_all(calls.dictionary) if dictionary is None else dictionary
-        self.dictionary = Dictionary.of_json(self.source)
-        self._readers = {path: READERS[fact.type.name] for path, fact in self.dictionary.facts.items()}
+        self._facts = {fact.path: fact for fact in map(ListedFact.of_line, self._say_all(calls.facts).decode().splitlines())}
+        self._readers = {path: READERS[fact.type.name] for path, fact in self._facts.items()}
         _sessions.add(self)
+
+    @property
+    def dictionary(self) -> Dictionary:
+        """What the dictionary's text says of its facts: placeholders, limits, options and descriptions, too.
+
+        >>> Session.open("screener.json").dictionary.facts["/bill"].description
+        'The heating bill of a year.'
+        """
+        if self._dictionary is None:
+            self._dictionary = Dictionary.of_json(self.source)
+        return self._dictionary
 
     # ---- changes
 
@@ -463,12 +502,23 @@ class Session:  # pylint: disable=too-many-instance-attributes # what its calls 
         ['/people/#1/born', '/people/#2/born']
         """
         slots = []
-        for path, fact in self.dictionary.facts.items():
+        for path, fact in self._facts.items():
             if fact.collection is None:
                 slots.append(path)
             else:
                 slots += [path.replace("*", f"#{member}") for member in self.members(fact.collection)]
         return iter(slots)
+
+    def facts(self) -> dict[str, ListedFact]:
+        """The facts of the dictionary by their paths, in its order, as the library lists them: of which kind and type each is.
+
+        >>> facts = Session.open("screener.json").facts()
+        >>> facts["/tenure"]
+        ListedFact(path='/tenure', is_writable=True, type=FactType(name='Enum', of='tenure'))
+        >>> [path for path, fact in facts.items() if not fact.is_writable and fact.type.name == "Dollar"]
+        ['/wages', '/means', '/most', '/help']
+        """
+        return dict(self._facts)
 
     # ---- the whole
 
@@ -525,7 +575,7 @@ class Session:  # pylint: disable=too-many-instance-attributes # what its calls 
         return _gone_on, (type(self), self.source, self.save(), self._undo)
 
     def __repr__(self) -> str:
-        return f"<{type(self).__name__} over {len(self.dictionary.facts)} facts{'' if self._is_open else ', closed'}>"
+        return f"<{type(self).__name__} over {len(self._facts)} facts{'' if self._is_open else ', closed'}>"
 
     # ---- how a line is said
 
@@ -536,43 +586,42 @@ class Session:  # pylint: disable=too-many-instance-attributes # what its calls 
         self._change(verb + " " + slot + " " + text_of(value))
 
     def _change(self, line: str, step: int = 1) -> str:
-        reply, *fired = self._ask(line, step).splitlines()
-        self.fired = tuple(Watch(*line.split(" ")[1:]) for line in fired)
+        reply, _, fired = self._ask(line, step).partition("\n")
+        self.fired = tuple(Watch(*line.split(" ")[1:]) for line in fired.splitlines()) if fired else ()
         return reply
 
     def _ask(self, line: str, step: int = 0) -> str:
         """The reply to a command that isn't refused."""
-        said = self._say(_as_line(line), step)
+        said = self._say(line if line.isascii() and line[-1] != "\r" else _as_line(line), step)
         if said is None:
             raise SessionClosed("the session was quit")
         if said.startswith("refused "):
             raise Refused.of_reply(said)
         return said
 
-    def _say(self, line: bytes, step: int = 0) -> str | None:
+    def _say(self, line: str | bytes, step: int = 0) -> str | None:
         """The text of a line, or None where the script is over. The step is that of the changes where it makes one."""
         with self._lock:
-            self._hold()
-            if step < 0 and self._depth == self._floor:
-                return NOTHING_TO_UNDO
-            self._is_busy = True
+            if self._is_busy or self._step or not self._is_open:  # which costs less than a call that finds nothing
+                self._hold()
             if step:
-                self._step, self._size.value = step, UNSAID
+                if step < 0 and self._depth == self._floor:
+                    return NOTHING_TO_UNDO
+                self._size.value, self._step = 0, step  # no text stands to be counted until the call says one
+            self._is_busy = True
             try:
-                how = self._answer(self._graph, line, len(line), self._size_at, self._back)
-                if how == SAID:
-                    # most replies fit the room, and a call that asks nothing else is the quickest
-                    size = self._read(self._graph, 0, self._room_at, ROOM, self._back)
-                    text: bytes = self._room[:size] if size < ROOM else self._text(self._size.value)
-                    if step:
-                        self._count(text)
+                said = self._answer(line)
+                if step and isinstance(said, str):
+                    self._count(said)
+                    if self._undo is not None:
                         self._forget()
-                    return text.decode()
             finally:
                 self._is_busy = False
-        if how == OVER:
+        if isinstance(said, str):
+            return said
+        if said == OVER:
             return None
-        raise _unsaid(how)
+        raise _unsaid(said)
 
     def _say_all(self, call: Callable[..., int], *given: object) -> bytes:
         """The text of a call that changes nothing, of which the library keeps no memory where it is long."""
@@ -582,7 +631,7 @@ class Session:  # pylint: disable=too-many-instance-attributes # what its calls 
             try:
                 how = call(self._graph, *given, self._size_at, self._back)
                 if how == SAID:
-                    text = self._text(self._size.value)
+                    text = self._text()
                     if len(text) > KEPT:
                         library().trim(self._graph, self._back)
                     return text
@@ -590,11 +639,9 @@ class Session:  # pylint: disable=too-many-instance-attributes # what its calls 
                 self._is_busy = False
         raise _unsaid(how)
 
-    def _text(self, size: int) -> bytes:
-        """The text of the last call, of which the size is known."""
-        room = ctypes.create_string_buffer(size + 1)
-        self._read(self._graph, 0, room, size, self._back)
-        return room.raw[:size]
+    def _text(self) -> bytes:
+        """The text of the last call."""
+        return last_text(library(), self._graph, self._size.value)
 
     def _hold(self) -> None:
         """Makes sure, under the lock, that a call may be made."""
@@ -602,16 +649,16 @@ class Session:  # pylint: disable=too-many-instance-attributes # what its calls 
         if not self._is_open:
             raise SessionClosed("the session is closed")
         if self._step:  # the exception of a signal's handler came between the last line and its count
-            self._count(self._text(self._size.value) if self._size.value != UNSAID else b"")
+            self._count(self._text().decode())
 
     def _keep_out(self) -> None:
         """Lets no call begin while one of the same thread hasn't ended."""
         if self._is_busy:
             raise SessionBusy("a call of this thread on the session hasn't ended")
 
-    def _count(self, reply: bytes) -> None:
+    def _count(self, reply: str) -> None:
         """Counts the change of the last line, where it made one."""
-        is_made = reply.startswith(b"ok")
+        is_made = reply.startswith("ok")
         # (nothing is called in between, so no handler of a signal comes between the two)
         self._depth, self._step = self._depth + self._step * is_made, 0
 

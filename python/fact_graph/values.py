@@ -86,11 +86,14 @@ def text_of_amount(value: Decimal) -> str:
     >>> text_of_amount(Decimal("1E+3")), text_of_amount(Decimal("1.999"))
     ('1000.00', '1.999')
     """
+    text = Decimal.__str__(value)
+    if text[-3:-2] == ".":
+        return text
     try:
         cents = value.quantize(CENT, context=OF_AMOUNTS)
     except InvalidOperation:
-        return str(value)
-    return str(cents if cents == value else value)
+        return text
+    return str(cents) if cents == value else text
 
 
 def _fraction(text: str) -> Fraction:

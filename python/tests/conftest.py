@@ -26,6 +26,14 @@ def library() -> Path:
 
 
 @pytest.fixture(scope="session")
+def engine() -> Path:
+    """The JavaScript package with its module, which pages have inside."""
+    found = TOP / "javascript"
+    assert (found / "src" / "fact_graph.wasm").is_file(), f"no module in {found / 'src'}: javascript/README.md says how to build it"
+    return found
+
+
+@pytest.fixture(scope="session")
 def outside(tmp_path_factory: pytest.TempPathFactory) -> Path:
     """A folder away from the repository, with the examples that its pages name."""
     folder = tmp_path_factory.mktemp("outside")
@@ -34,15 +42,15 @@ def outside(tmp_path_factory: pytest.TempPathFactory) -> Path:
 
 
 @pytest.fixture(scope="session")
-def environment(library: Path) -> dict[str, str]:
+def environment(library: Path, engine: Path) -> dict[str, str]:
     """The environment in which the package is built, but not the one in which it runs: there nothing says where the library is."""
-    return {**os.environ, "FACT_GRAPH_LIBRARY": str(library)}
+    return {**os.environ, "FACT_GRAPH_LIBRARY": str(library), "FACT_GRAPH_ENGINE": str(engine)}
 
 
 @pytest.fixture(scope="session")
 def bare() -> dict[str, str]:
     """An environment that says nothing of the package."""
-    return {name: value for name, value in os.environ.items() if name not in ("FACT_GRAPH_LIBRARY", "PYTHONPATH")}
+    return {name: value for name, value in os.environ.items() if name not in ("FACT_GRAPH_LIBRARY", "FACT_GRAPH_ENGINE", "PYTHONPATH")}
 
 
 @pytest.fixture(scope="session")

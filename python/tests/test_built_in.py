@@ -35,7 +35,8 @@ def test_a_household_has_its_replies(words: str, script: Path) -> None:
 @pytest.mark.parametrize("words", FACTS)
 def test_its_text_is_its_dictionary(words: str) -> None:
     with Session.built_in(words) as session, Session(session.source) as of_text:
-        assert len(session.dictionary.facts) == FACTS[words]
+        assert len(session.facts()) == FACTS[words]
+        assert list(session.facts()) == list(session.dictionary.facts)
         assert (of_text.dictionary, of_text.source) == (session.dictionary, session.source)
 
 

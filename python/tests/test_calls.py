@@ -188,7 +188,21 @@ def test_saved_texts() -> None:
             Session.load(SUM, text)
         assert (raised.value.line, str(raised.value)) == (line, f"saved refused line {line}")
     carried = Session.carry(SUM.replace("/b", "/c"), kept.replace("end", "value /b 2.00\nend"))
-    assert (carried.dropped, carried.get("/a").value) == ((("value", "/b"),), Decimal("5.00"))
+    assert (carried.dropped, carried.get("/a").value) == ((("value", "/b", None),), Decimal("5.00"))
+
+
+def test_a_text_from_outside() -> None:
+    limited = SUM.replace('"/b","writable":"Dollar"', '"/b","writable":"Dollar","limits":[["Max","3"]]')
+    text = "saved 1\nnext 1\nvalue /a 5.00\nvalue /b 4\noverride /s 9.00\nend\n"
+    with Session.resume(limited, text) as session:
+        value, override = session.dropped
+        assert (value.kind, value.slot, str(value.refused)) == ("value", "/b", "refused 7 Limit 1")
+        assert override == ("override", "/s", None)
+        refused(7, "Limit", 1, session.set, "/b", 4)
+        assert session.save() == b"saved 1\nnext 1\nvalue /a 5.00\nend\n"
+    with pytest.raises(SavedRefused) as raised:
+        Session.resume(limited, text.replace("next 1\n", ""))
+    assert raised.value.line == 2
 
 
 def test_a_dictionary_is_refused() -> None:

@@ -55,7 +55,7 @@ def said(case: Served, answered: Callable[[Session, bytes], str]) -> tuple[bytes
     except SavedRefused as refused:
         return f"{refused}\n".encode(), 8
     with session:
-        dropped = "".join(f"dropped {kind} {slot}\n" for kind, slot in session.dropped)
+        dropped = "".join(f"dropped {it.kind} {it.slot}\n" for it in session.dropped)
         text = answered(session, case.case.script)
         return session.save() if case.word == "save" else (dropped + text).encode(), 0
 

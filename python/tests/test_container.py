@@ -79,6 +79,17 @@ def test_the_slots_are_those_that_stand(screener: Session) -> None:
     assert screener.members("/people") == (2,) and screener.members("/adults") == () and screener.members("/bill") == ()
 
 
+def test_the_library_lists_the_facts(screener: Session) -> None:
+    facts = screener.facts()
+    assert list(facts) == list(screener.dictionary.facts)
+    for path, fact in screener.dictionary.facts.items():
+        listed = facts[path]
+        assert (listed.path, listed.is_writable, listed.type, listed.collection) == (path, fact.is_writable, fact.type, fact.collection)
+    facts.clear()
+    screener.close()
+    assert screener.facts()["/people/*/born"].collection == "/people"
+
+
 def test_members_may_be_added_while_slots_are_gone_through(screener: Session) -> None:
     for slot in screener:
         if slot == "/people":
@@ -247,10 +258,10 @@ def test_a_signal_within_a_call_loses_count_of_nothing(session: Session, is_made
     session["/a"] = 1
     answer = session._answer  # pylint: disable=protected-access # what a signal comes behind
 
-    def interrupted(*given: object) -> int:
-        how = answer(*given) if is_made else 0
+    def interrupted(line: str | bytes) -> str | int:
+        said = answer(line) if is_made else 0
         signal.raise_signal(signal.SIGINT)
-        return how
+        return said
 
     with pytest.raises(KeyboardInterrupt), session.changes():
         session["/b"] = 2

@@ -29,4 +29,4 @@ def test_a_saved_session_goes_on_and_is_carried() -> None:
     assert "".join(map(loaded.line, (folder / "tuesday.script").read_text().splitlines())) == (folder / "tuesday.replies").read_text()
     carried = Session.carry((folder / "mended.json").read_bytes(), saved)
     due = (folder / "thursday.replies").read_text().splitlines()
-    assert [f"dropped {kind} {slot}" for kind, slot in carried.dropped] == [line for line in due if line.startswith("dropped ")]
+    assert [f"dropped {it.kind} {it.slot}" for it in carried.dropped] == [line for line in due if line.startswith("dropped ")]

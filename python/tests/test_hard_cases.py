@@ -10,9 +10,6 @@ import gc
 import os
 import pickle
 import signal
-import subprocess
-import sys
-import textwrap
 import threading
 from collections.abc import Callable, Iterator
 from concurrent.futures import ThreadPoolExecutor
@@ -20,15 +17,13 @@ from decimal import Decimal
 from fractions import Fraction
 from functools import partial
 from pathlib import Path
-from typing import Any
+from typing import Any, NoReturn
 from unittest import mock
 
 import pytest
 
 from fact_graph import DictionaryRefused, FactGraphError, Refused, SavedRefused, Session, SessionBusy, SessionClosed, SessionForked
 from fact_graph._library import Fault
-
-from .places import TOP
 
 FACTS = """{"version":"1","enums":[{"name":"tenure","options":["rents","owns"]}],"facts":[
   {"path":"/a","writable":"Dollar"},{"path":"/b","writable":"Dollar"},{"path":"/n","writable":"Int"},{"path":"/q","writable":"Rational"},
@@ -52,6 +47,7 @@ CALLS: dict[str, Callable[[Session], object]] = {
     "final": lambda session: session.final("/a"),
     "missing": lambda session: session.missing("/s"),
     "members": lambda session: session.members("/p"),
+    "reads": lambda session: session.reads("/s"),
     "stamp": lambda session: session.stamp("/a"),
     "touched": lambda session: session.touched(),
     "watch": lambda session: session.watch("changed", "/a"),
@@ -183,10 +179,10 @@ def test_a_handler_within_a_call_is_told_so(session: Session, name: str) -> None
     handled = signal.signal(signal.SIGUSR1, lambda number, frame: seen.append(raised_by(lambda: CALLS[name](session))))
     answer = session._answer
 
-    def interrupted(*given: Any) -> int:
-        how = answer(*given)
+    def interrupted(line: str | bytes) -> str | int:
+        said = answer(line)
         signal.raise_signal(signal.SIGUSR1)
-        return how
+        return said
 
     try:
         with mock.patch.object(session, "_answer", interrupted):
@@ -201,8 +197,8 @@ def test_what_a_handler_raises_leaves_the_session_as_it_is(session: Session) -> 
     """Ctrl-C in the middle of a call isn't the end of the session."""
     answer = session._answer
 
-    def interrupted(*given: Any) -> int:
-        answer(*given)
+    def interrupted(line: str | bytes) -> NoReturn:
+        answer(line)
         raise KeyboardInterrupt
 
     with mock.patch.object(session, "_answer", interrupted), pytest.raises(KeyboardInterrupt):
@@ -212,26 +208,21 @@ def test_what_a_handler_raises_leaves_the_session_as_it_is(session: Session) -> 
 
 def test_handlers_at_any_moment() -> None:
     """A timer's handler calls the session some thousand times, at whatever moment: it is answered or told to wait."""
-    code = f"""
-        import signal, sys
-        from fact_graph import Session, SessionBusy
-        session, seen = Session({FACTS!r}), {{"answered": 0, "busy": 0}}
-        def handle(number, frame):
-            try:
-                session.get("/s")
-                seen["answered"] += 1
-            except SessionBusy:
-                seen["busy"] += 1
+    def interrupted() -> str:
+        session, seen = Session(FACTS), []
+
+        def handle(_number: int, _frame: object) -> None:
+            seen.append(raised_by(lambda: session.get("/s")))
+            signal.setitimer(signal.ITIMER_REAL, 0.0002)  # however long it took, so that the calls go on
+
         signal.signal(signal.SIGALRM, handle)
-        signal.setitimer(signal.ITIMER_REAL, 0.0002, 0.0002)
-        for k in range(20_000):
-            session.set("/a", k)
+        signal.setitimer(signal.ITIMER_REAL, 0.0002)
+        for number in range(20_000):
+            session.set("/a", number)
         signal.setitimer(signal.ITIMER_REAL, 0)
-        print(session.get("/a").value, sum(seen.values()) > 0)
-    """
-    ran = subprocess.run([sys.executable, "-c", textwrap.dedent(code)], capture_output=True, text=True, timeout=300, check=False,
-                         env={**os.environ, "PYTHONPATH": str(TOP / "python")})
-    assert (ran.stdout, ran.stderr) == ("19999.00 True\n", "")
+        return f"{session.get('/a').value} {bool(seen)} {set(seen) <= {'', 'SessionBusy'}}"
+
+    assert in_child(interrupted) == "19999.00 True True"
 
 
 # ---- threads

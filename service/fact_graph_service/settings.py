@@ -23,8 +23,9 @@ class SettingsWrong(ValueError):
 class Settings:
     """What a service is told. Each field is a variable of the environment too, as `FACT_GRAPH_STORE` for `store`."""
 
-    dictionary: Path
-    """The dictionary. What the page says stands beside it: `NAME.page` beside `NAME.json`."""
+    dictionary: str | Path
+    """The file of the dictionary, or the words of one that comes along, as `year 2023`. What the page says stands beside the file:
+    `NAME.page` beside `NAME.json`."""
 
     store: str
     """`sqlite:PATH` or `postgresql://..`."""
@@ -67,7 +68,7 @@ class Settings:
             raise SettingsWrong(str(wrong)) from wrong
         numbers = {name: _number(name, said[name]) for name in ("minutes", "sessions", "cache", "rate") if name in said}
         origins = {"origins": tuple(origin.rstrip("/") for origin in said["origins"].split())} if "origins" in said else {}
-        return cls(Path(said["dictionary"]), said["store"], _key(said), **origins, **numbers)  # type: ignore[arg-type] # by name, each of its type
+        return cls(said["dictionary"], said["store"], _key(said), **origins, **numbers)  # type: ignore[arg-type] # by name, each of its type
 
     def environment(self) -> dict[str, str]:
         """The variables that have these settings, for the workers of a server."""

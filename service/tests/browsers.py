@@ -55,6 +55,10 @@ COMMANDS = {
 """Selenium's names of commands, and Marionette's."""
 
 
+CHROME, CONTENT = "chrome", "content"
+"""Firefox's own window, and the page in it."""
+
+
 class Marionette:
     """Firefox's own protocol, in the place of a driver: messages are lists, each behind its size."""
 
@@ -71,19 +75,36 @@ class Marionette:
         said = {name: value for name, value in given.items() if name != "sessionId"}
         if command == Command.NEW_SESSION:
             said = {"pageLoadStrategy": "normal"}
-        self._number += 1
-        text = json.dumps([0, self._number, f"WebDriver:{COMMANDS[command]}", said]).encode()
-        self._socket.sendall(str(len(text)).encode() + b":" + text)
-        _, _, error, value = self._message()
+        error, value = self._ask(f"WebDriver:{COMMANDS[command]}", said)
         if error:
             return {"status": 500, "value": json.dumps({"value": error})}
         if command == Command.NEW_SESSION:
             return {"value": value}
         return {"value": value["value"] if isinstance(value, dict) and "value" in value else value}
 
+    def zoom(self, factor: float) -> None:
+        """Shows the page so many times as large, as a person may."""
+        steps: list[tuple[str, dict[str, Any]]] = [
+            ("Marionette:SetContext", {"value": CHROME}),
+            ("WebDriver:ExecuteScript", {"script": "gBrowser.selectedBrowser.fullZoom = arguments[0];", "args": [factor]}),
+            ("Marionette:SetContext", {"value": CONTENT}),
+        ]
+        for name, given in steps:
+            error, _ = self._ask(name, given)
+            if error:
+                raise RuntimeError(f"{name}: {error}")
+
     def close(self) -> None:
         """Ends the connection."""
         self._socket.close()
+
+    def _ask(self, name: str, given: dict[str, Any]) -> tuple[Any, Any]:
+        """The error and the value with which Firefox answers."""
+        self._number += 1
+        text = json.dumps([0, self._number, name, given]).encode()
+        self._socket.sendall(str(len(text)).encode() + b":" + text)
+        _, _, error, value = self._message()
+        return error, value
 
     def _message(self) -> Any:
         while b":" not in self._rest:
@@ -111,21 +132,34 @@ def _port_of(browser: subprocess.Popen[bytes], file: Path) -> int:
     return int(file.read_text(encoding="ascii"))
 
 
+class Firefox(webdriver.Remote):
+    """Firefox, whose page can be zoomed too."""
+
+    def __init__(self, protocol: Marionette, options: webdriver.FirefoxOptions) -> None:
+        super().__init__(command_executor=protocol, options=options)
+        self._protocol = protocol
+
+    def zoom(self, factor: float) -> None:
+        """Shows the page so many times as large."""
+        self._protocol.zoom(factor)
+
+
 @contextmanager
 def firefox() -> Iterator[Any]:
     """A Firefox of its own, with a new profile."""
     folder = tempfile.mkdtemp(prefix="firefox.")
     with open(f"{folder}/user.js", "w", encoding="ascii") as file:
         said = {"marionette.port": 0, "intl.accept_languages": LANGUAGE, "app.update.auto": False, "datareporting.policy.dataSubmissionEnabled": False}
+        said |= {"browser.zoom.siteSpecific": False}  # a page keeps the zoom of the one before
         file.writelines(f"user_pref({json.dumps(name)}, {json.dumps(value)});\n" for name, value in said.items())
     browser = subprocess.Popen(
-        ["firefox-esr", "--headless", "--marionette", "--no-remote", "--profile", folder],
+        ["firefox-esr", "--headless", "--marionette", "--remote-allow-system-access", "--no-remote", "--profile", folder],
         stdout=subprocess.DEVNULL, stderr=subprocess.DEVNULL, env={"HOME": folder, "PATH": "/usr/bin:/bin", "MOZ_HEADLESS": "1"},
     )
     try:
         protocol = Marionette(_port_of(browser, Path(folder) / "MarionetteActivePort"))
         options = webdriver.FirefoxOptions()
-        driver = webdriver.Remote(command_executor=protocol, options=options)
+        driver = Firefox(protocol, options)
         yield driver
         protocol.close()
     finally:

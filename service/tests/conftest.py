@@ -2,8 +2,10 @@
 
 from __future__ import annotations
 
+import os
 import secrets
 from collections.abc import Iterator
+from contextlib import ExitStack
 from pathlib import Path
 from typing import Any
 
@@ -13,6 +15,7 @@ from browsers import BROWSERS
 from databases import Postgres
 from fact_graph_service import app, store
 from fact_graph_service.settings import Settings
+from interviews import INTERVIEWS
 from pages import EXAMPLES, Page
 from servers import SECONDS, Worker, served
 
@@ -56,6 +59,14 @@ def page(settings: Settings) -> Iterator[Page]:
         yield opened
 
 
+@pytest.fixture(scope="session")
+def program() -> Path:
+    """The program: the one that FACT_GRAPH_PROGRAM names, else the one that stands built in the repository."""
+    found = Path(os.environ.get("FACT_GRAPH_PROGRAM", EXAMPLES.parent / "crates" / "interview" / "out" / "interview")).resolve()
+    assert found.is_file(), f"no program at {found}: rt ci builds it"
+    return found
+
+
 @pytest.fixture(scope="session", params=BROWSERS)
 def driver(request: pytest.FixtureRequest) -> Iterator[Any]:
     """A browser."""
@@ -65,9 +76,17 @@ def driver(request: pytest.FixtureRequest) -> Iterator[Any]:
 
 
 @pytest.fixture(scope="session")
-def worker(tmp_path_factory: pytest.TempPathFactory) -> Iterator[Worker]:
-    """A worker over the screener, in two languages."""
-    folder = tmp_path_factory.mktemp("served")
-    settings = Settings(EXAMPLES / "screener.json", f"sqlite:{folder}/store.sqlite", secrets.token_bytes(32), rate=10_000)
-    with served(settings) as workers:
-        yield workers[0]
+def workers(tmp_path_factory: pytest.TempPathFactory) -> Iterator[dict[str, Worker]]:
+    """A worker over each interview, all in two languages."""
+    with ExitStack() as begun:
+        found = {}
+        for name, interview in INTERVIEWS.items():
+            settings = Settings(interview.rules, f"sqlite:{tmp_path_factory.mktemp('served')}/store.sqlite", secrets.token_bytes(32), rate=10_000)
+            [found[name]] = begun.enter_context(served(settings))
+        yield found
+
+
+@pytest.fixture(scope="session")
+def worker(workers: dict[str, Worker]) -> Worker:
+    """The worker over the screener."""
+    return workers["screener"]

@@ -1,7 +1,11 @@
 #!/usr/bin/python3
 """Faults of the interview service, tried and counted: nothing that was acknowledged may be lost, and nothing else may stand.
 
-    service/tests/faults.py [--runs N] [--visitors N] [--changes N] [--store sqlite|postgres]... [KIND]...
+    service/tests/faults.py [--runs N] [--visitors N] [--changes N] [--store sqlite|postgres]... [--kept FILE] [KIND]...
+    service/tests/faults.py --kept FILE --table
+
+With --kept a run's row is written into the file as it ends, and a run that has a row there isn't made again: so many runs are made in
+pieces, each as long as it is let run. With --table the sums of these rows are printed as a table, and nothing is run.
 
 In a run, visitors make changes through two workers over one store, each change at one of them at random, as the page does: with an
 id, and again with the same id where no answer came. Meanwhile the fault of its kind is made, again and again:
@@ -13,10 +17,11 @@ id, and again with the same id where no answer came. Meanwhile the fault of its 
   torn      a visitor closes the connection instead of reading the answer
   windows   each visitor has two windows, which change the same answers at once
 
-At the end of a run the changes in the store are decrypted with each visitor's secret: they have to be those that the visitor was
-told of, each once, and no other. The engine runs their lines: each has to have the reply that the visitor was told, and the service
-the same saved text and the same figures. The last line is 'faults: N runs, M changes acknowledged, L lost, U others, W wrong'. The exit
-status is 0 where nothing was lost, else or wrong, and 1 where something was.
+Up to five runs of a kind over a store have the same workers, and visitors of their own. At the end of a run the changes in the store
+are decrypted with each visitor's secret: they have to be those that the visitor was told of, each once, and no other. The engine runs
+their lines: each has to have the reply that the visitor was told, and the service the same saved text and the same figures. The last
+line is 'faults: N runs, M changes acknowledged, ..'. The exit status is 0 where nothing was lost, else or wrong, and 1 where something
+was.
 """
 
 from __future__ import annotations
@@ -24,6 +29,8 @@ from __future__ import annotations
 import argparse
 import asyncio
 import contextlib
+import dataclasses
+import itertools
 import json
 import os
 import random
@@ -40,11 +47,12 @@ from collections.abc import Callable, Iterator
 from contextlib import contextmanager
 from dataclasses import dataclass, field
 from pathlib import Path
-from typing import Any
+from typing import IO, Any
 
 sys.path[:0] = [str(Path(__file__).resolve().parents[2] / folder) for folder in ("python", "service")]
 
 # pylint: disable=wrong-import-position # found by the path above
+from counted import Row, add, rows_of, sums, table
 from databases import Failed, Postgres
 from fact_graph import Session
 from fact_graph_service.sealing import Vault
@@ -61,6 +69,8 @@ AGAIN = (408, 429, 503)
 """The statuses at which a page makes its request again."""
 DISK_BYTES = 250_000_000
 LOG_BYTES = 4_000
+PIECE = 5
+"""So many runs of a kind over a store are made over the same workers, before the other kinds have their turn."""
 
 
 class Unserved(Exception):
@@ -175,17 +185,13 @@ class Window:
 
 @dataclass
 class Tally:
-    """What came of all runs."""
+    """What came of a run."""
 
-    runs: int = 0
     acknowledged: int = 0
     repeated: int = 0
     lost: int = 0
     others: int = 0
     wrong: int = 0
-
-    def is_well(self) -> bool:
-        return self.runs > 0 and self.acknowledged > 0 and not self.lost + self.others + self.wrong
 
 
 # ---- the stores
@@ -410,24 +416,44 @@ async def judge_all(settings: Settings, visitors: list[Visitor], tally: Tally) -
     store.close()
 
 
-def run(name: str, store: str, visitors: int, changes: int, seed: int, tally: Tally) -> None:
-    """A run of a kind over a store. Where a visitor isn't served it is told, with the end of what the workers said."""
-    kind, pick = KINDS[name], random.Random(seed)
-    with disk(name == "disk") as folder, tempfile.TemporaryFile() as log:
-        place = STORES[store](folder)
-        try:
-            settings = Settings(DICTIONARY, place.place, secrets.token_bytes(32), minutes=MINUTES, rate=1_000_000, cache=visitors // 2)
-            with served(settings, 2, log) as workers:
-                everybody = [Visitor([worker.port for worker in workers], random.Random(pick.random())) for _ in range(visitors)]
-                asyncio.run(change_all(kind, place, workers, everybody, max(kind.windows, changes // visitors), pick))
-                asyncio.run(judge_all(settings, everybody, tally))
-        except Unserved as wrong:
-            tally.wrong += 1
-            log.seek(max(0, log.seek(0, os.SEEK_END) - LOG_BYTES))
-            print(f"failed: {name} {store}, seed {seed}: {wrong}\n{log.read().decode(errors='replace')}", flush=True)
-        finally:
-            place.close()
-    tally.runs += 1
+@dataclass(frozen=True)
+class Plan:
+    """How many visitors a run has, and how many changes they make in all."""
+
+    visitors: int
+    changes: int
+
+    def runs(self, name: str, store: str, seeds: list[int]) -> Iterator[Row]:
+        """Runs of a kind over a store, one behind the other, each with visitors of its own."""
+        with disk(name == "disk") as folder, tempfile.TemporaryFile() as log:
+            place = STORES[store](folder)
+            try:
+                cache = max(1, self.visitors // 2)
+                settings = Settings(DICTIONARY, place.place, secrets.token_bytes(32), minutes=MINUTES, rate=1_000_000, cache=cache)
+                with served(settings, 2, log) as workers:
+                    for seed in seeds:
+                        tally, begun, day = Tally(), time.monotonic(), time.strftime("%Y-%m-%d", time.gmtime())
+                        try:
+                            self.run(KINDS[name], place, workers, settings, random.Random(seed), tally)
+                        except Unserved as wrong:
+                            tally.wrong += 1
+                            print(f"failed: {name} {store}, seed {seed}: {wrong}\n{end_of(log)}", flush=True)
+                        seconds = round(time.monotonic() - begun)
+                        yield Row(name, store, seed, day, self.visitors, **dataclasses.asdict(tally), seconds=seconds)
+            finally:
+                place.close()
+
+    def run(self, kind: Kind, place: Any, workers: list[Worker], settings: Settings, pick: random.Random, tally: Tally) -> None:
+        """A run. Raises `Unserved` where a visitor isn't served."""
+        everybody = [Visitor([worker.port for worker in workers], random.Random(pick.random())) for _ in range(self.visitors)]
+        asyncio.run(change_all(kind, place, workers, everybody, max(kind.windows, self.changes // self.visitors), pick))
+        asyncio.run(judge_all(settings, everybody, tally))
+
+
+def end_of(log: IO[bytes]) -> str:
+    """The end of what the workers said."""
+    log.seek(max(0, log.seek(0, os.SEEK_END) - LOG_BYTES))
+    return log.read().decode(errors="replace")
 
 
 def main(words: list[str]) -> int:
@@ -437,21 +463,31 @@ def main(words: list[str]) -> int:
     arguments.add_argument("--changes", type=int, default=400)
     arguments.add_argument("--seed", type=int, default=1)
     arguments.add_argument("--store", action="append", choices=STORES)
+    arguments.add_argument("--kept", type=Path)
+    arguments.add_argument("--table", action="store_true")
     arguments.add_argument("kinds", nargs="*", metavar="KIND", help=", ".join(KINDS))
     given = arguments.parse_args(words)
-    total = Tally()
-    for name in given.kinds or KINDS:
-        for store in given.store or STORES:
-            tally, begun = Tally(), time.monotonic()
-            for number in range(given.runs):
-                run(name, store, given.visitors, given.changes, given.seed + number, tally)
-            seconds = time.monotonic() - begun
-            print(f"{name:9} {store:9} {tally.runs} runs, {tally.acknowledged} changes acknowledged, {tally.repeated} requests repeated, "
-                  f"{tally.lost} lost, {tally.others} others, {tally.wrong} wrong, {seconds:.0f} s", flush=True)
-            for name_of in ("runs", "acknowledged", "lost", "others", "wrong"):
-                setattr(total, name_of, getattr(total, name_of) + getattr(tally, name_of))
-    print(f"faults: {total.runs} runs, {total.acknowledged} changes acknowledged, {total.lost} lost, {total.others} others, {total.wrong} wrong")
-    return 0 if total.is_well() else 1
+    if given.table and not given.kept:
+        arguments.error("a table is of the rows that are kept: --kept says where")
+    rows = rows_of(given.kept) if given.kept else []
+    if given.table:
+        print("\n".join(table(rows)))
+        return 0
+    made, plan = {row[:3] for row in rows}, Plan(given.visitors, given.changes)
+    new: list[Row] = []
+    for first in range(given.seed, given.seed + given.runs, PIECE):
+        for name, store in itertools.product(given.kinds or KINDS, given.store or STORES):
+            seeds = [seed for seed in range(first, min(first + PIECE, given.seed + given.runs)) if (name, store, seed) not in made]
+            piece = []
+            for row in plan.runs(name, store, seeds) if seeds else ():
+                piece.append(row)
+                if given.kept:
+                    add(given.kept, row)
+            if piece:
+                print(f"{name:9} {store:9} {sums(piece)}", flush=True)
+            new += piece
+    print(f"faults: {sums(new)}")
+    return 0 if all(row.is_well() for row in new) else 1
 
 
 if __name__ == "__main__":

@@ -6,6 +6,7 @@ import os
 from pathlib import Path
 from typing import Any
 
+from selenium.webdriver.common.action_chains import ActionChains
 from selenium.webdriver.common.by import By
 from selenium.webdriver.common.keys import Keys
 from selenium.webdriver.support.wait import WebDriverWait
@@ -22,6 +23,20 @@ return fetch("end", { method: "POST", headers, body: "{}" }).then(() => 0);
 """
 
 
+WAY = """
+const [slot, kind] = arguments;
+const it = document.activeElement;
+const field = document.querySelector(`.field[data-slot="${slot}"]`);
+const isOfIt = (one) => one.matches(kind) && one.closest(".field") === field;
+if (isOfIt(it)) return 0;
+const first = [...field.querySelectorAll(kind)].find(isOfIt);
+return it.compareDocumentPosition(first) & Node.DOCUMENT_POSITION_PRECEDING ? -1 : 1;
+"""
+"""Which way the controls of a field are from the focus; 0 where it is at one of them."""
+MOST_STOPS = 150
+"""More stops than a page here has."""
+
+
 class Screen:
     """A page in a browser, and what a person does there."""
 
@@ -30,11 +45,11 @@ class Screen:
 
     def open(self, width: int = WIDE) -> Screen:
         """Opens the page for a new visitor."""
-        self.size(width)
-        self.driver.get(self.address)
-        self.until("document.querySelector('.result, .field') !== null")
+        self.load()
         self.js(END)
-        return self.load()
+        self.load()
+        self.resize(width)
+        return self
 
     def load(self) -> Screen:
         """Loads the page anew."""
@@ -42,12 +57,16 @@ class Screen:
         self.until("document.querySelector('.result, .field') !== null")
         return self
 
-    def size(self, width: int, height: int = 900) -> None:
-        """Gives the page this width, whatever the window's edges are."""
-        self.driver.set_window_rect(0, 0, width, height)
-        self.driver.get("about:blank")
-        if self.driver.execute_script("return innerWidth") != width and hasattr(self.driver, "execute_cdp_cmd"):
+    def resize(self, width: int, height: int = 900) -> None:
+        """Gives the page this width, whatever the window's edges are: Chromium by its own command, and Firefox, whose window can't be so
+        narrow, by the zoom of its page."""
+        if hasattr(self.driver, "execute_cdp_cmd"):
             self.driver.execute_cdp_cmd("Emulation.setDeviceMetricsOverride", {"width": width, "height": height, "deviceScaleFactor": 1, "mobile": False})
+        else:
+            self.driver.zoom(1)
+            self.driver.set_window_rect(0, 0, WIDE, height)
+            self.driver.zoom(self.js("return innerWidth") / width)
+        self.until(f"Math.abs(innerWidth - {width}) <= 1")
 
     def js(self, code: str, *given: Any) -> Any:
         """What a script returns."""
@@ -75,6 +94,47 @@ class Screen:
         field = self.field(slot)
         field.send_keys(Keys.CONTROL, "a")
         field.send_keys(text, Keys.TAB)
+
+    # ---- by keyboard alone
+
+    def keys(self, *keys: str) -> None:
+        """Presses keys, wherever the focus is."""
+        ActionChains(self.driver).send_keys(*keys).perform()
+
+    def back(self) -> None:
+        """Goes back to the control before."""
+        ActionChains(self.driver).key_down(Keys.SHIFT).send_keys(Keys.TAB).key_up(Keys.SHIFT).perform()
+
+    def reach(self, slot: str, kind: str = "input, select") -> None:
+        """Goes by the tabulator to a control of a field, once the field is there: on, or back where an answer brought it."""
+        self.until(f"document.querySelector('.field[data-slot=\"{slot}\"]') !== null")
+        for _ in range(MOST_STOPS):
+            way = self.js(WAY, slot, kind)
+            if way == 0:
+                return
+            if way < 0:
+                self.back()
+            else:
+                self.keys(Keys.TAB)
+        raise AssertionError(f"the keyboard doesn't come to {slot}")
+
+    def type(self, *texts: str) -> None:
+        """Writes into the field that has the focus, and into those behind it, and leaves the last."""
+        for text in texts:
+            self.keys(text, Keys.TAB)
+        self.saved()
+
+    def answer(self, *, is_first: bool) -> None:
+        """Chooses the first or the second of the buttons that have the focus."""
+        self.keys(Keys.SPACE if is_first else Keys.ARROW_DOWN)
+        self.saved()
+
+    def add(self) -> None:
+        """Adds a member by the button that has the focus, which goes to the member's first field."""
+        self.keys(Keys.ENTER)
+        self.until("document.activeElement.closest('.member') !== null")
+
+    # ---- field by field
 
     def choose(self, slot: str, value: str) -> None:
         """Chooses by the keyboard."""

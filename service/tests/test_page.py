@@ -11,7 +11,6 @@ from pathlib import Path
 from typing import Any
 
 import pytest
-from selenium.webdriver.common.action_chains import ActionChains
 from selenium.webdriver.common.by import By
 from selenium.webdriver.common.keys import Keys
 
@@ -22,29 +21,6 @@ from servers import SECONDS, Worker, served
 
 NARROW = 320
 
-CONTRAST = """
-const light = (colour) => {
-  const parts = colour.match(/[\\d.]+/g).map(Number);
-  const [r, g, b] = parts.slice(0, 3).map((it) => it / 255).map((it) => (it <= 0.04045 ? it / 12.92 : ((it + 0.055) / 1.055) ** 2.4));
-  return 0.2126 * r + 0.7152 * g + 0.0722 * b;
-};
-const groundOf = (element) => {
-  for (let at = element; at; at = at.parentElement) {
-    const colour = getComputedStyle(at).backgroundColor;
-    if (!/, 0\\)$/.test(colour) && colour !== "transparent") return colour;
-  }
-  return "rgb(255, 255, 255)";
-};
-const poor = [];
-for (const element of document.querySelectorAll("body *")) {
-  const hasText = [...element.childNodes].some((it) => it.nodeType === 3 && it.textContent.trim() !== "");
-  if (!hasText || !element.checkVisibility() || element.closest(".sr-only, [disabled]")) continue;
-  const [a, b] = [light(getComputedStyle(element).color), light(groundOf(element))].sort((x, y) => y - x);
-  if ((a + 0.05) / (b + 0.05) < 4.5) poor.push(`${element.tagName} ${element.className} ${element.textContent.slice(0, 20)}`);
-}
-return poor;
-"""
-
 ANSWERS = """
 return [...document.querySelectorAll(".answer")].map((it) => `${it.querySelector("dt").textContent} = ${it.querySelector("dd").firstChild.textContent}`);
 """
@@ -52,13 +28,6 @@ return [...document.querySelectorAll(".answer")].map((it) => `${it.querySelector
 REASONS = """
 return [...document.querySelectorAll('.result[data-slot="/help"] > dd > details > ul > li')]
   .map((it) => `${it.querySelector("span").textContent}: ${it.querySelector("strong").textContent}`);
-"""
-
-BROKEN = """
-const names = ["aria-describedby", "aria-labelledby", "for"];
-return [...document.querySelectorAll(names.map((name) => `[${name}]`).join())]
-  .flatMap((it) => names.flatMap((name) => (it.getAttribute(name) ?? "").split(" ").filter(Boolean)))
-  .filter((id) => !document.getElementById(id));
 """
 
 OTHER = """
@@ -89,18 +58,6 @@ const seen = new MutationObserver(() => {
   dialog.querySelector("button").click();
 });
 seen.observe(document.body, { subtree: true, childList: true, attributes: true });
-"""
-
-CONTROLS = """
-return [...document.querySelectorAll("button, input, select, summary, a[href]")].filter((it) => it.checkVisibility());
-"""
-
-SMALL_TARGETS = """
-return [...document.querySelectorAll("button, input:not(.sr-only), select, summary, a[href], label.button")]
-  .filter((it) => it.checkVisibility() && !it.matches(".skip"))
-  .filter((it) => { const box = it.getBoundingClientRect(); return box.width < 24 || box.height < 24; })
-  .filter((it) => !it.closest("p, li"))
-  .map((it) => it.outerHTML.slice(0, 80));
 """
 
 
@@ -140,6 +97,17 @@ def test_a_household_is_filled_in_by_keyboard(screen: Screen) -> None:
     screen.picture("review")
     screen.driver.find_element(By.CSS_SELECTOR, '.answer[data-slot="/bill"] button').send_keys(Keys.ENTER)
     assert screen.focused() == "/bill"
+
+
+def test_what_was_answered_stands_when_the_page_is_loaded_again(screen: Screen) -> None:
+    fill(screen)
+    screen.load()
+    screen.field("/people/#1/born")
+    standing = screen.js("return [...document.querySelectorAll('.field[data-slot=\"/people/#1/born\"] input')].map((it) => it.value)")
+    assert standing == ["11", "30", "1958"]
+    screen.field("/people/#1/born").send_keys(Keys.TAB, Keys.TAB, Keys.TAB)
+    screen.saved()
+    assert screen.js("return document.querySelector('.result[data-slot=\"/help\"]').dataset.kind") == "final", "to look at it changes nothing"
 
 
 def test_amounts_are_taken_as_people_write_them(screen: Screen) -> None:
@@ -243,42 +211,12 @@ def test_why_a_figure_is_what_it_is(screen: Screen) -> None:
 
 def test_a_narrow_screen_has_all(driver: Any, worker: Worker) -> None:
     screen = Screen(driver, worker).open(NARROW)
-    assert screen.js("return innerWidth") <= max(NARROW, 500 if not hasattr(driver, "execute_cdp_cmd") else NARROW)
+    assert abs(screen.js("return innerWidth") - NARROW) <= 1
     fill(screen)
     assert screen.js("return document.documentElement.scrollWidth <= innerWidth")
     assert screen.js("return document.querySelector('.follows').getBoundingClientRect().top < document.querySelector('.asked').getBoundingClientRect().top")
     assert screen.js("const box = document.querySelector('.follows').getBoundingClientRect(); return box.top + scrollY < 1200")
     screen.picture("narrow")
-
-
-def test_each_control_has_a_name_that_has_what_is_seen(screen: Screen) -> None:
-    fill(screen)
-    for control in screen.js(CONTROLS):
-        name, seen = control.accessible_name, control.text.strip()
-        assert name, control.get_property("outerHTML")
-        assert " ".join(seen.split()) in " ".join(name.split()), (seen, name)
-
-
-def test_the_page_keeps_the_rules_that_can_be_counted(screen: Screen) -> None:
-    fill(screen)
-    screen.write("/bill", "x")
-    screen.until("document.querySelector('.summary:not([hidden])') !== null")
-    assert screen.js(CONTRAST) == []
-    assert screen.js(SMALL_TARGETS) == []
-    assert screen.js("const ids = [...document.querySelectorAll('[id]')].map((it) => it.id); return ids.length - new Set(ids).size") == 0
-    assert screen.js(BROKEN) == []
-    assert screen.js("return [document.documentElement.lang, document.title]") == ["en", "Help with the heating bill"]
-    assert screen.js("return ['h1', 'main', 'header'].map((it) => document.querySelectorAll(it).length)") == [1, 1, 1]
-    levels = screen.js("return [...document.querySelectorAll('h1, h2, h3, h4')].filter((it) => it.checkVisibility()).map((it) => Number(it.tagName[1]))")
-    assert levels[0] == 1 and all(after <= before + 1 for before, after in zip(levels, levels[1:]))
-    assert screen.js("return document.querySelectorAll('fieldset:not(:has(> legend))').length") == 0
-
-
-def test_the_focus_is_seen(screen: Screen) -> None:
-    for _ in range(12):
-        ActionChains(screen.driver).send_keys(Keys.TAB).perform()
-        style = screen.js("const it = document.activeElement, style = getComputedStyle(it); return [style.outlineStyle, style.outlineWidth, it.className]")
-        assert style[0] != "none" and style[1] != "0px" or "sr-only" in style[2], style
 
 
 def test_the_words_are_spanish_where_they_are_asked_for(screen: Screen) -> None:

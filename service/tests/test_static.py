@@ -1,10 +1,12 @@
-"""The page as a folder of static files: once it is loaded, an example is played in it with no host at all."""
+"""The page as a folder of static files: once it is loaded, an example is played in it with no host at all, and a tax year filled in."""
 
 from __future__ import annotations
 
 import functools
 import json
 import shutil
+import subprocess
+import sys
 import threading
 from collections.abc import Iterator
 from contextlib import contextmanager
@@ -18,7 +20,30 @@ from fact_graph.commands import command_line
 from fact_graph.status import Status
 from pages import EXAMPLES
 from screens import Screen
-from test_examples import commands, play
+from test_examples import DRIVER, check_result, commands, play
+
+# A module that is put beside the page: it notes each line that the page says to its engine, with the reply.
+LISTENER = """
+import { Session } from "./engine/index.js";
+
+const heard = [], { line } = Session.prototype;
+Session.prototype.line = function (text) {
+  const reply = line.call(this, text);
+  heard.push([text, reply]);
+  return reply;
+};
+document.addEventListener("tell", () => { document.body.dataset.heard = JSON.stringify(heard); });
+document.body.dataset.heard = "";
+"""
+LISTEN = """
+const script = document.createElement("script");
+script.type = "module";
+script.src = "listener.js";
+document.head.append(script);
+"""
+HEARD = "document.dispatchEvent(new Event('tell')); return document.body.dataset.heard"
+FIELDS = "return [...document.querySelectorAll('.field[data-slot]')].map((it) => it.dataset.slot)"
+FIGURES = "return [...document.querySelectorAll('.result[data-slot]')].map((it) => it.dataset.slot)"
 
 
 class Host(NamedTuple):
@@ -43,10 +68,50 @@ def hosted(folder: Path) -> Iterator[Host]:
         server.shutdown()
 
 
+def replies(program: Path, lines: list[str]) -> list[str]:
+    """The lines that the program replies to a script of lines."""
+    script = "".join(f"{line}\n" for line in lines)
+    return subprocess.run([program, "year", "2023"], input=script, stdout=subprocess.PIPE, text=True, check=True).stdout.splitlines(keepends=True)
+
+
+def answers_of(name: str) -> dict[str, str]:
+    """What an example's script answers first, by slot."""
+    found: dict[str, str] = {}
+    for line, _ in commands(name):
+        verb, slot, text = (line.split(" ", 2) + ["", ""])[:3]
+        if verb == "set":
+            found.setdefault(slot, text)
+    return found
+
+
+def fill_in(screen: Screen, name: str) -> None:
+    """Gives an example's answers as the page asks for them, one after another, once its members are there."""
+    answers = answers_of(name)
+    todo = [line.split(" ") for line, _ in commands(name) if line.startswith("add ")]
+    while todo:
+        verb, slot, *text = todo.pop()
+        said = screen.js(DRIVER, verb, slot, *text)
+        screen.saved()
+        assert not isinstance(said, str) and screen.error(slot) == "", (verb, slot, said)
+        asked = [] if todo else [it for it in screen.js(FIELDS) if it in answers]
+        todo += [["set", it, answers.pop(it)] for it in asked[:1]]
+
+
 def test_where_the_engine_comes_from_is_said(tmp_path: Path, capsys: pytest.CaptureFixture[str]) -> None:
     words = ["page", str(EXAMPLES / "screener.json"), "--out", str(tmp_path / "site"), "--engine", str(tmp_path)]
     assert command_line(words) == Status.NOT_INSTALLED
     assert "--engine names the folder javascript" in capsys.readouterr().err
+
+
+def test_a_page_that_cant_be_written_whole_leaves_nothing(tmp_path: Path) -> None:
+    engine, site = tmp_path / "engine", tmp_path / "site"
+    (engine / "src").mkdir(parents=True)
+    (engine / "src" / "fact_graph.wasm").touch()
+    site.mkdir()
+    words = [sys.executable, "-m", "fact_graph", "page", *map(str, (EXAMPLES / "screener.json", "--out", site, "--engine", engine))]
+    ended = subprocess.run(words, stderr=subprocess.PIPE, text=True, check=False)
+    assert (ended.returncode, "browser_engine.js" in ended.stderr) == (Status.WRITE_FAULT, True)
+    assert not list(site.iterdir())
 
 
 @pytest.mark.parametrize("name", ["screener", "everything"])
@@ -61,3 +126,28 @@ def test_an_example_is_played_with_the_network_off(driver: Any, tmp_path: Path, 
     play(screen, name)
     kept = screen.js("return Object.values(localStorage).join()")
     assert all(line in kept for line, reply in commands(name) if line.startswith("set ") and reply.startswith("ok"))
+
+
+def test_the_tax_year_is_filled_in_with_the_network_off_as_the_program_says(driver: Any, tmp_path: Path, program: Path) -> None:
+    site = tmp_path / "site"
+    assert command_line(["page", "year 2023", "--out", str(site)]) == 0
+    (site / "listener.js").write_text(LISTENER)
+    with hosted(site) as host:
+        screen = Screen(driver, host).load()  # type: ignore[arg-type] # it has a port, too
+        screen.js(LISTEN)
+        screen.until("document.body.dataset.heard !== undefined")
+    fill_in(screen, "years/2023")
+    figures = screen.js(FIGURES)
+    due = {line: reply for line, reply in commands("years/2023") if line.startswith("get ") and line[4:] in figures}
+    assert len(due) > 3
+    for line, reply in due.items():
+        check_result(screen, line, reply)
+    screen.js(DRIVER, "undo", "", "")
+    screen.saved()
+    heard = json.loads(screen.js(HEARD))
+    lines = [line for line, _ in heard]
+    assert len([line for line in lines if line.startswith("set ")]) > 15 and lines.count("undo") == 1
+    assert "".join(reply for _, reply in heard) == "".join(replies(program, lines))
+    for slot in screen.js(FIGURES):
+        for verb in ("get", "final"):
+            check_result(screen, f"{verb} {slot}", replies(program, [*lines, f"{verb} {slot}"])[-1].rstrip("\n"))

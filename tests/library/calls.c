@@ -32,17 +32,6 @@ static fact_graph opened(void) {
   return graph;
 }
 
-static int is(text t, const char *due) { return t.size == strlen(due) && memcmp(t.bytes, due, t.size) == 0; }
-
-/* Answers a line, whose reply has to be this. */
-static void replies(fact_graph *graph, const char *line, const char *due) {
-  text reply;
-  CHECK(answer(graph, (const uint8_t *)line, strlen(line), &reply) == FACT_GRAPH_SAID);
-  if (!is(reply, due)) fprintf(stderr, "%s: %.*s for %s", line, (int)reply.size, (const char *)reply.bytes, due);
-  CHECK(is(reply, due));
-  free(reply.bytes);
-}
-
 /* What a slot reads, as the library says it of so many bytes, which stand in a block of exactly their size. */
 static text reads(fact_graph *graph, const char *slot, size_t slot_size) {
   uint8_t *path = malloc(slot_size > 0 ? slot_size : 1);
@@ -362,6 +351,7 @@ static fact_graph built_in(const char *words) {
 
 int main(int count, char **words) {
   CHECK(count == 3);
+  CHECK(fact_graph_version() == FACT_GRAPH_VERSION_NUMBER);
   reads_what_is_read_now();
   reads_no_slot();
   reads_change_nothing();

@@ -85,6 +85,8 @@ static inline text in_pieces(fact_graph *graph, size_t size, size_t piece) {
 
 static inline int same(text a, text b) { return a.size == b.size && memcmp(a.bytes, b.bytes, a.size) == 0; }
 
+static inline int is(text t, const char *due) { return t.size == strlen(due) && memcmp(t.bytes, due, t.size) == 0; }
+
 static inline text whole(fact_graph *graph, size_t size) {
   text t = in_pieces(graph, size, size + 1);
   for (size_t piece = 1; piece < 10; piece++) {
@@ -111,6 +113,15 @@ static inline text saved_text(fact_graph *graph) {
   WITH_MEMORY(how = fact_graph_save(*graph, &size, graph), how == FACT_GRAPH_NO_MEMORY, CHECK(size == 0), (void)0);
   CHECK(how == FACT_GRAPH_SAID);
   return whole(graph, size);
+}
+
+/* Answers a line, whose reply has to be this. */
+static inline void replies(fact_graph *graph, const char *line, const char *due) {
+  text reply;
+  CHECK(answer(graph, (const uint8_t *)line, strlen(line), &reply) == FACT_GRAPH_SAID);
+  if (!is(reply, due)) fprintf(stderr, "%s: %.*s for %s", line, (int)reply.size, (const char *)reply.bytes, due);
+  CHECK(is(reply, due));
+  free(reply.bytes);
 }
 
 /* The lines of the script, and whether one was `quit`. */

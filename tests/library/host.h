@@ -19,7 +19,7 @@ typedef struct {
 } text;
 
 /* The bytes of a file, in as much memory as they have: a read behind the last is one behind the block. */
-static text file(const char *name) {
+static inline text file(const char *name) {
   FILE *in = fopen(name, "rb");
   CHECK(in != NULL && fseek(in, 0, SEEK_END) == 0);
   text t = {NULL, (size_t)ftell(in)};

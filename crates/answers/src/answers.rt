@@ -113,7 +113,8 @@ impl Answers {
         requires { Fits (change edit) (answered self.old) }
         ensures new { OnOk result (answered self.new ≡ applied (change edit) (answered self.old)) }
         ensures back { IfOk result (λ back. change back ≡ inverse (change edit) (answered self.old)) }
-        ensures undoes { IfOk result (λ back. Fits (change back) (answered self.new) × (applied (change back) (answered self.new) ≡ answered self.old)) }
+        ensures undoes { IfOk result (λ back. Fits (change back) (answered self.new)
+            × (applied (change back) (answered self.new) ≡ answered self.old)) }
         ensures unchanged { OnErr result (answered self.new ≡ answered self.old) }
         ensures edit_returned { IfErr result (λ e. change e.edit ≡ change edit) }
         ensures room { HasRoom (change edit) self.old → IsOk result }

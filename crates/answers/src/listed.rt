@@ -37,7 +37,8 @@ impl Model for Listed {
 
     ghost view = { λ l. if l.open then Some l.members.items else None };
 
-    ghost invariant = { λ l. (100 ≤ vec_capacity l.members) × (length l.members.items ≤ 100) × (l.open ≡ false → l.members.items ≡ []) };
+    ghost invariant = { λ l. (100 ≤ vec_capacity l.members) × (length l.members.items ≤ 100)
+        × (l.open ≡ false → l.members.items ≡ []) };
 }
 
 impl Listed {

@@ -89,7 +89,8 @@ impl Lists {
     pub fn edit(&mut self, list: u32, edit: ListEdit)
         requires place { HasList self.old list }
         requires fits { MayEdit edit (map.get (lists_of self.old) list) }
-        ensures new { lists_of self.new ≡ put_at (lists_of self.old) list (edited edit (map.get (lists_of self.old) list)) }
+        ensures new { lists_of self.new ≡ put_at (lists_of self.old) list
+            (edited edit (map.get (lists_of self.old) list)) }
         ensures has_place { HasList self.new list }
     {
         match self.kept.get_mut(&list) {

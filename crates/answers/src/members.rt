@@ -32,7 +32,8 @@ impl Members {
     /// The value that stands at a fact of a member.
     #[tactic(auto, using(crate::proofs::FiniteLaws::laws))]
     pub fn get(&self, side: Side, member: u32, fact: u32) -> Option<&Value>
-        ensures { option_copied result ≡ and_then (λ (e : Entry). map.get (of_side side e) fact) (map.get (members_of self.now) member) }
+        ensures { option_copied result ≡ and_then (λ (e : Entry). map.get (of_side side e) fact)
+            (map.get (members_of self.now) member) }
     {
         match self.kept.get(&member) {
             Some(Some(entries)) => entries.get(side, fact),
@@ -43,7 +44,8 @@ impl Members {
 
     /// A member stands from now on, with these entries. For want of memory they come back.
     pub fn store(&mut self, member: u32, entries: Entries) -> Result<(), Entries>
-        ensures new { OnOk result (members_of self.new ≡ put_at (members_of self.old) member (Some (entry_of entries))) }
+        ensures new { OnOk result (members_of self.new ≡ put_at (members_of self.old) member
+            (Some (entry_of entries))) }
         ensures err { OnErr result (members_of self.new ≡ members_of self.old) }
         ensures value_returned { IfErr result (λ e. entry_of e ≡ entry_of entries) }
         ensures room { HasMember self.old member → IsOk result }
@@ -113,8 +115,10 @@ impl Members {
         value: Option<Value>,
     ) -> Result<Option<Value>, Option<Value>>
         requires { IsSome (map.get (members_of self.old) member) }
-        ensures old { IfOk result (λ old. old ≡ and_then (λ (e : Entry). map.get (of_side side e) fact) (map.get (members_of self.old) member)) }
-        ensures new { OnOk result (members_of self.new ≡ put_at (members_of self.old) member (option_map (with_value side fact value) (map.get (members_of self.old) member))) }
+        ensures old { IfOk result (λ old. old ≡ and_then (λ (e : Entry). map.get (of_side side e) fact)
+            (map.get (members_of self.old) member)) }
+        ensures new { OnOk result (members_of self.new ≡ put_at (members_of self.old) member
+            (option_map (with_value side fact value) (map.get (members_of self.old) member))) }
         ensures err { OnErr result (members_of self.new ≡ members_of self.old) }
         ensures value_returned { IfErr result (λ v. v ≡ value) }
         ensures room { HasMemberFact self.old member fact → IsOk result }
@@ -137,7 +141,8 @@ fn put_in(
     value: Option<Value>,
 ) -> Result<Option<Value>, Option<Value>>
     requires { IsSome kept.old }
-    ensures old { IfOk result (λ old. old ≡ and_then (λ (e : Entry). map.get (of_side side e) fact) (maybe_entry kept.old)) }
+    ensures old { IfOk result (λ old. old ≡ and_then (λ (e : Entry). map.get (of_side side e) fact)
+        (maybe_entry kept.old)) }
     ensures new { OnOk result (maybe_entry kept.new ≡ option_map (with_value side fact value) (maybe_entry kept.old)) }
     ensures err { OnErr result (maybe_entry kept.new ≡ maybe_entry kept.old) }
     ensures value_returned { IfErr result (λ v. v ≡ value) }

@@ -115,7 +115,8 @@ impl Pairs {
         value: Option<Value>,
     ) -> Result<Option<Value>, Option<Value>>
         ensures old { IfOk result (λ old. old ≡ map.get (of_side side (entry_in self.old.by_fact.entries)) fact) }
-        ensures new { OnOk result (entry_in self.new.by_fact.entries ≡ with_value side fact value (entry_in self.old.by_fact.entries)) }
+        ensures new { OnOk result (entry_in self.new.by_fact.entries ≡ with_value side fact value
+            (entry_in self.old.by_fact.entries)) }
         ensures err { OnErr result (entry_in self.new.by_fact.entries ≡ entry_in self.old.by_fact.entries) }
         ensures value_returned { IfErr result (λ v. v ≡ value) }
         ensures room { HasPair self.old.by_fact.entries fact → IsOk result }
@@ -141,7 +142,8 @@ impl Pairs {
     ) -> Result<Option<Value>, Option<Value>>
         requires { HasPair self.old.by_fact.entries fact → ⊥ }
         ensures old { IfOk result (λ old. old ≡ None) }
-        ensures new { OnOk result (entry_in self.new.by_fact.entries ≡ with_value side fact (Some value) (entry_in self.old.by_fact.entries)) }
+        ensures new { OnOk result (entry_in self.new.by_fact.entries ≡ with_value side fact (Some value)
+            (entry_in self.old.by_fact.entries)) }
         ensures err { OnErr result (entry_in self.new.by_fact.entries ≡ entry_in self.old.by_fact.entries) }
         ensures value_returned { IfErr result (λ v. v ≡ Some value) }
         ensures place { OnOk result (HasPair self.new.by_fact.entries fact) }

@@ -211,7 +211,8 @@ impl Parts {
         requires stands { IsSome (map.get (answered self.old).members member) }
         requires from_one { 1 ≤ member }
         ensures new { answered self.new ≡ applied (removes list member) (answered self.old) }
-        ensures back { puts_back list result.place result.member (entry_of result.entries) ≡ inverse (removes list member) (answered self.old) }
+        ensures back { puts_back list result.place result.member (entry_of result.entries)
+            ≡ inverse (removes list member) (answered self.old) }
         ensures places { HasPlaces (removes list member) (answered self.old) self.new }
     {
         let place = self.lists.place_of(list, member);
@@ -224,9 +225,11 @@ impl Parts {
 
     fn put_back(&mut self, list: u32, gone: Gone) -> Result<(), Gone>
         requires { Fits (puts_back list gone.place gone.member (entry_of gone.entries)) (answered self.old) }
-        ensures new { OnOk result (answered self.new ≡ applied (puts_back list gone.place gone.member (entry_of gone.entries)) (answered self.old)) }
+        ensures new { OnOk result (answered self.new ≡ applied
+            (puts_back list gone.place gone.member (entry_of gone.entries)) (answered self.old)) }
         ensures err { OnErr result (answered self.new ≡ answered self.old) }
-        ensures gone_returned { IfErr result (λ g. puts_back list g.place g.member (entry_of g.entries) ≡ puts_back list gone.place gone.member (entry_of gone.entries)) }
+        ensures gone_returned { IfErr result (λ g. puts_back list g.place g.member (entry_of g.entries)
+            ≡ puts_back list gone.place gone.member (entry_of gone.entries)) }
         ensures room { HasMember self.old.members gone.member → IsOk result }
         ensures places { OnOk result (HasList self.new.lists list × HasMember self.new.members gone.member) }
     {

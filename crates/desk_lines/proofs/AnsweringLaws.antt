@@ -3,6 +3,7 @@ use Rattle.std.proofs.Common.{◌≡◌, ℕ, Bool, true, false, List, [], ◌�
 use Rattle.std.specs.Prelude.{Ok}
 use Rattle.std.proofs.lemmas.List.{append-nil}
 use Rattle.fact_paths.specs.declared.slot_path.SlotPath.{SlotPath}
+use Rattle.fg_io.specs.Outside.{Output}
 use Rattle.fg_io.specs.Sent.{Sent}
 use Rattle.fg_io.proofs.SentLaws.{sent_none, sent_on}
 use Rattle.script_lines.specs.Lines.{ScriptLine, script_lines, ready_lines}
@@ -34,34 +35,34 @@ known_asked r d p (commands.Missing path) known = absurd cc
 known_asked r d p commands.Quit known = absurd cc
 known_asked r d p asked known = refl
 
-module _ (taken taken_now : Option (List ℕ)) (faults faults_now : ℕ) (v v_now : DeskView) where
+module _ (sink sink_now : Output) (v v_now : DeskView) where
   -- a text that was written is told
-  pub written_output : (text : List ℕ) (d : Desk) (progress : Progress) → WrittenAs taken taken_now faults faults_now text progress → StandsFor v_now d
-      → DeskOutput taken taken_now faults faults_now v v_now text (desk_open d) progress
+  pub written_output : (text : List ℕ) (d : Desk) (progress : Progress) → WrittenAs sink sink_now text progress → StandsFor v_now d
+      → DeskOutput sink sink_now v v_now text (desk_open d) progress
   written_output text d More written stands = (written, (stands, refl))
   written_output text d Over written stands = absurd written
   written_output text d Unwritten written stands = written
   written_output text d OutOfMemory written stands = absurd written
 
   -- so is one for which there may have been no memory
-  pub maybe_output : (text : List ℕ) (d : Desk) (progress : Progress) → OutputAs taken taken_now faults faults_now text progress → StandsFor v_now d → v_now ≡ v
-      → DeskOutput taken taken_now faults faults_now v v_now text (desk_open d) progress
+  pub maybe_output : (text : List ℕ) (d : Desk) (progress : Progress) → OutputAs sink sink_now text progress → StandsFor v_now d → v_now ≡ v
+      → DeskOutput sink sink_now v v_now text (desk_open d) progress
   maybe_output text d More output stands same = (output, (stands, refl))
   maybe_output text d Over output stands same = absurd output
   maybe_output text d Unwritten output stands same = output
   maybe_output text d OutOfMemory output stands same = (output, same)
 
   -- the same of what a step tells
-  pub step_output : (made step : DeskStep) (progress : Progress) → made ≡ step → DeskOutput taken taken_now faults faults_now v v_now step.text step.state progress
-      → DeskOutput taken taken_now faults faults_now v v_now made.text made.state progress
-  step_output made step progress is output = subst (λ (k : DeskStep). DeskOutput taken taken_now faults faults_now v v_now k.text k.state progress) (sym is) output
+  pub step_output : (made step : DeskStep) (progress : Progress) → made ≡ step → DeskOutput sink sink_now v v_now step.text step.state progress
+      → DeskOutput sink sink_now v v_now made.text made.state progress
+  step_output made step progress is output = subst (λ (k : DeskStep). DeskOutput sink sink_now v v_now k.text k.state progress) (sym is) output
 
   -- a refusal is told, or there was no memory
   ends_or_output : (made : DeskStep) (d : Desk) (text : List ℕ) (memory : Bool) (progress : Progress) → (memory ≡ false → made ≡ record { text = text; state = desk_open d })
-      → EndsOrWrites memory taken taken_now faults faults_now text progress → StandsFor v_now d → v_now ≡ v
-      → DeskOutput taken taken_now faults faults_now v v_now made.text made.state progress
+      → EndsOrWrites memory sink sink_now text progress → StandsFor v_now d → v_now ≡ v
+      → DeskOutput sink sink_now v v_now made.text made.state progress
   ends_or_output made d text true progress is ended stands same =
-      subst (DeskOutput taken taken_now faults faults_now v v_now made.text made.state) (sym ended.1) (ended.0, same)
+      subst (DeskOutput sink sink_now v v_now made.text made.state) (sym ended.1) (ended.0, same)
   ends_or_output made d text false progress is written stands same =
       step_output made (record { text = text; state = desk_open d }) progress (is refl) (written_output text d progress written stands)
 
@@ -71,8 +72,8 @@ module _ (taken taken_now : Option (List ℕ)) (faults faults_now : ℕ) (v v_no
 
   -- what the desk refuses
   pub refusal_output : (r : Rules) (d : Desk) (p : ℕ) (asked : Command) (refusal : DeskRefusal) (progress : Progress) → Refused refusal (desk_refusal r d p asked)
-      → EndsOrWrites (wants_memory refusal) taken taken_now faults faults_now (marked_lines p (desk_refusal_text refusal ∷ [])) progress → StandsFor v_now d → v_now ≡ v
-      → DeskOutput taken taken_now faults faults_now v v_now (step_decided r d p (desk_step r d p asked)).text (step_decided r d p (desk_step r d p asked)).state progress
+      → EndsOrWrites (wants_memory refusal) sink sink_now (marked_lines p (desk_refusal_text refusal ∷ [])) progress → StandsFor v_now d → v_now ≡ v
+      → DeskOutput sink sink_now v v_now (step_decided r d p (desk_step r d p asked)).text (step_decided r d p (desk_step r d p asked)).state progress
   refusal_output r d p asked refusal progress refused written stands same =
       ends_or_output (step_decided r d p (desk_step r d p asked)) d (marked_lines p (desk_refusal_text refusal ∷ [])) (wants_memory refusal) progress
       (λ known. ap (λ (o : Option DeskRefusal). step_decided r d p (decided o (reply_of r d.session_state asked, desk_after r d p asked))) (defined refusal (desk_refusal r d p asked) (wants_memory refusal) known refused))
@@ -81,32 +82,32 @@ module _ (taken taken_now : Option (List ℕ)) (faults faults_now : ℕ) (v v_no
   -- what the desk replies: the session's words after the line
   pub reply_output : (r : Rules) (d after : Desk) (p : ℕ) (asked : Command) (reply : Reply) (session : SessionView) (progress : Progress) → desk_step r d p asked ≡ Ok (reply, after)
       → StandsFor v_now after → session ≡ v_now.session → rules_of v_now ≡ r
-      → WrittenAs taken taken_now faults faults_now (marked_lines p (reply_text (rules session.dict) (session_state session) reply ∷ [])) progress
-      → DeskOutput taken taken_now faults faults_now v v_now (step_decided r d p (desk_step r d p asked)).text (step_decided r d p (desk_step r d p asked)).state progress
+      → WrittenAs sink sink_now (marked_lines p (reply_text (rules session.dict) (session_state session) reply ∷ [])) progress
+      → DeskOutput sink sink_now v v_now (step_decided r d p (desk_step r d p asked)).text (step_decided r d p (desk_step r d p asked)).state progress
   reply_output r d after p asked reply session progress is stands same_session same_rules written =
       let words : reply_text (rules session.dict) (session_state session) reply ≡ reply_text r after.session_state reply =
       ap (λ (s : SessionView). reply_text (rules s.dict) (session_state s) reply) same_session ∙ (λ i. reply_text (same_rules i) (stands.session_state i) reply) in
       step_output (step_decided r d p (desk_step r d p asked)) (step_decided r d p (Ok (reply, after))) progress (ap (step_decided r d p) is)
-      (written_output (marked_lines p (reply_text r after.session_state reply ∷ [])) after progress (subst (λ (t : List ℕ). WrittenAs taken taken_now faults faults_now (marked_lines p (t ∷ [])) progress) words written) stands)
+      (written_output (marked_lines p (reply_text r after.session_state reply ∷ [])) after progress (subst (λ (t : List ℕ). WrittenAs sink sink_now (marked_lines p (t ∷ [])) progress) words written) stands)
 
   -- what is missing, which no line changes
   pub missing_is_output : (d : Desk) (p : ℕ) (path : SlotPath) (session : SessionView) (progress : Progress) → session ≡ v.session → StandsFor v d → v_now ≡ v
-      → OutputAs taken taken_now faults faults_now (marked_lines p (missing_output (rules session.dict) (session_state session) (slot_found (rules session.dict) session.timeline.now path))) progress
-      → DeskOutput taken taken_now faults faults_now v v_now (step_asked (rules_of v) d p (Missing path)).text (step_asked (rules_of v) d p (Missing path)).state progress
+      → OutputAs sink sink_now (marked_lines p (missing_output (rules session.dict) (session_state session) (slot_found (rules session.dict) session.timeline.now path))) progress
+      → DeskOutput sink sink_now v v_now (step_asked (rules_of v) d p (Missing path)).text (step_asked (rules_of v) d p (Missing path)).state progress
   missing_is_output d p path session progress same_session stands same output =
       let words : marked_lines p (missing_output (rules session.dict) (session_state session) (slot_found (rules session.dict) session.timeline.now path)) ≡ marked_lines p (missing_output (rules_of v) d.session_state (slot_found (rules_of v) d.session_state.timeline.now path)) =
       ap (λ (s : SessionView). marked_lines p (missing_output (rules s.dict) (session_state s) (slot_found (rules s.dict) s.timeline.now path))) same_session
       ∙ ap (λ (c : SessionState). marked_lines p (missing_output (rules_of v) c (slot_found (rules_of v) c.timeline.now path))) stands.session_state in
-      maybe_output _ d progress (subst (λ (t : List ℕ). OutputAs taken taken_now faults faults_now t progress) words output) (subst (λ (w : DeskView). StandsFor w d) (sym same) stands) same
+      maybe_output _ d progress (subst (λ (t : List ℕ). OutputAs sink sink_now t progress) words output) (subst (λ (w : DeskView). StandsFor w d) (sym same) stands) same
 
 -- ---- lines one behind another
 
 -- what a line tells is its answer
-pub line_output : (taken taken_now : Option (List ℕ)) (faults faults_now : ℕ) (v v_now : DeskView) (r : Rules) (here : Desk) (line : ScriptLine) (progress : Progress)
-    → DeskOutput taken taken_now faults faults_now v v_now (desk_line_step r (desk_open here) line).text (desk_line_step r (desk_open here) line).state progress
-    → DeskOutput taken taken_now faults faults_now v v_now (desk_replies r (desk_open here) (line ∷ [])) (desk_state_after r (desk_open here) (line ∷ [])) progress
-line_output taken taken_now faults faults_now v v_now r here line progress output =
-    subst (λ (t : List ℕ). DeskOutput taken taken_now faults faults_now v v_now t (desk_line_step r (desk_open here) line).state progress) (sym (append-nil (desk_line_step r (desk_open here) line).text)) output
+pub line_output : (sink sink_now : Output) (v v_now : DeskView) (r : Rules) (here : Desk) (line : ScriptLine) (progress : Progress)
+    → DeskOutput sink sink_now v v_now (desk_line_step r (desk_open here) line).text (desk_line_step r (desk_open here) line).state progress
+    → DeskOutput sink sink_now v v_now (desk_replies r (desk_open here) (line ∷ [])) (desk_state_after r (desk_open here) (line ∷ [])) progress
+line_output sink sink_now v v_now r here line progress output =
+    subst (λ (t : List ℕ). DeskOutput sink sink_now v v_now t (desk_line_step r (desk_open here) line).state progress) (sym (append-nil (desk_line_step r (desk_open here) line).text)) output
 
 pub desk_replies-append : (r : Rules) (state : DeskState) (xs ys : List ScriptLine) → desk_replies r state (xs ++ ys) ≡ desk_replies r state xs ++ desk_replies r (desk_state_after r state xs) ys
 desk_replies-append r state [] ys = refl

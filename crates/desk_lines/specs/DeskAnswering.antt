@@ -1,6 +1,6 @@
 -- A script of several parties on its way: bytes are cut into lines, and each line is answered before the next is taken.
 use Rattle.std.specs.Prelude.{◌≡◌, ℕ, Bool, true, false, List, [], ◌∷◌, ◌++◌, Option}
-use Rattle.fg_io.specs.Outside.{Rose}
+use Rattle.fg_io.specs.Outside.{Output, Rose}
 use Rattle.fg_io.specs.Sent.{Sent}
 use Rattle.script_lines.specs.Lines.{ScriptLine, script_lines, HasNoNewline}
 use Rattle.graph_session.specs.Rules.{Rules}
@@ -19,21 +19,21 @@ StandsAt v state over = StandsFor v state.desk × (state.over ≡ over)
 
 -- A text was told and a state left: the text was written whole, and the script goes on or is over; or it was written in part, after
 -- a fault; or there was no memory for it, and then nothing was written, and what is kept is as before.
-abbrev pub DeskOutput : Option (List ℕ) → Option (List ℕ) → ℕ → ℕ → DeskView → DeskView → List ℕ → DeskState → Progress → Type 0
-DeskOutput taken taken_now faults faults_now v v_now text state More = Sent taken taken_now text [] × StandsAt v_now state false
-DeskOutput taken taken_now faults faults_now v v_now text state Over = Sent taken taken_now text [] × StandsAt v_now state true
-DeskOutput taken taken_now faults faults_now v v_now text state Unwritten = Rose faults faults_now × ((rest : List ℕ) × Sent taken taken_now text rest)
-DeskOutput taken taken_now faults faults_now v v_now text state OutOfMemory = (taken_now ≡ taken) × (v_now ≡ v)
+abbrev pub DeskOutput : Output → Output → DeskView → DeskView → List ℕ → DeskState → Progress → Type 0
+DeskOutput sink sink_now v v_now text state More = Sent sink.taken sink_now.taken text [] × StandsAt v_now state false
+DeskOutput sink sink_now v v_now text state Over = Sent sink.taken sink_now.taken text [] × StandsAt v_now state true
+DeskOutput sink sink_now v v_now text state Unwritten = Rose sink.faults sink_now.faults × ((rest : List ℕ) × Sent sink.taken sink_now.taken text rest)
+DeskOutput sink sink_now v v_now text state OutOfMemory = (sink_now.taken ≡ sink.taken) × (v_now ≡ v)
 
 -- a line, or none, was answered
-abbrev pub DeskAnsweredAs : Rules → Option (List ℕ) → Option (List ℕ) → ℕ → ℕ → DeskView → DeskView → Desk → List ScriptLine → Progress → Type 0
-DeskAnsweredAs r taken taken_now faults faults_now v v_now here lines progress =
-    DeskOutput taken taken_now faults faults_now v v_now (desk_replies r (desk_open here) lines) (desk_state_after r (desk_open here) lines) progress
+abbrev pub DeskAnsweredAs : Rules → Output → Output → DeskView → DeskView → Desk → List ScriptLine → Progress → Type 0
+DeskAnsweredAs r sink sink_now v v_now here lines progress =
+    DeskOutput sink sink_now v v_now (desk_replies r (desk_open here) lines) (desk_state_after r (desk_open here) lines) progress
 
 -- want of memory ends the script, and every other refusal is written
-abbrev pub DeskRefusedAs : Option (List ℕ) → Option (List ℕ) → ℕ → ℕ → ℕ → DeskRefusal → Progress → Type 0
-DeskRefusedAs taken taken_now faults faults_now p refusal progress =
-    EndsOrWrites (wants_memory refusal) taken taken_now faults faults_now (marked_lines p (desk_refusal_text refusal ∷ [])) progress
+abbrev pub DeskRefusedAs : Output → Output → ℕ → DeskRefusal → Progress → Type 0
+DeskRefusedAs sink sink_now p refusal progress =
+    EndsOrWrites (wants_memory refusal) sink sink_now (marked_lines p (desk_refusal_text refusal ∷ [])) progress
 
 -- Bytes came behind those held. Lines were cut from them, as far as what is held now and what stands behind, and the replies
 -- to these lines were written but for the rest.
@@ -51,12 +51,12 @@ pub record DeskRepliedSome (r : Rules) (taken taken_now : Option (List ℕ)) (he
   pub replied : DeskReplied r taken taken_now here held bytes state_now held_now behind rest
 
 -- how far a piece was answered: whole, to a `quit`, to a reply that wasn't written whole, or to want of memory
-abbrev pub DeskPieceAnsweredAs : Rules → Option (List ℕ) → Option (List ℕ) → ℕ → ℕ → DeskView → Desk → List ℕ → List ℕ → List ℕ → Progress → Type 0
-DeskPieceAnsweredAs r taken taken_now faults faults_now v_now here held held_now bytes More =
-    ((there : Desk) × StandsFor v_now there × DeskReplied r taken taken_now here held bytes (desk_open there) held_now [] []) × HasNoNewline held_now
-DeskPieceAnsweredAs r taken taken_now faults faults_now v_now here held held_now bytes Over =
-    (some : DeskRepliedSome r taken taken_now here held bytes []) × StandsAt v_now some.state_now true
-DeskPieceAnsweredAs r taken taken_now faults faults_now v_now here held held_now bytes Unwritten =
-    Rose faults faults_now × ((rest : List ℕ) × DeskRepliedSome r taken taken_now here held bytes rest)
-DeskPieceAnsweredAs r taken taken_now faults faults_now v_now here held held_now bytes OutOfMemory =
-    (some : DeskRepliedSome r taken taken_now here held bytes []) × StandsAt v_now some.state_now false
+abbrev pub DeskPieceAnsweredAs : Rules → Output → Output → DeskView → Desk → List ℕ → List ℕ → List ℕ → Progress → Type 0
+DeskPieceAnsweredAs r sink sink_now v_now here held held_now bytes More =
+    ((there : Desk) × StandsFor v_now there × DeskReplied r sink.taken sink_now.taken here held bytes (desk_open there) held_now [] []) × HasNoNewline held_now
+DeskPieceAnsweredAs r sink sink_now v_now here held held_now bytes Over =
+    (some : DeskRepliedSome r sink.taken sink_now.taken here held bytes []) × StandsAt v_now some.state_now true
+DeskPieceAnsweredAs r sink sink_now v_now here held held_now bytes Unwritten =
+    Rose sink.faults sink_now.faults × ((rest : List ℕ) × DeskRepliedSome r sink.taken sink_now.taken here held bytes rest)
+DeskPieceAnsweredAs r sink sink_now v_now here held held_now bytes OutOfMemory =
+    (some : DeskRepliedSome r sink.taken sink_now.taken here held bytes []) × StandsAt v_now some.state_now false

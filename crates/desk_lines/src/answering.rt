@@ -33,15 +33,16 @@ fn answer_said<E: FactEngine, L: Ledger, K: Sink>(
     out: &mut K,
     steps: &mut Steps<L>,
 ) -> Progress
-    requires same_checks { SameChecks (rules_of desk.old)
-        (named_checks checks.now) }
+    requires same_checks { SameChecks (rules_of desk.old) (named_checks checks.now) }
     requires few { desk.old.session.changes < 2 ^ 63 }
-    ensures output { (d : Defined) → StandsFor desk.old d → DeskOutput (K.taken out.old) (K.taken out.new) (K.faults out.old) (K.faults out.new) desk.old desk.new
-        (step_said (rules_of desk.old) d said.now).text (step_said (rules_of desk.old) d said.now).state result }
+    ensures output { (d : Defined) → StandsFor desk.old d → DeskOutput (K.output out.old) (K.output out.new) desk.old
+        desk.new (step_said (rules_of desk.old) d said.now).text (step_said (rules_of desk.old) d said.now).state
+        result }
     ensures dict { desk.new.session.dict ≡ desk.old.session.dict }
     ensures few { desk.new.session.changes ≤ desk.old.session.changes + 1 }
-    ensures later { K.faults out.old ≤ K.faults out.new }
-    ensures steps { steps.new ≤ steps.old + steps_of_said E.most (rules_of desk.old) (session_state desk.old.session) said.now }
+    ensures later { (K.output out.old).faults ≤ (K.output out.new).faults }
+    ensures steps { steps.new ≤ steps.old + steps_of_said E.most (rules_of desk.old) (session_state desk.old.session)
+        said.now }
 {
     match said {
         PartyLine::Silent => Progress::More,
@@ -63,15 +64,15 @@ fn answer_line<E: FactEngine, L: Ledger, K: Sink>(
     steps: &mut Steps<L>,
 ) -> Progress
     requires short { length line.now ≤ 4096 }
-    requires same_checks { SameChecks (rules_of desk.old)
-        (named_checks checks.now) }
+    requires same_checks { SameChecks (rules_of desk.old) (named_checks checks.now) }
     requires few { desk.old.session.changes < 2 ^ 63 }
-    ensures answered { (d : Defined) → StandsFor desk.old d → DeskAnsweredAs (rules_of desk.old)
-        (K.taken out.old) (K.taken out.new) (K.faults out.old) (K.faults out.new) desk.old desk.new d (whole line.now ∷ []) result }
+    ensures answered { (d : Defined) → StandsFor desk.old d → DeskAnsweredAs (rules_of desk.old) (K.output out.old)
+        (K.output out.new) desk.old desk.new d (whole line.now ∷ []) result }
     ensures dict { desk.new.session.dict ≡ desk.old.session.dict }
     ensures few { desk.new.session.changes ≤ desk.old.session.changes + 1 }
-    ensures later { K.faults out.old ≤ K.faults out.new }
-    ensures steps { steps.new ≤ steps.old + steps_of_party_line E.most (rules_of desk.old) (session_state desk.old.session) (whole line.now) }
+    ensures later { (K.output out.old).faults ≤ (K.output out.new).faults }
+    ensures steps { steps.new ≤ steps.old + steps_of_party_line E.most (rules_of desk.old)
+        (session_state desk.old.session) (whole line.now) }
 {
     match read_party_line(alloc, line) {
         Ok(said) => {
@@ -94,16 +95,15 @@ pub fn answer_ready<E: FactEngine, L: Ledger, K: Sink>(
     steps: &mut Steps<L>,
 ) -> Progress
     requires short { length line.now ≤ 4096 }
-    requires same_checks { SameChecks (rules_of desk.old)
-        (named_checks checks.now) }
+    requires same_checks { SameChecks (rules_of desk.old) (named_checks checks.now) }
     requires few { desk.old.session.changes < 2 ^ 63 }
-    ensures answered { (d : Defined) → StandsFor desk.old d → DeskAnsweredAs (rules_of desk.old)
-        (K.taken out.old) (K.taken out.new) (K.faults out.old) (K.faults out.new) desk.old desk.new d (ready_lines ready line.now) result }
+    ensures answered { (d : Defined) → StandsFor desk.old d → DeskAnsweredAs (rules_of desk.old) (K.output out.old)
+        (K.output out.new) desk.old desk.new d (ready_lines ready line.now) result }
     ensures dict { desk.new.session.dict ≡ desk.old.session.dict }
     ensures few { desk.new.session.changes ≤ desk.old.session.changes + 1 }
-    ensures later { K.faults out.old ≤ K.faults out.new }
-    ensures steps { (d : Defined) → StandsFor desk.old d → steps.new ≤ steps.old
-        + steps_of_desk_lines E.most (rules_of desk.old) (desk_open d) (ready_lines ready line.now) }
+    ensures later { (K.output out.old).faults ≤ (K.output out.new).faults }
+    ensures steps { (d : Defined) → StandsFor desk.old d → steps.new ≤ steps.old + steps_of_desk_lines E.most
+        (rules_of desk.old) (desk_open d) (ready_lines ready line.now) }
 {
     match ready {
         Ready::NotYet => Progress::More,
@@ -123,16 +123,15 @@ pub fn answer_piece<E: FactEngine, L: Ledger, K: Sink>(
     steps: &mut Steps<L>,
 ) -> Progress
     requires unended { HasNoNewline lines.old.so_far }
-    requires same_checks { SameChecks (rules_of desk.old)
-        (named_checks checks.now) }
+    requires same_checks { SameChecks (rules_of desk.old) (named_checks checks.now) }
     requires few { desk.old.session.changes + length bytes.now < 2 ^ 63 }
-    ensures answered { (d : Defined) → StandsFor desk.old d → DeskPieceAnsweredAs (rules_of desk.old)
-        (K.taken out.old) (K.taken out.new) (K.faults out.old) (K.faults out.new) desk.new d lines.old.so_far lines.new.so_far bytes.now result }
+    ensures answered { (d : Defined) → StandsFor desk.old d → DeskPieceAnsweredAs (rules_of desk.old) (K.output out.old)
+        (K.output out.new) desk.new d lines.old.so_far lines.new.so_far bytes.now result }
     ensures dict { desk.new.session.dict ≡ desk.old.session.dict }
     ensures few { desk.new.session.changes ≤ desk.old.session.changes + length bytes.now }
-    ensures later { K.faults out.old ≤ K.faults out.new }
-    ensures steps { (d : Defined) → StandsFor desk.old d → steps.new ≤ steps.old
-        + steps_of_desk_lines E.most (rules_of desk.old) (desk_open d) (ended_lines (lines.old.so_far ++ bytes.now)) }
+    ensures later { (K.output out.old).faults ≤ (K.output out.new).faults }
+    ensures steps { (d : Defined) → StandsFor desk.old d → steps.new ≤ steps.old + steps_of_desk_lines E.most
+        (rules_of desk.old) (desk_open d) (ended_lines (lines.old.so_far ++ bytes.now)) }
 {
     let mut rest = bytes;
     while !rest.is_empty() {

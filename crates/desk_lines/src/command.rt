@@ -54,16 +54,16 @@ fn answer_session_command<E: FactEngine, L: Ledger, K: Sink>(
     out: &mut K,
     steps: &mut Steps<L>,
 ) -> Progress
-    requires same_checks { SameChecks (rules_of desk.old)
-        (named_checks checks.now) }
+    requires same_checks { SameChecks (rules_of desk.old) (named_checks checks.now) }
     requires few { desk.old.session.changes < 2 ^ 63 }
-    ensures output { (d : Defined) → StandsFor desk.old d → DeskOutput (K.taken out.old) (K.taken out.new) (K.faults out.old) (K.faults out.new) desk.old desk.new
-        (step_decided (rules_of desk.old) d party (desk_step (rules_of desk.old) d party command.now)).text
+    ensures output { (d : Defined) → StandsFor desk.old d → DeskOutput (K.output out.old) (K.output out.new) desk.old
+        desk.new (step_decided (rules_of desk.old) d party (desk_step (rules_of desk.old) d party command.now)).text
         (step_decided (rules_of desk.old) d party (desk_step (rules_of desk.old) d party command.now)).state result }
     ensures dict { desk.new.session.dict ≡ desk.old.session.dict }
     ensures few { desk.new.session.changes ≤ desk.old.session.changes + 1 }
-    ensures later { K.faults out.old ≤ K.faults out.new }
-    ensures steps { steps.new ≤ steps.old + most_steps (E.most (rules_of desk.old).accepted) (rules_of desk.old) (session_state desk.old.session) command.now }
+    ensures later { (K.output out.old).faults ≤ (K.output out.new).faults }
+    ensures steps { steps.new ≤ steps.old + most_steps (E.most (rules_of desk.old).accepted) (rules_of desk.old)
+        (session_state desk.old.session) command.now }
 {
     match desk.line(party, command, checks, steps) {
         Ok(reply) => write_reply(desk.session(), party, reply, out),
@@ -80,9 +80,10 @@ fn answer_host_command<E: FactEngine, K: Sink>(
     out: &mut K,
 ) -> Progress
     requires { known command.now ≡ false }
-    ensures output { (d : Defined) → StandsFor desk.now d → DeskOutput (K.taken out.old) (K.taken out.new) (K.faults out.old) (K.faults out.new) desk.now desk.now
-        (step_asked (rules_of desk.now) d party command.now).text (step_asked (rules_of desk.now) d party command.now).state result }
-    ensures later { K.faults out.old ≤ K.faults out.new }
+    ensures output { (d : Defined) → StandsFor desk.now d → DeskOutput (K.output out.old) (K.output out.new) desk.now
+        desk.now (step_asked (rules_of desk.now) d party command.now).text
+        (step_asked (rules_of desk.now) d party command.now).state result }
+    ensures later { (K.output out.old).faults ≤ (K.output out.new).faults }
 {
     match command {
         Command::Missing(path) => answer_missing(alloc, desk.session(), party, path, out),
@@ -100,15 +101,16 @@ pub fn answer_command<E: FactEngine, L: Ledger, K: Sink>(
     out: &mut K,
     steps: &mut Steps<L>,
 ) -> Progress
-    requires same_checks { SameChecks (rules_of desk.old)
-        (named_checks checks.now) }
+    requires same_checks { SameChecks (rules_of desk.old) (named_checks checks.now) }
     requires few { desk.old.session.changes < 2 ^ 63 }
-    ensures output { (d : Defined) → StandsFor desk.old d → DeskOutput (K.taken out.old) (K.taken out.new) (K.faults out.old) (K.faults out.new) desk.old desk.new
-        (step_asked (rules_of desk.old) d party command.now).text (step_asked (rules_of desk.old) d party command.now).state result }
+    ensures output { (d : Defined) → StandsFor desk.old d → DeskOutput (K.output out.old) (K.output out.new) desk.old
+        desk.new (step_asked (rules_of desk.old) d party command.now).text
+        (step_asked (rules_of desk.old) d party command.now).state result }
     ensures dict { desk.new.session.dict ≡ desk.old.session.dict }
     ensures few { desk.new.session.changes ≤ desk.old.session.changes + 1 }
-    ensures later { K.faults out.old ≤ K.faults out.new }
-    ensures steps { steps.new ≤ steps.old + most_steps (E.most (rules_of desk.old).accepted) (rules_of desk.old) (session_state desk.old.session) command.now }
+    ensures later { (K.output out.old).faults ≤ (K.output out.new).faults }
+    ensures steps { steps.new ≤ steps.old + most_steps (E.most (rules_of desk.old).accepted) (rules_of desk.old)
+        (session_state desk.old.session) command.now }
 {
     if is_session_command(command) {
         answer_session_command(desk, party, command, checks, out, steps)

@@ -1,5 +1,5 @@
 // Tells a party which slots are missing of one.
-ghost use Rattle.std.specs.Prelude.{◌≡◌, ◌≤◌, ◌∷◌, [], All, IsTrue, codes, map};
+ghost use Rattle.std.specs.Prelude.{◌≤◌, ◌∷◌, [], All, IsTrue, codes, map};
 ghost use Rattle.script_lines.specs.Joined.{joined};
 ghost use Rattle.dictionary.specs.Accepted.{accepted};
 ghost use Rattle.dictionary.specs.SlotText.{slot_text};
@@ -32,7 +32,7 @@ fn put_slot<E: FactEngine, K: Sink>(
     out: &mut K,
 ) -> Result<(), Failed>
     requires { IsTrue (stands (accepted session.now.dict).tree session.now.timeline.now slot) }
-    ensures { Wrote (K.taken out.old) (K.taken out.new) (K.faults out.old) (K.faults out.new)
+    ensures { Wrote (K.output out.old) (K.output out.new)
         (marked_lines party (slot_text (accepted session.now.dict).tree slot ∷ [])) result }
 {
     let dict = session.dict();
@@ -51,7 +51,7 @@ fn put_slots<E: FactEngine, K: Sink>(
     out: &mut K,
 ) -> Result<(), Failed>
     requires { All (λ s. IsTrue (stands (accepted session.now.dict).tree session.now.timeline.now s)) slots.now }
-    ensures { Wrote (K.taken out.old) (K.taken out.new) (K.faults out.old) (K.faults out.new)
+    ensures { Wrote (K.output out.old) (K.output out.new)
         (joined (map (λ s. marked party (slot_text (accepted session.now.dict).tree s)) slots.now)) result }
 {
     for slot in slots {
@@ -65,8 +65,8 @@ fn put_slots<E: FactEngine, K: Sink>(
 
 // Puts how many they are.
 fn put_count<K: Sink>(party: u32, count: usize, out: &mut K) -> Result<(), Failed>
-    ensures { Wrote (K.taken out.old) (K.taken out.new) (K.faults out.old) (K.faults out.new)
-        (marked_lines party (numbered (codes "missing ") count ∷ [])) result }
+    ensures { Wrote (K.output out.old) (K.output out.new) (marked_lines party (numbered (codes "missing ") count ∷ []))
+        result }
 {
     let mut line = Line::new();
     print_numbered("missing ", count as u64, &mut line);
@@ -81,8 +81,9 @@ fn put_missing<E: FactEngine, K: Sink>(
     out: &mut K,
 ) -> Result<(), Failed>
     requires { All (λ s. IsTrue (stands (accepted session.now.dict).tree session.now.timeline.now s)) slots.now }
-    ensures { Wrote (K.taken out.old) (K.taken out.new) (K.faults out.old) (K.faults out.new)
-        (marked_lines party (missing_count slots.now ∷ map (slot_text (accepted session.now.dict).tree) slots.now)) result }
+    ensures { Wrote (K.output out.old) (K.output out.new)
+        (marked_lines party (missing_count slots.now ∷ map (slot_text (accepted session.now.dict).tree) slots.now))
+        result }
 {
     match put_count(party, slots.len(), out) {
         Err(failed) => Err(failed),
@@ -99,9 +100,9 @@ fn write_missing<E: FactEngine, K: Sink>(
     out: &mut K,
 ) -> Progress
     requires { IsTrue (stands (accepted session.now.dict).tree session.now.timeline.now slot) }
-    ensures output { OutputAs (K.taken out.old) (K.taken out.new) (K.faults out.old) (K.faults out.new)
+    ensures output { OutputAs (K.output out.old) (K.output out.new)
         (marked_lines party (missing_lines (rules session.now.dict) (session_state session.now) slot)) result }
-    ensures later { K.faults out.old ≤ K.faults out.new }
+    ensures later { (K.output out.old).faults ≤ (K.output out.new).faults }
 {
     match missing(alloc, session, slot) {
         Ok(slots) => as_progress(put_missing(session, party, &slots, out)),
@@ -117,10 +118,10 @@ pub fn answer_missing<E: FactEngine, K: Sink>(
     path: &SlotPath,
     out: &mut K,
 ) -> Progress
-    ensures output { OutputAs (K.taken out.old) (K.taken out.new) (K.faults out.old) (K.faults out.new)
+    ensures output { OutputAs (K.output out.old) (K.output out.new)
         (marked_lines party (missing_output (rules session.now.dict) (session_state session.now)
         (slot_found (rules session.now.dict) session.now.timeline.now path.now))) result }
-    ensures later { K.faults out.old ≤ K.faults out.new }
+    ensures later { (K.output out.old).faults ≤ (K.output out.new).faults }
 {
     match session.slot_of(path) {
         Ok(slot) => write_missing(alloc, session, party, slot, out),

@@ -31,7 +31,7 @@ fn print_mark(party: u32, line: &mut Line)
 /// Puts a line that is told to a party: its mark, the text, and a newline.
 pub fn put_marked<K: Sink>(party: u32, text: &[u8], out: &mut K) -> Result<(), Failed>
     requires { length text.now ≤ 1050 }
-    ensures { Wrote (K.taken out.old) (K.taken out.new) (K.faults out.old) (K.faults out.new) (marked_lines party (text.now ∷ [])) result }
+    ensures { Wrote (K.output out.old) (K.output out.new) (marked_lines party (text.now ∷ [])) result }
 {
     let mut line = Line::new();
     print_mark(party, &mut line);
@@ -43,8 +43,8 @@ pub fn put_marked<K: Sink>(party: u32, text: &[u8], out: &mut K) -> Result<(), F
 /// Writes a line that is told to a party.
 pub fn write_marked<K: Sink>(party: u32, text: &[u8], out: &mut K) -> Progress
     requires { length text.now ≤ 1050 }
-    ensures written { WrittenAs (K.taken out.old) (K.taken out.new) (K.faults out.old) (K.faults out.new) (marked_lines party (text.now ∷ [])) result }
-    ensures later { K.faults out.old ≤ K.faults out.new }
+    ensures written { WrittenAs (K.output out.old) (K.output out.new) (marked_lines party (text.now ∷ [])) result }
+    ensures later { (K.output out.old).faults ≤ (K.output out.new).faults }
 {
     let put = put_marked(party, text, out);
     as_progress(put)
@@ -57,9 +57,9 @@ pub fn write_reply<E: FactEngine, K: Sink>(
     reply: Reply,
     out: &mut K,
 ) -> Progress
-    ensures written { WrittenAs (K.taken out.old) (K.taken out.new) (K.faults out.old) (K.faults out.new)
+    ensures written { WrittenAs (K.output out.old) (K.output out.new)
         (marked_lines party (reply_text (rules session.now.dict) (session_state session.now) reply ∷ [])) result }
-    ensures later { K.faults out.old ≤ K.faults out.new }
+    ensures later { (K.output out.old).faults ≤ (K.output out.new).faults }
 {
     let mut line = Line::new();
     print_reply(session, reply, &mut line);
@@ -78,8 +78,8 @@ fn is_memory(refusal: DeskRefusal) -> bool
 
 /// Writes why a line of a party is refused.
 pub fn write_refusal<K: Sink>(party: u32, refusal: DeskRefusal, out: &mut K) -> Progress
-    ensures written { DeskRefusedAs (K.taken out.old) (K.taken out.new) (K.faults out.old) (K.faults out.new) party refusal result }
-    ensures later { K.faults out.old ≤ K.faults out.new }
+    ensures written { DeskRefusedAs (K.output out.old) (K.output out.new) party refusal result }
+    ensures later { (K.output out.old).faults ≤ (K.output out.new).faults }
 {
     if is_memory(refusal) {
         return Progress::OutOfMemory;

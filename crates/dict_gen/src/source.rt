@@ -50,7 +50,8 @@ fn push_one_more<'a>(
     source: &mut DictSource,
 ) -> Result<(), NoMemory>
     requires { IsTrue (takes (dictionary_view source.old) (derived path.now (scalar Int) (one_more other.now))) }
-    ensures { OnOk result (dictionary_view source.new ≡ with_fact (dictionary_view source.old) (derived path.now (scalar Int) (one_more other.now))) }
+    ensures { OnOk result (dictionary_view source.new ≡ with_fact (dictionary_view source.old)
+        (derived path.now (scalar Int) (one_more other.now))) }
 {
     let operands = [Read(Dependency, other), Const(Fixed::Int("1"))];
     let rows = [Derived(path, Kind::Int, Many(Add, &operands))];

@@ -59,7 +59,8 @@ fn first_unranked(mentions: &[u32], from: usize, marks: &[Mark]) -> usize
     requires within { (fact : ℕ) → Has mentions.now fact → fact < length marks.now }
     requires passed { AreRanked marks.now from mentions.now }
     ensures passed { AreRanked marks.now result mentions.now }
-    ensures here { result < length mentions.now → is_ranked_mark (mark_of marks.now (slice_index mentions.now result)) ≡ false }
+    ensures here { result < length mentions.now → is_ranked_mark (mark_of marks.now (slice_index mentions.now result))
+        ≡ false }
     ensures most { result ≤ length mentions.now }
 {
     for place in from..mentions.len() {
@@ -95,9 +96,12 @@ fn step(
     requires within { MentionsFacts (graph_of graph.now) }
     requires few { length graph.now < 2 ^ 32 }
     requires pass { Pass (graph_of graph.now) marks.old (path.old.items ++ fact ∷ []) }
-    ensures pass { IfOk result (λ goes_on. MatchBool goes_on (Pass (graph_of graph.now) marks.new path.new.items) (HasCycle (graph_of graph.now))) }
-    ensures met { IfOk result (λ goes_on. MatchBool goes_on (StayMet marks.old marks.new) (HasCycle (graph_of graph.now))) }
-    ensures less { IfOk result (λ goes_on. MatchBool goes_on (2 * unmet marks.new + length path.new.items < 2 * unmet marks.old + length path.old.items + 1) (HasCycle (graph_of graph.now))) }
+    ensures pass { IfOk result (λ goes_on. MatchBool goes_on (Pass (graph_of graph.now) marks.new path.new.items)
+        (HasCycle (graph_of graph.now))) }
+    ensures met { IfOk result (λ goes_on. MatchBool goes_on (StayMet marks.old marks.new)
+        (HasCycle (graph_of graph.now))) }
+    ensures less { IfOk result (λ goes_on. MatchBool goes_on (2 * unmet marks.new + length path.new.items < 2 * unmet
+        marks.old + length path.old.items + 1) (HasCycle (graph_of graph.now))) }
 {
     let listed = mentions(graph, fact);
     let passed = first_unranked(listed, marks[fact as usize].passed(), marks);
@@ -127,9 +131,12 @@ fn explore(
     requires few { length graph.now < 2 ^ 32 }
     requires there { IsFact (graph_of graph.now) start }
     requires pass { Pass (graph_of graph.now) marks.old [] }
-    ensures pass { IfOk result (λ goes_on. MatchBool goes_on (Pass (graph_of graph.now) marks.new []) (HasCycle (graph_of graph.now))) }
-    ensures met { IfOk result (λ goes_on. MatchBool goes_on (StayMet marks.old marks.new) (HasCycle (graph_of graph.now))) }
-    ensures start { IfOk result (λ goes_on. MatchBool goes_on (is_new_mark (mark_of marks.new start) ≡ false) (HasCycle (graph_of graph.now))) }
+    ensures pass { IfOk result (λ goes_on. MatchBool goes_on (Pass (graph_of graph.now) marks.new [])
+        (HasCycle (graph_of graph.now))) }
+    ensures met { IfOk result (λ goes_on. MatchBool goes_on (StayMet marks.old marks.new)
+        (HasCycle (graph_of graph.now))) }
+    ensures start { IfOk result (λ goes_on. MatchBool goes_on (is_new_mark (mark_of marks.new start) ≡ false)
+        (HasCycle (graph_of graph.now))) }
 {
     if !marks[start as usize].is_new() {
         return Ok(true);
@@ -157,7 +164,8 @@ fn ranks_of(alloc: Global, marks: &[Mark]) -> Result<Vec<u32>, NoMemory>
 pub fn rank_all(alloc: Global, graph: &[Vec<u32>]) -> Result<Option<Vec<u32>>, NoMemory>
     requires within { MentionsFacts (graph_of graph.now) }
     requires few { length graph.now < 2 ^ 32 }
-    ensures { IfOk result (λ ranks. MatchOption ranks (HasCycle (graph_of graph.now)) (λ list. AreRanks (graph_of graph.now) list.items)) }
+    ensures { IfOk result (λ ranks. MatchOption ranks (HasCycle (graph_of graph.now))
+        (λ list. AreRanks (graph_of graph.now) list.items)) }
 {
     let mut marks = vec![in alloc; Mark::New; graph.len() + 1]?;
     for place in 0..graph.len() {

@@ -23,7 +23,8 @@ fn see(fact: u32, seen: &mut Vec<bool>, todo: &mut Vec<u32>) -> Result<(), NoMem
 
 fn see_all(facts: &[u32], seen: &mut Vec<bool>, todo: &mut Vec<u32>) -> Result<(), NoMemory>
     requires { (fact : ℕ) → Has facts.now fact → fact < length seen.old.items }
-    ensures { OnOk result ((seen.new.items, todo.new.items) ≡ state_after_all facts.now (seen.old.items, todo.old.items)) }
+    ensures { OnOk result ((seen.new.items, todo.new.items) ≡ state_after_all facts.now
+        (seen.old.items, todo.old.items)) }
 {
     for fact in facts {
         see(*fact, seen, todo)?;

@@ -1,6 +1,6 @@
 -- What is printed spells the dictionary.
 use Rattle.std.proofs.Common.{◌≡◌, inl, inr, ℕ, List, [], ◌∷◌, length, Bool, true, ◌&&◌, Option, Some, None, refl, sym, ap, subst}
-use Rattle.std.specs.Prelude.{◌≢◌, codes, nat_lt, option_map}
+use Rattle.std.specs.Prelude.{codes, nat_lt, option_map}
 use Rattle.std.specs.List.{All, list_all}
 use Rattle.std.proofs.lemmas.List.Elements.{All-head, All-tail}
 use Rattle.common_lemmas.proofs.Bools.{both}
@@ -17,13 +17,8 @@ use Rattle.dict_tree.specs.Json.{json_of}
 use Rattle.dict_tree.specs.FactParsing.{writable_keys, derived_keys}
 use Rattle.dict_tree.specs.FactJson.{IsObjectOf, IsOptionalText, IsNamed, items_from, stated_text, limit_json, conditional_json, SpellLimits, SpellsOptional, SpellsRequired, SpellsConditional, SpellsWritable, SpellsDerived, SpellsFact}
 use Rattle.dict_tree.specs.DictJson.{AreSpelled, SpellsEnum, SpellEnums, SpellsTop, SpellsDictionary, enum_keys, top_keys, version_text}
+use Rattle.dict_tree.proofs.EnumJsonLaws.{not_empty}
 use Rattle.dict_print.specs.DictionaryJson.{put_some, some_array, enum_json, fact_json, json_by_main, writable_json, derived_json, dictionary_json, IsPrintable}
-
--- ---- lists of options
-
-some_options : (xs : List (List ℕ)) → nat_lt 0 (length xs) ≡ true → xs ≢ []
-some_options [] h e = absurd cc
-some_options (x ∷ xs) h e = absurd cc
 
 enum_spelled : (e : Listed) → is_listed e ≡ true → SpellsEnum (enum_json e) e
 enum_spelled e h =
@@ -31,7 +26,7 @@ enum_spelled e h =
     let n = both (is_name e.name) (are_options e.options) p.1 in
     let o = both (nat_lt 0 (length e.options)) (list_all is_name e.options && are_distinct e.options) n.1 in
     let d = both (list_all is_name e.options) (are_distinct e.options) o.1 in
-    record { keys = refl; name = refl; named = n.0; options = refl; all_named = d.0; some = some_options e.options o.0; distinct = d.1 }
+    record { keys = refl; name = refl; named = n.0; options = refl; all_named = d.0; some = not_empty e.options o.0; distinct = d.1 }
 
 enums_spelled : (es : List Listed) → list_all is_listed es ≡ true → AreSpelled SpellsEnum (items_from enum_json es) es
 enums_spelled [] h = tt

@@ -62,7 +62,8 @@ pub fn put_enums(
     alloc: Global,
     enums: &EnumLists,
 ) -> Result<(), NoMemory>
-    ensures member { OnOk result (members_view members.new.entries ≡ put_some (codes "enums") (some_array enum_json enums.now) (members_view members.old.entries)) }
+    ensures member { OnOk result (members_view members.new.entries ≡ put_some (codes "enums")
+        (some_array enum_json enums.now) (members_view members.old.entries)) }
     ensures lists { AreLists enums.now }
 {
     if enums.len() == 0 {

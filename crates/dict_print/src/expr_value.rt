@@ -66,7 +66,8 @@ fn one_value(alloc: Global, name: &str, operand: &Expr) -> Result<Value, NoMemor
 
 #[cycle(expr)]
 fn pick_value(alloc: Global, name: &str, text: &str, condition: &Expr) -> Result<Value, NoMemory>
-    ensures { IfOk result (λ v. json v ≡ node_json name.now (item (string text.now) (item (json_of (view condition.now)) no_items))) }
+    ensures { IfOk result (λ v. json v ≡ node_json name.now
+        (item (string text.now) (item (json_of (view condition.now)) no_items))) }
 {
     let condition = expr_value(alloc, condition)?;
     node_of_pick(alloc, name, text, condition)

@@ -25,7 +25,8 @@ pub fn put_text(
     key: &str,
     text: &str,
 ) -> Result<(), NoMemory>
-    ensures { OnOk result (members_view members.new.entries ≡ put key.now (string text.now) (members_view members.old.entries)) }
+    ensures { OnOk result (members_view members.new.entries ≡ put key.now (string text.now)
+        (members_view members.old.entries)) }
 {
     let value = Value::try_from_str(alloc, text)?;
     Ok(serde_json::put(members, alloc, key, value)?)
@@ -38,7 +39,8 @@ fn put_stated(
     key: &str,
     stated: &TypeText,
 ) -> Result<(), NoMemory>
-    ensures member { OnOk result (members_view members.new.entries ≡ put key.now (string (stated_text (stated_view stated.now))) (members_view members.old.entries)) }
+    ensures member { OnOk result (members_view members.new.entries
+        ≡ put key.now (string (stated_text (stated_view stated.now))) (members_view members.old.entries)) }
     ensures named { OnOk result (IsNamed (stated_view stated.now)) }
 {
     let mut text = String::new(alloc);
@@ -53,7 +55,8 @@ fn put_expr(
     key: &str,
     expr: &Expr,
 ) -> Result<(), NoMemory>
-    ensures { OnOk result (members_view members.new.entries ≡ put key.now (json_of (view expr.now)) (members_view members.old.entries)) }
+    ensures { OnOk result (members_view members.new.entries ≡ put key.now (json_of (view expr.now))
+        (members_view members.old.entries)) }
 {
     let value = expr_value(alloc, expr)?;
     Ok(serde_json::put(members, alloc, key, value)?)
@@ -65,7 +68,8 @@ fn put_placeholder(
     alloc: Global,
     placeholder: &Option<Expr>,
 ) -> Result<(), NoMemory>
-    ensures { OnOk result (members_view members.new.entries ≡ put_some (codes "placeholder") (option_map json_of (option_map view placeholder.now)) (members_view members.old.entries)) }
+    ensures { OnOk result (members_view members.new.entries ≡ put_some (codes "placeholder")
+        (option_map json_of (option_map view placeholder.now)) (members_view members.old.entries)) }
 {
     match placeholder {
         None => Ok(()),
@@ -87,7 +91,8 @@ fn put_pair(
     alloc: Global,
     conditional: &Conditional,
 ) -> Result<(), NoMemory>
-    ensures { OnOk result (members_view members.new.entries ≡ put (codes "conditional") (conditional_json (conditional_view conditional.now)) (members_view members.old.entries)) }
+    ensures { OnOk result (members_view members.new.entries ≡ put (codes "conditional")
+        (conditional_json (conditional_view conditional.now)) (members_view members.old.entries)) }
 {
     let value = conditional_value(alloc, conditional)?;
     Ok(serde_json::put(members, alloc, "conditional", value)?)
@@ -99,7 +104,9 @@ fn put_conditional(
     alloc: Global,
     conditional: &Option<Conditional>,
 ) -> Result<(), NoMemory>
-    ensures { OnOk result (members_view members.new.entries ≡ put_some (codes "conditional") (option_map conditional_json (option_map conditional_view conditional.now)) (members_view members.old.entries)) }
+    ensures { OnOk result (members_view members.new.entries ≡ put_some (codes "conditional")
+        (option_map conditional_json (option_map conditional_view conditional.now))
+        (members_view members.old.entries)) }
 {
     match conditional {
         None => Ok(()),
@@ -140,7 +147,8 @@ fn put_derived(
     main: &Expr,
 ) -> Result<(), NoMemory>
     requires { members_view members.old.entries ≡ no_members }
-    ensures members { OnOk result (members_view members.new.entries ≡ derived_members (fact_view fact.now) (view main.now)) }
+    ensures members { OnOk result (members_view members.new.entries ≡ derived_members (fact_view fact.now)
+        (view main.now)) }
     ensures named { OnOk result (IsNamed (fact_view fact.now).stated) }
 {
     put_placeholder(members, alloc, &fact.placeholder)?;

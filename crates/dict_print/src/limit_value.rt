@@ -40,7 +40,8 @@ pub fn put_limits(
     alloc: Global,
     limits: &[LimitText],
 ) -> Result<(), NoMemory>
-    ensures { OnOk result (members_view members.new.entries ≡ put_some (codes "limits") (some_array limit_json (map limit_view limits.now)) (members_view members.old.entries)) }
+    ensures { OnOk result (members_view members.new.entries ≡ put_some (codes "limits")
+        (some_array limit_json (map limit_view limits.now)) (members_view members.old.entries)) }
 {
     if limits.is_empty() {
         return Ok(());

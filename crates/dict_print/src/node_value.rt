@@ -25,7 +25,8 @@ pub fn text_node(alloc: Global, name: &str, text: &str) -> Result<Value, NoMemor
 
 /// `["NAME", TEXT, TEXT]`
 pub fn texts_node(alloc: Global, name: &str, first: &str, second: &str) -> Result<Value, NoMemory>
-    ensures { IfOk result (λ v. json v ≡ node_json name.now (item (string first.now) (item (string second.now) no_items))) }
+    ensures { IfOk result (λ v. json v ≡ node_json name.now
+        (item (string first.now) (item (string second.now) no_items))) }
 {
     Ok(json!(in alloc; [name, first, second])?)
 }

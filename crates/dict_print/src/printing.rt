@@ -43,7 +43,8 @@ fn dictionary_value(alloc: Global, source: &DictSource) -> Result<Value, NoMemor
 /// what `dict_tree::read` takes, 8,388,608 bytes. Descriptions and the order of members aren't kept, since no tree has them.
 pub fn print(alloc: Global, source: &DictSource) -> Result<Vec<u8>, NoMemory>
     ensures json { IfOk result (λ b. read b.items ≡ Some (dictionary_json (dictionary_view source.now))) }
-    ensures reads_back { IfOk result (λ b. length b.items ≤ max_bytes → BytesGive b.items (Ok (dictionary_view source.now))) }
+    ensures reads_back { IfOk result (λ b. length b.items ≤ max_bytes
+        → BytesGive b.items (Ok (dictionary_view source.now))) }
 {
     let value = dictionary_value(alloc, source)?;
     let bytes = value.to_vec_pretty(alloc)?;

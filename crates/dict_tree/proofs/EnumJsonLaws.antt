@@ -46,7 +46,7 @@ names_again (n ∷ ns) h = let p = both (is_name n) (list_all is_name ns) h in r
 
 -- ---- an enum
 
-not_empty : (xs : List (List ℕ)) → nat_lt 0 (length xs) ≡ true → xs ≢ []
+pub not_empty : (xs : List (List ℕ)) → nat_lt 0 (length xs) ≡ true → xs ≢ []
 not_empty [] h = absurd (let e : false ≡ true = h in cc)
 not_empty (x ∷ xs) h = λ e. absurd cc
 

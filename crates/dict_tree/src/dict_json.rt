@@ -63,7 +63,8 @@ fn version_of_value(value: &Value) -> Option<bool>
 }
 
 fn items_under_facts(value: &Value) -> Option<&Vec<Value>>
-    ensures { option_map (λ v. items_view v.now.items) result ≡ option_and_then as_array (get (codes "facts") (json value.now)) }
+    ensures { option_map (λ v. items_view v.now.items) result ≡ option_and_then as_array
+        (get (codes "facts") (json value.now)) }
 {
     value.get("facts")?.as_array()
 }

@@ -110,7 +110,10 @@ impl DictSource {
     pub fn push(&mut self, fact: FactSource) -> Result<(), Unpushed>
         requires well_formed { IsWellFormed (fact_view fact) }
         requires limits { IsWithinLimits (with_fact (dictionary_view self.old) (fact_view fact)) }
-        ensures appended { OnOk result (self.new ≡ record { enums = self.old.enums; facts = self.old.facts ++ fact ∷ [] }) }
+        ensures appended { OnOk result (self.new ≡ record {
+          enums = self.old.enums;
+          facts = self.old.facts ++ fact ∷ [];
+        }) }
         ensures kept { OnErr result (self.new ≡ self.old) }
         ensures returned { IfErr result (λ error. error ≡ record { fact = fact }) }
     {

@@ -25,7 +25,8 @@ pub struct EnumSource {
 // Notes the text, where it wasn't seen before, and says whether it was new.
 fn is_new<'a>(seen: &mut IndexSet<&'a str>, text: &'a str) -> Result<bool, ReadFault>
     ensures new { Gives (λ b. b) result (Some (not (among text.entry.now (map (λ t. t.now) seen.old.keys)))) }
-    ensures noted { IfOk result (λ b. IsTrue b → map (λ t. t.now) seen.new.keys ≡ map (λ t. t.now) seen.old.keys ++ text.entry.now ∷ []) }
+    ensures noted { IfOk result (λ b. IsTrue b → map (λ t. t.now) seen.new.keys
+        ≡ map (λ t. t.now) seen.old.keys ++ text.entry.now ∷ []) }
 {
     Ok(seen.insert(text)?)
 }
@@ -83,7 +84,8 @@ fn read_names(alloc: Global, items: &[Value]) -> Result<Vec<Name>, ReadFault>
 }
 
 fn read_options(alloc: Global, value: Option<&Value>) -> Result<Vec<Name>, ReadFault>
-    ensures { Gives (λ v. v.items) result (option_and_then name_list (option_and_then as_array (option_map (λ v. json v.now) value.entry))) }
+    ensures { Gives (λ v. v.items) result (option_and_then name_list
+        (option_and_then as_array (option_map (λ v. json v.now) value.entry))) }
 {
     let Some(value) = value else {
         return Err(ReadFault::Shape);

@@ -140,7 +140,8 @@ fn read_array(alloc: Global, items: &[Value]) -> Result<Expr, ReadFault>
 fn read_node(alloc: Global, name: NodeName, items: &[Value]) -> Result<Expr, ReadFault>
     requires { 0 < length items.now }
     ensures { let operands = items_view (drop 1 items.now) in
-        Gives view result (node_of name operands (only_tree operands) (pair_tree operands) (picked_tree operands) (tree_list operands) (case_list operands)) }
+        Gives view result (node_of name operands (only_tree operands) (pair_tree operands) (picked_tree operands)
+        (tree_list operands) (case_list operands)) }
 {
     match name {
         NodeName::Constant(kind) => Ok(Expr::Const(read_constant(alloc, kind, items)?)),
@@ -224,7 +225,8 @@ fn fewest(op: ManyOp) -> usize
 #[cycle(expr)]
 fn read_operands(alloc: Global, op: ManyOp, items: &[Value]) -> Result<Vec<Expr>, ReadFault>
     requires { 0 < length items.now }
-    ensures { Gives (λ v. map view v.items) result (option_and_then (at_least (fewest_of op)) (tree_list (items_view (drop 1 items.now)))) }
+    ensures { Gives (λ v. map view v.items) result (option_and_then (at_least (fewest_of op))
+        (tree_list (items_view (drop 1 items.now)))) }
 {
     let list = read_list(alloc, items)?;
     if list.len() < fewest(op) {
@@ -251,7 +253,8 @@ fn read_list(alloc: Global, items: &[Value]) -> Result<Vec<Expr>, ReadFault>
 #[cycle(expr)]
 fn read_cases(alloc: Global, items: &[Value]) -> Result<Vec<Case>, ReadFault>
     requires { 0 < length items.now }
-    ensures { Gives (λ v. map case_view v.items) result (option_and_then (at_least 1) (case_list (items_view (drop 1 items.now)))) }
+    ensures { Gives (λ v. map case_view v.items) result
+        (option_and_then (at_least 1) (case_list (items_view (drop 1 items.now)))) }
 {
     let mut cases = Vec::new(alloc);
     for i in 1..items.len() {

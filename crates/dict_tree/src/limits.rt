@@ -48,7 +48,8 @@ fn spend(expr: &Expr, left: u32) -> Option<u32>
 
 #[cycle(spend)]
 fn spend_all(exprs: &[Expr], left: u32) -> Option<u32>
-    ensures { MatchOption result (left < size_of_trees (trees_view exprs.now)) (λ rest. rest + size_of_trees (trees_view exprs.now) ≡ left) }
+    ensures { MatchOption result (left < size_of_trees (trees_view exprs.now))
+        (λ rest. rest + size_of_trees (trees_view exprs.now) ≡ left) }
 {
     let mut rest = left;
     for expr in exprs {
@@ -59,7 +60,8 @@ fn spend_all(exprs: &[Expr], left: u32) -> Option<u32>
 
 #[cycle(spend)]
 fn spend_cases(cases: &[Case], left: u32) -> Option<u32>
-    ensures { MatchOption result (left < size_of_cases (cases_view cases.now)) (λ rest. rest + size_of_cases (cases_view cases.now) ≡ left) }
+    ensures { MatchOption result (left < size_of_cases (cases_view cases.now))
+        (λ rest. rest + size_of_cases (cases_view cases.now) ≡ left) }
 {
     let mut rest = left;
     for case in cases {
@@ -69,7 +71,8 @@ fn spend_cases(cases: &[Case], left: u32) -> Option<u32>
 }
 
 fn spend_option(expr: &Option<Expr>, left: u32) -> Option<u32>
-    ensures { MatchOption result (left < option_size (option_map view expr.now)) (λ rest. rest + option_size (option_map view expr.now) ≡ left) }
+    ensures { MatchOption result (left < option_size (option_map view expr.now))
+        (λ rest. rest + option_size (option_map view expr.now) ≡ left) }
 {
     match expr {
         None => Some(left),
@@ -78,7 +81,8 @@ fn spend_option(expr: &Option<Expr>, left: u32) -> Option<u32>
 }
 
 fn spend_conditional(conditional: &Option<Conditional>, left: u32) -> Option<u32>
-    ensures { MatchOption result (left < conditional_size (option_map conditional_view conditional.now)) (λ rest. rest + conditional_size (option_map conditional_view conditional.now) ≡ left) }
+    ensures { MatchOption result (left < conditional_size (option_map conditional_view conditional.now))
+        (λ rest. rest + conditional_size (option_map conditional_view conditional.now) ≡ left) }
 {
     match conditional {
         None => Some(left),
@@ -87,7 +91,8 @@ fn spend_conditional(conditional: &Option<Conditional>, left: u32) -> Option<u32
 }
 
 fn spend_fact(fact: &FactSource, left: u32) -> Option<u32>
-    ensures { MatchOption result (left < fact_size (fact_view fact.now)) (λ rest. rest + fact_size (fact_view fact.now) ≡ left) }
+    ensures { MatchOption result (left < fact_size (fact_view fact.now)) (λ rest. rest + fact_size (fact_view fact.now)
+        ≡ left) }
 {
     let rest = spend_option(&fact.main, left)?;
     let rest = spend_conditional(&fact.conditional, rest)?;

@@ -54,7 +54,8 @@ fn note_path(
     path: &UsePath,
     out: &mut Vec<Mention>,
 ) -> Result<(), AllocError>
-    ensures { OnOk result (out.new.items ≡ out.old.items ++ use_mentions (dictionary_view source.now) fact base (Some path.now)) }
+    ensures { OnOk result (out.new.items ≡ out.old.items ++ use_mentions (dictionary_view source.now) fact base
+        (Some path.now)) }
 {
     let targets = source.targets(fact, base, path);
     note_target(targets.first, is_same_member(path), out)?;
@@ -68,7 +69,8 @@ fn note_use(
     used: &PathUse,
     out: &mut Vec<Mention>,
 ) -> Result<(), AllocError>
-    ensures { OnOk result (out.new.items ≡ out.old.items ++ use_mentions (dictionary_view source.now) fact base used.now.path) }
+    ensures { OnOk result (out.new.items ≡ out.old.items ++ use_mentions (dictionary_view source.now) fact base
+        used.now.path) }
 {
     match &used.path {
         None => Ok(()),
@@ -94,7 +96,8 @@ fn note_expr(
     expr: &Expr,
     out: &mut Vec<Mention>,
 ) -> Result<(), AllocError>
-    ensures { OnOk result (out.new.items ≡ out.old.items ++ mentions (dictionary_view source.now) fact base (view expr.now)) }
+    ensures { OnOk result (out.new.items ≡ out.old.items ++ mentions (dictionary_view source.now) fact base
+        (view expr.now)) }
 {
     match expr {
         Expr::Const(_) => Ok(()),
@@ -122,7 +125,8 @@ fn note_all(
     operands: &[Expr],
     out: &mut Vec<Mention>,
 ) -> Result<(), AllocError>
-    ensures { OnOk result (out.new.items ≡ out.old.items ++ tree_mentions (dictionary_view source.now) fact base (trees_view operands.now)) }
+    ensures { OnOk result (out.new.items ≡ out.old.items ++ tree_mentions (dictionary_view source.now) fact base
+        (trees_view operands.now)) }
 {
     for operand in operands {
         note_expr(source, fact, base, operand, out)?;
@@ -138,7 +142,8 @@ fn note_cases(
     cases: &[Case],
     out: &mut Vec<Mention>,
 ) -> Result<(), AllocError>
-    ensures { OnOk result (out.new.items ≡ out.old.items ++ case_mentions (dictionary_view source.now) fact base (cases_view cases.now)) }
+    ensures { OnOk result (out.new.items ≡ out.old.items ++ case_mentions (dictionary_view source.now) fact base
+        (cases_view cases.now)) }
 {
     for case in cases {
         note_expr(source, fact, base, &case.test, out)?;
@@ -153,7 +158,8 @@ fn note_option(
     expr: &Option<Expr>,
     out: &mut Vec<Mention>,
 ) -> Result<(), AllocError>
-    ensures { OnOk result (out.new.items ≡ out.old.items ++ option_mentions (dictionary_view source.now) fact (option_map view expr.now)) }
+    ensures { OnOk result (out.new.items ≡ out.old.items ++ option_mentions (dictionary_view source.now) fact
+        (option_map view expr.now)) }
 {
     match expr {
         None => Ok(()),
@@ -167,7 +173,8 @@ fn note_conditional(
     conditional: &Option<Conditional>,
     out: &mut Vec<Mention>,
 ) -> Result<(), AllocError>
-    ensures { OnOk result (out.new.items ≡ out.old.items ++ conditional_mentions (dictionary_view source.now) fact (option_map conditional_view conditional.now)) }
+    ensures { OnOk result (out.new.items ≡ out.old.items ++ conditional_mentions (dictionary_view source.now) fact
+        (option_map conditional_view conditional.now)) }
 {
     match conditional {
         None => Ok(()),
@@ -184,7 +191,8 @@ fn note_fact(
     fact: &FactSource,
     out: &mut Vec<Mention>,
 ) -> Result<(), AllocError>
-    ensures { OnOk result (out.new.items ≡ out.old.items ++ fact_mentions (dictionary_view source.now) number (fact_view fact.now)) }
+    ensures { OnOk result (out.new.items ≡ out.old.items ++ fact_mentions (dictionary_view source.now) number
+        (fact_view fact.now)) }
 {
     note_option(source, number, &fact.main, out)?;
     note_conditional(source, number, &fact.conditional, out)?;
@@ -192,7 +200,8 @@ fn note_fact(
 }
 
 fn note_number(source: &DictSource, number: u32, out: &mut Vec<Mention>) -> Result<(), AllocError>
-    ensures { OnOk result (out.new.items ≡ out.old.items ++ found_mentions (dictionary_view source.now) number (fact_at (dictionary_view source.now).facts number)) }
+    ensures { OnOk result (out.new.items ≡ out.old.items ++ found_mentions (dictionary_view source.now) number
+        (fact_at (dictionary_view source.now).facts number)) }
 {
     match source.fact(number) {
         None => Ok(()),
@@ -212,8 +221,10 @@ impl DictSource {
 
     /// What the fact with this number mentions in its expressions, in preorder: nothing where there is no such fact.
     pub fn mentions(&self, alloc: Global, fact: u32) -> Result<Vec<Mention>, AllocError>
-        ensures value { IfOk result (λ list. list.items ≡ found_mentions (dictionary_view self.now) fact (fact_at (dictionary_view self.now).facts fact)) }
-        ensures within { IfOk result (λ list. All (λ (mention : Mention). IsNumber (dictionary_view self.now).facts mention.fact) list.items) }
+        ensures value { IfOk result (λ list. list.items ≡ found_mentions (dictionary_view self.now) fact
+            (fact_at (dictionary_view self.now).facts fact)) }
+        ensures within { IfOk result (λ list. All (λ (mention : Mention). IsNumber (dictionary_view self.now).facts
+            mention.fact) list.items) }
     {
         let mut out = Vec::new(alloc);
         note_number(self, fact, &mut out)?;

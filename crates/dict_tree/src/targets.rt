@@ -135,7 +135,8 @@ impl DictSource {
 
     // The fact `/b`, where the first target lists members of `/b`.
     pub(crate) fn base_of_list(&self, first: Option<u32>) -> Option<u32>
-        ensures { result ≡ option_and_then (find_global (dictionary_view self.now)) (option_and_then (list_base_at (dictionary_view self.now)) first) }
+        ensures { result ≡ option_and_then (find_global (dictionary_view self.now))
+            (option_and_then (list_base_at (dictionary_view self.now)) first) }
     {
         match self.list_base_at(first) {
             None => None,

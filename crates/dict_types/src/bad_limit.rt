@@ -179,7 +179,8 @@ fn read_limit(
     stated: &TypeText,
     limit: &LimitText,
 ) -> Result<Limit, LimitFault>
-    ensures { Gives (λ l. l) (limit_at (check_names checks.now) enums.now (stated_view stated.now) (limit_view limit.now)) result }
+    ensures { Gives (λ l. l) (limit_at (check_names checks.now) enums.now (stated_view stated.now)
+        (limit_view limit.now)) result }
 {
     match limit {
         LimitText::Min(text) => Ok(Limit::Min(bound_value(alloc, enums, stated, text.as_str())?)),
@@ -206,7 +207,8 @@ fn read_limits(
     stated: &TypeText,
     limits: &[LimitText],
 ) -> Result<Vec<Limit>, LimitFault>
-    ensures { Gives (λ list. list.items) (limits_at (check_names checks.now) enums.now (stated_view stated.now) (map limit_view limits.now)) result }
+    ensures { Gives (λ list. list.items) (limits_at (check_names checks.now) enums.now (stated_view stated.now)
+        (map limit_view limits.now)) result }
 {
     let mut out = Vec::new(alloc);
     for limit in limits {
@@ -291,7 +293,8 @@ pub fn fact_limits(
     enums: &EnumLists,
     fact: &FactSource,
 ) -> Result<Vec<Limit>, LimitFault>
-    ensures { Gives (λ list. list.items) (limits_of_fact (check_names checks.now) enums.now (fact_view fact.now)) result }
+    ensures { Gives (λ list. list.items) (limits_of_fact (check_names checks.now) enums.now (fact_view fact.now))
+        result }
 {
     if has_twice(fact.limits.as_slice()) {
         return Err(LimitFault::BadLimit);

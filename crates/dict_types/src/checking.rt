@@ -46,7 +46,8 @@ fn type_of_fact(
     fact: &FactSource,
 ) -> Result<FactType, TypeFault>
     requires { fact_size (fact_view fact.now) ≤ 40000 }
-    ensures { Finds (λ t. t) (at_fact number (fact_typed (dictionary_view source.now) number (fact_view fact.now))) result }
+    ensures { Finds (λ t. t) (at_fact number (fact_typed (dictionary_view source.now) number (fact_view fact.now)))
+        result }
 {
     match type_fact(alloc, source, number, fact) {
         Ok(found) => Ok(found),
@@ -70,7 +71,8 @@ fn type_and_constants(
 }
 
 fn type_facts(alloc: Global, source: &DictSource) -> Result<Vec<TypedFact>, TypeFault>
-    ensures { Finds (λ list. list.items) (typed_facts (dictionary_view source.now) 1 (dictionary_view source.now).facts) result }
+    ensures { Finds (λ list. list.items) (typed_facts (dictionary_view source.now) 1 (dictionary_view source.now).facts)
+        result }
 {
     let facts = source.facts();
     let mut out = Vec::new(alloc);
@@ -88,7 +90,8 @@ fn limits_of_fact(
     number: u32,
     fact: &FactSource,
 ) -> Result<Limits, TypeFault>
-    ensures { Finds (λ l. l) (or_bad_limit number (limits_in (check_names checks.now) (dictionary_view source.now).enums (fact_view fact.now))) result }
+    ensures { Finds (λ l. l) (or_bad_limit number (limits_in (check_names checks.now) (dictionary_view source.now).enums
+        (fact_view fact.now))) result }
 {
     match fact_limits(alloc, checks, source.enums(), fact) {
         Ok(list) => Ok(Limits::new(list)),
@@ -102,7 +105,8 @@ fn limits_of_facts(
     source: &DictSource,
     checks: &CheckTable,
 ) -> Result<Vec<Limits>, TypeFault>
-    ensures { Finds (λ list. list.items) (limits_of (check_names checks.now) (dictionary_view source.now) 1 (dictionary_view source.now).facts) result }
+    ensures { Finds (λ list. list.items) (limits_of (check_names checks.now) (dictionary_view source.now) 1
+        (dictionary_view source.now).facts) result }
 {
     let facts = source.facts();
     let mut out = Vec::new(alloc);

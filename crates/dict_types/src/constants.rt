@@ -212,7 +212,8 @@ fn note_conditional(
     conditional: &Option<Conditional>,
     out: &mut Vec<Option<Value>>,
 ) -> Result<(), NoMemory>
-    ensures { OnOk result (out.new.items ≡ out.old.items ++ conditional_values enums.now (option_map conditional_view conditional.now)) }
+    ensures { OnOk result (out.new.items ≡ out.old.items ++ conditional_values enums.now
+        (option_map conditional_view conditional.now)) }
 {
     match conditional {
         None => Ok(()),

@@ -34,7 +34,8 @@ fn expect_expr(
     next: &mut u32,
 ) -> Result<(), NodeFault>
     requires { next.old + size (view expr.now) < 2 ^ 32 }
-    ensures found { Infers {Y = ⊤} (λ u. u) result (expr_as (types_in (dictionary_view source.now) fact) next.old want (view expr.now)) }
+    ensures found { Infers {Y = ⊤} (λ u. u) result (expr_as (types_in (dictionary_view source.now) fact) next.old want
+        (view expr.now)) }
     ensures count { OnOk result (next.new ≡ next.old + size (view expr.now)) }
 {
     let number = *next;
@@ -51,7 +52,8 @@ fn expect_option(
     next: &mut u32,
 ) -> Result<(), NodeFault>
     requires { next.old + option_size (option_map view expr.now) < 2 ^ 32 }
-    ensures found { Infers {Y = ⊤} (λ u. u) result (option_as (types_in (dictionary_view source.now) fact) next.old want (option_map view expr.now)) }
+    ensures found { Infers {Y = ⊤} (λ u. u) result (option_as (types_in (dictionary_view source.now) fact) next.old want
+        (option_map view expr.now)) }
     ensures count { OnOk result (next.new ≡ next.old + option_size (option_map view expr.now)) }
 {
     match expr {
@@ -69,7 +71,8 @@ fn expect_conditional(
     next: &mut u32,
 ) -> Result<(), NodeFault>
     requires { next.old + conditional_size (option_map conditional_view conditional.now) < 2 ^ 32 }
-    ensures found { Infers {Y = ⊤} (λ u. u) result (conditional_as (types_in (dictionary_view source.now) fact) next.old want (option_map conditional_view conditional.now)) }
+    ensures found { Infers {Y = ⊤} (λ u. u) result (conditional_as (types_in (dictionary_view source.now) fact) next.old
+        want (option_map conditional_view conditional.now)) }
     ensures count { OnOk result (next.new ≡ next.old + conditional_size (option_map conditional_view conditional.now)) }
 {
     match conditional {
@@ -90,7 +93,8 @@ fn expect_nodes(
     fact: &FactSource,
 ) -> Result<(), NodeFault>
     requires { fact_size (fact_view fact.now) ≤ 40000 }
-    ensures { Infers {Y = ⊤} (λ u. u) result (nodes_as (types_in (dictionary_view source.now) number) want (fact_view fact.now)) }
+    ensures { Infers {Y = ⊤} (λ u. u) result (nodes_as (types_in (dictionary_view source.now) number) want
+        (fact_view fact.now)) }
 {
     let mut next = 1u32;
     expect_option(alloc, source, number, want, &fact.main, &mut next)?;

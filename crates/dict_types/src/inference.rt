@@ -27,7 +27,8 @@ pub fn infer(
     next: &mut u32,
 ) -> Result<FactType, NodeFault>
     requires { next.old + size (view expr.now) < 2 ^ 32 }
-    ensures found { Infers (λ t. t) result (type_of (types_in (dictionary_view source.now) fact) next.old base (view expr.now)) }
+    ensures found { Infers (λ t. t) result (type_of (types_in (dictionary_view source.now) fact) next.old base
+        (view expr.now)) }
     ensures count { OnOk result (next.new ≡ next.old + size (view expr.now)) }
 {
     let number = *next;
@@ -72,7 +73,8 @@ fn infer_all(
     next: &mut u32,
 ) -> Result<Vec<FactType>, NodeFault>
     requires { next.old + size_of_trees (trees_view operands.now) < 2 ^ 32 }
-    ensures found { Infers (λ list. list.items) result (types_of (types_in (dictionary_view source.now) fact) next.old base (trees_view operands.now)) }
+    ensures found { Infers (λ list. list.items) result (types_of (types_in (dictionary_view source.now) fact) next.old
+        base (trees_view operands.now)) }
     ensures count { OnOk result (next.new ≡ next.old + size_of_trees (trees_view operands.now)) }
 {
     let mut types = Vec::new(alloc);
@@ -93,7 +95,8 @@ fn infer_cases(
     next: &mut u32,
 ) -> Result<Vec<CaseType>, NodeFault>
     requires { next.old + size_of_cases (cases_view cases.now) < 2 ^ 32 }
-    ensures found { Infers (λ list. list.items) result (case_types (types_in (dictionary_view source.now) fact) next.old base (cases_view cases.now)) }
+    ensures found { Infers (λ list. list.items) result (case_types (types_in (dictionary_view source.now) fact) next.old
+        base (cases_view cases.now)) }
     ensures count { OnOk result (next.new ≡ next.old + size_of_cases (cases_view cases.now)) }
 {
     let mut types = Vec::new(alloc);

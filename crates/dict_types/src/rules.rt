@@ -34,7 +34,8 @@ fn breaks(
     number: u32,
     fact: &FactSource,
 ) -> bool
-    ensures { result ≡ is_broken (dictionary_view source.now) (check_names checks.now) rule number (fact_view fact.now) }
+    ensures { result ≡ is_broken (dictionary_view source.now) (check_names checks.now) rule number
+        (fact_view fact.now) }
 {
     match rule {
         Rule::BadPath => is_bad_path(source, number, fact),

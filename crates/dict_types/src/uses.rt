@@ -151,7 +151,8 @@ fn expr_breaks(
     condition: Option<u32>,
     expr: &Expr,
 ) -> bool
-    ensures { result ≡ has_use (use_breaks (dictionary_view source.now) fact rule) (dictionary_view source.now) fact condition (view expr.now) }
+    ensures { result ≡ has_use (use_breaks (dictionary_view source.now) fact rule) (dictionary_view source.now) fact
+        condition (view expr.now) }
 {
     match expr {
         Expr::Const(_) => false,
@@ -183,7 +184,8 @@ fn some_break(
     condition: Option<u32>,
     operands: &[Expr],
 ) -> bool
-    ensures { result ≡ some_have_use (use_breaks (dictionary_view source.now) fact rule) (dictionary_view source.now) fact condition (trees_view operands.now) }
+    ensures { result ≡ some_have_use (use_breaks (dictionary_view source.now) fact rule) (dictionary_view source.now)
+        fact condition (trees_view operands.now) }
 {
     for operand in operands {
         if expr_breaks(source, rule, fact, condition, operand) {
@@ -201,7 +203,8 @@ fn cases_break(
     condition: Option<u32>,
     cases: &[Case],
 ) -> bool
-    ensures { result ≡ cases_have_use (use_breaks (dictionary_view source.now) fact rule) (dictionary_view source.now) fact condition (cases_view cases.now) }
+    ensures { result ≡ cases_have_use (use_breaks (dictionary_view source.now) fact rule) (dictionary_view source.now)
+        fact condition (cases_view cases.now) }
 {
     for case in cases {
         if expr_breaks(source, rule, fact, condition, &case.test) {
@@ -215,7 +218,8 @@ fn cases_break(
 }
 
 fn option_breaks(source: &DictSource, rule: UseRule, fact: u32, expr: &Option<Expr>) -> bool
-    ensures { result ≡ option_has_use (use_breaks (dictionary_view source.now) fact rule) (dictionary_view source.now) fact (option_map view expr.now) }
+    ensures { result ≡ option_has_use (use_breaks (dictionary_view source.now) fact rule) (dictionary_view source.now)
+        fact (option_map view expr.now) }
 {
     match expr {
         None => false,
@@ -229,7 +233,8 @@ fn conditional_breaks(
     fact: u32,
     conditional: &Option<Conditional>,
 ) -> bool
-    ensures { result ≡ conditional_has_use (use_breaks (dictionary_view source.now) fact rule) (dictionary_view source.now) fact (option_map conditional_view conditional.now) }
+    ensures { result ≡ conditional_has_use (use_breaks (dictionary_view source.now) fact rule)
+        (dictionary_view source.now) fact (option_map conditional_view conditional.now) }
 {
     match conditional {
         None => false,
@@ -244,7 +249,8 @@ fn conditional_breaks(
 
 /// Whether a use in one of the fact's expressions breaks the rule.
 pub fn some_use_breaks(source: &DictSource, rule: UseRule, number: u32, fact: &FactSource) -> bool
-    ensures { result ≡ fact_has_use (use_breaks (dictionary_view source.now) number rule) (dictionary_view source.now) number (fact_view fact.now) }
+    ensures { result ≡ fact_has_use (use_breaks (dictionary_view source.now) number rule) (dictionary_view source.now)
+        number (fact_view fact.now) }
 {
     if option_breaks(source, rule, number, &fact.main) {
         return true;

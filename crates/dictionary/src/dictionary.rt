@@ -43,7 +43,13 @@ impl Model for Dictionary {
 
     ghost view = { λ d. record { source = d.source; typed = d.typed; ranks = d.ranks.items; checks = d.checks.items } };
 
-    ghost invariant = { λ d. IsKept (record { source = d.source; typed = d.typed; ranks = d.ranks.items; checks = d.checks.items }) d.precomputed };
+    ghost invariant = { λ d. IsKept (record {
+      source = d.source;
+      typed = d.typed;
+      ranks = d.ranks.items;
+      checks
+          = d.checks.items;
+    }) d.precomputed };
 }
 
 impl Dictionary {
@@ -55,8 +61,15 @@ impl Dictionary {
         ranks: Vec<u32>,
         table: &CheckTable,
     ) -> Result<Dictionary, DictFault>
-        requires { IsAccepted (check_names table.now) (record { tree = dictionary_view source; typed = typed; ranks = ranks.items }) }
-        ensures kept { IfOk result (λ d. d ≡ record { source = source; typed = typed; ranks = ranks.items; checks = named_checks table.now }) }
+        requires { IsAccepted (check_names table.now)
+            (record { tree = dictionary_view source; typed = typed; ranks = ranks.items }) }
+        ensures kept { IfOk result (λ d. d ≡ record {
+          source = source;
+          typed = typed;
+          ranks = ranks.items;
+          checks
+              = named_checks table.now;
+        }) }
         ensures memory { IfErr result (λ fault. fault ≡ NoMemory) }
     {
         match keep_checks(alloc, table) {
@@ -150,7 +163,8 @@ impl Dictionary {
     /// Whether the table has the checks with which the dictionary was accepted, by name and code and in their order, or no
     /// fact has a check.
     pub fn same_checks(&self, table: &CheckTable) -> bool
-        ensures { IsTrue result ↔ ((self.now.checks ≡ named_checks table.now) ⊎ (has_check (accepted self.now).tree ≡ false)) }
+        ensures { IsTrue result ↔ ((self.now.checks ≡ named_checks table.now)
+            ⊎ (has_check (accepted self.now).tree ≡ false)) }
     {
         if !self.precomputed.checked {
             return true;

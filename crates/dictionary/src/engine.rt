@@ -55,10 +55,13 @@ pub trait FactEngine: Drop {
         requires fit_now { AnswersFit (accepted dict.now).tree (answered now.now) }
         requires few { IsTrue STAMPS → (marks self.old).changes < 2 ^ 63 }
         ensures stands { OnOk result (stands_for self.new (accepted dict.now) (answered now.now)) }
-        ensures marked { OnOk result (IsTrue STAMPS → AreMarkedBy (accepted dict.now) (applied (change undo.now) (answered now.now)) (answered now.now) (marks self.old) (marks self.new)) }
-        ensures unchanged { OnErr result ((d : Accepted) (a : Answered) → stands_for self.old d a → stands_for self.new d a) }
+        ensures marked { OnOk result (IsTrue STAMPS → AreMarkedBy (accepted dict.now)
+            (applied (change undo.now) (answered now.now)) (answered now.now) (marks self.old) (marks self.new)) }
+        ensures unchanged { OnErr result ((d : Accepted) (a : Answered) → stands_for self.old d a
+            → stands_for self.new d a) }
         ensures same_marks { OnErr result (IsTrue STAMPS → AreSameMarks (marks self.old) (marks self.new)) }
-        ensures steps { steps.new ≤ steps.old + most (accepted dict.now) (applied (change undo.now) (answered now.now)) (answered now.now) };
+        ensures steps { steps.new ≤ steps.old + most (accepted dict.now) (applied (change undo.now) (answered now.now))
+            (answered now.now) };
 
     /// The result of a slot: plain evaluation, and none where the slot doesn't stand.
     fn result(&self, slot: Slot) -> Option<&Res>
@@ -71,5 +74,6 @@ pub trait FactEngine: Drop {
 
     /// How many slots the last change touched, and 0 before the first: none without stamps.
     fn touched(&self) -> Option<u64>
-        ensures { (d : Accepted) (a : Answered) → stands_for self.now d a → result ≡ (if STAMPS then Some (marks self.now).touched else None) };
+        ensures { (d : Accepted) (a : Answered) → stands_for self.now d a → result
+            ≡ (if STAMPS then Some (marks self.now).touched else None) };
 }

@@ -12,7 +12,8 @@ use std::alloc::Global;
 
 // The collection of a fact with this path: 0 for a global one.
 fn home_of_path(source: &DictSource, path: &FactPath) -> u32
-    ensures { result ≡ unwrap_or (option_and_then (find_global (dictionary_view source.now)) (member_collection path.now)) 0 }
+    ensures { result ≡ unwrap_or (option_and_then (find_global (dictionary_view source.now))
+        (member_collection path.now)) 0 }
 {
     match path {
         FactPath::Global(_) => 0,

@@ -148,7 +148,8 @@ fn is_conditional_steady(
     fact: u32,
     conditional: &Option<Conditional>,
 ) -> bool
-    ensures { result ≡ steady_conditional (dictionary_view source.now) (known_at known.now) fact (option_map conditional_view conditional.now) }
+    ensures { result ≡ steady_conditional (dictionary_view source.now) (known_at known.now) fact
+        (option_map conditional_view conditional.now) }
 {
     match conditional {
         None => true,
@@ -160,7 +161,8 @@ fn is_conditional_steady(
 }
 
 fn is_body_steady(source: &DictSource, known: &[bool], number: u32, fact: &FactSource) -> bool
-    ensures { result ≡ steady_body (dictionary_view source.now) (known_at known.now) number (Some (fact_view fact.now)) }
+    ensures { result ≡ steady_body (dictionary_view source.now) (known_at known.now) number
+        (Some (fact_view fact.now)) }
 {
     is_option_steady(source, known, number, &fact.main)
         && is_conditional_steady(source, known, number, &fact.conditional)
@@ -168,7 +170,8 @@ fn is_body_steady(source: &DictSource, known: &[bool], number: u32, fact: &FactS
 
 // Whether the fact is steady, where those that its body mentions are known.
 fn is_fact_steady(source: &DictSource, known: &[bool], number: u32) -> bool
-    ensures { result ≡ steady_body (dictionary_view source.now) (known_at known.now) number (fact_at (dictionary_view source.now).facts number) }
+    ensures { result ≡ steady_body (dictionary_view source.now) (known_at known.now) number
+        (fact_at (dictionary_view source.now).facts number) }
 {
     match source.fact(number) {
         None => true,
@@ -180,7 +183,8 @@ fn is_fact_steady(source: &DictSource, known: &[bool], number: u32) -> bool
 fn settle(source: &DictSource, number: u32, known: &mut Vec<bool>)
     requires low { 1 ≤ number }
     requires high { number ≤ length known.old.items }
-    ensures { known.new.items ≡ slice_set known.old.items (number - 1) (steady_body (dictionary_view source.now) (known_at known.old.items) number (fact_at (dictionary_view source.now).facts number)) }
+    ensures { known.new.items ≡ slice_set known.old.items (number - 1) (steady_body (dictionary_view source.now)
+        (known_at known.old.items) number (fact_at (dictionary_view source.now).facts number)) }
 {
     let is = is_fact_steady(source, known.as_slice(), number);
     known[number as usize - 1] = is;
@@ -192,8 +196,11 @@ pub fn steady_facts(
     source: &DictSource,
     by_rank: &[u32],
 ) -> Result<Vec<bool>, NoMemory>
-    requires { (place : ℕ) → place < length by_rank.now → IsNumber (dictionary_view source.now).facts (slice_index by_rank.now place) }
-    ensures { (ranks : List ℕ) → AreRanks (mention_graph (dictionary_view source.now)) ranks → AreByRank ranks by_rank.now → IfOk result (λ known. TellsSteady (dictionary_view source.now) ranks known.items) }
+    requires { (place : ℕ) → place < length by_rank.now → IsNumber (dictionary_view source.now).facts
+        (slice_index by_rank.now place) }
+    ensures { (ranks : List ℕ) → AreRanks (mention_graph (dictionary_view source.now)) ranks
+        → AreByRank ranks by_rank.now → IfOk result (λ known. TellsSteady (dictionary_view source.now) ranks
+        known.items) }
 {
     let mut known = vec![in alloc; false; source.facts().len()]?;
     for number in by_rank {

@@ -5,7 +5,7 @@ use Rattle.std.specs.List.{list_all}
 use Rattle.std.proofs.lemmas.List.Elements.{All-cons, All-head, All-nil, All-tail}
 use Rattle.std.proofs.lemmas.List.Folds.{list_any-append}
 use Rattle.fact_values.specs.declared.slot.Slot.{Slot}
-use Rattle.common_lemmas.proofs.Bools.{and_intro, both, or_left, or_right}
+use Rattle.common_lemmas.proofs.Bools.{and_intro, both, or_assoc, or_left, or_right}
 use Rattle.dictionary.specs.Slots.{slot_same}
 use Rattle.dictionary.proofs.SlotLaws.{slot_same-equal, slot_same-itself}
 use Rattle.evaluation.specs.Mentioned.{AllOf}
@@ -111,10 +111,6 @@ one_fewer p q h t out was (x ∷ xs) i = by (slot_same t x) refl i (one_fewer p 
 
 -- ---- those of a list that aren't known
 
-swap_known : (p i j : Bool) → ((p || i) || j) ≡ (p || (i || j))
-swap_known true i j = refl
-swap_known false i j = refl
-
 -- of two lists, where those of the first are known behind it
 pub new_among-append : (known : Slot → Bool) (xs ys : List Slot) → new_among known (xs ++ ys) ≡ new_among known xs ++ new_among (λ t. known t || is_in t xs) ys
 new_among-append known [] ys = ap (λ (p : Slot → Bool). new_among p ys) (λ i t. or_false_back (known t) i)
@@ -136,7 +132,7 @@ new_among-append known (x ∷ xs) ys = by (known x) refl (new_among-append known
     by true e there here = there ∙ ap (λ (p : Slot → Bool). new_among known xs ++ new_among p ys) (λ i t. again t (slot_same t x) refl e i)
     by false e there here =
         ap (λ (ts : List Slot). x ∷ ts) (
-        here ∙ ap (λ (p : Slot → Bool). new_among (λ t. known t || slot_same t x) xs ++ new_among p ys) (λ i t. swap_known (known t) (slot_same t x) (is_in t xs) i)
+        here ∙ ap (λ (p : Slot → Bool). new_among (λ t. known t || slot_same t x) xs ++ new_among p ys) (λ i t. or_assoc (known t) (slot_same t x) (is_in t xs) i)
         )
 
 -- what holds of all of a list holds of those that aren't known

@@ -41,7 +41,8 @@ fn take_members<E: FactEngine>(
     members: &[u32],
     taken: &mut Vec<Slot>,
 ) -> Result<(), NoMemory>
-    ensures { OnOk result (taken.new.items ≡ taken.old.items ++ filter (listed session.now found.now) (map (slot_at fact) members.now)) }
+    ensures { OnOk result (taken.new.items ≡ taken.old.items ++ filter (listed session.now found.now)
+        (map (slot_at fact) members.now)) }
 {
     for member in members {
         let slot = Slot {
@@ -61,7 +62,8 @@ fn take_fact<E: FactEngine>(
     taken: &mut Vec<Slot>,
 ) -> Result<(), NoMemory>
     requires { IsNumber (tree_of session.now).facts fact }
-    ensures { OnOk result (taken.new.items ≡ taken.old.items ++ filter (listed session.now found.now) (slots_of (tree_of session.now) session.now.timeline.now fact)) }
+    ensures { OnOk result (taken.new.items ≡ taken.old.items ++ filter (listed session.now found.now)
+        (slots_of (tree_of session.now) session.now.timeline.now fact)) }
 {
     let home = session.dict().home(fact);
     if home == 0 {
@@ -79,7 +81,8 @@ pub fn list<E: FactEngine>(
     session: &Session<E>,
     found: &Found,
 ) -> Result<Vec<Slot>, NoMemory>
-    ensures { IfOk result (λ ts. ts.items ≡ filter (listed session.now found.now) (standing (tree_of session.now) session.now.timeline.now)) }
+    ensures { IfOk result (λ ts. ts.items ≡ filter (listed session.now found.now)
+        (standing (tree_of session.now) session.now.timeline.now)) }
 {
     let mut taken = Vec::new(alloc);
     for before in 0..session.dict().fact_count() {

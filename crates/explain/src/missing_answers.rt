@@ -29,7 +29,8 @@ fn all_reads<E: FactEngine, L: Ledger>(
     requires name { blank.name ≡ L.name }
     requires parts { blank.parts ≡ L.parts }
     requires some { 0 < blank.parts }
-    ensures { IfOk result (λ f. (t : Slot) → has f t ≡ is_read (accepted session.now.dict) session.now.timeline.now slot t) }
+    ensures { IfOk result (λ f. (t : Slot) → has f t ≡ is_read (accepted session.now.dict) session.now.timeline.now slot
+        t) }
 {
     let mut steps = Steps::<L>::new(blank);
     find_reads(alloc, session, slot, &mut steps)
@@ -44,7 +45,8 @@ pub fn missing<E: FactEngine>(
     slot: Slot,
 ) -> Result<Vec<Slot>, NoMemory>
     requires { IsTrue (stands (accepted session.now.dict).tree session.now.timeline.now slot) }
-    ensures value { IfOk result (λ ts. ts.items ≡ missing_of (accepted session.now.dict) session.now.timeline.now slot) }
+    ensures value { IfOk result (λ ts. ts.items ≡ missing_of (accepted session.now.dict) session.now.timeline.now
+        slot) }
     ensures keeps { IfOk result (λ ts. Keeps (accepted session.now.dict) session.now.timeline.now slot ts.items) }
 {
     let dict = session.dict();

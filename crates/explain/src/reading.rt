@@ -44,7 +44,8 @@ pub fn reads<E: FactEngine>(
     slot: Slot,
 ) -> Result<Vec<Slot>, NoMemory>
     ensures value { IfOk result (λ ts. ts.items ≡ reads_of (accepted session.now.dict) session.now.timeline.now slot) }
-    ensures stand { IfOk result (λ ts. All (λ s. IsTrue (stands (accepted session.now.dict).tree session.now.timeline.now s)) ts.items) }
+    ensures stand { IfOk result (λ ts. All (λ s. IsTrue (stands (accepted session.now.dict).tree
+        session.now.timeline.now s)) ts.items) }
 {
     reads_uncounted::<E, Brand>(alloc, session, slot, Blank::new(1))
 }

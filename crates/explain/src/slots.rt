@@ -67,8 +67,10 @@ fn visit_main<E: FactEngine, L: Ledger>(
     reads: &mut ReadSlots,
     steps: &mut Steps<L>,
 ) -> Result<bool, NoMemory>
-    ensures value { IfOk result (λ b. b ≡ incomplete (main_result (tree_of session.now) session.now.timeline.now (results_of session.now) slot (fact_view fact.now).stated (body (fact_view fact.now)))) }
-    ensures reads { OnOk result (reads.new.slots.items ≡ reads.old.slots.items ++ main_reads (tree_of session.now) session.now.timeline.now (results_of session.now) slot (body (fact_view fact.now))) }
+    ensures value { IfOk result (λ b. b ≡ incomplete (main_result (tree_of session.now) session.now.timeline.now
+        (results_of session.now) slot (fact_view fact.now).stated (body (fact_view fact.now)))) }
+    ensures reads { OnOk result (reads.new.slots.items ≡ reads.old.slots.items ++ main_reads (tree_of session.now)
+        session.now.timeline.now (results_of session.now) slot (body (fact_view fact.now))) }
 {
     match &fact.main {
         None => Ok(lacks_value(session.answers(), slot, &fact.stated)),
@@ -94,7 +96,8 @@ fn visit_placeholder<E: FactEngine, L: Ledger>(
     reads: &mut ReadSlots,
     steps: &mut Steps<L>,
 ) -> Result<(), NoMemory>
-    ensures { OnOk result (reads.new.slots.items ≡ reads.old.slots.items ++ placeholder_reads (tree_of session.now) (results_of session.now) slot (option_map view placeholder.now) stands_in) }
+    ensures { OnOk result (reads.new.slots.items ≡ reads.old.slots.items ++ placeholder_reads (tree_of session.now)
+        (results_of session.now) slot (option_map view placeholder.now) stands_in) }
 {
     let Some(expr) = placeholder else {
         return Ok(());
@@ -117,7 +120,8 @@ fn visit_fact<E: FactEngine, L: Ledger>(
     reads: &mut ReadSlots,
     steps: &mut Steps<L>,
 ) -> Result<(), NoMemory>
-    ensures { OnOk result (reads.new.slots.items ≡ reads.old.slots.items ++ fact_reads (tree_of session.now) session.now.timeline.now (results_of session.now) slot (fact_view fact.now)) }
+    ensures { OnOk result (reads.new.slots.items ≡ reads.old.slots.items ++ fact_reads (tree_of session.now)
+        session.now.timeline.now (results_of session.now) slot (fact_view fact.now)) }
 {
     let stands_in = visit_main(alloc, session, slot, fact, reads, steps)?;
     visit_placeholder(

@@ -24,7 +24,8 @@ fn find_one<E: FactEngine>(
     found: &mut Found,
     todo: &mut Vec<Slot>,
 ) -> Result<(), NoMemory>
-    ensures { OnOk result (AddsReads (tree_of session.now) session.now.timeline.now (slot ∷ []) found.old found.new todo.old.items todo.new.items) }
+    ensures { OnOk result (AddsReads (tree_of session.now) session.now.timeline.now (slot ∷ []) found.old found.new
+        todo.old.items todo.new.items) }
 {
     match session.result(slot) {
         None => Ok(()),
@@ -43,7 +44,8 @@ pub fn find_all<E: FactEngine>(
     found: &mut Found,
     todo: &mut Vec<Slot>,
 ) -> Result<(), NoMemory>
-    ensures { OnOk result (AddsReads (tree_of session.now) session.now.timeline.now slots.now found.old found.new todo.old.items todo.new.items) }
+    ensures { OnOk result (AddsReads (tree_of session.now) session.now.timeline.now slots.now found.old found.new
+        todo.old.items todo.new.items) }
 {
     for slot in slots {
         find_one(session, *slot, found, todo)?;
@@ -59,7 +61,8 @@ pub fn find_reads<E: FactEngine, L: Ledger>(
     steps: &mut Steps<L>,
 ) -> Result<Found, NoMemory>
     requires { IsTrue (stands (tree_of session.now) session.now.timeline.now slot) }
-    ensures { IfOk result (λ f. (t : Slot) → has f t ≡ is_read (accepted session.now.dict) session.now.timeline.now slot t) }
+    ensures { IfOk result (λ f. (t : Slot) → has f t ≡ is_read (accepted session.now.dict) session.now.timeline.now slot
+        t) }
 {
     let dict = session.dict();
     let _accepted = dict.source();

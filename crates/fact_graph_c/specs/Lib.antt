@@ -12,3 +12,4 @@ pub mod Room
 pub mod Saving
 pub mod Saying
 pub mod Sound
+pub mod Telling

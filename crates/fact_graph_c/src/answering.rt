@@ -14,7 +14,7 @@ use crate::outcome::Outcome;
 use fact_values::NoMemory;
 use fact_watch::WatchTable;
 use script_lines::Ready;
-use session_lines::{Progress, answer_ready, standard_checks, standard_relations};
+use session_lines::{Progress, Tables, answer_ready, standard_checks, standard_relations};
 use std::alloc::{AllocError, Global};
 use std::marker::Brand;
 use std::sync::ledger::{Blank, Ledger};
@@ -78,12 +78,12 @@ fn answer_open<L: Ledger>(
 {
     know(engine);
     let ready = readied(line);
+    let tables = Tables { checks, relations };
     match answer_ready(
         alloc,
         &mut engine.session,
         &mut engine.watches,
-        relations,
-        checks,
+        &tables,
         ready.0,
         ready.1,
         &mut engine.text,

@@ -4,7 +4,7 @@ ghost use Rattle.std.specs.Prelude.{◌≡◌, ◌++◌, ℕ, List, length, take
 ghost use Rattle.fact_graph_c.specs.Answering.{rules_of, said};
 ghost use Rattle.fact_graph_c.specs.Calls.{AnswersCall, BeginsCall, KeepsChanges, SaysCall, TrimsText};
 ghost use Rattle.fact_graph_c.specs.Faults.{fault_numbers, plain};
-ghost use Rattle.fact_graph_c.specs.Openings.{Carries, Loads, NotBrought, NotCarried, NotLoaded, NotOpened, Opens, OpensBuiltIn};
+ghost use Rattle.fact_graph_c.specs.Openings.{Carries, Loads, NotBrought, NotCarried, NotLoaded, NotOpened, Opens, OpensBuiltIn, Resumes};
 ghost use Rattle.fact_graph_c.specs.Outcomes.{outcome_number};
 ghost use Rattle.fact_graph_c.specs.Printing.{IsDictionaryText, IsFactsText};
 ghost use Rattle.fact_graph_c.specs.Reading.{IsReads};
@@ -19,6 +19,7 @@ use crate::opening::{open, open_carried, open_loaded};
 use crate::outcome::{Outcome, number_of};
 use crate::printing::{say_dictionary, say_facts};
 use crate::reading::say_reads;
+use crate::resuming::open_resumed;
 use crate::saving::save_answers;
 use crate::session_slot::{SessionSlot, keep};
 use crate::text::Text;
@@ -104,7 +105,8 @@ pub extern "C" fn fact_graph_load(
     graph: &mut SessionSlot,
     fault: &mut Fault,
 ) -> u32
-    ensures begun { BeginsCall (Loads dictionary.now saved.now) (NotLoaded dictionary.now saved.now) graph.old graph.new fault.new }
+    ensures begun { BeginsCall (Loads dictionary.now saved.now) (NotLoaded dictionary.now saved.now) graph.old graph.new
+        fault.new }
     ensures number { result ≡ fault.new.number }
 {
     hand_out(open_loaded(alloc, dictionary, saved), graph, fault);
@@ -126,6 +128,26 @@ pub extern "C" fn fact_graph_carry(
     ensures number { result ≡ fault.new.number }
 {
     let begun = open_carried(alloc, dictionary, saved);
+    *text_size = size_of_text(&begun);
+    hand_out(begun, graph, fault);
+    fault.number
+}
+
+/// Opens a session over a dictionary, with what may be taken of a saved text that came from outside.
+#[unsafe(no_mangle)]
+pub extern "C" fn fact_graph_resume(
+    alloc: Global,
+    dictionary: &[u8],
+    saved: &[u8],
+    graph: &mut SessionSlot,
+    text_size: &mut usize,
+    fault: &mut Fault,
+) -> u32
+    ensures begun { BeginsCall (λ e. Resumes dictionary.now saved.now e × (text_size.new ≡ length (said e)))
+        (λ why. NotCarried dictionary.now saved.now why × (text_size.new ≡ 0)) graph.old graph.new fault.new }
+    ensures number { result ≡ fault.new.number }
+{
+    let begun = open_resumed(alloc, dictionary, saved);
     *text_size = size_of_text(&begun);
     hand_out(begun, graph, fault);
     fault.number
@@ -205,6 +227,14 @@ pub extern "C" fn fact_graph_facts(
     let mut engine = graph.into_box();
     let outcome = say_facts(alloc, &mut engine);
     hand_back(engine, outcome, text_size, back)
+}
+
+/// The version of the library as one number: 10,000 times its first part, 100 times its second, and its third.
+#[unsafe(no_mangle)]
+pub extern "C" fn fact_graph_version() -> u32
+    ensures { result ≡ 10000 }
+{
+    10_000
 }
 
 /// Keeps the newest changes, so many at most: those before them can't be undone any more.

@@ -15,6 +15,8 @@ mod opening;
 mod outcome;
 mod printing;
 mod reading;
+mod resuming;
 mod saving;
 mod session_slot;
+mod telling;
 mod text;

@@ -33,9 +33,10 @@ use std::alloc::{AllocError, Global};
 use text_checks::CheckTable;
 
 /// The most bytes of a saved text.
-const SAVED_LIMIT: usize = 67_108_864;
+pub const SAVED_LIMIT: usize = 67_108_864;
 
-fn wants_memory() -> NotBegun
+/// There was no memory.
+pub fn wants_memory() -> NotBegun
     ensures { result ≡ OfDictionary WantsMemory }
 {
     NotBegun::Dictionary(DictFault::NoMemory)
@@ -67,8 +68,8 @@ fn unused(alloc: Global, session: Session<Recalc>, text: Text) -> Engine
     }
 }
 
-// A session over the dictionary from these answers, which has said this.
-fn begin(
+/// A session over the dictionary from these answers, which has said this.
+pub fn begin(
     alloc: Global,
     dict: Dictionary,
     answers: Answers,
@@ -99,8 +100,8 @@ pub fn begin_silent(
     begin(alloc, dict, answers, Text::new(alloc))
 }
 
-// The dictionary that the bytes spell, or its first fault.
-fn accepted_dictionary(
+/// The dictionary that the bytes spell, or its first fault.
+pub fn accepted_dictionary(
     alloc: Global,
     checks: &CheckTable,
     bytes: &[u8],
@@ -116,8 +117,8 @@ fn accepted_dictionary(
     }
 }
 
-// What a fault of a saved text comes to.
-fn not_resumed(fault: LoadFault) -> NotBegun
+/// What a fault of a saved text comes to.
+pub fn not_resumed(fault: LoadFault) -> NotBegun
     ensures { IsFaultOfText fault result }
 {
     match fault {

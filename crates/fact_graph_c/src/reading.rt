@@ -59,7 +59,8 @@ fn put_reads(
     text: &mut Text,
 ) -> bool
     requires { text.old.bytes.items ≡ [] }
-    ensures { IsTrue result → text.new.bytes.items ≡ reads_of_path (rules session.now.dict) (session_state session.now) path }
+    ensures { IsTrue result → text.new.bytes.items ≡ reads_of_path (rules session.now.dict) (session_state session.now)
+        path }
 {
     match path {
         Some(path) => is_more(answer_reads(alloc, session, &path, text)),

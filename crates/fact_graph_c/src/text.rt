@@ -1,8 +1,5 @@
 // What a call says, in memory.
-ghost use Rattle.std.specs.Prelude.{◌≡◌, ◌+◌, ◌*◌, ◌<◌, ◌≤◌, [], ◌++◌, List, ℕ, length, take, drop, min, OnOk, OnErr, IfOk, vec_capacity};
-ghost use Rattle.std.specs.Io.{WritesAtMost};
-ghost use Rattle.std.specs.Io.KnownBytes.{WriteAppends};
-ghost use Rattle.fg_io.specs.Outside.{HasCause};
+ghost use Rattle.std.specs.Prelude.{◌≡◌, ◌+◌, ◌<◌, ◌≤◌, [], ◌++◌, length, take, drop, min, OnOk, vec_capacity};
 
 use fact_values::NoMemory;
 use fg_io::{Failed, Sink};
@@ -81,9 +78,7 @@ impl Sink for Text {
     ghost use Rattle.std.specs.declared.option.Option.TheVariants.{Some};
 
     // Its room stands before the bytes, so that whoever puts bytes is known to leave it.
-    ghost taken = { λ text. Some (text.room ∷ text.bytes.items) };
-
-    ghost faults = { λ text. text.faults };
+    ghost output = { λ text. record { taken = Some (text.room ∷ text.bytes.items); faults = text.faults } };
 
     fn put(&mut self, piece: &[u8]) -> Result<usize, Failed> {
         if self.bytes.len() < self.room {

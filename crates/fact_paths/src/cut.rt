@@ -12,7 +12,8 @@ fn slash_at(text: &[u8]) -> Option<usize>
 
 // The texts before and behind the first slash. It goes byte by byte, which takes less for a short text than std's search does.
 pub fn cut_at_slash(text: &str) -> Option<(&str, &str)>
-    ensures { MatchOption result (at_slash text.now ≡ None) (λ found. at_slash text.now ≡ Some (found.0.now, found.1.now)) }
+    ensures { MatchOption result (at_slash text.now ≡ None) (λ found. at_slash text.now
+        ≡ Some (found.0.now, found.1.now)) }
 {
     let at = slash_at(text.as_bytes())?;
     Some((&text[..at], &text[at + 1..]))

@@ -31,9 +31,12 @@ pub fn watch(
     name: &Name,
     slot: Slot,
 ) -> Result<(), WatchRefusal>
-    ensures put { OnOk result (watches.new ≡ unnoted (watches.old.pairs ++ pair_of (place_of table.now.relations.items (λ r. r.name) name.now) slot ∷ [])) }
-    ensures allowed { OnOk result (watch_refusal (place_of table.now.relations.items (λ r. r.name) name.now) watches.old.pairs slot ≡ None) }
-    ensures refused { IfErr result (λ r. Refused r (watch_refusal (place_of table.now.relations.items (λ r. r.name) name.now) watches.old.pairs slot)) }
+    ensures put { OnOk result (watches.new ≡ unnoted
+        (watches.old.pairs ++ pair_of (place_of table.now.relations.items (λ r. r.name) name.now) slot ∷ [])) }
+    ensures allowed { OnOk result (watch_refusal (place_of table.now.relations.items (λ r. r.name) name.now)
+        watches.old.pairs slot ≡ None) }
+    ensures refused { IfErr result (λ r. Refused r
+        (watch_refusal (place_of table.now.relations.items (λ r. r.name) name.now) watches.old.pairs slot)) }
     ensures unchanged { OnErr result (watches.new ≡ watches.old) }
 {
     let Some(place) = table.find(name.as_str()) else {
@@ -54,9 +57,12 @@ pub fn unwatch(
     name: &Name,
     slot: Slot,
 ) -> Result<(), WatchRefusal>
-    ensures cut { OnOk result (watches.new ≡ unnoted (without (pair_of (place_of table.now.relations.items (λ r. r.name) name.now) slot) watches.old.pairs)) }
-    ensures allowed { OnOk result (unwatch_refusal (place_of table.now.relations.items (λ r. r.name) name.now) watches.old.pairs slot ≡ None) }
-    ensures refused { IfErr result (λ r. Refused r (unwatch_refusal (place_of table.now.relations.items (λ r. r.name) name.now) watches.old.pairs slot)) }
+    ensures cut { OnOk result (watches.new ≡ unnoted
+        (without (pair_of (place_of table.now.relations.items (λ r. r.name) name.now) slot) watches.old.pairs)) }
+    ensures allowed { OnOk result (unwatch_refusal (place_of table.now.relations.items (λ r. r.name) name.now)
+        watches.old.pairs slot ≡ None) }
+    ensures refused { IfErr result (λ r. Refused r
+        (unwatch_refusal (place_of table.now.relations.items (λ r. r.name) name.now) watches.old.pairs slot)) }
     ensures unchanged { OnErr result (watches.new ≡ watches.old) }
 {
     let Some(place) = table.find(name.as_str()) else {

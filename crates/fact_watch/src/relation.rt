@@ -16,13 +16,15 @@ pub struct Relation {
     pub code: u32,
     says: Says,
     ghost callable: { (old : _) (new : _) → Says.pre says old new },
-    ghost answers: { (old : _) (new : _) (answer : Bool) → Says.post says old new answer → answer ≡ watch_says code old.now new.now },
+    ghost answers: { (old : _) (new : _) (answer : Bool) → Says.post says old new answer → answer
+        ≡ watch_says code old.now new.now },
 }
 
 impl Relation {
     pub(crate) fn new(name: Name, code: u32, says: Says) -> Relation
         requires callable { (old : _) (new : _) → Says.pre says old new }
-        requires answers { (old : _) (new : _) (answer : Bool) → Says.post says old new answer → answer ≡ watch_says code old.now new.now }
+        requires answers { (old : _) (new : _) (answer : Bool) → Says.post says old new answer → answer
+            ≡ watch_says code old.now new.now }
         ensures name { result.name ≡ name }
         ensures code { result.code ≡ code }
     {

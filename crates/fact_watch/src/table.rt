@@ -33,7 +33,8 @@ impl WatchTable {
         requires room { length self.old.relations.items < 2 ^ 32 - 1 }
         requires code { IsCode code }
         requires callable { (old : _) (new : _) → Says.pre says old new }
-        requires answers { (old : _) (new : _) (answer : Bool) → Says.post says old new answer → answer ≡ watch_says code old.now new.now }
+        requires answers { (old : _) (new : _) (answer : Bool) → Says.post says old new answer → answer
+            ≡ watch_says code old.now new.now }
         ensures added { OnOk result (named_relations self.new
             ≡ named_relations self.old ++ (name, code) ∷ []) }
         ensures count { OnOk result (length self.new.relations.items ≡ length self.old.relations.items + 1) }

@@ -85,7 +85,8 @@ fn push_note<E: FactEngine>(
     slot: Slot,
     notes: &mut Vec<Option<Res>>,
 ) -> Result<(), NoMemory>
-    ensures { OnOk result (notes.new.items ≡ notes.old.items ++ plain (accepted session.now.dict) session.now.timeline.now slot ∷ []) }
+    ensures { OnOk result (notes.new.items ≡ notes.old.items ++ plain (accepted session.now.dict)
+        session.now.timeline.now slot ∷ []) }
 {
     let note = note_of(alloc, session, slot)?;
     notes.push(note)?;
@@ -96,7 +97,8 @@ fn push_note<E: FactEngine>(
 #[tactic(auto, using(crate::proofs::FiringLaws::said_at))]
 fn says(table: &WatchTable, place: u32, old: Option<&Res>, new: Option<&Res>) -> bool
     requires { place < length table.now.relations.items }
-    ensures { result ≡ slot_says (code_at (λ r. r.code) table.now.relations.items place) (option_copied old.entry) (option_copied new.entry) }
+    ensures { result ≡ slot_says (code_at (λ r. r.code) table.now.relations.items place) (option_copied old.entry)
+        (option_copied new.entry) }
 {
     match old {
         None => false,
@@ -144,7 +146,8 @@ impl Watches {
     pub fn put(&mut self, place: u32, slot: Slot) -> Result<(), PutFault>
         ensures put { OnOk result (self.new ≡ unnoted (self.old.pairs ++ (place, slot) ∷ [])) }
         ensures same { IsErrOf result PutFault.Same ↔ IsTrue (is_put self.old.pairs (place, slot)) }
-        ensures full { IsErrOf result PutFault.Full ↔ ((is_put self.old.pairs (place, slot) ≡ false) × IsTrue (is_full self.old.pairs)) }
+        ensures full { IsErrOf result PutFault.Full ↔ ((is_put self.old.pairs (place, slot) ≡ false)
+            × IsTrue (is_full self.old.pairs)) }
         ensures unchanged { OnErr result (self.new ≡ self.old) }
     {
         if self.has(place, slot) {
@@ -178,7 +181,8 @@ impl Watches {
 
     /// Notes the result of each watched slot, or that it doesn't stand. For want of memory all notes are as before.
     pub fn note<E: FactEngine>(&mut self, session: &Session<E>) -> Result<(), NoMemory>
-        ensures noted { OnOk result (self.new ≡ noted self.old.pairs (plain (accepted session.now.dict) session.now.timeline.now)) }
+        ensures noted { OnOk result (self.new ≡ noted self.old.pairs
+            (plain (accepted session.now.dict) session.now.timeline.now)) }
         ensures unchanged { OnErr result (self.new ≡ self.old) }
     {
         let mut notes = Vec::new(self.alloc);
@@ -213,7 +217,8 @@ impl Watches {
         n: u32,
     ) -> bool
         requires { IfSome (slice_get self.now.pairs n) (λ p. p.0 < length table.now.relations.items) }
-        ensures { result ≡ fires_now (code_at (λ r. r.code) table.now.relations.items) self.now (plain (accepted session.now.dict) session.now.timeline.now) n }
+        ensures { result ≡ fires_now (code_at (λ r. r.code) table.now.relations.items) self.now
+            (plain (accepted session.now.dict) session.now.timeline.now) n }
     {
         match self.at(n) {
             None => false,
@@ -225,9 +230,11 @@ impl Watches {
     /// result that was noted and the one now. It takes no memory.
     pub fn fires<E: FactEngine>(&self, table: &WatchTable, session: &Session<E>, n: u32) -> bool
         requires { IfSome (slice_get self.now.pairs n) (λ p. p.0 < length table.now.relations.items) }
-        ensures now { result ≡ fires_now (code_at (λ r. r.code) table.now.relations.items) self.now (plain (accepted session.now.dict) session.now.timeline.now) n }
+        ensures now { result ≡ fires_now (code_at (λ r. r.code) table.now.relations.items) self.now
+            (plain (accepted session.now.dict) session.now.timeline.now) n }
         ensures since { (before : Results) → self.now ≡ noted self.now.pairs before
-            → result ≡ fires_between (code_at (λ r. r.code) table.now.relations.items) self.now.pairs before (plain (accepted session.now.dict) session.now.timeline.now) n }
+            → result ≡ fires_between (code_at (λ r. r.code) table.now.relations.items) self.now.pairs before
+            (plain (accepted session.now.dict) session.now.timeline.now) n }
     {
         self.fires_as_noted(table, session, n)
     }

@@ -1,21 +1,24 @@
 -- Texts one behind another, each written whole or in part.
-use Rattle.std.proofs.Common.{ℕ, ◌≤◌, List, [], ◌++◌, Option, Result, Ok, Err, refl, ap, subst, ◌∙◌, arith, append_assoc}
+use Rattle.std.proofs.Common.{ℕ, List, ◌≤◌, ◌++◌, Result, Ok, Err, [], refl, ap, subst, ◌∙◌, arith, append_assoc}
+use Rattle.fg_io.specs.Outside.{Output}
 use Rattle.fg_io.specs.Sent.{Sent}
 use Rattle.fg_io.specs.Writing.{Wrote, WroteAll, WrotePart}
 use Rattle.fg_io.proofs.SentLaws.{rose_before, sent_on, sent_part}
 
 -- one text behind another that was written whole
-pub wrote_behind : {T E : Type 0} (a b c : Option (List ℕ)) (f0 f1 f2 : ℕ) (x y : List ℕ) (r : Result T E)
-    → WroteAll a b f0 f1 x → Wrote b c f1 f2 y r → Wrote a c f0 f2 (x ++ y) r
-wrote_behind a b c f0 f1 f2 x y (Ok done) first wrote =
-    (subst (λ (l : List ℕ). Sent a c (x ++ y) l) refl (sent_on a b c x y [] first.0 wrote.0), omega (arith, first.1, wrote.1))
-wrote_behind a b c f0 f1 f2 x y (Err e) first wrote =
-    ((wrote.0.0, sent_on a b c x y wrote.0.0 first.0 wrote.0.1), rose_before f0 f1 f2 first.1 wrote.1, omega (arith, first.1, wrote.2))
+pub wrote_behind : {T E : Type 0} (a b c : Output) (x y : List ℕ) (r : Result T E)
+    → WroteAll a b x → Wrote b c y r → Wrote a c (x ++ y) r
+wrote_behind a b c x y (Ok done) first wrote =
+    (subst (λ (l : List ℕ). Sent a.taken c.taken (x ++ y) l) refl (sent_on a.taken b.taken c.taken x y [] first.0 wrote.0), omega (arith, first.1, wrote.1))
+wrote_behind a b c x y (Err e) first wrote = (
+  (wrote.0.0, sent_on a.taken b.taken c.taken x y wrote.0.0 first.0 wrote.0.1),
+  rose_before a.faults b.faults c.faults first.1 wrote.1,
+  omega (arith, first.1, wrote.2),
+)
 
 -- a failure before the rest
-pub failed_before : (a b : Option (List ℕ)) (f0 f1 : ℕ) (x y : List ℕ)
-    → WrotePart a b f0 f1 x → WrotePart a b f0 f1 (x ++ y)
-failed_before a b f0 f1 x y wrote = (
+pub failed_before : (a b : Output) (x y : List ℕ) → WrotePart a b x → WrotePart a b (x ++ y)
+failed_before a b x y wrote = (
   (
     wrote.0.0 ++ y,
     record {
@@ -29,8 +32,11 @@ failed_before a b f0 f1 x y wrote = (
 )
 
 -- a failure within a text of which a part was written before
-pub failed_within : (a b c : Option (List ℕ)) (f0 f1 f2 : ℕ) (text piece rest : List ℕ)
-    → Sent a b text (piece ++ rest) → f0 ≤ f1 → WrotePart b c f1 f2 piece
-    → WrotePart a c f0 f2 text
-failed_within a b c f0 f1 f2 text piece rest sent le wrote =
-    ((wrote.0.0 ++ rest, sent_part a b c text piece rest wrote.0.0 sent wrote.0.1), rose_before f0 f1 f2 le wrote.1, omega (arith, wrote.2))
+pub failed_within : (a b c : Output) (text piece rest : List ℕ)
+    → Sent a.taken b.taken text (piece ++ rest) → a.faults ≤ b.faults → WrotePart b c piece
+    → WrotePart a c text
+failed_within a b c text piece rest sent le wrote = (
+  (wrote.0.0 ++ rest, sent_part a.taken b.taken c.taken text piece rest wrote.0.0 sent wrote.0.1),
+  rose_before a.faults b.faults c.faults le wrote.1,
+  omega (arith, wrote.2, le),
+)

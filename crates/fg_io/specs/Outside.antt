@@ -4,6 +4,32 @@ use Rattle.std.specs.declared.alloc.Global.{Global}
 use Rattle.fg_io.specs.declared.error.FetchFault.{FetchFault}
 use Rattle.fg_io.specs.declared.error.FetchFault.TheVariants.{Failed, TooLong}
 
+-- ---- what each tells of itself
+
+-- a stream to write: the bytes taken, where it tells them, and how often it has failed
+pub record Output : Type 0 where
+  pub taken : Option (List ℕ)
+  pub faults : ℕ
+
+-- a stream to read: the bytes left, where it tells them, and how often it has failed
+pub record Input : Type 0 where
+  pub left : Option (List ℕ)
+  pub faults : ℕ
+
+-- what a shelf shows of a name: nothing, that it isn't there, or its contents
+pub data Contents : Type 0 where
+  hidden : Contents
+  missing : Contents
+  holds : List ℕ → Contents
+
+-- files by name: what is shown of each, how often a fetch has failed, and the name of the last that did, empty at first
+pub record Files : Type 0 where
+  pub contents : List ℕ → Contents
+  pub faults : ℕ
+  pub failed_name : List ℕ
+
+-- ---- when it may say that it failed
+
 -- a count rose in a call: it grew, or stands at the greatest u64 after it
 abbrev pub Rose : ℕ → ℕ → Type 0
 Rose before now = min (before + 1) (2 ^ 64 - 1) ≤ now
@@ -18,12 +44,6 @@ abbrev pub MayBe : Option (List ℕ) → List ℕ → Type 0
 MayBe None bytes = Unit {0}
 MayBe (Some known) bytes = known ≡ bytes
 
--- what a shelf shows of a name: nothing, that it isn't there, or its contents
-pub data Contents : Type 0 where
-  hidden : Contents
-  missing : Contents
-  holds : List ℕ → Contents
-
 -- the name may have these contents: where they are known, these they are
 abbrev pub MayHold : Contents → List ℕ → Type 0
 MayHold hidden bytes = Unit {0}
@@ -37,7 +57,7 @@ pub record Fetches (contents : Contents) (at_most : ℕ) (result : Result (Vec �
   pub too_long : IsErrOf result TooLong → (bytes : List ℕ) × MayHold contents bytes × (at_most < length bytes)
 
 -- a fetch says that it failed only where the count rose, and the failed name is then this one; any other answer leaves both
-pub record FetchCause {T : Type 0} (name : List ℕ) (before now : ℕ) (name_before name_now : List ℕ) (result : Result T FetchFault) : Type 0 where
-  pub later : before ≤ now
-  pub failed : IsErrOf result Failed → Rose before now × (name_now ≡ name)
-  pub others : (IsErrOf result Failed → ⊥) → (now ≡ before) × (name_now ≡ name_before)
+pub record FetchCause {T : Type 0} (name : List ℕ) (files files_now : Files) (result : Result T FetchFault) : Type 0 where
+  pub later : files.faults ≤ files_now.faults
+  pub failed : IsErrOf result Failed → Rose files.faults files_now.faults × (files_now.failed_name ≡ name)
+  pub others : (IsErrOf result Failed → ⊥) → (files_now.faults ≡ files.faults) × (files_now.failed_name ≡ files.failed_name)

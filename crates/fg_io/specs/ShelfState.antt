@@ -7,16 +7,16 @@ use Rattle.std.specs.FinMap.{FinMap, code, get, from_entries}
 use Rattle.std.specs.Ordering.{nat_cmp}
 use Rattle.std.specs.declared.alloc.Global.{Global}
 use Rattle.fg_io.specs.Calls.{next_count, Fails}
-use Rattle.fg_io.specs.Outside.{Contents, missing, holds}
+use Rattle.fg_io.specs.Outside.{Contents, Files, missing, holds}
 use Rattle.fg_io.specs.declared.error.FetchFault.{FetchFault}
 use Rattle.fg_io.specs.declared.error.FetchFault.TheVariants.{Failed, TooLong, NoMemory}
 
 -- contents by name
-abbrev pub Files : Type 0
-Files = FinMap (slice_cmp nat_cmp) (List ℕ)
+abbrev pub NamedFiles : Type 0
+NamedFiles = FinMap (slice_cmp nat_cmp) (List ℕ)
 
 pub record ShelfState : Type 0 where
-  pub files : Files
+  pub files : NamedFiles
   -- the numbers of the calls that fail
   pub failing : List ℕ
   -- how many calls there were, and how many of them failed
@@ -27,13 +27,13 @@ pub record ShelfState : Type 0 where
 
 -- a shelf is stored as the tuple of its fields
 abbrev pub shelf_code : Coded ShelfState
-shelf_code = code_by (Files × (List ℕ × (ℕ × (ℕ × List ℕ)))) (coded× (code (coded_list coded_ℕ) (coded_list coded_ℕ)) (coded× (coded_list coded_ℕ) (coded× coded_ℕ (coded× coded_ℕ (coded_list coded_ℕ)))))
+shelf_code = code_by (NamedFiles × (List ℕ × (ℕ × (ℕ × List ℕ)))) (coded× (code (coded_list coded_ℕ) (coded_list coded_ℕ)) (coded× (coded_list coded_ℕ) (coded× coded_ℕ (coded× coded_ℕ (coded_list coded_ℕ)))))
     (λ s. (s.files, (s.failing, (s.calls, (s.faults, s.failed_name)))))
     (λ p. record { files = p.0; failing = p.1.0; calls = p.1.1.0; faults = p.1.1.1.0; failed_name = p.1.1.1.1 })
     (λ _. refl)
 
 -- the contents that a map keeps
-abbrev pub files_of : BTreeMap (String Global) (Vec ℕ Global) → Files
+abbrev pub files_of : BTreeMap (String Global) (Vec ℕ Global) → NamedFiles
 files_of kept = from_entries (map {B = List ℕ × List ℕ} (λ e. (string_bytes e.0, e.1.items)) kept.entries)
 
 -- what a name shows whose contents are these
@@ -43,6 +43,10 @@ contents_by (Some bytes) = holds bytes
 
 abbrev pub contents_in : ShelfState → List ℕ → Contents
 contents_in shelf name = contents_by (get shelf.files name)
+
+-- what the shelf tells
+abbrev pub files_shown : ShelfState → Files
+files_shown shelf = record { contents = contents_in shelf; faults = shelf.faults; failed_name = shelf.failed_name }
 
 -- after a fetch that didn't fail
 abbrev pub after_answering : ShelfState → ShelfState

@@ -1,6 +1,7 @@
 -- A sink in memory.
-use Rattle.std.specs.Prelude.{ℕ, ◌-◌, min, List, ◌++◌, length, take}
+use Rattle.std.specs.Prelude.{ℕ, ◌-◌, min, List, ◌++◌, length, take, Some}
 use Rattle.fg_io.specs.Calls.{next_count}
+use Rattle.fg_io.specs.Outside.{Output}
 
 pub record SinkState : Type 0 where
   -- the bytes taken
@@ -12,6 +13,10 @@ pub record SinkState : Type 0 where
   -- how many calls there were, and how many of them failed
   pub calls : ℕ
   pub faults : ℕ
+
+-- what the sink tells
+abbrev pub output_shown : SinkState → Output
+output_shown sink = record { taken = Some sink.taken; faults = sink.faults }
 
 -- how many bytes a sink has room for
 abbrev pub room : ℕ

@@ -1,6 +1,7 @@
 -- A source in memory.
-use Rattle.std.specs.Prelude.{ℕ, min, List, length, drop}
+use Rattle.std.specs.Prelude.{ℕ, min, List, length, drop, Some}
 use Rattle.fg_io.specs.Calls.{next_count}
+use Rattle.fg_io.specs.Outside.{Input}
 
 pub record SourceState : Type 0 where
   -- the bytes left
@@ -12,6 +13,10 @@ pub record SourceState : Type 0 where
   -- how many calls there were, and how many of them failed
   pub calls : ℕ
   pub faults : ℕ
+
+-- what the source tells
+abbrev pub input_shown : SourceState → Input
+input_shown source = record { left = Some source.left; faults = source.faults }
 
 -- how many bytes a pull into a buffer of this length gives
 abbrev pub given_count : SourceState → ℕ → ℕ

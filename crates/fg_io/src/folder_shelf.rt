@@ -2,6 +2,7 @@
 ghost use Rattle.std.specs.Prelude.{◌≡◌, ◌+◌, ◌≤◌, [], IfOk, IsErrOf, length};
 ghost use Rattle.std.specs.Io.KnownBytes.{Consumes};
 ghost use Rattle.fg_io.specs.Calls.{next_count};
+ghost use Rattle.fg_io.specs.FolderState.{files_hidden};
 ghost use Rattle.fg_io.specs.Outside.{hidden, MayBe, Fetches, FetchCause};
 
 use crate::{Failed, FetchFault, Shelf};
@@ -50,10 +51,10 @@ fn read_up_to<F: Read>(
     at_most: u64,
 ) -> Result<Result<Vec<u8>, Failed>, AllocError>
     ensures short { IfOk result (λ read. IfOk read (λ bytes. length bytes.items ≤ at_most + 1)) }
-    ensures read { IfOk result (λ read. IfOk read (λ bytes.
-        Consumes (F.remaining file.old) (F.remaining file.new) bytes.items)) }
-    ensures whole { IfOk result (λ read. IfOk read (λ bytes.
-        length bytes.items ≤ at_most → MayBe (F.remaining file.old) bytes.items)) }
+    ensures read { IfOk result (λ read. IfOk read (λ bytes. Consumes (F.remaining file.old) (F.remaining file.new)
+        bytes.items)) }
+    ensures whole { IfOk result (λ read. IfOk read (λ bytes. length bytes.items ≤ at_most → MayBe (F.remaining file.old)
+        bytes.items)) }
 {
     let mut bytes = Vec::new(alloc);
     let mut buf = [0u8; 4096];
@@ -84,18 +85,13 @@ fn read_file<R: Files>(
 }
 
 impl<R: Files + Drop> Shelf for FolderShelf<R> {
-    ghost use Rattle.fg_io.specs.Outside.{hidden};
+    ghost use Rattle.fg_io.specs.FolderState.{files_hidden};
 
-    ghost contents = { λ _ _. hidden };
-
-    ghost faults = { λ shelf. shelf.faults };
-
-    ghost failed_name = { λ shelf. shelf.failed_name };
+    ghost files = { files_hidden };
 
     fn fetch(&mut self, name: &str, at_most: u64) -> Result<Vec<u8>, FetchFault>
         ensures content { Fetches hidden at_most result }
-        ensures cause { FetchCause name.now self.old.faults self.new.faults
-            self.old.failed_name self.new.failed_name result }
+        ensures cause { FetchCause name.now (files_hidden self.old) (files_hidden self.new) result }
         ensures failed { IsErrOf result FetchFault.Failed → self.new ≡ record {
           faults = next_count self.old.faults;
           failed_name = name.now;

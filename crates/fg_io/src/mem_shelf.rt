@@ -2,7 +2,7 @@
 ghost use Rattle.std.specs.Prelude.{◌≡◌, ◌⊎◌, [], None, Some, Contains, OnOk, OnErr, MatchOption, string_bytes};
 ghost use Rattle.std.specs.FinMap as map;
 ghost use Rattle.fg_io.specs.Outside.{Fetches, FetchCause};
-ghost use Rattle.fg_io.specs.ShelfState.{files_of, contents_in, FetchEnds};
+ghost use Rattle.fg_io.specs.ShelfState.{files_of, contents_in, files_shown, FetchEnds};
 
 use crate::{FetchFault, Shelf};
 use fact_values::NoMemory;
@@ -46,10 +46,8 @@ fn found<'a>(
     call: u64,
     name: &str,
 ) -> Option<&'a Vec<u8>>
-    ensures { MatchOption result
-        (Contains failing.now call ⊎ (map.get (files_of files.now) name.now ≡ None))
-        (λ bytes. (¬ Contains failing.now call)
-        × (map.get (files_of files.now) name.now ≡ Some bytes.now.items)) }
+    ensures { MatchOption result (Contains failing.now call ⊎ (map.get (files_of files.now) name.now ≡ None))
+        (λ bytes. (¬ Contains failing.now call) × (map.get (files_of files.now) name.now ≡ Some bytes.now.items)) }
 {
     if failing.contains(&call) {
         return None;
@@ -98,19 +96,14 @@ impl MemShelf {
 }
 
 impl Shelf for MemShelf {
-    ghost use Rattle.fg_io.specs.ShelfState.{contents_in};
+    ghost use Rattle.fg_io.specs.ShelfState.{files_shown};
 
-    ghost contents = { contents_in };
-
-    ghost faults = { λ shelf. shelf.faults };
-
-    ghost failed_name = { λ shelf. shelf.failed_name };
+    ghost files = { files_shown };
 
     fn fetch(&mut self, name: &str, at_most: u64) -> Result<Vec<u8>, FetchFault>
         ensures content { Fetches (contents_in self.old name.now) at_most result }
         ensures kept { contents_in self.new ≡ contents_in self.old }
-        ensures cause { FetchCause name.now self.old.faults self.new.faults
-            self.old.failed_name self.new.failed_name result }
+        ensures cause { FetchCause name.now (files_shown self.old) (files_shown self.new) result }
         ensures ends { FetchEnds self.old self.new name.now result }
     {
         let asked = String::from_str(self.alloc, name)?;

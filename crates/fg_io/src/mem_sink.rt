@@ -80,10 +80,9 @@ impl MemSink {
 
 impl Sink for MemSink {
     ghost use Rattle.std.specs.declared.option.Option.TheVariants.{Some};
+    ghost use Rattle.fg_io.specs.SinkState.{output_shown};
 
-    ghost taken = { λ sink. Some sink.taken };
-
-    ghost faults = { λ sink. sink.faults };
+    ghost output = { output_shown };
 
     fn put(&mut self, piece: &[u8]) -> Result<usize, Failed>
         requires { 0 < length piece.now }
@@ -92,8 +91,7 @@ impl Sink for MemSink {
         ensures bytes { WriteAppends (Some self.old.taken) (Some self.new.taken) result piece.now }
         ensures cause { HasCause self.old.faults self.new.faults result }
         // The calls that fail are those with a failing number, and each once the sink is full.
-        ensures fails { IsErr result ↔
-            ((room ≤ length self.old.taken) ⊎ Fails self.old.failing self.old.calls) }
+        ensures fails { IsErr result ↔ ((room ≤ length self.old.taken) ⊎ Fails self.old.failing self.old.calls) }
         ensures err { OnErr result (self.new ≡ after_failing self.old) }
         ensures count { IfOk result (λ count. count ≡ taken_count self.old (length piece.now)) }
         ensures after { IfOk result (λ count. self.new ≡ after_taking self.old piece.now count) }

@@ -62,10 +62,9 @@ impl MemSource {
 
 impl Source for MemSource {
     ghost use Rattle.std.specs.declared.option.Option.TheVariants.{Some};
+    ghost use Rattle.fg_io.specs.SourceState.{input_shown};
 
-    ghost left = { λ source. Some source.left };
-
-    ghost faults = { λ source. source.faults };
+    ghost input = { input_shown };
 
     fn pull(&mut self, buf: &mut [u8]) -> Result<usize, Failed>
         requires { 0 < length buf.old }
@@ -77,8 +76,7 @@ impl Source for MemSource {
         ensures err { OnErr result (self.new ≡ after_failing self.old) }
         ensures count { IfOk result (λ count. count ≡ given_count self.old (length buf.old)) }
         ensures after { IfOk result (λ count. self.new ≡ after_giving self.old count) }
-        ensures moved { IfOk result (λ count.
-            buf.new ≡ take count self.old.left ++ drop count buf.old) }
+        ensures moved { IfOk result (λ count. buf.new ≡ take count self.old.left ++ drop count buf.old) }
         ensures untouched { OnErr result (buf.new ≡ buf.old) }
     {
         self.calls = self.calls.saturating_add(1);

@@ -6,7 +6,7 @@ use crate::{Failed, Sink};
 
 /// Puts a text whole. After a failure a part of it was taken.
 pub fn put_text<K: Sink>(text: &[u8], out: &mut K) -> Result<(), Failed>
-    ensures { Wrote (K.taken out.old) (K.taken out.new) (K.faults out.old) (K.faults out.new) text.now result }
+    ensures { Wrote (K.output out.old) (K.output out.new) text.now result }
 {
     put_all(out, text)
 }

@@ -35,17 +35,14 @@ impl StdinSource {
 impl Source for StdinSource {
     ghost use Rattle.std.specs.declared.option.Option.TheVariants.{None};
 
-    ghost left = { λ _. None };
-
-    ghost faults = { λ count. count };
+    ghost input = { λ count. record { left = None; faults = count } };
 
     fn pull(&mut self, buf: &mut [u8]) -> Result<usize, Failed>
         requires { 0 < length buf.old }
         ensures bound { ReadsAtMost result buf.new }
         ensures bytes { ReadConsumes None None result buf.new }
         ensures cause { HasCause self.old self.new result }
-        ensures counts { MatchResult result
-            (λ _. self.new ≡ self.old) (λ _. self.new ≡ next_count self.old) }
+        ensures counts { MatchResult result (λ _. self.new ≡ self.old) (λ _. self.new ≡ next_count self.old) }
     {
         match self.stdin.read(buf) {
             Ok(count) => Ok(count),
@@ -84,9 +81,7 @@ impl StdoutSink {
 impl Sink for StdoutSink {
     ghost use Rattle.std.specs.declared.option.Option.TheVariants.{None};
 
-    ghost taken = { λ _. None };
-
-    ghost faults = { λ count. count };
+    ghost output = { λ count. record { taken = None; faults = count } };
 
     fn put(&mut self, piece: &[u8]) -> Result<usize, Failed>
         requires { 0 < length piece.now }
@@ -94,8 +89,7 @@ impl Sink for StdoutSink {
         ensures some { IfOk result (λ count. 0 < count) }
         ensures bytes { WriteAppends None None result piece.now }
         ensures cause { HasCause self.old self.new result }
-        ensures counts { MatchResult result
-            (λ _. self.new ≡ self.old) (λ _. self.new ≡ next_count self.old) }
+        ensures counts { MatchResult result (λ _. self.new ≡ self.old) (λ _. self.new ≡ next_count self.old) }
     {
         match self.stdout.write(piece) {
             Ok(count) if count > 0 => Ok(count),

@@ -1,5 +1,5 @@
 // Writing a whole piece to a sink that may take a part at a time.
-ghost use Rattle.std.specs.Prelude.{◌≡◌, [], List, ℕ, OnOk};
+ghost use Rattle.std.specs.Prelude.{[], List, ℕ, OnOk};
 ghost use Rattle.fg_io.specs.Outside.{HasCause};
 ghost use Rattle.fg_io.specs.Sent.{Sent};
 
@@ -7,9 +7,9 @@ use crate::{Failed, Sink};
 
 /// Puts a piece whole: what a put leaves over is put next. After a failure a part of the piece was taken.
 pub fn put_all<K: Sink>(out: &mut K, piece: &[u8]) -> Result<(), Failed>
-    ensures whole { OnOk result (Sent (K.taken out.old) (K.taken out.new) piece.now []) }
-    ensures part { (rest : List ℕ) × Sent (K.taken out.old) (K.taken out.new) piece.now rest }
-    ensures cause { HasCause (K.faults out.old) (K.faults out.new) result }
+    ensures whole { OnOk result (Sent (K.output out.old).taken (K.output out.new).taken piece.now []) }
+    ensures part { (rest : List ℕ) × Sent (K.output out.old).taken (K.output out.new).taken piece.now rest }
+    ensures cause { HasCause (K.output out.old).faults (K.output out.new).faults result }
 {
     let mut rest = piece;
     while !rest.is_empty() {

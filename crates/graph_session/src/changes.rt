@@ -28,8 +28,10 @@ fn edit_set(
 ) -> Result<Edit, Refusal>
     requires { SameChecks (rules dict.now) (named_checks checks.now) }
     ensures change { IfOk result (λ e. change_of (tree_of (rules dict.now)) (Set path.now text.now) ≡ Some (change e)) }
-    ensures allowed { IfOk result (λ _. first_of (change_refusals (rules dict.now) (answered answers.now) (Set path.now text.now)) ≡ None) }
-    ensures refused { IfErr result (λ r. Refused r (first_of (change_refusals (rules dict.now) (answered answers.now) (Set path.now text.now)))) }
+    ensures allowed { IfOk result (λ _. first_of (change_refusals (rules dict.now) (answered answers.now)
+        (Set path.now text.now)) ≡ None) }
+    ensures refused { IfErr result (λ r. Refused r
+        (first_of (change_refusals (rules dict.now) (answered answers.now) (Set path.now text.now)))) }
 {
     match judge_set(alloc, dict, answers, checks, path, text.as_str()) {
         Err(refusal) => Err(refusal),
@@ -39,8 +41,10 @@ fn edit_set(
 
 fn edit_clear(dict: &Dictionary, answers: &Answers, path: &SlotPath) -> Result<Edit, Refusal>
     ensures change { IfOk result (λ e. change_of (tree_of (rules dict.now)) (Clear path.now) ≡ Some (change e)) }
-    ensures allowed { IfOk result (λ _. first_of (change_refusals (rules dict.now) (answered answers.now) (Clear path.now)) ≡ None) }
-    ensures refused { IfErr result (λ r. Refused r (first_of (change_refusals (rules dict.now) (answered answers.now) (Clear path.now)))) }
+    ensures allowed { IfOk result (λ _. first_of (change_refusals (rules dict.now) (answered answers.now)
+        (Clear path.now)) ≡ None) }
+    ensures refused { IfErr result (λ r. Refused r
+        (first_of (change_refusals (rules dict.now) (answered answers.now) (Clear path.now)))) }
 {
     match judge_clear(dict, answers, path) {
         Err(refusal) => Err(refusal),
@@ -50,8 +54,10 @@ fn edit_clear(dict: &Dictionary, answers: &Answers, path: &SlotPath) -> Result<E
 
 fn edit_open(dict: &Dictionary, answers: &Answers, path: &SlotPath) -> Result<Edit, Refusal>
     ensures change { IfOk result (λ e. change_of (tree_of (rules dict.now)) (OpenList path.now) ≡ Some (change e)) }
-    ensures allowed { IfOk result (λ _. first_of (change_refusals (rules dict.now) (answered answers.now) (OpenList path.now)) ≡ None) }
-    ensures refused { IfErr result (λ r. Refused r (first_of (change_refusals (rules dict.now) (answered answers.now) (OpenList path.now)))) }
+    ensures allowed { IfOk result (λ _. first_of (change_refusals (rules dict.now) (answered answers.now)
+        (OpenList path.now)) ≡ None) }
+    ensures refused { IfErr result (λ r. Refused r
+        (first_of (change_refusals (rules dict.now) (answered answers.now) (OpenList path.now)))) }
 {
     match judge_open(dict, answers, path) {
         Err(refusal) => Err(refusal),
@@ -61,8 +67,10 @@ fn edit_open(dict: &Dictionary, answers: &Answers, path: &SlotPath) -> Result<Ed
 
 fn edit_add(dict: &Dictionary, answers: &Answers, path: &SlotPath) -> Result<Edit, Refusal>
     ensures change { IfOk result (λ e. change_of (tree_of (rules dict.now)) (Add path.now) ≡ Some (change e)) }
-    ensures allowed { IfOk result (λ _. first_of (change_refusals (rules dict.now) (answered answers.now) (Add path.now)) ≡ None) }
-    ensures refused { IfErr result (λ r. Refused r (first_of (change_refusals (rules dict.now) (answered answers.now) (Add path.now)))) }
+    ensures allowed { IfOk result (λ _. first_of (change_refusals (rules dict.now) (answered answers.now)
+        (Add path.now)) ≡ None) }
+    ensures refused { IfErr result (λ r. Refused r
+        (first_of (change_refusals (rules dict.now) (answered answers.now) (Add path.now)))) }
 {
     match judge_add(dict, answers, path) {
         Err(refusal) => Err(refusal),
@@ -76,9 +84,12 @@ fn edit_remove(
     path: &SlotPath,
     member: u32,
 ) -> Result<Edit, Refusal>
-    ensures change { IfOk result (λ e. change_of (tree_of (rules dict.now)) (Remove path.now member) ≡ Some (change e)) }
-    ensures allowed { IfOk result (λ _. first_of (change_refusals (rules dict.now) (answered answers.now) (Remove path.now member)) ≡ None) }
-    ensures refused { IfErr result (λ r. Refused r (first_of (change_refusals (rules dict.now) (answered answers.now) (Remove path.now member)))) }
+    ensures change { IfOk result (λ e. change_of (tree_of (rules dict.now)) (Remove path.now member)
+        ≡ Some (change e)) }
+    ensures allowed { IfOk result (λ _. first_of (change_refusals (rules dict.now) (answered answers.now)
+        (Remove path.now member)) ≡ None) }
+    ensures refused { IfErr result (λ r. Refused r
+        (first_of (change_refusals (rules dict.now) (answered answers.now) (Remove path.now member)))) }
 {
     match judge_remove(dict, answers, path, member) {
         Err(refusal) => Err(refusal),
@@ -93,9 +104,12 @@ fn edit_override(
     path: &SlotPath,
     text: &ValueText,
 ) -> Result<Edit, Refusal>
-    ensures change { IfOk result (λ e. change_of (tree_of (rules dict.now)) (Override path.now text.now) ≡ Some (change e)) }
-    ensures allowed { IfOk result (λ _. first_of (change_refusals (rules dict.now) (answered answers.now) (Override path.now text.now)) ≡ None) }
-    ensures refused { IfErr result (λ r. Refused r (first_of (change_refusals (rules dict.now) (answered answers.now) (Override path.now text.now)))) }
+    ensures change { IfOk result (λ e. change_of (tree_of (rules dict.now)) (Override path.now text.now)
+        ≡ Some (change e)) }
+    ensures allowed { IfOk result (λ _. first_of (change_refusals (rules dict.now) (answered answers.now)
+        (Override path.now text.now)) ≡ None) }
+    ensures refused { IfErr result (λ r. Refused r
+        (first_of (change_refusals (rules dict.now) (answered answers.now) (Override path.now text.now)))) }
 {
     match judge_override(alloc, dict, answers, path, text.as_str()) {
         Err(refusal) => Err(refusal),
@@ -105,8 +119,10 @@ fn edit_override(
 
 fn edit_release(dict: &Dictionary, answers: &Answers, path: &SlotPath) -> Result<Edit, Refusal>
     ensures change { IfOk result (λ e. change_of (tree_of (rules dict.now)) (Release path.now) ≡ Some (change e)) }
-    ensures allowed { IfOk result (λ _. first_of (change_refusals (rules dict.now) (answered answers.now) (Release path.now)) ≡ None) }
-    ensures refused { IfErr result (λ r. Refused r (first_of (change_refusals (rules dict.now) (answered answers.now) (Release path.now)))) }
+    ensures allowed { IfOk result (λ _. first_of (change_refusals (rules dict.now) (answered answers.now)
+        (Release path.now)) ≡ None) }
+    ensures refused { IfErr result (λ r. Refused r
+        (first_of (change_refusals (rules dict.now) (answered answers.now) (Release path.now)))) }
 {
     match judge_release(dict, answers, path) {
         Err(refusal) => Err(refusal),
@@ -126,8 +142,10 @@ pub fn edit_of(
     requires makes_one { IsSome (change_of (tree_of (rules dict.now)) command.now) }
     requires same_checks { SameChecks (rules dict.now) (named_checks checks.now) }
     ensures change { IfOk result (λ e. change_of (tree_of (rules dict.now)) command.now ≡ Some (change e)) }
-    ensures allowed { IfOk result (λ _. first_of (change_refusals (rules dict.now) (answered answers.now) command.now) ≡ None) }
-    ensures refused { IfErr result (λ r. Refused r (first_of (change_refusals (rules dict.now) (answered answers.now) command.now))) }
+    ensures allowed { IfOk result (λ _. first_of (change_refusals (rules dict.now) (answered answers.now) command.now)
+        ≡ None) }
+    ensures refused { IfErr result (λ r. Refused r
+        (first_of (change_refusals (rules dict.now) (answered answers.now) command.now))) }
 {
     match command {
         Command::Set(path, text) => edit_set(alloc, dict, answers, checks, path, text),

@@ -18,7 +18,8 @@ fn step_back(history: &mut History, answers: &mut Answers) -> Result<(), Refusal
     ensures moved { OnOk result (place history.new answers.new ≡ stepped Back (place history.old answers.old)) }
     ensures some { OnOk result (is_end Back (timeline (place history.old answers.old)) ≡ false) }
     ensures can_return { OnOk result (CanStep Forth history.new answers.new) }
-    ensures refused { IfErr result (λ r. Refused r (when (is_end Back (timeline (place history.old answers.old))) (end_refusal Back))) }
+    ensures refused { IfErr result (λ r. Refused r (when (is_end Back (timeline (place history.old answers.old)))
+        (end_refusal Back))) }
     ensures unchanged { OnErr result (place history.new answers.new ≡ place history.old answers.old) }
 {
     match history.back(answers) {
@@ -34,7 +35,8 @@ fn step_forth(history: &mut History, answers: &mut Answers) -> Result<(), Refusa
     ensures moved { OnOk result (place history.new answers.new ≡ stepped Forth (place history.old answers.old)) }
     ensures some { OnOk result (is_end Forth (timeline (place history.old answers.old)) ≡ false) }
     ensures can_return { OnOk result (CanStep Back history.new answers.new) }
-    ensures refused { IfErr result (λ r. Refused r (when (is_end Forth (timeline (place history.old answers.old))) (end_refusal Forth))) }
+    ensures refused { IfErr result (λ r. Refused r (when (is_end Forth (timeline (place history.old answers.old)))
+        (end_refusal Forth))) }
     ensures unchanged { OnErr result (place history.new answers.new ≡ place history.old answers.old) }
 {
     match history.forth(answers) {
@@ -55,7 +57,8 @@ pub fn step_along(
     ensures moved { OnOk result (place history.new answers.new ≡ stepped direction (place history.old answers.old)) }
     ensures some { OnOk result (is_end direction (timeline (place history.old answers.old)) ≡ false) }
     ensures can_return { OnOk result (CanStep (reversed direction) history.new answers.new) }
-    ensures refused { IfErr result (λ r. Refused r (when (is_end direction (timeline (place history.old answers.old))) (end_refusal direction))) }
+    ensures refused { IfErr result (λ r. Refused r (when (is_end direction (timeline (place history.old answers.old)))
+        (end_refusal direction))) }
     ensures unchanged { OnErr result (place history.new answers.new ≡ place history.old answers.old) }
 {
     match direction {

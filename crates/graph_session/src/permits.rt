@@ -21,7 +21,8 @@ use value_text::TextFault;
 
 /// The slot whose answer is to be taken away.
 pub fn judge_clear(dict: &Dictionary, answers: &Answers, path: &SlotPath) -> Result<Slot, Refusal>
-    ensures { result ≡ decided (first_of (clear_refusals (rules dict.now) (answered answers.now) path.now)) (slot_of (tree_of (rules dict.now)) path.now) }
+    ensures { result ≡ decided (first_of (clear_refusals (rules dict.now) (answered answers.now) path.now))
+        (slot_of (tree_of (rules dict.now)) path.now) }
 {
     let slot = find_slot(dict, answers, path)?;
     if !is_answered(dict, slot.fact) {
@@ -35,7 +36,8 @@ pub fn judge_clear(dict: &Dictionary, answers: &Answers, path: &SlotPath) -> Res
 
 /// The collection that is to be opened.
 pub fn judge_open(dict: &Dictionary, answers: &Answers, path: &SlotPath) -> Result<u32, Refusal>
-    ensures { result ≡ decided (first_of (open_refusals (rules dict.now) (answered answers.now) path.now)) (fact_of (tree_of (rules dict.now)) path.now) }
+    ensures { result ≡ decided (first_of (open_refusals (rules dict.now) (answered answers.now) path.now))
+        (fact_of (tree_of (rules dict.now)) path.now) }
 {
     let slot = find_slot(dict, answers, path)?;
     if !is_list(dict, slot.fact) {
@@ -60,7 +62,8 @@ fn is_full(answers: &Answers, list: u32) -> bool
 
 /// The collection that is to get a member.
 pub fn judge_add(dict: &Dictionary, answers: &Answers, path: &SlotPath) -> Result<u32, Refusal>
-    ensures { result ≡ decided (first_of (add_refusals (rules dict.now) (answered answers.now) path.now)) (fact_of (tree_of (rules dict.now)) path.now) }
+    ensures { result ≡ decided (first_of (add_refusals (rules dict.now) (answered answers.now) path.now))
+        (fact_of (tree_of (rules dict.now)) path.now) }
 {
     let slot = find_slot(dict, answers, path)?;
     if !is_list(dict, slot.fact) {
@@ -79,7 +82,8 @@ pub fn judge_remove(
     path: &SlotPath,
     member: u32,
 ) -> Result<u32, Refusal>
-    ensures { result ≡ decided (first_of (remove_refusals (rules dict.now) (answered answers.now) path.now member)) (fact_of (tree_of (rules dict.now)) path.now) }
+    ensures { result ≡ decided (first_of (remove_refusals (rules dict.now) (answered answers.now) path.now member))
+        (fact_of (tree_of (rules dict.now)) path.now) }
 {
     let slot = find_slot(dict, answers, path)?;
     if !is_list(dict, slot.fact) {
@@ -93,7 +97,8 @@ pub fn judge_remove(
 
 /// The slot whose override is to be taken away.
 pub fn judge_release(dict: &Dictionary, answers: &Answers, path: &SlotPath) -> Result<Slot, Refusal>
-    ensures { result ≡ decided (first_of (release_refusals (rules dict.now) (answered answers.now) path.now)) (slot_of (tree_of (rules dict.now)) path.now) }
+    ensures { result ≡ decided (first_of (release_refusals (rules dict.now) (answered answers.now) path.now))
+        (slot_of (tree_of (rules dict.now)) path.now) }
 {
     let slot = find_slot(dict, answers, path)?;
     if !is_overridden(dict, slot.fact) {
@@ -117,8 +122,10 @@ pub fn judge_set(
     requires { SameChecks (rules dict.now) (named_checks checks.now) }
     ensures slot { IfOk result (λ p. p.0 ≡ slot_of (tree_of (rules dict.now)) path.now) }
     ensures value { IfOk result (λ p. value_spelled (tree_of (rules dict.now)) p.0.fact text.now ≡ Some p.1) }
-    ensures allowed { IfOk result (λ _. first_of (set_refusals (rules dict.now) (answered answers.now) path.now text.now) ≡ None) }
-    ensures refused { IfErr result (λ r. Refused r (first_of (set_refusals (rules dict.now) (answered answers.now) path.now text.now))) }
+    ensures allowed { IfOk result (λ _. first_of (set_refusals (rules dict.now) (answered answers.now) path.now
+        text.now) ≡ None) }
+    ensures refused { IfErr result (λ r. Refused r
+        (first_of (set_refusals (rules dict.now) (answered answers.now) path.now text.now))) }
 {
     let slot = find_slot(dict, answers, path)?;
     if !is_answered(dict, slot.fact) {
@@ -140,8 +147,10 @@ pub fn judge_override(
 ) -> Result<(Slot, Value), Refusal>
     ensures slot { IfOk result (λ p. p.0 ≡ slot_of (tree_of (rules dict.now)) path.now) }
     ensures value { IfOk result (λ p. value_spelled (tree_of (rules dict.now)) p.0.fact text.now ≡ Some p.1) }
-    ensures allowed { IfOk result (λ _. first_of (override_refusals (rules dict.now) (answered answers.now) path.now text.now) ≡ None) }
-    ensures refused { IfErr result (λ r. Refused r (first_of (override_refusals (rules dict.now) (answered answers.now) path.now text.now))) }
+    ensures allowed { IfOk result (λ _. first_of (override_refusals (rules dict.now) (answered answers.now) path.now
+        text.now) ≡ None) }
+    ensures refused { IfErr result (λ r. Refused r
+        (first_of (override_refusals (rules dict.now) (answered answers.now) path.now text.now))) }
 {
     let slot = find_slot(dict, answers, path)?;
     if !is_overridden(dict, slot.fact) {

@@ -14,7 +14,8 @@ use fact_paths::SlotPath;
 
 /// Asks for the slot's result.
 pub fn ask_answer(dict: &Dictionary, answers: &Answers, path: &SlotPath) -> Result<Reply, Refusal>
-    ensures { result ≡ decided (first_of (slot_refusals (rules dict.now) (answered answers.now) path.now)) (Answer (slot_of (tree_of (rules dict.now)) path.now)) }
+    ensures { result ≡ decided (first_of (slot_refusals (rules dict.now) (answered answers.now) path.now))
+        (Answer (slot_of (tree_of (rules dict.now)) path.now)) }
 {
     let slot = find_slot(dict, answers, path)?;
     Ok(Reply::Answer(slot))
@@ -22,7 +23,8 @@ pub fn ask_answer(dict: &Dictionary, answers: &Answers, path: &SlotPath) -> Resu
 
 /// Asks whether the slot's result is final.
 pub fn ask_final(dict: &Dictionary, answers: &Answers, path: &SlotPath) -> Result<Reply, Refusal>
-    ensures { result ≡ decided (first_of (slot_refusals (rules dict.now) (answered answers.now) path.now)) (FinalAsked (slot_of (tree_of (rules dict.now)) path.now)) }
+    ensures { result ≡ decided (first_of (slot_refusals (rules dict.now) (answered answers.now) path.now))
+        (FinalAsked (slot_of (tree_of (rules dict.now)) path.now)) }
 {
     let slot = find_slot(dict, answers, path)?;
     Ok(Reply::FinalAsked(slot))
@@ -30,7 +32,8 @@ pub fn ask_final(dict: &Dictionary, answers: &Answers, path: &SlotPath) -> Resul
 
 /// Asks for the slot's missing answers.
 pub fn ask_missing(dict: &Dictionary, answers: &Answers, path: &SlotPath) -> Result<Reply, Refusal>
-    ensures { result ≡ decided (first_of (slot_refusals (rules dict.now) (answered answers.now) path.now)) (MissingAsked (slot_of (tree_of (rules dict.now)) path.now)) }
+    ensures { result ≡ decided (first_of (slot_refusals (rules dict.now) (answered answers.now) path.now))
+        (MissingAsked (slot_of (tree_of (rules dict.now)) path.now)) }
 {
     let slot = find_slot(dict, answers, path)?;
     Ok(Reply::MissingAsked(slot))
@@ -38,7 +41,8 @@ pub fn ask_missing(dict: &Dictionary, answers: &Answers, path: &SlotPath) -> Res
 
 /// Asks for a watch on the slot.
 pub fn ask_watch(dict: &Dictionary, answers: &Answers, path: &SlotPath) -> Result<Reply, Refusal>
-    ensures { result ≡ decided (first_of (slot_refusals (rules dict.now) (answered answers.now) path.now)) (WatchAsked (slot_of (tree_of (rules dict.now)) path.now)) }
+    ensures { result ≡ decided (first_of (slot_refusals (rules dict.now) (answered answers.now) path.now))
+        (WatchAsked (slot_of (tree_of (rules dict.now)) path.now)) }
 {
     let slot = find_slot(dict, answers, path)?;
     Ok(Reply::WatchAsked(slot))
@@ -46,7 +50,8 @@ pub fn ask_watch(dict: &Dictionary, answers: &Answers, path: &SlotPath) -> Resul
 
 /// Asks for the end of a watch on the slot.
 pub fn ask_unwatch(dict: &Dictionary, answers: &Answers, path: &SlotPath) -> Result<Reply, Refusal>
-    ensures { result ≡ decided (first_of (slot_refusals (rules dict.now) (answered answers.now) path.now)) (UnwatchAsked (slot_of (tree_of (rules dict.now)) path.now)) }
+    ensures { result ≡ decided (first_of (slot_refusals (rules dict.now) (answered answers.now) path.now))
+        (UnwatchAsked (slot_of (tree_of (rules dict.now)) path.now)) }
 {
     let slot = find_slot(dict, answers, path)?;
     Ok(Reply::UnwatchAsked(slot))

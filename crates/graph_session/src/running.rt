@@ -58,9 +58,12 @@ pub fn run<E: FactEngine, L: Ledger>(
 ) -> Result<Vec<Result<Reply, Refusal>>, NoMemory>
     requires same_checks { SameChecks (rules session.old.dict) (named_checks checks.now) }
     requires few { session.old.changes + length commands.now ≤ 2 ^ 63 }
-    ensures replies { IfOk result (λ rs. rs.items ≡ replies (rules session.old.dict) (session_state session.old) commands.now) }
-    ensures ended { OnOk result (session_state session.new ≡ ended (rules session.old.dict) (session_state session.old) commands.now) }
-    ensures stopped { OnErr result (IsAfterSome (rules session.old.dict) (session_state session.old) commands.now (session_state session.new)) }
+    ensures replies { IfOk result (λ rs. rs.items ≡ replies (rules session.old.dict) (session_state session.old)
+        commands.now) }
+    ensures ended { OnOk result (session_state session.new ≡ ended (rules session.old.dict) (session_state session.old)
+        commands.now) }
+    ensures stopped { OnErr result (IsAfterSome (rules session.old.dict) (session_state session.old) commands.now
+        (session_state session.new)) }
     ensures dict { session.new.dict ≡ session.old.dict }
 {
     let mut all = Vec::new(alloc);

@@ -139,7 +139,8 @@ impl<E: FactEngine> Session<E> {
     /// The number of the last change that touched the slot, and 0 if none did: none where the slot doesn't stand, or the
     /// engine keeps no stamps.
     pub fn stamp(&self, slot: Slot) -> Option<u64>
-        ensures { result ≡ stamp_offered (stands (accepted self.now.dict).tree self.now.timeline.now slot) self.now.counts slot }
+        ensures { result ≡ stamp_offered (stands (accepted self.now.dict).tree self.now.timeline.now slot)
+            self.now.counts slot }
     {
         self.engine.stamp(slot)
     }
@@ -157,7 +158,8 @@ impl<E: FactEngine> Session<E> {
         requires made { CanBeMade (rules self.old.dict) self.old.timeline.now (change edit) }
         ensures ok { OnOk result (self.new ≡ moved_to self.old (with_change self.old.timeline (change edit))) }
         ensures unchanged { OnErr result (self.new ≡ self.old) }
-        ensures steps { steps.new ≤ steps.old + E.most (accepted self.old.dict) self.old.timeline.now (applied (change edit) self.old.timeline.now) }
+        ensures steps { steps.new ≤ steps.old + E.most (accepted self.old.dict) self.old.timeline.now
+            (applied (change edit) self.old.timeline.now) }
     {
         match self.history.room() {
             Err(NoMemory) => {
@@ -194,11 +196,14 @@ impl<E: FactEngine> Session<E> {
         requires makes_one { IsSome (change_of (tree_of (rules self.old.dict)) command.now) }
         requires same_checks { SameChecks (rules self.old.dict) (named_checks checks.now) }
         requires few { self.old.changes < 2 ^ 63 }
-        ensures ok { IfOk result (λ r. step (rules self.old.dict) (session_state self.old) command.now ≡ Ok (r, session_state self.new)) }
+        ensures ok { IfOk result (λ r. step (rules self.old.dict) (session_state self.old) command.now
+            ≡ Ok (r, session_state self.new)) }
         ensures dict { self.new.dict ≡ self.old.dict }
-        ensures refused { IfErr result (λ r. Refused r (refusal (rules self.old.dict) (session_state self.old) command.now)) }
+        ensures refused { IfErr result (λ r. Refused r (refusal (rules self.old.dict) (session_state self.old)
+            command.now)) }
         ensures unchanged { OnErr result (self.new ≡ self.old) }
-        ensures steps { steps.new ≤ steps.old + most_steps (E.most (accepted self.old.dict)) (rules self.old.dict) (session_state self.old) command.now }
+        ensures steps { steps.new ≤ steps.old + most_steps (E.most (accepted self.old.dict)) (rules self.old.dict)
+            (session_state self.old) command.now }
     {
         let number = self.answers.next_number();
         match edit_of(self.alloc, &self.dict, &self.answers, checks, command) {
@@ -217,11 +222,14 @@ impl<E: FactEngine> Session<E> {
         steps: &mut Steps<L>,
     ) -> Result<Reply, Refusal>
         requires few { self.old.changes < 2 ^ 63 }
-        ensures ok { IfOk result (λ r. step (rules self.old.dict) (session_state self.old) (step_command direction) ≡ Ok (r, session_state self.new)) }
+        ensures ok { IfOk result (λ r. step (rules self.old.dict) (session_state self.old) (step_command direction)
+            ≡ Ok (r, session_state self.new)) }
         ensures dict { self.new.dict ≡ self.old.dict }
-        ensures refused { IfErr result (λ r. Refused r (refusal (rules self.old.dict) (session_state self.old) (step_command direction))) }
+        ensures refused { IfErr result (λ r. Refused r (refusal (rules self.old.dict) (session_state self.old)
+            (step_command direction))) }
         ensures unchanged { OnErr result (self.new ≡ self.old) }
-        ensures steps { steps.new ≤ steps.old + most_steps (E.most (accepted self.old.dict)) (rules self.old.dict) (session_state self.old) (step_command direction) }
+        ensures steps { steps.new ≤ steps.old + most_steps (E.most (accepted self.old.dict)) (rules self.old.dict)
+            (session_state self.old) (step_command direction) }
     {
         match step_along(&mut self.history, &mut self.answers, direction) {
             Err(refusal) => Err(refusal),
@@ -251,7 +259,9 @@ impl<E: FactEngine> Session<E> {
 
     // The stamp of a slot.
     fn ask_stamp(&self, path: &SlotPath) -> Result<Reply, Refusal>
-        ensures { result ≡ decided (first_of (stamp_refusals (rules self.now.dict) self.now.timeline.now self.now.counts path.now)) (replies.Stamp (stamp_of self.now.counts (slot_named (tree_of (rules self.now.dict)) path.now))) }
+        ensures { result ≡ decided (first_of (stamp_refusals (rules self.now.dict) self.now.timeline.now self.now.counts
+            path.now)) (replies.Stamp (stamp_of self.now.counts (slot_named (tree_of (rules self.now.dict))
+            path.now))) }
     {
         match self.slot_of(path) {
             Err(refusal) => Err(refusal),
@@ -264,7 +274,8 @@ impl<E: FactEngine> Session<E> {
 
     // How many slots the last change touched.
     fn ask_touched(&self) -> Result<Reply, Refusal>
-        ensures { result ≡ decided (when (is_none self.now.counts) NoStamps) (replies.Touched (touched_of self.now.counts)) }
+        ensures { result ≡ decided (when (is_none self.now.counts) NoStamps)
+            (replies.Touched (touched_of self.now.counts)) }
     {
         match self.engine.touched() {
             None => Err(Refusal::NoStamps),
@@ -275,7 +286,8 @@ impl<E: FactEngine> Session<E> {
     // The answer to a command that makes no change.
     fn ask(&self, command: &Command) -> Result<Reply, Refusal>
         requires { timeline_by (tree_of (rules self.now.dict)) self.now.timeline command.now ≡ None }
-        ensures { result ≡ decided (refusal (rules self.now.dict) (session_state self.now) command.now) (reply (rules self.now.dict) (session_state self.now) command.now) }
+        ensures { result ≡ decided (refusal (rules self.now.dict) (session_state self.now) command.now)
+            (reply (rules self.now.dict) (session_state self.now) command.now) }
     {
         match command {
             Command::Get(path) => ask_answer(&self.dict, &self.answers, path),
@@ -308,11 +320,14 @@ impl<E: FactEngine> Session<E> {
     ) -> Result<Reply, Refusal>
         requires same_checks { SameChecks (rules self.old.dict) (named_checks checks.now) }
         requires few { self.old.changes < 2 ^ 63 }
-        ensures ok { IfOk result (λ r. step (rules self.old.dict) (session_state self.old) command.now ≡ Ok (r, session_state self.new)) }
+        ensures ok { IfOk result (λ r. step (rules self.old.dict) (session_state self.old) command.now
+            ≡ Ok (r, session_state self.new)) }
         ensures dict { self.new.dict ≡ self.old.dict }
-        ensures refused { IfErr result (λ r. Refused r (refusal (rules self.old.dict) (session_state self.old) command.now)) }
+        ensures refused { IfErr result (λ r. Refused r (refusal (rules self.old.dict) (session_state self.old)
+            command.now)) }
         ensures unchanged { OnErr result (self.new ≡ self.old) }
-        ensures steps { steps.new ≤ steps.old + most_steps (E.most (accepted self.old.dict)) (rules self.old.dict) (session_state self.old) command.now }
+        ensures steps { steps.new ≤ steps.old + most_steps (E.most (accepted self.old.dict)) (rules self.old.dict)
+            (session_state self.old) command.now }
     {
         match command {
             Command::Set(..)

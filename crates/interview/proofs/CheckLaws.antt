@@ -34,13 +34,13 @@ refused_for bytes names fault none h = h
 -- ---- how it ends
 
 module _ (contents : Contents) (checks : List Named) (name : List ℕ) (did : CheckDid) where
-  ends_whole : (text : List ℕ) (whole : Status) → JudgedAs contents checks text whole → SentWhole did.taken text → CheckEnds contents checks name did whole
+  ends_whole : (text : List ℕ) (whole : Status) → JudgedAs contents checks text whole → SentWhole did.output text → CheckEnds contents checks name did whole
   ends_whole text whole (bytes, held, inl (dict, is, to)) wrote =
       subst (λ w. JudgedAs contents checks text w → CheckEnds contents checks name did w) (sym (ap (λ (d : Defined). d.status) to)) (λ judged. (text, judged, wrote)) (bytes, held, inl (dict, is, to))
   ends_whole text whole (bytes, held, inr (fault, is, to)) wrote =
       subst (λ w. JudgedAs contents checks text w → CheckEnds contents checks name did w) (sym (ap (λ (d : Defined). d.status) to)) (λ judged. (text, judged, wrote)) (bytes, held, inr (fault, is, to))
 
-  ends_judged : (text : List ℕ) (whole status : Status) → JudgedAs contents checks text whole → EndedBy did.taken.before did.taken.after did.sink.before did.sink.after text whole status → CheckEnds contents checks name did status
+  ends_judged : (text : List ℕ) (whole status : Status) → JudgedAs contents checks text whole → EndedBy did.output.before did.output.after text whole status → CheckEnds contents checks name did status
   ends_judged text whole status judged (inl (is, wrote)) = subst (CheckEnds contents checks name did) (sym is) (ends_whole text whole judged wrote)
   ends_judged text whole status judged (inr (is, rose, part)) = subst (CheckEnds contents checks name did) (sym is) (rose, (text, (whole, (judged, part))))
 
@@ -50,12 +50,12 @@ module _ (contents : Contents) (checks : List Named) (name : List ℕ) (did : Ch
   judged (fetches.Refused fault) (bytes, held, is) = (bytes, held, inr (fault, is, refl))
 
   pub ends_fetched : (fetched : Fetched) (status : Status) → FetchedAs contents checks fetched
-      → EndedBy did.taken.before did.taken.after did.sink.before did.sink.after (defined_fetched fetched).text (defined_fetched fetched).status status → CheckEnds contents checks name did status
+      → EndedBy did.output.before did.output.after (defined_fetched fetched).text (defined_fetched fetched).status status → CheckEnds contents checks name did status
   ends_fetched fetched status found ended = ends_judged (defined_fetched fetched).text (defined_fetched fetched).status status (judged fetched found) ended
 
 module _ (given : Given) (did : Did) (name : List ℕ) (asked : IsCheck given.words name) (unread : Unread did) where
-  abbrev check_did : CheckDid
-  check_did = record { shelf = did.shelf; failed_name = did.failed_name; taken = did.script.taken; sink = did.script.sink }
+  abbrev did_of_check : CheckDid
+  did_of_check = record { files = did.files; output = did.script.output }
 
   abbrev of_judged : (text : List ℕ) (status : Status) → JudgedAs (given.contents name) given.checks text status → Check given
   of_judged text status judged = record {
@@ -67,7 +67,7 @@ module _ (given : Given) (did : Did) (name : List ℕ) (asked : IsCheck given.wo
     judged = judged.2;
   }
 
-  pub ends_check : (status : Status) → CheckEnds (given.contents name) given.checks name check_did status → Ends given did status
+  pub ends_check : (status : Status) → CheckEnds (given.contents name) given.checks name did_of_check status → Ends given did status
   ends_check Done ends = inr (of_judged ends.0 Done ends.1, refl, ends.2, unread)
   ends_check DictionaryRefused ends = inr (of_judged ends.0 DictionaryRefused ends.1, refl, ends.2, unread)
   ends_check FetchFault ends = (ends.0, inl (inr (subst (IsCheck given.words) (sym ends.1) asked)), ends.2, unread)

@@ -3,7 +3,7 @@ use Rattle.std.proofs.Common.{◌≡◌, ℕ, true, List, [], ◌∷◌, ◌++�
 use Rattle.std.specs.Prelude.{◌⊎◌}
 use Rattle.std.specs.Io.KnownBytes.{Appends}
 use Rattle.std.proofs.lemmas.List.{append-nil}
-use Rattle.fg_io.specs.Outside.{MayBe, MayHold, Contents, missing, holds}
+use Rattle.fg_io.specs.Outside.{Contents, MayBe, MayHold, Output, holds, missing}
 use Rattle.dictionary.specs.declared.fault.DictFault.{DictFault}
 use Rattle.fg_io.proofs.ConsumedLaws.{consumes_none, may_go_on}
 use Rattle.script_lines.specs.Lines.{ScriptLine, ended_lines}
@@ -21,7 +21,7 @@ use Rattle.interview.specs.Dictionaries.{Content, Gives, HasFault, IsAcceptedAs,
 use Rattle.interview.specs.Interview.{ChecksTo, Defined, GoesOnTo, RunsTo, TablesHoldIn, answered_lines, defined_fault, defined_run, defined_saved_refused, defined_script}
 use Rattle.interview.specs.Finals.{AreFinalsKept}
 use Rattle.interview.specs.Meanings.{meaning_of}
-use Rattle.interview.specs.Devices.{Rises, SentPart, SentWhole, Stream}
+use Rattle.interview.specs.Devices.{Around, SentPart, SentWhole, SinkFailed, SourceFailed}
 use Rattle.interview.specs.GenEnds.{GenInterviewed}
 use Rattle.interview.specs.SaveEnds.{SaveInterviewed}
 use Rattle.interview.specs.ScriptEnds.{ReadThrough, ScriptEndsAs, did_behind}
@@ -150,17 +150,17 @@ module _ (given : Given) where
           let refused = subst (λ r. IsRefusedStart r run.basis run.line) (rules_are run.over) run.is_refused in
           one_refusal dict.rules known run.line n (subst (λ b. IsRefusedStart dict.rules b run.line) (text_is run.over run.basis run.brought) refused) is
 
-  module _ (did : Did) (same_left : did.script.left.before ≡ given.left) where
+  module _ (did : Did) (same_left : did.script.input.before.left ≡ given.left) where
     -- ---- runs by what they come to
 
     -- the run has this status, and its text was written whole
     abbrev RunEndsAs : Status → Type 0
-    RunEndsAs status = (run : Run) × (run.outcome.status ≡ status) × SentWhole did.script.taken run.outcome.text
+    RunEndsAs status = (run : Run) × (run.outcome.status ≡ status) × SentWhole did.script.output run.outcome.text
 
     abbrev EndsAs : Status → Type 0
     EndsAs status = RunEndsAs status ⊎ CheckEndsAs given did status
 
-    abbrev begun_run : (run : BegunRun given) (script : List ℕ) → MayBe did.script.left.before script → Run
+    abbrev begun_run : (run : BegunRun given) (script : List ℕ) → MayBe did.script.input.before.left script → Run
     begun_run run script read = record {
       origin = run.over.origin;
       content = run.over.content;
@@ -202,11 +202,11 @@ module _ (given : Given) where
     abbrev refused_run : RefusedRun given → Run
     refused_run run = record { origin = run.origin; content = run.content; outcome = defined_fault run.fault; asked = run.asked; gave = run.gave; came = inr (run.fault, run.is_fault, refl) }
 
-    run_ended : (run : BegunRun given) (taken : Option (List ℕ)) → Appends did.script.taken.before taken run.start.front → (status : Status) → ScriptEndsAs (meaning_in given run) (did_behind did.script taken) status → RunEndsAs status
+    run_ended : (run : BegunRun given) (taken : Option (List ℕ)) → Appends did.script.output.before.taken taken run.start.front → (status : Status) → ScriptEndsAs (meaning_in given run) (did_behind did.script taken) status → RunEndsAs status
     run_ended run taken front status ends = (
       begun_run run ends.0 ends.1,
       ends.2,
-      whole_behind did.script.taken taken run.start.front (defined_script (meaning_in given run) ends.0).text front ends.3,
+      whole_behind did.script.output taken run.start.front (defined_script (meaning_in given run) ends.0).text front ends.3,
     )
 
     done_ended : Ends given did Done → EndsAs Done
@@ -236,7 +236,7 @@ module _ (given : Given) where
     no_form : (status : Status) → Ends given did status → HasNoForm given.words → IsOneOf status (Usage ∷ WriteFault ∷ NoMemory ∷ [])
     no_form Done ends none = absurd (none_ended Done (done_ended ends) none)
     no_form Usage ends none = inl refl
-    no_form FetchFault ends none = absurd (none_is_fetched did.failed_name none ends.1)
+    no_form FetchFault ends none = absurd (none_is_fetched did.files.after.failed_name none ends.1)
     no_form ReadFault ends none = absurd (none.0 ends.0.over.origin ends.0.over.asked)
     no_form WriteFault ends none = inr (inl refl)
     no_form ScriptTooLong ends none = absurd (none_ended ScriptTooLong (too_long_ended ends) none)
@@ -310,7 +310,7 @@ module _ (given : Given) where
       saved_refused WriteFault ends = inr (inr (inl refl))
       saved_refused ScriptTooLong ends = absurd (not_begun dict known n brings is ends.0)
       saved_refused NoMemory ends = inr (inr (inr (inl refl)))
-      saved_refused SavedRefused ends = inl (refl, subst (λ m. SentWhole did.script.taken (defined_saved_refused m).text) (at_line dict known n brings is ends.0) ends.1)
+      saved_refused SavedRefused ends = inl (refl, subst (λ m. SentWhole did.script.output (defined_saved_refused m).text) (at_line dict known n brings is ends.0) ends.1)
 
       unread_part : LinePart given did → Unread did
       unread_part (inl part) = part.2
@@ -356,7 +356,7 @@ module _ (given : Given) where
           let run = ends.0 in
           let same = content_is o content asked gives run.origin run.content run.asked run.gave in
           let one = one_first_fault given.checks content run.fault fault (subst (λ c. HasFault given.checks c run.fault) same run.is_fault) is in
-          (refl, subst (λ f. SentWhole did.script.taken (defined_fault f).text) one ends.1)
+          (refl, subst (λ f. SentWhole did.script.output (defined_fault f).text) one ends.1)
 
       refused : (status : Status) → Ends given did status → EndedAs did status (defined_fault fault) ⊎ IsOneOf status (FetchFault ∷ WriteFault ∷ NoMemory ∷ [])
       refused Done (inl ends) = absurd (not_accepted ends.0.over)
@@ -404,7 +404,7 @@ module _ (given : Given) where
     exact DictionaryRefused ends k = inl (ended DictionaryRefused (ran DictionaryRefused (refused_ended ends) k.origin k.asked) k)
     exact SavedRefused ends k = inl (ended SavedRefused (ran SavedRefused (saved_ended ends) k.origin k.asked) k)
 
-    complete : (status : Status) → Ends given did status → (k : KnownRun given) → (FetchFailed given did → ⊥) → (Rises did.script.source → ⊥) → (Rises did.script.sink → ⊥)
+    complete : (status : Status) → Ends given did status → (k : KnownRun given) → (FetchFailed given did → ⊥) → (SourceFailed did.script.input → ⊥) → (SinkFailed did.script.output → ⊥)
         → EndedByRun given k did status ⊎ (status ≡ NoMemory)
     complete Done ends k fetch read write = inl (ended Done (ran Done (done_ended ends) k.origin k.asked) k)
     complete FetchFault ends k fetch read write = absurd (fetch (ends.0, ends.1))
@@ -420,61 +420,61 @@ module _ (given : Given) where
     -- ---- what was written of a run that is known
 
     -- all of a text is a part of it
-    whole_part : (text whole : List ℕ) → text ≡ whole → SentWhole did.script.taken text → SentPart did.script.taken whole
-    whole_part text whole same wrote = part_of did.script.taken text [] whole (sym same ∙ sym (append-nil text)) wrote
+    whole_part : (text whole : List ℕ) → text ≡ whole → SentWhole did.script.output text → SentPart did.script.output whole
+    whole_part text whole same wrote = part_of did.script.output text [] whole (sym same ∙ sym (append-nil text)) wrote
 
     -- and a part of its front
-    front_part : (front more : List ℕ) → SentPart did.script.taken front → SentPart did.script.taken (front ++ more)
+    front_part : (front more : List ℕ) → SentPart did.script.output front → SentPart did.script.output (front ++ more)
     front_part front more (rest, sent) = (rest ++ more, record { front = sent.front; took = sent.took; split = ap (λ l. l ++ more) sent.split ∙ append_assoc sent.front rest more })
 
-    run_part : (k : KnownRun given) (d : Defined) → ComesTo given k d → (run : Run) → SentPart did.script.taken run.outcome.text → SentPart did.script.taken d.text
-    run_part k d runs run part = subst (λ (e : Defined). SentPart did.script.taken e.text) (one_run k.content given.checks k.basis k.asked.mode given.relations k.script run.outcome d (known_run k run) runs) part
+    run_part : (k : KnownRun given) (d : Defined) → ComesTo given k d → (run : Run) → SentPart did.script.output run.outcome.text → SentPart did.script.output d.text
+    run_part k d runs run part = subst (λ (e : Defined). SentPart did.script.output e.text) (one_run k.content given.checks k.basis k.asked.mode given.relations k.script run.outcome d (known_run k run) runs) part
 
-    ended_part : (status : Status) → EndsAs status → (k : KnownRun given) (d : Defined) → ComesTo given k d → SentPart did.script.taken d.text
+    ended_part : (status : Status) → EndsAs status → (k : KnownRun given) (d : Defined) → ComesTo given k d → SentPart did.script.output d.text
     ended_part status ends k d runs = let run = ran status ends k.origin k.asked in run_part k d runs run.0 (whole_part run.0.outcome.text run.0.outcome.text refl run.2)
 
     -- the front of a script that begins so, and a part of the replies
-    replies_part : (k : KnownRun given) (d : Defined) → ComesTo given k d → (run : BegunRun given) (taken : Option (List ℕ)) → Appends did.script.taken.before taken run.start.front
-        → (script : List ℕ) → MayBe did.script.left.before script → SentPart (taken_from did.script.taken taken) (defined_script (meaning_in given run) script).text → SentPart did.script.taken d.text
+    replies_part : (k : KnownRun given) (d : Defined) → ComesTo given k d → (run : BegunRun given) (taken : Option (List ℕ)) → Appends did.script.output.before.taken taken run.start.front
+        → (script : List ℕ) → MayBe did.script.input.before.left script → SentPart (taken_from did.script.output taken) (defined_script (meaning_in given run) script).text → SentPart did.script.output d.text
     replies_part k d runs run taken front script read part =
-        run_part k d runs (begun_run run script read) (part_behind did.script.taken taken run.start.front (defined_script (meaning_in given run) script).text front part)
+        run_part k d runs (begun_run run script read) (part_behind did.script.output taken run.start.front (defined_script (meaning_in given run) script).text front part)
 
-    line_part : LinePart given did → (k : KnownRun given) (d : Defined) → ComesTo given k d → SentPart did.script.taken d.text
+    line_part : LinePart given did → (k : KnownRun given) (d : Defined) → ComesTo given k d → SentPart did.script.output d.text
     line_part (inl part) k d runs = absurd (part.0.0 k.origin k.asked)
     line_part (inr (inl part)) k d runs = run_part k d runs (refused_run part.0) part.1
     line_part (inr (inr (inl part))) k d runs = absurd (not_both given.words k.origin part.0.name k.asked part.0.asked)
     line_part (inr (inr (inr (inl part)))) k d runs = run_part k d runs (saved_refused_run part.0) part.1
     line_part (inr (inr (inr (inr part)))) k d runs =
-        let some = may_go_on did.script.left.before did.script.left.before [] (consumes_none did.script.left.before) in
+        let some = may_go_on did.script.input.before.left did.script.input.before.left [] (consumes_none did.script.input.before.left) in
         let run = part.0 in
         run_part k d runs (begun_run run some.0 some.1) (front_part run.start.front (defined_script (meaning_in given run) some.0).text part.1)
 
     -- the replies to the first lines
-    part_by_first : (run : BegunRun given) (script : List ℕ) (lines others : List ScriptLine) → answered_lines script ≡ lines ++ others → (taken : Stream) → SentWhole taken ((meaning_in given run).texts lines)
-        → SentPart taken (defined_script (meaning_in given run) script).text
-    part_by_first run script lines others answers taken wrote =
+    part_by_first : (run : BegunRun given) (script : List ℕ) (lines others : List ScriptLine) → answered_lines script ≡ lines ++ others → (output : Around Output) → SentWhole output ((meaning_in given run).texts lines)
+        → SentPart output (defined_script (meaning_in given run) script).text
+    part_by_first run script lines others answers output wrote =
         let begins = meaning_begins run.over.rules run.over.asked.mode given.relations run.start.answers in
         let rest = begins.goes_on lines in
-        part_by_lines (meaning_in given run) script lines others rest.0 rest.1 answers taken wrote
+        part_by_lines (meaning_in given run) script lines others rest.0 rest.1 answers output wrote
 
-    prefix : (status : Status) → Ends given did status → (k : KnownRun given) (d : Defined) → ComesTo given k d → SentPart did.script.taken d.text
+    prefix : (status : Status) → Ends given did status → (k : KnownRun given) (d : Defined) → ComesTo given k d → SentPart did.script.output d.text
     prefix Done ends k d runs = ended_part Done (done_ended ends) k d runs
     prefix Usage ends k d runs = absurd (ends.0.0 k.origin k.asked)
-    prefix FetchFault ends k d runs = nothing_part did.script.taken d.text ends.2
+    prefix FetchFault ends k d runs = nothing_part did.script.output d.text ends.2
     prefix ReadFault (run, (taken, (front, ends))) k d runs =
         let read = ends.1 in
-        let more = may_go_on did.script.left.before did.script.left.after read.bytes read.read in
+        let more = may_go_on did.script.input.before.left did.script.input.after.left read.bytes read.read in
         let answers = ended_are_answered read.bytes more.0 read.within in
         replies_part k d runs run taken front (read.bytes ++ more.0) more.1
-        (part_by_first run (read.bytes ++ more.0) (ended_lines read.bytes) answers.0 answers.1 (taken_from did.script.taken taken) read.replied)
+        (part_by_first run (read.bytes ++ more.0) (ended_lines read.bytes) answers.0 answers.1 (taken_from did.script.output taken) read.replied)
     prefix WriteFault (inl (run, (taken, (front, ends)))) k d runs = replies_part k d runs run taken front ends.1.0 ends.1.1 ends.1.2
     prefix WriteFault (inr (rose, part)) k d runs = line_part part k d runs
     prefix ScriptTooLong ends k d runs = ended_part ScriptTooLong (too_long_ended ends) k d runs
-    prefix NoMemory (inl ends) k d runs = nothing_part did.script.taken d.text ends.0
+    prefix NoMemory (inl ends) k d runs = nothing_part did.script.output d.text ends.0
     prefix NoMemory (inr (run, (taken, (front, first)))) k d runs =
         let lines = answered_lines first.script in
         replies_part k d runs run taken front first.script first.read
-        (part_by_first run first.script (take first.count lines) (drop first.count lines) (sym (take-append-drop first.count lines)) (taken_from did.script.taken taken) first.replied)
+        (part_by_first run first.script (take first.count lines) (drop first.count lines) (sym (take-append-drop first.count lines)) (taken_from did.script.output taken) first.replied)
     prefix DictionaryRefused ends k d runs = ended_part DictionaryRefused (refused_ended ends) k d runs
     prefix SavedRefused ends k d runs = ended_part SavedRefused (saved_ended ends) k d runs
 
@@ -517,7 +517,7 @@ module _ (given : Given) where
       built_in ScriptTooLong ends = inr (inr (inr (inl refl)))
       built_in NoMemory ends = inr (inr (inr (inr (inl refl))))
       built_in Usage ends = absurd (ends.0.0 (program b) asked)
-      built_in FetchFault ends = absurd (nothing_fetched did.failed_name ends.1)
+      built_in FetchFault ends = absurd (nothing_fetched did.files.after.failed_name ends.1)
       built_in DictionaryRefused (inl ends) = absurd (brought_fault b asked ends.0)
       built_in DictionaryRefused (inr ends) = absurd (not_both given.words (program b) ends.0.name asked ends.0.asked)
       built_in SavedRefused ends = absurd (none_refused given.contents ends.0.over.asked.beginning ends.0.basis ends.0.over.rules ends.0.line (no_beginning ends.0.over) ends.0.brought ends.0.is_refused)
@@ -582,7 +582,7 @@ module _ (given : Given) where
     check_exact SavedRefused ends k = inl (check_ended SavedRefused (saved_ended ends) k)
     check_exact DictionaryRefused ends k = inl (check_ended DictionaryRefused (refused_ended ends) k)
 
-    check_complete : (status : Status) → Ends given did status → (k : KnownCheck given) → (FetchFailed given did → ⊥) → (Rises did.script.sink → ⊥) → EndedByCheck given did status k.bytes ⊎ (status ≡ NoMemory)
+    check_complete : (status : Status) → Ends given did status → (k : KnownCheck given) → (FetchFailed given did → ⊥) → (SinkFailed did.script.output → ⊥) → EndedByCheck given did status k.bytes ⊎ (status ≡ NoMemory)
     check_complete Done ends k fetch write = inl (check_ended Done (done_ended ends) k)
     check_complete Usage ends k fetch write = absurd (ends.0.1 k.name k.asked)
     check_complete FetchFault ends k fetch write = absurd (fetch (ends.0, ends.1))
@@ -594,16 +594,16 @@ module _ (given : Given) where
     check_complete SavedRefused ends k fetch write = inl (check_ended SavedRefused (saved_ended ends) k)
     check_complete DictionaryRefused ends k fetch write = inl (check_ended DictionaryRefused (refused_ended ends) k)
 
-    check_part : (k : KnownCheck given) (d : Defined) → ChecksTo k.bytes given.checks d → (e : Defined) → ChecksTo k.bytes given.checks e → SentPart did.script.taken e.text → SentPart did.script.taken d.text
-    check_part k d comes e other part = subst (λ (f : Defined). SentPart did.script.taken f.text) (one_end k.bytes given.checks e d other comes) part
+    check_part : (k : KnownCheck given) (d : Defined) → ChecksTo k.bytes given.checks d → (e : Defined) → ChecksTo k.bytes given.checks e → SentPart did.script.output e.text → SentPart did.script.output d.text
+    check_part k d comes e other part = subst (λ (f : Defined). SentPart did.script.output f.text) (one_end k.bytes given.checks e d other comes) part
 
-    check_ended_part : (status : Status) → EndsAs status → (k : KnownCheck given) (d : Defined) → ChecksTo k.bytes given.checks d → SentPart did.script.taken d.text
+    check_ended_part : (status : Status) → EndsAs status → (k : KnownCheck given) (d : Defined) → ChecksTo k.bytes given.checks d → SentPart did.script.output d.text
     check_ended_part status ends k d comes = let by = check_ended status ends k in check_part k d comes by.0 by.1 (whole_part by.0.text by.0.text refl by.2.1)
 
-    check_prefix : (status : Status) → Ends given did status → (k : KnownCheck given) (d : Defined) → ChecksTo k.bytes given.checks d → SentPart did.script.taken d.text
+    check_prefix : (status : Status) → Ends given did status → (k : KnownCheck given) (d : Defined) → ChecksTo k.bytes given.checks d → SentPart did.script.output d.text
     check_prefix Done ends k d comes = check_ended_part Done (done_ended ends) k d comes
     check_prefix Usage ends k d comes = absurd (ends.0.1 k.name k.asked)
-    check_prefix FetchFault ends k d comes = nothing_part did.script.taken d.text ends.2
+    check_prefix FetchFault ends k d comes = nothing_part did.script.output d.text ends.2
     check_prefix ReadFault ends k d comes = absurd (not_both given.words ends.0.over.origin k.name ends.0.over.asked k.asked)
     check_prefix WriteFault (inl ends) k d comes = absurd (not_both given.words ends.0.over.origin k.name ends.0.over.asked k.asked)
     check_prefix WriteFault (inr (rose, inl part)) k d comes = absurd (part.0.1 k.name k.asked)
@@ -612,7 +612,7 @@ module _ (given : Given) where
     check_prefix WriteFault (inr (rose, inr (inr (inr (inl part))))) k d comes = absurd (not_both given.words part.0.over.origin k.name part.0.over.asked k.asked)
     check_prefix WriteFault (inr (rose, inr (inr (inr (inr part))))) k d comes = absurd (not_both given.words part.0.over.origin k.name part.0.over.asked k.asked)
     check_prefix ScriptTooLong ends k d comes = check_ended_part ScriptTooLong (too_long_ended ends) k d comes
-    check_prefix NoMemory (inl ends) k d comes = nothing_part did.script.taken d.text ends.0
+    check_prefix NoMemory (inl ends) k d comes = nothing_part did.script.output d.text ends.0
     check_prefix NoMemory (inr ends) k d comes = absurd (not_both given.words ends.0.over.origin k.name ends.0.over.asked k.asked)
     check_prefix SavedRefused ends k d comes = check_ended_part SavedRefused (saved_ended ends) k d comes
     check_prefix DictionaryRefused ends k d comes = check_ended_part DictionaryRefused (refused_ended ends) k d comes

@@ -5,7 +5,7 @@ use Rattle.std.proofs.lemmas.List.{append-nil}
 use Rattle.interview.specs.declared.status.Status.{Status}
 use Rattle.interview.specs.declared.status.Status.TheVariants.{Done, DictionaryRefused, Usage, FetchFault, ReadFault, WriteFault, ScriptTooLong, NoMemory, SavedRefused}
 use Rattle.interview.specs.Words.{IsCheck, IsGen, IsRun, Origin}
-use Rattle.interview.specs.Devices.{Rises, SentPart}
+use Rattle.interview.specs.Devices.{SentPart, SinkFailed}
 use Rattle.interview.specs.Given.{Did, Given, IsOneOf, Unread}
 use Rattle.interview.specs.Ends.{Ends, EndsByWord, Interviewed, IsFetched, LinePart}
 use Rattle.interview.specs.GenEnds.{EndedByGen, GenEnds, GenInterviewed}
@@ -21,7 +21,7 @@ use Rattle.interview.proofs.WordLaws.{gen_fetches_nothing, gen_is_no_check, gen_
 
 module _ (given : Given) (n : ℕ) (did : Did) where
   abbrev Generates : Status → Type 0
-  Generates status = GeneratedAs given.relations n did.script.taken did.script.sink status
+  Generates status = GeneratedAs given.relations n did.script.output status
 
   done_is : (d : Defined) → GensTo given.relations n d → Done ≡ d.status
   done_is d (r, is, to) = sym (ap (λ (e : Defined). e.status) to)
@@ -32,20 +32,20 @@ module _ (given : Given) (n : ℕ) (did : Did) where
   exact NoMemory ends = inr (inr (inl refl))
   exact status ends = absurd ends
 
-  complete : (status : Status) → Generates status → (Rises did.script.sink → ⊥) → EndedByGen given n did status ⊎ (status ≡ NoMemory)
+  complete : (status : Status) → Generates status → (SinkFailed did.script.output → ⊥) → EndedByGen given n did status ⊎ (status ≡ NoMemory)
   complete Done (d, comes, wrote) write = inl (d, comes, (done_is d comes, wrote))
   complete WriteFault ends write = absurd (write ends.0)
   complete NoMemory ends write = inr refl
   complete status ends write = absurd ends
 
   -- a part of one text is a part of the text that is defined
-  same_part : (d e : Defined) → GensTo given.relations n d → GensTo given.relations n e → SentPart did.script.taken e.text → SentPart did.script.taken d.text
-  same_part d e comes other part = subst (λ (f : Defined). SentPart did.script.taken f.text) (one_gen given.relations n e d other comes) part
+  same_part : (d e : Defined) → GensTo given.relations n d → GensTo given.relations n e → SentPart did.script.output e.text → SentPart did.script.output d.text
+  same_part d e comes other part = subst (λ (f : Defined). SentPart did.script.output f.text) (one_gen given.relations n e d other comes) part
 
-  prefix : (status : Status) → Generates status → (d : Defined) → GensTo given.relations n d → SentPart did.script.taken d.text
-  prefix Done (e, other, wrote) d comes = same_part d e comes other (part_of did.script.taken e.text [] e.text (sym (append-nil e.text)) wrote)
+  prefix : (status : Status) → Generates status → (d : Defined) → GensTo given.relations n d → SentPart did.script.output d.text
+  prefix Done (e, other, wrote) d comes = same_part d e comes other (part_of did.script.output e.text [] e.text (sym (append-nil e.text)) wrote)
   prefix WriteFault (rose, (e, other, part)) d comes = same_part d e comes other part
-  prefix NoMemory kept d comes = nothing_part did.script.taken d.text kept
+  prefix NoMemory kept d comes = nothing_part did.script.output d.text kept
   prefix status ends d comes = absurd ends
 
 -- ---- by the tables of ends
@@ -80,7 +80,7 @@ module _ (given : Given) (did : Did) where
     ended DictionaryRefused (inl ends) = absurd (no_run ends.0.origin ends.0.asked)
     ended DictionaryRefused (inr ends) = absurd (no_check ends.0.name ends.0.asked)
     ended Usage ends = absurd (ends.0.2 n asked)
-    ended FetchFault ends = absurd (no_fetch did.failed_name ends.1)
+    ended FetchFault ends = absurd (no_fetch did.files.after.failed_name ends.1)
     ended ReadFault ends = absurd (no_run ends.0.over.origin ends.0.over.asked)
     ended WriteFault (inl ends) = absurd (no_run ends.0.over.origin ends.0.over.asked)
     ended WriteFault (inr (rose, part)) = absurd (no_part part)
@@ -92,7 +92,7 @@ module _ (given : Given) (did : Did) where
     generated : (status : Status) → EndsByWord given did status → Generated status
     generated status (inl ends) = ended status ends
     generated status (inr (inr ends)) = absurd (gen_is_no_save given.words n (to_save given did status ends).0 asked (to_save given did status ends).1)
-    generated status (inr (inl (m, other, ends, unread))) = (subst (λ k. GeneratedAs given.relations k did.script.taken did.script.sink status) (same_gen given.words m n other asked) ends, unread)
+    generated status (inr (inl (m, other, ends, unread))) = (subst (λ k. GeneratedAs given.relations k did.script.output status) (same_gen given.words m n other asked) ends, unread)
 
   known : (status : Status) → EndsByWord given did status → GenInterviewed given did status
   known status ends = record {
@@ -102,7 +102,7 @@ module _ (given : Given) (did : Did) where
     prefix = λ n asked. prefix given n did status (generated n asked status ends).0;
   }
 
-  module _ (same_left : did.script.left.before ≡ given.left) where
+  module _ (same_left : did.script.input.before.left ≡ given.left) where
     -- what is known of other words holds for `gen`, since it has none of theirs
     of_gen : (status : Status) → GenEnds given did status → Interviewed given did status
     of_gen status ends =

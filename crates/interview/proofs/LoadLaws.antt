@@ -6,7 +6,7 @@ use Rattle.fact_values.specs.declared.memory.NoMemory.{NoMemory}
 use Rattle.std.specs.Io.KnownBytes.{Appends}
 use Rattle.std.proofs.lemmas.Fmt.{decimal_injective}
 use Rattle.fact_paths.specs.Paths.{SpellsMemberNumber}
-use Rattle.fg_io.specs.Outside.{MayBe}
+use Rattle.fg_io.specs.Outside.{MayBe, Output}
 use Rattle.fg_io.specs.Sent.{Sent}
 use Rattle.script_lines.specs.Lines.{lines_of}
 use Rattle.answers.specs.Answered.{start}
@@ -18,7 +18,7 @@ use Rattle.interview.specs.declared.status.Status.{Status}
 use Rattle.interview.specs.declared.status.Status.TheVariants.{Done}
 use Rattle.interview.specs.declared.words.Mode.TheVariants.{Incremental}
 use Rattle.interview.specs.Words.{HasNoForm, IsGen}
-use Rattle.interview.specs.Devices.{Counted, SentWhole, Stream}
+use Rattle.interview.specs.Devices.{Around}
 use Rattle.interview.specs.Interview.{defined_script}
 use Rattle.interview.specs.Meanings.{Meaning, meaning_of}
 use Rattle.interview.specs.StepEnds.{EndedBy}
@@ -62,12 +62,12 @@ one_gen relations n d e (r, is, to) (s, is_other, to_other) = to ∙ ap (λ q. d
 -- ---- what it comes to
 
 -- a script that is known was answered whole into a sink that is known
-pub output_replies : (m : Meaning) (left : Option (List ℕ)) (took : Stream) (script taken : List ℕ) → left ≡ Some script → took.before ≡ Some [] → took.after ≡ Some taken
-    → (given : List ℕ) × MayBe left given × ((defined_script m given).status ≡ Done) × SentWhole took (defined_script m given).text → taken ≡ (defined_script m script).text
-output_replies m left took script taken contents before after ends =
+pub output_replies : (m : Meaning) (left before after : Option (List ℕ)) (script taken : List ℕ) → left ≡ Some script → before ≡ Some [] → after ≡ Some taken
+    → (given : List ℕ) × MayBe left given × ((defined_script m given).status ≡ Done) × Appends before after (defined_script m given).text → taken ≡ (defined_script m script).text
+output_replies m left before after script taken contents none took ends =
     let text = (defined_script m ends.0).text in
     let same : script ≡ ends.0 = subst (λ (o : Option (List ℕ)). MayBe o ends.0) contents ends.1 in
-    let wrote : taken ≡ text = subst (λ (o : Option (List ℕ)). Appends (Some []) o text) after (subst (λ (o : Option (List ℕ)). Appends o took.after text) before ends.3) in
+    let wrote : taken ≡ text = subst (λ (o : Option (List ℕ)). Appends (Some []) o text) took (subst (λ (o : Option (List ℕ)). Appends o after text) none ends.3) in
     wrote ∙ ap (λ s. (defined_script m s).text) (sym same)
 
 pub summed : (r : Rules) (relations : List Named) (n facts nodes lines : ℕ) (made_script replies text : List ℕ)
@@ -85,9 +85,9 @@ pub summed_of_load : (r : Rules) (relations : List Named) (n facts nodes lines :
 summed_of_load r relations n facts nodes lines made_script replies is a b c same replied (Ok text) sum = (r, is, summed r relations n facts nodes lines made_script replies text.items a b c same replied sum)
 summed_of_load r relations n facts nodes lines made_script replies is a b c same replied (Err fault) sum = tt
 
-pub generated_by : (relations : List Named) (n : ℕ) (taken : Stream) (sink : Counted) (r : Rules) (text : List ℕ) → IsOfLoad n r → text ≡ (defined_gen r relations n).text
-    → (status : Status) → EndedBy taken.before taken.after sink.before sink.after text Done status → GeneratedAs relations n taken sink status
-generated_by relations n taken sink r text is same status (inl (ended, wrote)) =
-    subst (GeneratedAs relations n taken sink) (sym ended) (defined_gen r relations n, (r, is, refl), subst (Appends taken.before taken.after) same wrote)
-generated_by relations n taken sink r text is same status (inr (ended, rose, part)) =
-    subst (GeneratedAs relations n taken sink) (sym ended) (rose, (defined_gen r relations n, (r, is, refl), subst (λ t. (rest : List ℕ) × Sent taken.before taken.after t rest) same part))
+pub generated_by : (relations : List Named) (n : ℕ) (output : Around Output) (r : Rules) (text : List ℕ) → IsOfLoad n r → text ≡ (defined_gen r relations n).text
+    → (status : Status) → EndedBy output.before output.after text Done status → GeneratedAs relations n output status
+generated_by relations n output r text is same status (inl (ended, wrote)) =
+    subst (GeneratedAs relations n output) (sym ended) (defined_gen r relations n, (r, is, refl), subst (Appends output.before.taken output.after.taken) same wrote)
+generated_by relations n output r text is same status (inr (ended, rose, part)) =
+    subst (GeneratedAs relations n output) (sym ended) (rose, (defined_gen r relations n, (r, is, refl), subst (λ t. (rest : List ℕ) × Sent output.before.taken output.after.taken t rest) same part))

@@ -1,8 +1,8 @@
 -- How a saved text is judged, and what is written of it.
-use Rattle.std.proofs.Common.{◌≡◌, ℕ, ◌≤◌, List, [], length, Option, Result, Ok, Err, IfErr, IfOk, inr, refl, sym, subst, arith}
+use Rattle.std.proofs.Common.{◌≡◌, ℕ, ◌≤◌, List, [], length, Result, Ok, Err, IfErr, IfOk, inr, refl, sym, subst, arith}
 use Rattle.std.specs.Prelude.{Vec}
 use Rattle.std.specs.declared.alloc.Global.{Global}
-use Rattle.fg_io.specs.Outside.{Contents}
+use Rattle.fg_io.specs.Outside.{Contents, Output}
 use Rattle.fg_io.specs.Writing.{WroteAll}
 use Rattle.fg_io.proofs.SentLaws.{sent_none}
 use Rattle.answers.specs.Answered.{start}
@@ -29,8 +29,8 @@ use Rattle.interview.specs.Words.{Beginning, unanswered}
 
 -- ---- what is written before the replies
 
-pub nothing_put : (taken : Option (List ℕ)) (faults : ℕ) (front : List ℕ) → front ≡ [] → WroteAll taken taken faults faults front
-nothing_put taken faults front is = rw is (sent_none taken [], omega arith)
+pub nothing_put : (sink : Output) (front : List ℕ) → front ≡ [] → WroteAll sink sink front
+nothing_put sink front is = rw is (sent_none sink.taken [], omega arith)
 
 -- ---- a text that is loaded
 

@@ -4,14 +4,14 @@ use Rattle.std.specs.Prelude.{◌⊎◌}
 use Rattle.std.proofs.KnownBytes.{Appends-kept}
 use Rattle.std.proofs.lemmas.List.{append-nil}
 use Rattle.fg_io.proofs.SentLaws.{appends_none}
-use Rattle.fg_io.specs.Outside.{MayBe, missing}
+use Rattle.fg_io.specs.Outside.{MayBe, Output, missing}
 use Rattle.dictionary.specs.declared.fault.DictFault.{DictFault}
 use Rattle.graph_session.specs.Rules.{Rules}
 use Rattle.built_in.specs.declared.built_in.BuiltIn.{BuiltIn}
 use Rattle.interview.specs.declared.status.Status.{Status}
 use Rattle.interview.specs.declared.status.Status.TheVariants.{Done, DictionaryRefused, Usage, FetchFault, ReadFault, WriteFault, ScriptTooLong, NoMemory, SavedRefused}
 use Rattle.interview.specs.Words.{IsCheck, IsRun, IsSave, Origin, file, program}
-use Rattle.interview.specs.Devices.{Rises, SentNothing, SentPart, SentWhole, Stream}
+use Rattle.interview.specs.Devices.{Around, SentNothing, SentPart, SentWhole, SinkFailed, SourceFailed}
 use Rattle.interview.specs.Dictionaries.{Content, Gives, HasFault, IsAcceptedAs, MayGive}
 use Rattle.interview.specs.Given.{Did, EndedAs, Given, IsOneOf, Unread}
 use Rattle.interview.specs.Ends.{Ends, EndsByWord, Interviewed, IsFetched, LinePart}
@@ -48,14 +48,14 @@ none_of_unwritten (inr (inr (inr (inl is)))) = cc
 none_of_unwritten (inr (inr (inr (inr is)))) = is
 
 -- what took nothing took the empty text
-nothing_whole : (taken : Stream) → SentNothing taken → SentWhole taken []
-nothing_whole taken kept = Appends-kept taken.before taken.before taken.after [] (appends_none taken.before) kept
+nothing_whole : (output : Around Output) → SentNothing output → SentWhole output []
+nothing_whole output kept = Appends-kept output.before.taken output.before.taken output.after.taken [] (appends_none output.before.taken) kept
 
 -- some words that save, where it ended by their table
 pub to_save : (given : Given) (did : Did) (status : Status) → SaveEnds given did status → AreToSave given.words
 to_save given did Done (over, ends) = (over.origin, over.asked)
 to_save given did DictionaryRefused (save, wrote, unread) = (save.origin, save.asked)
-to_save given did FetchFault ends = (file did.failed_name, ends.1)
+to_save given did FetchFault ends = (file did.files.after.failed_name, ends.1)
 to_save given did ReadFault (over, ends) = (over.origin, over.asked)
 to_save given did WriteFault (inl (over, ends)) = (over.origin, over.asked)
 to_save given did WriteFault (inr (rose, (save, part, unread))) = (save.origin, save.asked)
@@ -99,8 +99,8 @@ module _ (given : Given) where
       let same = content_is o content asked gives save.origin save.content save.asked save.gave in
       one_save content given.checks given.relations [] (defined_fault save.fault) (defined_fault fault) (inr (save.fault, subst (λ c. HasFault given.checks c save.fault) same save.is_fault, refl)) (inr (fault, is, refl))
 
-  module _ (did : Did) (same_left : did.script.left.before ≡ given.left) where
-    may_be_given : (script : List ℕ) → MayBe did.script.left.before script → MayBe given.left script
+  module _ (did : Did) (same_left : did.script.input.before.left ≡ given.left) where
+    may_be_given : (script : List ℕ) → MayBe did.script.input.before.left script → MayBe given.left script
     may_be_given script may = subst (λ l. MayBe l script) same_left may
 
     -- ---- ends that are defined
@@ -111,13 +111,13 @@ module _ (given : Given) where
 
     ended_done : SaveEnds given did Done → (k : KnownSave given) → EndedBySave given k did Done
     ended_done (over, ((script, done, wrote), read)) k =
-        (defined_save over.rules (save_meaning over.rules given.relations) script, accepted_comes k over script (may_be_given script done.0), (sym done.1, subst (SentWhole did.script.taken) (text_done over.rules script done) wrote))
+        (defined_save over.rules (save_meaning over.rules given.relations) script, accepted_comes k over script (may_be_given script done.0), (sym done.1, subst (SentWhole did.script.output) (text_done over.rules script done) wrote))
 
     -- nothing is written of a script that is too long
     ended_too_long : SaveEnds given did ScriptTooLong → (k : KnownSave given) → EndedBySave given k did ScriptTooLong
     ended_too_long (over, (script, may, is, kept)) k =
         let none : [] ≡ (defined_save over.rules (save_meaning over.rules given.relations) script).text = ap (λ s. text_with s (saved_after over.rules (save_meaning over.rules given.relations) script)) (sym is) in
-        (defined_save over.rules (save_meaning over.rules given.relations) script, accepted_comes k over script (may_be_given script may), (sym is, subst (SentWhole did.script.taken) none (nothing_whole did.script.taken kept)))
+        (defined_save over.rules (save_meaning over.rules given.relations) script, accepted_comes k over script (may_be_given script may), (sym is, subst (SentWhole did.script.output) none (nothing_whole did.script.output kept)))
 
     ended_refused : SaveEnds given did DictionaryRefused → (k : KnownSave given) → EndedBySave given k did DictionaryRefused
     ended_refused (save, wrote, unread) k = (defined_fault save.fault, refused_comes k save, (refl, wrote))
@@ -168,7 +168,7 @@ module _ (given : Given) where
     built_in Done ends b asked = inl refl
     built_in DictionaryRefused (save, wrote, unread) b asked =
         absurd (brought_is_faultless given.contents given.checks b save.content save.fault (subst (λ q. MayGive given.contents q save.content) (same_save given.words save.origin (program b) save.asked asked) save.gave) save.is_fault)
-    built_in FetchFault ends b asked = absurd (not_a_file b did.failed_name (same_save given.words (program b) (file did.failed_name) asked ends.1))
+    built_in FetchFault ends b asked = absurd (not_a_file b did.files.after.failed_name (same_save given.words (program b) (file did.files.after.failed_name) asked ends.1))
     built_in ReadFault ends b asked = inr (inl refl)
     built_in WriteFault ends b asked = inr (inr (inl refl))
     built_in ScriptTooLong ends b asked = inr (inr (inr (inl refl)))
@@ -187,7 +187,7 @@ module _ (given : Given) where
     exact Usage ends k = absurd ends
     exact SavedRefused ends k = absurd ends
 
-    complete : (status : Status) → SaveEnds given did status → (k : KnownSave given) → (SaveFetchFailed given did → ⊥) → (Rises did.script.source → ⊥) → (Rises did.script.sink → ⊥) → EndedBySave given k did status ⊎ (status ≡ NoMemory)
+    complete : (status : Status) → SaveEnds given did status → (k : KnownSave given) → (SaveFetchFailed given did → ⊥) → (SourceFailed did.script.input → ⊥) → (SinkFailed did.script.output → ⊥) → EndedBySave given k did status ⊎ (status ≡ NoMemory)
     complete Done ends k fetch read write = inl (ended_done ends k)
     complete DictionaryRefused ends k fetch read write = inl (ended_refused ends k)
     complete FetchFault ends k fetch read write = absurd (fetch (ends.0, ends.1))
@@ -200,30 +200,30 @@ module _ (given : Given) where
     complete SavedRefused ends k fetch read write = absurd ends
 
     -- a part of one text is a part of the text that is defined
-    same_part : (k : KnownSave given) (d e : Defined) → SaveComesTo given k d → SaveComesTo given k e → SentPart did.script.taken e.text → SentPart did.script.taken d.text
-    same_part k d e comes other part = subst (λ (f : Defined). SentPart did.script.taken f.text) (one_save k.content given.checks given.relations k.script e d other comes) part
+    same_part : (k : KnownSave given) (d e : Defined) → SaveComesTo given k d → SaveComesTo given k e → SentPart did.script.output e.text → SentPart did.script.output d.text
+    same_part k d e comes other part = subst (λ (f : Defined). SentPart did.script.output f.text) (one_save k.content given.checks given.relations k.script e d other comes) part
 
-    whole_part : (text : List ℕ) → SentWhole did.script.taken text → SentPart did.script.taken text
-    whole_part text wrote = part_of did.script.taken text [] text (sym (append-nil text)) wrote
+    whole_part : (text : List ℕ) → SentWhole did.script.output text → SentPart did.script.output text
+    whole_part text wrote = part_of did.script.output text [] text (sym (append-nil text)) wrote
 
-    ended_part : (status : Status) (k : KnownSave given) (d : Defined) → SaveComesTo given k d → EndedBySave given k did status → SentPart did.script.taken d.text
+    ended_part : (status : Status) (k : KnownSave given) (d : Defined) → SaveComesTo given k d → EndedBySave given k did status → SentPart did.script.output d.text
     ended_part status k d comes (e, other, (is, wrote)) = same_part k d e comes other (whole_part e.text wrote)
 
-    prefix : (status : Status) → SaveEnds given did status → (k : KnownSave given) (d : Defined) → SaveComesTo given k d → SentPart did.script.taken d.text
+    prefix : (status : Status) → SaveEnds given did status → (k : KnownSave given) (d : Defined) → SaveComesTo given k d → SentPart did.script.output d.text
     prefix Done ends k d comes = ended_part Done k d comes (ended_done ends k)
     prefix DictionaryRefused ends k d comes = ended_part DictionaryRefused k d comes (ended_refused ends k)
-    prefix FetchFault ends k d comes = nothing_part did.script.taken d.text ends.2
-    prefix ReadFault (over, (rose, so_far, kept)) k d comes = nothing_part did.script.taken d.text kept
+    prefix FetchFault ends k d comes = nothing_part did.script.output d.text ends.2
+    prefix ReadFault (over, (rose, so_far, kept)) k d comes = nothing_part did.script.output d.text kept
     prefix WriteFault (inl (over, (rose, (script, done, part)))) k d comes =
-        same_part k d (defined_save over.rules (save_meaning over.rules given.relations) script) comes (accepted_comes k over script (may_be_given script done.0)) (subst (SentPart did.script.taken) (text_done over.rules script done) part)
+        same_part k d (defined_save over.rules (save_meaning over.rules given.relations) script) comes (accepted_comes k over script (may_be_given script done.0)) (subst (SentPart did.script.output) (text_done over.rules script done) part)
     prefix WriteFault (inr (rose, (save, part, unread))) k d comes = same_part k d (defined_fault save.fault) comes (refused_comes k save) part
     prefix ScriptTooLong ends k d comes = ended_part ScriptTooLong k d comes (ended_too_long ends k)
-    prefix NoMemory (inl ends) k d comes = nothing_part did.script.taken d.text ends.1
-    prefix NoMemory (inr (over, kept)) k d comes = nothing_part did.script.taken d.text kept
+    prefix NoMemory (inl ends) k d comes = nothing_part did.script.output d.text ends.1
+    prefix NoMemory (inr (over, kept)) k d comes = nothing_part did.script.output d.text kept
     prefix Usage ends k d comes = absurd ends
     prefix SavedRefused ends k d comes = absurd ends
 
-    unsaved : (status : Status) → SaveEnds given did status → IsOneOf status (FetchFault ∷ ReadFault ∷ ScriptTooLong ∷ NoMemory ∷ []) → SentNothing did.script.taken
+    unsaved : (status : Status) → SaveEnds given did status → IsOneOf status (FetchFault ∷ ReadFault ∷ ScriptTooLong ∷ NoMemory ∷ []) → SentNothing did.script.output
     unsaved FetchFault ends is = ends.2
     unsaved ReadFault (over, (rose, so_far, kept)) is = kept
     unsaved ScriptTooLong (over, (script, may, status, kept)) is = kept
@@ -269,7 +269,7 @@ module _ (given : Given) where
       ended DictionaryRefused (inl ends) = absurd (no_run ends.0.origin ends.0.asked)
       ended DictionaryRefused (inr ends) = absurd (no_check ends.0.name ends.0.asked)
       ended Usage ends = absurd (ends.0.3 o asked)
-      ended FetchFault ends = absurd (no_fetch did.failed_name ends.1)
+      ended FetchFault ends = absurd (no_fetch did.files.after.failed_name ends.1)
       ended ReadFault ends = absurd (no_run ends.0.over.origin ends.0.over.asked)
       ended WriteFault (inl ends) = absurd (no_run ends.0.over.origin ends.0.over.asked)
       ended WriteFault (inr (rose, part)) = absurd (no_part part)

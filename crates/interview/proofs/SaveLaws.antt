@@ -1,5 +1,6 @@
 -- What a save comes to, and how its steps end.
 use Rattle.std.proofs.Common.{◌≡◌, ℕ, List, Option, None, inl, inr, refl, sym, ap, subst, ◌∙◌, arith}
+use Rattle.fg_io.specs.Outside.{Input, Output}
 use Rattle.std.specs.Io.KnownBytes.{Appends, Keeps}
 use Rattle.std.proofs.KnownBytes.{Keeps-refl}
 use Rattle.fg_io.specs.Sent.{Sent}
@@ -35,30 +36,30 @@ nothing before now still = subst (Keeps before) still (Keeps-refl before)
 
 -- ---- a script that was run silently
 
-module _ (r : Rules) (m : Meaning) (left left_now taken taken_now : Option (List ℕ)) (unread unread_now unwritten unwritten_now : ℕ) where
+module _ (r : Rules) (m : Meaning) (source source_now : Input) (sink sink_now : Output) where
   abbrev did : ScriptDid
-  did = script_did left left_now taken taken_now unread unread_now unwritten unwritten_now
+  did = script_did source source_now sink sink_now
 
   -- what the run itself did
   abbrev silently : ScriptDid
-  silently = script_did left left_now None None unread unread_now 0 0
+  silently = script_did source source_now (record { taken = None; faults = 0 }) (record { taken = None; faults = 0 })
 
   read_so : ReadThrough m silently → ReadThrough m did
   read_so (inl end) = inl end
   read_so (inr quit) = inr (record { earlier = quit.earlier; piece = quit.piece; read = quit.read; short = quit.short; unquit = quit.unquit; quit = quit.quit })
 
   -- it was done, and the answers that stand were written, whole or in part
-  pub saves_done : (k : Rules) (answers : Answered) → k ≡ r → ScriptEnds m silently Done → LeavesAnswers m left answers Done → (status : Status)
-      → EndedBy taken taken_now unwritten unwritten_now (saved (tree_of k) answers) Done status → ScriptSaves r m did status
+  pub saves_done : (k : Rules) (answers : Answered) → k ≡ r → ScriptEnds m silently Done → LeavesAnswers m source.left answers Done → (status : Status)
+      → EndedBy sink sink_now (saved (tree_of k) answers) Done status → ScriptSaves r m did status
   saves_done k answers same_rules ends leaves status ended =
       let text : saved (tree_of k) answers ≡ saved_after r m leaves.0 = ap (λ q. saved (tree_of q) answers) same_rules ∙ ap (saved (tree_of r)) (sym leaves.3) in
       elim ended as (λ _. ScriptSaves r m did status) [
-        | inl wrote ↦ subst (ScriptSaves r m did) (sym wrote.0) ((leaves.0, (leaves.1, leaves.2), subst (Appends taken taken_now) text wrote.1), read_so ends.1)
-        | inr part ↦ subst (ScriptSaves r m did) (sym part.0) (part.1, (leaves.0, (leaves.1, leaves.2), subst (λ t. (rest : List ℕ) × Sent taken taken_now t rest) text part.2))
+        | inl wrote ↦ subst (ScriptSaves r m did) (sym wrote.0) ((leaves.0, (leaves.1, leaves.2), subst (Appends sink.taken sink_now.taken) text wrote.1), read_so ends.1)
+        | inr part ↦ subst (ScriptSaves r m did) (sym part.0) (part.1, (leaves.0, (leaves.1, leaves.2), subst (λ t. (rest : List ℕ) × Sent sink.taken sink_now.taken t rest) text part.2))
       ]
 
   -- it wasn't done, and nothing was written
-  pub saves_nothing : (status : Status) → (status ≡ Done → ⊥) → taken ≡ taken_now → ScriptEnds m silently status → ScriptSaves r m did status
+  pub saves_nothing : (status : Status) → (status ≡ Done → ⊥) → sink.taken ≡ sink_now.taken → ScriptEnds m silently status → ScriptSaves r m did status
   saves_nothing Done not still ends = absurd (not refl)
   saves_nothing ReadFault not still (rose, so_far) = (rose, record { bytes = so_far.bytes; read = so_far.read; within = so_far.within; unquit = so_far.unquit }, nothing _ _ still)
   saves_nothing WriteFault not still (rose, part) = absurd (omega (arith, rose))
@@ -71,7 +72,7 @@ module _ (r : Rules) (m : Meaning) (left left_now taken taken_now : Option (List
 module _ (given : Given) (did : Did) (origin : Origin) (asked : IsSave given.words origin) where
   module _ (content : Content) (gave : MayGive given.contents origin content) where
     pub save_ends_refused : (fault : DictFault) → HasFault given.checks content fault → Unread did → (status : Status)
-        → EndedBy did.script.taken.before did.script.taken.after did.script.sink.before did.script.sink.after (defined_fault fault).text DictionaryRefused status → SaveEnds given did status
+        → EndedBy did.script.output.before did.script.output.after (defined_fault fault).text DictionaryRefused status → SaveEnds given did status
     save_ends_refused fault is unread status (inl (same, wrote)) = subst (SaveEnds given did) (sym same) (record { origin = origin; content = content; fault = fault; asked = asked; gave = gave; is_fault = is }, wrote, unread)
     save_ends_refused fault is unread status (inr (same, rose, part)) = subst (SaveEnds given did) (sym same) (inr (rose, (record { origin = origin; content = content; fault = fault; asked = asked; gave = gave; is_fault = is }, part, unread)))
 
@@ -87,11 +88,11 @@ module _ (given : Given) (did : Did) (origin : Origin) (asked : IsSave given.wor
       save_ends_run NoMemory ends = inr (over, ends)
       save_ends_run status ends = absurd ends
 
-  save_ends_unfetched : (name : List ℕ) → IsSave given.words (file name) → (status : Status) → did.script.taken.before ≡ did.script.taken.after → Unread did → NotFetched name did.shelf.before did.shelf.after did.failed_name status → SaveEnds given did status
+  save_ends_unfetched : (name : List ℕ) → IsSave given.words (file name) → (status : Status) → did.script.output.before.taken ≡ did.script.output.after.taken → Unread did → NotFetched name did.files.before did.files.after status → SaveEnds given did status
   save_ends_unfetched name named FetchFault still unread not = (not.0, subst (λ n. IsSave given.words (file n)) (sym not.1) named, nothing _ _ still, unread)
   save_ends_unfetched name named NoMemory still unread not = inl ((origin, asked), nothing _ _ still, unread)
   save_ends_unfetched name named status still unread not = absurd not
 
-pub save_ends_unobtained : (given : Given) (did : Did) (origin : Origin) → IsSave given.words origin → (status : Status) → did.script.taken.before ≡ did.script.taken.after → Unread did → NotObtained origin did.shelf.before did.shelf.after did.failed_name status → SaveEnds given did status
+pub save_ends_unobtained : (given : Given) (did : Did) (origin : Origin) → IsSave given.words origin → (status : Status) → did.script.output.before.taken ≡ did.script.output.after.taken → Unread did → NotObtained origin did.files.before did.files.after status → SaveEnds given did status
 save_ends_unobtained given did (file name) asked status still unread not = save_ends_unfetched given did (file name) asked name asked status still unread not
 save_ends_unobtained given did (program b) asked status still unread not = subst (SaveEnds given did) (sym not) (inl ((program b, asked), nothing _ _ still, unread))

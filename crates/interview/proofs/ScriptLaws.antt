@@ -5,7 +5,7 @@ use Rattle.std.proofs.lemmas.Bool.{le-leb, lt-leb}
 use Rattle.std.proofs.lemmas.List.{append-nil}
 use Rattle.std.proofs.Math.Seq.{take-append-add, take-append_seam}
 use Rattle.std.specs.Io.KnownBytes.{Appends, Consumes}
-use Rattle.fg_io.specs.Outside.{MayBe}
+use Rattle.fg_io.specs.Outside.{MayBe, Output}
 use Rattle.fg_io.specs.Sent.{Sent}
 use Rattle.std.proofs.KnownBytes.{Appends-kept}
 use Rattle.fg_io.proofs.SentLaws.{appends_none, sent_none, sent_on, sent_whole}
@@ -16,7 +16,7 @@ use Rattle.interview.specs.declared.status.Status.TheVariants.{Done, ScriptTooLo
 use Rattle.interview.specs.Meanings.{Behind, IsBeginning, IsQuit, Meaning}
 use Rattle.interview.specs.Telling.{LinesOutput}
 use Rattle.interview.specs.SoFar.{AnsweredSoFar}
-use Rattle.interview.specs.Devices.{Stream, SentNothing, SentWhole, SentPart}
+use Rattle.interview.specs.Devices.{Around, SentNothing, SentPart, SentWhole}
 use Rattle.interview.specs.ScriptEnds.{ScriptDid, RepliedFirst, ScriptEnds}
 use Rattle.interview.specs.Interview.{script_limit, answered_lines, defined_script}
 use Rattle.interview.proofs.MeaningLaws.{behind_none, behind_on}
@@ -123,23 +123,24 @@ more_so_far m there next a b c left left_now left_next count n held held_next ch
 -- ---- ends
 
 -- a text was written whole, and what is defined goes on behind it
-pub part_of : (taken : Stream) (text more defined : List ℕ) → defined ≡ text ++ more → SentWhole taken text → SentPart taken defined
-part_of taken text more defined split wrote = (more, record { front = text; took = wrote; split = split })
+pub part_of : (output : Around Output) (text more defined : List ℕ) → defined ≡ text ++ more → SentWhole output text → SentPart output defined
+part_of output text more defined split wrote = (more, record { front = text; took = wrote; split = split })
 
 -- nothing is a part of every text
-pub nothing_part : (taken : Stream) (text : List ℕ) → SentNothing taken → SentPart taken text
-nothing_part taken text kept = part_of taken [] text text refl (Appends-kept taken.before taken.before taken.after [] (appends_none taken.before) kept)
+pub nothing_part : (output : Around Output) (text : List ℕ) → SentNothing output → SentPart output text
+nothing_part output text kept =
+    part_of output [] text text refl (Appends-kept output.before.taken output.before.taken output.after.taken [] (appends_none output.before.taken) kept)
 
 -- the replies to the first lines that are answered are a part of what is defined
 module _ (m : Meaning) (script : List ℕ) (lines others : List ScriptLine) (rest : Meaning) (left : Behind m lines rest) (answers : answered_lines script ≡ lines ++ others) where
   pub first_lines : (defined_script m script).text ≡ m.texts lines ++ rest.texts others
   first_lines = defined_text m script ∙ ap m.texts answers ∙ left.texts others
 
-  pub part_by_lines : (taken : Stream) → SentWhole taken (m.texts lines) → SentPart taken (defined_script m script).text
-  part_by_lines taken wrote = part_of taken (m.texts lines) (rest.texts others) (defined_script m script).text first_lines wrote
+  pub part_by_lines : (output : Around Output) → SentWhole output (m.texts lines) → SentPart output (defined_script m script).text
+  part_by_lines output wrote = part_of output (m.texts lines) (rest.texts others) (defined_script m script).text first_lines wrote
 
 -- the replies to the first lines of a script were written
-pub replied_first : (m : Meaning) (did : ScriptDid) (script : List ℕ) (lines others : List ScriptLine) → MayBe did.left.before script → answered_lines script ≡ lines ++ others → SentWhole did.taken (m.texts lines) → RepliedFirst m did
+pub replied_first : (m : Meaning) (did : ScriptDid) (script : List ℕ) (lines others : List ScriptLine) → MayBe did.input.before.left script → answered_lines script ≡ lines ++ others → SentWhole did.output (m.texts lines) → RepliedFirst m did
 replied_first m did script lines others read answers wrote = record {
   script = script;
   read = read;
@@ -148,12 +149,12 @@ replied_first m did script lines others read answers wrote = record {
 }
 
 -- what was written of a script whose front was answered
-module _ (m : Meaning) (did : ScriptDid) (front rest : List ℕ) (there : Meaning) (held_now behind : List ℕ) (output : LinesOutput m did.taken.before did.taken.after [] front there held_now behind rest) (short : length front ≤ script_limit) where
+module _ (m : Meaning) (did : ScriptDid) (front rest : List ℕ) (there : Meaning) (held_now behind : List ℕ) (output : LinesOutput m did.output.before.taken did.output.after.taken [] front there held_now behind rest) (short : length front ≤ script_limit) where
   abbrev text : List ℕ
   text = m.texts output.lines
 
-  whole : rest ≡ [] → SentWhole did.taken text
-  whole none = sent_whole did.taken.before did.taken.after text (subst (λ l. Sent did.taken.before did.taken.after text l) none output.wrote)
+  whole : rest ≡ [] → SentWhole did.output text
+  whole none = sent_whole did.output.before.taken did.output.after.taken text (subst (λ l. Sent did.output.before.taken did.output.after.taken text l) none output.wrote)
 
   -- the lines that ended in the front are those that were answered, and those that stand behind
   front_ended : ended_lines front ≡ output.lines ++ ended_lines (held_now ++ behind)
@@ -166,7 +167,7 @@ module _ (m : Meaning) (did : ScriptDid) (front rest : List ℕ) (there : Meanin
       (ended_lines (held_now ++ behind) ++ ended.0, ended.1 ∙ ap (λ l. l ++ ended.0) front_ended ∙ append_assoc output.lines (ended_lines (held_now ++ behind)) ended.0)
 
   -- a part of it
-  pub part_written : (more : List ℕ) → SentPart did.taken (defined_script m (front ++ more)).text
+  pub part_written : (more : List ℕ) → SentPart did.output (defined_script m (front ++ more)).text
   part_written more =
       let answered = front_answered more in
       let others = there.texts answered.0 in (
@@ -197,26 +198,26 @@ module _ (m : Meaning) (did : ScriptDid) (front rest : List ℕ) (there : Meanin
     pub over_in_front : m.over (ended_lines front) ≡ true
     over_in_front = ap m.over front_ended ∙ over_behind (ended_lines (held_now ++ behind))
 
-    pub over_written : (more : List ℕ) → rest ≡ [] → ((defined_script m (front ++ more)).status ≡ Done) × SentWhole did.taken (defined_script m (front ++ more)).text
+    pub over_written : (more : List ℕ) → rest ≡ [] → ((defined_script m (front ++ more)).status ≡ Done) × SentWhole did.output (defined_script m (front ++ more)).text
     over_written more none =
         let answered = front_answered more in
         let same : (defined_script m (front ++ more)).text ≡ text =
         first_lines m (front ++ more) output.lines answered.0 there output.left answered.1 ∙ ap (λ l. text ++ l) (quit.texts answered.0) ∙ append-nil text in
-        (done_behind more, subst (λ t. Appends did.taken.before did.taken.after t) (sym same) (whole none))
+        (done_behind more, subst (λ t. Appends did.output.before.taken did.output.after.taken t) (sym same) (whole none))
 
-  pub first_written : (more : List ℕ) → MayBe did.left.before (front ++ more) → rest ≡ [] → RepliedFirst m did
+  pub first_written : (more : List ℕ) → MayBe did.input.before.left (front ++ more) → rest ≡ [] → RepliedFirst m did
   first_written more read none =
       let answered = front_answered more in
       replied_first m did (front ++ more) output.lines answered.0 read answered.1 (whole none)
 
 -- ---- a script that isn't begun
 
-pub not_begun : (m : Meaning) → IsBeginning m → (did : ScriptDid) → did.taken.before ≡ did.taken.after → ScriptEnds m did NoMemory
+pub not_begun : (m : Meaning) → IsBeginning m → (did : ScriptDid) → did.output.before.taken ≡ did.output.after.taken → ScriptEnds m did NoMemory
 not_begun m begins did still =
-    let some = may_go_on did.left.before did.left.before [] (consumes_none did.left.before) in
+    let some = may_go_on did.input.before.left did.input.before.left [] (consumes_none did.input.before.left) in
     record {
       script = some.0;
       read = some.1;
       count = 0;
-      replied = subst (λ t. Appends did.taken.before did.taken.after t) (sym begins.texts) (subst (λ now. Appends did.taken.before now []) still (appends_none did.taken.before));
+      replied = subst (λ t. Appends did.output.before.taken did.output.after.taken t) (sym begins.texts) (subst (λ now. Appends did.output.before.taken now []) still (appends_none did.output.before.taken));
     }

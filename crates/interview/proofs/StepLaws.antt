@@ -55,7 +55,7 @@ module _ (most : Accepted → Answered → Answered → ℕ) (m : Meaning) (begi
       -- it ended in a piece
       pub within_piece : (left_next : Option (List ℕ)) (chunk chunk_now : List ℕ) (steps_now : ℕ) → Consumes left_now left_next chunk → chunk_now ≡ chunk
           → steps_now ≤ steps + there.steps most (ended_lines (held ++ chunk_now))
-          → StepsWithin most m (record { before = left; after = left_next }) (record { before = before; after = steps_now })
+          → StepsWithin most m left left_next before steps_now
       within_piece left_next chunk chunk_now steps_now read same_chunk took =
           let all = lines_go_on (so_far.bytes ++ chunk) [] in
           let lines = ap script_lines (sym (append-nil (so_far.bytes ++ chunk))) ∙ all.1 in
@@ -65,11 +65,11 @@ module _ (most : Accepted → Answered → Answered → ℕ) (m : Meaning) (begi
 
       -- no line was answered behind it, whatever was read
       pub within_so_far : (left_next : Option (List ℕ)) (chunk : List ℕ) → Consumes left_now left_next chunk
-          → StepsWithin most m (record { before = left; after = left_next }) (record { before = before; after = steps })
+          → StepsWithin most m left left_next before steps
       within_so_far left_next chunk read = within_piece left_next chunk chunk steps read refl (omega arith)
 
       pub within_kept : (left_next : Option (List ℕ)) → Keeps left_now left_next
-          → StepsWithin most m (record { before = left; after = left_next }) (record { before = before; after = steps })
+          → StepsWithin most m left left_next before steps
       within_kept left_next kept =
           let all = lines_go_on so_far.bytes [] in
           let lines = ap script_lines (sym (append-nil so_far.bytes)) ∙ all.1 in
@@ -79,7 +79,7 @@ module _ (most : Accepted → Answered → Answered → ℕ) (m : Meaning) (begi
       -- the last line was answered
       pub within_all : (left_next : Option (List ℕ)) (steps_now : ℕ) → Consumes left_now left_next []
           → steps_now ≤ steps + there.steps most (script_lines held)
-          → StepsWithin most m (record { before = left; after = left_next }) (record { before = before; after = steps_now })
+          → StepsWithin most m left left_next before steps_now
       within_all left_next steps_now read took =
           let sum = ap (m.steps most) lines_at_end ∙ steps_behind (script_lines held) in
           let whole = subst (Consumes left left_next) (append-nil so_far.bytes) (consumes_more left left_now left_next so_far.bytes [] so_far.read read) in

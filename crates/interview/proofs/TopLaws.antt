@@ -1,6 +1,6 @@
 -- The ends of an interview from those of its steps.
 use Rattle.std.proofs.Common.{◌≡◌, ℕ, ◌≤◌, List, inl, inr, refl, sym, subst}
-use Rattle.fg_io.specs.Outside.{Contents}
+use Rattle.fg_io.specs.Outside.{Contents, Files}
 use Rattle.std.specs.Io.KnownBytes.{Keeps}
 use Rattle.std.proofs.KnownBytes.{Keeps-refl}
 use Rattle.fg_io.proofs.SentLaws.{rose_before}
@@ -13,7 +13,7 @@ use Rattle.interview.specs.Beginnings.{Basis, IsRefusedStart, IsStart, MayBring,
 use Rattle.interview.specs.Dictionaries.{Content, HasFault, IsAcceptedAs, MayGive}
 use Rattle.interview.specs.Interview.{defined_fault, defined_saved_refused}
 use Rattle.interview.specs.ScriptEnds.{EndsBefore, EndsBehind}
-use Rattle.interview.specs.StepEnds.{EndedBy, NotFetched, NotObtained, NotResumed, RunDid, RunEnds, StartEnds}
+use Rattle.interview.specs.StepEnds.{EndedBy, NotFetched, NotObtained, NotResumed, RunEnds, StartEnds}
 use Rattle.interview.specs.Given.{Did, Given, Unread}
 use Rattle.interview.specs.Ends.{AcceptedRun, BegunRun, Ends, RefusedRun, SavedRefusedRun, meaning_in}
 
@@ -27,11 +27,11 @@ faulty_run given origin content fault asked gave is = record { origin = origin; 
 
 -- a text that ends an interview, whole or in part
 abbrev Ended : Did → List ℕ → Status → Status → Type 0
-Ended did text whole status = EndedBy did.script.taken.before did.script.taken.after did.script.sink.before did.script.sink.after text whole status
+Ended did text whole status = EndedBy did.script.output.before did.script.output.after text whole status
 
 module _ (given : Given) (did : Did) where
-  ends_kept : did.script.taken.before ≡ did.script.taken.after → Keeps did.script.taken.before did.script.taken.after
-  ends_kept still = subst (Keeps did.script.taken.before) still (Keeps-refl did.script.taken.before)
+  ends_kept : did.script.output.before.taken ≡ did.script.output.after.taken → Keeps did.script.output.before.taken did.script.output.after.taken
+  ends_kept still = subst (Keeps did.script.output.before.taken) still (Keeps-refl did.script.output.before.taken)
 
   -- ---- behind an accepted dictionary
 
@@ -67,25 +67,25 @@ module _ (given : Given) (did : Did) where
           by_end run unread status (inr (same, rose, part)) = subst (Ends given did) (sym same) (inr (rose, inr (inr (inr (inl (run, part, unread))))))
 
     -- no saved text was had
-    module _ (now : ℕ) (later : did.shelf.before ≤ now) (still : did.script.taken.before ≡ did.script.taken.after) (unread : Unread did) where
-      ends_unfetched_text : (name : List ℕ) (status : Status) → IsFrom over.asked.beginning name → NotFetched name now did.shelf.after did.failed_name status → Ends given did status
-      ends_unfetched_text name FetchFault from not = (rose_before did.shelf.before now did.shelf.after later not.0, inr (over, subst (IsFrom over.asked.beginning) (sym not.1) from), ends_kept still, unread)
+    module _ (now : Files) (later : did.files.before.faults ≤ now.faults) (still : did.script.output.before.taken ≡ did.script.output.after.taken) (unread : Unread did) where
+      ends_unfetched_text : (name : List ℕ) (status : Status) → IsFrom over.asked.beginning name → NotFetched name now did.files.after status → Ends given did status
+      ends_unfetched_text name FetchFault from not = (rose_before did.files.before.faults now.faults did.files.after.faults later not.0, inr (over, subst (IsFrom over.asked.beginning) (sym not.1) from), ends_kept still, unread)
       ends_unfetched_text name NoMemory from not = inl (ends_kept still, unread)
       ends_unfetched_text name status from not = absurd not
 
-      ends_unresumed : (b : Beginning) → over.asked.beginning ≡ b → (status : Status) → NotResumed b now did.shelf.after did.failed_name status → Ends given did status
+      ends_unresumed : (b : Beginning) → over.asked.beginning ≡ b → (status : Status) → NotResumed b now did.files.after status → Ends given did status
       ends_unresumed unanswered is status not = absurd not
       ends_unresumed (by_load name) is status not = ends_unfetched_text name status (subst (λ b. IsFrom b name) (sym is) refl) not
       ends_unresumed (by_carry name) is status not = ends_unfetched_text name status (subst (λ b. IsFrom b name) (sym is) refl) not
 
-  abbrev of_run : ℕ → RunDid
-  of_run now = record { shelf = record { before = now; after = did.shelf.after }; failed_name = did.failed_name; script = did.script }
+  abbrev of_run : Files → Did
+  of_run now = record { files = record { before = now; after = did.files.after }; script = did.script }
 
-  -- with what the shelf tells and how often it had failed before the saved text was fetched
-  pub ends_run : (over : AcceptedRun given) (now : ℕ) (contents : List ℕ → Contents) (status : Status) → did.shelf.before ≤ now → contents ≡ given.contents → RunEnds contents over.asked.beginning over.rules over.asked.mode given.relations (of_run now) status → Ends given did status
-  ends_run over now contents status later same (inl (basis, brought, (s, is, ends))) = ends_begun over basis (subst (λ (t : List ℕ → Contents). MayBring t over.asked.beginning basis) same brought) s is status ends
-  ends_run over now contents status later same (inr (inl (basis, brought, (n, is, ended, unread)))) = ends_saved_refused over basis (subst (λ (t : List ℕ → Contents). MayBring t over.asked.beginning basis) same brought) n is unread status ended
-  ends_run over now contents status later same (inr (inr (not, still, unread))) = ends_unresumed over now later still unread over.asked.beginning refl status not
+  -- with what the shelf told before the saved text was fetched
+  pub ends_run : (over : AcceptedRun given) (now : Files) (status : Status) → did.files.before.faults ≤ now.faults → now.contents ≡ given.contents → RunEnds now.contents over.asked.beginning over.rules over.asked.mode given.relations (of_run now) status → Ends given did status
+  ends_run over now status later same (inl (basis, brought, (s, is, ends))) = ends_begun over basis (subst (λ (t : List ℕ → Contents). MayBring t over.asked.beginning basis) same brought) s is status ends
+  ends_run over now status later same (inr (inl (basis, brought, (n, is, ended, unread)))) = ends_saved_refused over basis (subst (λ (t : List ℕ → Contents). MayBring t over.asked.beginning basis) same brought) n is unread status ended
+  ends_run over now status later same (inr (inr (not, still, unread))) = ends_unresumed over now later still unread over.asked.beginning refl status not
 
   -- ---- a dictionary with a fault
 
@@ -95,11 +95,11 @@ module _ (given : Given) (did : Did) where
 
   -- ---- no dictionary was had
 
-  ends_unfetched : (name : List ℕ) → IsRun given.words (file name) → (status : Status) → did.script.taken.before ≡ did.script.taken.after → Unread did → NotFetched name did.shelf.before did.shelf.after did.failed_name status → Ends given did status
+  ends_unfetched : (name : List ℕ) → IsRun given.words (file name) → (status : Status) → did.script.output.before.taken ≡ did.script.output.after.taken → Unread did → NotFetched name did.files.before did.files.after status → Ends given did status
   ends_unfetched name named FetchFault still unread not = (not.0, inl (inl (subst (λ n. IsRun given.words (file n)) (sym not.1) named)), ends_kept still, unread)
   ends_unfetched name named NoMemory still unread not = inl (ends_kept still, unread)
   ends_unfetched name named status still unread not = absurd not
 
-  pub ends_unobtained : (origin : Origin) → IsRun given.words origin → (status : Status) → did.script.taken.before ≡ did.script.taken.after → Unread did → NotObtained origin did.shelf.before did.shelf.after did.failed_name status → Ends given did status
+  pub ends_unobtained : (origin : Origin) → IsRun given.words origin → (status : Status) → did.script.output.before.taken ≡ did.script.output.after.taken → Unread did → NotObtained origin did.files.before did.files.after status → Ends given did status
   ends_unobtained (file name) asked status still unread not = ends_unfetched name asked status still unread not
   ends_unobtained (program b) asked status still unread not = subst (Ends given did) (sym not) (inl (ends_kept still, unread))

@@ -1,28 +1,31 @@
 -- What devices tell before a call and after it.
-use Rattle.std.specs.Prelude.{ℕ, List, Option}
+use Rattle.std.specs.Prelude.{List, ℕ}
 use Rattle.std.specs.Io.KnownBytes.{Appends, Keeps}
-use Rattle.fg_io.specs.Outside.{Rose}
+use Rattle.fg_io.specs.Outside.{Files, Input, Output, Rose}
 use Rattle.fg_io.specs.Sent.{Sent}
 
--- a count of faults before a call, and after it
-pub record Counted : Type 0 where
-  pub before : ℕ
-  pub after : ℕ
+-- what a device tells before a call, and after it
+pub record Around (D : Type 0) : Type 0 where
+  pub before : D
+  pub after : D
 
-abbrev pub Rises : Counted → Type 0
-Rises count = Rose count.before count.after
+-- a put, a pull, a fetch failed
+abbrev pub SinkFailed : Around Output → Type 0
+SinkFailed output = Rose output.before.faults output.after.faults
 
--- what a stream tells before a call, and after it: the bytes that a sink took, or those that a source has left
-pub record Stream : Type 0 where
-  pub before : Option (List ℕ)
-  pub after : Option (List ℕ)
+abbrev pub SourceFailed : Around Input → Type 0
+SourceFailed input = Rose input.before.faults input.after.faults
 
-abbrev pub SentWhole : Stream → List ℕ → Type 0
-SentWhole taken text = Appends taken.before taken.after text
+abbrev pub ShelfFailed : Around Files → Type 0
+ShelfFailed files = Rose files.before.faults files.after.faults
+
+-- the text was written whole
+abbrev pub SentWhole : Around Output → List ℕ → Type 0
+SentWhole output text = Appends output.before.taken output.after.taken text
 
 -- a prefix of the text was written
-abbrev pub SentPart : Stream → List ℕ → Type 0
-SentPart taken text = (rest : List ℕ) × Sent taken.before taken.after text rest
+abbrev pub SentPart : Around Output → List ℕ → Type 0
+SentPart output text = (rest : List ℕ) × Sent output.before.taken output.after.taken text rest
 
-abbrev pub SentNothing : Stream → Type 0
-SentNothing taken = Keeps taken.before taken.after
+abbrev pub SentNothing : Around Output → Type 0
+SentNothing output = Keeps output.before.taken output.after.taken

@@ -8,7 +8,7 @@ use Rattle.dictionary.specs.Faults.{IsFault}
 use Rattle.graph_session.specs.Rules.{Rules}
 use Rattle.interview.specs.declared.status.Status.{Status}
 use Rattle.interview.specs.declared.status.Status.TheVariants.{Done, DictionaryRefused, Usage, FetchFault, ReadFault, WriteFault, ScriptTooLong, NoMemory, SavedRefused}
-use Rattle.interview.specs.Devices.{Rises, SentNothing, SentPart, SentWhole}
+use Rattle.interview.specs.Devices.{SentNothing, SentPart, SentWhole, ShelfFailed, SinkFailed, SourceFailed}
 use Rattle.built_in.specs.declared.built_in.BuiltIn.{BuiltIn}
 use Rattle.interview.specs.Beginnings.{Basis, Brings, IsRefusedStart, IsStart, MayBring, Start}
 use Rattle.interview.specs.Dictionaries.{Content, Gives, HasFault, IsAcceptedAs, MayGive}
@@ -58,7 +58,7 @@ pub record RefusedRun (given : Given) : Type 0 where
 
 -- the line of the fault was written whole, without the script
 abbrev pub RefusedEnds : Given → Did → Type 0
-RefusedEnds given did = (run : RefusedRun given) × SentWhole did.script.taken (defined_fault run.fault).text × Unread did
+RefusedEnds given did = (run : RefusedRun given) × SentWhole did.script.output (defined_fault run.fault).text × Unread did
 
 -- over an accepted dictionary, a saved text that it may have been given, and the line at which that is refused
 pub record SavedRefusedRun (given : Given) : Type 0 where
@@ -70,7 +70,7 @@ pub record SavedRefusedRun (given : Given) : Type 0 where
 
 -- this was written whole, without the script
 abbrev pub SavedRefusedEnds : Given → Did → Type 0
-SavedRefusedEnds given did = (run : SavedRefusedRun given) × SentWhole did.script.taken (defined_saved_refused run.line).text × Unread did
+SavedRefusedEnds given did = (run : SavedRefusedRun given) × SentWhole did.script.output (defined_saved_refused run.line).text × Unread did
 
 -- a check that it may have been given, and what it comes to
 pub record Check (given : Given) : Type 0 where
@@ -83,16 +83,16 @@ pub record Check (given : Given) : Type 0 where
 
 -- the check has this status, and its text was written whole, without the script
 abbrev pub CheckEndsAs : Given → Did → Status → Type 0
-CheckEndsAs given did status = (check : Check given) × (check.outcome.status ≡ status) × SentWhole did.script.taken check.outcome.text × Unread did
+CheckEndsAs given did status = (check : Check given) × (check.outcome.status ≡ status) × SentWhole did.script.output check.outcome.text × Unread did
 
 -- a prefix of a line that ends an interview was written, or of those before the replies, without the script
 abbrev pub LinePart : Given → Did → Type 0
 LinePart given did =
-    (HasNoForm given.words × SentPart did.script.taken usage.text × Unread did)
-    ⊎ (((run : RefusedRun given) × SentPart did.script.taken (defined_fault run.fault).text × Unread did)
-    ⊎ (((check : Check given) × SentPart did.script.taken check.outcome.text × Unread did)
-    ⊎ (((run : SavedRefusedRun given) × SentPart did.script.taken (defined_saved_refused run.line).text × Unread did)
-    ⊎ ((run : BegunRun given) × SentPart did.script.taken run.start.front × Unread did))))
+    (HasNoForm given.words × SentPart did.script.output usage.text × Unread did)
+    ⊎ (((run : RefusedRun given) × SentPart did.script.output (defined_fault run.fault).text × Unread did)
+    ⊎ (((check : Check given) × SentPart did.script.output check.outcome.text × Unread did)
+    ⊎ (((run : SavedRefusedRun given) × SentPart did.script.output (defined_saved_refused run.line).text × Unread did)
+    ⊎ ((run : BegunRun given) × SentPart did.script.output run.start.front × Unread did))))
 
 -- a name that is fetched: that of a dictionary, or over an accepted one that of the saved text
 abbrev pub IsFetched : Given → List ℕ → Type 0
@@ -102,12 +102,12 @@ IsFetched given name = Fetches given.words name ⊎ ((over : AcceptedRun given) 
 abbrev pub Ends : Given → Did → Status → Type 0
 Ends given did Done = BegunEnds given did Done ⊎ CheckEndsAs given did Done
 Ends given did DictionaryRefused = RefusedEnds given did ⊎ CheckEndsAs given did DictionaryRefused
-Ends given did Usage = HasNoForm given.words × SentWhole did.script.taken usage.text × Unread did
-Ends given did FetchFault = Rises did.shelf × IsFetched given did.failed_name × SentNothing did.script.taken × Unread did
+Ends given did Usage = HasNoForm given.words × SentWhole did.script.output usage.text × Unread did
+Ends given did FetchFault = ShelfFailed did.files × IsFetched given did.files.after.failed_name × SentNothing did.script.output × Unread did
 Ends given did ReadFault = BegunEnds given did ReadFault
-Ends given did WriteFault = BegunEnds given did WriteFault ⊎ (Rises did.script.sink × LinePart given did)
+Ends given did WriteFault = BegunEnds given did WriteFault ⊎ (SinkFailed did.script.output × LinePart given did)
 Ends given did ScriptTooLong = BegunEnds given did ScriptTooLong
-Ends given did NoMemory = (SentNothing did.script.taken × Unread did) ⊎ BegunEnds given did NoMemory
+Ends given did NoMemory = (SentNothing did.script.output × Unread did) ⊎ BegunEnds given did NoMemory
 Ends given did SavedRefused = SavedRefusedEnds given did
 
 -- the same, or the table of `gen` or of `save`
@@ -157,7 +157,7 @@ EndedByRun given run did status = (d : Defined) × ComesTo given run d × EndedA
 
 -- a fetch of a name of the words failed
 abbrev pub FetchFailed : Given → Did → Type 0
-FetchFailed given did = Rises did.shelf × IsFetched given did.failed_name
+FetchFailed given did = ShelfFailed did.files × IsFetched given did.files.after.failed_name
 
 pub record Interviewed (given : Given) (did : Did) (status : Status) : Type 0 where
   -- each status with its text and its cause
@@ -184,9 +184,9 @@ pub record Interviewed (given : Given) (did : Did) (status : Status) : Type 0 wh
   -- a run that is known ends as defined, or by a fault of the outside, or for want of memory
   pub exact : (run : KnownRun given) → EndedByRun given run did status ⊎ IsOneOf status (FetchFault ∷ ReadFault ∷ WriteFault ∷ NoMemory ∷ [])
   -- and where the outside doesn't fail, it ends as defined, or for want of memory
-  pub complete : (run : KnownRun given) → (FetchFailed given did → ⊥) → (Rises did.script.source → ⊥) → (Rises did.script.sink → ⊥) → EndedByRun given run did status ⊎ (status ≡ NoMemory)
+  pub complete : (run : KnownRun given) → (FetchFailed given did → ⊥) → (SourceFailed did.script.input → ⊥) → (SinkFailed did.script.output → ⊥) → EndedByRun given run did status ⊎ (status ≡ NoMemory)
   -- whatever the status: what a run that is known wrote is a prefix of the defined text
-  pub prefix : (run : KnownRun given) (d : Defined) → ComesTo given run d → SentPart did.script.taken d.text
+  pub prefix : (run : KnownRun given) (d : Defined) → ComesTo given run d → SentPart did.script.output d.text
   -- with status 0 the dictionary is accepted, and the script was read to its end, or to that of the piece in which `quit` ended
   pub read_through : (run : KnownRun given) → status ≡ Done
       → (r : Rules) × (s : Start) × IsAcceptedAs given.checks run.content r × IsStart r run.basis s × ReadThrough (meaning_of r run.asked.mode given.relations s.answers) did.script
@@ -203,9 +203,9 @@ pub record Interviewed (given : Given) (did : Did) (status : Status) : Type 0 wh
   -- a check that is known ends as defined, or by a fault of the outside, or for want of memory
   pub check_exact : (check : KnownCheck given) → EndedByCheck given did status check.bytes ⊎ IsOneOf status (FetchFault ∷ WriteFault ∷ NoMemory ∷ [])
   -- whatever the status: what it wrote is a prefix of the defined text
-  pub check_prefix : (check : KnownCheck given) (d : Defined) → ChecksTo check.bytes given.checks d → SentPart did.script.taken d.text
+  pub check_prefix : (check : KnownCheck given) (d : Defined) → ChecksTo check.bytes given.checks d → SentPart did.script.output d.text
   -- and where the outside doesn't fail, it ends as defined, or for want of memory
-  pub check_complete : (check : KnownCheck given) → (FetchFailed given did → ⊥) → (Rises did.script.sink → ⊥) → EndedByCheck given did status check.bytes ⊎ (status ≡ NoMemory)
+  pub check_complete : (check : KnownCheck given) → (FetchFailed given did → ⊥) → (SinkFailed did.script.output → ⊥) → EndedByCheck given did status check.bytes ⊎ (status ≡ NoMemory)
   -- what is known of `gen`
   pub gen : GenInterviewed given did status
   -- and of `save` and `save-year`

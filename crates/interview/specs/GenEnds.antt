@@ -2,7 +2,7 @@
 use Rattle.std.specs.Prelude.{◌≡◌, ◌⊎◌, ℕ, [], ◌∷◌}
 use Rattle.interview.specs.declared.status.Status.{Status}
 use Rattle.interview.specs.declared.status.Status.TheVariants.{WriteFault, NoMemory}
-use Rattle.interview.specs.Devices.{Rises, SentPart}
+use Rattle.interview.specs.Devices.{SentPart, SinkFailed}
 use Rattle.interview.specs.Given.{Did, EndedAs, Given, IsOneOf, Unread}
 use Rattle.interview.specs.Interview.{Defined}
 use Rattle.interview.specs.Load.{GeneratedAs, GensTo}
@@ -10,7 +10,7 @@ use Rattle.interview.specs.Words.{IsGen}
 
 -- with so many sums, by the table of its ends, without the given script
 abbrev pub GenEnds : Given → Did → Status → Type 0
-GenEnds given did status = (n : ℕ) × IsGen given.words n × GeneratedAs given.relations n did.script.taken did.script.sink status × Unread did
+GenEnds given did status = (n : ℕ) × IsGen given.words n × GeneratedAs given.relations n did.script.output status × Unread did
 
 -- it ended as defined, with the text whole
 abbrev pub EndedByGen : Given → ℕ → Did → Status → Type 0
@@ -22,6 +22,6 @@ pub record GenInterviewed (given : Given) (did : Did) (status : Status) : Type 0
   -- it ends as defined, or by a fault of the sink, or for want of memory
   pub exact : (n : ℕ) → IsGen given.words n → EndedByGen given n did status ⊎ IsOneOf status (WriteFault ∷ NoMemory ∷ [])
   -- and where the sink doesn't fail, as defined, or for want of memory
-  pub complete : (n : ℕ) → IsGen given.words n → (Rises did.script.sink → ⊥) → EndedByGen given n did status ⊎ (status ≡ NoMemory)
+  pub complete : (n : ℕ) → IsGen given.words n → (SinkFailed did.script.output → ⊥) → EndedByGen given n did status ⊎ (status ≡ NoMemory)
   -- whatever the status: what it wrote is a prefix of the defined text
-  pub prefix : (n : ℕ) → IsGen given.words n → (d : Defined) → GensTo given.relations n d → SentPart did.script.taken d.text
+  pub prefix : (n : ℕ) → IsGen given.words n → (d : Defined) → GensTo given.relations n d → SentPart did.script.output d.text

@@ -1,12 +1,12 @@
 -- What an interview is given, and what it did to the outside.
 use Rattle.std.specs.Prelude.{◌≡◌, ◌⊎◌, ℕ, List, [], ◌∷◌, Option, String}
 use Rattle.std.specs.declared.alloc.Global.{Global}
-use Rattle.fg_io.specs.Outside.{Contents}
+use Rattle.fg_io.specs.Outside.{Contents, Files, Input, Output}
 use Rattle.dictionary.specs.Accepted.{Named}
 use Rattle.interview.specs.declared.status.Status.{Status}
-use Rattle.interview.specs.Devices.{Counted, SentWhole}
+use Rattle.interview.specs.Devices.{Around, SentWhole}
 use Rattle.interview.specs.Interview.{Defined}
-use Rattle.interview.specs.ScriptEnds.{ScriptDid, UnreadScript}
+use Rattle.interview.specs.ScriptEnds.{ScriptDid, UnreadScript, script_did}
 use Rattle.interview.specs.Words.{texts}
 
 -- what an interview is given
@@ -21,20 +21,19 @@ pub record Given : Type 0 where
 
 -- what an interview did to the outside
 pub record Did : Type 0 where
-  pub shelf : Counted
-  pub failed_name : List ℕ
+  pub files : Around Files
   pub script : ScriptDid
 
-abbrev pub given_by : List (String Global) → List Named → List Named → (List ℕ → Contents) → Option (List ℕ) → Given
-given_by words checks relations contents left = record { words = texts words; checks = checks; relations = relations; contents = contents; left = left }
+abbrev pub given_with : List (List ℕ) → List Named → List Named → Files → Input → Given
+given_with words checks relations files source =
+    record { words = words; checks = checks; relations = relations; contents = files.contents; left = source.left }
 
--- by the faults of the shelf, before and after, and the name of the last
-abbrev pub did_by : (unfetched unfetched_now : ℕ) → List ℕ → ScriptDid → Did
-did_by unfetched unfetched_now failed_name script = record {
-  shelf = record { before = unfetched; after = unfetched_now };
-  failed_name = failed_name;
-  script = script;
-}
+abbrev pub given_by : List (String Global) → List Named → List Named → Files → Input → Given
+given_by words checks relations files source = given_with (texts words) checks relations files source
+
+abbrev pub did_by : Files → Files → Input → Input → Output → Output → Did
+did_by files files_now source source_now sink sink_now =
+    record { files = record { before = files; after = files_now }; script = script_did source source_now sink sink_now }
 
 -- nothing was read of the script
 abbrev pub Unread : Did → Type 0
@@ -46,4 +45,4 @@ IsOneOf status (s ∷ ss) = (status ≡ s) ⊎ IsOneOf status ss
 
 -- it ended as defined, with the text whole
 abbrev pub EndedAs : Did → Status → Defined → Type 0
-EndedAs did status d = (status ≡ d.status) × SentWhole did.script.taken d.text
+EndedAs did status d = (status ≡ d.status) × SentWhole did.script.output d.text

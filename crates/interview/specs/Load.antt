@@ -1,5 +1,6 @@
 -- What `gen` comes to, and how it ends.
 use Rattle.std.specs.Prelude.{◌≡◌, ℕ, List, [], length}
+use Rattle.fg_io.specs.Outside.{Output}
 use Rattle.script_lines.specs.Lines.{lines_of}
 use Rattle.answers.specs.Answered.{start}
 use Rattle.dictionary.specs.Accepted.{IsAccepted, Named}
@@ -10,7 +11,7 @@ use Rattle.graph_session.specs.Rules.{Rules, tree_of}
 use Rattle.interview.specs.declared.status.Status.{Status}
 use Rattle.interview.specs.declared.status.Status.TheVariants.{Done, WriteFault, NoMemory}
 use Rattle.interview.specs.declared.words.Mode.TheVariants.{Incremental}
-use Rattle.interview.specs.Devices.{Counted, Rises, SentNothing, SentPart, SentWhole, Stream}
+use Rattle.interview.specs.Devices.{Around, SentNothing, SentPart, SentWhole, SinkFailed}
 use Rattle.interview.specs.Interview.{Defined, defined_script}
 use Rattle.interview.specs.Meanings.{meaning_of}
 use Rattle.interview.specs.Summary.{summary}
@@ -45,8 +46,8 @@ OneEndOfGen = (relations : List Named) (n : ℕ) (d e : Defined) → GensTo rela
 -- ---- how it ends
 
 -- by its status: what its sink took, and why
-abbrev pub GeneratedAs : List Named → ℕ → Stream → Counted → Status → Type 0
-GeneratedAs relations n taken sink Done = (d : Defined) × GensTo relations n d × SentWhole taken d.text
-GeneratedAs relations n taken sink WriteFault = Rises sink × ((d : Defined) × GensTo relations n d × SentPart taken d.text)
-GeneratedAs relations n taken sink NoMemory = SentNothing taken
-GeneratedAs relations n taken sink other = ⊥
+abbrev pub GeneratedAs : List Named → ℕ → Around Output → Status → Type 0
+GeneratedAs relations n output Done = (d : Defined) × GensTo relations n d × SentWhole output d.text
+GeneratedAs relations n output WriteFault = SinkFailed output × ((d : Defined) × GensTo relations n d × SentPart output d.text)
+GeneratedAs relations n output NoMemory = SentNothing output
+GeneratedAs relations n output other = ⊥

@@ -39,10 +39,14 @@ of_desk r state = record {
   steps = λ most. steps_of_desk_lines most r state;
 }
 
--- the script of a run over these rules, from these answers, where slots may be watched by these relations
+-- of a session that begins with these answers, over an engine that keeps stamps or none, where slots may be watched by these relations
+abbrev pub of_answers : Rules → Bool → List Named → Answered → Meaning
+of_answers r stamps relations a = of_session r (at_start r (record { answers = a; stamps = stamps; relations = relations }))
+
+-- the script of a run over these rules
 abbrev pub meaning_of : Rules → Mode → List Named → Answered → Meaning
-meaning_of r Incremental relations a = of_session r (at_start r (record { answers = a; stamps = true; relations = relations }))
-meaning_of r Plain relations a = of_session r (at_start r (record { answers = a; stamps = false; relations = relations }))
+meaning_of r Incremental relations a = of_answers r true relations a
+meaning_of r Plain relations a = of_answers r false relations a
 meaning_of r Desk relations a = of_desk r (desk_at_start r a)
 
 -- ---- lines behind lines

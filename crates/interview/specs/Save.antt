@@ -11,7 +11,7 @@ use Rattle.save_file.specs.SavedText.{saved}
 use Rattle.interview.specs.declared.status.Status.{Status}
 use Rattle.interview.specs.declared.status.Status.TheVariants.{Done, ReadFault, WriteFault, ScriptTooLong, NoMemory}
 use Rattle.interview.specs.declared.words.Mode.TheVariants.{Incremental}
-use Rattle.interview.specs.Devices.{Rises, SentNothing, SentPart, SentWhole}
+use Rattle.interview.specs.Devices.{SentNothing, SentPart, SentWhole, SinkFailed, SourceFailed}
 use Rattle.interview.specs.Dictionaries.{Content, HasFault, IsAcceptedAs}
 use Rattle.interview.specs.Interview.{Defined, answered_lines, defined_fault, defined_script, script_limit}
 use Rattle.interview.specs.Meanings.{Meaning, meaning_of}
@@ -61,19 +61,19 @@ LeavesAnswers m left answers other = Unit {0}
 -- a read failed behind these bytes, in which no `quit` ended
 pub record UnquitSoFar (m : Meaning) (did : ScriptDid) : Type 0 where
   pub bytes : List ℕ
-  pub read : Consumes did.left.before did.left.after bytes
+  pub read : Consumes did.input.before.left did.input.after.left bytes
   pub within : length bytes ≤ script_limit
   pub unquit : m.over (ended_lines bytes) ≡ false
 
 -- it was done with this script, which it may have been given
 abbrev pub DoneWith : Meaning → ScriptDid → List ℕ → Type 0
-DoneWith m did script = MayBe did.left.before script × ((defined_script m script).status ≡ Done)
+DoneWith m did script = MayBe did.input.before.left script × ((defined_script m script).status ≡ Done)
 
 -- over an accepted dictionary, by its status
 abbrev pub ScriptSaves : Rules → Meaning → ScriptDid → Status → Type 0
-ScriptSaves r m did Done = ((script : List ℕ) × DoneWith m did script × SentWhole did.taken (saved_after r m script)) × ReadThrough m did
-ScriptSaves r m did ScriptTooLong = (script : List ℕ) × MayBe did.left.before script × ((defined_script m script).status ≡ ScriptTooLong) × SentNothing did.taken
-ScriptSaves r m did ReadFault = Rises did.source × UnquitSoFar m did × SentNothing did.taken
-ScriptSaves r m did WriteFault = Rises did.sink × ((script : List ℕ) × DoneWith m did script × SentPart did.taken (saved_after r m script))
-ScriptSaves r m did NoMemory = SentNothing did.taken
+ScriptSaves r m did Done = ((script : List ℕ) × DoneWith m did script × SentWhole did.output (saved_after r m script)) × ReadThrough m did
+ScriptSaves r m did ScriptTooLong = (script : List ℕ) × MayBe did.input.before.left script × ((defined_script m script).status ≡ ScriptTooLong) × SentNothing did.output
+ScriptSaves r m did ReadFault = SourceFailed did.input × UnquitSoFar m did × SentNothing did.output
+ScriptSaves r m did WriteFault = SinkFailed did.output × ((script : List ℕ) × DoneWith m did script × SentPart did.output (saved_after r m script))
+ScriptSaves r m did NoMemory = SentNothing did.output
 ScriptSaves r m did other = ⊥

@@ -6,7 +6,7 @@ use Rattle.graph_session.specs.Rules.{Rules}
 use Rattle.built_in.specs.declared.built_in.BuiltIn.{BuiltIn}
 use Rattle.interview.specs.declared.status.Status.{Status}
 use Rattle.interview.specs.declared.status.Status.TheVariants.{Done, DictionaryRefused, FetchFault, ReadFault, WriteFault, ScriptTooLong, NoMemory}
-use Rattle.interview.specs.Devices.{Rises, SentNothing, SentPart, SentWhole}
+use Rattle.interview.specs.Devices.{SentNothing, SentPart, SentWhole, ShelfFailed, SinkFailed, SourceFailed}
 use Rattle.interview.specs.Dictionaries.{Content, Gives, HasFault, IsAcceptedAs, MayGive}
 use Rattle.interview.specs.Given.{Did, EndedAs, Given, IsOneOf, Unread}
 use Rattle.interview.specs.Interview.{Defined, defined_fault}
@@ -45,12 +45,12 @@ AreToSave words = (origin : Origin) × IsSave words origin
 -- the table of its ends: the text of each status, and its cause
 abbrev pub SaveEnds : Given → Did → Status → Type 0
 SaveEnds given did Done = AcceptedSaves given did Done
-SaveEnds given did DictionaryRefused = (save : RefusedSave given) × SentWhole did.script.taken (defined_fault save.fault).text × Unread did
-SaveEnds given did FetchFault = Rises did.shelf × IsSave given.words (file did.failed_name) × SentNothing did.script.taken × Unread did
+SaveEnds given did DictionaryRefused = (save : RefusedSave given) × SentWhole did.script.output (defined_fault save.fault).text × Unread did
+SaveEnds given did FetchFault = ShelfFailed did.files × IsSave given.words (file did.files.after.failed_name) × SentNothing did.script.output × Unread did
 SaveEnds given did ReadFault = AcceptedSaves given did ReadFault
-SaveEnds given did WriteFault = AcceptedSaves given did WriteFault ⊎ (Rises did.script.sink × ((save : RefusedSave given) × SentPart did.script.taken (defined_fault save.fault).text × Unread did))
+SaveEnds given did WriteFault = AcceptedSaves given did WriteFault ⊎ (SinkFailed did.script.output × ((save : RefusedSave given) × SentPart did.script.output (defined_fault save.fault).text × Unread did))
 SaveEnds given did ScriptTooLong = AcceptedSaves given did ScriptTooLong
-SaveEnds given did NoMemory = (AreToSave given.words × SentNothing did.script.taken × Unread did) ⊎ AcceptedSaves given did NoMemory
+SaveEnds given did NoMemory = (AreToSave given.words × SentNothing did.script.output × Unread did) ⊎ AcceptedSaves given did NoMemory
 SaveEnds given did other = ⊥
 
 -- ---- what is known of it
@@ -74,7 +74,7 @@ EndedBySave given save did status = (d : Defined) × SaveComesTo given save d ×
 
 -- a fetch of the name of its dictionary failed
 abbrev pub SaveFetchFailed : Given → Did → Type 0
-SaveFetchFailed given did = Rises did.shelf × IsSave given.words (file did.failed_name)
+SaveFetchFailed given did = ShelfFailed did.files × IsSave given.words (file did.files.after.failed_name)
 
 pub record SaveInterviewed (given : Given) (did : Did) (status : Status) : Type 0 where
   -- a name that isn't there is a failed fetch
@@ -89,10 +89,10 @@ pub record SaveInterviewed (given : Given) (did : Did) (status : Status) : Type 
   -- where dictionary and script are known it ends as defined, or by a fault of the outside, or for want of memory
   pub exact : (save : KnownSave given) → EndedBySave given save did status ⊎ IsOneOf status (FetchFault ∷ ReadFault ∷ WriteFault ∷ NoMemory ∷ [])
   -- and where the outside doesn't fail, as defined, or for want of memory
-  pub complete : (save : KnownSave given) → (SaveFetchFailed given did → ⊥) → (Rises did.script.source → ⊥) → (Rises did.script.sink → ⊥) → EndedBySave given save did status ⊎ (status ≡ NoMemory)
+  pub complete : (save : KnownSave given) → (SaveFetchFailed given did → ⊥) → (SourceFailed did.script.input → ⊥) → (SinkFailed did.script.output → ⊥) → EndedBySave given save did status ⊎ (status ≡ NoMemory)
   -- whatever the status: what it wrote is a prefix of the defined text
-  pub prefix : (save : KnownSave given) (d : Defined) → SaveComesTo given save d → SentPart did.script.taken d.text
+  pub prefix : (save : KnownSave given) (d : Defined) → SaveComesTo given save d → SentPart did.script.output d.text
   -- where no script was done, nothing was written
-  pub unsaved : AreToSave given.words → IsOneOf status (FetchFault ∷ ReadFault ∷ ScriptTooLong ∷ NoMemory ∷ []) → SentNothing did.script.taken
+  pub unsaved : AreToSave given.words → IsOneOf status (FetchFault ∷ ReadFault ∷ ScriptTooLong ∷ NoMemory ∷ []) → SentNothing did.script.output
   -- with status 0 the dictionary is accepted, and the script was read to its end, or to that of the piece in which `quit` ended
   pub read_through : (save : KnownSave given) → status ≡ Done → (r : Rules) × IsAcceptedAs given.checks save.content r × ReadThrough (save_meaning r given.relations) did.script

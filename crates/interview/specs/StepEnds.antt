@@ -2,7 +2,7 @@
 use Rattle.std.specs.Prelude.{◌≡◌, ◌⊎◌, ℕ, ◌<◌, ◌≤◌, List, [], length, Option, Some, None, Result, Ok, Err, Vec}
 use Rattle.std.specs.declared.alloc.Global.{Global}
 use Rattle.std.specs.Io.KnownBytes.{Appends}
-use Rattle.fg_io.specs.Outside.{MayHold, Rose, Contents}
+use Rattle.fg_io.specs.Outside.{Contents, Files, MayHold, Output, Rose}
 use Rattle.fg_io.specs.Sent.{Sent}
 use Rattle.dictionary.specs.Accepted.{Named, accepted, names_of}
 use Rattle.dictionary.specs.Faults.{AreAccepted, IsFault}
@@ -10,7 +10,7 @@ use Rattle.interview.specs.declared.fetching.Fetched.{Fetched}
 use Rattle.interview.specs.declared.fetching.Fetched.TheVariants as fetches
 use Rattle.interview.specs.declared.status.Status.{Status}
 use Rattle.interview.specs.declared.status.Status.TheVariants.{Done, DictionaryRefused, FetchFault, WriteFault, NoMemory, SavedRefused}
-use Rattle.interview.specs.Devices.{Counted, Rises, Stream, SentNothing, SentPart, SentWhole}
+use Rattle.interview.specs.Devices.{Around, SentNothing, SentPart, SentWhole, ShelfFailed, SinkFailed}
 use Rattle.graph_session.specs.Refusals.{SameChecks}
 use Rattle.graph_session.specs.Rules.{Rules, rules, tree_of}
 use Rattle.answers.specs.Meaning.{answered}
@@ -18,6 +18,7 @@ use Rattle.dictionary.specs.Fits.{AnswersFit}
 use Rattle.save_file.specs.Dropped.{IsDroppedText}
 use Rattle.save_file.specs.declared.fault.LoadFault.{LoadFault}
 use Rattle.save_file.specs.declared.fault.LoadFault.TheVariants as loads
+use Rattle.interview.specs.Given.{Did}
 use Rattle.interview.specs.Meanings.{Meaning, meaning_of}
 use Rattle.interview.specs.declared.resuming.Dropped.{Dropped}
 use Rattle.interview.specs.declared.resuming.Dropped.TheVariants as dropped
@@ -34,10 +35,10 @@ use Rattle.interview.specs.Interview.{ChecksTo, Defined, defined_accepted, defin
 -- ---- a text
 
 -- a text was written whole, with this status, or in part after a fault
-abbrev pub EndedBy : Option (List ℕ) → Option (List ℕ) → ℕ → ℕ → List ℕ → Status → Status → Type 0
-EndedBy taken taken_now faults faults_now text whole status =
-    ((status ≡ whole) × Appends taken taken_now text)
-    ⊎ ((status ≡ WriteFault) × Rose faults faults_now × ((rest : List ℕ) × Sent taken taken_now text rest))
+abbrev pub EndedBy : Output → Output → List ℕ → Status → Status → Type 0
+EndedBy sink sink_now text whole status =
+    ((status ≡ whole) × Appends sink.taken sink_now.taken text)
+    ⊎ ((status ≡ WriteFault) × Rose sink.faults sink_now.faults × ((rest : List ℕ) × Sent sink.taken sink_now.taken text rest))
 
 -- ---- a fetch
 
@@ -52,10 +53,10 @@ defined_fetched (fetches.Accepted dict) = defined_accepted (accepted dict)
 defined_fetched (fetches.Refused fault) = defined_fault fault
 
 -- no dictionary was had: the shelf failed to give the name, or there was no memory
-abbrev pub NotFetched : List ℕ → ℕ → ℕ → List ℕ → Status → Type 0
-NotFetched name faults faults_now failed_name FetchFault = Rose faults faults_now × (failed_name ≡ name)
-NotFetched name faults faults_now failed_name NoMemory = Unit {0}
-NotFetched name faults faults_now failed_name other = ⊥
+abbrev pub NotFetched : List ℕ → Files → Files → Status → Type 0
+NotFetched name files files_now FetchFault = Rose files.faults files_now.faults × (files_now.failed_name ≡ name)
+NotFetched name files files_now NoMemory = Unit {0}
+NotFetched name files files_now other = ⊥
 
 -- ---- the dictionary of a run
 
@@ -65,9 +66,9 @@ ObtainedAs contents origin checks (fetches.Accepted dict) = (content : Content) 
 ObtainedAs contents origin checks (fetches.Refused fault) = (content : Content) × MayGive contents origin content × HasFault checks content fault
 
 -- no dictionary was had: the shelf failed to give the name of a file, or there was no memory
-abbrev pub NotObtained : Origin → ℕ → ℕ → List ℕ → Status → Type 0
-NotObtained (file name) faults faults_now failed_name status = NotFetched name faults faults_now failed_name status
-NotObtained (program b) faults faults_now failed_name status = status ≡ NoMemory
+abbrev pub NotObtained : Origin → Files → Files → Status → Type 0
+NotObtained (file name) files files_now status = NotFetched name files files_now status
+NotObtained (program b) files files_now status = status ≡ NoMemory
 
 -- ---- the answers at its start
 
@@ -101,10 +102,10 @@ RefusedFor (loads.BadSaved n) result = result ≡ Ok (resumed.Refused n)
 RefusedFor loads.NoMemory result = result ≡ Err NoMemory
 
 -- there was none: the shelf failed to give the name of the saved text, or there was no memory
-abbrev pub NotResumed : Beginning → ℕ → ℕ → List ℕ → Status → Type 0
-NotResumed unanswered before now failed_name status = ⊥
-NotResumed (by_load name) before now failed_name status = NotFetched name before now failed_name status
-NotResumed (by_carry name) before now failed_name status = NotFetched name before now failed_name status
+abbrev pub NotResumed : Beginning → Files → Files → Status → Type 0
+NotResumed unanswered files files_now status = ⊥
+NotResumed (by_load name) files files_now status = NotFetched name files files_now status
+NotResumed (by_carry name) files files_now status = NotFetched name files files_now status
 
 -- ---- a run over an accepted dictionary
 
@@ -112,46 +113,36 @@ NotResumed (by_carry name) before now failed_name status = NotFetched name befor
 abbrev pub StartEnds : Meaning → List ℕ → ScriptDid → Status → Type 0
 StartEnds m front did status = EndsBehind m front did status ⊎ EndsBefore front did status
 
--- what a run did to the shelf, and to the rest
-pub record RunDid : Type 0 where
-  pub shelf : Counted
-  pub failed_name : List ℕ
-  pub script : ScriptDid
-
--- by the faults of the shelf, before and after, and the name of the last
-abbrev pub run_did : (unfetched unfetched_now : ℕ) → List ℕ → ScriptDid → RunDid
-run_did unfetched unfetched_now failed_name script = record {
-  shelf = record { before = unfetched; after = unfetched_now };
-  failed_name = failed_name;
-  script = script;
-}
-
 -- it began, and its script ended so
-abbrev pub BeginsAndEnds : (List ℕ → Contents) → Beginning → Rules → Mode → List Named → RunDid → Status → Type 0
+abbrev pub BeginsAndEnds : (List ℕ → Contents) → Beginning → Rules → Mode → List Named → Did → Status → Type 0
 BeginsAndEnds contents beginning r mode relations did status =
     (basis : Basis) × MayBring contents beginning basis × ((s : Start) × IsStart r basis s × StartEnds (meaning_of r mode relations s.answers) s.front did.script status)
 
 -- the saved text was refused
-abbrev pub SavedTextEnds : (List ℕ → Contents) → Beginning → Rules → RunDid → Status → Type 0
+abbrev pub SavedTextEnds : (List ℕ → Contents) → Beginning → Rules → Did → Status → Type 0
 SavedTextEnds contents beginning r did status =
     (basis : Basis) × MayBring contents beginning basis × ((n : ℕ) × IsRefusedStart r basis n
-    × EndedBy did.script.taken.before did.script.taken.after did.script.sink.before did.script.sink.after (defined_saved_refused n).text SavedRefused status × UnreadScript did.script)
+    × EndedBy did.script.output.before did.script.output.after (defined_saved_refused n).text SavedRefused status × UnreadScript did.script)
 
 -- or there was none
-abbrev pub RunEnds : (List ℕ → Contents) → Beginning → Rules → Mode → List Named → RunDid → Status → Type 0
+abbrev pub RunEnds : (List ℕ → Contents) → Beginning → Rules → Mode → List Named → Did → Status → Type 0
 RunEnds contents beginning r mode relations did status =
     BeginsAndEnds contents beginning r mode relations did status
     ⊎ (SavedTextEnds contents beginning r did status
-    ⊎ (NotResumed beginning did.shelf.before did.shelf.after did.failed_name status × (did.script.taken.before ≡ did.script.taken.after) × UnreadScript did.script))
+    ⊎ (NotResumed beginning did.files.before did.files.after status × (did.script.output.before.taken ≡ did.script.output.after.taken) × UnreadScript did.script))
 
 -- ---- a check
 
 -- what a check did to the outside
 pub record CheckDid : Type 0 where
-  pub shelf : Counted
-  pub failed_name : List ℕ
-  pub taken : Stream
-  pub sink : Counted
+  pub files : Around Files
+  pub output : Around Output
+
+abbrev pub check_did : Files → Files → Output → Output → CheckDid
+check_did files files_now sink sink_now = record {
+  files = record { before = files; after = files_now };
+  output = record { before = sink; after = sink_now };
+}
 
 -- some bytes that the name may hold come to this text and status
 abbrev pub JudgedAs : Contents → List Named → List ℕ → Status → Type 0
@@ -159,12 +150,12 @@ JudgedAs contents checks text status = (bytes : List ℕ) × MayHold contents by
 
 -- it came to this status, and the text of it was written whole
 abbrev pub CheckedAs : Contents → List Named → CheckDid → Status → Type 0
-CheckedAs contents checks did status = (text : List ℕ) × JudgedAs contents checks text status × SentWhole did.taken text
+CheckedAs contents checks did status = (text : List ℕ) × JudgedAs contents checks text status × SentWhole did.output text
 
 abbrev pub CheckEnds : Contents → List Named → List ℕ → CheckDid → Status → Type 0
 CheckEnds contents checks name did Done = CheckedAs contents checks did Done
 CheckEnds contents checks name did DictionaryRefused = CheckedAs contents checks did DictionaryRefused
-CheckEnds contents checks name did FetchFault = Rises did.shelf × (did.failed_name ≡ name) × SentNothing did.taken
-CheckEnds contents checks name did WriteFault = Rises did.sink × ((text : List ℕ) × ((status : Status) × (JudgedAs contents checks text status × SentPart did.taken text)))
-CheckEnds contents checks name did NoMemory = SentNothing did.taken
+CheckEnds contents checks name did FetchFault = ShelfFailed did.files × (did.files.after.failed_name ≡ name) × SentNothing did.output
+CheckEnds contents checks name did WriteFault = SinkFailed did.output × ((text : List ℕ) × ((status : Status) × (JudgedAs contents checks text status × SentPart did.output text)))
+CheckEnds contents checks name did NoMemory = SentNothing did.output
 CheckEnds contents checks name did other = ⊥

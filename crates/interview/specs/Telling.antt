@@ -1,6 +1,6 @@
 -- Lines are answered while they come: how far, and what the lines behind them mean.
 use Rattle.std.specs.Prelude.{◌≡◌, ℕ, false, List, [], ◌++◌, Option}
-use Rattle.fg_io.specs.Outside.{Rose}
+use Rattle.fg_io.specs.Outside.{Output, Rose}
 use Rattle.fg_io.specs.Sent.{Sent}
 use Rattle.script_lines.specs.Lines.{ScriptLine, script_lines, HasNoNewline}
 use Rattle.answers.specs.Answered.{Answered}
@@ -10,11 +10,11 @@ use Rattle.interview.specs.Meanings.{Behind, IsQuit, Meaning}
 
 -- a line, or none, was answered: its text was written whole, and these answers stand behind it; or in part, after a fault; or there
 -- was no memory for it
-abbrev pub LineOutputAs : Option (List ℕ) → Option (List ℕ) → ℕ → ℕ → Meaning → Answered → List ScriptLine → Progress → Type 0
-LineOutputAs taken taken_now faults faults_now m answers lines More = Sent taken taken_now (m.texts lines) [] × (m.answers lines ≡ answers)
-LineOutputAs taken taken_now faults faults_now m answers lines Over = Sent taken taken_now (m.texts lines) [] × (m.answers lines ≡ answers)
-LineOutputAs taken taken_now faults faults_now m answers lines Unwritten = Rose faults faults_now × ((rest : List ℕ) × Sent taken taken_now (m.texts lines) rest)
-LineOutputAs taken taken_now faults faults_now m answers lines OutOfMemory = taken_now ≡ taken
+abbrev pub LineOutputAs : Output → Output → Meaning → Answered → List ScriptLine → Progress → Type 0
+LineOutputAs sink sink_now m answers lines More = Sent sink.taken sink_now.taken (m.texts lines) [] × (m.answers lines ≡ answers)
+LineOutputAs sink sink_now m answers lines Over = Sent sink.taken sink_now.taken (m.texts lines) [] × (m.answers lines ≡ answers)
+LineOutputAs sink sink_now m answers lines Unwritten = Rose sink.faults sink_now.faults × ((rest : List ℕ) × Sent sink.taken sink_now.taken (m.texts lines) rest)
+LineOutputAs sink sink_now m answers lines OutOfMemory = sink_now.taken ≡ sink.taken
 
 -- Bytes came behind those held. Lines were cut from them, as far as what is held now and what stands behind, and the texts of
 -- these lines were written but for the rest.
@@ -32,12 +32,12 @@ pub record SomeOutput (m : Meaning) (taken taken_now : Option (List ℕ)) (held 
   pub output : LinesOutput m taken taken_now held bytes there held_now behind rest
 
 -- how far a piece was answered: whole, to a `quit`, to a text that wasn't written whole, or to want of memory
-abbrev pub PieceOutputAs : (Meaning → Type 0) → Option (List ℕ) → Option (List ℕ) → ℕ → ℕ → Meaning → Answered → List ℕ → List ℕ → List ℕ → Progress → Type 0
-PieceOutputAs MeansNow taken taken_now faults faults_now m answers held held_now bytes More =
-    ((there : Meaning) × MeansNow there × (there.over [] ≡ false) × LinesOutput m taken taken_now held bytes there held_now [] []) × HasNoNewline held_now
-PieceOutputAs MeansNow taken taken_now faults faults_now m answers held held_now bytes Over =
-    (some : SomeOutput m taken taken_now held bytes []) × IsQuit some.there × (some.there.answers [] ≡ answers)
-PieceOutputAs MeansNow taken taken_now faults faults_now m answers held held_now bytes Unwritten =
-    Rose faults faults_now × ((rest : List ℕ) × SomeOutput m taken taken_now held bytes rest)
-PieceOutputAs MeansNow taken taken_now faults faults_now m answers held held_now bytes OutOfMemory =
-    SomeOutput m taken taken_now held bytes []
+abbrev pub PieceOutputAs : (Meaning → Type 0) → Output → Output → Meaning → Answered → List ℕ → List ℕ → List ℕ → Progress → Type 0
+PieceOutputAs MeansNow sink sink_now m answers held held_now bytes More =
+    ((there : Meaning) × MeansNow there × (there.over [] ≡ false) × LinesOutput m sink.taken sink_now.taken held bytes there held_now [] []) × HasNoNewline held_now
+PieceOutputAs MeansNow sink sink_now m answers held held_now bytes Over =
+    (some : SomeOutput m sink.taken sink_now.taken held bytes []) × IsQuit some.there × (some.there.answers [] ≡ answers)
+PieceOutputAs MeansNow sink sink_now m answers held held_now bytes Unwritten =
+    Rose sink.faults sink_now.faults × ((rest : List ℕ) × SomeOutput m sink.taken sink_now.taken held bytes rest)
+PieceOutputAs MeansNow sink sink_now m answers held held_now bytes OutOfMemory =
+    SomeOutput m sink.taken sink_now.taken held bytes []

@@ -1,24 +1,19 @@
 // A desk answers the lines of a script: they are those of several parties.
-ghost use Rattle.std.specs.Prelude.{◌≡◌, ℕ, List, ◌+◌, ◌<◌, ◌≤◌, ◌^◌, ◌++◌, length, map};
-ghost use Rattle.script_lines.specs.Lines.{ended_lines, ready_lines, HasNoNewline};
-ghost use Rattle.graph_session.specs.Refusals.{SameChecks};
+ghost use Rattle.std.specs.Prelude.{◌≡◌, ◌<◌};
 ghost use Rattle.shared_desk.specs.Desk.{Desk as Defined};
 ghost use Rattle.shared_desk.specs.DeskView.{StandsFor, rules_of};
 ghost use Rattle.desk_lines.specs.DeskStepping.{desk_open};
-ghost use Rattle.interview.specs.Meanings.{Meaning, of_desk};
-ghost use Rattle.interview.specs.Telling.{LineOutputAs, PieceOutputAs};
+ghost use Rattle.interview.specs.Meanings.{of_desk};
 
 use crate::line_handler::LineHandler;
 use dictionary::FactEngine;
-use fact_watch::WatchTable;
 use fg_io::Sink;
 use script_lines::{Lines, Ready};
-use session_lines::Progress;
+use session_lines::{Progress, Tables};
 use shared_desk::Desk;
 use std::alloc::Global;
 use std::sync::ledger::Ledger;
 use steps::Steps;
-use text_checks::CheckTable;
 
 impl<E: FactEngine> LineHandler for Desk<E> {
     ghost means = { λ v relations m. (d : Defined) × StandsFor v d × (m ≡ of_desk (rules_of v) (desk_open d)) };
@@ -34,26 +29,24 @@ impl<E: FactEngine> LineHandler for Desk<E> {
     fn answer_ready<L: Ledger, K: Sink>(
         &mut self,
         alloc: Global,
-        table: &WatchTable,
-        checks: &CheckTable,
+        tables: &Tables<'_>,
         ready: Ready,
         line: &[u8],
         out: &mut K,
         steps: &mut Steps<L>,
     ) -> Progress {
-        desk_lines::answer_ready(alloc, self, checks, ready, line, out, steps)
+        desk_lines::answer_ready(alloc, self, tables.checks, ready, line, out, steps)
     }
 
     fn answer_piece<L: Ledger, K: Sink>(
         &mut self,
         alloc: Global,
-        table: &WatchTable,
-        checks: &CheckTable,
+        tables: &Tables<'_>,
         lines: &mut Lines,
         out: &mut K,
         bytes: &[u8],
         steps: &mut Steps<L>,
     ) -> Progress {
-        desk_lines::answer_piece(alloc, self, checks, lines, out, bytes, steps)
+        desk_lines::answer_piece(alloc, self, tables.checks, lines, out, bytes, steps)
     }
 }

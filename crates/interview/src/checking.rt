@@ -3,7 +3,7 @@ ghost use Rattle.std.specs.Prelude.{◌≡◌};
 ghost use Rattle.text_checks.specs.Tables.{named_checks};
 ghost use Rattle.dictionary.specs.Accepted.{accepted};
 ghost use Rattle.interview.specs.Interview.{defined_accepted};
-ghost use Rattle.interview.specs.StepEnds.{CheckEnds, EndedBy};
+ghost use Rattle.interview.specs.StepEnds.{CheckEnds, EndedBy, check_did};
 ghost use Rattle.interview.specs.declared.status.Status.TheVariants.{Done};
 
 use crate::Status;
@@ -18,9 +18,8 @@ use value_text::Line;
 
 // Writes that a dictionary is accepted, which ends the interview.
 fn end_accepted<K: Sink>(out: &mut K, dictionary: &Dictionary) -> Status
-    ensures { EndedBy
-        (K.taken out.old) (K.taken out.new) (K.faults out.old) (K.faults out.new)
-        (defined_accepted (accepted dictionary.now)).text Done result }
+    ensures { EndedBy (K.output out.old) (K.output out.new) (defined_accepted (accepted dictionary.now)).text Done
+        result }
 {
     let mut line = Line::new();
     print_accepted(dictionary.fact_count(), dictionary.node_count(), &mut line);
@@ -35,15 +34,8 @@ pub fn check<H: Shelf, K: Sink>(
     shelf: &mut H,
     out: &mut K,
 ) -> Status
-    ensures ends { CheckEnds (H.contents shelf.old name.now)
-        (named_checks checks.now) name.now
-        (record {
-          shelf = record { before = H.faults shelf.old; after = H.faults shelf.new };
-          failed_name = H.failed_name shelf.new;
-          taken = record { before = K.taken out.old; after = K.taken out.new };
-          sink = record { before = K.faults out.old; after = K.faults out.new };
-        })
-        result }
+    ensures ends { CheckEnds ((H.files shelf.old).contents name.now) (named_checks checks.now) name.now
+        (check_did (H.files shelf.old) (H.files shelf.new) (K.output out.old) (K.output out.new)) result }
 {
     match fetch(alloc, name, checks, shelf) {
         Ok(Fetched::Accepted(dictionary)) => {

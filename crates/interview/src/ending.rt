@@ -15,9 +15,7 @@ use value_text::Line;
 
 /// Writes a text that ends the interview with this status.
 pub fn end_by<K: Sink>(out: &mut K, text: &[u8], status: Status) -> Status
-    ensures { EndedBy
-        (K.taken out.old) (K.taken out.new) (K.faults out.old) (K.faults out.new)
-        text.now status result }
+    ensures { EndedBy (K.output out.old) (K.output out.new) text.now status result }
 {
     match put_all(out, text) {
         Ok(()) => status,
@@ -27,9 +25,9 @@ pub fn end_by<K: Sink>(out: &mut K, text: &[u8], status: Status) -> Status
 
 // Puts a text line by line: a line with its newline is one piece.
 fn put_lines<K: Sink>(out: &mut K, text: &[u8]) -> Result<(), Failed>
-    ensures whole { OnOk result (Sent (K.taken out.old) (K.taken out.new) text.now []) }
-    ensures part { (rest : List ℕ) × Sent (K.taken out.old) (K.taken out.new) text.now rest }
-    ensures cause { HasCause (K.faults out.old) (K.faults out.new) result }
+    ensures whole { OnOk result (Sent (K.output out.old).taken (K.output out.new).taken text.now []) }
+    ensures part { (rest : List ℕ) × Sent (K.output out.old).taken (K.output out.new).taken text.now rest }
+    ensures cause { HasCause (K.output out.old).faults (K.output out.new).faults result }
 {
     let mut rest = text;
     while !rest.is_empty() {
@@ -44,9 +42,7 @@ fn put_lines<K: Sink>(out: &mut K, text: &[u8]) -> Result<(), Failed>
 
 /// Writes a text of several lines that ends the interview with this status, each line as one piece.
 pub fn end_by_lines<K: Sink>(out: &mut K, text: &[u8], status: Status) -> Status
-    ensures { EndedBy
-        (K.taken out.old) (K.taken out.new) (K.faults out.old) (K.faults out.new)
-        text.now status result }
+    ensures { EndedBy (K.output out.old) (K.output out.new) text.now status result }
 {
     match put_lines(out, text) {
         Ok(()) => status,
@@ -56,9 +52,7 @@ pub fn end_by_lines<K: Sink>(out: &mut K, text: &[u8], status: Status) -> Status
 
 /// Writes the line of a dictionary's first fault, which ends the interview.
 pub fn end_by_fault<K: Sink>(out: &mut K, fault: DictFault) -> Status
-    ensures { EndedBy
-        (K.taken out.old) (K.taken out.new) (K.faults out.old) (K.faults out.new)
-        (fault_line fault) DictionaryRefused result }
+    ensures { EndedBy (K.output out.old) (K.output out.new) (fault_line fault) DictionaryRefused result }
 {
     let mut line = Line::new();
     print_fault(fault, &mut line);
@@ -67,9 +61,7 @@ pub fn end_by_fault<K: Sink>(out: &mut K, fault: DictFault) -> Status
 
 /// Writes the line at which a saved text is refused, which ends the interview.
 pub fn end_by_refused_line<K: Sink>(out: &mut K, number: u32) -> Status
-    ensures { EndedBy
-        (K.taken out.old) (K.taken out.new) (K.faults out.old) (K.faults out.new)
-        (saved_refused_line number) SavedRefused result }
+    ensures { EndedBy (K.output out.old) (K.output out.new) (saved_refused_line number) SavedRefused result }
 {
     let mut line = Line::new();
     print_saved_refused(number, &mut line);

@@ -26,12 +26,9 @@ pub enum Fetched {
 
 // The dictionary that the bytes spell, with the checks of the table by name and code.
 fn accept_named(alloc: Global, bytes: &[u8], checks: &CheckTable) -> Result<Dictionary, DictFault>
-    ensures is_accepted { IfOk result (λ d. AreAccepted bytes.now (names_of
-        (named_checks checks.now)) (accepted d)) }
-    ensures checks { IfOk result (λ d. d.checks
-        ≡ named_checks checks.now) }
-    ensures refused { IfErr result (Refuses (IsFault bytes.now (names_of
-        (named_checks checks.now)))) }
+    ensures is_accepted { IfOk result (λ d. AreAccepted bytes.now (names_of (named_checks checks.now)) (accepted d)) }
+    ensures checks { IfOk result (λ d. d.checks ≡ named_checks checks.now) }
+    ensures refused { IfErr result (Refuses (IsFault bytes.now (names_of (named_checks checks.now)))) }
 {
     accept(alloc, bytes, checks)
 }
@@ -65,12 +62,10 @@ pub fn fetch<H: Shelf>(
     checks: &CheckTable,
     shelf: &mut H,
 ) -> Result<Fetched, Status>
-    ensures fetched { IfOk result (FetchedAs (H.contents shelf.old name.now)
-        (named_checks checks.now)) }
-    ensures not_fetched { IfErr result
-        (NotFetched name.now (H.faults shelf.old) (H.faults shelf.new) (H.failed_name shelf.new)) }
-    ensures kept { H.contents shelf.new ≡ H.contents shelf.old }
-    ensures later { H.faults shelf.old ≤ H.faults shelf.new }
+    ensures fetched { IfOk result (FetchedAs ((H.files shelf.old).contents name.now) (named_checks checks.now)) }
+    ensures not_fetched { IfErr result (NotFetched name.now (H.files shelf.old) (H.files shelf.new)) }
+    ensures kept { (H.files shelf.new).contents ≡ (H.files shelf.old).contents }
+    ensures later { (H.files shelf.old).faults ≤ (H.files shelf.new).faults }
 {
     let bytes = match shelf.fetch(name, LIMIT) {
         Ok(bytes) => bytes,

@@ -1,12 +1,13 @@
 // Makes a load, runs its script over its dictionary, and says what was replied.
-ghost use Rattle.std.specs.Prelude.{◌≡◌, ◌≤◌, ◌<◌, [], Some, IfOk};
+ghost use Rattle.std.specs.Prelude.{◌≡◌, ◌≤◌, ◌<◌, [], IfOk};
 ghost use Rattle.answers.specs.Answered.{start};
-ghost use Rattle.dictionary.specs.Accepted.{accepted};
 ghost use Rattle.graph_session.specs.Rules.{Rules, rules};
 ghost use Rattle.fact_watch.specs.Tables.{named_relations};
 ghost use Rattle.interview.specs.Interview.{defined_script};
 ghost use Rattle.interview.specs.Meanings.{meaning_of};
 ghost use Rattle.interview.specs.Load.{GeneratedAs, IsOfLoad, defined_gen};
+ghost use Rattle.fg_io.specs.SinkState.{output_shown};
+ghost use Rattle.fg_io.specs.SourceState.{input_shown};
 ghost use Rattle.interview.specs.ScriptEnds.{ScriptEnds, script_did};
 ghost use Rattle.interview.specs.declared.words.Mode.TheVariants.{Incremental};
 
@@ -22,6 +23,7 @@ use fact_values::NoMemory;
 use fact_watch::WatchTable;
 use fg_io::{MemSink, MemSource, Sink};
 use recalc::Recalc;
+use session_lines::Tables;
 use std::alloc::Global;
 use std::marker::Brand;
 use std::sync::ledger::{Blank, Ledger};
@@ -41,17 +43,19 @@ fn run_made<L: Ledger>(
     requires parts { blank.parts ≡ L.parts }
     requires some { 0 < blank.parts }
     requires no_checks { dictionary.checks ≡ [] }
-    ensures ends { ScriptEnds
-        (meaning_of (rules dictionary) Incremental (named_relations table.now) start)
-        (script_did (Some script.old.left) (Some script.new.left) (Some out.old.taken) (Some out.new.taken)
-        script.old.faults script.new.faults out.old.faults out.new.faults)
+    ensures ends { ScriptEnds (meaning_of (rules dictionary) Incremental (named_relations table.now) start)
+        (script_did (input_shown script.old) (input_shown script.new) (output_shown out.old) (output_shown out.new))
         result }
 {
     let checks = CheckTable::new(alloc);
+    let tables = Tables {
+        checks: &checks,
+        relations: table,
+    };
     let mut steps = Steps::<L>::new(blank);
     match WatchedSession::<Recalc>::new(alloc, dictionary) {
         Ok(mut watched) => {
-            let status = run(alloc, &mut watched, table, &checks, script, out, &mut steps);
+            let status = run(alloc, &mut watched, &tables, script, out, &mut steps);
             drop(watched);
             status
         }
@@ -67,8 +71,9 @@ fn replies_to(
     table: &WatchTable,
 ) -> Result<MemSink, NoMemory>
     requires { dictionary.checks ≡ [] }
-    ensures replies { IfOk result (λ sink. sink.taken ≡ (defined_script
-        (meaning_of (rules dictionary) Incremental (named_relations table.now) start) script.items).text) }
+    ensures replies { IfOk result (λ sink. sink.taken
+        ≡ (defined_script (meaning_of (rules dictionary) Incremental (named_relations table.now) start)
+        script.items).text) }
 {
     let mut source = MemSource::new(script, u32::MAX, Vec::new(alloc));
     let mut sink = MemSink::new(alloc, u32::MAX, Vec::new(alloc))?;
@@ -94,8 +99,8 @@ fn replies_to(
 fn summary_of_load(alloc: Global, n: u32, table: &WatchTable) -> Result<Vec<u8>, NoMemory>
     requires some { 1 ≤ n }
     requires most { n ≤ 1000 }
-    ensures summary { IfOk result (λ text. (r : Rules) × IsOfLoad n r × (text.items
-        ≡ (defined_gen r (named_relations table.now) n).text)) }
+    ensures summary { IfOk result (λ text. (r : Rules) × IsOfLoad n r
+        × (text.items ≡ (defined_gen r (named_relations table.now) n).text)) }
 {
     let made = make(alloc, n)?;
     let facts = made.dict.fact_count();
@@ -110,9 +115,7 @@ pub fn run_load<K: Sink>(alloc: Global, n: u32, table: &WatchTable, out: &mut K)
     requires some { 1 ≤ n }
     requires most { n ≤ 1000 }
     ensures generated { GeneratedAs (named_relations table.now) n
-        (record { before = K.taken out.old; after = K.taken out.new })
-        (record { before = K.faults out.old; after = K.faults out.new })
-        result }
+        (record { before = K.output out.old; after = K.output out.new }) result }
 {
     match summary_of_load(alloc, n, table) {
         Ok(text) => end_by_lines(out, text.as_slice(), Status::Done),

@@ -60,10 +60,8 @@ fn run_with(
     checks: &CheckTable,
     table: &WatchTable,
 ) -> Status
-    requires checks { named_checks checks.now
-        ≡ standard_checks }
-    requires relations { named_relations table.now
-        ≡ standard_relations }
+    requires checks { named_checks checks.now ≡ standard_checks }
+    requires relations { named_relations table.now ≡ standard_relations }
 {
     let mut shelf = FolderShelf::new(rt, alloc);
     let mut script = StdinSource::new(rt.stdin());
@@ -86,8 +84,7 @@ fn run_checked(
     words: &[String],
     checks: &CheckTable,
 ) -> Result<Status, AllocError>
-    requires { named_checks checks.now
-        ≡ standard_checks }
+    requires { named_checks checks.now ≡ standard_checks }
 {
     let mut table = WatchTable::new(alloc);
     standard_relations!(alloc, table);

@@ -21,12 +21,11 @@ pub fn obtain<H: Shelf>(
     checks: &CheckTable,
     shelf: &mut H,
 ) -> Result<Fetched, Status>
-    ensures obtained { IfOk result (ObtainedAs (H.contents shelf.old) (origin_of origin.entry)
+    ensures obtained { IfOk result (ObtainedAs (H.files shelf.old).contents (origin_of origin.entry)
         (named_checks checks.now)) }
-    ensures not_obtained { IfErr result (NotObtained (origin_of origin.entry)
-        (H.faults shelf.old) (H.faults shelf.new) (H.failed_name shelf.new)) }
-    ensures kept { H.contents shelf.new ≡ H.contents shelf.old }
-    ensures later { H.faults shelf.old ≤ H.faults shelf.new }
+    ensures not_obtained { IfErr result (NotObtained (origin_of origin.entry) (H.files shelf.old) (H.files shelf.new)) }
+    ensures kept { (H.files shelf.new).contents ≡ (H.files shelf.old).contents }
+    ensures later { (H.files shelf.old).faults ≤ (H.files shelf.new).faults }
     ensures unfetched { (b : BuiltIn) → origin_of origin.entry ≡ program b → shelf.new ≡ shelf.old }
 {
     match origin {

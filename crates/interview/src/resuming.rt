@@ -51,7 +51,7 @@ pub enum Resumed {
 /// Writes what is to be said of a saved text.
 pub fn put_front<K: Sink>(dropped: &Dropped, out: &mut K) -> Result<(), Failed>
     requires { (front : List ℕ) × Gives dropped.now front }
-    ensures { (front : List ℕ) → Gives dropped.now front → Wrote (K.taken out.old) (K.taken out.new) (K.faults out.old) (K.faults out.new) front result }
+    ensures { (front : List ℕ) → Gives dropped.now front → Wrote (K.output out.old) (K.output out.new) front result }
 {
     match dropped {
         Dropped::Nothing => Ok(()),
@@ -91,8 +91,7 @@ fn carry_ready(
     checks: &CheckTable,
     bytes: Vec<u8>,
 ) -> Result<Resumed, Status>
-    requires same_checks { SameChecks (rules dict.now)
-        (named_checks checks.now) }
+    requires same_checks { SameChecks (rules dict.now) (named_checks checks.now) }
     requires short { length bytes.items ≤ saved_limit }
     ensures resumed { IfOk result (ResumesAs (rules dict.now) (to_carry bytes.items)) }
     ensures memory { IfErr result (λ status. status ≡ WantsMemory) }
@@ -108,9 +107,8 @@ fn carry_ready(
 
 // Fetches the saved text of this name; of one that is too long nothing is kept.
 fn fetch_text<H: Shelf>(name: &str, shelf: &mut H) -> Result<Option<Vec<u8>>, Status>
-    ensures fetched { IfOk result (FetchedText (H.contents shelf.old name.now)) }
-    ensures not_fetched { IfErr result
-        (NotFetched name.now (H.faults shelf.old) (H.faults shelf.new) (H.failed_name shelf.new)) }
+    ensures fetched { IfOk result (FetchedText ((H.files shelf.old).contents name.now)) }
+    ensures not_fetched { IfErr result (NotFetched name.now (H.files shelf.old) (H.files shelf.new)) }
 {
     match shelf.fetch(name, LIMIT) {
         Ok(bytes) => Ok(Some(bytes)),
@@ -127,9 +125,8 @@ fn resume_loaded<H: Shelf>(
     dict: &Dictionary,
     shelf: &mut H,
 ) -> Result<Resumed, Status>
-    ensures resumed { IfOk result (ResumedAs (H.contents shelf.old) (by_load name.now) (rules dict.now)) }
-    ensures not_resumed { IfErr result (NotResumed (by_load name.now)
-        (H.faults shelf.old) (H.faults shelf.new) (H.failed_name shelf.new)) }
+    ensures resumed { IfOk result (ResumedAs (H.files shelf.old).contents (by_load name.now) (rules dict.now)) }
+    ensures not_resumed { IfErr result (NotResumed (by_load name.now) (H.files shelf.old) (H.files shelf.new)) }
 {
     match fetch_text(name, shelf) {
         Ok(Some(bytes)) => load_ready(alloc, dict, bytes.as_slice()),
@@ -146,11 +143,9 @@ fn resume_carried<H: Shelf>(
     checks: &CheckTable,
     shelf: &mut H,
 ) -> Result<Resumed, Status>
-    requires { SameChecks (rules dict.now)
-        (named_checks checks.now) }
-    ensures resumed { IfOk result (ResumedAs (H.contents shelf.old) (by_carry name.now) (rules dict.now)) }
-    ensures not_resumed { IfErr result (NotResumed (by_carry name.now)
-        (H.faults shelf.old) (H.faults shelf.new) (H.failed_name shelf.new)) }
+    requires { SameChecks (rules dict.now) (named_checks checks.now) }
+    ensures resumed { IfOk result (ResumedAs (H.files shelf.old).contents (by_carry name.now) (rules dict.now)) }
+    ensures not_resumed { IfErr result (NotResumed (by_carry name.now) (H.files shelf.old) (H.files shelf.new)) }
 {
     match fetch_text(name, shelf) {
         Ok(Some(bytes)) => carry_ready(alloc, dict, checks, bytes),
@@ -168,12 +163,11 @@ pub fn resume<H: Shelf>(
     checks: &CheckTable,
     shelf: &mut H,
 ) -> Result<Resumed, Status>
-    requires { SameChecks (rules dict.now)
-        (named_checks checks.now) }
-    ensures resumed { IfOk result
-        (ResumedAs (H.contents shelf.old) (beginning_of beginning.entry) (rules dict.now)) }
-    ensures not_resumed { IfErr result (NotResumed (beginning_of beginning.entry)
-        (H.faults shelf.old) (H.faults shelf.new) (H.failed_name shelf.new)) }
+    requires { SameChecks (rules dict.now) (named_checks checks.now) }
+    ensures resumed { IfOk result (ResumedAs (H.files shelf.old).contents (beginning_of beginning.entry)
+        (rules dict.now)) }
+    ensures not_resumed { IfErr result (NotResumed (beginning_of beginning.entry) (H.files shelf.old)
+        (H.files shelf.new)) }
     ensures unfetched { beginning_of beginning.entry ≡ unanswered → shelf.new ≡ shelf.old }
 {
     let _accepted = dict.source();

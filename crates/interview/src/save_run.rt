@@ -1,15 +1,15 @@
 // Runs a script without its replies, and saves the answers that stand at its end.
 ghost use Rattle.std.specs.Prelude.{◌≡◌, ◌<◌, ℕ, List};
+ghost use Rattle.session_lines.specs.Answering.{state_by};
 ghost use Rattle.text_checks.specs.Tables.{named_checks};
+ghost use Rattle.fact_watch.specs.Tables.{named_relations};
 ghost use Rattle.dictionary.specs.Accepted.{accepted};
 ghost use Rattle.graph_session.specs.Refusals.{SameChecks};
 ghost use Rattle.graph_session.specs.Rules.{rules};
-ghost use Rattle.fact_watch.specs.Tables.{named_relations};
 ghost use Rattle.save_file.specs.SavedText.{saved};
-ghost use Rattle.interview.specs.Given.{did_by};
+ghost use Rattle.interview.specs.Given.{did_by, given_with};
 ghost use Rattle.interview.specs.Meanings.{of_session};
 ghost use Rattle.interview.specs.Save.{ScriptSaves, save_meaning};
-ghost use Rattle.session_lines.specs.Answering.{line_state_of};
 ghost use Rattle.session_lines.specs.Stepping.{open_at};
 ghost use Rattle.interview.specs.SaveEnds.{SaveEnds};
 ghost use Rattle.interview.specs.ScriptEnds.{script_did};
@@ -33,6 +33,7 @@ use fg_io::{Failed, Shelf, Sink, Source};
 use graph_session::Session;
 use recalc::Recalc;
 use save_file::save;
+use session_lines::Tables;
 use std::alloc::Global;
 use std::marker::Brand;
 use std::sync::ledger::{Blank, Ledger};
@@ -41,8 +42,7 @@ use text_checks::CheckTable;
 
 // Writes the answers that stand.
 fn save_answers<E: FactEngine, K: Sink>(session: &Session<E>, out: &mut K) -> Status
-    ensures { EndedBy
-        (K.taken out.old) (K.taken out.new) (K.faults out.old) (K.faults out.new)
+    ensures { EndedBy (K.output out.old) (K.output out.new)
         (saved (accepted session.now.dict).tree session.now.timeline.now) Done result }
 {
     match save(session.dict(), session.answers(), out) {
@@ -55,23 +55,19 @@ fn save_answers<E: FactEngine, K: Sink>(session: &Session<E>, out: &mut K) -> St
 fn save_session<E: FactEngine, L: Ledger, S: Source, K: Sink>(
     alloc: Global,
     watched: &mut WatchedSession<E>,
-    checks: &CheckTable,
-    table: &WatchTable,
+    tables: &Tables<'_>,
     script: &mut S,
     out: &mut K,
     steps: &mut Steps<L>,
 ) -> Status
-    requires same_checks { SameChecks (rules watched.old.session.dict)
-        (named_checks checks.now) }
+    requires same_checks { SameChecks (rules watched.old.session.dict) (named_checks tables.now.checks.now) }
     requires unchanged { watched.old.session.changes ≡ 0 }
-    ensures saves { ScriptSaves (rules watched.old.session.dict)
-        (of_session (rules watched.old.session.dict) (open_at (line_state_of watched.old.session (named_relations table.now) watched.old.watches)))
-        (script_did (S.left script.old) (S.left script.new) (K.taken out.old) (K.taken out.new)
-        (S.faults script.old) (S.faults script.new) (K.faults out.old) (K.faults out.new))
-        result }
+    ensures saves { ScriptSaves (rules watched.old.session.dict) (of_session (rules watched.old.session.dict)
+        (open_at (state_by watched.old.session tables.now.relations.now watched.old.watches)))
+        (script_did (S.input script.old) (S.input script.new) (K.output out.old) (K.output out.new)) result }
 {
     let mut silent = Silent;
-    match run(alloc, watched, table, checks, script, &mut silent, steps) {
+    match run(alloc, watched, tables, script, &mut silent, steps) {
         Status::Done => save_answers(&watched.session, out),
         Status::DictionaryRefused => Status::DictionaryRefused,
         Status::Usage => Status::Usage,
@@ -88,8 +84,7 @@ fn save_session<E: FactEngine, L: Ledger, S: Source, K: Sink>(
 fn save_over<L: Ledger, S: Source, K: Sink>(
     alloc: Global,
     dictionary: Dictionary,
-    checks: &CheckTable,
-    table: &WatchTable,
+    tables: &Tables<'_>,
     script: &mut S,
     out: &mut K,
     blank: Blank,
@@ -97,18 +92,15 @@ fn save_over<L: Ledger, S: Source, K: Sink>(
     requires name { blank.name ≡ L.name }
     requires parts { blank.parts ≡ L.parts }
     requires some { 0 < blank.parts }
-    requires same_checks { SameChecks (rules dictionary)
-        (named_checks checks.now) }
+    requires same_checks { SameChecks (rules dictionary) (named_checks tables.now.checks.now) }
     ensures saves { ScriptSaves (rules dictionary)
-        (save_meaning (rules dictionary) (named_relations table.now))
-        (script_did (S.left script.old) (S.left script.new) (K.taken out.old) (K.taken out.new)
-        (S.faults script.old) (S.faults script.new) (K.faults out.old) (K.faults out.new))
-        result }
+        (save_meaning (rules dictionary) (named_relations tables.now.relations.now))
+        (script_did (S.input script.old) (S.input script.new) (K.output out.old) (K.output out.new)) result }
 {
     let mut steps = Steps::<L>::new(blank);
     match WatchedSession::<Recalc>::new(alloc, dictionary) {
         Ok(mut watched) => {
-            let status = save_session(alloc, &mut watched, checks, table, script, out, &mut steps);
+            let status = save_session(alloc, &mut watched, tables, script, out, &mut steps);
             drop(watched);
             status
         }
@@ -126,23 +118,19 @@ pub fn run_and_save<H: Shelf, S: Source, K: Sink>(
     script: &mut S,
     out: &mut K,
 ) -> Status
-    ensures ends { (words : List (List ℕ)) → IsSave words (origin_of origin.entry) → SaveEnds
-        (record {
-          words = words;
-          checks = named_checks checks.now;
-          relations = named_relations table.now;
-          contents = H.contents shelf.old;
-          left = S.left script.old;
-        })
-        (did_by (H.faults shelf.old) (H.faults shelf.new) (H.failed_name shelf.new)
-        (script_did (S.left script.old) (S.left script.new) (K.taken out.old) (K.taken out.new)
-        (S.faults script.old) (S.faults script.new) (K.faults out.old) (K.faults out.new)))
-        result }
+    ensures ends { (words : List (List ℕ)) → IsSave words (origin_of origin.entry) → SaveEnds (given_with words
+        (named_checks checks.now) (named_relations table.now) (H.files shelf.old) (S.input script.old))
+        (did_by (H.files shelf.old) (H.files shelf.new) (S.input script.old) (S.input script.new) (K.output out.old)
+        (K.output out.new)) result }
     ensures unfetched { (b : BuiltIn) → origin_of origin.entry ≡ program b → shelf.new ≡ shelf.old }
 {
     match obtain(alloc, origin, checks, shelf) {
         Ok(Fetched::Accepted(dictionary)) => {
-            save_over::<Brand, S, K>(alloc, dictionary, checks, table, script, out, Blank::new(1))
+            let tables = Tables {
+                checks,
+                relations: table,
+            };
+            save_over::<Brand, S, K>(alloc, dictionary, &tables, script, out, Blank::new(1))
         }
         Ok(Fetched::Refused(fault)) => end_by_fault(out, fault),
         Err(status) => status,

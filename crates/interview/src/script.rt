@@ -1,9 +1,9 @@
 // Runs a script, while it is read.
 ghost use Rattle.std.specs.Prelude.{◌≡◌, ◌≤◌, ◌<◌, ◌+◌, ◌^◌};
-ghost use Rattle.script_lines.specs.Lines.{script_lines};
 ghost use Rattle.text_checks.specs.Tables.{named_checks};
-ghost use Rattle.graph_session.specs.Refusals.{SameChecks};
 ghost use Rattle.fact_watch.specs.Tables.{named_relations};
+ghost use Rattle.script_lines.specs.Lines.{script_lines};
+ghost use Rattle.graph_session.specs.Refusals.{SameChecks};
 ghost use Rattle.interview.specs.Meanings.{IsBeginning, Meaning};
 ghost use Rattle.interview.specs.Save.{LeavesAnswers};
 ghost use Rattle.interview.specs.ScriptEnds.{ScriptEnds, ending_of, script_did};
@@ -12,14 +12,12 @@ ghost use Rattle.interview.specs.Telling.{LineOutputAs};
 
 use crate::Status;
 use crate::line_handler::LineHandler;
-use fact_watch::WatchTable;
 use fg_io::{Failed, Sink, Source};
 use script_lines::Lines;
-use session_lines::Progress;
+use session_lines::{Progress, Tables};
 use std::alloc::Global;
 use std::sync::ledger::Ledger;
 use steps::Steps;
-use text_checks::CheckTable;
 
 /// The most bytes of a script.
 const LIMIT: usize = 67_108_864;
@@ -30,24 +28,22 @@ const BUFFER: usize = 4_096;
 fn finish<T: LineHandler, L: Ledger, K: Sink>(
     alloc: Global,
     handler: &mut T,
-    table: &WatchTable,
-    checks: &CheckTable,
+    tables: &Tables<'_>,
     lines: &mut Lines,
     out: &mut K,
     steps: &mut Steps<L>,
 ) -> Progress
-    requires same_checks { SameChecks (T.goes_by handler.old)
-        (named_checks checks.now) }
+    requires same_checks { SameChecks (T.goes_by handler.old) (named_checks tables.now.checks.now) }
     requires few { T.changes handler.old < 2 ^ 63 }
-    ensures output { (m : Meaning) → T.means handler.old (named_relations table.now) m
-        → LineOutputAs (K.taken out.old) (K.taken out.new) (K.faults out.old) (K.faults out.new) m (T.stands handler.new) (script_lines lines.old.so_far) result }
+    ensures output { (m : Meaning) → T.means handler.old (named_relations tables.now.relations.now) m → LineOutputAs (K.output out.old)
+        (K.output out.new) m (T.stands handler.new) (script_lines lines.old.so_far) result }
     ensures same_rules { T.goes_by handler.new ≡ T.goes_by handler.old }
-    ensures later { K.faults out.old ≤ K.faults out.new }
-    ensures steps { (m : Meaning) → T.means handler.old (named_relations table.now) m
-        → steps.new ≤ steps.old + m.steps T.most (script_lines lines.old.so_far) }
+    ensures later { (K.output out.old).faults ≤ (K.output out.new).faults }
+    ensures steps { (m : Meaning) → T.means handler.old (named_relations tables.now.relations.now) m → steps.new ≤ steps.old + m.steps T.most
+        (script_lines lines.old.so_far) }
 {
     let ready = lines.finish();
-    handler.answer_ready(alloc, table, checks, ready, lines.line(), out, steps)
+    handler.answer_ready(alloc, tables, ready, lines.line(), out, steps)
 }
 
 fn status_at_end(progress: Progress) -> Status
@@ -66,26 +62,22 @@ fn status_at_end(progress: Progress) -> Status
 pub fn run<T: LineHandler, L: Ledger, S: Source, K: Sink>(
     alloc: Global,
     handler: &mut T,
-    table: &WatchTable,
-    checks: &CheckTable,
+    tables: &Tables<'_>,
     script: &mut S,
     out: &mut K,
     steps: &mut Steps<L>,
 ) -> Status
-    requires same_checks { SameChecks (T.goes_by handler.old)
-        (named_checks checks.now) }
+    requires same_checks { SameChecks (T.goes_by handler.old) (named_checks tables.now.checks.now) }
     requires unchanged { T.changes handler.old ≡ 0 }
-    requires meant { (m : Meaning) × IsBeginning m × T.means handler.old (named_relations table.now) m }
-    ensures ends { (m : Meaning) → IsBeginning m → T.means handler.old (named_relations table.now) m
-        → ScriptEnds m (script_did (S.left script.old) (S.left script.new) (K.taken out.old) (K.taken out.new)
-        (S.faults script.old) (S.faults script.new) (K.faults out.old) (K.faults out.new)) result }
-    ensures leaves { (m : Meaning) → IsBeginning m → T.means handler.old (named_relations table.now) m
-        → LeavesAnswers m (S.left script.old) (T.stands handler.new) result }
+    requires meant { (m : Meaning) × IsBeginning m × T.means handler.old (named_relations tables.now.relations.now) m }
+    ensures ends { (m : Meaning) → IsBeginning m → T.means handler.old (named_relations tables.now.relations.now) m
+        → ScriptEnds m (script_did (S.input script.old) (S.input script.new) (K.output out.old) (K.output out.new))
+        result }
+    ensures leaves { (m : Meaning) → IsBeginning m → T.means handler.old (named_relations tables.now.relations.now) m
+        → LeavesAnswers m (S.input script.old).left (T.stands handler.new) result }
     ensures same_rules { T.goes_by handler.new ≡ T.goes_by handler.old }
-    ensures steps { (m : Meaning) → IsBeginning m → T.means handler.old (named_relations table.now) m
-        → StepsWithin T.most m
-        (record { before = S.left script.old; after = S.left script.new })
-        (record { before = steps.old; after = steps.new }) }
+    ensures steps { (m : Meaning) → IsBeginning m → T.means handler.old (named_relations tables.now.relations.now) m → StepsWithin T.most m
+        (S.input script.old).left (S.input script.new).left steps.old steps.new }
 {
     let mut lines = Lines::new();
     let mut taken = 0usize;
@@ -94,18 +86,10 @@ pub fn run<T: LineHandler, L: Ledger, S: Source, K: Sink>(
         let room = BUFFER.min(LIMIT - taken);
         match script.pull(&mut buf[..room]) {
             Ok(0) => {
-                return status_at_end(finish(alloc, handler, table, checks, &mut lines, out, steps));
+                return status_at_end(finish(alloc, handler, tables, &mut lines, out, steps));
             }
             Ok(count) => {
-                match handler.answer_piece(
-                    alloc,
-                    table,
-                    checks,
-                    &mut lines,
-                    out,
-                    &buf[..count],
-                    steps,
-                ) {
+                match handler.answer_piece(alloc, tables, &mut lines, out, &buf[..count], steps) {
                     Progress::More => taken += count,
                     Progress::Over => return Status::Done,
                     Progress::Unwritten => return Status::WriteFault,
@@ -116,7 +100,7 @@ pub fn run<T: LineHandler, L: Ledger, S: Source, K: Sink>(
         }
     }
     match script.pull(&mut buf[..1]) {
-        Ok(0) => status_at_end(finish(alloc, handler, table, checks, &mut lines, out, steps)),
+        Ok(0) => status_at_end(finish(alloc, handler, tables, &mut lines, out, steps)),
         Ok(_) => Status::ScriptTooLong,
         Err(Failed) => Status::ReadFault,
     }

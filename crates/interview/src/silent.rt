@@ -8,9 +8,7 @@ use fg_io::{Failed, Sink};
 pub struct Silent;
 
 impl Sink for Silent {
-    ghost taken = { λ sink. None };
-
-    ghost faults = { λ sink. 0 };
+    ghost output = { λ sink. record { taken = None; faults = 0 } };
 
     fn put(&mut self, piece: &[u8]) -> Result<usize, Failed> {
         Ok(piece.len())

@@ -59,7 +59,8 @@ fn front(
     lines: u64,
     replies: &[u8],
 ) -> Result<Vec<u8>, NoMemory>
-    ensures { IfOk result (λ text. text.items ≡ gen_line n ++ size_line facts nodes lines ++ counts_line (lines_of replies.now)) }
+    ensures { IfOk result (λ text. text.items ≡ gen_line n ++ size_line facts nodes lines ++ counts_line
+        (lines_of replies.now)) }
 {
     let mut text = Vec::new(alloc);
     let mut line = Line::new();

@@ -8,11 +8,10 @@ ghost use Rattle.graph_session.specs.Refusals.{SameChecks};
 ghost use Rattle.graph_session.specs.Rules.{rules};
 ghost use Rattle.fact_watch.specs.Tables.{named_relations};
 ghost use Rattle.interview.specs.ScriptEnds.{script_did};
-ghost use Rattle.interview.specs.StepEnds.{Gives, RunEnds, StartEnds, run_did};
+ghost use Rattle.interview.specs.StepEnds.{Gives, RunEnds, StartEnds};
 ghost use Rattle.interview.specs.Ends.{EndsByWord, Interviewed};
 ghost use Rattle.interview.specs.Given.{did_by, given_by};
-ghost use Rattle.interview.specs.Meanings.{IsBeginning, Meaning, meaning_of, of_desk, of_session};
-ghost use Rattle.session_lines.specs.Stepping.{at_start};
+ghost use Rattle.interview.specs.Meanings.{IsBeginning, Meaning, meaning_of, of_answers, of_desk};
 ghost use Rattle.desk_lines.specs.DeskStepping.{desk_at_start};
 ghost use Rattle.interview.specs.Words.{IsGen, IsRun, IsSave, beginning_of, program, texts, unanswered};
 ghost use Rattle.built_in.specs.declared.built_in.BuiltIn.{BuiltIn};
@@ -35,6 +34,7 @@ use fact_watch::WatchTable;
 use fg_io::{Failed, Shelf, Sink, Source};
 use plain_table::PlainTable;
 use recalc::Recalc;
+use session_lines::Tables;
 use shared_desk::Desk;
 use std::alloc::Global;
 use std::marker::Brand;
@@ -47,8 +47,7 @@ fn run_behind<T: LineHandler, L: Ledger, S: Source, K: Sink>(
     alloc: Global,
     handler: &mut T,
     dropped: &Dropped,
-    checks: &CheckTable,
-    table: &WatchTable,
+    tables: &Tables<'_>,
     script: &mut S,
     out: &mut K,
     blank: Blank,
@@ -56,20 +55,17 @@ fn run_behind<T: LineHandler, L: Ledger, S: Source, K: Sink>(
     requires name { blank.name ≡ L.name }
     requires parts { blank.parts ≡ L.parts }
     requires some { 0 < blank.parts }
-    requires same_checks { SameChecks (T.goes_by handler.old)
-        (named_checks checks.now) }
+    requires same_checks { SameChecks (T.goes_by handler.old) (named_checks tables.now.checks.now) }
     requires unchanged { T.changes handler.old ≡ 0 }
-    requires meant { (m : Meaning) × IsBeginning m × T.means handler.old (named_relations table.now) m }
+    requires meant { (m : Meaning) × IsBeginning m × T.means handler.old (named_relations tables.now.relations.now) m }
     requires given { (front : List ℕ) × Gives dropped.now front }
-    ensures { (front : List ℕ) → Gives dropped.now front → (m : Meaning) → IsBeginning m
-        → T.means handler.old (named_relations table.now) m → StartEnds m front
-        (script_did (S.left script.old) (S.left script.new) (K.taken out.old) (K.taken out.new)
-        (S.faults script.old) (S.faults script.new) (K.faults out.old) (K.faults out.new))
-        result }
+    ensures { (front : List ℕ) → Gives dropped.now front → (m : Meaning) → IsBeginning m → T.means handler.old
+        (named_relations tables.now.relations.now) m → StartEnds m front (script_did (S.input script.old)
+        (S.input script.new) (K.output out.old) (K.output out.new)) result }
 {
     let mut steps = Steps::<L>::new(blank);
     match put_front(dropped, out) {
-        Ok(()) => run(alloc, handler, table, checks, script, out, &mut steps),
+        Ok(()) => run(alloc, handler, tables, script, out, &mut steps),
         Err(Failed) => Status::WriteFault,
     }
 }
@@ -79,20 +75,17 @@ fn run_session<E: FactEngine, S: Source, K: Sink>(
     alloc: Global,
     dictionary: Dictionary,
     ready: Ready,
-    checks: &CheckTable,
-    table: &WatchTable,
+    tables: &Tables<'_>,
     script: &mut S,
     out: &mut K,
 ) -> Status
-    requires same_checks { SameChecks (rules dictionary)
-        (named_checks checks.now) }
+    requires same_checks { SameChecks (rules dictionary) (named_checks tables.now.checks.now) }
     requires fit { AnswersFit (accepted dictionary).tree (answered ready.answers) }
     requires given { (front : List ℕ) × Gives ready.dropped front }
-    ensures { (front : List ℕ) → Gives ready.dropped front → StartEnds
-        (of_session (rules dictionary) (at_start (rules dictionary) (record { answers = answered ready.answers; stamps = E.STAMPS; relations = (named_relations table.now) }))) front
-        (script_did (S.left script.old) (S.left script.new) (K.taken out.old) (K.taken out.new)
-        (S.faults script.old) (S.faults script.new) (K.faults out.old) (K.faults out.new))
-        result }
+    ensures { (front : List ℕ) → Gives ready.dropped front
+        → StartEnds (of_answers (rules dictionary) E.STAMPS (named_relations tables.now.relations.now)
+        (answered ready.answers)) front (script_did (S.input script.old) (S.input script.new) (K.output out.old)
+        (K.output out.new)) result }
 {
     match WatchedSession::<E>::resume(alloc, dictionary, ready.answers) {
         Ok(mut watched) => {
@@ -100,8 +93,7 @@ fn run_session<E: FactEngine, S: Source, K: Sink>(
                 alloc,
                 &mut watched,
                 &ready.dropped,
-                checks,
-                table,
+                tables,
                 script,
                 out,
                 Blank::new(1),
@@ -118,20 +110,16 @@ fn run_at_desk<S: Source, K: Sink>(
     alloc: Global,
     dictionary: Dictionary,
     ready: Ready,
-    checks: &CheckTable,
-    table: &WatchTable,
+    tables: &Tables<'_>,
     script: &mut S,
     out: &mut K,
 ) -> Status
-    requires same_checks { SameChecks (rules dictionary)
-        (named_checks checks.now) }
+    requires same_checks { SameChecks (rules dictionary) (named_checks tables.now.checks.now) }
     requires fit { AnswersFit (accepted dictionary).tree (answered ready.answers) }
     requires given { (front : List ℕ) × Gives ready.dropped front }
-    ensures { (front : List ℕ) → Gives ready.dropped front → StartEnds
-        (of_desk (rules dictionary) (desk_at_start (rules dictionary) (answered ready.answers))) front
-        (script_did (S.left script.old) (S.left script.new) (K.taken out.old) (K.taken out.new)
-        (S.faults script.old) (S.faults script.new) (K.faults out.old) (K.faults out.new))
-        result }
+    ensures { (front : List ℕ) → Gives ready.dropped front
+        → StartEnds (of_desk (rules dictionary) (desk_at_start (rules dictionary) (answered ready.answers))) front
+        (script_did (S.input script.old) (S.input script.new) (K.output out.old) (K.output out.new)) result }
 {
     match Desk::<Recalc>::resume(alloc, dictionary, ready.answers) {
         Ok(mut desk) => {
@@ -139,8 +127,7 @@ fn run_at_desk<S: Source, K: Sink>(
                 alloc,
                 &mut desk,
                 &ready.dropped,
-                checks,
-                table,
+                tables,
                 script,
                 out,
                 Blank::new(1),
@@ -158,29 +145,26 @@ fn run_by<S: Source, K: Sink>(
     mode: Mode,
     dictionary: Dictionary,
     ready: Ready,
-    checks: &CheckTable,
-    table: &WatchTable,
+    tables: &Tables<'_>,
     script: &mut S,
     out: &mut K,
 ) -> Status
-    requires same_checks { SameChecks (rules dictionary)
-        (named_checks checks.now) }
+    requires same_checks { SameChecks (rules dictionary) (named_checks tables.now.checks.now) }
     requires fit { AnswersFit (accepted dictionary).tree (answered ready.answers) }
     requires given { (front : List ℕ) × Gives ready.dropped front }
-    ensures { (front : List ℕ) → Gives ready.dropped front → StartEnds
-        (meaning_of (rules dictionary) mode (named_relations table.now) (answered ready.answers)) front
-        (script_did (S.left script.old) (S.left script.new) (K.taken out.old) (K.taken out.new)
-        (S.faults script.old) (S.faults script.new) (K.faults out.old) (K.faults out.new))
-        result }
+    ensures { (front : List ℕ) → Gives ready.dropped front
+        → StartEnds (meaning_of (rules dictionary) mode (named_relations tables.now.relations.now)
+        (answered ready.answers)) front (script_did (S.input script.old) (S.input script.new) (K.output out.old)
+        (K.output out.new)) result }
 {
     match mode {
         Mode::Incremental => {
-            run_session::<Recalc, S, K>(alloc, dictionary, ready, checks, table, script, out)
+            run_session::<Recalc, S, K>(alloc, dictionary, ready, tables, script, out)
         }
         Mode::Plain => {
-            run_session::<PlainTable, S, K>(alloc, dictionary, ready, checks, table, script, out)
+            run_session::<PlainTable, S, K>(alloc, dictionary, ready, tables, script, out)
         }
-        Mode::Desk => run_at_desk(alloc, dictionary, ready, checks, table, script, out),
+        Mode::Desk => run_at_desk(alloc, dictionary, ready, tables, script, out),
     }
 }
 
@@ -190,25 +174,20 @@ fn run_from<H: Shelf, S: Source, K: Sink>(
     mode: Mode,
     beginning: Beginning<'_>,
     dictionary: Dictionary,
-    checks: &CheckTable,
-    table: &WatchTable,
+    tables: &Tables<'_>,
     shelf: &mut H,
     script: &mut S,
     out: &mut K,
 ) -> Status
-    requires { SameChecks (rules dictionary)
-        (named_checks checks.now) }
-    ensures ends { RunEnds (H.contents shelf.old) (beginning_of beginning.entry) (rules dictionary) mode
-        (named_relations table.now)
-        (run_did (H.faults shelf.old) (H.faults shelf.new) (H.failed_name shelf.new)
-        (script_did (S.left script.old) (S.left script.new) (K.taken out.old) (K.taken out.new)
-        (S.faults script.old) (S.faults script.new) (K.faults out.old) (K.faults out.new)))
-        result }
+    requires { SameChecks (rules dictionary) (named_checks tables.now.checks.now) }
+    ensures ends { RunEnds (H.files shelf.old).contents (beginning_of beginning.entry) (rules dictionary) mode
+        (named_relations tables.now.relations.now) (did_by (H.files shelf.old) (H.files shelf.new) (S.input script.old)
+        (S.input script.new) (K.output out.old) (K.output out.new)) result }
     ensures unfetched { beginning_of beginning.entry ≡ unanswered → shelf.new ≡ shelf.old }
 {
-    match resume(alloc, beginning, &dictionary, checks, shelf) {
+    match resume(alloc, beginning, &dictionary, tables.checks, shelf) {
         Ok(Resumed::Begins(ready)) => {
-            run_by(alloc, mode, dictionary, ready, checks, table, script, out)
+            run_by(alloc, mode, dictionary, ready, tables, script, out)
         }
         Ok(Resumed::Refused(line)) => {
             drop(dictionary);
@@ -230,22 +209,22 @@ fn attempt<H: Shelf, S: Source, K: Sink>(
     script: &mut S,
     out: &mut K,
 ) -> Status
-    ensures ends { EndsByWord
-        (given_by words.now (named_checks checks.now)
-        (named_relations table.now)
-        (H.contents shelf.old) (S.left script.old))
-        (did_by (H.faults shelf.old) (H.faults shelf.new) (H.failed_name shelf.new)
-        (script_did (S.left script.old) (S.left script.new) (K.taken out.old) (K.taken out.new)
-        (S.faults script.old) (S.faults script.new) (K.faults out.old) (K.faults out.new)))
-        result }
-    ensures unfetched { (b : BuiltIn) (asked : IsRun (texts words.now) (program b)) → asked.beginning ≡ unanswered → shelf.new ≡ shelf.old }
+    ensures ends { EndsByWord (given_by words.now (named_checks checks.now) (named_relations table.now)
+        (H.files shelf.old) (S.input script.old)) (did_by (H.files shelf.old) (H.files shelf.new) (S.input script.old)
+        (S.input script.new) (K.output out.old) (K.output out.new)) result }
+    ensures unfetched { (b : BuiltIn) (asked : IsRun (texts words.now) (program b)) → asked.beginning ≡ unanswered
+        → shelf.new ≡ shelf.old }
     ensures gen_unfetched { (n : ℕ) → IsGen (texts words.now) n → shelf.new ≡ shelf.old }
     ensures save_unfetched { (b : BuiltIn) → IsSave (texts words.now) (program b) → shelf.new ≡ shelf.old }
 {
+    let tables = Tables {
+        checks,
+        relations: table,
+    };
     match form_of(words) {
         Form::Run(mode, origin, beginning) => match obtain(alloc, origin, checks, shelf) {
             Ok(Fetched::Accepted(dictionary)) => run_from(
-                alloc, mode, beginning, dictionary, checks, table, shelf, script, out,
+                alloc, mode, beginning, dictionary, &tables, shelf, script, out,
             ),
             Ok(Fetched::Refused(fault)) => end_by_fault(out, fault),
             Err(status) => status,
@@ -271,15 +250,11 @@ pub fn interview<H: Shelf, S: Source, K: Sink>(
     script: &mut S,
     out: &mut K,
 ) -> Status
-    ensures ends { Interviewed
-        (given_by words.now (named_checks checks.now)
-        (named_relations table.now)
-        (H.contents shelf.old) (S.left script.old))
-        (did_by (H.faults shelf.old) (H.faults shelf.new) (H.failed_name shelf.new)
-        (script_did (S.left script.old) (S.left script.new) (K.taken out.old) (K.taken out.new)
-        (S.faults script.old) (S.faults script.new) (K.faults out.old) (K.faults out.new)))
-        result }
-    ensures unfetched { (b : BuiltIn) (asked : IsRun (texts words.now) (program b)) → asked.beginning ≡ unanswered → shelf.new ≡ shelf.old }
+    ensures ends { Interviewed (given_by words.now (named_checks checks.now) (named_relations table.now)
+        (H.files shelf.old) (S.input script.old)) (did_by (H.files shelf.old) (H.files shelf.new) (S.input script.old)
+        (S.input script.new) (K.output out.old) (K.output out.new)) result }
+    ensures unfetched { (b : BuiltIn) (asked : IsRun (texts words.now) (program b)) → asked.beginning ≡ unanswered
+        → shelf.new ≡ shelf.old }
     ensures gen_unfetched { (n : ℕ) → IsGen (texts words.now) n → shelf.new ≡ shelf.old }
     ensures save_unfetched { (b : BuiltIn) → IsSave (texts words.now) (program b) → shelf.new ≡ shelf.old }
 {

@@ -1,32 +1,28 @@
 // A session answers the lines of a script: they are those of one person.
-ghost use Rattle.std.specs.Prelude.{◌≡◌, ℕ, List, ◌+◌, ◌<◌, ◌≤◌, ◌^◌, ◌++◌, length, map, IfOk};
-ghost use Rattle.script_lines.specs.Lines.{ended_lines, ready_lines, HasNoNewline};
+ghost use Rattle.std.specs.Prelude.{◌≡◌, ◌<◌, IfOk};
 ghost use Rattle.answers.specs.Answered.{start};
 ghost use Rattle.answers.specs.Meaning.{answered};
 ghost use Rattle.dictionary.specs.Accepted.{accepted};
 ghost use Rattle.dictionary.specs.Fits.{AnswersFit};
-ghost use Rattle.graph_session.specs.Refusals.{SameChecks};
 ghost use Rattle.graph_session.specs.Rules.{rules};
 ghost use Rattle.session_lines.specs.Answering.{line_state_of};
 ghost use Rattle.graph_session.specs.SessionView.{start_at};
 ghost use Rattle.fact_watch.specs.Watching.{nothing_watched};
 ghost use Rattle.session_lines.specs.Stepping.{open_at};
-ghost use Rattle.interview.specs.Meanings.{Meaning, of_session};
-ghost use Rattle.interview.specs.Telling.{LineOutputAs, PieceOutputAs};
+ghost use Rattle.interview.specs.Meanings.{of_session};
 
 use crate::line_handler::LineHandler;
 use answers::Answers;
 use dictionary::{Dictionary, FactEngine};
 use fact_values::NoMemory;
-use fact_watch::{WatchTable, Watches};
+use fact_watch::Watches;
 use fg_io::Sink;
 use graph_session::Session;
 use script_lines::{Lines, Ready};
-use session_lines::Progress;
+use session_lines::{Progress, Tables};
 use std::alloc::Global;
 use std::sync::ledger::Ledger;
 use steps::Steps;
-use text_checks::CheckTable;
 
 /// A session, and what is watched.
 #[derive(Drop)]
@@ -65,7 +61,8 @@ impl<E: FactEngine> WatchedSession<E> {
 }
 
 impl<E: FactEngine> LineHandler for WatchedSession<E> {
-    ghost means = { λ a relations m. m ≡ of_session (rules a.session.dict) (open_at (line_state_of a.session relations a.watches)) };
+    ghost means = { λ a relations m. m ≡ of_session (rules a.session.dict)
+        (open_at (line_state_of a.session relations a.watches)) };
 
     ghost goes_by = { λ a. rules a.session.dict };
 
@@ -78,8 +75,7 @@ impl<E: FactEngine> LineHandler for WatchedSession<E> {
     fn answer_ready<L: Ledger, K: Sink>(
         &mut self,
         alloc: Global,
-        table: &WatchTable,
-        checks: &CheckTable,
+        tables: &Tables<'_>,
         ready: Ready,
         line: &[u8],
         out: &mut K,
@@ -89,8 +85,7 @@ impl<E: FactEngine> LineHandler for WatchedSession<E> {
             alloc,
             &mut self.session,
             &mut self.watches,
-            table,
-            checks,
+            tables,
             ready,
             line,
             out,
@@ -101,8 +96,7 @@ impl<E: FactEngine> LineHandler for WatchedSession<E> {
     fn answer_piece<L: Ledger, K: Sink>(
         &mut self,
         alloc: Global,
-        table: &WatchTable,
-        checks: &CheckTable,
+        tables: &Tables<'_>,
         lines: &mut Lines,
         out: &mut K,
         bytes: &[u8],
@@ -112,8 +106,7 @@ impl<E: FactEngine> LineHandler for WatchedSession<E> {
             alloc,
             &mut self.session,
             &mut self.watches,
-            table,
-            checks,
+            tables,
             lines,
             out,
             bytes,

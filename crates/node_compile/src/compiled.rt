@@ -73,7 +73,8 @@ pub fn compile(alloc: Global, dict: &Dictionary) -> Result<Compiled, NoMemory>
 }
 
 fn compile_facts(alloc: Global, source: &DictSource) -> Result<Vec<FactNodes>, NoMemory>
-    ensures { IfOk result (λ all. map trees_of all.items ≡ facts_trees (dictionary_view source.now) 1 (dictionary_view source.now).facts) }
+    ensures { IfOk result (λ all. map trees_of all.items ≡ facts_trees (dictionary_view source.now) 1
+        (dictionary_view source.now).facts) }
 {
     let facts = source.facts();
     let mut all = Vec::with_capacity(alloc, facts.len())?;

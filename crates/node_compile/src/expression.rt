@@ -25,7 +25,8 @@ pub fn compile_expr(
     base: u32,
     expr: &Expr,
 ) -> Result<Node, NoMemory>
-    ensures { IfOk result (λ node. node_view node ≡ resolved (names (dictionary_view source.now) fact) base (view expr.now)) }
+    ensures { IfOk result (λ node. node_view node ≡ resolved (names (dictionary_view source.now) fact) base
+        (view expr.now)) }
 {
     match expr {
         Expr::Const(text) => constant_node(alloc, source, text),
@@ -63,7 +64,8 @@ pub fn compile_expr(
 
 #[tactic(auto, using(node_eval::proofs::Views::views))]
 fn constant_node(alloc: Global, source: &DictSource, text: &Constant) -> Result<Node, NoMemory>
-    ensures { IfOk result (λ node. node_view node ≡ literal (constant_value (dictionary_view source.now).enums (literal_of text.now))) }
+    ensures { IfOk result (λ node. node_view node
+        ≡ literal (constant_value (dictionary_view source.now).enums (literal_of text.now))) }
 {
     Ok(Node::Const(constant(alloc, source.enums(), text)?))
 }
@@ -111,7 +113,8 @@ fn compile_all(
     base: u32,
     operands: &[Expr],
 ) -> Result<Vec<Node>, NoMemory>
-    ensures { IfOk result (λ nodes. node_trees_view nodes.items ≡ resolved_all (names (dictionary_view source.now) fact) base (trees_view operands.now)) }
+    ensures { IfOk result (λ nodes. node_trees_view nodes.items ≡ resolved_all (names (dictionary_view source.now) fact)
+        base (trees_view operands.now)) }
 {
     let mut nodes = Vec::with_capacity(alloc, operands.len())?;
     for operand in operands {
@@ -129,7 +132,8 @@ fn compile_cases(
     base: u32,
     cases: &[Case],
 ) -> Result<Vec<NodeCase>, NoMemory>
-    ensures { IfOk result (λ nodes. node_cases_view nodes.items ≡ resolved_cases (names (dictionary_view source.now) fact) base (cases_view cases.now)) }
+    ensures { IfOk result (λ nodes. node_cases_view nodes.items
+        ≡ resolved_cases (names (dictionary_view source.now) fact) base (cases_view cases.now)) }
 {
     let mut nodes = Vec::with_capacity(alloc, cases.len())?;
     for case in cases {
@@ -152,7 +156,12 @@ fn compile_case(
     base: u32,
     case: &Case,
 ) -> Result<NodeCase, NoMemory>
-    ensures { IfOk result (λ node. node_case_view node ≡ (resolved (names (dictionary_view source.now) fact) base (view case.now.test), resolved (names (dictionary_view source.now) fact) base (view case.now.outcome))) }
+    ensures { IfOk result (λ node. node_case_view node
+        ≡ (
+          resolved (names (dictionary_view source.now) fact) base (view case.now.test),
+          resolved
+              (names (dictionary_view source.now) fact) base (view case.now.outcome),
+        )) }
 {
     let test = compile_expr(alloc, source, fact, base, &case.test)?;
     match compile_expr(alloc, source, fact, base, &case.outcome) {

@@ -32,7 +32,8 @@ fn compile_body(
     conditional: &Option<Conditional>,
     main: &Expr,
 ) -> Result<Node, NoMemory>
-    ensures { IfOk result (λ node. node_view node ≡ node_tree (dictionary_view source.now) fact (conditional_body (option_map conditional_view conditional.now) (view main.now))) }
+    ensures { IfOk result (λ node. node_view node ≡ node_tree (dictionary_view source.now) fact
+        (conditional_body (option_map conditional_view conditional.now) (view main.now))) }
 {
     match conditional {
         None => compile_expr(alloc, source, fact, 0, main),
@@ -55,7 +56,10 @@ fn compile_pair(
     fact: u32,
     pair: &Conditional,
 ) -> Result<NodeCase, NoMemory>
-    ensures { IfOk result (λ case. case_view case ≡ (node_tree (dictionary_view source.now) fact (view pair.now.test), node_tree (dictionary_view source.now) fact (view pair.now.value))) }
+    ensures { IfOk result (λ case. case_view case ≡ (
+      node_tree (dictionary_view source.now) fact (view pair.now.test),
+      node_tree (dictionary_view source.now) fact (view pair.now.value),
+    )) }
 {
     let test = compile_expr(alloc, source, fact, 0, &pair.test)?;
     match compile_expr(alloc, source, fact, 0, &pair.value) {
@@ -70,7 +74,8 @@ fn compile_pair(
 // The outcome of the case where its test is true, else the main node.
 #[tactic(auto, using(node_eval::proofs::Views::views))]
 fn under_condition(alloc: Global, case: NodeCase, main: Node) -> Result<Node, NoMemory>
-    ensures { IfOk result (λ node. node_view node ≡ switch (a_case (node_view case.test) (node_view case.outcome) (a_case (literal (Boolean true)) (node_view main) no_cases))) }
+    ensures { IfOk result (λ node. node_view node ≡ switch (a_case (node_view case.test) (node_view case.outcome)
+        (a_case (literal (Boolean true)) (node_view main) no_cases))) }
 {
     let otherwise = NodeCase {
         test: Node::Const(Value::Boolean(true)),
@@ -91,7 +96,8 @@ fn compile_main(
     number: u32,
     fact: &FactSource,
 ) -> Result<Option<Node>, NoMemory>
-    ensures { IfOk result (λ node. option_map node_view node ≡ option_map (node_tree (dictionary_view source.now) number) (body (fact_view fact.now))) }
+    ensures { IfOk result (λ node. option_map node_view node
+        ≡ option_map (node_tree (dictionary_view source.now) number) (body (fact_view fact.now))) }
 {
     match &fact.main {
         None => Ok(None),
@@ -108,7 +114,8 @@ fn compile_option(
     number: u32,
     expr: &Option<Expr>,
 ) -> Result<Option<Node>, NoMemory>
-    ensures { IfOk result (λ node. option_map node_view node ≡ option_map (node_tree (dictionary_view source.now) number) (option_map view expr.now)) }
+    ensures { IfOk result (λ node. option_map node_view node
+        ≡ option_map (node_tree (dictionary_view source.now) number) (option_map view expr.now)) }
 {
     match expr {
         None => Ok(None),
@@ -126,7 +133,8 @@ pub fn compile_fact(
     number: u32,
     fact: &FactSource,
 ) -> Result<FactNodes, NoMemory>
-    ensures { IfOk result (λ nodes. trees_of nodes ≡ fact_trees (dictionary_view source.now) number (fact_view fact.now)) }
+    ensures { IfOk result (λ nodes. trees_of nodes ≡ fact_trees (dictionary_view source.now) number
+        (fact_view fact.now)) }
 {
     let main = compile_main(alloc, source, number, fact)?;
     let placeholder = compile_option(alloc, source, number, &fact.placeholder)?;

@@ -39,11 +39,15 @@ pub fn eval<C: Cells, L: Ledger>(
     inner: u32,
     steps: &mut Steps<L>,
 ) -> Result<Res, NoMemory>
-    ensures value { IfOk result (λ r. r ≡ over (node_env (C.results cells.now)) (record { own = own; inner = inner }) (view node.now)) }
-    ensures visited { OnOk result (steps.new ≡ steps.old + visits (node_env (C.results cells.now)) (record { own = own; inner = inner }) (view node.now)) }
-    ensures most { steps.new ≤ steps.old + weight (node_env (C.results cells.now)) (record { own = own; inner = inner }) (view node.now) }
+    ensures value { IfOk result (λ r. r ≡ over (node_env (C.results cells.now)) (record { own = own; inner = inner })
+        (view node.now)) }
+    ensures visited { OnOk result (steps.new ≡ steps.old + visits (node_env (C.results cells.now))
+        (record { own = own; inner = inner }) (view node.now)) }
+    ensures most { steps.new ≤ steps.old + weight (node_env (C.results cells.now)) (record { own = own; inner = inner })
+        (view node.now) }
     ensures least { steps.old + 1 ≤ steps.new }
-    ensures memory { IsErr result → (d : Domains) (facts : ℕ → Option FactType) → IsTyped d facts (C.results cells.now) (record { own = own; inner = inner }) (view node.now) → SomeGivesTextOrList facts (view node.now) }
+    ensures memory { IsErr result → (d : Domains) (facts : ℕ → Option FactType) → IsTyped d facts (C.results cells.now)
+        (record { own = own; inner = inner }) (view node.now) → SomeGivesTextOrList facts (view node.now) }
 {
     visit(alloc, cells, EvalPosition { own, inner }, node, steps)
 }
@@ -97,7 +101,8 @@ fn eval_one<C: Cells, L: Ledger>(
     steps: &mut Steps<L>,
 ) -> Result<Res, NoMemory>
     ensures value { IfOk result (λ r. r ≡ one_of op (over (node_env (C.results cells.now)) at (view operand.now))) }
-    ensures visited { OnOk result (steps.new ≡ steps.old + visits (node_env (C.results cells.now)) at (view operand.now)) }
+    ensures visited { OnOk result (steps.new ≡ steps.old + visits (node_env (C.results cells.now)) at
+        (view operand.now)) }
     ensures most { steps.new ≤ steps.old + weight (node_env (C.results cells.now)) at (view operand.now) }
     ensures least { steps.old ≤ steps.new }
     ensures memory { IsErr result → TakesMemory (node_env (C.results cells.now)) at (view operand.now) }
@@ -117,8 +122,10 @@ fn eval_second<C: Cells, L: Ledger>(
     operand: &Node,
     steps: &mut Steps<L>,
 ) -> Result<Res, NoMemory>
-    ensures value { IfOk result (λ r. r ≡ two_of op first (over (node_env (C.results cells.now)) at (view operand.now))) }
-    ensures visited { OnOk result (steps.new ≡ steps.old + visits (node_env (C.results cells.now)) at (view operand.now)) }
+    ensures value { IfOk result (λ r. r ≡ two_of op first (over (node_env (C.results cells.now)) at
+        (view operand.now))) }
+    ensures visited { OnOk result (steps.new ≡ steps.old + visits (node_env (C.results cells.now)) at
+        (view operand.now)) }
     ensures most { steps.new ≤ steps.old + weight (node_env (C.results cells.now)) at (view operand.now) }
     ensures least { steps.old ≤ steps.new }
     ensures memory { IsErr result → TakesMemory (node_env (C.results cells.now)) at (view operand.now) }
@@ -140,8 +147,10 @@ fn eval_all<C: Cells, L: Ledger>(
     operands: &[Node],
     steps: &mut Steps<L>,
 ) -> Result<Res, NoMemory>
-    ensures value { IfOk result (λ r. r ≡ many_of op (over_all (node_env (C.results cells.now)) at (trees_view operands.now))) }
-    ensures visited { OnOk result (steps.new ≡ steps.old + visits_of_all (node_env (C.results cells.now)) at (trees_view operands.now)) }
+    ensures value { IfOk result (λ r. r ≡ many_of op (over_all (node_env (C.results cells.now)) at
+        (trees_view operands.now))) }
+    ensures visited { OnOk result (steps.new ≡ steps.old + visits_of_all (node_env (C.results cells.now)) at
+        (trees_view operands.now)) }
     ensures most { steps.new ≤ steps.old + weight_of_all (node_env (C.results cells.now)) at (trees_view operands.now) }
     ensures least { steps.old ≤ steps.new }
     ensures memory { IsErr result → TakesInAll (node_env (C.results cells.now)) at (trees_view operands.now) }
@@ -166,7 +175,8 @@ fn see_operand<C: Cells, L: Ledger>(
 ) -> Result<(), NoMemory>
     requires few { fold.old.count + 1 < 2 ^ 64 }
     ensures next { OnOk result (fold.new ≡ saw fold.old (over (node_env (C.results cells.now)) at (view operand.now))) }
-    ensures visited { OnOk result (steps.new ≡ steps.old + visits (node_env (C.results cells.now)) at (view operand.now)) }
+    ensures visited { OnOk result (steps.new ≡ steps.old + visits (node_env (C.results cells.now)) at
+        (view operand.now)) }
     ensures most { steps.new ≤ steps.old + weight (node_env (C.results cells.now)) at (view operand.now) }
     ensures least { steps.old + 1 ≤ steps.new }
     ensures memory { IsErr result → TakesMemory (node_env (C.results cells.now)) at (view operand.now) }
@@ -191,7 +201,8 @@ fn see_visited<C: Cells, L: Ledger>(
 ) -> Result<(), NoMemory>
     requires few { fold.old.count + 1 < 2 ^ 64 }
     ensures next { OnOk result (fold.new ≡ saw fold.old (over (node_env (C.results cells.now)) at (view operand.now))) }
-    ensures visited { OnOk result (steps.new ≡ steps.old + visits (node_env (C.results cells.now)) at (view operand.now)) }
+    ensures visited { OnOk result (steps.new ≡ steps.old + visits (node_env (C.results cells.now)) at
+        (view operand.now)) }
     ensures most { steps.new ≤ steps.old + weight (node_env (C.results cells.now)) at (view operand.now) }
     ensures least { steps.old + 1 ≤ steps.new }
     ensures memory { IsErr result → TakesMemory (node_env (C.results cells.now)) at (view operand.now) }
@@ -210,8 +221,10 @@ fn eval_cases<C: Cells, L: Ledger>(
     cases: &[NodeCase],
     steps: &mut Steps<L>,
 ) -> Result<Res, NoMemory>
-    ensures value { IfOk result (λ r. r ≡ switch_of (over_cases (node_env (C.results cells.now)) at (cases_view cases.now))) }
-    ensures visited { OnOk result (steps.new ≡ steps.old + visits_of_cases (node_env (C.results cells.now)) at (cases_view cases.now)) }
+    ensures value { IfOk result (λ r. r ≡ switch_of (over_cases (node_env (C.results cells.now)) at
+        (cases_view cases.now))) }
+    ensures visited { OnOk result (steps.new ≡ steps.old + visits_of_cases (node_env (C.results cells.now)) at
+        (cases_view cases.now)) }
     ensures most { steps.new ≤ steps.old + weight_of_cases (node_env (C.results cells.now)) at (cases_view cases.now) }
     ensures least { steps.old ≤ steps.new }
     ensures memory { IsErr result → TakesInCases (node_env (C.results cells.now)) at (cases_view cases.now) }
@@ -244,11 +257,16 @@ fn eval_pick<C: Cells, L: Ledger>(
     test: &Node,
     steps: &mut Steps<L>,
 ) -> Result<Res, NoMemory>
-    ensures value { IfOk result (λ r. r ≡ pick_of op (collection (C.results cells.now) reader) (condition_at (C.results cells.now) at (view test.now))) }
-    ensures visited { OnOk result (steps.new ≡ steps.old + sum_by (visits_at (C.results cells.now) at (view test.now)) (members_visited op (condition_at (C.results cells.now) at (view test.now)) (collection (C.results cells.now) reader))) }
-    ensures most { steps.new ≤ steps.old + sum_by (work_at (C.results cells.now) at (view test.now)) (members_of (collection (C.results cells.now) reader)) }
+    ensures value { IfOk result (λ r. r ≡ pick_of op (collection (C.results cells.now) reader)
+        (condition_at (C.results cells.now) at (view test.now))) }
+    ensures visited { OnOk result (steps.new ≡ steps.old + sum_by (visits_at (C.results cells.now) at (view test.now))
+        (members_visited op (condition_at (C.results cells.now) at (view test.now))
+        (collection (C.results cells.now) reader))) }
+    ensures most { steps.new ≤ steps.old + sum_by (work_at (C.results cells.now) at (view test.now))
+        (members_of (collection (C.results cells.now) reader)) }
     ensures least { steps.old ≤ steps.new }
-    ensures memory { IsErr result → PickTakes op (condition_at (C.results cells.now) at (view test.now)) (TakesAt (C.results cells.now) at (view test.now)) (members_of (collection (C.results cells.now) reader)) }
+    ensures memory { IsErr result → PickTakes op (condition_at (C.results cells.now) at (view test.now))
+        (TakesAt (C.results cells.now) at (view test.now)) (members_of (collection (C.results cells.now) reader)) }
 {
     let missing = Res::Incomplete;
     let source = read_source(cells, &missing, reader);
@@ -278,9 +296,12 @@ fn eval_filter<C: Cells, L: Ledger>(
     test: &Node,
     steps: &mut Steps<L>,
 ) -> Result<Res, NoMemory>
-    ensures value { IfOk result (λ r. r ≡ filter_of source.now (condition_at (C.results cells.now) at (view test.now))) }
-    ensures visited { OnOk result (steps.new ≡ steps.old + sum_by (visits_at (C.results cells.now) at (view test.now)) (members_of source.now)) }
-    ensures most { steps.new ≤ steps.old + sum_by (work_at (C.results cells.now) at (view test.now)) (members_of source.now) }
+    ensures value { IfOk result (λ r. r ≡ filter_of source.now
+        (condition_at (C.results cells.now) at (view test.now))) }
+    ensures visited { OnOk result (steps.new ≡ steps.old + sum_by (visits_at (C.results cells.now) at (view test.now))
+        (members_of source.now)) }
+    ensures most { steps.new ≤ steps.old + sum_by (work_at (C.results cells.now) at (view test.now))
+        (members_of source.now) }
     ensures least { steps.old ≤ steps.new }
 {
     let mut fold = FilterFold::new(source);
@@ -305,10 +326,13 @@ fn eval_find<C: Cells, L: Ledger>(
     steps: &mut Steps<L>,
 ) -> Result<Res, NoMemory>
     ensures value { IfOk result (λ r. r ≡ find_of source.now (condition_at (C.results cells.now) at (view test.now))) }
-    ensures visited { OnOk result (steps.new ≡ steps.old + sum_by (visits_at (C.results cells.now) at (view test.now)) (up_to_decider (condition_at (C.results cells.now) at (view test.now)) (members_of source.now))) }
-    ensures most { steps.new ≤ steps.old + sum_by (work_at (C.results cells.now) at (view test.now)) (members_of source.now) }
+    ensures visited { OnOk result (steps.new ≡ steps.old + sum_by (visits_at (C.results cells.now) at (view test.now))
+        (up_to_decider (condition_at (C.results cells.now) at (view test.now)) (members_of source.now))) }
+    ensures most { steps.new ≤ steps.old + sum_by (work_at (C.results cells.now) at (view test.now))
+        (members_of source.now) }
     ensures least { steps.old ≤ steps.new }
-    ensures memory { IsErr result → SomeOf (TakesAt (C.results cells.now) at (view test.now)) (up_to_decider (condition_at (C.results cells.now) at (view test.now)) (members_of source.now)) }
+    ensures memory { IsErr result → SomeOf (TakesAt (C.results cells.now) at (view test.now))
+        (up_to_decider (condition_at (C.results cells.now) at (view test.now)) (members_of source.now)) }
 {
     match source_verdict(source) {
         Verdict::Go(complete) => {
@@ -330,11 +354,14 @@ fn find_among<C: Cells, L: Ledger>(
     test: &Node,
     steps: &mut Steps<L>,
 ) -> Result<Res, NoMemory>
-    ensures value { IfOk result (λ r. r ≡ find_from (condition_at (C.results cells.now) at (view test.now)) complete members.now) }
-    ensures visited { OnOk result (steps.new ≡ steps.old + sum_by (visits_at (C.results cells.now) at (view test.now)) (up_to_decider (condition_at (C.results cells.now) at (view test.now)) members.now)) }
+    ensures value { IfOk result (λ r. r ≡ find_from (condition_at (C.results cells.now) at (view test.now)) complete
+        members.now) }
+    ensures visited { OnOk result (steps.new ≡ steps.old + sum_by (visits_at (C.results cells.now) at (view test.now))
+        (up_to_decider (condition_at (C.results cells.now) at (view test.now)) members.now)) }
     ensures most { steps.new ≤ steps.old + sum_by (work_at (C.results cells.now) at (view test.now)) members.now }
     ensures least { steps.old ≤ steps.new }
-    ensures memory { IsErr result → SomeOf (TakesAt (C.results cells.now) at (view test.now)) (up_to_decider (condition_at (C.results cells.now) at (view test.now)) members.now) }
+    ensures memory { IsErr result → SomeOf (TakesAt (C.results cells.now) at (view test.now))
+        (up_to_decider (condition_at (C.results cells.now) at (view test.now)) members.now) }
 {
     let mut complete = complete;
     for member in members {

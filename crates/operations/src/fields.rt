@@ -52,7 +52,8 @@ impl SumFold {
     pub fn see(&mut self, field: &Res)
         requires few { self.old.count + 1 < 2 ^ 64 }
         ensures next { self.new ≡ sum_saw self.old field.now }
-        ensures seen { (t : FactType) (source : Res) (rs : List Res) → AreSummed t source rs self.old → AreSummed t source (rs ++ field.now ∷ []) self.new }
+        ensures seen { (t : FactType) (source : Res) (rs : List Res) → AreSummed t source rs self.old
+            → AreSummed t source (rs ++ field.now ∷ []) self.new }
     {
         self.verdict.see(field);
         add_field(&mut self.sum, field);
@@ -62,7 +63,8 @@ impl SumFold {
     /// The result of the node.
     pub fn end(&self) -> Res
         ensures value { result ≡ sum_end self.now }
-        ensures node { (t : FactType) (source : Res) (field : ℕ → Res) → AreSummed t source (map field (members_of source)) self.now → result ≡ sum_over t source field }
+        ensures node { (t : FactType) (source : Res) (field : ℕ → Res)
+            → AreSummed t source (map field (members_of source)) self.now → result ≡ sum_over t source field }
     {
         after_verdict(self.verdict.verdict(), self.sum.sum())
     }
@@ -129,7 +131,8 @@ impl CountFold {
     pub fn see(&mut self, field: &Res)
         requires few { self.old.count < 2 ^ 32 }
         ensures next { self.new ≡ count_saw self.old field.now }
-        ensures seen { (source : Res) (rs : List Res) → AreCounted source rs self.old → AreCounted source (rs ++ field.now ∷ []) self.new }
+        ensures seen { (source : Res) (rs : List Res) → AreCounted source rs self.old
+            → AreCounted source (rs ++ field.now ∷ []) self.new }
     {
         self.verdict.see(field);
         if is_true(field) {
@@ -141,7 +144,8 @@ impl CountFold {
     /// The result of the node.
     pub fn end(&self) -> Res
         ensures value { result ≡ count_end self.now }
-        ensures node { (source : Res) (field : ℕ → Res) → AreCounted source (map field (members_of source)) self.now → result ≡ count_of source field }
+        ensures node { (source : Res) (field : ℕ → Res) → AreCounted source (map field (members_of source)) self.now
+            → result ≡ count_of source field }
     {
         after_verdict(self.verdict.verdict(), Ok(counted(self.found)))
     }

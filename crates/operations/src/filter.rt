@@ -50,7 +50,8 @@ impl FilterFold {
     pub fn end(&self, kept: Vec<u32>) -> Res
         requires { IsMemberList kept.items }
         ensures value { result ≡ after_verdict self.now (Ok (Value.Members kept.items)) }
-        ensures node { (source : Res) (test : ℕ → Res) → self.now ≡ verdict_of (source ∷ map test (members_of source)) → kept.items ≡ members_kept test (members_of source) → result ≡ filter_of source test }
+        ensures node { (source : Res) (test : ℕ → Res) → self.now ≡ verdict_of (source ∷ map test (members_of source))
+            → kept.items ≡ members_kept test (members_of source) → result ≡ filter_of source test }
     {
         let members = Members::new(kept).unwrap();
         after_verdict(self.verdict.verdict(), Ok(Value::Members(members)))

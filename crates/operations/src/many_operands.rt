@@ -49,7 +49,8 @@ impl ManyFold {
     pub fn see(&mut self, operand: Res)
         requires few { self.old.count + 1 < 2 ^ 64 }
         ensures next { self.new ≡ saw self.old operand }
-        ensures seen { (op : ManyOp) (rs : List Res) → AreSeen op rs self.old → AreSeen op (rs ++ operand ∷ []) self.new }
+        ensures seen { (op : ManyOp) (rs : List Res) → AreSeen op rs self.old → AreSeen op (rs ++ operand ∷ [])
+            self.new }
     {
         self.kept.see(operand);
         self.count += 1;
@@ -62,7 +63,8 @@ impl ManyFold {
         requires few { self.old.count + 1 < 2 ^ 64 }
         ensures next { OnOk result (self.new ≡ saw self.old operand.now) }
         ensures unchanged { OnErr result (self.new ≡ self.old) }
-        ensures seen { OnOk result ((op : ManyOp) (rs : List Res) → AreSeen op rs self.old → AreSeen op (rs ++ operand.now ∷ []) self.new) }
+        ensures seen { OnOk result ((op : ManyOp) (rs : List Res) → AreSeen op rs self.old
+            → AreSeen op (rs ++ operand.now ∷ []) self.new) }
         ensures memory { IsErr result → ValueHoldsMemory operand.now }
     {
         self.kept.see_lent(alloc, operand)?;

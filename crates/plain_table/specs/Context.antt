@@ -1,5 +1,5 @@
 -- What an expression gives by what is known where it stands, and what its evaluation reads.
-use Rattle.std.specs.Prelude.{ℕ, List, Option, Some, None, sum_by}
+use Rattle.std.specs.Prelude.{ℕ, List, Option, Some, None, ◌++◌, flat_map, sum_by}
 use Rattle.fact_values.specs.declared.slot.Slot.{Slot}
 use Rattle.dict_tree.specs.Dictionary.{Dictionary as Tree}
 use Rattle.dict_tree.specs.Tree.{Literal, Reading, Source, Use}
@@ -30,6 +30,11 @@ at_member at m = record { base = at.base; own = at.own; inner = m }
 -- what an expression under the condition of a Filter or a Find with this path gives at a member
 abbrev pub picked_at : Context → EvalPosition → Use → Source → ℕ → Res
 picked_at k at u t m = over (env_of k) ((env_of k).enter at u m) t
+
+-- what a Filter or a Find with this path reads: its path, and its condition at each member that it visits
+abbrev pub picked_reads : Context → EvalPosition → PickOp → Use → Source → List Slot
+picked_reads k at op u t = (reads_of k).source at u
+    ++ flat_map (λ m. slots_read (env_of k) (reads_of k) ((env_of k).enter at u m) t) (members_visited op (picked_at k at u t) ((env_of k).source at u))
 
 -- the nodes that are visited under the condition of a Filter or a Find with this path
 abbrev pub visits_under : Context → EvalPosition → PickOp → Use → Source → ℕ

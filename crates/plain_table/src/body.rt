@@ -32,10 +32,15 @@ fn eval_conditional<G: EvalContext, N: Notes, L: Ledger>(
     notes: &mut N,
     steps: &mut Steps<L>,
 ) -> Result<Res, NoMemory>
-    ensures value { IfOk result (λ r. r ≡ over (env_of (G.meaning context.now)) at (conditional_body (Some (conditional_view pair.now)) (view main.now))) }
-    ensures reads { OnOk result (Noted N.keeps (N.noted notes.old) (slots_read (env_of (G.meaning context.now)) (reads_of (G.meaning context.now)) at (conditional_body (Some (conditional_view pair.now)) (view main.now))) (N.noted notes.new)) }
-    ensures visits { OnOk result (steps.new ≡ steps.old + visits (env_of (G.meaning context.now)) at (conditional_body (Some (conditional_view pair.now)) (view main.now))) }
-    ensures most { steps.new ≤ steps.old + weight (env_of (G.meaning context.now)) at (conditional_body (Some (conditional_view pair.now)) (view main.now)) }
+    ensures value { IfOk result (λ r. r ≡ over (env_of (G.meaning context.now)) at
+        (conditional_body (Some (conditional_view pair.now)) (view main.now))) }
+    ensures reads { OnOk result (Noted N.keeps (N.noted notes.old) (slots_read (env_of (G.meaning context.now))
+        (reads_of (G.meaning context.now)) at (conditional_body (Some (conditional_view pair.now)) (view main.now)))
+        (N.noted notes.new)) }
+    ensures visits { OnOk result (steps.new ≡ steps.old + visits (env_of (G.meaning context.now)) at
+        (conditional_body (Some (conditional_view pair.now)) (view main.now))) }
+    ensures most { steps.new ≤ steps.old + weight (env_of (G.meaning context.now)) at
+        (conditional_body (Some (conditional_view pair.now)) (view main.now)) }
 {
     steps.tick();
     let step = judge(alloc, context, at, true, &pair.test, notes, steps)?;
@@ -59,10 +64,15 @@ pub fn eval_body<G: EvalContext, N: Notes, L: Ledger>(
     notes: &mut N,
     steps: &mut Steps<L>,
 ) -> Result<Res, NoMemory>
-    ensures value { IfOk result (λ r. r ≡ over (env_of (G.meaning context.now)) at (conditional_body (option_map conditional_view conditional.now) (view main.now))) }
-    ensures reads { OnOk result (Noted N.keeps (N.noted notes.old) (slots_read (env_of (G.meaning context.now)) (reads_of (G.meaning context.now)) at (conditional_body (option_map conditional_view conditional.now) (view main.now))) (N.noted notes.new)) }
-    ensures visits { OnOk result (steps.new ≡ steps.old + visits (env_of (G.meaning context.now)) at (conditional_body (option_map conditional_view conditional.now) (view main.now))) }
-    ensures most { steps.new ≤ steps.old + weight (env_of (G.meaning context.now)) at (conditional_body (option_map conditional_view conditional.now) (view main.now)) }
+    ensures value { IfOk result (λ r. r ≡ over (env_of (G.meaning context.now)) at
+        (conditional_body (option_map conditional_view conditional.now) (view main.now))) }
+    ensures reads { OnOk result (Noted N.keeps (N.noted notes.old) (slots_read (env_of (G.meaning context.now))
+        (reads_of (G.meaning context.now)) at (conditional_body (option_map conditional_view conditional.now)
+        (view main.now))) (N.noted notes.new)) }
+    ensures visits { OnOk result (steps.new ≡ steps.old + visits (env_of (G.meaning context.now)) at
+        (conditional_body (option_map conditional_view conditional.now) (view main.now))) }
+    ensures most { steps.new ≤ steps.old + weight (env_of (G.meaning context.now)) at
+        (conditional_body (option_map conditional_view conditional.now) (view main.now)) }
 {
     match conditional {
         None => eval(alloc, context, at, main, notes, steps),

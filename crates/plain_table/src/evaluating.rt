@@ -2,12 +2,12 @@
 ghost use Rattle.std.specs.Prelude.{◌≡◌, ◌+◌, ◌≤◌, [], ◌∷◌, ◌++◌, ℕ, List, flat_map, sum_by, if◌then◌else◌, IfOk, OnOk};
 ghost use Rattle.dict_tree.specs.View.{cases_view, trees_view, use_view, view};
 ghost use Rattle.evaluation.specs.Over.{many_of, over, over_all, over_cases, pick_of, two_of, weight, weight_of_all, weight_of_cases};
-ghost use Rattle.evaluation.specs.SlotsRead.{members_visited, slots_read, slots_read_of_all, slots_read_of_cases, up_to_decider};
+ghost use Rattle.evaluation.specs.SlotsRead.{slots_read, slots_read_of_all, slots_read_of_cases, up_to_decider};
 ghost use Rattle.evaluation.specs.Visits.{visits, visits_of_all, visits_of_cases};
 ghost use Rattle.operations.specs.CaseSteps.{case_step as step_of_case, find_from};
 ghost use Rattle.three_state.specs.Folds.{down_unless, kept_next, verdict_next};
 ghost use Rattle.three_state.specs.Results.{filter_of, find_of, members_of, switch_of};
-ghost use Rattle.plain_table.specs.Context.{condition_on, condition_reads, env_of, picked_at, reads_of, visits_on, visits_under, work_on};
+ghost use Rattle.plain_table.specs.Context.{condition_on, condition_reads, env_of, picked_at, picked_reads, reads_of, visits_on, visits_under, work_on};
 ghost use Rattle.plain_table.specs.Noted.{Noted};
 
 use crate::context::EvalContext;
@@ -37,7 +37,8 @@ pub fn eval<G: EvalContext, N: Notes, L: Ledger>(
     steps: &mut Steps<L>,
 ) -> Result<Res, NoMemory>
     ensures value { IfOk result (λ r. r ≡ over (env_of (G.meaning context.now)) at (view expr.now)) }
-    ensures reads { OnOk result (Noted N.keeps (N.noted notes.old) (slots_read (env_of (G.meaning context.now)) (reads_of (G.meaning context.now)) at (view expr.now)) (N.noted notes.new)) }
+    ensures reads { OnOk result (Noted N.keeps (N.noted notes.old) (slots_read (env_of (G.meaning context.now))
+        (reads_of (G.meaning context.now)) at (view expr.now)) (N.noted notes.new)) }
     ensures visits { OnOk result (steps.new ≡ steps.old + visits (env_of (G.meaning context.now)) at (view expr.now)) }
     ensures most { steps.new ≤ steps.old + weight (env_of (G.meaning context.now)) at (view expr.now) }
 {
@@ -79,8 +80,10 @@ fn eval_second<G: EvalContext, N: Notes, L: Ledger>(
     notes: &mut N,
     steps: &mut Steps<L>,
 ) -> Result<Res, NoMemory>
-    ensures value { IfOk result (λ r. r ≡ two_of op first.now (over (env_of (G.meaning context.now)) at (view right.now))) }
-    ensures reads { OnOk result (Noted N.keeps (N.noted notes.old) (slots_read (env_of (G.meaning context.now)) (reads_of (G.meaning context.now)) at (view right.now)) (N.noted notes.new)) }
+    ensures value { IfOk result (λ r. r ≡ two_of op first.now (over (env_of (G.meaning context.now)) at
+        (view right.now))) }
+    ensures reads { OnOk result (Noted N.keeps (N.noted notes.old) (slots_read (env_of (G.meaning context.now))
+        (reads_of (G.meaning context.now)) at (view right.now)) (N.noted notes.new)) }
     ensures visits { OnOk result (steps.new ≡ steps.old + visits (env_of (G.meaning context.now)) at (view right.now)) }
     ensures most { steps.new ≤ steps.old + weight (env_of (G.meaning context.now)) at (view right.now) }
 {
@@ -99,9 +102,12 @@ fn eval_all<G: EvalContext, N: Notes, L: Ledger>(
     notes: &mut N,
     steps: &mut Steps<L>,
 ) -> Result<Res, NoMemory>
-    ensures value { IfOk result (λ r. r ≡ many_of op (over_all (env_of (G.meaning context.now)) at (trees_view operands.now))) }
-    ensures reads { OnOk result (Noted N.keeps (N.noted notes.old) (slots_read_of_all (env_of (G.meaning context.now)) (reads_of (G.meaning context.now)) at (trees_view operands.now)) (N.noted notes.new)) }
-    ensures visits { OnOk result (steps.new ≡ steps.old + visits_of_all (env_of (G.meaning context.now)) at (trees_view operands.now)) }
+    ensures value { IfOk result (λ r. r ≡ many_of op (over_all (env_of (G.meaning context.now)) at
+        (trees_view operands.now))) }
+    ensures reads { OnOk result (Noted N.keeps (N.noted notes.old) (slots_read_of_all (env_of (G.meaning context.now))
+        (reads_of (G.meaning context.now)) at (trees_view operands.now)) (N.noted notes.new)) }
+    ensures visits { OnOk result (steps.new ≡ steps.old + visits_of_all (env_of (G.meaning context.now)) at
+        (trees_view operands.now)) }
     ensures most { steps.new ≤ steps.old + weight_of_all (env_of (G.meaning context.now)) at (trees_view operands.now) }
 {
     let mut fold = ManyFold::new(op);
@@ -123,8 +129,10 @@ pub fn judge<G: EvalContext, N: Notes, L: Ledger>(
     notes: &mut N,
     steps: &mut Steps<L>,
 ) -> Result<CaseStep, NoMemory>
-    ensures step { IfOk result (λ s. s ≡ step_of_case complete (over (env_of (G.meaning context.now)) at (view test.now))) }
-    ensures reads { OnOk result (Noted N.keeps (N.noted notes.old) (slots_read (env_of (G.meaning context.now)) (reads_of (G.meaning context.now)) at (view test.now)) (N.noted notes.new)) }
+    ensures step { IfOk result (λ s. s ≡ step_of_case complete (over (env_of (G.meaning context.now)) at
+        (view test.now))) }
+    ensures reads { OnOk result (Noted N.keeps (N.noted notes.old) (slots_read (env_of (G.meaning context.now))
+        (reads_of (G.meaning context.now)) at (view test.now)) (N.noted notes.new)) }
     ensures visits { OnOk result (steps.new ≡ steps.old + visits (env_of (G.meaning context.now)) at (view test.now)) }
     ensures most { steps.new ≤ steps.old + weight (env_of (G.meaning context.now)) at (view test.now) }
 {
@@ -143,9 +151,12 @@ pub fn take<G: EvalContext, N: Notes, L: Ledger>(
     notes: &mut N,
     steps: &mut Steps<L>,
 ) -> Result<Res, NoMemory>
-    ensures value { IfOk result (λ r. r ≡ down_unless complete (over (env_of (G.meaning context.now)) at (view outcome.now))) }
-    ensures reads { OnOk result (Noted N.keeps (N.noted notes.old) (slots_read (env_of (G.meaning context.now)) (reads_of (G.meaning context.now)) at (view outcome.now)) (N.noted notes.new)) }
-    ensures visits { OnOk result (steps.new ≡ steps.old + visits (env_of (G.meaning context.now)) at (view outcome.now)) }
+    ensures value { IfOk result (λ r. r ≡ down_unless complete (over (env_of (G.meaning context.now)) at
+        (view outcome.now))) }
+    ensures reads { OnOk result (Noted N.keeps (N.noted notes.old) (slots_read (env_of (G.meaning context.now))
+        (reads_of (G.meaning context.now)) at (view outcome.now)) (N.noted notes.new)) }
+    ensures visits { OnOk result (steps.new ≡ steps.old + visits (env_of (G.meaning context.now)) at
+        (view outcome.now)) }
     ensures most { steps.new ≤ steps.old + weight (env_of (G.meaning context.now)) at (view outcome.now) }
 {
     let res = eval(alloc, context, at, outcome, notes, steps)?;
@@ -162,9 +173,12 @@ fn eval_cases<G: EvalContext, N: Notes, L: Ledger>(
     notes: &mut N,
     steps: &mut Steps<L>,
 ) -> Result<Res, NoMemory>
-    ensures value { IfOk result (λ r. r ≡ switch_of (over_cases (env_of (G.meaning context.now)) at (cases_view cases.now))) }
-    ensures reads { OnOk result (Noted N.keeps (N.noted notes.old) (slots_read_of_cases (env_of (G.meaning context.now)) (reads_of (G.meaning context.now)) at (cases_view cases.now)) (N.noted notes.new)) }
-    ensures visits { OnOk result (steps.new ≡ steps.old + visits_of_cases (env_of (G.meaning context.now)) at (cases_view cases.now)) }
+    ensures value { IfOk result (λ r. r ≡ switch_of (over_cases (env_of (G.meaning context.now)) at
+        (cases_view cases.now))) }
+    ensures reads { OnOk result (Noted N.keeps (N.noted notes.old) (slots_read_of_cases (env_of (G.meaning context.now))
+        (reads_of (G.meaning context.now)) at (cases_view cases.now)) (N.noted notes.new)) }
+    ensures visits { OnOk result (steps.new ≡ steps.old + visits_of_cases (env_of (G.meaning context.now)) at
+        (cases_view cases.now)) }
     ensures most { steps.new ≤ steps.old + weight_of_cases (env_of (G.meaning context.now)) at (cases_view cases.now) }
 {
     let mut complete = true;
@@ -193,12 +207,15 @@ fn eval_pick<G: EvalContext, N: Notes, L: Ledger>(
     notes: &mut N,
     steps: &mut Steps<L>,
 ) -> Result<Res, NoMemory>
-    ensures value { IfOk result (λ r. r ≡ pick_of op ((env_of (G.meaning context.now)).source at (use_view used.now)) (λ m. over (env_of (G.meaning context.now)) ((env_of (G.meaning context.now)).enter at (use_view used.now) m) (view test.now))) }
-    ensures reads { OnOk result (Noted N.keeps (N.noted notes.old) ((reads_of (G.meaning context.now)).source at (use_view used.now)
-        ++ flat_map (λ m. slots_read (env_of (G.meaning context.now)) (reads_of (G.meaning context.now)) ((env_of (G.meaning context.now)).enter at (use_view used.now) m) (view test.now))
-        (members_visited op (picked_at (G.meaning context.now) at (use_view used.now) (view test.now)) ((env_of (G.meaning context.now)).source at (use_view used.now)))) (N.noted notes.new)) }
-    ensures visits { OnOk result (steps.new ≡ steps.old + visits_under (G.meaning context.now) at op (use_view used.now) (view test.now)) }
-    ensures most { steps.new ≤ steps.old + sum_by (λ m. weight (env_of (G.meaning context.now)) ((env_of (G.meaning context.now)).enter at (use_view used.now) m) (view test.now)) (members_of ((env_of (G.meaning context.now)).source at (use_view used.now))) }
+    ensures value { IfOk result (λ r. r ≡ pick_of op ((env_of (G.meaning context.now)).source at (use_view used.now))
+        (picked_at (G.meaning context.now) at (use_view used.now) (view test.now))) }
+    ensures reads { OnOk result (Noted N.keeps (N.noted notes.old)
+        (picked_reads (G.meaning context.now) at op (use_view used.now) (view test.now)) (N.noted notes.new)) }
+    ensures visits { OnOk result (steps.new ≡ steps.old + visits_under (G.meaning context.now) at op (use_view used.now)
+        (view test.now)) }
+    ensures most { steps.new ≤ steps.old + sum_by (λ m. weight (env_of (G.meaning context.now))
+        ((env_of (G.meaning context.now)).enter at (use_view used.now) m) (view test.now))
+        (members_of ((env_of (G.meaning context.now)).source at (use_view used.now))) }
 {
     let source = read_source(context, at, used, notes)?;
     let under = at.under(base_under(context, at, used));
@@ -231,9 +248,12 @@ fn see_member<G: EvalContext, N: Notes, L: Ledger>(
     notes: &mut N,
     steps: &mut Steps<L>,
 ) -> Result<(), NoMemory>
-    ensures fold { OnOk result (fold.new ≡ verdict_next fold.old (over (env_of (G.meaning context.now)) at (view test.now))) }
-    ensures kept { OnOk result (kept.new.items ≡ kept_next kept.old.items member (over (env_of (G.meaning context.now)) at (view test.now))) }
-    ensures reads { OnOk result (Noted N.keeps (N.noted notes.old) (slots_read (env_of (G.meaning context.now)) (reads_of (G.meaning context.now)) at (view test.now)) (N.noted notes.new)) }
+    ensures fold { OnOk result (fold.new ≡ verdict_next fold.old (over (env_of (G.meaning context.now)) at
+        (view test.now))) }
+    ensures kept { OnOk result (kept.new.items ≡ kept_next kept.old.items member
+        (over (env_of (G.meaning context.now)) at (view test.now))) }
+    ensures reads { OnOk result (Noted N.keeps (N.noted notes.old) (slots_read (env_of (G.meaning context.now))
+        (reads_of (G.meaning context.now)) at (view test.now)) (N.noted notes.new)) }
     ensures visits { OnOk result (steps.new ≡ steps.old + visits (env_of (G.meaning context.now)) at (view test.now)) }
     ensures most { steps.new ≤ steps.old + weight (env_of (G.meaning context.now)) at (view test.now) }
 {
@@ -253,10 +273,15 @@ fn eval_filter<G: EvalContext, N: Notes, L: Ledger>(
     notes: &mut N,
     steps: &mut Steps<L>,
 ) -> Result<Res, NoMemory>
-    ensures value { IfOk result (λ r. r ≡ filter_of source.now (condition_on (G.meaning context.now) under (view test.now))) }
-    ensures reads { OnOk result (Noted N.keeps (N.noted notes.old) (flat_map (condition_reads (G.meaning context.now) under (view test.now)) (members_of source.now)) (N.noted notes.new)) }
-    ensures visits { OnOk result (steps.new ≡ steps.old + sum_by (visits_on (G.meaning context.now) under (view test.now)) (members_of source.now)) }
-    ensures most { steps.new ≤ steps.old + sum_by (work_on (G.meaning context.now) under (view test.now)) (members_of source.now) }
+    ensures value { IfOk result (λ r. r ≡ filter_of source.now (condition_on (G.meaning context.now) under
+        (view test.now))) }
+    ensures reads { OnOk result (Noted N.keeps (N.noted notes.old)
+        (flat_map (condition_reads (G.meaning context.now) under (view test.now)) (members_of source.now))
+        (N.noted notes.new)) }
+    ensures visits { OnOk result (steps.new ≡ steps.old + sum_by (visits_on (G.meaning context.now) under
+        (view test.now)) (members_of source.now)) }
+    ensures most { steps.new ≤ steps.old + sum_by (work_on (G.meaning context.now) under (view test.now))
+        (members_of source.now) }
 {
     let mut fold = FilterFold::new(source);
     let mut kept = Vec::new(alloc);
@@ -287,10 +312,17 @@ fn eval_find<G: EvalContext, N: Notes, L: Ledger>(
     notes: &mut N,
     steps: &mut Steps<L>,
 ) -> Result<Res, NoMemory>
-    ensures value { IfOk result (λ r. r ≡ find_of source.now (condition_on (G.meaning context.now) under (view test.now))) }
-    ensures reads { OnOk result (Noted N.keeps (N.noted notes.old) (flat_map (condition_reads (G.meaning context.now) under (view test.now)) (up_to_decider (condition_on (G.meaning context.now) under (view test.now)) (members_of source.now))) (N.noted notes.new)) }
-    ensures visits { OnOk result (steps.new ≡ steps.old + sum_by (visits_on (G.meaning context.now) under (view test.now)) (up_to_decider (condition_on (G.meaning context.now) under (view test.now)) (members_of source.now))) }
-    ensures most { steps.new ≤ steps.old + sum_by (work_on (G.meaning context.now) under (view test.now)) (members_of source.now) }
+    ensures value { IfOk result (λ r. r ≡ find_of source.now (condition_on (G.meaning context.now) under
+        (view test.now))) }
+    ensures reads { OnOk result (Noted N.keeps (N.noted notes.old)
+        (flat_map (condition_reads (G.meaning context.now) under (view test.now))
+        (up_to_decider (condition_on (G.meaning context.now) under (view test.now)) (members_of source.now)))
+        (N.noted notes.new)) }
+    ensures visits { OnOk result (steps.new ≡ steps.old + sum_by (visits_on (G.meaning context.now) under
+        (view test.now)) (up_to_decider (condition_on (G.meaning context.now) under (view test.now))
+        (members_of source.now))) }
+    ensures most { steps.new ≤ steps.old + sum_by (work_on (G.meaning context.now) under (view test.now))
+        (members_of source.now) }
 {
     match source_verdict(source) {
         Verdict::Go(complete) => {
@@ -322,9 +354,13 @@ fn find_among<G: EvalContext, N: Notes, L: Ledger>(
     notes: &mut N,
     steps: &mut Steps<L>,
 ) -> Result<Res, NoMemory>
-    ensures value { IfOk result (λ r. r ≡ find_from (condition_on (G.meaning context.now) under (view test.now)) complete members.now) }
-    ensures reads { OnOk result (Noted N.keeps (N.noted notes.old) (flat_map (condition_reads (G.meaning context.now) under (view test.now)) (up_to_decider (condition_on (G.meaning context.now) under (view test.now)) members.now)) (N.noted notes.new)) }
-    ensures visits { OnOk result (steps.new ≡ steps.old + sum_by (visits_on (G.meaning context.now) under (view test.now)) (up_to_decider (condition_on (G.meaning context.now) under (view test.now)) members.now)) }
+    ensures value { IfOk result (λ r. r ≡ find_from (condition_on (G.meaning context.now) under (view test.now))
+        complete members.now) }
+    ensures reads { OnOk result (Noted N.keeps (N.noted notes.old)
+        (flat_map (condition_reads (G.meaning context.now) under (view test.now))
+        (up_to_decider (condition_on (G.meaning context.now) under (view test.now)) members.now)) (N.noted notes.new)) }
+    ensures visits { OnOk result (steps.new ≡ steps.old + sum_by (visits_on (G.meaning context.now) under
+        (view test.now)) (up_to_decider (condition_on (G.meaning context.now) under (view test.now)) members.now)) }
     ensures most { steps.new ≤ steps.old + sum_by (work_on (G.meaning context.now) under (view test.now)) members.now }
 {
     let mut complete = complete;

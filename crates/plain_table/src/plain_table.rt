@@ -77,7 +77,8 @@ impl FactEngine for PlainTable {
         requires well { WellFormed (answered now.now) }
         requires from_one { FromOne (answered now.now) }
         ensures stands { OnOk result (HasAll (accepted dict.now) (answered now.now) (results_of self.new.table)) }
-        ensures unchanged { OnErr result ((d : Accepted) (a : Answered) → HasAll d a (results_of self.old.table) → HasAll d a (results_of self.new.table)) }
+        ensures unchanged { OnErr result ((d : Accepted) (a : Answered) → HasAll d a (results_of self.old.table)
+            → HasAll d a (results_of self.new.table)) }
         ensures visits { OnOk result (steps.new ≡ steps.old + whole_visits (accepted dict.now) (answered now.now)) }
         ensures steps { steps.new ≤ steps.old + whole_weight (accepted dict.now) (answered now.now) }
     {
@@ -87,7 +88,8 @@ impl FactEngine for PlainTable {
     }
 
     fn result(&self, slot: Slot) -> Option<&Res>
-        ensures { (d : Accepted) (a : Answered) → HasAll d a (results_of self.now.table) → option_copied result ≡ plain d a slot }
+        ensures { (d : Accepted) (a : Answered) → HasAll d a (results_of self.now.table) → option_copied result
+            ≡ plain d a slot }
     {
         self.table.get(slot)
     }

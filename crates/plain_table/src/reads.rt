@@ -29,7 +29,8 @@ pub fn read_constant<G: EvalContext>(
     context: &G,
     constant: &Constant,
 ) -> Result<Res, NoMemory>
-    ensures { IfOk result (λ r. r ≡ Complete (value_of_constant (G.meaning context.now).tree.enums (literal_of constant.now))) }
+    ensures { IfOk result (λ r. r ≡ Complete (value_of_constant (G.meaning context.now).tree.enums
+        (literal_of constant.now))) }
 {
     match constant_value(alloc, context.source().enums(), constant)? {
         Some(value) => Ok(Res::Complete(value)),
@@ -71,7 +72,8 @@ fn read_field<G: EvalContext, N: Notes>(
     notes: &mut N,
 ) -> Result<Res, NoMemory>
     ensures value { IfOk result (λ r. r ≡ through_item item.now (result_at (G.meaning context.now).results field)) }
-    ensures reads { OnOk result (Noted N.keeps (N.noted notes.old) (item_read item.now [] (target_slot field)) (N.noted notes.new)) }
+    ensures reads { OnOk result (Noted N.keeps (N.noted notes.old) (item_read item.now [] (target_slot field))
+        (N.noted notes.new)) }
 {
     match item_step(item) {
         ItemStep::Member(member, complete) => {
@@ -90,8 +92,11 @@ fn read_through<G: EvalContext, N: Notes>(
     member: u32,
     notes: &mut N,
 ) -> Result<Res, NoMemory>
-    ensures value { IfOk result (λ r. r ≡ through_item (result_at (G.meaning context.now).results targets.first member) (result_at (G.meaning context.now).results targets.second)) }
-    ensures reads { OnOk result (Noted N.keeps (N.noted notes.old) (item_read (result_at (G.meaning context.now).results targets.first member) (target_slot targets.first member) (target_slot targets.second)) (N.noted notes.new)) }
+    ensures value { IfOk result (λ r. r ≡ through_item (result_at (G.meaning context.now).results targets.first member)
+        (result_at (G.meaning context.now).results targets.second)) }
+    ensures reads { OnOk result (Noted N.keeps (N.noted notes.old)
+        (item_read (result_at (G.meaning context.now).results targets.first member) (target_slot targets.first member)
+        (target_slot targets.second)) (N.noted notes.new)) }
 {
     note(notes, targets.first, member)?;
     let item = context.result_at(targets.first, member);
@@ -108,7 +113,8 @@ fn read_dependency<G: EvalContext, N: Notes>(
     notes: &mut N,
 ) -> Result<Res, NoMemory>
     ensures value { IfOk result (λ r. r ≡ dependency (G.meaning context.now).results targets at path.now) }
-    ensures reads { OnOk result (Noted N.keeps (N.noted notes.old) (dependency_reads (G.meaning context.now).results targets at path.now) (N.noted notes.new)) }
+    ensures reads { OnOk result (Noted N.keeps (N.noted notes.old) (dependency_reads (G.meaning context.now).results
+        targets at path.now) (N.noted notes.new)) }
 {
     match path {
         UsePath::Global(_) => read_at(alloc, context, targets.first, 0, notes),
@@ -135,7 +141,9 @@ fn summed_type<G: EvalContext>(context: &G, targets: Targets) -> FactType
 
 // The sum of the field over the members.
 fn read_sum<G: EvalContext>(context: &G, targets: Targets) -> Res
-    ensures { result ≡ sum_over (type_of_field (G.meaning context.now).tree targets) (collection (G.meaning context.now).results targets) (result_at (G.meaning context.now).results targets.second) }
+    ensures { result ≡ sum_over (type_of_field (G.meaning context.now).tree targets)
+        (collection (G.meaning context.now).results targets) (result_at (G.meaning context.now).results
+        targets.second) }
 {
     let source = context.result_at(targets.first, 0);
     let mut fold = SumFold::new(summed_type(context, targets), source);
@@ -147,7 +155,8 @@ fn read_sum<G: EvalContext>(context: &G, targets: Targets) -> Res
 
 // The number of members of which the field is true.
 fn read_count<G: EvalContext>(context: &G, targets: Targets) -> Res
-    ensures { result ≡ count_of (collection (G.meaning context.now).results targets) (result_at (G.meaning context.now).results targets.second) }
+    ensures { result ≡ count_of (collection (G.meaning context.now).results targets)
+        (result_at (G.meaning context.now).results targets.second) }
 {
     let source = context.result_at(targets.first, 0);
     let mut fold = CountFold::new(source);
@@ -159,7 +168,8 @@ fn read_count<G: EvalContext>(context: &G, targets: Targets) -> Res
 
 // Notes the field of each member.
 fn note_fields<N: Notes>(notes: &mut N, source: &Res, field: Option<u32>) -> Result<(), NoMemory>
-    ensures { OnOk result (Noted N.keeps (N.noted notes.old) (flat_map (target_slot field) (members_of source.now)) (N.noted notes.new)) }
+    ensures { OnOk result (Noted N.keeps (N.noted notes.old) (flat_map (target_slot field) (members_of source.now))
+        (N.noted notes.new)) }
 {
     for member in members(source) {
         note(notes, field, *member)?;
@@ -173,7 +183,9 @@ fn note_collection<G: EvalContext, N: Notes>(
     targets: Targets,
     notes: &mut N,
 ) -> Result<(), NoMemory>
-    ensures { OnOk result (Noted N.keeps (N.noted notes.old) (fields_read (collection (G.meaning context.now).results targets) (target_slot targets.first 0) (target_slot targets.second)) (N.noted notes.new)) }
+    ensures { OnOk result (Noted N.keeps (N.noted notes.old)
+        (fields_read (collection (G.meaning context.now).results targets) (target_slot targets.first 0)
+        (target_slot targets.second)) (N.noted notes.new)) }
 {
     note(notes, targets.first, 0)?;
     note_fields(notes, context.result_at(targets.first, 0), targets.second)
@@ -188,8 +200,10 @@ fn read_path<G: EvalContext, N: Notes>(
     path: &UsePath,
     notes: &mut N,
 ) -> Result<Res, NoMemory>
-    ensures value { IfOk result (λ r. r ≡ read_by op (G.meaning context.now).tree (G.meaning context.now).results targets at path.now) }
-    ensures reads { OnOk result (Noted N.keeps (N.noted notes.old) (reads_of_op op (G.meaning context.now).results targets at path.now) (N.noted notes.new)) }
+    ensures value { IfOk result (λ r. r ≡ read_by op (G.meaning context.now).tree (G.meaning context.now).results
+        targets at path.now) }
+    ensures reads { OnOk result (Noted N.keeps (N.noted notes.old) (reads_of_op op (G.meaning context.now).results
+        targets at path.now) (N.noted notes.new)) }
 {
     match op {
         ReadOp::Dependency => read_dependency(alloc, context, targets, at, path, notes),
@@ -221,8 +235,10 @@ pub fn read<G: EvalContext, N: Notes>(
     used: &PathUse,
     notes: &mut N,
 ) -> Result<Res, NoMemory>
-    ensures value { IfOk result (λ r. r ≡ read_result (G.meaning context.now).tree (G.meaning context.now).results (G.meaning context.now).fact at op used.now.path) }
-    ensures reads { OnOk result (Noted N.keeps (N.noted notes.old) (node_reads (G.meaning context.now).tree (G.meaning context.now).results (G.meaning context.now).fact at op used.now.path) (N.noted notes.new)) }
+    ensures value { IfOk result (λ r. r ≡ read_result (G.meaning context.now).tree (G.meaning context.now).results
+        (G.meaning context.now).fact at op used.now.path) }
+    ensures reads { OnOk result (Noted N.keeps (N.noted notes.old) (node_reads (G.meaning context.now).tree
+        (G.meaning context.now).results (G.meaning context.now).fact at op used.now.path) (N.noted notes.new)) }
 {
     match &used.path {
         None => Ok(Res::Incomplete),
@@ -240,8 +256,10 @@ pub fn read_source<'a, G: EvalContext, N: Notes>(
     used: &PathUse,
     notes: &mut N,
 ) -> Result<&'a Res, NoMemory>
-    ensures value { IfOk result (λ r. r.now ≡ source_result (G.meaning context.now).tree (G.meaning context.now).results (G.meaning context.now).fact at used.now.path) }
-    ensures reads { OnOk result (Noted N.keeps (N.noted notes.old) (source_reads (G.meaning context.now).tree (G.meaning context.now).fact at used.now.path) (N.noted notes.new)) }
+    ensures value { IfOk result (λ r. r.now ≡ source_result (G.meaning context.now).tree (G.meaning context.now).results
+        (G.meaning context.now).fact at used.now.path) }
+    ensures reads { OnOk result (Noted N.keeps (N.noted notes.old) (source_reads (G.meaning context.now).tree
+        (G.meaning context.now).fact at used.now.path) (N.noted notes.new)) }
 {
     match &used.path {
         None => Ok(context.result_at(None, 0)),

@@ -37,9 +37,14 @@ fn derived_result<L: Ledger>(
     main: &Expr,
     steps: &mut Steps<L>,
 ) -> Result<Res, NoMemory>
-    ensures value { IfOk result (λ r. r ≡ or_override (value_of Override (answered answers.now) (slot context.now.fact member)) (over (env_of (context_on context.now)) (outermost member) (conditional_body (fact_view fact.now).conditional (view main.now)))) }
-    ensures visits { OnOk result (steps.new ≡ steps.old + body_visits (context_on context.now).tree (answered answers.now) (context_on context.now).results (slot context.now.fact member) (Some (conditional_body (fact_view fact.now).conditional (view main.now)))) }
-    ensures most { steps.new ≤ steps.old + weight (env_of (context_on context.now)) (outermost member) (conditional_body (fact_view fact.now).conditional (view main.now)) }
+    ensures value { IfOk result (λ r. r ≡ or_override (value_of Override (answered answers.now)
+        (slot context.now.fact member)) (over (env_of (context_on context.now)) (outermost member)
+        (conditional_body (fact_view fact.now).conditional (view main.now)))) }
+    ensures visits { OnOk result (steps.new ≡ steps.old + body_visits (context_on context.now).tree
+        (answered answers.now) (context_on context.now).results (slot context.now.fact member)
+        (Some (conditional_body (fact_view fact.now).conditional (view main.now)))) }
+    ensures most { steps.new ≤ steps.old + weight (env_of (context_on context.now)) (outermost member)
+        (conditional_body (fact_view fact.now).conditional (view main.now)) }
 {
     let slot = Slot {
         fact: context.fact,
@@ -73,8 +78,12 @@ fn main_result<L: Ledger>(
 ) -> Result<Res, NoMemory>
     requires well { WellFormed (answered answers.now) }
     requires from_one { FromOne (answered answers.now) }
-    ensures value { IfOk result (λ r. r ≡ main_result (context_on context.now).tree (answered answers.now) (context_on context.now).results (slot context.now.fact member) (stated_view fact.now.stated) (body (fact_view fact.now))) }
-    ensures visits { OnOk result (steps.new ≡ steps.old + body_visits (context_on context.now).tree (answered answers.now) (context_on context.now).results (slot context.now.fact member) (body (fact_view fact.now))) }
+    ensures value { IfOk result (λ r. r ≡ main_result (context_on context.now).tree (answered answers.now)
+        (context_on context.now).results (slot context.now.fact member) (stated_view fact.now.stated)
+        (body (fact_view fact.now))) }
+    ensures visits { OnOk result (steps.new ≡ steps.old + body_visits (context_on context.now).tree
+        (answered answers.now) (context_on context.now).results (slot context.now.fact member)
+        (body (fact_view fact.now))) }
     ensures most { steps.new ≤ steps.old + option_weight (context_on context.now) member (body (fact_view fact.now)) }
 {
     match &fact.main {
@@ -98,9 +107,12 @@ fn with_placeholder<L: Ledger>(
     res: Res,
     steps: &mut Steps<L>,
 ) -> Result<Res, NoMemory>
-    ensures value { IfOk result (λ r. r ≡ or_placeholder (context_on context.now).tree (context_on context.now).results (slot context.now.fact member) (Some (view placeholder.now)) res) }
-    ensures visits { OnOk result (steps.new ≡ steps.old + placeholder_visits (context_on context.now).tree (context_on context.now).results (slot context.now.fact member) (Some (view placeholder.now)) res) }
-    ensures most { steps.new ≤ steps.old + weight (env_of (context_on context.now)) (outermost member) (view placeholder.now) }
+    ensures value { IfOk result (λ r. r ≡ or_placeholder (context_on context.now).tree (context_on context.now).results
+        (slot context.now.fact member) (Some (view placeholder.now)) res) }
+    ensures visits { OnOk result (steps.new ≡ steps.old + placeholder_visits (context_on context.now).tree
+        (context_on context.now).results (slot context.now.fact member) (Some (view placeholder.now)) res) }
+    ensures most { steps.new ≤ steps.old + weight (env_of (context_on context.now)) (outermost member)
+        (view placeholder.now) }
 {
     match res {
         Res::Incomplete => {
@@ -125,9 +137,12 @@ pub fn slot_result<L: Ledger>(
 ) -> Result<Res, NoMemory>
     requires well { WellFormed (answered answers.now) }
     requires from_one { FromOne (answered answers.now) }
-    ensures value { IfOk result (λ r. r ≡ slot_result (context_on context.now).tree (answered answers.now) (context_on context.now).results (slot context.now.fact member) (fact_view fact.now)) }
-    ensures visits { OnOk result (steps.new ≡ steps.old + visits_over (context_on context.now).tree (answered answers.now) (context_on context.now).results (slot context.now.fact member) (fact_view fact.now)) }
-    ensures most { steps.new ≤ steps.old + (option_weight (context_on context.now) member (body (fact_view fact.now)) + option_weight (context_on context.now) member (fact_view fact.now).placeholder) }
+    ensures value { IfOk result (λ r. r ≡ slot_result (context_on context.now).tree (answered answers.now)
+        (context_on context.now).results (slot context.now.fact member) (fact_view fact.now)) }
+    ensures visits { OnOk result (steps.new ≡ steps.old + visits_over (context_on context.now).tree
+        (answered answers.now) (context_on context.now).results (slot context.now.fact member) (fact_view fact.now)) }
+    ensures most { steps.new ≤ steps.old + (option_weight (context_on context.now) member (body (fact_view fact.now))
+        + option_weight (context_on context.now) member (fact_view fact.now).placeholder) }
 {
     let res = main_result(alloc, context, answers, member, fact, steps)?;
     match &fact.placeholder {

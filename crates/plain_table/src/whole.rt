@@ -36,8 +36,10 @@ fn put_slot<L: Ledger>(
     requires well { WellFormed (answered answers.now) }
     requires from_one { FromOne (answered answers.now) }
     requires stands { IsTrue (stands (accepted dict.now).tree (answered answers.now) slot) }
-    requires below { IsPlainBelow (accepted dict.now) (answered answers.now) (rank (accepted dict.now) slot.fact) (results_of table.old) }
-    ensures filled { OnOk result (IsFilled (accepted dict.now) (answered answers.now) (results_of table.old) (λ t. slot_same t slot) (results_of table.new)) }
+    requires below { IsPlainBelow (accepted dict.now) (answered answers.now) (rank (accepted dict.now) slot.fact)
+        (results_of table.old) }
+    ensures filled { OnOk result (IsFilled (accepted dict.now) (answered answers.now) (results_of table.old)
+        (λ t. slot_same t slot) (results_of table.new)) }
     ensures visits { OnOk result (steps.new ≡ steps.old + slot_visits (accepted dict.now) (answered answers.now) slot) }
     ensures most { steps.new ≤ steps.old + slot_weight (accepted dict.now) (answered answers.now) slot }
 {
@@ -66,11 +68,16 @@ fn put_members<L: Ledger>(
 ) -> Result<(), NoMemory>
     requires well { WellFormed (answered answers.now) }
     requires from_one { FromOne (answered answers.now) }
-    requires stand { (m : ℕ) → IsIn members.now m → IsTrue (stands (accepted dict.now).tree (answered answers.now) (slot fact m)) }
-    requires below { IsPlainBelow (accepted dict.now) (answered answers.now) (rank (accepted dict.now) fact) (results_of table.old) }
-    ensures filled { OnOk result (IsFilled (accepted dict.now) (answered answers.now) (results_of table.old) (is_at fact members.now) (results_of table.new)) }
-    ensures visits { OnOk result (steps.new ≡ steps.old + sum_by (λ m. slot_visits (accepted dict.now) (answered answers.now) (slot fact m)) members.now) }
-    ensures most { steps.new ≤ steps.old + sum_by (λ m. slot_weight (accepted dict.now) (answered answers.now) (slot fact m)) members.now }
+    requires stand { (m : ℕ) → IsIn members.now m → IsTrue (stands (accepted dict.now).tree (answered answers.now)
+        (slot fact m)) }
+    requires below { IsPlainBelow (accepted dict.now) (answered answers.now) (rank (accepted dict.now) fact)
+        (results_of table.old) }
+    ensures filled { OnOk result (IsFilled (accepted dict.now) (answered answers.now) (results_of table.old)
+        (is_at fact members.now) (results_of table.new)) }
+    ensures visits { OnOk result (steps.new ≡ steps.old + sum_by
+        (λ m. slot_visits (accepted dict.now) (answered answers.now) (slot fact m)) members.now) }
+    ensures most { steps.new ≤ steps.old + sum_by (λ m. slot_weight (accepted dict.now) (answered answers.now)
+        (slot fact m)) members.now }
 {
     for member in members {
         let slot = Slot {
@@ -94,10 +101,16 @@ fn put_fact<L: Ledger>(
     requires well { WellFormed (answered answers.now) }
     requires from_one { FromOne (answered answers.now) }
     requires number { IsNumber (accepted dict.now).tree.facts fact }
-    requires below { IsPlainBelow (accepted dict.now) (answered answers.now) (rank (accepted dict.now) fact) (results_of table.old) }
-    ensures filled { OnOk result (IsFilled (accepted dict.now) (answered answers.now) (results_of table.old) (is_at fact (members_of_home (answered answers.now) (home (accepted dict.now).tree fact))) (results_of table.new)) }
-    ensures visits { OnOk result (steps.new ≡ steps.old + sum_by (slot_visits (accepted dict.now) (answered answers.now)) (slots_of (accepted dict.now).tree (answered answers.now) fact)) }
-    ensures most { steps.new ≤ steps.old + sum_by (slot_weight (accepted dict.now) (answered answers.now)) (slots_of (accepted dict.now).tree (answered answers.now) fact) }
+    requires below { IsPlainBelow (accepted dict.now) (answered answers.now) (rank (accepted dict.now) fact)
+        (results_of table.old) }
+    ensures filled { OnOk result (IsFilled (accepted dict.now) (answered answers.now) (results_of table.old)
+        (is_at fact (members_of_home (answered answers.now) (home (accepted dict.now).tree fact)))
+        (results_of table.new)) }
+    ensures visits { OnOk result (steps.new ≡ steps.old + sum_by
+        (slot_visits (accepted dict.now) (answered answers.now))
+        (slots_of (accepted dict.now).tree (answered answers.now) fact)) }
+    ensures most { steps.new ≤ steps.old + sum_by (slot_weight (accepted dict.now) (answered answers.now))
+        (slots_of (accepted dict.now).tree (answered answers.now) fact) }
 {
     let home = dict.home(fact);
     if home == 0 {

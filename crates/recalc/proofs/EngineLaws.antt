@@ -1,5 +1,5 @@
 -- From the cells that stand for answers, the loop leads to those that stand for the answers after a change.
-use Rattle.std.proofs.Common.{◌≡◌, ℕ, Bool, true, false, not, ◌&&◌, nat_eq, if◌then◌else◌, IsTrue, List, [], length, Option, Some, None, option_map, is_some, unwrap_or, refl, sym, ap, ◌∙◌}
+use Rattle.std.proofs.Common.{◌≡◌, ℕ, Bool, true, false, not, ◌&&◌, nat_eq, if◌then◌else◌, IsTrue, List, [], length, Option, Some, None, option_map, is_some, unwrap_or, refl, sym, ap, subst, ◌∙◌}
 use Rattle.std.specs.List.{list_any}
 use Rattle.std.specs.FinMap as finite
 use Rattle.std.proofs.lemmas.Bool.{not-false}
@@ -23,11 +23,13 @@ use Rattle.dictionary.specs.Weights.{touched_weight}
 use Rattle.dictionary.proofs.PlainLaws.{standing_have_results}
 use Rattle.dictionary.proofs.UndoneLaws.{came_tells, went_tells}
 use Rattle.recalc.specs.BetweenAnswers.{between, from_nothing, results_before}
-use Rattle.recalc.specs.Replacing.{slots_of}
-use Rattle.recalc.specs.Running.{AreWaiting, propagation_weight, HasRun, IsPropagation, IsRunning, is_that, live_results, stamped_cell, waits_in}
-use Rattle.recalc.specs.Spread.{is_in}
+use Rattle.recalc.specs.Marking.{IsMarked}
+use Rattle.recalc.specs.Replacing.{entries, slots_of}
+use Rattle.recalc.specs.Running.{AreCells, AreRanked, AreWaiting, propagation_weight, HasRun, IsPropagation, IsRunning, is_that, live_results, Setting, slots_done, stamped_cell, waits_in}
+use Rattle.recalc.specs.Spread.{is_in, Spread}
 use Rattle.recalc.specs.EngineInvariant.{results_of, setting_from, stamp_in, start_setting, without_gone}
 use Rattle.recalc.specs.Waiting.{DirtySlots}
+use Rattle.recalc.specs.declared.engine_state.EngineState.{EngineState}
 use Rattle.recalc.specs.declared.log.Replaced.{Replaced}
 use Rattle.recalc.proofs.BetweenLaws.{all_is_done, are_between, edit_marks, start_passes, touched_weigh, undone_passes}
 use Rattle.recalc.proofs.MarkingLaws.{start_marks}
@@ -46,28 +48,37 @@ no_results (Some c) h = absurd (cc)
 nowhere : (s : Slot) → results_of no_cells s ≡ None
 nowhere s = ap (option_map (λ (c : Cell). c.res)) (finite.get-empty {X = Cell} slot_cmp s)
 
+-- ---- where nothing is done yet
+
+begins : (k : Setting) (c : Spread) (state : EngineState) → entries state.log ≡ [] → IsMarked c [] (waits_in k.dict state.queue) → AreRanked k.dict state.queue
+    → IsRunning k c state.store.cells state
+begins k c state none marked ranked = record {
+  marked = subst (λ (log : List Replaced). IsMarked c (slots_of log) (waits_in k.dict state.queue)) (sym none) marked;
+  ranked = ranked;
+  kept = subst (λ (log : List Replaced). AreCells k.dict k.now k.stamp state.store.cells (slots_of log) state.store.cells) (sym none) (λ s. refl);
+}
+
 -- ---- the start
 
-module _ (names : List (List ℕ)) (d : Accepted) (accepted : IsAccepted names d) (b : Answered) (fit : AnswersFit d.tree b) (first : Cells) (empty : first ≡ no_cells) where
-  pub start_propagation : IsPropagation (start_setting d b) (from_nothing d b) first
+module _ (names : List (List ℕ)) (d : Accepted) (accepted : IsAccepted names d) (b : Answered) (fit : AnswersFit d.tree b) (old : EngineState) (empty : old.store.cells ≡ no_cells) where
+  pub start_propagation : IsPropagation (start_setting d b) (from_nothing d b) old.store.cells
   start_propagation = record {
     names = names;
     accepted = accepted;
-    transition = start_passes names d accepted b fit (live_results None first) (λ s. ap (λ m. results_of m s) empty ∙ nowhere s);
+    transition = start_passes names d accepted b fit (live_results None old.store.cells) (λ s. ap (λ m. results_of m s) empty ∙ nowhere s);
     stay = λ s there. refl;
   }
 
-  pub start_running : (queue : DirtySlots) → AreWaiting d queue (λ s. stands d.tree b s) → IsRunning (start_setting d b) (from_nothing d b) first queue [] first
-  start_running queue w = record {
-    marked = start_marks (from_nothing d b) (waits_in d queue) (λ s. w.slots s ∙ sym (and_true (stands d.tree b s)));
-    ranked = w.ranked;
-    kept = λ s. refl;
-  }
+  pub start_running : entries old.log ≡ [] → (queue : DirtySlots) → AreWaiting d queue (λ s. stands d.tree b s)
+      → IsRunning (start_setting d b) (from_nothing d b) old.store.cells (record old { queue = queue })
+  start_running none queue w =
+      begins (start_setting d b) (from_nothing d b) (record old { queue = queue }) none
+      (start_marks (from_nothing d b) (waits_in d queue) (λ s. w.slots s ∙ sym (and_true (stands d.tree b s)))) w.ranked
 
 -- where no slot is done that isn't there, all stamps are those of the start
-pub start_stamps : (d : Accepted) (b : Answered) (first : Cells) → first ≡ no_cells → (queue : DirtySlots) (log : List Replaced) (cells : Cells)
-    → HasRun (start_setting d b) (from_nothing d b) first queue log cells → (s : Slot) → stamp_in cells s ≡ 0
-start_stamps d b first empty queue log cells run s = ap stamp_of (run.running.kept s) ∙ at (is_in (slots_of log) s)
+pub start_stamps : (d : Accepted) (b : Answered) (first : Cells) → first ≡ no_cells → (state : EngineState)
+    → HasRun (start_setting d b) (from_nothing d b) first state → (s : Slot) → stamp_in state.store.cells s ≡ 0
+start_stamps d b first empty state run s = ap stamp_of (run.running.kept s) ∙ at (is_in (slots_done state) s)
   where
     put : (o : Option Res) → stamp_of (option_map (stamped_cell 0) o) ≡ 0
     put None = refl
@@ -86,7 +97,7 @@ none_came (puts_back c place k e) now m n h = refl
 none_came _ now m n h = absurd (cc)
 
 module _ (names : List (List ℕ)) (d : Accepted) (accepted : IsAccepted names d) (undo : Change) (now : Answered) (u : IsUndone d undo now)
-    (gone : Option ℕ) (is : (m : ℕ) → is_that gone m ≡ went undo now m) (stamp : ℕ) (first : Cells) (results : (s : Slot) → results_of first s ≡ plain d (applied undo now) s) where
+    (gone : Option ℕ) (is : (m : ℕ) → is_that gone m ≡ went undo now m) (stamp : ℕ) (old : EngineState) (results : (s : Slot) → results_of old.store.cells s ≡ plain d (applied undo now) s) where
   -- no slot that stands is of the member that went
   stays : (s : Slot) → IsTrue (stands d.tree now s) → is_that gone s.member ≡ false
   stays s there = is s.member ∙ at (went undo now s.member) refl
@@ -97,59 +108,58 @@ module _ (names : List (List ℕ)) (d : Accepted) (accepted : IsAccepted names d
           let stood : stands d.tree (applied undo now) s ≡ true = not-false (stands d.tree (applied undo now) s) (came_tells d undo now u s there ∙ none_came undo now s.member s.member e) in
           sym e ∙ sym (went_tells d undo now u s stood) ∙ ap not there
 
-  before : (s : Slot) → live_results gone first s ≡ results_before d (applied undo now) now s
+  before : (s : Slot) → live_results gone old.store.cells s ≡ results_before d (applied undo now) now s
   before s = at (stands d.tree now s) refl (stands d.tree (applied undo now) s) refl
     where
-      hidden : (y : Bool) → results_of first s ≡ None → (if y then None else results_of first s) ≡ None
+      hidden : (y : Bool) → results_of old.store.cells s ≡ None → (if y then None else results_of old.store.cells s) ≡ None
       hidden true h = refl
       hidden false h = h
 
-      at : (x : Bool) → stands d.tree now s ≡ x → (y : Bool) → stands d.tree (applied undo now) s ≡ y → live_results gone first s ≡ (if x then plain d (applied undo now) s else None)
-      at true e y f = ap (λ z. if z then None else results_of first s) (stays s e) ∙ results s
-      at false e true f = ap (λ z. if z then None else results_of first s) (is s.member ∙ sym (went_tells d undo now u s f) ∙ ap not e)
+      at : (x : Bool) → stands d.tree now s ≡ x → (y : Bool) → stands d.tree (applied undo now) s ≡ y → live_results gone old.store.cells s ≡ (if x then plain d (applied undo now) s else None)
+      at true e y f = ap (λ z. if z then None else results_of old.store.cells s) (stays s e) ∙ results s
+      at false e true f = ap (λ z. if z then None else results_of old.store.cells s) (is s.member ∙ sym (went_tells d undo now u s f) ∙ ap not e)
       at false e false f = hidden (is_that gone s.member) (results s ∙ no_result d (applied undo now) s f)
 
-  pub change_propagation : IsPropagation (setting_from d undo now gone stamp) (between d (applied undo now) now) first
+  pub change_propagation : IsPropagation (setting_from d undo now gone stamp) (between d (applied undo now) now) old.store.cells
   change_propagation = record {
     names = names;
     accepted = accepted;
-    transition = undone_passes names d accepted undo now u (live_results gone first) before;
+    transition = undone_passes names d accepted undo now u (live_results gone old.store.cells) before;
     stay = stays;
   }
 
-  pub change_running : (queue : DirtySlots) → AreWaiting d queue (λ s. stands d.tree now s && is_touched_first undo now s) → IsRunning (setting_from d undo now gone stamp) (between d (applied undo now) now) first queue [] first
-  change_running queue w = record {
-    marked = edit_marks names d accepted undo now u (waits_in d queue) w.slots;
-    ranked = w.ranked;
-    kept = λ s. refl;
-  }
+  pub change_running : entries old.log ≡ [] → (queue : DirtySlots) → AreWaiting d queue (λ s. stands d.tree now s && is_touched_first undo now s)
+      → IsRunning (setting_from d undo now gone stamp) (between d (applied undo now) now) old.store.cells (record old { queue = queue })
+  change_running none queue w =
+      begins (setting_from d undo now gone stamp) (between d (applied undo now) now) (record old { queue = queue }) none
+      (edit_marks names d accepted undo now u (waits_in d queue) w.slots) w.ranked
 
   pub change_weight : propagation_weight (setting_from d undo now gone stamp) (between d (applied undo now) now) ≡ touched_weight d (applied undo now) now
   change_weight = touched_weigh d (applied undo now) now
 
   -- ---- once it is made
 
-  module _ (queue : DirtySlots) (log : List Replaced) (cells : Cells) (run : HasRun (setting_from d undo now gone stamp) (between d (applied undo now) now) first queue log cells)
-      (order : List ℕ) (by_rank : AreByRank d.ranks order) (left : Cells) (forgot : (s : Slot) → finite.get left s ≡ without_gone cells gone order s) where
+  module _ (state : EngineState) (run : HasRun (setting_from d undo now gone stamp) (between d (applied undo now) now) old.store.cells state)
+      (order : List ℕ) (by_rank : AreByRank d.ranks order) (left : Cells) (forgot : (s : Slot) → finite.get left s ≡ without_gone state.store.cells gone order s) where
     -- a cell of the member that went is at one of the facts
-    at_facts : (s : Slot) → is_that gone s.member ≡ true → list_any (nat_eq s.fact) order ≡ false → finite.get cells s ≡ None
-    at_facts s e out = run.running.kept s ∙ at (is_in (slots_of log) s) refl
+    at_facts : (s : Slot) → is_that gone s.member ≡ true → list_any (nat_eq s.fact) order ≡ false → finite.get state.store.cells s ≡ None
+    at_facts s e out = run.running.kept s ∙ at (is_in (slots_done state) s) refl
       where
-        stood : (x : Bool) → stands d.tree (applied undo now) s ≡ x → finite.get first s ≡ None
+        stood : (x : Bool) → stands d.tree (applied undo now) s ≡ x → finite.get old.store.cells s ≡ None
         stood true f = absurd (let h : list_any (nat_eq s.fact) order ≡ true = standing_in names d accepted order by_rank (applied undo now) s f in cc)
-        stood false f = no_results (finite.get first s) (results s ∙ no_result d (applied undo now) s f)
+        stood false f = no_results (finite.get old.store.cells s) (results s ∙ no_result d (applied undo now) s f)
 
-        at : (x : Bool) → is_in (slots_of log) s ≡ x → (if x then option_map (stamped_cell stamp) (plain d now s) else finite.get first s) ≡ None
+        at : (x : Bool) → is_in (slots_done state) s ≡ x → (if x then option_map (stamped_cell stamp) (plain d now s) else finite.get old.store.cells s) ≡ None
         at true f = absurd (let there : stands d.tree now s ≡ true = (run.running.marked.right s f).0 in let h : is_that gone s.member ≡ false = stays s there in cc)
         at false f = stood (stands d.tree (applied undo now) s) refl
 
-    left_seen : (g : Option ℕ) (s : Slot) → (is_that g s.member ≡ true → list_any (nat_eq s.fact) order ≡ false → finite.get cells s ≡ None)
-        → option_map (λ (c : Cell). c.res) (without_gone cells g order s) ≡ live_results g cells s
+    left_seen : (g : Option ℕ) (s : Slot) → (is_that g s.member ≡ true → list_any (nat_eq s.fact) order ≡ false → finite.get state.store.cells s ≡ None)
+        → option_map (λ (c : Cell). c.res) (without_gone state.store.cells g order s) ≡ live_results g state.store.cells s
     left_seen None s h = refl
     left_seen (Some m) s h = at (nat_eq s.member m) (list_any (nat_eq s.fact) order) refl refl
       where
         at : (x y : Bool) → nat_eq s.member m ≡ x → list_any (nat_eq s.fact) order ≡ y
-            → option_map (λ (c : Cell). c.res) (if x && y then None else finite.get cells s) ≡ (if x then None else option_map (λ (c : Cell). c.res) (finite.get cells s))
+            → option_map (λ (c : Cell). c.res) (if x && y then None else finite.get state.store.cells s) ≡ (if x then None else option_map (λ (c : Cell). c.res) (finite.get state.store.cells s))
         at true true e f = refl
         at true false e f = ap (option_map (λ (c : Cell). c.res)) (h e f)
         at false y e f = refl
@@ -158,27 +168,27 @@ module _ (names : List (List ℕ)) (d : Accepted) (accepted : IsAccepted names d
     pub changed_results : (s : Slot) → results_of left s ≡ plain d now s
     changed_results s = ap (option_map (λ (c : Cell). c.res)) (forgot s) ∙ left_seen gone s (at_facts s) ∙ run.results s
 
-    staying : (g : Option ℕ) (s : Slot) → is_that g s.member ≡ false → without_gone cells g order s ≡ finite.get cells s
+    staying : (g : Option ℕ) (s : Slot) → is_that g s.member ≡ false → without_gone state.store.cells g order s ≡ finite.get state.store.cells s
     staying None s h = refl
-    staying (Some m) s h = ap (λ x. if x && list_any (nat_eq s.fact) order then None else finite.get cells s) h
+    staying (Some m) s h = ap (λ x. if x && list_any (nat_eq s.fact) order then None else finite.get state.store.cells s) h
 
     -- the stamps are those of the change where it touched the slot, and else as before
-    pub changed_stamps : (s : Slot) → IsTrue (stands d.tree now s) → stamp_in left s ≡ stamped d (applied undo now) now stamp (stamp_in first) s
+    pub changed_stamps : (s : Slot) → IsTrue (stands d.tree now s) → stamp_in left s ≡ stamped d (applied undo now) now stamp (stamp_in old.store.cells) s
     changed_stamps s there =
         ap stamp_of (forgot s ∙ staying gone s (stays s there) ∙ run.running.kept s)
-        ∙ at (is_in (slots_of log) s) (plain d now s) (standing_have_results d now s ∙ there)
-        ∙ (all_is_done names d (applied undo now) now (are_between names d accepted undo now u) (slots_of log) (waits_in d queue) run.running.marked (λ t. run.none _)).stamps stamp (stamp_in first) s there
+        ∙ at (is_in (slots_done state) s) (plain d now s) (standing_have_results d now s ∙ there)
+        ∙ (all_is_done names d (applied undo now) now (are_between names d accepted undo now u) (slots_done state) (waits_in d state.queue) run.running.marked (λ t. run.none _)).stamps stamp (stamp_in old.store.cells) s there
       where
-        at : (x : Bool) (o : Option Res) → is_some o ≡ true → stamp_of (if x then option_map (stamped_cell stamp) o else finite.get first s) ≡ (if x then stamp else stamp_in first s)
+        at : (x : Bool) (o : Option Res) → is_some o ≡ true → stamp_of (if x then option_map (stamped_cell stamp) o else finite.get old.store.cells s) ≡ (if x then stamp else stamp_in old.store.cells s)
         at true (Some r) h = refl
         at true None h = absurd (cc)
         at false o h = refl
 
     -- and so many slots were touched
-    pub changed_count : length log ≡ touched_count d (applied undo now) now
+    pub changed_count : length (entries state.log) ≡ touched_count d (applied undo now) now
     changed_count =
-        sym (length-map log (λ (e : Replaced). e.slot))
-        ∙ (all_is_done names d (applied undo now) now (are_between names d accepted undo now u) (slots_of log) (waits_in d queue) run.running.marked (λ t. run.none _)).count
+        sym (length-map (entries state.log) (λ (e : Replaced). e.slot))
+        ∙ (all_is_done names d (applied undo now) now (are_between names d accepted undo now u) (slots_done state) (waits_in d state.queue) run.running.marked (λ t. run.none _)).count
 
 -- ---- what is answered between changes
 

@@ -11,7 +11,6 @@ pub mod ReaderLaws
 pub mod ReplacingLaws
 pub mod RunningLaws
 pub mod SeedingLaws
-pub mod SessionLaws
 pub mod SlotLists
 pub mod StandingOnce
 pub mod StepExamples

@@ -23,12 +23,13 @@ use Rattle.recalc.specs.Laws.{touched_of}
 use Rattle.recalc.specs.Marking.{IsLeast, IsMarked, IsNext}
 use Rattle.recalc.specs.Transitions.{AreResults, is_shielded, moves}
 use Rattle.recalc.specs.Readers.{dirty_of, marks}
-use Rattle.recalc.specs.Replacing.{slots_of}
-use Rattle.recalc.specs.Running.{AreCells, propagation_weight, HasTurned, IsPropagation, IsPopped, IsRunning, is_that, marks_now, live_results_in, Setting, slot_of, stamped_cell, waits_in}
+use Rattle.recalc.specs.Replacing.{entries, slots_of}
+use Rattle.recalc.specs.Running.{AreCells, propagation_weight, HasTurned, IsPropagation, IsPopped, IsRunning, is_that, marks_now, live_results_in, Setting, slot_of, slots_done, stamped_cell, waits_in}
 use Rattle.recalc.specs.Spread.{is_in, Spread}
 use Rattle.recalc.specs.Waiting.{dirty_same, DirtySlots, waits}
 use Rattle.recalc.specs.declared.log.Replaced.{Replaced}
 use Rattle.recalc.specs.declared.dirty_queue.DirtySlot.{DirtySlot}
+use Rattle.recalc.specs.declared.engine_state.EngineState.{EngineState}
 use Rattle.recalc.proofs.DirtyLaws.{dirty_turn}
 use Rattle.recalc.proofs.MarkingLaws.{turn_marks}
 use Rattle.recalc.proofs.TransitionLaws.{all_new, feeds_now, new_below, number_of_standing, turn_keeps_results}
@@ -56,17 +57,17 @@ dirty_is d dirty ranked q =
     ∙ ap (λ x. x && nat_eq dirty.member q.member) (nat_eq-comm dirty.fact q.fact)
     ∙ ap (λ x. nat_eq q.fact dirty.fact && x) (nat_eq-comm dirty.member q.member)
 
-module _ (k : Setting) (c : Spread) (first : Cells) (propagation : IsPropagation k c first) (queue : DirtySlots) (log : List Replaced) (cells : Cells) (run : IsRunning k c first queue log cells) where
-  stands_done : (s : Slot) → IsTrue (is_in (slots_of log) s) → IsTrue (stands k.dict.tree k.now s)
+module _ (k : Setting) (c : Spread) (first : Cells) (propagation : IsPropagation k c first) (state : EngineState) (run : IsRunning k c first state) where
+  stands_done : (s : Slot) → IsTrue (is_in (slots_done state) s) → IsTrue (stands k.dict.tree k.now s)
   stands_done s i = sym (propagation.transition.there s) ∙ (run.marked.right s i).0
 
   -- those done have their new result
-  pub are_results : AreResults k.dict k.now (live_results_in k first) (slots_of log) (live_results_in k cells)
-  are_results s = at (is_in (slots_of log) s) refl
+  pub are_results : AreResults k.dict k.now (live_results_in k first) (slots_done state) (live_results_in k state.store.cells)
+  are_results s = at (is_in (slots_done state) s) refl
     where
-      at : (x : Bool) → is_in (slots_of log) s ≡ x → live_results_in k cells s ≡ (if x then plain k.dict k.now s else live_results_in k first s)
+      at : (x : Bool) → is_in (slots_done state) s ≡ x → live_results_in k state.store.cells s ≡ (if x then plain k.dict k.now s else live_results_in k first s)
       at true e =
-          ap (λ y. if y then None else option_map (λ (t : Cell). t.res) (finite.get cells s)) (propagation.stay s (stands_done s e))
+          ap (λ y. if y then None else option_map (λ (t : Cell). t.res) (finite.get state.store.cells s)) (propagation.stay s (stands_done s e))
           ∙ ap (option_map (λ (t : Cell). t.res)) (run.kept s ∙ ap (λ y. if y then option_map (stamped_cell k.stamp) (plain k.dict k.now s) else finite.get first s) e)
           ∙ unstamped k.stamp (plain k.dict k.now s)
       at false e =
@@ -75,14 +76,14 @@ module _ (k : Setting) (c : Spread) (first : Cells) (propagation : IsPropagation
 
   -- ---- the slot that was taken out
 
-  module _ (left : DirtySlots) (dirty : DirtySlot) (pop : IsPopped queue left dirty) where
+  module _ (left : DirtySlots) (dirty : DirtySlot) (pop : IsPopped state.queue left dirty) where
     same_dirty : dirty ≡ dirty_of k.dict (slot_of dirty)
     same_dirty = ap (λ n. record { rank = n; fact = dirty.fact; member = dirty.member }) (run.ranked dirty pop.some)
 
-    pub popped_waits : IsTrue (waits_in k.dict queue (slot_of dirty))
-    popped_waits = subst (λ q. IsTrue (waits queue q)) same_dirty pop.some
+    pub popped_waits : IsTrue (waits_in k.dict state.queue (slot_of dirty))
+    popped_waits = subst (λ q. IsTrue (waits state.queue q)) same_dirty pop.some
 
-    pub popped_least : IsLeast c (waits_in k.dict queue) (c.rank (slot_of dirty))
+    pub popped_least : IsLeast c (waits_in k.dict state.queue) (c.rank (slot_of dirty))
     popped_least w on =
         let h : dirty.rank ≤ rank k.dict w.fact = pop.least (dirty_of k.dict w) on in
         omega (arith, h, propagation.transition.ranks w, propagation.transition.ranks (slot_of dirty), run.ranked dirty pop.some)
@@ -93,38 +94,38 @@ module _ (k : Setting) (c : Spread) (first : Cells) (propagation : IsPropagation
     pub popped_number : IsNumber k.dict.tree.facts dirty.fact
     popped_number = number_of_standing k.dict k.now (slot_of dirty) popped_stands
 
-    pub popped_new : is_in (slots_of log) (slot_of dirty) ≡ false
+    pub popped_new : is_in (slots_done state) (slot_of dirty) ≡ false
     popped_new = (run.marked.only (slot_of dirty) popped_waits).1
 
     -- the facts of lower rank have their new results
-    pub popped_below : IsPlainBelow k.dict k.now (rank k.dict dirty.fact) (live_results_in k cells)
+    pub popped_below : IsPlainBelow k.dict k.now (rank k.dict dirty.fact) (live_results_in k state.store.cells)
     popped_below =
-        new_below k.dict k.now k.extended (live_results_in k first) c propagation.transition (slots_of log) (waits_in k.dict queue) run.marked
-        (live_results_in k cells) are_results (slot_of dirty) popped_least
+        new_below k.dict k.now k.extended (live_results_in k first) c propagation.transition (slots_done state) (waits_in k.dict state.queue) run.marked
+        (live_results_in k state.store.cells) are_results (slot_of dirty) popped_least
 
     -- ---- the steps
 
-    within : sum_by (slot_weight k.dict k.now) (slots_of log ++ slot_of dirty ∷ []) ≤ propagation_weight k c
-    within = (done_weigh_less c propagation.transition.spreads (slots_of log) (waits_in k.dict queue) run.marked (slot_weight k.dict k.now)).1 (slot_of dirty) popped_waits
+    within : sum_by (slot_weight k.dict k.now) (slots_done state ++ slot_of dirty ∷ []) ≤ propagation_weight k c
+    within = (done_weigh_less c propagation.transition.spreads (slots_done state) (waits_in k.dict state.queue) run.marked (slot_weight k.dict k.now)).1 (slot_of dirty) popped_waits
 
-    pub steps_after : (start before after : ℕ) → before ≤ start + sum_by (slot_weight k.dict k.now) (slots_of log) → after ≤ before + slot_weight k.dict k.now (slot_of dirty)
-        → after ≤ start + sum_by (slot_weight k.dict k.now) (slots_of log ++ slot_of dirty ∷ [])
+    pub steps_after : (start before after : ℕ) → before ≤ start + sum_by (slot_weight k.dict k.now) (slots_done state) → after ≤ before + slot_weight k.dict k.now (slot_of dirty)
+        → after ≤ start + sum_by (slot_weight k.dict k.now) (slots_done state ++ slot_of dirty ∷ [])
     steps_after start before after h l =
-        let e : sum_by (slot_weight k.dict k.now) (slots_of log ++ slot_of dirty ∷ []) ≡ sum_by (slot_weight k.dict k.now) (slots_of log) + sum_by (slot_weight k.dict k.now) (slot_of dirty ∷ []) =
-        sum_by-append (slot_weight k.dict k.now) (slots_of log) (slot_of dirty ∷ []) in
+        let e : sum_by (slot_weight k.dict k.now) (slots_done state ++ slot_of dirty ∷ []) ≡ sum_by (slot_weight k.dict k.now) (slots_done state) + sum_by (slot_weight k.dict k.now) (slot_of dirty ∷ []) =
+        sum_by-append (slot_weight k.dict k.now) (slots_done state) (slot_of dirty ∷ []) in
         let f : sum_by (slot_weight k.dict k.now) (slot_of dirty ∷ []) ≡ slot_weight k.dict k.now (slot_of dirty) + 0 = sum_by-cons (slot_weight k.dict k.now) (slot_of dirty) [] in
         omega (arith, h, l, e, f)
 
-    pub steps_within : (start before after : ℕ) → before ≤ start + sum_by (slot_weight k.dict k.now) (slots_of log) → after ≤ before + slot_weight k.dict k.now (slot_of dirty)
+    pub steps_within : (start before after : ℕ) → before ≤ start + sum_by (slot_weight k.dict k.now) (slots_done state) → after ≤ before + slot_weight k.dict k.now (slot_of dirty)
         → after ≤ start + propagation_weight k c
     steps_within start before after h l = let m = steps_after start before after h l in omega (arith, m, within)
 
     -- ---- once it is done
 
-    module _ (rs : List ReaderOf) (are : AreReaders k.dict dirty.fact rs) (queue' : DirtySlots) (log' : List Replaced) (cells' : Cells)
-        (turned : HasTurned k rs (slot_of dirty) left log cells queue' log' cells') where
-      pub now_done : slots_of log' ≡ slots_of log ++ slot_of dirty ∷ []
-      now_done = ap slots_of turned.kept ∙ slots_push log (record { slot = slot_of dirty; cell = finite.get cells (slot_of dirty) })
+    module _ (rs : List ReaderOf) (are : AreReaders k.dict dirty.fact rs) (state' : EngineState)
+        (turned : HasTurned k rs (slot_of dirty) (record state { queue = left }) state') where
+      pub now_done : slots_done state' ≡ slots_done state ++ slot_of dirty ∷ []
+      now_done = ap slots_of turned.kept ∙ slots_push (entries state.log) (record { slot = slot_of dirty; cell = finite.get state.store.cells (slot_of dirty) })
 
       -- the cells
       choose : (q : Slot) (x y : Bool) → slot_same q (slot_of dirty) ≡ x
@@ -135,96 +136,96 @@ module _ (k : Setting) (c : Spread) (first : Cells) (propagation : IsPropagation
       choose q false true e = refl
       choose q false false e = refl
 
-      cells_after : AreCells k.dict k.now k.stamp first (slots_of log') cells'
+      cells_after : AreCells k.dict k.now k.stamp first (slots_done state') state'.store.cells
       cells_after q =
           ap (λ m. finite.get m q) turned.put
-          ∙ get_put_at cells (slot_of dirty) (option_map (stamped_cell k.stamp) (plain k.dict k.now (slot_of dirty))) q
+          ∙ get_put_at state.store.cells (slot_of dirty) (option_map (stamped_cell k.stamp) (plain k.dict k.now (slot_of dirty))) q
           ∙ ap (cond (slot_same q (slot_of dirty)) (option_map (stamped_cell k.stamp) (plain k.dict k.now (slot_of dirty)))) (run.kept q)
-          ∙ choose q (slot_same q (slot_of dirty)) (is_in (slots_of log) q) refl
+          ∙ choose q (slot_same q (slot_of dirty)) (is_in (slots_done state) q) refl
           ∙ ap (λ y. if y then option_map (stamped_cell k.stamp) (plain k.dict k.now q) else finite.get first q)
-          (sym (ap (λ ss. is_in ss q) now_done ∙ in_push (slots_of log) (slot_of dirty) q))
+          (sym (ap (λ ss. is_in ss q) now_done ∙ in_push (slots_done state) (slot_of dirty) q))
 
       -- the results that are live
-      put_seen : (q : Slot) → live_results_in k cells' q ≡ (if slot_same q (slot_of dirty) then plain k.dict k.now (slot_of dirty) else live_results_in k cells q)
+      put_seen : (q : Slot) → live_results_in k state'.store.cells q ≡ (if slot_same q (slot_of dirty) then plain k.dict k.now (slot_of dirty) else live_results_in k state.store.cells q)
       put_seen q =
           ap (λ m. live_results_in k m q) turned.put
           ∙ ap (λ (o : Option Cell). if is_that k.gone q.member then None else option_map (λ (t : Cell). t.res) o)
-          (get_put_at cells (slot_of dirty) (option_map (stamped_cell k.stamp) (plain k.dict k.now (slot_of dirty))) q)
+          (get_put_at state.store.cells (slot_of dirty) (option_map (stamped_cell k.stamp) (plain k.dict k.now (slot_of dirty))) q)
           ∙ at (slot_same q (slot_of dirty)) refl
         where
           at : (x : Bool) → slot_same q (slot_of dirty) ≡ x
-              → (if is_that k.gone q.member then None else option_map (λ (t : Cell). t.res) (cond x (option_map (stamped_cell k.stamp) (plain k.dict k.now (slot_of dirty))) (finite.get cells q)))
-              ≡ (if x then plain k.dict k.now (slot_of dirty) else live_results_in k cells q)
+              → (if is_that k.gone q.member then None else option_map (λ (t : Cell). t.res) (cond x (option_map (stamped_cell k.stamp) (plain k.dict k.now (slot_of dirty))) (finite.get state.store.cells q)))
+              ≡ (if x then plain k.dict k.now (slot_of dirty) else live_results_in k state.store.cells q)
           at true e =
               ap (λ y. if y then None else option_map (λ (t : Cell). t.res) (option_map (stamped_cell k.stamp) (plain k.dict k.now (slot_of dirty))))
               (ap (λ (t : Slot). is_that k.gone t.member) (slot_same-equal q (slot_of dirty) e) ∙ propagation.stay (slot_of dirty) popped_stands)
               ∙ unstamped k.stamp (plain k.dict k.now (slot_of dirty))
           at false e = refl
 
-      results_after : AreResults k.dict k.now (live_results_in k first) (slots_of log ++ slot_of dirty ∷ []) (live_results_in k cells')
-      results_after = turn_keeps_results k.dict k.now (live_results_in k first) (slots_of log) (live_results_in k cells) (live_results_in k cells') are_results (slot_of dirty) put_seen
+      results_after : AreResults k.dict k.now (live_results_in k first) (slots_done state ++ slot_of dirty ∷ []) (live_results_in k state'.store.cells)
+      results_after = turn_keeps_results k.dict k.now (live_results_in k first) (slots_done state) (live_results_in k state.store.cells) (live_results_in k state'.store.cells) are_results (slot_of dirty) put_seen
 
       -- what waits
-      moved_now : moves (live_results_in k cells (slot_of dirty)) (plain k.dict k.now (slot_of dirty)) ≡ c.moved (slot_of dirty)
+      moved_now : moves (live_results_in k state.store.cells (slot_of dirty)) (plain k.dict k.now (slot_of dirty)) ≡ c.moved (slot_of dirty)
       moved_now =
           ap (λ o. moves o (plain k.dict k.now (slot_of dirty)))
           (are_results (slot_of dirty) ∙ ap (λ y. if y then plain k.dict k.now (slot_of dirty) else live_results_in k first (slot_of dirty)) popped_new)
           ∙ sym (propagation.transition.moved (slot_of dirty))
 
-      next : IsNext c (waits_in k.dict queue) (slot_of dirty) (waits_in k.dict queue')
+      next : IsNext c (waits_in k.dict state.queue) (slot_of dirty) (waits_in k.dict state'.queue)
       next q =
           turned.marked (dirty_of k.dict q)
-          ∙ ap (λ x. x || marks_now k rs cells cells' (slot_of dirty) (dirty_of k.dict q))
-          (pop.rest (dirty_of k.dict q) ∙ ap (λ x. waits queue (dirty_of k.dict q) && not x) taken)
-          ∙ ap (λ x. (waits queue (dirty_of k.dict q) && not (slot_same q (slot_of dirty))) || x)
-          (ap (λ x. x && marks k.dict k.now (is_shielded k.extended k.dict k.now (live_results_in k cells')) (slot_of dirty) rs (dirty_of k.dict q)) moved_now
+          ∙ ap (λ x. x || marks_now k rs state.store.cells state'.store.cells (slot_of dirty) (dirty_of k.dict q))
+          (pop.rest (dirty_of k.dict q) ∙ ap (λ x. waits state.queue (dirty_of k.dict q) && not x) taken)
+          ∙ ap (λ x. (waits state.queue (dirty_of k.dict q) && not (slot_same q (slot_of dirty))) || x)
+          (ap (λ x. x && marks k.dict k.now (is_shielded k.extended k.dict k.now (live_results_in k state'.store.cells)) (slot_of dirty) rs (dirty_of k.dict q)) moved_now
           ∙ ap (λ x. c.moved (slot_of dirty) && x)
-          (marks_feed k.dict k.now (is_shielded k.extended k.dict k.now (live_results_in k cells')) (slot_of dirty) rs are q ∙ fed))
+          (marks_feed k.dict k.now (is_shielded k.extended k.dict k.now (live_results_in k state'.store.cells)) (slot_of dirty) rs are q ∙ fed))
         where
           taken : dirty_same (dirty_of k.dict q) dirty ≡ slot_same q (slot_of dirty)
           taken = dirty_turn (dirty_of k.dict q) dirty ∙ dirty_is k.dict dirty (run.ranked dirty pop.some) q
 
-          fed : (stands k.dict.tree k.now q && (feeds k.dict.tree (slot_of dirty) q && not (is_shielded k.extended k.dict k.now (live_results_in k cells') q))) ≡ (c.stands q && c.feeds (slot_of dirty) q)
+          fed : (stands k.dict.tree k.now q && (feeds k.dict.tree (slot_of dirty) q && not (is_shielded k.extended k.dict k.now (live_results_in k state'.store.cells) q))) ≡ (c.stands q && c.feeds (slot_of dirty) q)
           fed = at (stands k.dict.tree k.now q) refl
             where
-              at : (x : Bool) → stands k.dict.tree k.now q ≡ x → (x && (feeds k.dict.tree (slot_of dirty) q && not (is_shielded k.extended k.dict k.now (live_results_in k cells') q))) ≡ (c.stands q && c.feeds (slot_of dirty) q)
+              at : (x : Bool) → stands k.dict.tree k.now q ≡ x → (x && (feeds k.dict.tree (slot_of dirty) q && not (is_shielded k.extended k.dict k.now (live_results_in k state'.store.cells) q))) ≡ (c.stands q && c.feeds (slot_of dirty) q)
               at true e =
-                  feeds_now propagation.names k.dict propagation.accepted k.now k.extended (live_results_in k first) c propagation.transition (slots_of log) (waits_in k.dict queue) run.marked
-                  (slot_of dirty) popped_waits (live_results_in k cells') results_after q e
+                  feeds_now propagation.names k.dict propagation.accepted k.now k.extended (live_results_in k first) c propagation.transition (slots_done state) (waits_in k.dict state.queue) run.marked
+                  (slot_of dirty) popped_waits (live_results_in k state'.store.cells) results_after q e
                   ∙ ap (λ x. x && c.feeds (slot_of dirty) q) (sym (propagation.transition.there q ∙ e))
               at false e = ap (λ x. x && c.feeds (slot_of dirty) q) (sym (propagation.transition.there q ∙ e))
 
-      ranked_after : (q : DirtySlot) → IsTrue (waits queue' q) → q.rank ≡ rank k.dict q.fact
+      ranked_after : (q : DirtySlot) → IsTrue (waits state'.queue q) → q.rank ≡ rank k.dict q.fact
       ranked_after q on =
-          either (waits left q) (marks_now k rs cells cells' (slot_of dirty) q) (sym (turned.marked q) ∙ on)
-          (λ e. run.ranked q (both_left (waits queue q) (not (dirty_same q dirty)) (sym (pop.rest q) ∙ e)))
-          (λ e. marks_rank k.dict k.now (is_shielded k.extended k.dict k.now (live_results_in k cells')) (slot_of dirty) rs q
-          (both_right (moves (live_results_in k cells (slot_of dirty)) (plain k.dict k.now (slot_of dirty))) _ e))
+          either (waits left q) (marks_now k rs state.store.cells state'.store.cells (slot_of dirty) q) (sym (turned.marked q) ∙ on)
+          (λ e. run.ranked q (both_left (waits state.queue q) (not (dirty_same q dirty)) (sym (pop.rest q) ∙ e)))
+          (λ e. marks_rank k.dict k.now (is_shielded k.extended k.dict k.now (live_results_in k state'.store.cells)) (slot_of dirty) rs q
+          (both_right (moves (live_results_in k state.store.cells (slot_of dirty)) (plain k.dict k.now (slot_of dirty))) _ e))
 
-      pub still_running : IsRunning k c first queue' log' cells'
+      pub still_running : IsRunning k c first state'
       still_running = record {
-        marked = subst (λ ss. IsMarked c ss (waits_in k.dict queue')) (sym now_done)
-            (turn_marks c propagation.transition.spreads (slots_of log) (waits_in k.dict queue) run.marked (slot_of dirty) popped_waits popped_least (waits_in k.dict queue') next);
+        marked = subst (λ ss. IsMarked c ss (waits_in k.dict state'.queue)) (sym now_done)
+            (turn_marks c propagation.transition.spreads (slots_done state) (waits_in k.dict state.queue) run.marked (slot_of dirty) popped_waits popped_least (waits_in k.dict state'.queue) next);
         ranked = ranked_after;
         kept = cells_after;
       }
 
       -- so many are left at most, one fewer than before
-      pub fewer : length (touched_of c) - length log' < length (touched_of c) - length log
+      pub fewer : length (touched_of c) - length (entries state'.log) < length (touched_of c) - length (entries state.log)
       fewer =
-          let h = (done_weigh_less c propagation.transition.spreads (slots_of log) (waits_in k.dict queue) run.marked (λ _. 1)).1 (slot_of dirty) popped_waits in
-          let all : length (slots_of log ++ slot_of dirty ∷ []) ≤ length (touched_of c) = omega (arith, h, length_is (slots_of log ++ slot_of dirty ∷ []), length_is (touched_of c)) in
-          let a : length (slots_of log ++ slot_of dirty ∷ []) ≡ length log' = ap length (sym now_done) ∙ length-map log' (λ (e : Replaced). e.slot) in
-          let b : length (slots_of log ++ slot_of dirty ∷ []) ≡ length (slots_of log) + 1 = length-append (slots_of log) (slot_of dirty ∷ []) in
-          let e : length (slots_of log) ≡ length log = length-map log (λ (e : Replaced). e.slot) in
+          let h = (done_weigh_less c propagation.transition.spreads (slots_done state) (waits_in k.dict state.queue) run.marked (λ _. 1)).1 (slot_of dirty) popped_waits in
+          let all : length (slots_done state ++ slot_of dirty ∷ []) ≤ length (touched_of c) = omega (arith, h, length_is (slots_done state ++ slot_of dirty ∷ []), length_is (touched_of c)) in
+          let a : length (slots_done state ++ slot_of dirty ∷ []) ≡ length (entries state'.log) = ap length (sym now_done) ∙ length-map (entries state'.log) (λ (e : Replaced). e.slot) in
+          let b : length (slots_done state ++ slot_of dirty ∷ []) ≡ length (slots_done state) + 1 = length-append (slots_done state) (slot_of dirty ∷ []) in
+          let e : length (slots_done state) ≡ length (entries state.log) = length-map (entries state.log) (λ (e : Replaced). e.slot) in
           omega (arith, all, a, b, e)
 
   -- ---- once nothing waits
 
-  module _ (none : (q : DirtySlot) → waits queue q ≡ false) where
-    pub ended_new : (s : Slot) → live_results_in k cells s ≡ plain k.dict k.now s
-    ended_new = all_new k.dict k.now k.extended (live_results_in k first) c propagation.transition (slots_of log) (waits_in k.dict queue) run.marked (live_results_in k cells) are_results (λ s. none (dirty_of k.dict s))
+  module _ (none : (q : DirtySlot) → waits state.queue q ≡ false) where
+    pub ended_new : (s : Slot) → live_results_in k state.store.cells s ≡ plain k.dict k.now s
+    ended_new = all_new k.dict k.now k.extended (live_results_in k first) c propagation.transition (slots_done state) (waits_in k.dict state.queue) run.marked (live_results_in k state.store.cells) are_results (λ s. none (dirty_of k.dict s))
 
-  pub steps_ended : (start now : ℕ) → now ≤ start + sum_by (slot_weight k.dict k.now) (slots_of log) → now ≤ start + propagation_weight k c
+  pub steps_ended : (start now : ℕ) → now ≤ start + sum_by (slot_weight k.dict k.now) (slots_done state) → now ≤ start + propagation_weight k c
   steps_ended start now h =
-      let l = (done_weigh_less c propagation.transition.spreads (slots_of log) (waits_in k.dict queue) run.marked (slot_weight k.dict k.now)).0 in omega (arith, h, l)
+      let l = (done_weigh_less c propagation.transition.spreads (slots_done state) (waits_in k.dict state.queue) run.marked (slot_weight k.dict k.now)).0 in omega (arith, h, l)

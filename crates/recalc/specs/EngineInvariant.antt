@@ -7,19 +7,19 @@ use Rattle.answers.specs.Answered.{Answered}
 use Rattle.cell_store.specs.Contents.{Cells}
 use Rattle.cell_store.specs.declared.cell.Cell.{Cell}
 use Rattle.dep_index.specs.Readers.{IsIndex}
-use Rattle.dep_index.specs.declared.row.ReaderOf.{ReaderOf}
 use Rattle.dictionary.specs.Accepted.{Accepted}
 use Rattle.dictionary.specs.Plain.{plain}
 use Rattle.dictionary.specs.Dependencies.{Results}
 use Rattle.node_compile.specs.Compiled.{IsCompiled}
-use Rattle.node_compile.specs.declared.compiled.Compiled.{Compiled}
 use Rattle.answers.specs.Change.{Change}
 use Rattle.dictionary.specs.Engines.{Marks}
 use Rattle.dictionary.specs.Undone.{is_extended}
+use Rattle.recalc.specs.Replacing.{entries}
 use Rattle.recalc.specs.Running.{Setting}
-use Rattle.recalc.specs.Waiting.{DirtySlots, waits}
-use Rattle.recalc.specs.declared.log.Replaced.{Replaced}
+use Rattle.recalc.specs.Waiting.{waits}
+use Rattle.recalc.specs.declared.dependency_graph.DependencyGraph.{DependencyGraph}
 use Rattle.recalc.specs.declared.dirty_queue.DirtySlot.{DirtySlot}
+use Rattle.recalc.specs.declared.engine_state.EngineState.{EngineState}
 
 abbrev pub results_of : Cells → Results
 results_of cells s = option_map (λ c. c.res) (finite.get cells s)
@@ -28,14 +28,21 @@ results_of cells s = option_map (λ c. c.res) (finite.get cells s)
 abbrev pub stamp_in : Cells → Slot → ℕ
 stamp_in cells s = unwrap_or (option_map (λ c. c.stamp) (finite.get cells s)) 0
 
--- It has the nodes and the readers of the dictionary's facts, and the cells of the answers: the result of each slot that
--- stands, and no other cell. Nothing waits, and nothing is to be put back.
-pub record EngineInvariant (nodes : Compiled) (readers : List (List ReaderOf)) (cells : Cells) (queue : DirtySlots) (log : List Replaced) (d : Accepted) (a : Answered) : Type 0 where
-  pub compiled : IsCompiled d.tree nodes
-  pub index : IsIndex d readers
-  pub results : (s : Slot) → results_of cells s ≡ plain d a s
-  pub none_waits : (q : DirtySlot) → waits queue q ≡ false
-  pub nothing_kept : log ≡ []
+-- the nodes and the readers of the dictionary's facts
+pub record IsGraphOf (d : Accepted) (g : DependencyGraph) : Type 0 where
+  pub compiled : IsCompiled d.tree g.nodes
+  pub index : IsIndex d g.readers
+
+-- nothing waits, and nothing is to be put back
+pub record IsIdle (w : EngineState) : Type 0 where
+  pub none_waits : (q : DirtySlot) → waits w.queue q ≡ false
+  pub nothing_kept : entries w.log ≡ []
+
+-- It is over the dictionary's facts, and has the cells of the answers: the result of each slot that stands, and no other cell.
+pub record EngineInvariant (g : DependencyGraph) (w : EngineState) (d : Accepted) (a : Answered) : Type 0 where
+  pub graph : IsGraphOf d g
+  pub results : (s : Slot) → results_of w.store.cells s ≡ plain d a s
+  pub idle : IsIdle w
 
 -- the cells but for those of a member at these facts
 abbrev pub without_member : Cells → ℕ → List ℕ → Slot → Option Cell

@@ -7,7 +7,7 @@ pub mod Readers
 pub mod Replacing
 pub mod Running
 pub mod Seeding
-pub mod Sessions
 pub mod Spread
+pub mod Updates
 pub mod EngineInvariant
 pub mod Waiting

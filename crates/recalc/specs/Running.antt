@@ -18,10 +18,10 @@ use Rattle.recalc.specs.Spread.{Spread, is_in}
 use Rattle.recalc.specs.Marking.{IsMarked}
 use Rattle.recalc.specs.Transitions.{IsTransition, is_shielded, moves}
 use Rattle.recalc.specs.Readers.{dirty_of, marks, marks_of}
-use Rattle.recalc.specs.Replacing.{slots_of}
+use Rattle.recalc.specs.Replacing.{entries, slots_of}
 use Rattle.recalc.specs.Waiting.{DirtySlots, dirty_same, waits}
-use Rattle.recalc.specs.declared.log.Replaced.{Replaced}
 use Rattle.recalc.specs.declared.dirty_queue.DirtySlot.{DirtySlot}
+use Rattle.recalc.specs.declared.engine_state.EngineState.{EngineState}
 
 -- ---- what waits, as slots
 
@@ -86,11 +86,15 @@ pub record IsPropagation (k : Setting) (c : Spread) (first : Cells) : Type 0 whe
   pub transition : IsTransition k.dict k.now k.extended (live_results_in k first) c
   pub stay : (s : Slot) → IsTrue (stands k.dict.tree k.now s) → is_that k.gone s.member ≡ false
 
+-- the slots done so far
+abbrev pub slots_done : EngineState → List Slot
+slots_done w = slots_of (entries w.log)
+
 -- what the loop keeps
-pub record IsRunning (k : Setting) (c : Spread) (first : Cells) (queue : DirtySlots) (log : List Replaced) (cells : Cells) : Type 0 where
-  pub marked : IsMarked c (slots_of log) (waits_in k.dict queue)
-  pub ranked : AreRanked k.dict queue
-  pub kept : AreCells k.dict k.now k.stamp first (slots_of log) cells
+pub record IsRunning (k : Setting) (c : Spread) (first : Cells) (w : EngineState) : Type 0 where
+  pub marked : IsMarked c (slots_done w) (waits_in k.dict w.queue)
+  pub ranked : AreRanked k.dict w.queue
+  pub kept : AreCells k.dict k.now k.stamp first (slots_done w) w.store.cells
 
 -- the cells with the slot's new result
 abbrev pub put_now : Setting → Cells → Slot → Cells
@@ -115,13 +119,13 @@ abbrev pub marks_now : Setting → List ReaderOf → Cells → Cells → Slot �
 marks_now k rs old new s q = moves (live_results_in k old s) (plain k.dict k.now s) && let_by_all k new s rs q
 
 -- what a turn does: it puts the slot's new result, and lets the readers wait
-pub record HasTurned (k : Setting) (rs : List ReaderOf) (s : Slot) (queue : DirtySlots) (log : List Replaced) (cells : Cells) (queue' : DirtySlots) (log' : List Replaced) (cells' : Cells) : Type 0 where
-  pub put : cells' ≡ put_now k cells s
-  pub kept : log' ≡ log ++ record { slot = s; cell = finite.get cells s } ∷ []
-  pub marked : (q : DirtySlot) → waits queue' q ≡ (waits queue q || marks_now k rs cells cells' s q)
+pub record HasTurned (k : Setting) (rs : List ReaderOf) (s : Slot) (w w' : EngineState) : Type 0 where
+  pub put : w'.store.cells ≡ put_now k w.store.cells s
+  pub kept : entries w'.log ≡ entries w.log ++ record { slot = s; cell = finite.get w.store.cells s } ∷ []
+  pub marked : (q : DirtySlot) → waits w'.queue q ≡ (waits w.queue q || marks_now k rs w.store.cells w'.store.cells s q)
 
 -- what it leaves: nothing waits, and all results are new
-pub record HasRun (k : Setting) (c : Spread) (first : Cells) (queue : DirtySlots) (log : List Replaced) (cells : Cells) : Type 0 where
-  pub running : IsRunning k c first queue log cells
-  pub none : (q : DirtySlot) → waits queue q ≡ false
-  pub results : (s : Slot) → live_results_in k cells s ≡ plain k.dict k.now s
+pub record HasRun (k : Setting) (c : Spread) (first : Cells) (w : EngineState) : Type 0 where
+  pub running : IsRunning k c first w
+  pub none : (q : DirtySlot) → waits w.queue q ≡ false
+  pub results : (s : Slot) → live_results_in k w.store.cells s ≡ plain k.dict k.now s

@@ -34,8 +34,10 @@ fn node_result<L: Ledger>(
     slot: Slot,
     steps: &mut Steps<L>,
 ) -> Result<Res, NoMemory>
-    ensures value { IfOk result (λ r. r ≡ node_result (live_results cells.now.gone cells.now.store.now.cells) slot (view node.now)) }
-    ensures most { steps.new ≤ steps.old + node_weight (live_results cells.now.gone cells.now.store.now.cells) slot (Some (view node.now)) }
+    ensures value { IfOk result (λ r. r ≡ node_result (live_results cells.now.gone cells.now.store.now.cells) slot
+        (view node.now)) }
+    ensures most { steps.new ≤ steps.old + node_weight (live_results cells.now.gone cells.now.store.now.cells) slot
+        (Some (view node.now)) }
 {
     eval(alloc, node, cells, slot.member, 0, steps)
 }
@@ -49,8 +51,10 @@ fn derived_result<L: Ledger>(
     slot: Slot,
     steps: &mut Steps<L>,
 ) -> Result<Res, NoMemory>
-    ensures value { IfOk result (λ r. r ≡ or_override (value_of Override (answered answers.now) slot) (node_result (live_results cells.now.gone cells.now.store.now.cells) slot (view node.now))) }
-    ensures most { steps.new ≤ steps.old + node_weight (live_results cells.now.gone cells.now.store.now.cells) slot (Some (view node.now)) }
+    ensures value { IfOk result (λ r. r ≡ or_override (value_of Override (answered answers.now) slot)
+        (node_result (live_results cells.now.gone cells.now.store.now.cells) slot (view node.now))) }
+    ensures most { steps.new ≤ steps.old + node_weight (live_results cells.now.gone cells.now.store.now.cells) slot
+        (Some (view node.now)) }
 {
     match answers.override_of(slot) {
         Some(value) => Ok(Res::Complete(value.copy(alloc)?)),
@@ -70,8 +74,11 @@ fn main_result<L: Ledger>(
 ) -> Result<Res, NoMemory>
     requires well { WellFormed (answered answers.now) }
     requires from_one { FromOne (answered answers.now) }
-    ensures value { IfOk result (λ r. r ≡ main_node_result (answered answers.now) (live_results cells.now.gone cells.now.store.now.cells) slot (stated_view stated.now) (main_of nodes.now slot.fact)) }
-    ensures most { steps.new ≤ steps.old + node_weight (live_results cells.now.gone cells.now.store.now.cells) slot (main_of nodes.now slot.fact) }
+    ensures value { IfOk result (λ r. r ≡ main_node_result (answered answers.now)
+        (live_results cells.now.gone cells.now.store.now.cells) slot (stated_view stated.now)
+        (main_of nodes.now slot.fact)) }
+    ensures most { steps.new ≤ steps.old + node_weight (live_results cells.now.gone cells.now.store.now.cells) slot
+        (main_of nodes.now slot.fact) }
 {
     match nodes.main(slot.fact) {
         None => given_result(alloc, answers, slot, stated),
@@ -88,8 +95,10 @@ fn with_placeholder<L: Ledger>(
     res: Res,
     steps: &mut Steps<L>,
 ) -> Result<Res, NoMemory>
-    ensures value { IfOk result (λ r. r ≡ or_placeholder_node (live_results cells.now.gone cells.now.store.now.cells) slot (Some (view node.now)) res) }
-    ensures most { steps.new ≤ steps.old + node_weight (live_results cells.now.gone cells.now.store.now.cells) slot (Some (view node.now)) }
+    ensures value { IfOk result (λ r. r ≡ or_placeholder_node (live_results cells.now.gone cells.now.store.now.cells)
+        slot (Some (view node.now)) res) }
+    ensures most { steps.new ≤ steps.old + node_weight (live_results cells.now.gone cells.now.store.now.cells) slot
+        (Some (view node.now)) }
 {
     match res {
         Res::Incomplete => {
@@ -114,8 +123,10 @@ fn result_by_nodes<L: Ledger>(
 ) -> Result<Res, NoMemory>
     requires well { WellFormed (answered answers.now) }
     requires from_one { FromOne (answered answers.now) }
-    ensures value { IfOk result (λ r. r ≡ result_by_nodes nodes.now (answered answers.now) (live_results cells.now.gone cells.now.store.now.cells) slot (stated_view stated.now)) }
-    ensures most { steps.new ≤ steps.old + weight_by_nodes nodes.now (live_results cells.now.gone cells.now.store.now.cells) slot }
+    ensures value { IfOk result (λ r. r ≡ result_by_nodes nodes.now (answered answers.now)
+        (live_results cells.now.gone cells.now.store.now.cells) slot (stated_view stated.now)) }
+    ensures most { steps.new ≤ steps.old + weight_by_nodes nodes.now
+        (live_results cells.now.gone cells.now.store.now.cells) slot }
 {
     let res = main_result(alloc, nodes, answers, cells, slot, stated, steps)?;
     match nodes.placeholder(slot.fact) {
@@ -139,7 +150,8 @@ pub fn new_result<L: Ledger>(
     requires well { WellFormed (answered answers.now) }
     requires from_one { FromOne (answered answers.now) }
     requires stands { IsTrue (stands (accepted dict.now).tree (answered answers.now) slot) }
-    requires below { IsPlainBelow (accepted dict.now) (answered answers.now) (rank (accepted dict.now) slot.fact) (live_results cells.now.gone cells.now.store.now.cells) }
+    requires below { IsPlainBelow (accepted dict.now) (answered answers.now) (rank (accepted dict.now) slot.fact)
+        (live_results cells.now.gone cells.now.store.now.cells) }
     ensures value { IfOk result (λ r. Some r ≡ plain (accepted dict.now) (answered answers.now) slot) }
     ensures most { steps.new ≤ steps.old + slot_weight (accepted dict.now) (answered answers.now) slot }
 {

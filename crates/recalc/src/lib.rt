@@ -2,7 +2,9 @@
 #![tactic(auto)]
 
 mod changing;
+mod dependency_graph;
 mod dirty_queue;
+mod engine_state;
 mod evaluating;
 mod forgetting;
 pub mod laws;
@@ -13,8 +15,8 @@ mod propagation;
 mod recalc;
 mod running;
 mod seeding;
-pub mod session_laws;
 mod turn;
 mod undone;
+mod update;
 
 pub use recalc::Recalc;

@@ -78,7 +78,8 @@ fn mark_members(
 ) -> Result<(), NoMemory>
     requires { IsNumber (accepted propagation.now.dict.now).tree.facts reader.fact }
     ensures { OnOk result ((q : DirtySlot) → waits queue.new q
-        ≡ (waits queue.old q || list_any (marks_at (shielded_in (setting_of propagation.now) store.now.cells) slot reader rank q) members.now)) }
+        ≡ (waits queue.old q || list_any (marks_at (shielded_in (setting_of propagation.now) store.now.cells) slot
+        reader rank q) members.now)) }
 {
     for member in members {
         mark_member(queue, propagation, store, slot, reader, rank, *member)?;
@@ -98,7 +99,8 @@ fn mark_member(
 ) -> Result<(), NoMemory>
     requires { IsNumber (accepted propagation.now.dict.now).tree.facts reader.fact }
     ensures { OnOk result ((q : DirtySlot) → waits queue.new q
-        ≡ (waits queue.old q || marks_at (shielded_in (setting_of propagation.now) store.now.cells) slot reader rank q member)) }
+        ≡ (waits queue.old q || marks_at (shielded_in (setting_of propagation.now) store.now.cells) slot reader rank q
+        member)) }
 {
     let fact = reader.fact;
     if reads(slot, reader, member) && !is_shielded(propagation, store, Slot { fact, member }) {

@@ -9,20 +9,17 @@ ghost use Rattle.dictionary.specs.Fits.{AnswersFit};
 ghost use Rattle.dictionary.specs.Plain.{plain};
 ghost use Rattle.dictionary.specs.Slots.{stands};
 ghost use Rattle.dictionary.specs.Weights.{touched_weight};
-ghost use Rattle.recalc.specs.Replacing.{entries};
 ghost use Rattle.recalc.specs.EngineInvariant.{EngineInvariant, marks_by, stamp_in};
 
 use crate::changing::{go_on, start};
-use crate::dirty_queue::DirtyQueue;
+use crate::dependency_graph::DependencyGraph;
+use crate::engine_state::EngineState;
 use crate::forgetting::forget;
-use crate::log::Log;
 use crate::undone::gone;
+use crate::update::Update;
 use answers::{Answers, Edit};
-use cell_store::Store;
-use dep_index::{Readers, build};
 use dictionary::{Dictionary, FactEngine};
 use fact_values::{NoMemory, Slot};
-use node_compile::{Compiled, compile};
 use std::alloc::Global;
 use std::marker::Brand;
 use std::sync::ledger::{Blank, Ledger};
@@ -34,11 +31,8 @@ use three_state::Res;
 #[derive(Drop)]
 pub struct Recalc {
     alloc: Global,
-    nodes: Compiled,
-    readers: Readers,
-    store: Store,
-    queue: DirtyQueue,
-    log: Log,
+    graph: DependencyGraph,
+    state: EngineState,
     changes: u64,
     touched: u64,
 }
@@ -48,42 +42,26 @@ impl FactEngine for Recalc {
 
     ghost STAMPS = { true };
 
-    ghost stands_for = { λ e d a. EngineInvariant e.nodes e.readers e.store.cells e.queue (entries e.log) d a };
+    ghost stands_for = { λ e d a. EngineInvariant e.graph e.state d a };
 
-    ghost marks = { λ e. marks_by e.changes e.store.cells e.touched };
+    ghost marks = { λ e. marks_by e.changes e.state.store.cells e.touched };
 
     ghost most = { λ d before after. touched_weight d before after };
 
     fn begin(alloc: Global, dict: &Dictionary, answers: &Answers) -> Result<Self, NoMemory>
         requires { AnswersFit (accepted dict.now).tree (answered answers.now) }
-        ensures stands { IfOk result (λ e. EngineInvariant e.nodes e.readers e.store.cells e.queue (entries e.log) (accepted dict.now) (answered answers.now)) }
-        ensures fresh { IfOk result (λ e. IsTrue true → AreFresh (marks_by e.changes e.store.cells e.touched)) }
+        ensures stands { IfOk result (λ e. EngineInvariant e.graph e.state (accepted dict.now) (answered answers.now)) }
+        ensures fresh { IfOk result (λ e. IsTrue true → AreFresh (marks_by e.changes e.state.store.cells e.touched)) }
     {
-        let nodes = compile(alloc, dict)?;
-        let readers = build(alloc, dict)?;
+        let graph = DependencyGraph::new(alloc, dict)?;
         let facts = dict.source().facts().len();
-        let mut store = Store::with_facts(alloc, facts)?;
-        let mut queue = DirtyQueue::new(alloc, facts)?;
-        let mut log = Log::new(alloc);
-        start::<Brand>(
-            alloc,
-            &nodes,
-            &readers,
-            dict,
-            answers,
-            &mut store,
-            &mut queue,
-            &mut log,
-            Blank::new(1),
-        )?;
-        log.clear();
+        let mut state = EngineState::new(alloc, facts)?;
+        start::<Brand>(alloc, &graph, dict, answers, &mut state, Blank::new(1))?;
+        state.log.clear();
         Ok(Recalc {
             alloc,
-            nodes,
-            readers,
-            store,
-            queue,
-            log,
+            graph,
+            state,
             changes: 0,
             touched: 0,
         })
@@ -97,59 +75,62 @@ impl FactEngine for Recalc {
         steps: &mut Steps<L>,
     ) -> Result<(), NoMemory>
         requires undone { Fits (change undo.now) (answered now.now) }
-        requires before { EngineInvariant self.old.nodes self.old.readers self.old.store.cells self.old.queue (entries self.old.log) (accepted dict.now) (applied (change undo.now) (answered now.now)) }
+        requires before { EngineInvariant self.old.graph self.old.state (accepted dict.now)
+            (applied (change undo.now) (answered now.now)) }
         requires fit_before { AnswersFit (accepted dict.now).tree (applied (change undo.now) (answered now.now)) }
         requires fit_now { AnswersFit (accepted dict.now).tree (answered now.now) }
         requires few { IsTrue true → self.old.changes < 2 ^ 63 }
-        ensures stands { OnOk result (EngineInvariant self.new.nodes self.new.readers self.new.store.cells self.new.queue (entries self.new.log) (accepted dict.now) (answered now.now)) }
-        ensures marked { OnOk result (IsTrue true → AreMarkedBy (accepted dict.now) (applied (change undo.now) (answered now.now)) (answered now.now) (marks_by self.old.changes self.old.store.cells self.old.touched) (marks_by self.new.changes self.new.store.cells self.new.touched)) }
-        ensures unchanged { OnErr result ((d : Accepted) (a : Answered) → EngineInvariant self.old.nodes self.old.readers self.old.store.cells self.old.queue (entries self.old.log) d a → EngineInvariant self.new.nodes self.new.readers self.new.store.cells self.new.queue (entries self.new.log) d a) }
-        ensures same_marks { OnErr result (IsTrue true → AreSameMarks (marks_by self.old.changes self.old.store.cells self.old.touched) (marks_by self.new.changes self.new.store.cells self.new.touched)) }
-        ensures steps { steps.new ≤ steps.old + touched_weight (accepted dict.now) (applied (change undo.now) (answered now.now)) (answered now.now) }
+        ensures stands { OnOk result (EngineInvariant self.new.graph self.new.state (accepted dict.now)
+            (answered now.now)) }
+        ensures marked { OnOk result (IsTrue true → AreMarkedBy (accepted dict.now)
+            (applied (change undo.now) (answered now.now)) (answered now.now)
+            (marks_by self.old.changes self.old.state.store.cells self.old.touched)
+            (marks_by self.new.changes self.new.state.store.cells self.new.touched)) }
+        ensures unchanged { OnErr result ((d : Accepted) (a : Answered) → EngineInvariant self.old.graph self.old.state d a
+            → EngineInvariant self.new.graph self.new.state d a) }
+        ensures same_marks { OnErr result (IsTrue true → AreSameMarks
+            (marks_by self.old.changes self.old.state.store.cells self.old.touched)
+            (marks_by self.new.changes self.new.state.store.cells self.new.touched)) }
+        ensures steps { steps.new ≤ steps.old + touched_weight (accepted dict.now)
+            (applied (change undo.now) (answered now.now)) (answered now.now) }
     {
         let _source = dict.source();
         let gone = gone(undo, now);
         let stamp = self.changes + 1;
-        match go_on(
-            self.alloc,
-            &self.nodes,
-            &self.readers,
+        let update = Update {
             dict,
-            now,
+            answers: now,
             undo,
             gone,
             stamp,
-            &mut self.store,
-            &mut self.queue,
-            &mut self.log,
-            steps,
-        ) {
+        };
+        match go_on(self.alloc, &self.graph, &update, &mut self.state, steps) {
             Ok(()) => {
-                forget(&mut self.store, gone, dict.by_rank());
+                forget(&mut self.state.store, gone, dict.by_rank());
                 self.changes = stamp;
-                self.touched = self.log.len() as u64;
-                self.log.clear();
+                self.touched = self.state.log.len() as u64;
+                self.state.log.clear();
                 Ok(())
             }
             Err(e) => {
-                self.log.put_back(&mut self.store);
-                self.queue.clear();
+                self.state.put_back();
                 Err(e)
             }
         }
     }
 
     fn result(&self, slot: Slot) -> Option<&Res>
-        ensures { (d : Accepted) (a : Answered) → EngineInvariant self.now.nodes self.now.readers self.now.store.cells self.now.queue (entries self.now.log) d a → option_copied result ≡ plain d a slot }
+        ensures { (d : Accepted) (a : Answered) → EngineInvariant self.now.graph self.now.state d a
+            → option_copied result ≡ plain d a slot }
     {
-        self.store.get(slot)
+        self.state.store.get(slot)
     }
 
     fn stamp(&self, slot: Slot) -> Option<u64>
-        ensures { (d : Accepted) (a : Answered) → EngineInvariant self.now.nodes self.now.readers self.now.store.cells self.now.queue (entries self.now.log) d a
-            → result ≡ (if true && stands d.tree a slot then Some (stamp_in self.now.store.cells slot) else None) }
+        ensures { (d : Accepted) (a : Answered) → EngineInvariant self.now.graph self.now.state d a
+            → result ≡ (if true && stands d.tree a slot then Some (stamp_in self.now.state.store.cells slot) else None) }
     {
-        self.store.stamp(slot)
+        self.state.store.stamp(slot)
     }
 
     fn touched(&self) -> Option<u64>

@@ -50,7 +50,8 @@ fn add_fact(
 ) -> Result<(), NoMemory>
     requires { IsNumber (accepted dict.now).tree.facts fact }
     ensures { OnOk result ((q : DirtySlot) → waits queue.new q
-        ≡ (waits queue.old q || is_at (accepted dict.now) q (members_of_home (answered now.now) (home (accepted dict.now).tree fact)) fact)) }
+        ≡ (waits queue.old q || is_at (accepted dict.now) q
+        (members_of_home (answered now.now) (home (accepted dict.now).tree fact)) fact)) }
 {
     let home = dict.home(fact);
     if home == 0 {
@@ -81,7 +82,8 @@ fn add_facts(
 /// Lets all slots wait.
 pub fn seed_all(queue: &mut DirtyQueue, dict: &Dictionary, now: &Answers) -> Result<(), NoMemory>
     requires { (q : DirtySlot) → waits queue.old q ≡ false }
-    ensures { OnOk result (AreWaiting (accepted dict.now) queue.new (λ s. stands (accepted dict.now).tree (answered now.now) s)) }
+    ensures { OnOk result (AreWaiting (accepted dict.now) queue.new
+        (λ s. stands (accepted dict.now).tree (answered now.now) s)) }
 {
     let facts = dict.by_rank();
     let _source = dict.source();
@@ -168,7 +170,9 @@ pub fn seed(
     requires own { (s : OneSlot) → is_slot own s ≡ differs (change undo.now) (answered now.now) s }
     requires undone { IsUndone (accepted dict.now) (change undo.now) (answered now.now) }
     requires empty { (q : DirtySlot) → waits queue.old q ≡ false }
-    ensures { OnOk result (AreWaiting (accepted dict.now) queue.new (λ s. stands (accepted dict.now).tree (answered now.now) s && is_touched_first (change undo.now) (answered now.now) s)) }
+    ensures { OnOk result (AreWaiting (accepted dict.now) queue.new
+        (λ s. stands (accepted dict.now).tree (answered now.now) s && is_touched_first (change undo.now)
+        (answered now.now) s)) }
 {
     let facts = dict.by_rank();
     let _source = dict.source();

@@ -265,7 +265,7 @@ module _ (d : Tree) (next : ℕ) (ls : List ListLine) (es : List EntryLine) (is 
 
 -- ---- a value that is kept
 
-chosen_by : (b : Bool) (o : Option Value) (v : Value) → cond b o None ≡ Some v → (b ≡ true) × (o ≡ Some v)
+pub chosen_by : (b : Bool) (o : Option Value) (v : Value) → cond b o None ≡ Some v → (b ≡ true) × (o ≡ Some v)
 chosen_by true o v e = (refl, e)
 chosen_by false o v e = absurd cc
 
@@ -548,6 +548,20 @@ written_is : (o : Option Fact) → is_written_list o ≡ opens_of o
 written_is None = refl
 written_is (Some f) = refl
 
+-- a member stands where it is in a list that is opened with what its line says
+pub placed_where : (names : List (List ℕ)) (r : Rules) → IsAccepted names r.accepted → (a : Answered) (lines : List CarriedLine) (c : List ℕ) (k : ℕ) (n : List ℕ)
+    → ((q : ℕ) (ms : List ℕ) → Contains lines (collection c ms) → kept_collection (tree_of r) c ≡ Some q → map.get a.lists q ≡ Some ms)
+    → list_any (lists_member c k) lines ≡ true → IsPlaced (tree_of r) a (Member c k n)
+placed_where names r is a lines c k n opens listed fact named =
+    let home_is = home_is_collection names r.accepted fact c n is ((find_path-first (tree_of r).facts (facts_by.Member c n) fact).0 named).here in
+    let global : find_global (tree_of r) c ≡ Some (home (tree_of r) fact) = (find_path-first (tree_of r).facts (facts_by.Global c) (home (tree_of r) fact)).1 home_is.0 in
+    let list : IsTrue (is_list (tree_of r) (home (tree_of r) fact)) = sym (written_is (fact_at (tree_of r).facts (home (tree_of r) fact))) ∙ home_is.1 in
+    let there = any_listed c k lines listed in
+    let found = opens (home (tree_of r) fact) there.0 there.1 (named_kept (tree_of r) c (home (tree_of r) fact) list global) in
+    ap (λ (o : Option ℕ). not (list_any (nat_eq k) (unwrap_or (map.get a.lists (unwrap_or o 0)) []))) global
+    ∙ ap (λ (o : Option (List ℕ)). not (list_any (nat_eq k) (unwrap_or o []))) found
+    ∙ ap not there.2
+
 no_entries_listed : (ls : List ListLine) (side : Side) (path : SlotPath) (text : List ℕ) → Contains (map line_of_list ls) (entry side path text) → ⊥
 no_entries_listed ls side path text h = let found = mapped_from line_of_list ls (entry side path text) h in let e : line_of_list found.0 ≡ entry side path text = found.2 in cc
 
@@ -559,15 +573,8 @@ module _ (names : List (List ℕ)) (r : Rules) (is : IsAccepted names r.accepted
   -- ---- where entries stand
 
   member_placed : (c : List ℕ) (k : ℕ) (n : List ℕ) → list_any (lists_member c k) (map line_of_list ls ++ map line_of_entry es) ≡ true → IsPlaced (tree_of r) a (Member c k n)
-  member_placed c k n listed fact named =
-      let home_is = home_is_collection names r.accepted fact c n is ((find_path-first (tree_of r).facts (facts_by.Member c n) fact).0 named).here in
-      let global : find_global (tree_of r) c ≡ Some (home (tree_of r) fact) = (find_path-first (tree_of r).facts (facts_by.Global c) (home (tree_of r) fact)).1 home_is.0 in
-      let list : IsTrue (is_list (tree_of r) (home (tree_of r) fact)) = sym (written_is (fact_at (tree_of r).facts (home (tree_of r) fact))) ∙ home_is.1 in
-      let there = any_listed c k (map line_of_list ls ++ map line_of_entry es) listed in
-      let found = list_is (home (tree_of r) fact) ∙ list_opened (tree_of r) next ls es text c there.0 (home (tree_of r) fact) there.1 (named_kept (tree_of r) c (home (tree_of r) fact) list global) in
-      ap (λ (o : Option ℕ). not (list_any (nat_eq k) (unwrap_or (map.get a.lists (unwrap_or o 0)) []))) global
-      ∙ ap (λ (o : Option (List ℕ)). not (list_any (nat_eq k) (unwrap_or o []))) found
-      ∙ ap not there.2
+  member_placed c k n listed =
+      placed_where names r is a (map line_of_list ls ++ map line_of_entry es) c k n (λ q ms h kept. list_is q ∙ list_opened (tree_of r) next ls es text c ms q h kept) listed
 
   path_placed : (side : Side) (path : SlotPath) (t : List ℕ) → IsTrue (has_its_member (map line_of_list ls ++ map line_of_entry es) (entry side path t)) → IsPlaced (tree_of r) a path
   path_placed side (Global n) t has = λ f e. refl

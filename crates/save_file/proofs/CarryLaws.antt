@@ -106,7 +106,7 @@ same_options None None to from = refl
 same_options None (Some x) to from = from x refl
 same_options (Some x) p to from = sym (to x refl)
 
-of_one : (r : Rules) (c : CarriedText) (a b : Answered) (dropped others : List ℕ) → IsCarryOf r c a dropped → IsCarryOf r c b others → (a ≡ b) × (dropped ≡ others)
+pub of_one : (r : Rules) (c : CarriedText) (a b : Answered) (dropped others : List ℕ) → IsCarryOf r c a dropped → IsCarryOf r c b others → (a ≡ b) × (dropped ≡ others)
 of_one r c a b dropped others one two = (
   same_answers a b one.fit.well two.fit.well one.fit.from_one two.fit.from_one
       (same a.lists b.lists (λ q. same_options (map.get a.lists q) (map.get b.lists q) (λ ms h. (two.kept.lists q ms).1 ((one.kept.lists q ms).0 h)) (λ ms h. (one.kept.lists q ms).1 ((two.kept.lists q ms).0 h))))

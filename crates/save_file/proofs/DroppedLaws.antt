@@ -15,7 +15,7 @@ use Rattle.fact_paths.specs.Cuts.{IsFirstAt, Lacks}
 use Rattle.fact_paths.specs.Paths.{slot_path_text}
 use Rattle.fg_io.proofs.SentLaws.{sent_none, sent_piece}
 use Rattle.fg_io.proofs.WritingLaws.{failed_within}
-use Rattle.fg_io.specs.Outside.{HasCause}
+use Rattle.fg_io.specs.Outside.{HasCause, Output}
 use Rattle.fg_io.specs.Sent.{Sent}
 use Rattle.fg_io.specs.Writing.{Wrote, WroteAll, WrotePart}
 use Rattle.graph_session.specs.Rules.{Rules}
@@ -59,30 +59,31 @@ whole [] = []
 whole (p ∷ ps) = p ++ whole ps
 
 -- these pieces are left of the text
-pub record IsLeft (a b : Option (List ℕ)) (f g : ℕ) (text : List ℕ) (pieces : List (List ℕ)) : Type 0 where
-  pub sent : Sent a b text (whole pieces)
-  pub later : f ≤ g
+pub record IsLeft (a b : Output) (text : List ℕ) (pieces : List (List ℕ)) : Type 0 where
+  pub sent : Sent a.taken b.taken text (whole pieces)
+  pub later : a.faults ≤ b.faults
 
-pub all_left : (a : Option (List ℕ)) (f : ℕ) (text : List ℕ) (pieces : List (List ℕ)) → whole pieces ≡ text → IsLeft a a f f text pieces
-all_left a f text pieces e = record { sent = subst (λ (t : List ℕ). Sent a a t (whole pieces)) e (sent_none a (whole pieces)); later = omega arith }
+pub all_left : (a : Output) (text : List ℕ) (pieces : List (List ℕ)) → whole pieces ≡ text → IsLeft a a text pieces
+all_left a text pieces e = record { sent = subst (λ (t : List ℕ). Sent a.taken a.taken t (whole pieces)) e (sent_none a.taken (whole pieces)); later = omega arith }
 
-pub wrote_piece : {a b c : Option (List ℕ)} {f0 f1 f2 : ℕ} {text p : List ℕ} {ps : List (List ℕ)} → IsLeft a b f0 f1 text (p ∷ ps) → WroteAll b c f1 f2 p → IsLeft a c f0 f2 text ps
-wrote_piece {a = a} {b = b} {c = c} {text = text} {p = p} {ps = ps} left wrote = record { sent = sent_piece a b c text p (whole ps) left.sent wrote.0; later = omega (arith, left.later, wrote.1) }
+pub wrote_piece : {a b c : Output} {text p : List ℕ} {ps : List (List ℕ)} → IsLeft a b text (p ∷ ps) → WroteAll b c p → IsLeft a c text ps
+wrote_piece {a = a} {b = b} {c = c} {text = text} {p = p} {ps = ps} left wrote =
+    record { sent = sent_piece a.taken b.taken c.taken text p (whole ps) left.sent wrote.0; later = omega (arith, left.later, wrote.1) }
 
-pub failed_piece : {T E : Type 0} {a b c : Option (List ℕ)} {f0 f1 f2 : ℕ} {text p : List ℕ} {ps : List (List ℕ)} (Q : E → Type 0) (r : Result T E) → IsErrAnd r Q → IsLeft a b f0 f1 text (p ∷ ps) → WrotePart b c f1 f2 p → Wrote a c f0 f2 text r
-failed_piece {a = a} {b = b} {c = c} {f0 = f0} {f1 = f1} {f2 = f2} {text = text} {p = p} {ps = ps} Q r is left wrote =
+pub failed_piece : {T E : Type 0} {a b c : Output} {text p : List ℕ} {ps : List (List ℕ)} (Q : E → Type 0) (r : Result T E) → IsErrAnd r Q → IsLeft a b text (p ∷ ps) → WrotePart b c p → Wrote a c text r
+failed_piece {a = a} {b = b} {c = c} {text = text} {p = p} {ps = ps} Q r is left wrote =
     let fault = err_from_is_err_and r is in
-    rw fault.1 (failed_within a b c f0 f1 f2 text p (whole ps) left.sent left.later wrote)
+    rw fault.1 (failed_within a b c text p (whole ps) left.sent left.later wrote)
 
-pub last_piece : {T E : Type 0} {a b : Option (List ℕ)} {f0 f1 : ℕ} {text p : List ℕ} (c : Option (List ℕ)) (f2 : ℕ) (r : Result T E) → IsLeft a b f0 f1 text (p ∷ []) → Wrote b c f1 f2 p r → Wrote a c f0 f2 text r
-last_piece c f2 (Ok done) left wrote = let all = wrote_piece left wrote in (all.sent, all.later)
-last_piece {a = a} {b = b} {f0 = f0} {f1 = f1} {text = text} {p = p} c f2 (Err failed) left wrote = failed_within a b c f0 f1 f2 text p [] left.sent left.later wrote
+pub last_piece : {T E : Type 0} {a b : Output} {text p : List ℕ} (c : Output) (r : Result T E) → IsLeft a b text (p ∷ []) → Wrote b c p r → Wrote a c text r
+last_piece c (Ok done) left wrote = let all = wrote_piece left wrote in (all.sent, all.later)
+last_piece {a = a} {b = b} {text = text} {p = p} c (Err failed) left wrote = failed_within a b c text p [] left.sent left.later wrote
 
 -- of a saved text
-pub saved_left : (d : Tree) (x : Answered) (a : Option (List ℕ)) (f next : ℕ) → next ≡ x.next
-    → IsLeft a a f f (saved d x) ((opening_line ++ 10 ∷ []) ∷ (next_line next ++ 10 ∷ []) ∷ joined (lists d x) ∷ joined (entries Answer d x) ∷ joined (entries Override d x) ∷ (end_line ++ 10 ∷ []) ∷ [])
-saved_left d x a f next e =
-    all_left a f (saved d x) _
+pub saved_left : (d : Tree) (x : Answered) (a : Output) (next : ℕ) → next ≡ x.next
+    → IsLeft a a (saved d x) ((opening_line ++ 10 ∷ []) ∷ (next_line next ++ 10 ∷ []) ∷ joined (lists d x) ∷ joined (entries Answer d x) ∷ joined (entries Override d x) ∷ (end_line ++ 10 ∷ []) ∷ [])
+saved_left d x a next e =
+    all_left a (saved d x) _
     (ap (λ (t : List ℕ). (opening_line ++ 10 ∷ []) ++ ((next_line next ++ 10 ∷ []) ++ t)) (sym behind)
     ∙ ap (λ (t : List ℕ). (opening_line ++ 10 ∷ []) ++ t) (append_assoc (next_line next) (10 ∷ []) (joined (lists d x ++ (entries Answer d x ++ (entries Override d x ++ end_line ∷ [])))))
     ∙ ap (λ (n : ℕ). joined (opening_line ∷ next_line n ∷ (lists d x ++ (entries Answer d x ++ (entries Override d x ++ end_line ∷ []))))) e)
@@ -157,8 +158,8 @@ said_line (entry Override path text) form =
     (word_front (slot_path_text path) text (slot_lacks_blank path form.0))
 
 -- two words, in pieces
-pub said_left : (kind name : List ℕ) (a : Option (List ℕ)) (f : ℕ) → IsLeft a a f f (said kind name ++ 10 ∷ []) (codes "dropped " ∷ kind ∷ codes " " ∷ name ∷ (10 ∷ []) ∷ [])
-said_left kind name a f = all_left a f (said kind name ++ 10 ∷ []) _ (pieces (codes "dropped ") kind name)
+pub said_left : (kind name : List ℕ) (a : Output) → IsLeft a a (said kind name ++ 10 ∷ []) (codes "dropped " ∷ kind ∷ codes " " ∷ name ∷ (10 ∷ []) ∷ [])
+said_left kind name a = all_left a (said kind name ++ 10 ∷ []) _ (pieces (codes "dropped ") kind name)
   where
     pieces : (front word next : List ℕ) → front ++ (word ++ 32 ∷ (next ++ 10 ∷ [])) ≡ (front ++ (word ++ (codes " " ++ next))) ++ 10 ∷ []
     pieces front word next = simp append_assoc
@@ -269,6 +270,6 @@ dropped_of_carry r bytes a dropped carry = (r, carry.0, carry.1, carry.2, carry.
 
 -- ---- the cause of a failure
 
-pub cause_of : {T E : Type 0} (a b : Option (List ℕ)) (f0 f1 : ℕ) (text : List ℕ) (result : Result T E) → Wrote a b f0 f1 text result → HasCause f0 f1 result
-cause_of a b f0 f1 text (Ok done) wrote = record { later = wrote.1; failed = tt }
-cause_of a b f0 f1 text (Err failed) wrote = record { later = wrote.2; failed = wrote.1 }
+pub cause_of : {T E : Type 0} (a b : Output) (text : List ℕ) (result : Result T E) → Wrote a b text result → HasCause a.faults b.faults result
+cause_of a b text (Ok done) wrote = record { later = wrote.1; failed = tt }
+cause_of a b text (Err failed) wrote = record { later = wrote.2; failed = wrote.1 }

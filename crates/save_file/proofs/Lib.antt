@@ -12,6 +12,7 @@ pub mod LoadLaws
 pub mod LoadSteps
 pub mod MemberParsing
 pub mod RefusedLaws
+pub mod ResumeLaws
 pub mod SameTexts
 pub mod SlotsLeft
 pub mod SlotTexts

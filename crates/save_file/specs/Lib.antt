@@ -8,4 +8,5 @@ pub mod EntryKeys
 pub mod Keeping
 pub mod Loading
 pub mod Parsing
+pub mod Resuming
 pub mod SavedText

@@ -66,8 +66,8 @@ fn is_listed(path: &SlotPath, lists: &[ListLine]) -> bool
     }
 }
 
-// The kind of the entry and what it names.
-fn key_of(alloc: Global, line: &EntryLine) -> Result<String, LineFault>
+/// The kind of the entry and what it names.
+pub fn key_of(alloc: Global, line: &EntryLine) -> Result<String, LineFault>
     ensures key { IfOk result (λ key. string_bytes key ≡ key_text (line_of_entry line.now)) }
     ensures memory { IfErr result (λ fault. fault ≡ NoMemory) }
 {
@@ -79,7 +79,8 @@ fn key_of(alloc: Global, line: &EntryLine) -> Result<String, LineFault>
     }
 }
 
-fn is_override(side: Side) -> bool
+/// Whether the line is an override.
+pub fn is_override(side: Side) -> bool
     ensures { result ≡ is_side_override side }
 {
     match side {
@@ -145,7 +146,8 @@ pub fn take_list_line(read: &mut CarriedRead, line: ListLine) -> Result<(), Line
 // Notes what the entry names, and tells whether it is new.
 fn note_key(alloc: Global, keys: &mut EntryKeys, line: &EntryLine) -> Result<bool, LineFault>
     ensures fresh { IfOk result (λ fresh. fresh ≡ not (has keys.old (key_text (line_of_entry line.now)))) }
-    ensures added { OnOk result ((text : List ℕ) → has keys.new text ≡ (bytes_eq text (key_text (line_of_entry line.now)) || has keys.old text)) }
+    ensures added { OnOk result ((text : List ℕ) → has keys.new text
+        ≡ (bytes_eq text (key_text (line_of_entry line.now)) || has keys.old text)) }
     ensures memory { IfErr result (λ fault. fault ≡ NoMemory) }
 {
     match key_of(alloc, line) {

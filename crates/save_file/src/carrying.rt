@@ -49,7 +49,9 @@ fn note_list(
     number: u32,
     dropped: &mut Vec<u32>,
 ) -> Result<(), LoadFault>
-    ensures noted { OnOk result (dropped.new.items ≡ (if keeps (rules dict.now) (line_of_list line.now) then dropped.old.items else dropped.old.items ++ number ∷ [])) }
+    ensures noted { OnOk result (dropped.new.items
+        ≡ (if keeps (rules dict.now) (line_of_list line.now) then dropped.old.items else dropped.old.items ++ number
+        ∷ [])) }
     ensures memory { IfErr result (λ fault. fault ≡ NoMemory) }
 {
     match collection_of(dict, line) {
@@ -65,7 +67,8 @@ fn note_lists(
     dropped: &mut Vec<u32>,
 ) -> Result<(), LoadFault>
     requires { length lists.now ≤ 32 }
-    ensures noted { OnOk result (dropped.new.items ≡ dropped.old.items ++ numbers_failing (keeps (rules dict.now)) 3 (map line_of_list lists.now)) }
+    ensures noted { OnOk result (dropped.new.items ≡ dropped.old.items ++ numbers_failing (keeps (rules dict.now)) 3
+        (map line_of_list lists.now)) }
     ensures memory { IfErr result (λ fault. fault ≡ NoMemory) }
 {
     let mut number = 3;
@@ -89,8 +92,10 @@ fn keep_entry(
 ) -> Result<(), LoadFault>
     requires same_checks { SameChecks (rules dict.now) (named_checks checks.now) }
     requires placed { IsPlaced (tree_of (rules dict.now)) (answered carried.old.answers) line.now.path }
-    ensures entered { OnOk result (answered carried.new.answers ≡ with_worth (rules dict.now) line.now (worth_of_entry (rules dict.now) line.now) (answered carried.old.answers)) }
-    ensures noted { OnOk result (carried.new.dropped.items ≡ noted (worth_of_entry (rules dict.now) line.now) number carried.old.dropped.items) }
+    ensures entered { OnOk result (answered carried.new.answers ≡ with_worth (rules dict.now) line.now
+        (worth_of_entry (rules dict.now) line.now) (answered carried.old.answers)) }
+    ensures noted { OnOk result (carried.new.dropped.items ≡ noted (worth_of_entry (rules dict.now) line.now) number
+        carried.old.dropped.items) }
     ensures memory { IfErr result (λ fault. fault ≡ NoMemory) }
 {
     match worth_of(alloc, dict, checks, &carried.answers, line) {
@@ -116,8 +121,10 @@ fn keep_entries(
     requires same_checks { SameChecks (rules dict.now) (named_checks checks.now) }
     requires placed { ArePlaced (tree_of (rules dict.now)) (answered carried.old.answers) read.now.entries.items }
     requires few { length read.now.lists.items + length read.now.entries.items + 3 < 4294967296 }
-    ensures entered { OnOk result (answered carried.new.answers ≡ entered (rules dict.now) (answered carried.old.answers) read.now.entries.items) }
-    ensures dropped { OnOk result (carried.new.dropped.items ≡ carried.old.dropped.items ++ numbers_failing (keeps (rules dict.now)) (length read.now.lists.items + 3) (map line_of_entry read.now.entries.items)) }
+    ensures entered { OnOk result (answered carried.new.answers ≡ entered (rules dict.now)
+        (answered carried.old.answers) read.now.entries.items) }
+    ensures dropped { OnOk result (carried.new.dropped.items ≡ carried.old.dropped.items ++ numbers_failing
+        (keeps (rules dict.now)) (length read.now.lists.items + 3) (map line_of_entry read.now.entries.items)) }
     ensures memory { IfErr result (λ fault. fault ≡ NoMemory) }
 {
     let mut number = read.lists.len() as u32 + 3;
@@ -143,8 +150,11 @@ fn keep_lines(
     requires lists { length read.now.lists.items ≤ 32 }
     requires few { length read.now.lists.items + length read.now.entries.items + 3 < 4294967296 }
     requires none { carried.old.dropped.items ≡ [] }
-    ensures entered { OnOk result (answered carried.new.answers ≡ entered (rules dict.now) (answered carried.old.answers) read.now.entries.items) }
-    ensures dropped { OnOk result (carried.new.dropped.items ≡ numbers_failing (keeps (rules dict.now)) 3 (map line_of_list read.now.lists.items) ++ numbers_failing (keeps (rules dict.now)) (length read.now.lists.items + 3) (map line_of_entry read.now.entries.items)) }
+    ensures entered { OnOk result (answered carried.new.answers ≡ entered (rules dict.now)
+        (answered carried.old.answers) read.now.entries.items) }
+    ensures dropped { OnOk result (carried.new.dropped.items ≡ numbers_failing (keeps (rules dict.now)) 3
+        (map line_of_list read.now.lists.items) ++ numbers_failing (keeps (rules dict.now))
+        (length read.now.lists.items + 3) (map line_of_entry read.now.entries.items)) }
     ensures memory { IfErr result (λ fault. fault ≡ NoMemory) }
 {
     match note_lists(dict, read.lists.as_slice(), &mut carried.dropped) {
@@ -156,8 +166,8 @@ fn keep_lines(
     }
 }
 
-// Carries lines that make a carried text.
-fn carry_lines(
+/// Carries lines that make a carried text.
+pub fn carry_lines(
     alloc: Global,
     dict: &Dictionary,
     checks: &CheckTable,
@@ -166,7 +176,8 @@ fn carry_lines(
     requires same_checks { SameChecks (rules dict.now) (named_checks checks.now) }
     requires text { IsCarried (text_of read.now) }
     requires few { length read.now.lists.items + length read.now.entries.items + 3 < 4294967296 }
-    ensures carried { IfOk result (λ c. IsCarryOf (rules dict.now) (text_of read.now) (answered c.answers) c.dropped.items) }
+    ensures carried { IfOk result (λ c. IsCarryOf (rules dict.now) (text_of read.now) (answered c.answers)
+        c.dropped.items) }
     ensures memory { IfErr result (λ fault. fault ≡ NoMemory) }
 {
     let _accepted = dict.source();

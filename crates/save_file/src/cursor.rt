@@ -39,7 +39,8 @@ fn members_at<'a>(dict: &Dictionary, answers: &'a Answers, fact: u32) -> &'a [u3
 impl Cursor {
     /// Before the first slot.
     pub fn new(dict: &Dictionary, answers: &Answers) -> Cursor
-        ensures { slots_left (accepted dict.now).tree (answered answers.now) result ≡ slots (accepted dict.now).tree (answered answers.now) }
+        ensures { slots_left (accepted dict.now).tree (answered answers.now) result ≡ slots (accepted dict.now).tree
+            (answered answers.now) }
     {
         let _facts = dict.fact_count();
         let _members = answers.next_number();
@@ -48,7 +49,8 @@ impl Cursor {
 
     /// The next slot, behind which the cursor goes.
     pub fn next(&mut self, dict: &Dictionary, answers: &Answers) -> Option<Slot>
-        ensures { slots_left (accepted dict.now).tree (answered answers.now) self.old ≡ first_left result (slots_left (accepted dict.now).tree (answered answers.now) self.new) }
+        ensures { slots_left (accepted dict.now).tree (answered answers.now) self.old
+            ≡ first_left result (slots_left (accepted dict.now).tree (answered answers.now) self.new) }
     {
         while self.done < dict.fact_count() {
             let fact = self.done + 1;

@@ -34,7 +34,7 @@ fn cut_word(text: &[u8]) -> (&[u8], &[u8])
 fn put_piece<K: Sink>(kind: &[u8], name: &[u8], out: &mut K) -> Result<(), Failed>
     requires kind { length kind.now ≤ 500 }
     requires name { length name.now ≤ 500 }
-    ensures { Wrote (K.taken out.old) (K.taken out.new) (K.faults out.old) (K.faults out.new) (said kind.now name.now ++ 10 ∷ []) result }
+    ensures { Wrote (K.output out.old) (K.output out.new) (said kind.now name.now ++ 10 ∷ []) result }
 {
     let mut piece = Line::new();
     piece.push(b"dropped ");
@@ -47,7 +47,7 @@ fn put_piece<K: Sink>(kind: &[u8], name: &[u8], out: &mut K) -> Result<(), Faile
 
 // The same in several pieces, of words of any length.
 fn put_pieces<K: Sink>(kind: &[u8], name: &[u8], out: &mut K) -> Result<(), Failed>
-    ensures { Wrote (K.taken out.old) (K.taken out.new) (K.faults out.old) (K.faults out.new) (said kind.now name.now ++ 10 ∷ []) result }
+    ensures { Wrote (K.output out.old) (K.output out.new) (said kind.now name.now ++ 10 ∷ []) result }
 {
     put_text(b"dropped ", out)?;
     put_text(kind, out)?;
@@ -58,7 +58,7 @@ fn put_pieces<K: Sink>(kind: &[u8], name: &[u8], out: &mut K) -> Result<(), Fail
 
 // The same of a line. Those of a carried text have at most 150 bytes together, so it is one piece.
 fn put_line<K: Sink>(line: &[u8], out: &mut K) -> Result<(), Failed>
-    ensures { Wrote (K.taken out.old) (K.taken out.new) (K.faults out.old) (K.faults out.new) (joined (said_of line.now ∷ [])) result }
+    ensures { Wrote (K.output out.old) (K.output out.new) (joined (said_of line.now ∷ [])) result }
 {
     let kind = cut_word(line);
     let name = cut_word(kind.1);
@@ -96,7 +96,8 @@ fn put_if_next<K: Sink>(
     line: &[u8],
     out: &mut K,
 ) -> Result<(), Failed>
-    ensures { Wrote (K.taken out.old) (K.taken out.new) (K.faults out.old) (K.faults out.new) (joined (said_if (is_next_of number dropped.now) line.now)) result }
+    ensures { Wrote (K.output out.old) (K.output out.new) (joined (said_if (is_next_of number dropped.now) line.now))
+        result }
 {
     if is_next(number, dropped) {
         put_line(line, out)
@@ -108,7 +109,7 @@ fn put_if_next<K: Sink>(
 // Goes through the lines.
 fn put_lines<K: Sink>(bytes: &[u8], dropped: &[u32], out: &mut K) -> Result<(), Failed>
     requires { length bytes.now < 4294967295 }
-    ensures { Wrote (K.taken out.old) (K.taken out.new) (K.faults out.old) (K.faults out.new) (joined (said_at 1 dropped.now (lines_of bytes.now))) result }
+    ensures { Wrote (K.output out.old) (K.output out.new) (joined (said_at 1 dropped.now (lines_of bytes.now))) result }
 {
     let mut rest = bytes;
     let mut left = dropped;
@@ -130,8 +131,8 @@ fn put_lines<K: Sink>(bytes: &[u8], dropped: &[u32], out: &mut K) -> Result<(), 
 /// that `carry` gave. A line is one piece; after a failure a part of the text was taken. It takes no memory.
 pub fn put_dropped<K: Sink>(bytes: &[u8], dropped: &[u32], out: &mut K) -> Result<(), Failed>
     requires { length bytes.now < 4294967295 }
-    ensures text { (text : List ℕ) → IsDroppedText bytes.now dropped.now text → Wrote (K.taken out.old) (K.taken out.new) (K.faults out.old) (K.faults out.new) text result }
-    ensures cause { HasCause (K.faults out.old) (K.faults out.new) result }
+    ensures text { (text : List ℕ) → IsDroppedText bytes.now dropped.now text → Wrote (K.output out.old) (K.output out.new) text result }
+    ensures cause { HasCause (K.output out.old).faults (K.output out.new).faults result }
 {
     put_lines(bytes, dropped, out)
 }

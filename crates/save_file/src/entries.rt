@@ -40,7 +40,8 @@ fn entry_at(answers: &Answers, side: Side, slot: Slot) -> Option<&Value>
 // Puts a line up to its value.
 fn put_slot<K: Sink>(dict: &Dictionary, side: Side, slot: Slot, out: &mut K) -> Result<(), Failed>
     requires { IsSlot (accepted dict.now).tree slot }
-    ensures { Wrote (K.taken out.old) (K.taken out.new) (K.faults out.old) (K.faults out.new) (word_of_side side ++ (slot_text (accepted dict.now).tree slot ++ codes " ")) result }
+    ensures { Wrote (K.output out.old) (K.output out.new)
+        (word_of_side side ++ (slot_text (accepted dict.now).tree slot ++ codes " ")) result }
 {
     let _accepted = dict.source();
     let mut line = Line::new();
@@ -53,7 +54,8 @@ fn put_slot<K: Sink>(dict: &Dictionary, side: Side, slot: Slot, out: &mut K) -> 
 // Puts a value and its newline.
 fn put_value<K: Sink>(dict: &Dictionary, value: &Value, out: &mut K) -> Result<(), Failed>
     requires { IsPrinted (accepted dict.now).tree.enums value.now }
-    ensures { Wrote (K.taken out.old) (K.taken out.new) (K.faults out.old) (K.faults out.new) (printed (accepted dict.now).tree.enums value.now ++ 10 ∷ []) result }
+    ensures { Wrote (K.output out.old) (K.output out.new) (printed (accepted dict.now).tree.enums value.now ++ 10 ∷ [])
+        result }
 {
     let mut line = Line::new();
     print(value, dict.source().enums(), &mut line);
@@ -71,7 +73,8 @@ fn put_both<K: Sink>(
 ) -> Result<(), Failed>
     requires slot { IsSlot (accepted dict.now).tree slot }
     requires listed { IsPrinted (accepted dict.now).tree.enums value.now }
-    ensures { Wrote (K.taken out.old) (K.taken out.new) (K.faults out.old) (K.faults out.new) (entry_line side (accepted dict.now).tree slot value.now ++ 10 ∷ []) result }
+    ensures { Wrote (K.output out.old) (K.output out.new) (entry_line side (accepted dict.now).tree slot
+        value.now ++ 10 ∷ []) result }
 {
     match put_slot(dict, side, slot, out) {
         Err(failed) => Err(failed),
@@ -88,7 +91,8 @@ fn put_entry<K: Sink>(
     out: &mut K,
 ) -> Result<(), Failed>
     requires { AnswersFit (accepted dict.now).tree (answered answers.now) }
-    ensures { Wrote (K.taken out.old) (K.taken out.new) (K.faults out.old) (K.faults out.new) (joined (entry_lines side (accepted dict.now).tree (answered answers.now) slot)) result }
+    ensures { Wrote (K.output out.old) (K.output out.new)
+        (joined (entry_lines side (accepted dict.now).tree (answered answers.now) slot)) result }
 {
     let _accepted = dict.source();
     match entry_at(answers, side, slot) {
@@ -105,7 +109,8 @@ pub fn put_entries<K: Sink>(
     out: &mut K,
 ) -> Result<(), Failed>
     requires { AnswersFit (accepted dict.now).tree (answered answers.now) }
-    ensures { Wrote (K.taken out.old) (K.taken out.new) (K.faults out.old) (K.faults out.new) (joined (entries side (accepted dict.now).tree (answered answers.now))) result }
+    ensures { Wrote (K.output out.old) (K.output out.new)
+        (joined (entries side (accepted dict.now).tree (answered answers.now))) result }
 {
     let mut cursor = Cursor::new(dict, answers);
     while let Some(slot) = cursor.next(dict, answers) {

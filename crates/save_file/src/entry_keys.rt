@@ -27,7 +27,8 @@ impl EntryKeys {
     /// Adds a text, and tells whether it is new.
     pub fn add(&mut self, text: String) -> Result<bool, LineFault>
         ensures fresh { IfOk result (λ fresh. fresh ≡ not (has self.old (string_bytes text))) }
-        ensures added { OnOk result ((other : List ℕ) → has self.new other ≡ (bytes_eq other (string_bytes text) || has self.old other)) }
+        ensures added { OnOk result ((other : List ℕ) → has self.new other
+            ≡ (bytes_eq other (string_bytes text) || has self.old other)) }
         ensures memory { IfErr result (λ fault. fault ≡ NoMemory) }
     {
         let Ok(fresh) = self.texts.insert(text) else {

@@ -28,8 +28,10 @@ use value_text::TextFault;
 
 // The next slot that has the path, behind which the cursor goes.
 fn find_slot(dict: &Dictionary, answers: &Answers, cursor: &mut Cursor, path: &str) -> Option<Slot>
-    requires { AreSlots (accepted dict.now).tree (answered answers.now) (slots_left (accepted dict.now).tree (answered answers.now) cursor.old) }
-    ensures { FindsSlot (accepted dict.now).tree path.now (slots_left (accepted dict.now).tree (answered answers.now) cursor.old) (slots_left (accepted dict.now).tree (answered answers.now) cursor.new) result }
+    requires { AreSlots (accepted dict.now).tree (answered answers.now)
+        (slots_left (accepted dict.now).tree (answered answers.now) cursor.old) }
+    ensures { FindsSlot (accepted dict.now).tree path.now (slots_left (accepted dict.now).tree (answered answers.now)
+        cursor.old) (slots_left (accepted dict.now).tree (answered answers.now) cursor.new) result }
 {
     let _members = answers.next_number();
     while let Some(slot) = cursor.next(dict, answers) {

@@ -128,7 +128,8 @@ pub fn worth_of(
 ) -> Result<Option<(Slot, Value)>, LoadFault>
     requires same_checks { SameChecks (rules dict.now) (named_checks checks.now) }
     requires placed { IsPlaced (tree_of (rules dict.now)) (answered answers.now) line.now.path }
-    ensures worth { IfOk result (λ o. o ≡ option_map (λ v. (slot_of (tree_of (rules dict.now)) line.now.path, v)) (worth_of_entry (rules dict.now) line.now)) }
+    ensures worth { IfOk result (λ o. o ≡ option_map (λ v. (slot_of (tree_of (rules dict.now)) line.now.path, v))
+        (worth_of_entry (rules dict.now) line.now)) }
     ensures memory { IfErr result (λ fault. fault ≡ faults.NoMemory) }
 {
     let Ok(slot) = find_slot(dict, answers, &line.path) else {

@@ -2,6 +2,7 @@
 ghost use Rattle.save_file.specs.CarriedText.{CarriedTextsTellLines};
 ghost use Rattle.save_file.specs.Carrying.{CarryingGivesOne, EachLineIsKeptOrListed, OwnLinesAreKept, SavedTextsAreCarried};
 ghost use Rattle.save_file.specs.Loading.{SavedTextsTellAnswers};
+ghost use Rattle.save_file.specs.Resuming.{CarryingGivesTheSame, LimitsAllowWhatStands, NoOverrideStands, SetSaysTheReason, ToldWhereNotKept};
 
 /// Answers that fit an accepted dictionary and have one saved text are the same.
 pub fn saved_texts_tell_their_answers()
@@ -33,4 +34,29 @@ pub fn saved_texts_are_carried()
 /// refuses.
 pub fn own_lines_are_kept()
     ensures { OwnLinesAreKept }
+{}
+
+/// After a text that came from outside was resumed, no override stands.
+pub fn no_override_is_resumed()
+    ensures { NoOverrideStands }
+{}
+
+/// Each answer that stands then may be one of its fact's, and no limit and no check refuses it.
+pub fn limits_allow_what_is_resumed()
+    ensures { LimitsAllowWhatStands }
+{}
+
+/// Resuming lists the lines that carrying drops, and the overrides.
+pub fn dropped_lines_are_told()
+    ensures { ToldWhereNotKept }
+{}
+
+/// The reason that is listed with a value is what `set` refuses the value with in the resumed session.
+pub fn set_says_the_reason()
+    ensures { SetSaysTheReason }
+{}
+
+/// A text without overrides gives the same answers, be it resumed or carried.
+pub fn carrying_gives_what_is_resumed()
+    ensures { CarryingGivesTheSame }
 {}

@@ -20,12 +20,17 @@ mod lists;
 mod loading;
 mod opening;
 mod reading;
+mod reason;
+mod resuming;
 mod saving;
 mod stage;
+mod telling;
 mod texts;
 
 pub use carrying::{Carried, carry};
 pub use dropped::put_dropped;
 pub use fault::LoadFault;
 pub use loading::load;
+pub use reason::{Dropped, Reason};
+pub use resuming::{Resumed, resume};
 pub use saving::save;

@@ -27,7 +27,8 @@ use std::alloc::Global;
 
 // Whether the fact is a writable collection with this path.
 fn is_list_at(dict: &Dictionary, fact: u32, path: &str) -> bool
-    ensures { IsTrue result ↔ (IsTrue (is_list_fact (accepted dict.now).tree fact) × (slot_text (accepted dict.now).tree (slot fact 0) ≡ path.now)) }
+    ensures { IsTrue result ↔ (IsTrue (is_list_fact (accepted dict.now).tree fact)
+        × (slot_text (accepted dict.now).tree (slot fact 0) ≡ path.now)) }
 {
     let _accepted = dict.source();
     if !is_list(dict, fact) {
@@ -135,7 +136,8 @@ pub fn are_below(next: u32, members: &Members) -> bool
 
 // Opens one more collection.
 fn push_list(read: ListsRead, fact: u32, members: Members) -> Result<ListsRead, LineFault>
-    ensures opened { IfOk result (λ new. new.next ≡ read.next × (new.done ≡ fact) × (new.lists.items ≡ read.lists.items ++ (fact, members) ∷ [])) }
+    ensures opened { IfOk result (λ new. new.next ≡ read.next × (new.done ≡ fact)
+        × (new.lists.items ≡ read.lists.items ++ (fact, members) ∷ [])) }
     ensures memory { IfErr result (λ fault. fault ≡ NoMemory) }
 {
     let ListsRead {

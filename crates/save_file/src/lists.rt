@@ -54,7 +54,8 @@ fn put_list<K: Sink>(
 ) -> Result<(), Failed>
     requires collection { IsSlot (accepted dict.now).tree (slot fact 0) }
     requires members { IsMemberList members.now }
-    ensures { Wrote (K.taken out.old) (K.taken out.new) (K.faults out.old) (K.faults out.new) (list_line (accepted dict.now).tree fact members.now ++ 10 ∷ []) result }
+    ensures { Wrote (K.output out.old) (K.output out.new) (list_line (accepted dict.now).tree fact
+        members.now ++ 10 ∷ []) result }
 {
     let _accepted = dict.source();
     let mut line = Line::new();
@@ -73,7 +74,8 @@ fn put_if_open<K: Sink>(
     out: &mut K,
 ) -> Result<(), Failed>
     requires { AnswersFit (accepted dict.now).tree (answered answers.now) }
-    ensures { Wrote (K.taken out.old) (K.taken out.new) (K.faults out.old) (K.faults out.new) (joined (list_lines (accepted dict.now).tree (answered answers.now) fact)) result }
+    ensures { Wrote (K.output out.old) (K.output out.new)
+        (joined (list_lines (accepted dict.now).tree (answered answers.now) fact)) result }
 {
     let _accepted = dict.source();
     match answers.members(fact) {
@@ -85,7 +87,8 @@ fn put_if_open<K: Sink>(
 /// Puts the lines of all open collections.
 pub fn put_lists<K: Sink>(dict: &Dictionary, answers: &Answers, out: &mut K) -> Result<(), Failed>
     requires { AnswersFit (accepted dict.now).tree (answered answers.now) }
-    ensures { Wrote (K.taken out.old) (K.taken out.new) (K.faults out.old) (K.faults out.new) (joined (lists (accepted dict.now).tree (answered answers.now))) result }
+    ensures { Wrote (K.output out.old) (K.output out.new)
+        (joined (lists (accepted dict.now).tree (answered answers.now))) result }
 {
     let count = dict.fact_count();
     let mut done = 0;

@@ -73,8 +73,10 @@ fn load_lines(alloc: Global, dict: &Dictionary, bytes: &[u8]) -> Result<Answers,
 /// aren't judged.
 pub fn load(alloc: Global, dict: &Dictionary, bytes: &[u8]) -> Result<Answers, LoadFault>
     requires { length bytes.now < 4294967295 }
-    ensures loaded { IfOk result (λ b. AnswersFit (accepted dict.now).tree (answered b) × (bytes.now ≡ saved (accepted dict.now).tree (answered b))) }
-    ensures only { (a : Answered) → AnswersFit (accepted dict.now).tree a → bytes.now ≡ saved (accepted dict.now).tree a → IfOk result (λ b. answered b ≡ a) }
+    ensures loaded { IfOk result (λ b. AnswersFit (accepted dict.now).tree (answered b)
+        × (bytes.now ≡ saved (accepted dict.now).tree (answered b))) }
+    ensures only { (a : Answered) → AnswersFit (accepted dict.now).tree a → bytes.now ≡ saved (accepted dict.now).tree a
+        → IfOk result (λ b. answered b ≡ a) }
     ensures refused { IfErr result (RefusesText (accepted dict.now).tree bytes.now) }
 {
     load_lines(alloc, dict, bytes)

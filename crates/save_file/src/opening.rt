@@ -76,7 +76,8 @@ fn add_list(
     fact: u32,
     given: &mut Vec<(u32, Members)>,
 ) -> Result<(), LoadFault>
-    ensures added { OnOk result (given.new.items ≡ given.old.items ++ opened_at (tree_of (rules dict.now)) lists.now fact) }
+    ensures added { OnOk result (given.new.items ≡ given.old.items ++ opened_at (tree_of (rules dict.now)) lists.now
+        fact) }
     ensures memory { IfErr result (λ fault. fault ≡ NoMemory) }
 {
     match line_of(dict, lists, fact) {
@@ -110,7 +111,8 @@ fn given_lists(
 /// Opens the collections of the lists that are kept.
 pub fn open_kept(alloc: Global, dict: &Dictionary, read: &CarriedRead) -> Result<Answers, LoadFault>
     requires { IsCarried (text_of read.now) }
-    ensures lists { IfOk result (λ a. IsOfLists (opened (tree_of (rules dict.now)) read.now.lists.items) read.now.next (answered a)) }
+    ensures lists { IfOk result (λ a. IsOfLists (opened (tree_of (rules dict.now)) read.now.lists.items) read.now.next
+        (answered a)) }
     ensures well { IfOk result (λ a. WellFormed (answered a)) }
     ensures from_one { IfOk result (λ a. FromOne (answered a)) }
     ensures memory { IfErr result (λ fault. fault ≡ NoMemory) }

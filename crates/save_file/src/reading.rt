@@ -41,7 +41,8 @@ pub fn is_word(text: &str, word: &str) -> bool
 
 /// The number of the next member, from 1 to 1,000,001, that the digits spell.
 pub fn read_next(digits: &str) -> Option<u32>
-    ensures { MatchOption result ((k : ℕ) → IsNextNumber k → digits.now ≢ decimal k) (λ k. IsNextNumber k × (digits.now ≡ decimal k)) }
+    ensures { MatchOption result ((k : ℕ) → IsNextNumber k → digits.now ≢ decimal k) (λ k. IsNextNumber k
+        × (digits.now ≡ decimal k)) }
 {
     if is_word(digits, "1000001") {
         return Some(1_000_001);

@@ -19,7 +19,7 @@ use value_text::Line;
 // Puts the line of the next member's number.
 #[tactic(auto, using(value_text::proofs::Decimals::decimal_of_member))]
 fn put_next<K: Sink>(next: u32, out: &mut K) -> Result<(), Failed>
-    ensures { Wrote (K.taken out.old) (K.taken out.new) (K.faults out.old) (K.faults out.new) (next_line next ++ 10 ∷ []) result }
+    ensures { Wrote (K.output out.old) (K.output out.new) (next_line next ++ 10 ∷ []) result }
 {
     let mut line = Line::new();
     line.push(b"next ");
@@ -32,7 +32,8 @@ fn put_next<K: Sink>(next: u32, out: &mut K) -> Result<(), Failed>
 // Puts the saved text.
 fn put_saved<K: Sink>(dict: &Dictionary, answers: &Answers, out: &mut K) -> Result<(), Failed>
     requires { AnswersFit (accepted dict.now).tree (answered answers.now) }
-    ensures { Wrote (K.taken out.old) (K.taken out.new) (K.faults out.old) (K.faults out.new) (saved (accepted dict.now).tree (answered answers.now)) result }
+    ensures { Wrote (K.output out.old) (K.output out.new) (saved (accepted dict.now).tree (answered answers.now))
+        result }
 {
     put_text(b"saved 1\n", out)?;
     put_next(answers.next_number(), out)?;
@@ -46,9 +47,11 @@ fn put_saved<K: Sink>(dict: &Dictionary, answers: &Answers, out: &mut K) -> Resu
 /// failure a part of the text was taken. It takes no memory.
 pub fn save<K: Sink>(dict: &Dictionary, answers: &Answers, out: &mut K) -> Result<(), Failed>
     requires { AnswersFit (accepted dict.now).tree (answered answers.now) }
-    ensures whole { OnOk result (Sent (K.taken out.old) (K.taken out.new) (saved (accepted dict.now).tree (answered answers.now)) []) }
-    ensures part { (rest : List ℕ) × Sent (K.taken out.old) (K.taken out.new) (saved (accepted dict.now).tree (answered answers.now)) rest }
-    ensures cause { HasCause (K.faults out.old) (K.faults out.new) result }
+    ensures whole { OnOk result (Sent (K.output out.old).taken (K.output out.new).taken
+        (saved (accepted dict.now).tree (answered answers.now)) []) }
+    ensures part { (rest : List ℕ) × Sent (K.output out.old).taken (K.output out.new).taken
+        (saved (accepted dict.now).tree (answered answers.now)) rest }
+    ensures cause { HasCause (K.output out.old).faults (K.output out.new).faults result }
 {
     put_saved(dict, answers, out)
 }

@@ -35,6 +35,7 @@ pub fn ended_lines_stand()
 pub fn a_line_says_one_thing()
     ensures one_command { (line : List ℕ) (c d : Command) → SpellsCommand line c → SpellsCommand line d → c ≡ d }
     ensures reply { (line : List ℕ) (c : Command) → SpellsCommand line c → ¬ (IsSilent line) }
-    ensures text { (command : Command) → IsCommand command → IsUtf8 (command_text command) → SpellsCommand (command_text command ++ 13 ∷ []) command }
+    ensures text { (command : Command) → IsCommand command → IsUtf8 (command_text command)
+        → SpellsCommand (command_text command ++ 13 ∷ []) command }
     ensures heard { (line : List ℕ) → SaysExactly line (heard_in line) }
 {}

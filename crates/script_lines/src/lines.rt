@@ -70,7 +70,8 @@ impl Lines {
 
         // What has ended and what is held make up the script, however it goes on.
         ensures stream { (more : List ℕ) → script_lines (self.old.so_far ++ (piece.now ++ more))
-            ≡ ready_lines result.ready self.new.line ++ script_lines (self.new.so_far ++ (drop result.taken piece.now ++ more)) }
+            ≡ ready_lines result.ready self.new.line ++ script_lines
+            (self.new.so_far ++ (drop result.taken piece.now ++ more)) }
     {
         begin(&mut self.kept, &mut self.is_ended);
         match newline_at(piece) {

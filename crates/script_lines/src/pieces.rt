@@ -29,7 +29,8 @@ fn add_piece(
     found: &mut Vec<Option<Vec<u8>>>,
     piece: &[u8],
 ) -> Result<(), AllocError>
-    ensures { OnOk result ((more : List ℕ) → lines_read found.old.items ++ script_lines (lines.old.so_far ++ (piece.now ++ more))
+    ensures { OnOk result ((more : List ℕ) → lines_read found.old.items ++ script_lines
+        (lines.old.so_far ++ (piece.now ++ more))
         ≡ lines_read found.new.items ++ script_lines (lines.new.so_far ++ more)) }
 {
     let mut rest = piece;

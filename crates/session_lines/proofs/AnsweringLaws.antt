@@ -2,6 +2,7 @@
 use Rattle.std.proofs.Common.{◌≡◌, ℕ, ◌-◌, ◌≤◌, Bool, true, false, List, [], ◌∷◌, ◌++◌, length, take, drop, Option, refl, sym, ap, subst, ◌∙◌, arith, append_assoc, length-drop}
 use Rattle.std.specs.Prelude.{Result, Ok}
 use Rattle.std.proofs.lemmas.List.{append-nil, take_all}
+use Rattle.fg_io.specs.Outside.{Output}
 use Rattle.fg_io.specs.Sent.{Sent}
 use Rattle.fg_io.proofs.SentLaws.{sent_none, sent_on}
 use Rattle.script_lines.specs.Lines.{ScriptLine, script_lines, ready_lines}
@@ -32,64 +33,64 @@ known_step r s (commands.Unwatch name path) known = absurd cc
 known_step r s commands.Quit known = absurd cc
 known_step r s asked known = refl
 
-module _ (taken taken_now : Option (List ℕ)) (faults faults_now : ℕ) where
+module _ (sink sink_now : Output) where
   -- a text that was written is a step
-  pub text_step : (text : List ℕ) (after : LineState) (progress : Progress) → WrittenAs taken taken_now faults faults_now text progress
-      → SteppedAs taken taken_now faults faults_now (record { text = text; state = open_at after }) after progress
+  pub text_step : (text : List ℕ) (after : LineState) (progress : Progress) → WrittenAs sink sink_now text progress
+      → SteppedAs sink sink_now (record { text = text; state = open_at after }) after progress
   text_step text after More written = (written, refl)
   text_step text after Over written = absurd written
   text_step text after Unwritten written = written
   text_step text after OutOfMemory written = absurd written
 
-  pub written_output : (text : List ℕ) (progress : Progress) → WrittenAs taken taken_now faults faults_now text progress → OutputAs taken taken_now faults faults_now text progress
+  pub written_output : (text : List ℕ) (progress : Progress) → WrittenAs sink sink_now text progress → OutputAs sink sink_now text progress
   written_output text More written = written
   written_output text Over written = absurd written
   written_output text Unwritten written = written
   written_output text OutOfMemory written = absurd written
 
   -- a refusal is told
-  pub refusal_output : (text : List ℕ) (memory : Bool) (progress : Progress) → EndsOrWrites memory taken taken_now faults faults_now text progress → OutputAs taken taken_now faults faults_now text progress
-  refusal_output text true progress ended = subst (OutputAs taken taken_now faults faults_now text) (sym ended.1) ended.0
+  pub refusal_output : (text : List ℕ) (memory : Bool) (progress : Progress) → EndsOrWrites memory sink sink_now text progress → OutputAs sink sink_now text progress
+  refusal_output text true progress ended = subst (OutputAs sink sink_now text) (sym ended.1) ended.0
   refusal_output text false progress written = written_output text progress written
 
   -- and it is a step, where it isn't want of memory
   pub ends_or_steps : (made : Step) (s : LineState) (text : List ℕ) (memory : Bool) (progress : Progress) → (memory ≡ false → made ≡ step_writing s text)
-      → EndsOrWrites memory taken taken_now faults faults_now (line_with text) progress → SteppedAs taken taken_now faults faults_now made s progress
-  ends_or_steps made s text true progress is ended = subst (SteppedAs taken taken_now faults faults_now made s) (sym ended.1) ended.0
+      → EndsOrWrites memory sink sink_now (line_with text) progress → SteppedAs sink sink_now made s progress
+  ends_or_steps made s text true progress is ended = subst (SteppedAs sink sink_now made s) (sym ended.1) ended.0
   ends_or_steps made s text false progress is written =
-      subst (λ k. SteppedAs taken taken_now faults faults_now k s progress) (sym (is refl)) (text_step (line_with text) s progress written)
+      subst (λ k. SteppedAs sink sink_now k s progress) (sym (is refl)) (text_step (line_with text) s progress written)
 
   -- the session's reply, with what is said behind it
   pub reply_steps : (r : Rules) (s : LineState) (d : SessionState) (asked : Command) (reply : Reply) (text : List ℕ) (progress : Progress) → session.step r s.session_state asked ≡ Ok (reply, d)
-      → said r s asked (reply_text r d reply) d ≡ text → WrittenAs taken taken_now faults faults_now text progress → SteppedAs taken taken_now faults faults_now (step_session_command r s asked) (record s { session_state = d }) progress
+      → said r s asked (reply_text r d reply) d ≡ text → WrittenAs sink sink_now text progress → SteppedAs sink sink_now (step_session_command r s asked) (record s { session_state = d }) progress
   reply_steps r s d asked reply text progress is same written =
-      subst (λ k. SteppedAs taken taken_now faults faults_now k (record s { session_state = d }) progress)
+      subst (λ k. SteppedAs sink sink_now k (record s { session_state = d }) progress)
       (sym (ap (step_answered r s asked) is ∙ ap {A = List ℕ} {B = Step} (λ t. record { text = t; state = open_at (record s { session_state = d }) }) same))
       (text_step text (record s { session_state = d }) progress written)
 
   -- and its refusal
   pub refusal_steps : (r : Rules) (s : LineState) (d : SessionState) (asked : Command) (refusal : Refusal) (progress : Progress) → Refused refusal (session.refusal r s.session_state asked) → d ≡ s.session_state
-      → RefusedAs taken taken_now faults faults_now refusal progress → SteppedAs taken taken_now faults faults_now (step_session_command r s asked) (record s { session_state = d }) progress
+      → RefusedAs sink sink_now refusal progress → SteppedAs sink sink_now (step_session_command r s asked) (record s { session_state = d }) progress
   refusal_steps r s d asked refusal progress refused same written =
-      subst (λ (e : SessionState). SteppedAs taken taken_now faults faults_now (step_session_command r s asked) (record s { session_state = e }) progress) (sym same)
+      subst (λ (e : SessionState). SteppedAs sink sink_now (step_session_command r s asked) (record s { session_state = e }) progress) (sym same)
       (ends_or_steps (step_session_command r s asked) s (refusal_text refusal) (is_memory refusal) progress
       (λ known. ap (step_answered r s asked) (refused_step r s.session_state asked refusal known refused)) written)
 
-module _ (taken taken_now : Option (List ℕ)) (faults faults_now : ℕ) (here_now : LineState) where
+module _ (sink sink_now : Output) (here_now : LineState) where
   -- a step is the answer to its line
-  pub answers_line : (r : Rules) (here : LineState) (line : ScriptLine) (made : Step) (progress : Progress) → step r (open_at here) line ≡ made → SteppedAs taken taken_now faults faults_now made here_now progress
-      → AnsweredAs r taken taken_now faults faults_now here here_now (line ∷ []) progress
-  answers_line r here line made progress is stepped = cases progress (subst (λ s. SteppedAs taken taken_now faults faults_now s here_now progress) (sym is) stepped)
+  pub answers_line : (r : Rules) (here : LineState) (line : ScriptLine) (made : Step) (progress : Progress) → step r (open_at here) line ≡ made → SteppedAs sink sink_now made here_now progress
+      → AnsweredAs r sink sink_now here here_now (line ∷ []) progress
+  answers_line r here line made progress is stepped = cases progress (subst (λ s. SteppedAs sink sink_now s here_now progress) (sym is) stepped)
     where
       text : (step r (open_at here) line).text ≡ replies r (open_at here) (line ∷ [])
       text = sym (append-nil (step r (open_at here) line).text)
 
-      cases : (progress : Progress) → SteppedAs taken taken_now faults faults_now (step r (open_at here) line) here_now progress → AnsweredAs r taken taken_now faults faults_now here here_now (line ∷ []) progress
-      cases More stepped = (subst (λ t. Sent taken taken_now t []) text stepped.0, stepped.1)
+      cases : (progress : Progress) → SteppedAs sink sink_now (step r (open_at here) line) here_now progress → AnsweredAs r sink sink_now here here_now (line ∷ []) progress
+      cases More stepped = (subst (λ t. Sent sink.taken sink_now.taken t []) text stepped.0, stepped.1)
       cases Over stepped =
           let silent : [] ≡ replies r (open_at here) (line ∷ []) = sym stepped.1 ∙ text in
-          (subst (λ t. Sent taken taken_now t []) silent (subst (λ now. Sent taken now [] []) (sym stepped.0) (sent_none taken [])), stepped.2)
-      cases Unwritten stepped = (stepped.0, (stepped.1.0, subst (λ t. Sent taken taken_now t stepped.1.0) text stepped.1.1))
+          (subst (λ t. Sent sink.taken sink_now.taken t []) silent (subst (λ now. Sent sink.taken now [] []) (sym stepped.0) (sent_none sink.taken [])), stepped.2)
+      cases Unwritten stepped = (stepped.0, (stepped.1.0, subst (λ t. Sent sink.taken sink_now.taken t stepped.1.0) text stepped.1.1))
       cases OutOfMemory stepped = stepped
 
 -- ---- what stands behind a step
@@ -106,9 +107,9 @@ pub keeps_line : (r : Rules) (here here_now : LineState) (line : ScriptLine) (ma
     → KeptAs (state_after r (open_at here) (line ∷ [])) here here_now progress
 keeps_line r here here_now line made progress is kept = subst (λ (s : Step). KeptAs s.state here here_now progress) (sym is) kept
 
-module _ (taken taken_now : Option (List ℕ)) (faults faults_now : ℕ) (here here_now : LineState) where
+module _ (sink sink_now : Output) (here here_now : LineState) where
   -- there was memory for a text that was written
-  pub keeps_written : (state : State) (text : List ℕ) (progress : Progress) → state ≡ open_at here_now → WrittenAs taken taken_now faults faults_now text progress → KeptAs state here here_now progress
+  pub keeps_written : (state : State) (text : List ℕ) (progress : Progress) → state ≡ open_at here_now → WrittenAs sink sink_now text progress → KeptAs state here here_now progress
   keeps_written state text More is written = tt
   keeps_written state text Over is written = tt
   keeps_written state text Unwritten is written = is
@@ -116,20 +117,20 @@ module _ (taken taken_now : Option (List ℕ)) (faults faults_now : ℕ) (here h
 
   -- a refusal changes nothing
   pub keeps_refused : (state : State) (text : List ℕ) (memory : Bool) (progress : Progress) → here_now ≡ here → (memory ≡ false → state ≡ open_at here)
-      → EndsOrWrites memory taken taken_now faults faults_now text progress → KeptAs state here here_now progress
+      → EndsOrWrites memory sink sink_now text progress → KeptAs state here here_now progress
   keeps_refused state text true progress same is ended = subst (KeptAs state here here_now) (sym ended.1) same
   keeps_refused state text false progress same is written = keeps_written state text progress (is refl ∙ ap open_at (sym same)) written
 
-module _ (taken taken_now : Option (List ℕ)) (faults faults_now : ℕ) (r : Rules) (s : LineState) (d : SessionState) (asked : Command) where
-  pub reply_keeps : (reply : Reply) (text : List ℕ) (progress : Progress) → session.step r s.session_state asked ≡ Ok (reply, d) → WrittenAs taken taken_now faults faults_now text progress
+module _ (sink sink_now : Output) (r : Rules) (s : LineState) (d : SessionState) (asked : Command) where
+  pub reply_keeps : (reply : Reply) (text : List ℕ) (progress : Progress) → session.step r s.session_state asked ≡ Ok (reply, d) → WrittenAs sink sink_now text progress
       → KeptAs (step_session_command r s asked).state s (record s { session_state = d }) progress
   reply_keeps reply text progress is written =
-      keeps_written taken taken_now faults faults_now s (record s { session_state = d }) (step_session_command r s asked).state text progress (ap (λ (a : Result (Reply × SessionState) Refusal). (step_answered r s asked a).state) is) written
+      keeps_written sink sink_now s (record s { session_state = d }) (step_session_command r s asked).state text progress (ap (λ (a : Result (Reply × SessionState) Refusal). (step_answered r s asked a).state) is) written
 
-  pub refusal_keeps : (refusal : Refusal) (progress : Progress) → Refused refusal (session.refusal r s.session_state asked) → d ≡ s.session_state → RefusedAs taken taken_now faults faults_now refusal progress
+  pub refusal_keeps : (refusal : Refusal) (progress : Progress) → Refused refusal (session.refusal r s.session_state asked) → d ≡ s.session_state → RefusedAs sink sink_now refusal progress
       → KeptAs (step_session_command r s asked).state s (record s { session_state = d }) progress
   refusal_keeps refusal progress refused same written =
-      keeps_refused taken taken_now faults faults_now s (record s { session_state = d }) (step_session_command r s asked).state (line_with (refusal_text refusal)) (is_memory refusal) progress (ap (λ (c : SessionState). record s { session_state = c }) same)
+      keeps_refused sink sink_now s (record s { session_state = d }) (step_session_command r s asked).state (line_with (refusal_text refusal)) (is_memory refusal) progress (ap (λ (c : SessionState). record s { session_state = c }) same)
       (λ known. ap (λ (a : Result (Reply × SessionState) Refusal). (step_answered r s asked a).state) (refused_step r s.session_state asked refusal known refused)) written
 
 -- ---- replies to lines one behind another

@@ -1,61 +1,54 @@
 // Answers the lines of a script while its bytes come.
 ghost use Rattle.std.specs.Prelude.{◌≡◌, ◌+◌, ◌<◌, ◌≤◌, ◌^◌, ◌∷◌, ◌++◌, [], length};
-ghost use Rattle.script_lines.specs.Lines.{ended_lines, ready_lines, whole, HasNoNewline};
 ghost use Rattle.text_checks.specs.Tables.{named_checks};
+ghost use Rattle.script_lines.specs.Lines.{ended_lines, ready_lines, whole, HasNoNewline};
 ghost use Rattle.graph_session.specs.Refusals.{SameChecks};
 ghost use Rattle.graph_session.specs.Rules.{rules};
-ghost use Rattle.fact_watch.specs.Tables.{named_relations};
-ghost use Rattle.session_lines.specs.Answering.{AnsweredAs, KeptAs, PieceAnsweredAs, line_state_of};
+ghost use Rattle.session_lines.specs.Answering.{AnsweredAs, KeptAs, PieceAnsweredAs, state_by};
 ghost use Rattle.session_lines.specs.Stepping.{open_at, state_after};
 ghost use Rattle.session_lines.specs.Steps.{steps_of_line, steps_of_lines};
 
 use crate::command::answer_command;
 use crate::progress::Progress;
+use crate::tables::Tables;
 use crate::writing::write_text;
 use dictionary::FactEngine;
-use fact_watch::{WatchTable, Watches};
+use fact_watch::Watches;
 use fg_io::Sink;
 use graph_session::Session;
 use script_lines::{LineFault, Lines, Ready, command_of};
 use std::alloc::Global;
 use std::sync::ledger::Ledger;
 use steps::Steps;
-use text_checks::CheckTable;
 
 // Answers a line of at most 4,096 bytes.
 fn answer_line<E: FactEngine, L: Ledger, K: Sink>(
     alloc: Global,
     session: &mut Session<E>,
     watches: &mut Watches,
-    table: &WatchTable,
-    checks: &CheckTable,
+    tables: &Tables<'_>,
     line: &[u8],
     out: &mut K,
     steps: &mut Steps<L>,
 ) -> Progress
     requires short { length line.now ≤ 4096 }
-    requires same_checks { SameChecks (rules session.old.dict)
-        (named_checks checks.now) }
+    requires same_checks { SameChecks (rules session.old.dict) (named_checks tables.now.checks.now) }
     requires few { session.old.changes < 2 ^ 63 }
-    ensures answered { AnsweredAs (rules session.old.dict)
-        (K.taken out.old) (K.taken out.new) (K.faults out.old) (K.faults out.new)
-        (line_state_of session.old (named_relations table.now) watches.old)
-        (line_state_of session.new (named_relations table.now) watches.new) (whole line.now ∷ []) result }
-    ensures kept { KeptAs (state_after (rules session.old.dict) (open_at (line_state_of session.old (named_relations table.now) watches.old)) (whole line.now ∷ []))
-        (line_state_of session.old (named_relations table.now) watches.old)
-        (line_state_of session.new (named_relations table.now) watches.new) result }
+    ensures answered { AnsweredAs (rules session.old.dict) (K.output out.old) (K.output out.new)
+        (state_by session.old tables.now.relations.now watches.old) (state_by session.new tables.now.relations.now watches.new) (whole line.now ∷ []) result }
+    ensures kept { KeptAs (state_after (rules session.old.dict)
+        (open_at (state_by session.old tables.now.relations.now watches.old)) (whole line.now ∷ []))
+        (state_by session.old tables.now.relations.now watches.old) (state_by session.new tables.now.relations.now watches.new) result }
     ensures dict { session.new.dict ≡ session.old.dict }
     ensures few { session.new.changes ≤ session.old.changes + 1 }
-    ensures later { K.faults out.old ≤ K.faults out.new }
-    ensures steps { steps.new ≤ steps.old
-        + steps_of_line E.most (rules session.old.dict) (line_state_of session.old (named_relations table.now) watches.old) (whole line.now) }
+    ensures later { (K.output out.old).faults ≤ (K.output out.new).faults }
+    ensures steps { steps.new ≤ steps.old + steps_of_line E.most (rules session.old.dict)
+        (state_by session.old tables.now.relations.now watches.old) (whole line.now) }
 {
     match command_of(alloc, line) {
         Ok(None) => Progress::More,
         Ok(Some(command)) => {
-            let progress = answer_command(
-                alloc, session, watches, table, &command, checks, out, steps,
-            );
+            let progress = answer_command(alloc, session, watches, tables, &command, out, steps);
             drop(command);
             progress
         }
@@ -69,33 +62,29 @@ pub fn answer_ready<E: FactEngine, L: Ledger, K: Sink>(
     alloc: Global,
     session: &mut Session<E>,
     watches: &mut Watches,
-    table: &WatchTable,
-    checks: &CheckTable,
+    tables: &Tables<'_>,
     ready: Ready,
     line: &[u8],
     out: &mut K,
     steps: &mut Steps<L>,
 ) -> Progress
     requires short { length line.now ≤ 4096 }
-    requires same_checks { SameChecks (rules session.old.dict)
-        (named_checks checks.now) }
+    requires same_checks { SameChecks (rules session.old.dict) (named_checks tables.now.checks.now) }
     requires few { session.old.changes < 2 ^ 63 }
-    ensures answered { AnsweredAs (rules session.old.dict)
-        (K.taken out.old) (K.taken out.new) (K.faults out.old) (K.faults out.new)
-        (line_state_of session.old (named_relations table.now) watches.old)
-        (line_state_of session.new (named_relations table.now) watches.new) (ready_lines ready line.now) result }
-    ensures kept { KeptAs (state_after (rules session.old.dict) (open_at (line_state_of session.old (named_relations table.now) watches.old)) (ready_lines ready line.now))
-        (line_state_of session.old (named_relations table.now) watches.old)
-        (line_state_of session.new (named_relations table.now) watches.new) result }
+    ensures answered { AnsweredAs (rules session.old.dict) (K.output out.old) (K.output out.new)
+        (state_by session.old tables.now.relations.now watches.old) (state_by session.new tables.now.relations.now watches.new) (ready_lines ready line.now) result }
+    ensures kept { KeptAs (state_after (rules session.old.dict)
+        (open_at (state_by session.old tables.now.relations.now watches.old)) (ready_lines ready line.now))
+        (state_by session.old tables.now.relations.now watches.old) (state_by session.new tables.now.relations.now watches.new) result }
     ensures dict { session.new.dict ≡ session.old.dict }
     ensures few { session.new.changes ≤ session.old.changes + 1 }
-    ensures later { K.faults out.old ≤ K.faults out.new }
-    ensures steps { steps.new ≤ steps.old
-        + steps_of_lines E.most (rules session.old.dict) (open_at (line_state_of session.old (named_relations table.now) watches.old)) (ready_lines ready line.now) }
+    ensures later { (K.output out.old).faults ≤ (K.output out.new).faults }
+    ensures steps { steps.new ≤ steps.old + steps_of_lines E.most (rules session.old.dict)
+        (open_at (state_by session.old tables.now.relations.now watches.old)) (ready_lines ready line.now) }
 {
     match ready {
         Ready::NotYet => Progress::More,
-        Ready::Whole => answer_line(alloc, session, watches, table, checks, line, out, steps),
+        Ready::Whole => answer_line(alloc, session, watches, tables, line, out, steps),
         Ready::Long => write_text(b"refused 2 LongLine\n", out),
     }
 }
@@ -105,27 +94,23 @@ pub fn answer_piece<E: FactEngine, L: Ledger, K: Sink>(
     alloc: Global,
     session: &mut Session<E>,
     watches: &mut Watches,
-    table: &WatchTable,
-    checks: &CheckTable,
+    tables: &Tables<'_>,
     lines: &mut Lines,
     out: &mut K,
     bytes: &[u8],
     steps: &mut Steps<L>,
 ) -> Progress
     requires unended { HasNoNewline lines.old.so_far }
-    requires same_checks { SameChecks (rules session.old.dict)
-        (named_checks checks.now) }
+    requires same_checks { SameChecks (rules session.old.dict) (named_checks tables.now.checks.now) }
     requires few { session.old.changes + length bytes.now < 2 ^ 63 }
-    ensures answered { PieceAnsweredAs (rules session.old.dict)
-        (K.taken out.old) (K.taken out.new) (K.faults out.old) (K.faults out.new)
-        (line_state_of session.old (named_relations table.now) watches.old)
-        (line_state_of session.new (named_relations table.now) watches.new)
-        lines.old.so_far lines.new.so_far bytes.now result }
+    ensures answered { PieceAnsweredAs (rules session.old.dict) (K.output out.old) (K.output out.new)
+        (state_by session.old tables.now.relations.now watches.old) (state_by session.new tables.now.relations.now watches.new) lines.old.so_far lines.new.so_far bytes.now result }
     ensures dict { session.new.dict ≡ session.old.dict }
     ensures few { session.new.changes ≤ session.old.changes + length bytes.now }
-    ensures later { K.faults out.old ≤ K.faults out.new }
+    ensures later { (K.output out.old).faults ≤ (K.output out.new).faults }
     ensures steps { steps.new ≤ steps.old + steps_of_lines E.most (rules session.old.dict)
-        (open_at (line_state_of session.old (named_relations table.now) watches.old)) (ended_lines (lines.old.so_far ++ bytes.now)) }
+        (open_at (state_by session.old tables.now.relations.now watches.old))
+        (ended_lines (lines.old.so_far ++ bytes.now)) }
 {
     let mut rest = bytes;
     while !rest.is_empty() {
@@ -134,8 +119,7 @@ pub fn answer_piece<E: FactEngine, L: Ledger, K: Sink>(
             alloc,
             session,
             watches,
-            table,
-            checks,
+            tables,
             fed.ready,
             lines.line(),
             out,

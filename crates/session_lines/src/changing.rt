@@ -1,6 +1,5 @@
 // Answers the commands of the session, and tells the watches that fire behind a change.
-ghost use Rattle.std.specs.Prelude.{◌≡◌, ◌≤◌, ◌<◌, ◌+◌, ◌^◌, ◌++◌, true, if◌then◌else◌};
-ghost use Rattle.script_lines.specs.Joined.{joined};
+ghost use Rattle.std.specs.Prelude.{◌≡◌, ◌≤◌, ◌<◌, ◌+◌, ◌^◌, true, if◌then◌else◌};
 ghost use Rattle.text_checks.specs.Tables.{named_checks};
 ghost use Rattle.dictionary.specs.Accepted.{accepted};
 ghost use Rattle.dictionary.specs.Plain.{plain};
@@ -9,11 +8,8 @@ ghost use Rattle.fact_watch.specs.Tables.{named_relations};
 ghost use Rattle.fact_watch.specs.Watching.{noted};
 ghost use Rattle.graph_session.specs.Refusals.{SameChecks};
 ghost use Rattle.graph_session.specs.Rules.{rules};
-ghost use Rattle.graph_session.specs.SessionView.{session_state};
 ghost use Rattle.graph_session.specs.Step.{is_change as changes};
-ghost use Rattle.session_lines.specs.Answering.{KeptAs, SteppedAs, WrittenAs, line_state_of};
-ghost use Rattle.session_lines.specs.Firing.{firing_lines};
-ghost use Rattle.session_lines.specs.Replies.{line_with, reply_text};
+ghost use Rattle.session_lines.specs.Answering.{KeptAs, SteppedAs, WrittenAs, replied, replied_and_fired, state_by};
 ghost use Rattle.session_lines.specs.Stepping.{step_session_command};
 ghost use Rattle.session_lines.specs.Steps.{steps_of_command};
 
@@ -63,11 +59,10 @@ fn write_change<E: FactEngine, K: Sink>(
     out: &mut K,
 ) -> Progress
     requires noted { (before : Results) × (watches.now ≡ noted watches.now.pairs before) }
-    ensures written { (before : Results) → watches.now ≡ noted watches.now.pairs before → WrittenAs (K.taken out.old) (K.taken out.new) (K.faults out.old) (K.faults out.new)
-        (line_with (reply_text (rules session.now.dict) (session_state session.now) reply)
-        ++ joined (firing_lines (accepted session.now.dict).tree (named_relations table.now) before
-        (plain (accepted session.now.dict) session.now.timeline.now) watches.now.pairs)) result }
-    ensures later { K.faults out.old ≤ K.faults out.new }
+    ensures written { (before : Results) → watches.now ≡ noted watches.now.pairs before → WrittenAs (K.output out.old)
+        (K.output out.new) (replied_and_fired session.now (named_relations table.now) before watches.now.pairs reply)
+        result }
+    ensures later { (K.output out.old).faults ≤ (K.output out.new).faults }
 {
     match write_reply(session, reply, out) {
         Progress::More => write_fired(session, watches, table, out),
@@ -88,12 +83,9 @@ fn write_said<E: FactEngine, K: Sink>(
 ) -> Progress
     requires noted { changes command.now ≡ true → (before : Results) × (watches.now ≡ noted watches.now.pairs before) }
     ensures written { (before : Results) → (changes command.now ≡ true → watches.now ≡ noted watches.now.pairs before)
-        → WrittenAs (K.taken out.old) (K.taken out.new) (K.faults out.old) (K.faults out.new)
-        (if changes command.now then line_with (reply_text (rules session.now.dict) (session_state session.now) reply)
-        ++ joined (firing_lines (accepted session.now.dict).tree (named_relations table.now) before
-        (plain (accepted session.now.dict) session.now.timeline.now) watches.now.pairs)
-        else line_with (reply_text (rules session.now.dict) (session_state session.now) reply)) result }
-    ensures later { K.faults out.old ≤ K.faults out.new }
+        → WrittenAs (K.output out.old) (K.output out.new) (if changes command.now then replied_and_fired session.now
+        (named_relations table.now) before watches.now.pairs reply else replied session.now reply) result }
+    ensures later { (K.output out.old).faults ≤ (K.output out.new).faults }
 {
     if is_change(command) {
         write_change(session, watches, table, reply, out)
@@ -112,22 +104,20 @@ fn answer_noted<E: FactEngine, L: Ledger, K: Sink>(
     out: &mut K,
     steps: &mut Steps<L>,
 ) -> Progress
-    requires noted { changes command.now ≡ true
-        → watches.now ≡ noted watches.now.pairs (plain (accepted session.old.dict) session.old.timeline.now) }
-    requires same_checks { SameChecks (rules session.old.dict)
-        (named_checks checks.now) }
+    requires noted { changes command.now ≡ true → watches.now ≡ noted watches.now.pairs
+        (plain (accepted session.old.dict) session.old.timeline.now) }
+    requires same_checks { SameChecks (rules session.old.dict) (named_checks checks.now) }
     requires few { session.old.changes < 2 ^ 63 }
-    ensures stepped { SteppedAs (K.taken out.old) (K.taken out.new) (K.faults out.old) (K.faults out.new)
-        (step_session_command (rules session.old.dict) (line_state_of session.old (named_relations table.now) watches.now) command.now)
-        (line_state_of session.new (named_relations table.now) watches.now) result }
-    ensures kept { KeptAs (step_session_command (rules session.old.dict) (line_state_of session.old (named_relations table.now) watches.now) command.now).state
-        (line_state_of session.old (named_relations table.now) watches.now)
-        (line_state_of session.new (named_relations table.now) watches.now) result }
+    ensures stepped { SteppedAs (K.output out.old) (K.output out.new) (step_session_command (rules session.old.dict)
+        (state_by session.old table.now watches.now) command.now) (state_by session.new table.now watches.now) result }
+    ensures kept { KeptAs (step_session_command (rules session.old.dict) (state_by session.old table.now watches.now)
+        command.now).state (state_by session.old table.now watches.now) (state_by session.new table.now watches.now)
+        result }
     ensures dict { session.new.dict ≡ session.old.dict }
     ensures few { session.new.changes ≤ session.old.changes + 1 }
-    ensures later { K.faults out.old ≤ K.faults out.new }
-    ensures steps { steps.new ≤ steps.old
-        + steps_of_command E.most (rules session.old.dict) (line_state_of session.old (named_relations table.now) watches.now) command.now }
+    ensures later { (K.output out.old).faults ≤ (K.output out.new).faults }
+    ensures steps { steps.new ≤ steps.old + steps_of_command E.most (rules session.old.dict)
+        (state_by session.old table.now watches.now) command.now }
 {
     match session.command(command, checks, steps) {
         Ok(reply) => write_said(session, watches, table, command, reply, out),
@@ -146,20 +136,18 @@ fn answer_change<E: FactEngine, L: Ledger, K: Sink>(
     steps: &mut Steps<L>,
 ) -> Progress
     requires is_change { changes command.now ≡ true }
-    requires same_checks { SameChecks (rules session.old.dict)
-        (named_checks checks.now) }
+    requires same_checks { SameChecks (rules session.old.dict) (named_checks checks.now) }
     requires few { session.old.changes < 2 ^ 63 }
-    ensures stepped { SteppedAs (K.taken out.old) (K.taken out.new) (K.faults out.old) (K.faults out.new)
-        (step_session_command (rules session.old.dict) (line_state_of session.old (named_relations table.now) watches.old) command.now)
-        (line_state_of session.new (named_relations table.now) watches.new) result }
-    ensures kept { KeptAs (step_session_command (rules session.old.dict) (line_state_of session.old (named_relations table.now) watches.old) command.now).state
-        (line_state_of session.old (named_relations table.now) watches.old)
-        (line_state_of session.new (named_relations table.now) watches.new) result }
+    ensures stepped { SteppedAs (K.output out.old) (K.output out.new) (step_session_command (rules session.old.dict)
+        (state_by session.old table.now watches.old) command.now) (state_by session.new table.now watches.new) result }
+    ensures kept { KeptAs (step_session_command (rules session.old.dict) (state_by session.old table.now watches.old)
+        command.now).state (state_by session.old table.now watches.old) (state_by session.new table.now watches.new)
+        result }
     ensures dict { session.new.dict ≡ session.old.dict }
     ensures few { session.new.changes ≤ session.old.changes + 1 }
-    ensures later { K.faults out.old ≤ K.faults out.new }
-    ensures steps { steps.new ≤ steps.old
-        + steps_of_command E.most (rules session.old.dict) (line_state_of session.old (named_relations table.now) watches.old) command.now }
+    ensures later { (K.output out.old).faults ≤ (K.output out.new).faults }
+    ensures steps { steps.new ≤ steps.old + steps_of_command E.most (rules session.old.dict)
+        (state_by session.old table.now watches.old) command.now }
 {
     match watches.note(session) {
         Err(NoMemory) => Progress::OutOfMemory,
@@ -177,20 +165,18 @@ pub fn answer_session_command<E: FactEngine, L: Ledger, K: Sink>(
     out: &mut K,
     steps: &mut Steps<L>,
 ) -> Progress
-    requires same_checks { SameChecks (rules session.old.dict)
-        (named_checks checks.now) }
+    requires same_checks { SameChecks (rules session.old.dict) (named_checks checks.now) }
     requires few { session.old.changes < 2 ^ 63 }
-    ensures stepped { SteppedAs (K.taken out.old) (K.taken out.new) (K.faults out.old) (K.faults out.new)
-        (step_session_command (rules session.old.dict) (line_state_of session.old (named_relations table.now) watches.old) command.now)
-        (line_state_of session.new (named_relations table.now) watches.new) result }
-    ensures kept { KeptAs (step_session_command (rules session.old.dict) (line_state_of session.old (named_relations table.now) watches.old) command.now).state
-        (line_state_of session.old (named_relations table.now) watches.old)
-        (line_state_of session.new (named_relations table.now) watches.new) result }
+    ensures stepped { SteppedAs (K.output out.old) (K.output out.new) (step_session_command (rules session.old.dict)
+        (state_by session.old table.now watches.old) command.now) (state_by session.new table.now watches.new) result }
+    ensures kept { KeptAs (step_session_command (rules session.old.dict) (state_by session.old table.now watches.old)
+        command.now).state (state_by session.old table.now watches.old) (state_by session.new table.now watches.new)
+        result }
     ensures dict { session.new.dict ≡ session.old.dict }
     ensures few { session.new.changes ≤ session.old.changes + 1 }
-    ensures later { K.faults out.old ≤ K.faults out.new }
-    ensures steps { steps.new ≤ steps.old
-        + steps_of_command E.most (rules session.old.dict) (line_state_of session.old (named_relations table.now) watches.old) command.now }
+    ensures later { (K.output out.old).faults ≤ (K.output out.new).faults }
+    ensures steps { steps.new ≤ steps.old + steps_of_command E.most (rules session.old.dict)
+        (state_by session.old table.now watches.old) command.now }
 {
     if is_change(command) {
         answer_change(session, watches, table, command, checks, out, steps)

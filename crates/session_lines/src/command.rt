@@ -3,14 +3,14 @@ ghost use Rattle.std.specs.Prelude.{◌≡◌, ◌≤◌, ◌<◌, ◌+◌, ◌^
 ghost use Rattle.text_checks.specs.Tables.{named_checks};
 ghost use Rattle.graph_session.specs.Refusals.{SameChecks};
 ghost use Rattle.graph_session.specs.Rules.{rules};
-ghost use Rattle.fact_watch.specs.Tables.{named_relations};
-ghost use Rattle.session_lines.specs.Answering.{KeptAs, SteppedAs, line_state_of};
+ghost use Rattle.session_lines.specs.Answering.{KeptAs, SteppedAs, state_by};
 ghost use Rattle.session_lines.specs.Stepping.{is_session_command as known, step_command};
 ghost use Rattle.session_lines.specs.Steps.{steps_of_command};
 
 use crate::changing::answer_session_command;
 use crate::listing::answer_missing;
 use crate::progress::Progress;
+use crate::tables::Tables;
 use crate::watching::{answer_unwatch, answer_watch};
 use dictionary::FactEngine;
 use fact_watch::{WatchTable, Watches};
@@ -20,7 +20,6 @@ use script_lines::Command;
 use std::alloc::Global;
 use std::sync::ledger::Ledger;
 use steps::Steps;
-use text_checks::CheckTable;
 
 // Whether the session itself answers it.
 fn is_session_command(command: &Command) -> bool
@@ -54,13 +53,13 @@ fn answer_host_command<E: FactEngine, K: Sink>(
     out: &mut K,
 ) -> Progress
     requires { known command.now ≡ false }
-    ensures stepped { SteppedAs (K.taken out.old) (K.taken out.new) (K.faults out.old) (K.faults out.new)
-        (step_command (rules session.now.dict) (line_state_of session.now (named_relations table.now) watches.old) command.now)
-        (line_state_of session.now (named_relations table.now) watches.new) result }
-    ensures kept { KeptAs (step_command (rules session.now.dict) (line_state_of session.now (named_relations table.now) watches.old) command.now).state
-        (line_state_of session.now (named_relations table.now) watches.old)
-        (line_state_of session.now (named_relations table.now) watches.new) result }
-    ensures later { K.faults out.old ≤ K.faults out.new }
+    ensures stepped { SteppedAs (K.output out.old) (K.output out.new)
+        (step_command (rules session.now.dict) (state_by session.now table.now watches.old) command.now)
+        (state_by session.now table.now watches.new) result }
+    ensures kept { KeptAs (step_command (rules session.now.dict) (state_by session.now table.now watches.old)
+        command.now).state (state_by session.now table.now watches.old) (state_by session.now table.now watches.new)
+        result }
+    ensures later { (K.output out.old).faults ≤ (K.output out.new).faults }
 {
     match command {
         Command::Missing(path) => answer_missing(alloc, session, path, out),
@@ -75,30 +74,35 @@ pub fn answer_command<E: FactEngine, L: Ledger, K: Sink>(
     alloc: Global,
     session: &mut Session<E>,
     watches: &mut Watches,
-    table: &WatchTable,
+    tables: &Tables<'_>,
     command: &Command,
-    checks: &CheckTable,
     out: &mut K,
     steps: &mut Steps<L>,
 ) -> Progress
-    requires same_checks { SameChecks (rules session.old.dict)
-        (named_checks checks.now) }
+    requires same_checks { SameChecks (rules session.old.dict) (named_checks tables.now.checks.now) }
     requires few { session.old.changes < 2 ^ 63 }
-    ensures stepped { SteppedAs (K.taken out.old) (K.taken out.new) (K.faults out.old) (K.faults out.new)
-        (step_command (rules session.old.dict) (line_state_of session.old (named_relations table.now) watches.old) command.now)
-        (line_state_of session.new (named_relations table.now) watches.new) result }
-    ensures kept { KeptAs (step_command (rules session.old.dict) (line_state_of session.old (named_relations table.now) watches.old) command.now).state
-        (line_state_of session.old (named_relations table.now) watches.old)
-        (line_state_of session.new (named_relations table.now) watches.new) result }
+    ensures stepped { SteppedAs (K.output out.old) (K.output out.new)
+        (step_command (rules session.old.dict) (state_by session.old tables.now.relations.now watches.old) command.now)
+        (state_by session.new tables.now.relations.now watches.new) result }
+    ensures kept { KeptAs (step_command (rules session.old.dict) (state_by session.old tables.now.relations.now watches.old) command.now).state (state_by session.old tables.now.relations.now watches.old)
+        (state_by session.new tables.now.relations.now watches.new) result }
     ensures dict { session.new.dict ≡ session.old.dict }
     ensures few { session.new.changes ≤ session.old.changes + 1 }
-    ensures later { K.faults out.old ≤ K.faults out.new }
-    ensures steps { steps.new ≤ steps.old
-        + steps_of_command E.most (rules session.old.dict) (line_state_of session.old (named_relations table.now) watches.old) command.now }
+    ensures later { (K.output out.old).faults ≤ (K.output out.new).faults }
+    ensures steps { steps.new ≤ steps.old + steps_of_command E.most (rules session.old.dict)
+        (state_by session.old tables.now.relations.now watches.old) command.now }
 {
     if is_session_command(command) {
-        answer_session_command(session, watches, table, command, checks, out, steps)
+        answer_session_command(
+            session,
+            watches,
+            tables.relations,
+            command,
+            tables.checks,
+            out,
+            steps,
+        )
     } else {
-        answer_host_command(alloc, session, watches, table, command, out)
+        answer_host_command(alloc, session, watches, tables.relations, command, out)
     }
 }

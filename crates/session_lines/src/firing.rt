@@ -42,8 +42,8 @@ fn put_line<E: FactEngine, K: Sink>(
     out: &mut K,
 ) -> Result<(), Failed>
     requires { IsTrue (stands (accepted session.now.dict).tree session.now.timeline.now slot) }
-    ensures { Wrote (K.taken out.old) (K.taken out.new) (K.faults out.old) (K.faults out.new)
-        (watch_line (accepted session.now.dict).tree (named_relations table.now) (place, slot) ++ 10 ∷ []) result }
+    ensures { Wrote (K.output out.old) (K.output out.new) (watch_line (accepted session.now.dict).tree
+        (named_relations table.now) (place, slot) ++ 10 ∷ []) result }
 {
     let dict = session.dict();
     let _accepted = dict.source();
@@ -59,8 +59,8 @@ fn put_line<E: FactEngine, K: Sink>(
 
 // Whether the watch at n fires, of what was noted and the result now.
 fn fires<E: FactEngine>(session: &Session<E>, watches: &Watches, table: &WatchTable, n: u32) -> bool
-    ensures { (before : Results) → watches.now ≡ noted watches.now.pairs before
-        → result ≡ pair_says (code_at (λ r. r.1) (named_relations table.now)) (slice_get watches.now.pairs n) before
+    ensures { (before : Results) → watches.now ≡ noted watches.now.pairs before → result
+        ≡ pair_says (code_at (λ r. r.1) (named_relations table.now)) (slice_get watches.now.pairs n) before
         (plain (accepted session.now.dict) session.now.timeline.now) }
 {
     match watches.at(n) {
@@ -78,8 +78,8 @@ fn put_at<E: FactEngine, K: Sink>(
     out: &mut K,
 ) -> Result<(), Failed>
     requires noted { (before : Results) × (watches.now ≡ noted watches.now.pairs before) }
-    ensures { (before : Results) → watches.now ≡ noted watches.now.pairs before → Wrote (K.taken out.old) (K.taken out.new) (K.faults out.old) (K.faults out.new)
-        (joined (firing_lines_at (accepted session.now.dict).tree (named_relations table.now) before
+    ensures { (before : Results) → watches.now ≡ noted watches.now.pairs before → Wrote (K.output out.old)
+        (K.output out.new) (joined (firing_lines_at (accepted session.now.dict).tree (named_relations table.now) before
         (plain (accepted session.now.dict) session.now.timeline.now) (slice_get watches.now.pairs n))) result }
 {
     if !fires(session, watches, table, n) {
@@ -99,8 +99,8 @@ fn put_fired<E: FactEngine, K: Sink>(
     out: &mut K,
 ) -> Result<(), Failed>
     requires noted { (before : Results) × (watches.now ≡ noted watches.now.pairs before) }
-    ensures { (before : Results) → watches.now ≡ noted watches.now.pairs before → Wrote (K.taken out.old) (K.taken out.new) (K.faults out.old) (K.faults out.new)
-        (joined (firing_lines (accepted session.now.dict).tree (named_relations table.now) before
+    ensures { (before : Results) → watches.now ≡ noted watches.now.pairs before → Wrote (K.output out.old)
+        (K.output out.new) (joined (firing_lines (accepted session.now.dict).tree (named_relations table.now) before
         (plain (accepted session.now.dict) session.now.timeline.now) watches.now.pairs)) result }
 {
     for n in 0..watches.len() {
@@ -120,10 +120,10 @@ pub fn write_fired<E: FactEngine, K: Sink>(
     out: &mut K,
 ) -> Progress
     requires noted { (before : Results) × (watches.now ≡ noted watches.now.pairs before) }
-    ensures written { (before : Results) → watches.now ≡ noted watches.now.pairs before → WrittenAs (K.taken out.old) (K.taken out.new) (K.faults out.old) (K.faults out.new)
-        (joined (firing_lines (accepted session.now.dict).tree (named_relations table.now) before
+    ensures written { (before : Results) → watches.now ≡ noted watches.now.pairs before → WrittenAs (K.output out.old)
+        (K.output out.new) (joined (firing_lines (accepted session.now.dict).tree (named_relations table.now) before
         (plain (accepted session.now.dict) session.now.timeline.now) watches.now.pairs)) result }
-    ensures later { K.faults out.old ≤ K.faults out.new }
+    ensures later { (K.output out.old).faults ≤ (K.output out.new).faults }
 {
     as_progress(put_fired(session, watches, table, out))
 }

@@ -21,5 +21,5 @@ pub use numbered::print_numbered;
 pub use progress::Progress;
 pub use reading::answer_reads;
 pub use reply::{print_refusal, print_reply};
-pub use tables::{add_check, add_relation};
+pub use tables::{Tables, add_check, add_relation};
 pub use writing::{as_progress, write_text};

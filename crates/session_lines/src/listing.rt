@@ -31,8 +31,8 @@ fn put_slot<E: FactEngine, K: Sink>(
     out: &mut K,
 ) -> Result<(), Failed>
     requires { IsTrue (stands (accepted session.now.dict).tree session.now.timeline.now slot) }
-    ensures { Wrote (K.taken out.old) (K.taken out.new) (K.faults out.old) (K.faults out.new)
-        (slot_text (accepted session.now.dict).tree slot ++ 10 ∷ []) result }
+    ensures { Wrote (K.output out.old) (K.output out.new) (slot_text (accepted session.now.dict).tree slot ++ 10 ∷ [])
+        result }
 {
     let dict = session.dict();
     let _accepted = dict.source();
@@ -50,7 +50,7 @@ pub fn put_slots<E: FactEngine, K: Sink>(
     out: &mut K,
 ) -> Result<(), Failed>
     requires { All (λ s. IsTrue (stands (accepted session.now.dict).tree session.now.timeline.now s)) slots.now }
-    ensures { Wrote (K.taken out.old) (K.taken out.new) (K.faults out.old) (K.faults out.new)
+    ensures { Wrote (K.output out.old) (K.output out.new)
         (joined (map (slot_text (accepted session.now.dict).tree) slots.now)) result }
 {
     for slot in slots {
@@ -64,7 +64,7 @@ pub fn put_slots<E: FactEngine, K: Sink>(
 
 // Puts how many they are.
 fn put_count<K: Sink>(count: usize, out: &mut K) -> Result<(), Failed>
-    ensures { Wrote (K.taken out.old) (K.taken out.new) (K.faults out.old) (K.faults out.new) (line_with (numbered (codes "missing ") count)) result }
+    ensures { Wrote (K.output out.old) (K.output out.new) (line_with (numbered (codes "missing ") count)) result }
 {
     let mut line = Line::new();
     print_numbered("missing ", count as u64, &mut line);
@@ -79,7 +79,7 @@ fn put_missing<E: FactEngine, K: Sink>(
     out: &mut K,
 ) -> Result<(), Failed>
     requires { All (λ s. IsTrue (stands (accepted session.now.dict).tree session.now.timeline.now s)) slots.now }
-    ensures { Wrote (K.taken out.old) (K.taken out.new) (K.faults out.old) (K.faults out.new)
+    ensures { Wrote (K.output out.old) (K.output out.new)
         (joined (missing_count slots.now ∷ map (slot_text (accepted session.now.dict).tree) slots.now)) result }
 {
     match put_count(slots.len(), out) {
@@ -96,9 +96,9 @@ fn write_missing<E: FactEngine, K: Sink>(
     out: &mut K,
 ) -> Progress
     requires { IsTrue (stands (accepted session.now.dict).tree session.now.timeline.now slot) }
-    ensures output { OutputAs (K.taken out.old) (K.taken out.new) (K.faults out.old) (K.faults out.new)
+    ensures output { OutputAs (K.output out.old) (K.output out.new)
         (joined (missing_lines (rules session.now.dict) (session_state session.now) slot)) result }
-    ensures later { K.faults out.old ≤ K.faults out.new }
+    ensures later { (K.output out.old).faults ≤ (K.output out.new).faults }
 {
     match missing(alloc, session, slot) {
         Ok(slots) => as_progress(put_missing(session, &slots, out)),
@@ -113,10 +113,9 @@ pub fn answer_missing<E: FactEngine, K: Sink>(
     path: &SlotPath,
     out: &mut K,
 ) -> Progress
-    ensures output { OutputAs (K.taken out.old) (K.taken out.new) (K.faults out.old) (K.faults out.new)
-        (missing_answer (rules session.now.dict) (session_state session.now)
-        (slot_found (rules session.now.dict) session.now.timeline.now path.now)) result }
-    ensures later { K.faults out.old ≤ K.faults out.new }
+    ensures output { OutputAs (K.output out.old) (K.output out.new) (missing_answer (rules session.now.dict)
+        (session_state session.now) (slot_found (rules session.now.dict) session.now.timeline.now path.now)) result }
+    ensures later { (K.output out.old).faults ≤ (K.output out.new).faults }
 {
     match session.slot_of(path) {
         Ok(slot) => write_missing(alloc, session, slot, out),

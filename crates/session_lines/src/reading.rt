@@ -28,9 +28,9 @@ fn write_reads<E: FactEngine, K: Sink>(
     out: &mut K,
 ) -> Progress
     requires { IsTrue (stands (accepted session.now.dict).tree session.now.timeline.now slot) }
-    ensures output { OutputAs (K.taken out.old) (K.taken out.new) (K.faults out.old) (K.faults out.new)
+    ensures output { OutputAs (K.output out.old) (K.output out.new)
         (joined (read_lines (rules session.now.dict) (session_state session.now) slot)) result }
-    ensures later { K.faults out.old ≤ K.faults out.new }
+    ensures later { (K.output out.old).faults ≤ (K.output out.new).faults }
 {
     match reads(alloc, session, slot) {
         Ok(slots) => as_progress(put_slots(session, &slots, out)),
@@ -45,10 +45,10 @@ pub fn answer_reads<E: FactEngine, K: Sink>(
     path: &SlotPath,
     out: &mut K,
 ) -> Progress
-    ensures output { OutputAs (K.taken out.old) (K.taken out.new) (K.faults out.old) (K.faults out.new)
+    ensures output { OutputAs (K.output out.old) (K.output out.new)
         (read_answer (rules session.now.dict) (session_state session.now)
         (slot_found (rules session.now.dict) session.now.timeline.now path.now)) result }
-    ensures later { K.faults out.old ≤ K.faults out.new }
+    ensures later { (K.output out.old).faults ≤ (K.output out.new).faults }
 {
     match session.slot_of(path) {
         Ok(slot) => write_reads(alloc, session, slot, out),

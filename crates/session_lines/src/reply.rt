@@ -95,8 +95,7 @@ fn print_result<E: FactEngine>(session: &Session<E>, slot: Slot, line: &mut Line
 // Prints into an empty line whether the result of a slot is final.
 fn print_final<E: FactEngine>(session: &Session<E>, slot: Slot, line: &mut Line)
     requires { line.old ≡ [] }
-    ensures text { line.new ≡ asked_text
-        (final_text (tree_of (rules session.now.dict)).enums
+    ensures text { line.new ≡ asked_text (final_text (tree_of (rules session.now.dict)).enums
         (is_final_in (accepted session.now.dict) session.now.timeline.now slot))
         (plain (accepted session.now.dict) session.now.timeline.now slot) (codes "open") }
     ensures short { length line.new ≤ 1050 }

@@ -11,6 +11,15 @@ use fact_watch::{Says, WatchTable};
 use std::alloc::{AllocError, Global};
 use text_checks::{CheckTable, Test};
 
+/// What a host brings with it, for each line that it hands in.
+#[derive(Drop)]
+pub struct Tables<'a> {
+    /// The checks of texts that a dictionary may name.
+    pub checks: &'a CheckTable,
+    /// The relations by which a slot may be watched.
+    pub relations: &'a WatchTable,
+}
+
 /// Adds a check under another name than those that are there, so that nothing but want of memory hinders it.
 pub fn add_check(
     alloc: Global,
@@ -22,12 +31,10 @@ pub fn add_check(
     requires room { length checks.old.checks.items < 2 ^ 32 - 1 }
     requires code { IsCode code }
     requires callable { (text : _) → length text.now ≤ 1000 → Test.pre check text }
-    requires says { (text : _) (answer : Bool) → length text.now ≤ 1000
-        → Test.post check text answer → answer ≡ check_says code text.now }
-    ensures added { OnOk result
-        (named_checks checks.new ≡ named_checks checks.old ++ (name.now, code) ∷ []) }
-    ensures count { OnOk result
-        (length checks.new.checks.items ≡ length checks.old.checks.items + 1) }
+    requires says { (text : _) (answer : Bool) → length text.now ≤ 1000 → Test.post check text answer → answer
+        ≡ check_says code text.now }
+    ensures added { OnOk result (named_checks checks.new ≡ named_checks checks.old ++ (name.now, code) ∷ []) }
+    ensures count { OnOk result (length checks.new.checks.items ≡ length checks.old.checks.items + 1) }
 {
     let Ok(name) = Name::read(alloc, name) else {
         return Err(AllocError);
@@ -49,12 +56,11 @@ pub fn add_relation(
     requires room { length relations.old.relations.items < 2 ^ 32 - 1 }
     requires code { IsRelation code }
     requires callable { (old : _) (new : _) → Says.pre says old new }
-    requires says { (old : _) (new : _) (answer : Bool) → Says.post says old new answer
-        → answer ≡ watch_says code old.now new.now }
-    ensures added { OnOk result
-        (named_relations relations.new ≡ named_relations relations.old ++ (name.now, code) ∷ []) }
-    ensures count { OnOk result
-        (length relations.new.relations.items ≡ length relations.old.relations.items + 1) }
+    requires says { (old : _) (new : _) (answer : Bool) → Says.post says old new answer → answer
+        ≡ watch_says code old.now new.now }
+    ensures added { OnOk result (named_relations relations.new ≡ named_relations relations.old ++ (name.now, code)
+        ∷ []) }
+    ensures count { OnOk result (length relations.new.relations.items ≡ length relations.old.relations.items + 1) }
 {
     let Ok(name) = Name::read(alloc, name) else {
         return Err(AllocError);

@@ -1,9 +1,8 @@
 // Answers the commands that put a watch and take it out.
-ghost use Rattle.std.specs.Prelude.{◌≡◌, ◌≤◌, codes, length};
+ghost use Rattle.std.specs.Prelude.{◌≡◌, ◌≤◌, length};
 ghost use Rattle.graph_session.specs.Refusals.{slot_found};
 ghost use Rattle.graph_session.specs.Rules.{rules};
-ghost use Rattle.fact_watch.specs.Tables.{named_relations};
-ghost use Rattle.session_lines.specs.Answering.{KeptAs, SteppedAs, WatchRefusedAs, line_state_of};
+ghost use Rattle.session_lines.specs.Answering.{KeptAs, SteppedAs, WatchRefusedAs, state_by};
 ghost use Rattle.session_lines.specs.Replies.{is_watch_memory, watch_refusal_name as name_of_refusal};
 ghost use Rattle.session_lines.specs.Stepping.{cut_watch, put_watch};
 ghost use Rattle.std.specs.Prelude.{Ok};
@@ -45,8 +44,8 @@ fn is_memory(refusal: WatchRefusal) -> bool
 
 // Writes why a watch isn't put, or isn't taken out.
 fn write_watch_refusal<K: Sink>(refusal: WatchRefusal, out: &mut K) -> Progress
-    ensures written { WatchRefusedAs (K.taken out.old) (K.taken out.new) (K.faults out.old) (K.faults out.new) refusal result }
-    ensures later { K.faults out.old ≤ K.faults out.new }
+    ensures written { WatchRefusedAs (K.output out.old) (K.output out.new) refusal result }
+    ensures later { (K.output out.old).faults ≤ (K.output out.new).faults }
 {
     if is_memory(refusal) {
         return Progress::OutOfMemory;
@@ -67,13 +66,12 @@ fn watch_slot<E: FactEngine, K: Sink>(
     slot: Slot,
     out: &mut K,
 ) -> Progress
-    ensures stepped { SteppedAs (K.taken out.old) (K.taken out.new) (K.faults out.old) (K.faults out.new)
-        (put_watch (line_state_of session.now (named_relations table.now) watches.old) name.now (Ok slot))
-        (line_state_of session.now (named_relations table.now) watches.new) result }
-    ensures kept { KeptAs (put_watch (line_state_of session.now (named_relations table.now) watches.old) name.now (Ok slot)).state
-        (line_state_of session.now (named_relations table.now) watches.old)
-        (line_state_of session.now (named_relations table.now) watches.new) result }
-    ensures later { K.faults out.old ≤ K.faults out.new }
+    ensures stepped { SteppedAs (K.output out.old) (K.output out.new)
+        (put_watch (state_by session.now table.now watches.old) name.now (Ok slot))
+        (state_by session.now table.now watches.new) result }
+    ensures kept { KeptAs (put_watch (state_by session.now table.now watches.old) name.now (Ok slot)).state
+        (state_by session.now table.now watches.old) (state_by session.now table.now watches.new) result }
+    ensures later { (K.output out.old).faults ≤ (K.output out.new).faults }
 {
     match watch(watches, table, name, slot) {
         Ok(()) => write_text(b"ok\n", out),
@@ -90,15 +88,13 @@ pub fn answer_watch<E: FactEngine, K: Sink>(
     path: &SlotPath,
     out: &mut K,
 ) -> Progress
-    ensures stepped { SteppedAs (K.taken out.old) (K.taken out.new) (K.faults out.old) (K.faults out.new)
-        (put_watch (line_state_of session.now (named_relations table.now) watches.old) name.now
-        (slot_found (rules session.now.dict) session.now.timeline.now path.now))
-        (line_state_of session.now (named_relations table.now) watches.new) result }
-    ensures kept { KeptAs (put_watch (line_state_of session.now (named_relations table.now) watches.old) name.now
+    ensures stepped { SteppedAs (K.output out.old) (K.output out.new)
+        (put_watch (state_by session.now table.now watches.old) name.now (slot_found (rules session.now.dict)
+        session.now.timeline.now path.now)) (state_by session.now table.now watches.new) result }
+    ensures kept { KeptAs (put_watch (state_by session.now table.now watches.old) name.now
         (slot_found (rules session.now.dict) session.now.timeline.now path.now)).state
-        (line_state_of session.now (named_relations table.now) watches.old)
-        (line_state_of session.now (named_relations table.now) watches.new) result }
-    ensures later { K.faults out.old ≤ K.faults out.new }
+        (state_by session.now table.now watches.old) (state_by session.now table.now watches.new) result }
+    ensures later { (K.output out.old).faults ≤ (K.output out.new).faults }
 {
     match session.slot_of(path) {
         Ok(slot) => watch_slot(session, watches, table, name, slot, out),
@@ -115,13 +111,12 @@ fn unwatch_slot<E: FactEngine, K: Sink>(
     slot: Slot,
     out: &mut K,
 ) -> Progress
-    ensures stepped { SteppedAs (K.taken out.old) (K.taken out.new) (K.faults out.old) (K.faults out.new)
-        (cut_watch (line_state_of session.now (named_relations table.now) watches.old) name.now (Ok slot))
-        (line_state_of session.now (named_relations table.now) watches.new) result }
-    ensures kept { KeptAs (cut_watch (line_state_of session.now (named_relations table.now) watches.old) name.now (Ok slot)).state
-        (line_state_of session.now (named_relations table.now) watches.old)
-        (line_state_of session.now (named_relations table.now) watches.new) result }
-    ensures later { K.faults out.old ≤ K.faults out.new }
+    ensures stepped { SteppedAs (K.output out.old) (K.output out.new)
+        (cut_watch (state_by session.now table.now watches.old) name.now (Ok slot))
+        (state_by session.now table.now watches.new) result }
+    ensures kept { KeptAs (cut_watch (state_by session.now table.now watches.old) name.now (Ok slot)).state
+        (state_by session.now table.now watches.old) (state_by session.now table.now watches.new) result }
+    ensures later { (K.output out.old).faults ≤ (K.output out.new).faults }
 {
     match unwatch(watches, table, name, slot) {
         Ok(()) => write_text(b"ok\n", out),
@@ -138,15 +133,13 @@ pub fn answer_unwatch<E: FactEngine, K: Sink>(
     path: &SlotPath,
     out: &mut K,
 ) -> Progress
-    ensures stepped { SteppedAs (K.taken out.old) (K.taken out.new) (K.faults out.old) (K.faults out.new)
-        (cut_watch (line_state_of session.now (named_relations table.now) watches.old) name.now
-        (slot_found (rules session.now.dict) session.now.timeline.now path.now))
-        (line_state_of session.now (named_relations table.now) watches.new) result }
-    ensures kept { KeptAs (cut_watch (line_state_of session.now (named_relations table.now) watches.old) name.now
+    ensures stepped { SteppedAs (K.output out.old) (K.output out.new)
+        (cut_watch (state_by session.now table.now watches.old) name.now (slot_found (rules session.now.dict)
+        session.now.timeline.now path.now)) (state_by session.now table.now watches.new) result }
+    ensures kept { KeptAs (cut_watch (state_by session.now table.now watches.old) name.now
         (slot_found (rules session.now.dict) session.now.timeline.now path.now)).state
-        (line_state_of session.now (named_relations table.now) watches.old)
-        (line_state_of session.now (named_relations table.now) watches.new) result }
-    ensures later { K.faults out.old ≤ K.faults out.new }
+        (state_by session.now table.now watches.old) (state_by session.now table.now watches.new) result }
+    ensures later { (K.output out.old).faults ≤ (K.output out.new).faults }
 {
     match session.slot_of(path) {
         Ok(slot) => unwatch_slot(session, watches, table, name, slot, out),

@@ -24,8 +24,8 @@ pub fn as_progress(put: Result<(), Failed>) -> Progress
 
 /// Writes a text, and says how the script goes on behind it.
 pub fn write_text<K: Sink>(text: &[u8], out: &mut K) -> Progress
-    ensures written { WrittenAs (K.taken out.old) (K.taken out.new) (K.faults out.old) (K.faults out.new) text.now result }
-    ensures later { K.faults out.old ≤ K.faults out.new }
+    ensures written { WrittenAs (K.output out.old) (K.output out.new) text.now result }
+    ensures later { (K.output out.old).faults ≤ (K.output out.new).faults }
 {
     let put = put_text(text, out);
     as_progress(put)
@@ -37,9 +37,9 @@ fn write_printed<E: FactEngine, K: Sink>(
     reply: Reply,
     out: &mut K,
 ) -> Progress
-    ensures written { WrittenAs (K.taken out.old) (K.taken out.new) (K.faults out.old) (K.faults out.new)
+    ensures written { WrittenAs (K.output out.old) (K.output out.new)
         (line_with (reply_text (rules session.now.dict) (session_state session.now) reply)) result }
-    ensures later { K.faults out.old ≤ K.faults out.new }
+    ensures later { (K.output out.old).faults ≤ (K.output out.new).faults }
 {
     let mut line = Line::new();
     print_reply(session, reply, &mut line);
@@ -53,9 +53,9 @@ pub fn write_reply<E: FactEngine, K: Sink>(
     reply: Reply,
     out: &mut K,
 ) -> Progress
-    ensures written { WrittenAs (K.taken out.old) (K.taken out.new) (K.faults out.old) (K.faults out.new)
+    ensures written { WrittenAs (K.output out.old) (K.output out.new)
         (line_with (reply_text (rules session.now.dict) (session_state session.now) reply)) result }
-    ensures later { K.faults out.old ≤ K.faults out.new }
+    ensures later { (K.output out.old).faults ≤ (K.output out.new).faults }
 {
     match reply {
         Reply::Done => write_text(b"ok\n", out),
@@ -65,8 +65,8 @@ pub fn write_reply<E: FactEngine, K: Sink>(
 
 /// Writes why a command is refused.
 pub fn write_refusal<K: Sink>(refusal: Refusal, out: &mut K) -> Progress
-    ensures written { RefusedAs (K.taken out.old) (K.taken out.new) (K.faults out.old) (K.faults out.new) refusal result }
-    ensures later { K.faults out.old ≤ K.faults out.new }
+    ensures written { RefusedAs (K.output out.old) (K.output out.new) refusal result }
+    ensures later { (K.output out.old).faults ≤ (K.output out.new).faults }
 {
     if is_want_of_memory(refusal) {
         return Progress::OutOfMemory;

@@ -49,7 +49,8 @@ fn carry_out(alloc: Global, session: &mut Session<PlainTable>, command: &Command
     is_carried_out
 }
 
-fn spelled(alloc: Global, line: &str) -> Option<Command> {
+/// The command of this line: none where it spells none, is longer than 100 bytes, or memory is wanting.
+pub fn spelled(alloc: Global, line: &str) -> Option<Command> {
     if line.len() > 100 {
         return None;
     }

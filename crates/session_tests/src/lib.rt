@@ -1,9 +1,13 @@
-//! The tests of what no run of the program shows of sessions: given answers over the plain engine, lists of commands, and watches
-//! and their relations by calls.
+//! The tests of what no run of the program shows of sessions: given answers over the plain engine, lists of commands, watches and
+//! their relations by calls, and a desk over the incremental engine.
 #![tactic(auto)]
 
 #[cfg(test)]
 mod begun;
+#[cfg(test)]
+mod desk_begun;
+#[cfg(test)]
+mod desk_tests;
 #[cfg(test)]
 mod fact_watch_tests;
 #[cfg(test)]

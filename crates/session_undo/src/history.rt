@@ -153,13 +153,21 @@ fn move_newest(
     answers: &mut Answers,
 ) -> Result<(), NoMemory>
     requires fits { NewestFits (stack from.old.items) (answered answers.old) }
-    ensures moved { OnOk result (record { back = stack from.new.items; now = answered answers.new; ahead = stack to.new.items } ≡ moved (stack from.old.items) (answered answers.old) (stack to.old.items)) }
+    ensures moved { OnOk result (record {
+      back = stack from.new.items;
+      now = answered answers.new;
+      ahead = stack
+          to.new.items;
+    } ≡ moved (stack from.old.items) (answered answers.old) (stack to.old.items)) }
     ensures from_unchanged { OnErr result (stack from.new.items ≡ stack from.old.items) }
     ensures to_unchanged { OnErr result (stack to.new.items ≡ stack to.old.items) }
     ensures answers_unchanged { OnErr result (answered answers.new ≡ answered answers.old) }
-    ensures inverse_fits { OnOk result ((stack from.old.items ≡ [] → ⊥) → NewestFits (stack to.new.items) (answered answers.new)) }
-    ensures can_return { OnOk result ((stack from.old.items ≡ [] → ⊥) → NewestRoom (stack to.new.items) answers.new × (vec_len from.new < vec_capacity from.new)) }
-    ensures has_room { NewestRoom (stack from.old.items) answers.old × (vec_len to.old < vec_capacity to.old) → IsOk result }
+    ensures inverse_fits { OnOk result ((stack from.old.items ≡ [] → ⊥) → NewestFits (stack to.new.items)
+        (answered answers.new)) }
+    ensures can_return { OnOk result ((stack from.old.items ≡ [] → ⊥) → NewestRoom (stack to.new.items) answers.new
+        × (vec_len from.new < vec_capacity from.new)) }
+    ensures has_room { NewestRoom (stack from.old.items) answers.old × (vec_len to.old < vec_capacity to.old)
+        → IsOk result }
 {
     to.reserve(1)?;
     // What is popped leaves room: a vector is no longer than its capacity.

@@ -1,5 +1,5 @@
 -- What is kept of a desk, at the start and behind a look.
-use Rattle.std.proofs.Common.{◌≡◌, ℕ, ◌&&◌, Bool, true, false, nat_eq, if◌then◌else◌, List, [], ◌∷◌, ◌++◌, take, Option, Some, sym, ap, ◌∙◌, arith}
+use Rattle.std.proofs.Common.{◌≡◌, ℕ, ◌&&◌, Bool, true, false, nat_eq, if◌then◌else◌, List, [], ◌∷◌, ◌++◌, take, Option, Some, sym, ap, subst, ◌∙◌, arith}
 use Rattle.std.specs.Prelude.{Result, Ok}
 use Rattle.fact_paths.specs.declared.slot_path.SlotPath.{SlotPath}
 use Rattle.fact_values.specs.declared.slot.Slot.{Slot}
@@ -13,15 +13,22 @@ use Rattle.graph_session.specs.Refusals.{first_of as first_session, slot_found, 
 use Rattle.graph_session.specs.Rules.{rules, tree_of}
 use Rattle.graph_session.specs.SessionView.{SessionView, begun, session_state, start_at}
 use Rattle.graph_session.specs.declared.reply.Refusal.{Refusal}
+use Rattle.graph_session.specs.declared.reply.Reply.{Reply}
 use Rattle.graph_session.specs.Step.{is_change}
 use Rattle.graph_session.proofs.StepLaws.{decided_ok}
-use Rattle.shared_desk.specs.Desk.{appends, desk_begun, is_shown, place_of, shown}
+use Rattle.shared_desk.specs.Desk.{desk_begun, is_shown, place_of, shown}
+use Rattle.shared_desk.specs.DeskSteps.{HasStepped}
 use Rattle.shared_desk.specs.DeskView.{DeskView, Keeps, StandsFor, rules_of}
 use Rattle.shared_desk.specs.LastSeen.{Key, key_of, look_in, same_key}
+use Rattle.shared_desk.specs.declared.refusal.DeskRefusal.{DeskRefusal}
 use Rattle.shared_desk.proofs.LastSeenLaws.{zero_first}
 use Rattle.shared_desk.proofs.OrderLaws.{order_begun}
 use Rattle.shared_desk.proofs.StampLaws.{stamp_begun}
 use Rattle.shared_desk.proofs.StepLaws.{shows_appends_none, shows_no_change}
+
+-- a step from a desk is one from the same desk
+pub stepped_from : (u v : DeskView) (p : ℕ) (c : Command) (answer : Result Reply DeskRefusal) (w : DeskView) → u ≡ v → HasStepped u p c answer w → HasStepped v p c answer w
+stepped_from u v p c answer w e h = subst (λ (x : DeskView). HasStepped x p c answer w) e h
 
 pub stands_begun : (k : Kept) (a : Answered) (v : DeskView) (stamps : Bool) → v.session ≡ start_at k a stamps → stamps ≡ true → v.changers ≡ [] → v.entries ≡ [] → v.asked ≡ [] → StandsFor v (desk_begun (rules k) a)
 stands_begun k a v stamps e kept_stamps no_changers no_entries nothing_seen = record {

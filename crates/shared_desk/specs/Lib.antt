@@ -1,4 +1,5 @@
 pub mod Desk
+pub mod DeskSteps
 pub mod DeskView
 pub mod LastSeen
 pub mod Parties

@@ -1,5 +1,5 @@
 // A session that several parties use.
-ghost use Rattle.std.specs.Prelude.{◌≡◌, ◌+◌, ◌<◌, ◌≤◌, ◌^◌, ◌&&◌, not, [], IfErr, IfOk, IsTrue, OnErr, OnOk, option_map, None, Some, Ok, true, false};
+ghost use Rattle.std.specs.Prelude.{◌≡◌, ◌+◌, ◌<◌, ◌≤◌, ◌^◌, ◌&&◌, not, [], IfErr, IfOk, IsTrue, OnErr, OnOk, None, Some, Ok, true, false};
 ghost use Rattle.text_checks.specs.Tables.{named_checks};
 ghost use Rattle.dictionary.specs.Accepted.{accepted};
 ghost use Rattle.dictionary.specs.Fits.{AnswersFit, is_list as is_list_of};
@@ -10,11 +10,11 @@ ghost use Rattle.graph_session.specs.Counts.{stamp_of};
 ghost use Rattle.graph_session.specs.Refusals.{SameChecks, slot_refusals};
 ghost use Rattle.graph_session.specs.Rules.{rules, tree_of};
 ghost use Rattle.graph_session.specs.SessionView.{session_state};
-ghost use Rattle.graph_session.specs.Step.{is_change, most_steps, refusal, step};
+ghost use Rattle.graph_session.specs.Step.{is_change, most_steps, step};
 ghost use Rattle.shared_desk.specs.Desk.{Desk as Defined, absent_refusals, appends, desk_after, desk_begun, desk_refusal, desk_step, early, first_early, shown, stale as stale_at, stale_named};
-ghost use Rattle.shared_desk.specs.DeskView.{Keeps, StandsFor, kept_desk, rules_of};
+ghost use Rattle.shared_desk.specs.DeskSteps.{CanStep, HasStepped};
+ghost use Rattle.shared_desk.specs.DeskView.{StandsFor, kept_desk, rules_of};
 ghost use Rattle.shared_desk.specs.Refusals.{Refused};
-ghost use Rattle.shared_desk.specs.declared.refusal.DeskRefusal.TheVariants.{Session as OfSession};
 ghost use Rattle.script_lines.specs.declared.command.Command.TheVariants.{Redo, Remove, Undo};
 
 use crate::last_seen::LastSeen;
@@ -145,7 +145,8 @@ impl<E: FactEngine> Desk<E> {
 
     // Why the member isn't to be taken out of the collection that the path names, early.
     fn judge_remove(&self, party: u32, path: &SlotPath, member: u32) -> Option<DeskRefusal>
-        ensures { result ≡ first_early (absent_refusals (rules_of self.now) self.now.session.timeline.now (Remove path.now member))
+        ensures { result ≡ first_early (absent_refusals (rules_of self.now) self.now.session.timeline.now
+            (Remove path.now member))
             (stale_named (tree_of (rules_of self.now)) (kept_desk self.now) party (Some path.now)) None }
     {
         match self.session.slot_of(path) {
@@ -198,14 +199,10 @@ impl<E: FactEngine> Desk<E> {
         steps: &mut Steps<L>,
     ) -> Result<Reply, DeskRefusal>
         requires appends { appends command.now ≡ true }
-        requires same_checks { SameChecks (rules_of self.old) (named_checks checks.now) }
-        requires few { self.old.session.changes < 2 ^ 63 }
-        ensures ok { IfOk result (λ r. step (rules_of self.old) (session_state self.old.session) command.now ≡ Ok (r, session_state self.new.session)) }
-        ensures kept { OnOk result (Keeps self.old party command.now self.new) }
-        ensures dict { self.new.session.dict ≡ self.old.session.dict }
-        ensures refused { IfErr result (λ r. Refused r (option_map OfSession (refusal (rules_of self.old) (session_state self.old.session) command.now))) }
-        ensures unchanged { OnErr result (self.new ≡ self.old) }
-        ensures steps { steps.new ≤ steps.old + most_steps (E.most (accepted self.old.session.dict)) (rules_of self.old) (session_state self.old.session) command.now }
+        requires ready { CanStep self.old (named_checks checks.now) }
+        ensures stepped { HasStepped self.old party command.now result self.new }
+        ensures steps { steps.new ≤ steps.old + most_steps (E.most (accepted self.old.session.dict)) (rules_of self.old)
+            (session_state self.old.session) command.now }
     {
         make_room(&mut self.changers)?;
         make_room(&mut self.entries)?;
@@ -229,14 +226,10 @@ impl<E: FactEngine> Desk<E> {
         steps: &mut Steps<L>,
     ) -> Result<Reply, DeskRefusal>
         requires undo { command.now ≡ Undo }
-        requires same_checks { SameChecks (rules_of self.old) (named_checks checks.now) }
-        requires few { self.old.session.changes < 2 ^ 63 }
-        ensures ok { IfOk result (λ r. step (rules_of self.old) (session_state self.old.session) command.now ≡ Ok (r, session_state self.new.session)) }
-        ensures kept { OnOk result (Keeps self.old party command.now self.new) }
-        ensures dict { self.new.session.dict ≡ self.old.session.dict }
-        ensures refused { IfErr result (λ r. Refused r (option_map OfSession (refusal (rules_of self.old) (session_state self.old.session) command.now))) }
-        ensures unchanged { OnErr result (self.new ≡ self.old) }
-        ensures steps { steps.new ≤ steps.old + most_steps (E.most (accepted self.old.session.dict)) (rules_of self.old) (session_state self.old.session) command.now }
+        requires ready { CanStep self.old (named_checks checks.now) }
+        ensures stepped { HasStepped self.old party command.now result self.new }
+        ensures steps { steps.new ≤ steps.old + most_steps (E.most (accepted self.old.session.dict)) (rules_of self.old)
+            (session_state self.old.session) command.now }
     {
         make_room(&mut self.changers)?;
         match self.session.command(command, checks, steps) {
@@ -258,14 +251,10 @@ impl<E: FactEngine> Desk<E> {
         steps: &mut Steps<L>,
     ) -> Result<Reply, DeskRefusal>
         requires redo { command.now ≡ Redo }
-        requires same_checks { SameChecks (rules_of self.old) (named_checks checks.now) }
-        requires few { self.old.session.changes < 2 ^ 63 }
-        ensures ok { IfOk result (λ r. step (rules_of self.old) (session_state self.old.session) command.now ≡ Ok (r, session_state self.new.session)) }
-        ensures kept { OnOk result (Keeps self.old party command.now self.new) }
-        ensures dict { self.new.session.dict ≡ self.old.session.dict }
-        ensures refused { IfErr result (λ r. Refused r (option_map OfSession (refusal (rules_of self.old) (session_state self.old.session) command.now))) }
-        ensures unchanged { OnErr result (self.new ≡ self.old) }
-        ensures steps { steps.new ≤ steps.old + most_steps (E.most (accepted self.old.session.dict)) (rules_of self.old) (session_state self.old.session) command.now }
+        requires ready { CanStep self.old (named_checks checks.now) }
+        ensures stepped { HasStepped self.old party command.now result self.new }
+        ensures steps { steps.new ≤ steps.old + most_steps (E.most (accepted self.old.session.dict)) (rules_of self.old)
+            (session_state self.old.session) command.now }
     {
         make_room(&mut self.changers)?;
         match self.session.command(command, checks, steps) {
@@ -288,14 +277,10 @@ impl<E: FactEngine> Desk<E> {
         steps: &mut Steps<L>,
     ) -> Result<Reply, DeskRefusal>
         requires shown { shown command.now ≡ Some path.now }
-        requires same_checks { SameChecks (rules_of self.old) (named_checks checks.now) }
-        requires few { self.old.session.changes < 2 ^ 63 }
-        ensures ok { IfOk result (λ r. step (rules_of self.old) (session_state self.old.session) command.now ≡ Ok (r, session_state self.new.session)) }
-        ensures kept { OnOk result (Keeps self.old party command.now self.new) }
-        ensures dict { self.new.session.dict ≡ self.old.session.dict }
-        ensures refused { IfErr result (λ r. Refused r (option_map OfSession (refusal (rules_of self.old) (session_state self.old.session) command.now))) }
-        ensures unchanged { OnErr result (self.new ≡ self.old) }
-        ensures steps { steps.new ≤ steps.old + most_steps (E.most (accepted self.old.session.dict)) (rules_of self.old) (session_state self.old.session) command.now }
+        requires ready { CanStep self.old (named_checks checks.now) }
+        ensures stepped { HasStepped self.old party command.now result self.new }
+        ensures steps { steps.new ≤ steps.old + most_steps (E.most (accepted self.old.session.dict)) (rules_of self.old)
+            (session_state self.old.session) command.now }
     {
         let slot = match self.session.slot_of(path) {
             Err(refusal) => return Err(DeskRefusal::Session(refusal)),
@@ -320,14 +305,10 @@ impl<E: FactEngine> Desk<E> {
     ) -> Result<Reply, DeskRefusal>
         requires asks { is_change command.now ≡ false }
         requires shows { shown command.now ≡ None }
-        requires same_checks { SameChecks (rules_of self.old) (named_checks checks.now) }
-        requires few { self.old.session.changes < 2 ^ 63 }
-        ensures ok { IfOk result (λ r. step (rules_of self.old) (session_state self.old.session) command.now ≡ Ok (r, session_state self.new.session)) }
-        ensures kept { OnOk result (Keeps self.old party command.now self.new) }
-        ensures dict { self.new.session.dict ≡ self.old.session.dict }
-        ensures refused { IfErr result (λ r. Refused r (option_map OfSession (refusal (rules_of self.old) (session_state self.old.session) command.now))) }
-        ensures unchanged { OnErr result (self.new ≡ self.old) }
-        ensures steps { steps.new ≤ steps.old + most_steps (E.most (accepted self.old.session.dict)) (rules_of self.old) (session_state self.old.session) command.now }
+        requires ready { CanStep self.old (named_checks checks.now) }
+        ensures stepped { HasStepped self.old party command.now result self.new }
+        ensures steps { steps.new ≤ steps.old + most_steps (E.most (accepted self.old.session.dict)) (rules_of self.old)
+            (session_state self.old.session) command.now }
     {
         match self.session.command(command, checks, steps) {
             Err(refusal) => Err(DeskRefusal::Session(refusal)),
@@ -343,14 +324,10 @@ impl<E: FactEngine> Desk<E> {
         checks: &CheckTable,
         steps: &mut Steps<L>,
     ) -> Result<Reply, DeskRefusal>
-        requires same_checks { SameChecks (rules_of self.old) (named_checks checks.now) }
-        requires few { self.old.session.changes < 2 ^ 63 }
-        ensures ok { IfOk result (λ r. step (rules_of self.old) (session_state self.old.session) command.now ≡ Ok (r, session_state self.new.session)) }
-        ensures kept { OnOk result (Keeps self.old party command.now self.new) }
-        ensures dict { self.new.session.dict ≡ self.old.session.dict }
-        ensures refused { IfErr result (λ r. Refused r (option_map OfSession (refusal (rules_of self.old) (session_state self.old.session) command.now))) }
-        ensures unchanged { OnErr result (self.new ≡ self.old) }
-        ensures steps { steps.new ≤ steps.old + most_steps (E.most (accepted self.old.session.dict)) (rules_of self.old) (session_state self.old.session) command.now }
+        requires ready { CanStep self.old (named_checks checks.now) }
+        ensures stepped { HasStepped self.old party command.now result self.new }
+        ensures steps { steps.new ≤ steps.old + most_steps (E.most (accepted self.old.session.dict)) (rules_of self.old)
+            (session_state self.old.session) command.now }
     {
         match command {
             Command::Set(..)
@@ -385,13 +362,19 @@ impl<E: FactEngine> Desk<E> {
     ) -> Result<Reply, DeskRefusal>
         requires same_checks { SameChecks (rules_of self.old) (named_checks checks.now) }
         requires few { self.old.session.changes < 2 ^ 63 }
-        ensures reply { (d : Defined) → StandsFor self.old d → IfOk result (λ r. desk_step (rules_of self.old) d party command.now ≡ Ok (r, desk_after (rules_of self.old) d party command.now)) }
-        ensures after { (d : Defined) → StandsFor self.old d → OnOk result (StandsFor self.new (desk_after (rules_of self.old) d party command.now)) }
-        ensures refused { (d : Defined) → StandsFor self.old d → IfErr result (λ r. Refused r (desk_refusal (rules_of self.old) d party command.now)) }
+        ensures reply { (d : Defined) → StandsFor self.old d
+            → IfOk result (λ r. desk_step (rules_of self.old) d party command.now
+            ≡ Ok (r, desk_after (rules_of self.old) d party command.now)) }
+        ensures after { (d : Defined) → StandsFor self.old d
+            → OnOk result (StandsFor self.new (desk_after (rules_of self.old) d party command.now)) }
+        ensures refused { (d : Defined) → StandsFor self.old d
+            → IfErr result (λ r. Refused r (desk_refusal (rules_of self.old) d party command.now)) }
         ensures unchanged { OnErr result (self.new ≡ self.old) }
-        ensures session { IfOk result (λ r. step (rules_of self.old) (session_state self.old.session) command.now ≡ Ok (r, session_state self.new.session)) }
+        ensures session { IfOk result (λ r. step (rules_of self.old) (session_state self.old.session) command.now
+            ≡ Ok (r, session_state self.new.session)) }
         ensures dict { self.new.session.dict ≡ self.old.session.dict }
-        ensures steps { steps.new ≤ steps.old + most_steps (E.most (accepted self.old.session.dict)) (rules_of self.old) (session_state self.old.session) command.now }
+        ensures steps { steps.new ≤ steps.old + most_steps (E.most (accepted self.old.session.dict)) (rules_of self.old)
+            (session_state self.old.session) command.now }
     {
         match self.judge(party, command) {
             Some(refusal) => Err(refusal),
@@ -402,7 +385,8 @@ impl<E: FactEngine> Desk<E> {
 
 // Whether the fact is a collection that hasn't the member.
 fn lacks_member(dict: &Dictionary, answers: &Answers, fact: u32, member: u32) -> bool
-    ensures { result ≡ (is_list_of (tree_of (rules dict.now)) fact && not (is_member (answered answers.now) fact member)) }
+    ensures { result ≡ (is_list_of (tree_of (rules dict.now)) fact && not
+        (is_member (answered answers.now) fact member)) }
 {
     if !is_list(dict, fact) {
         return false;

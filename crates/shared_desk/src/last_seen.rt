@@ -45,7 +45,8 @@ impl LastSeen {
 
     /// Notes a look.
     pub fn put(&mut self, party: u32, slot: Slot, number: u64) -> Result<(), NoMemory>
-        ensures put { OnOk result ((p : ℕ) (s : OneSlot) → look_in self.new p s ≡ (if same_key (key_of party slot) (key_of p s) then number else look_in self.old p s)) }
+        ensures put { OnOk result ((p : ℕ) (s : OneSlot) → look_in self.new p s
+            ≡ (if same_key (key_of party slot) (key_of p s) then number else look_in self.old p s)) }
         ensures unchanged { OnErr result (self.new ≡ self.old) }
     {
         match self.kept.insert((party, (slot.fact, slot.member)), number) {

@@ -140,7 +140,8 @@ fn append(
     options: Vec<Name>,
 ) -> Result<(), ListFault>
     requires { among name (names_of (lists_of lists.old.entries)) ≡ false }
-    ensures appended { OnOk result (lists_of lists.new.entries ≡ lists_of lists.old.entries ++ record { name = name; options = options.items } ∷ []) }
+    ensures appended { OnOk result (lists_of lists.new.entries
+        ≡ lists_of lists.old.entries ++ record { name = name; options = options.items } ∷ []) }
     ensures kept { OnErr result (lists_of lists.new.entries ≡ lists_of lists.old.entries) }
     ensures fault { IfErr result (λ fault. fault ≡ NoMemory) }
 {

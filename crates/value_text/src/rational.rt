@@ -11,7 +11,8 @@ use fact_values::Rational;
 
 // The texts before and behind the first slash.
 fn cut_at_slash(text: &str) -> Option<(&str, &str)>
-    ensures { MatchOption result (at_slash text.now ≡ None) (λ found. at_slash text.now ≡ Some (found.0.now, found.1.now)) }
+    ensures { MatchOption result (at_slash text.now ≡ None) (λ found. at_slash text.now
+        ≡ Some (found.0.now, found.1.now)) }
 {
     text.split_once('/')
 }

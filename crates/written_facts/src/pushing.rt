@@ -35,7 +35,8 @@ pub fn push_rows(
     source: &mut DictSource,
 ) -> Result<(), NoMemory>
     requires { IsTrue (takes_all (dictionary_view source.old) (rows_view (figures_view figures.now) rows.now)) }
-    ensures { OnOk result (dictionary_view source.new ≡ with_facts (dictionary_view source.old) (rows_view (figures_view figures.now) rows.now)) }
+    ensures { OnOk result (dictionary_view source.new ≡ with_facts (dictionary_view source.old)
+        (rows_view (figures_view figures.now) rows.now)) }
 {
     for row in rows {
         let fact = fact_of(alloc, figures, row)?;

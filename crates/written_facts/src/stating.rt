@@ -81,7 +81,8 @@ fn start(alloc: Global, path: &str, kind: &Kind<'_>) -> Result<Head, NoMemory>
 }
 
 fn fact(head: Head, limits: Vec<LimitText>, main: Option<Expr>) -> FactSource
-    ensures { fact_view result ≡ fact_with (string_bytes head.path_text) head.path (stated_view head.stated) (map limit_view limits.items) (option_map view main) }
+    ensures { fact_view result ≡ fact_with (string_bytes head.path_text) head.path (stated_view head.stated)
+        (map limit_view limits.items) (option_map view main) }
 {
     FactSource {
         path_text: head.path_text,
@@ -116,7 +117,8 @@ fn derived(
     form: &Form<'_>,
 ) -> Result<FactSource, NoMemory>
     requires { IsTrue (is_named (kind_view kind.now)) }
-    ensures { IfOk result (λ f. fact_view f ≡ follows path.now (kind_view kind.now) (form_view (figures_view figures.now) form.now)) }
+    ensures { IfOk result (λ f. fact_view f ≡ follows path.now (kind_view kind.now)
+        (form_view (figures_view figures.now) form.now)) }
 {
     let main = build(alloc, figures, form)?;
     match start(alloc, path, kind) {

@@ -10,7 +10,7 @@ from ..errors import Refused
 from ..faults.texts import text_of_refusal
 from ..page import Page
 from ..session import Session
-from ._slots import members, slots, values
+from ._slots import slots, values
 
 KINDS = {
     "Boolean": "yes or no",
@@ -96,7 +96,7 @@ class Interview:
     def question(self, slot: str) -> Question:
         """The question for a slot."""
         fact = self.session.dictionary.fact_at(slot)
-        answers = ("yes", "no") if fact.type.name == "Boolean" else values(self.session, fact)
+        answers = ("yes", "no") if fact.type.name == "Boolean" else values(self.session, fact.type)
         kinds = [", ".join(answers) if fact.type.name == "Enum" else KINDS[fact.type.name]]
         kinds += [words_of_limit(limit) for limit in fact.limits]
         stands_in = self.shown(slot)
@@ -110,7 +110,7 @@ class Interview:
         if len(parts) != 4:
             return self.page.label(slot)
         collection, number = f"/{parts[1]}", int(parts[2][1:])
-        place = members(self.session, collection).index(number) + 1
+        place = self.session.members(collection).index(number) + 1
         return f"{self.page.member(collection)} {place}: {self.page.label(slot)}"
 
     def answer(self, slot: str, text: str) -> str | None:
@@ -156,5 +156,5 @@ class Interview:
         """What is said of an answer that is refused."""
         if refused.place is not None:
             return f"Please answer with {words_of_limit(fact.limits[refused.place - 1])}."
-        kind = ", ".join(values(self.session, fact)) if fact.type.name == "Enum" else KINDS.get(fact.type.name, "")
+        kind = ", ".join(values(self.session, fact.type)) if fact.type.name == "Enum" else KINDS.get(fact.type.name, "")
         return f"Please answer with {kind}." if refused.number == 6 and kind else text_of_refusal(refused.number).says

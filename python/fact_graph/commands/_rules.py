@@ -2,7 +2,6 @@
 
 from __future__ import annotations
 
-import re
 import sys
 from collections.abc import Callable, Sequence
 from pathlib import Path
@@ -11,6 +10,7 @@ from typing import TYPE_CHECKING, Any, NamedTuple, TypeVar
 import click
 from click.shell_completion import CompletionItem
 
+from ..built_in import is_built_in, text_of
 from ..errors import DictionaryRefused, UnknownDictionary
 from ..faults import Examined, Source
 from ..session import Session
@@ -21,7 +21,6 @@ from ._faults import misread, refused
 if TYPE_CHECKING:
     from ..rules import Rules as WrittenRules
 
-BUILT_IN = re.compile(r"(year|income) ([0-9]{4})")
 Function = TypeVar("Function", bound=Callable[..., Any])
 
 
@@ -61,11 +60,10 @@ def opened(words: str) -> Rules:
 
 def text_named(words: str) -> bytes:
     """The text of the rules that words name."""
-    if not BUILT_IN.fullmatch(words):
+    if not is_built_in(words):
         return read(words)
     try:
-        with Session.built_in(words) as session:
-            return session.source
+        return text_of(words)
     except UnknownDictionary as unknown:
         raise Failed(Status.USAGE, f"no rules {words} come with fact-graph, which has year 2023, year 2024 and income 2023") from unknown
 
@@ -110,7 +108,7 @@ def joined(words: Sequence[str]) -> list[str]:
     """
     whole: list[str] = []
     for word in words:
-        if whole and BUILT_IN.fullmatch(f"{whole[-1]} {word}"):
+        if whole and is_built_in(f"{whole[-1]} {word}"):
             whole[-1] += f" {word}"
         else:
             whole.append(word)

@@ -4,28 +4,18 @@ from __future__ import annotations
 
 from collections.abc import Iterator
 
-from ..dictionary import Fact
+from ..dictionary import FactType, ListedFact, path_of
 from ..session import Session
 
 
-def slots(session: Session) -> Iterator[tuple[str, Fact]]:
+def slots(session: Session) -> Iterator[tuple[str, ListedFact]]:
     """The slots that stand, each with its fact, in the order of the dictionary."""
-    for path, fact in session.dictionary.facts.items():
-        if fact.collection is None:
-            yield path, fact
-        else:
-            for member in members(session, fact.collection):
-                yield path.replace("*", f"#{member}", 1), fact
+    facts = session.facts()
+    return ((slot, facts[path_of(slot)]) for slot in session)
 
 
-def members(session: Session, collection: str) -> tuple[int, ...]:
-    """The numbers of a collection's members; none where it isn't open."""
-    value = session.get(collection).value
-    return value if isinstance(value, tuple) else ()
-
-
-def values(session: Session, fact: Fact) -> tuple[str, ...]:
-    """The texts that a fact can be set to, where they are few."""
-    if fact.type.name == "Boolean":
+def values(session: Session, of: FactType) -> tuple[str, ...]:
+    """The texts that a fact of a type can be set to, where they are few."""
+    if of.name == "Boolean":
         return ("true", "false")
-    return session.dictionary.options[fact.type.of] if fact.type.name == "Enum" and fact.type.of else ()
+    return session.dictionary.options[of.of] if of.name == "Enum" and of.of else ()

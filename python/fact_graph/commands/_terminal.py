@@ -15,11 +15,11 @@ from prompt_toolkit.completion import CompleteEvent, Completer, Completion, Word
 from prompt_toolkit.document import Document
 from prompt_toolkit.history import FileHistory, History, InMemoryHistory
 
-from ..dictionary import Fact
+from ..dictionary import ListedFact
 from ..faults.texts import text_of_refusal
 from ..session import Session
 from ._scripts import coloured, is_quit
-from ._slots import members, slots, values
+from ._slots import slots, values
 
 VERBS = {
     "set": "answer a writable fact: set SLOT VALUE",
@@ -78,15 +78,20 @@ class ScriptCompleter(Completer):
         elif before[0] in ("watch", "unwatch") and len(before) == 1:
             yield from ((name, "") for name in WATCHES)
         elif len(before) == (2 if before[0] in ("watch", "unwatch") else 1):
-            yield from ((slot, _meta(fact)) for slot, fact in slots(self.session) if takes(before[0], fact))
+            yield from ((slot, self._meta(fact)) for slot, fact in slots(self.session) if takes(before[0], fact))
         elif len(before) == 2 and before[0] in ("set", "override"):
             fact = next((fact for slot, fact in slots(self.session) if slot == before[1]), None)
-            yield from ((value, "") for value in (values(self.session, fact) if fact else ()))
-        elif len(before) == 2 and before[0] == "remove" and before[1] in self.session.dictionary.facts:
-            yield from ((f"#{member}", "") for member in members(self.session, before[1]))
+            yield from ((value, "") for value in (values(self.session, fact.type) if fact else ()))
+        elif len(before) == 2 and before[0] == "remove" and before[1] in self.session:
+            yield from ((f"#{member}", "") for member in self.session.members(before[1]))
+
+    def _meta(self, fact: ListedFact) -> str:
+        of = f" {fact.type.of}" if fact.type.of else ""
+        description = self.session.dictionary.facts[fact.path].description
+        return f"{fact.type.name}{of}{f': {description}' if description else ''}"
 
 
-def takes(verb: str, fact: Fact) -> bool:
+def takes(verb: str, fact: ListedFact) -> bool:
     """Whether a command may be for a fact."""
     is_list = fact.is_writable and fact.type.name == "Collection"
     match verb:
@@ -97,11 +102,6 @@ def takes(verb: str, fact: Fact) -> bool:
         case "override" | "release":
             return not fact.is_writable and fact.type.name not in ("Collection", "Item")
     return verb in VERBS and verb not in ("undo", "redo", "touched", "quit")
-
-
-def _meta(fact: Fact) -> str:
-    of = f" {fact.type.of}" if fact.type.of else ""
-    return f"{fact.type.name}{of}{f': {fact.description}' if fact.description else ''}"
 
 
 def converse(session: Session) -> None:

@@ -7,13 +7,20 @@ import json
 import re
 import shutil
 from pathlib import Path
+from typing import TYPE_CHECKING
 
 import click
 
 from ..status import Status
 from ._failures import SERVICE_FROM, Failed
+from ._rules import Rules, rules_argument
 
-ENGINE = Path(__file__).resolve().parents[3] / "javascript"
+if TYPE_CHECKING:
+    from fact_graph_service.form import Form
+
+# The JavaScript package: beside the modules where it was packed with them, else that of the repository.
+PACKED, IN_REPOSITORY = (Path(__file__).resolve().parents[up] / "javascript" for up in (1, 3))
+ENGINE = PACKED if PACKED.is_dir() else IN_REPOSITORY
 MODULE = "fact_graph.wasm"
 ENGINE_FROM = "in the repository javascript/wasm/build_wasm.py builds it, and --engine names the folder javascript there"
 FOLDER = click.Path(file_okay=False, path_type=Path)
@@ -27,11 +34,11 @@ TOKEN = re.compile(r'<meta name="token" content="[^"]*">')
 
 
 @click.command()
-@click.argument("file", type=click.Path(exists=True, dir_okay=False, path_type=Path))
+@rules_argument
 @click.option("--out", required=True, metavar="DIR", type=FOLDER, help="The folder that is written; it isn't there, or is empty.")
 @click.option("--engine", metavar="DIR", default=ENGINE, type=FOLDER, help="The JavaScript package, with its built module.")
-def command(file: Path, out: Path, engine: Path) -> None:
-    """Writes the interview over the dictionary in FILE as a folder of static files.
+def command(rules: Rules, out: Path, engine: Path) -> None:
+    """Writes the interview over the rules in FILE as a folder of static files.
 
     Any host serves it, and the engine runs in the visitor's browser: the answers stay there, in its storage, until the visitor erases
     them. They are sent nowhere.
@@ -44,12 +51,21 @@ def command(file: Path, out: Path, engine: Path) -> None:
         raise Failed(Status.NOT_INSTALLED, f"{engine / 'src'} has no {MODULE}: {ENGINE_FROM}")
     if out.exists() and any(out.iterdir()):
         raise Failed(Status.USAGE, f"{out} isn't empty")
+    rules.session().close()
     try:
-        form = service.Form.open(file)
+        form = service.Form(rules.text, service.pages_of(rules.name))
     except service.FormWrong as wrong:
         raise Failed(Status.USAGE, str(wrong)) from wrong
-    page = Path(service.__file__).with_name("page")
     out.mkdir(parents=True, exist_ok=True)
+    try:
+        write(out, form, Path(service.__file__).with_name("page"), engine)
+    except BaseException:
+        empty(out)
+        raise
+
+
+def write(out: Path, form: Form, page: Path, engine: Path) -> None:
+    """Writes the folder of a form's page, of the parts of the service's page and of the engine."""
     shutil.copytree(page, out / "page", ignore=shutil.ignore_patterns("index.html", "http_engine.js", "main.js"))
     shutil.copy(engine / "page" / "browser_engine.js", out / "page")
     shutil.copytree(engine / "src", out / "engine")
@@ -58,6 +74,15 @@ def command(file: Path, out: Path, engine: Path) -> None:
     out.joinpath("dictionary.json").write_bytes(form.text)
     described = {"id": hashlib.sha256(form.text).hexdigest()[:16], **form.described()}
     out.joinpath("form.json").write_text(json.dumps(described, ensure_ascii=False), encoding="utf-8")
+
+
+def empty(folder: Path) -> None:
+    """Takes all out of a folder."""
+    for part in folder.iterdir():
+        if part.is_dir():
+            shutil.rmtree(part)
+        else:
+            part.unlink()
 
 
 def replaced(text: str, old: str, new: str) -> str:

@@ -9,10 +9,11 @@ import click
 
 from ..status import Status
 from ._failures import SERVICE_FROM, Failed
+from ._rules import Rules, rules_argument
 
 
 @click.command()
-@click.argument("file", type=click.Path(exists=True, dir_okay=False, path_type=Path))
+@rules_argument
 @click.option(
     "--store",
     metavar="PLACE",
@@ -33,8 +34,8 @@ from ._failures import SERVICE_FROM, Failed
 @click.option("--sessions", metavar="N", help="How many visitors' answers the store takes.  [default: 100000]")
 @click.option("--cache", metavar="N", help="How many sessions a worker keeps in memory.  [default: 500]")
 @click.option("--rate", metavar="N", help="How many requests a second one address may make.  [default: 20]")
-def command(file: Path, host: str, port: int, workers: int, proxy: str, store: str | None, origins: tuple[str, ...], **numbers: str | None) -> None:
-    """Serves the interview over the dictionary in FILE as a page.
+def command(rules: Rules, host: str, port: int, workers: int, proxy: str, store: str | None, origins: tuple[str, ...], **numbers: str | None) -> None:
+    """Serves the interview over the rules in FILE as a page.
 
     Answers are encrypted by the key in FACT_GRAPH_KEY; where it isn't set, and the store is a SQLite file, by that of a file
     beside the store, which is made once.
@@ -42,19 +43,21 @@ def command(file: Path, host: str, port: int, workers: int, proxy: str, store: s
     try:
         # pylint: disable=import-outside-toplevel # this command alone needs them
         import uvicorn
-        from fact_graph_service.form import Form, FormWrong
-        from fact_graph_service.settings import Settings, SettingsWrong
+        from fact_graph_service import form, settings
     except ModuleNotFoundError as missing:
         raise Failed(Status.NOT_INSTALLED, f"serve needs {missing.name}: {SERVICE_FROM}") from missing
-    said = {"dictionary": str(file), "store": store or os.environ.get("FACT_GRAPH_STORE") or f"sqlite:{file.with_suffix('.sqlite')}"}
+    if rules.name == "-":
+        raise Failed(Status.USAGE, "each worker reads the rules, so they stand in a file")
+    rules.session().close()
+    said = {"dictionary": rules.name, "store": store or os.environ.get("FACT_GRAPH_STORE") or f"sqlite:{Path(rules.name).with_suffix('.sqlite')}"}
     said |= {name: number for name, number in numbers.items() if number is not None}
     said |= {"origins": " ".join(origins) or os.environ.get("FACT_GRAPH_ORIGINS") or f"http://127.0.0.1:{port} http://localhost:{port}"}
     try:
-        Form.open(file)
-        settings = Settings.of_environment({**os.environ, **{f"FACT_GRAPH_{name.upper()}": value for name, value in said.items()}})
-    except (FormWrong, SettingsWrong) as wrong:
+        form.Form(rules.text, form.pages_of(rules.name))
+        known = settings.Settings.of_environment({**os.environ, **{f"FACT_GRAPH_{name.upper()}": value for name, value in said.items()}})
+    except (form.FormWrong, settings.SettingsWrong) as wrong:
         raise Failed(Status.USAGE, str(wrong)) from wrong
-    os.environ.update(settings.environment())
+    os.environ.update(known.environment())
     uvicorn.run(
         "fact_graph_service.app:application",
         factory=True,

@@ -71,6 +71,36 @@ def test_check_finds_what_the_engine_takes_and_no_maker_means(tmp_path: Path, ca
     assert f'{page}:1:44: there is no fact "/bb"; `/b` is like it' in shown
 
 
+PAGE_OF_BILL = {
+    "introduction": ["Two figures."],
+    "groups": {"home": ["/tenure", "/people"], "money": ["/bill"]},
+    "headings": {"money": "Money"},
+    "purposes": {"/caseNumber": "tel"},
+}
+MISSTATED = [
+    ({"introduction": "Two"}, "an introduction is a list of texts, one for each paragraph"),
+    ({"groups": ["/bill"]}, "the groups are an object of lists of paths by group"),
+    ({"groups": {"home": "/bill"}}, "a group is a list of paths"),
+    ({"groups": {"home": ["/bil"]}}, 'there is no fact "/bil"; `/bill` is like it'),
+    ({"groups": {"home": ["/help"]}}, '"/help" is worked out, and a group is of questions'),
+    ({"groups": {"home": ["/people/*/born"]}}, '"/people/*/born" is asked with the other questions on a member of /people, so it stands in no group'),
+    ({"groups": {"home": ["/bill"], "money": ["/bill"]}}, '"/bill" stands in a group before'),
+    ({"groups": {"home": ["/bill"]}, "headings": {"hom": "Home"}}, 'there is no group "hom"; `home` is like it'),
+    ({"purposes": {"/caseNumber": "bday"}}, "the purpose of a Text is `name`,"),
+    ({"purposes": {"/bill": "name"}}, '"/bill" has a type without purposes'),
+]
+
+
+@pytest.mark.parametrize(("stated", "reason"), [(PAGE_OF_BILL, ""), *MISSTATED])
+def test_check_tells_what_is_wrong_with_a_page(stated: dict[str, object], reason: str, tmp_path: Path, capsys: Shown) -> None:
+    rules = tmp_path / "rules.json"
+    shutil.copy(SCREENER, rules)
+    rules.with_suffix(".page").write_text(json.dumps(stated))
+    assert main(["check", str(rules)]) == (Status.FINDINGS if reason else Status.DONE)
+    shown = capsys.readouterr().out
+    assert reason in shown and ("rules.page" in shown) == bool(reason)
+
+
 def test_run_has_the_replies_of_the_program(capsys: Shown) -> None:
     assert main(["run", SCREENER, SCRIPT]) == Status.DONE
     assert capsys.readouterr().out == (EXAMPLES / "screener.replies").read_text()

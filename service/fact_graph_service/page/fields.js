@@ -55,6 +55,14 @@ class Field {
   }
 
   /**
+   * The elements that say whether an answer is needed, and whether it is wrong.
+   * @returns {HTMLElement[]}
+   */
+  stating() {
+    return this.controls;
+  }
+
+  /**
    * The words of an example.
    * @returns {string}
    */
@@ -74,7 +82,7 @@ class Field {
     const standIn = kind === "placeholder" && this.words.text("standIn", { value: this.words.valueText(this.path, text) });
     const lines = [help, this.example(), standIn, source && this.words.text("source", { source })].filter(Boolean);
     this.hint.replaceChildren(...lines.map((line) => make("p", {}, String(line))));
-    for (const control of this.controls) control.setAttribute("aria-required", String(this.isRequired));
+    for (const element of this.stating()) element.setAttribute("aria-required", String(this.isRequired));
     this.answer = kind === "complete" ? text : "";
     if (isKept) return;
     this.fill(this.answer);
@@ -96,7 +104,7 @@ class Field {
     this.error = text;
     this.problem.replaceChildren(...(text ? [heard(`${this.words.text("error")} `), text] : []));
     this.element.classList.toggle("wrong", text !== "");
-    for (const control of this.controls) control.setAttribute("aria-invalid", String(text !== ""));
+    for (const element of this.stating()) element.setAttribute("aria-invalid", String(text !== ""));
     this.element.dispatchEvent(new Event("said", { bubbles: true }));
   }
 
@@ -154,7 +162,7 @@ class Line extends Field {
       type: "text",
       class: isNumber ? "input short" : "input",
       inputmode: this.fact.type === "Int" ? "numeric" : this.fact.type === "Dollar" ? "decimal" : undefined,
-      autocomplete: "off",
+      autocomplete: this.fact.purpose || "off",
       change: () => this.leave(),
     });
     this.controls = [this.input];
@@ -195,13 +203,14 @@ class Day extends Field {
     super(question, words, put);
     const part = (/** @type {"month" | "day" | "year"} */ name, /** @type {number} */ length) => {
       const id = `${this.id}-${name}`;
-      const input = make("input", { id, type: "text", inputmode: "numeric", maxlength: length, class: `input ${name}`, autocomplete: "off" });
+      const autocomplete = this.fact.purpose ? `${this.fact.purpose}-${name}` : "off";
+      const input = make("input", { id, type: "text", inputmode: "numeric", maxlength: length, class: `input ${name}`, autocomplete });
       return { input, box: make("div", {}, make("label", { for: id, class: "small" }, words.text(name)), input) };
     };
     const parts = [part("month", 2), part("day", 2), part("year", 4)];
     this.inputs = parts.map((it) => it.input);
     this.controls = this.inputs;
-    this.seen = "";
+    this.seen = this.written().join(" ");
     this.build("fieldset", make("legend", { class: "label" }, ...this.named()), [make("div", { class: "day-parts" }, ...parts.map((it) => it.box))]);
     this.element.addEventListener("focusout", (event) => {
       if (!this.element.contains(/** @type {Node | null} */ (event.relatedTarget))) this.leave();
@@ -253,7 +262,14 @@ class Choice extends Field {
     this.inputs = choices.map((it) => it.input);
     this.controls = this.inputs;
     this.clear = button(words.text("clear"), () => this.cleared(), { class: "plain", about: words.label(this.path) });
-    this.build("fieldset", make("legend", { class: "label" }, ...this.named()), [make("div", { class: "choices" }, ...choices.map((it) => it.box), this.clear)]);
+    const legend = make("legend", { class: "label", id: `${this.id}-legend` }, ...this.named());
+    this.build("fieldset", legend, [make("div", { class: "choices" }, ...choices.map((it) => it.box), this.clear)]);
+    this.element.setAttribute("role", "radiogroup");
+    this.element.setAttribute("aria-labelledby", legend.id);
+  }
+
+  stating() {
+    return [this.element];
   }
 
   cleared() {
@@ -310,6 +326,10 @@ class Members extends Field {
     this.element.classList.add("collection");
   }
 
+  stating() {
+    return [];
+  }
+
   describe() {
     this.element.setAttribute("aria-describedby", `${this.hint.id} ${this.problem.id}`);
   }
@@ -337,10 +357,6 @@ class Members extends Field {
   show(question, isKept) {
     super.show(question, isKept);
     this.none.hidden = question.result.kind === "complete";
-    for (const control of this.controls) {
-      control.removeAttribute("aria-required");
-      control.removeAttribute("aria-invalid");
-    }
     const members = this.words.membersOf(this.slot);
     for (const member of [...this.boxes.keys()]) {
       if (!members.includes(member)) this.boxes.delete(member);

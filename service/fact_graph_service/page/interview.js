@@ -17,6 +17,8 @@ import { Words } from "./words.js";
 /** How long a call may take before the page says that it is under way. */
 const QUIET_MILLISECONDS = 300;
 const LARGEST_TEXT = 4_000_000;
+/** Where the results stand beside the questions, and not above them: the same words are in style.css. */
+const WIDE = "(min-width: 60rem)";
 
 export class Interview {
   /** @param {import("./session.js").Engine} engine @param {HTMLElement} place */
@@ -36,6 +38,8 @@ export class Interview {
       if (this.outbox.waiting.length > 0) event.preventDefault();
     });
     this.parts = this.made();
+    this.isWide = matchMedia(WIDE);
+    this.isWide.addEventListener("change", () => this.order());
     this.build();
   }
 
@@ -71,12 +75,28 @@ export class Interview {
     document.title = title;
     document.documentElement.lang = words.language;
     this.parts.main.replaceChildren(this.parts.results.element, this.parts.questions.element, this.parts.reviewing.element);
+    this.order();
     this.place.replaceChildren(
       make("a", { class: "skip", href: "#asked" }, words.text("skip")),
-      make("header", {}, make("div", { class: "head" }, make("h1", {}, title), this.languageButton()), this.tools(), this.parts.status, this.parts.banner),
+      make("header", {}, make("div", { class: "head" }, make("h1", {}, title), this.languageButton()), this.introduction(), this.tools(), this.parts.status, this.parts.banner),
       this.parts.main,
       this.dialogs.element,
     );
+  }
+
+  /** Puts the results where they are seen, so that the keyboard comes to them in that order. */
+  order() {
+    const { main, results } = this.parts;
+    if (results.element.parentElement !== main) return;
+    if (this.isWide.matches) main.append(results.element);
+    else main.prepend(results.element);
+  }
+
+  /** What the maker says first. What stands behind the first paragraph is folded. */
+  introduction() {
+    const paragraphs = this.words.makers.introduction.map((/** @type {string} */ text) => make("p", {}, text));
+    const more = paragraphs.splice(1);
+    return make("div", { class: "introduction" }, ...paragraphs, more.length > 0 && make("details", {}, make("summary", {}, this.words.text("more")), ...more));
   }
 
   languageButton() {

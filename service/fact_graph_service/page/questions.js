@@ -2,7 +2,7 @@
 
 import { arrange, button, make } from "./elements.js";
 import { Members, fieldOf } from "./fields.js";
-import { stepsOf } from "./screen.js";
+import { groupsOf, stepsOf } from "./screen.js";
 
 /** @typedef {import("./screen.js").Question} Question */
 /** @typedef {import("./screen.js").Screen} Screen */
@@ -21,13 +21,18 @@ export class Questions {
     this.isOne = words.form.layout === "one";
     /** @type {Map<string, import("./fields.js").Field>} */
     this.fields = new Map();
+    /**
+     * The boxes of the groups, by their names.
+     * @type {Map<string, HTMLElement>}
+     */
+    this.groups = new Map();
     /** @type {Question[]} */
     this.steps = [];
     /** @type {string | null} */
     this.current = null;
     this.heading = make("h2", { tabindex: "-1", id: "asked" }, words.text("questions"));
     this.progress = make("p", { class: "progress", role: "status" });
-    this.summary = make("div", { class: "summary", tabindex: "-1", "aria-labelledby": "summary" });
+    this.summary = make("div", { class: "summary", tabindex: "-1", role: "group" });
     this.summary.hidden = true;
     this.list = make("div", { class: "questions" });
     this.at = make("p", { class: "step" });
@@ -75,10 +80,13 @@ export class Questions {
     return found;
   }
 
-  /** All on one screen, those of a member in the member's box. */
+  /** All on one screen, by their groups, those of a member in the member's box. */
   showAll() {
     const elements = (/** @type {Question[]} */ questions) => questions.map((it) => this.field(it).element);
-    arrange(this.list, elements(this.steps.filter((it) => it.member === null)));
+    arrange(this.list, groupsOf(this.words.form, this.steps).flatMap(({ group, steps }) => {
+      const own = elements(steps.filter((it) => it.member === null));
+      return group === null ? own : [this.group(group, own)];
+    }));
     for (const collection of this.fields.values()) {
       if (!(collection instanceof Members)) continue;
       arrange(collection.place, [...collection.boxes.values()].map((box) => box.element));
@@ -86,6 +94,18 @@ export class Questions {
         arrange(box.fields, elements(this.steps.filter((it) => it.member === member && it.slot.startsWith(`${collection.slot}/#`))));
       }
     }
+  }
+
+  /**
+   * The box of a group, under its heading.
+   * @param {string} name @param {HTMLElement[]} elements
+   */
+  group(name, elements) {
+    const box = this.groups.get(name) ?? make("div", { class: "group", "data-group": name });
+    this.groups.set(name, box);
+    const [heading = make("h3", {}, this.words.heading(name))] = box.children;
+    arrange(box, [heading, ...elements]);
+    return box;
   }
 
   /** The one at which the person is. */
@@ -100,7 +120,9 @@ export class Questions {
     if (field instanceof Members) arrange(field.place, [...field.boxes.values()].map((box) => box.element));
     const home = this.words.form.facts[step.path].collection;
     this.member.textContent = home && step.member ? this.words.memberName(home, step.member) : "";
-    arrange(this.list, home ? [this.member, field.element] : [field.element]);
+    const own = home ? [this.member, field.element] : [field.element];
+    const [{ group }] = groupsOf(this.words.form, [step]);
+    arrange(this.list, group === null ? own : [this.group(group, own)]);
   }
 
   // ---- what is wrong
@@ -123,6 +145,7 @@ export class Questions {
   showSummary() {
     const wrong = this.wrong();
     this.summary.hidden = wrong.length === 0;
+    this.summary.removeAttribute("aria-labelledby");
     if (wrong.length === 0) return this.summary.replaceChildren();
     const head = wrong.length === 1 ? this.words.text("errorsHead") : this.words.text("errorsHeadMany", { count: wrong.length });
     const link = (/** @type {import("./fields.js").Field} */ field) => {
@@ -131,6 +154,7 @@ export class Questions {
       return make("li", {}, go);
     };
     this.summary.replaceChildren(make("h3", { id: "summary" }, head), make("ul", {}, ...wrong.map(link)));
+    this.summary.setAttribute("aria-labelledby", "summary");
   }
 
   /** Shows what is wrong, if anything is, and goes there. */

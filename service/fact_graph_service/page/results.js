@@ -68,10 +68,11 @@ class Result {
     this.value = make("span", { class: "value" });
     this.badge = make("span", { class: "badge" });
     this.reasons = new Reasons(figure.slot, all);
-    const { help } = all.words.about(figure.path);
+    const { help, source } = all.words.about(figure.path);
+    const hints = [help, source && all.words.text("belongs", { source })].filter(Boolean).map((line) => make("p", { class: "hint" }, line));
     this.element = make(
       "div", { class: "result", "data-slot": figure.slot },
-      make("dt", {}, this.label), make("dd", {}, this.value, " ", this.badge, help && make("p", { class: "hint" }, help), this.reasons.element),
+      make("dt", {}, this.label), make("dd", {}, this.value, " ", this.badge, ...hints, this.reasons.element),
     );
     this.element.addEventListener("animationend", () => this.element.classList.remove("moved"));
     this.was = "";

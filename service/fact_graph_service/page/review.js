@@ -1,7 +1,7 @@
 // All answers, to be read through before the end.
 
 import { button, make } from "./elements.js";
-import { stepsOf } from "./screen.js";
+import { groupsOf, stepsOf } from "./screen.js";
 
 export class Review {
   /** @param {import("./words.js").Words} words @param {(slot: string | null) => unknown} change goes to a question */
@@ -9,7 +9,7 @@ export class Review {
     this.words = words;
     this.change = change;
     this.heading = make("h2", { id: "reviewed", tabindex: "-1" }, words.text("reviewHead"));
-    this.list = make("dl", { class: "answers" });
+    this.list = make("div", { class: "answers" });
     this.progress = make("p", { class: "progress" });
     this.element = make(
       "section", { class: "panel review", "aria-labelledby": "reviewed" },
@@ -22,7 +22,10 @@ export class Review {
   /** @param {import("./screen.js").Screen} screen @param {string} progress */
   show(screen, progress) {
     this.progress.textContent = progress;
-    this.list.replaceChildren(...stepsOf(screen).map((question) => this.row(question)));
+    this.list.replaceChildren(...groupsOf(this.words.form, stepsOf(screen)).flatMap(({ group, steps }) => [
+      ...(group === null ? [] : [make("h3", {}, this.words.heading(group))]),
+      make("dl", {}, ...steps.map((question) => this.row(question))),
+    ]));
   }
 
   /** @param {import("./screen.js").Question} question */

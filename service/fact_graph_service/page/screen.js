@@ -2,9 +2,11 @@
 // replies to some lines, and knows of no page.
 
 /**
- * @typedef {{ type: string, of: string | null, collection: string | null, isWritable: boolean, hasPlaceholder: boolean,
+ * @typedef {{ type: string, of: string | null, collection: string | null, isWritable: boolean, hasPlaceholder: boolean, purpose: string,
  *   limits: [string, string][], mentions: string[], options?: string[] }} Fact
- * @typedef {{ layout: string, figures: string[], questions: string[], facts: Record<string, Fact>, languages: Record<string, any> }} Form
+ * @typedef {[name: string, paths: string[]]} Group
+ * @typedef {{ layout: string, figures: string[], questions: string[], groups: Group[], facts: Record<string, Fact>,
+ *   languages: Record<string, any> }} Form
  * @typedef {{ kind: string, text: string }} Result
  * @typedef {{ slot: string, path: string, member: string | null, result: Result }} Shown
  * @typedef {Shown & { isRequired: boolean | null }} Question
@@ -113,6 +115,18 @@ export function stepsOf({ questions }) {
     const members = [...new Set(inside.map((other) => other.member))];
     return [it, ...members.flatMap((member) => inside.filter((other) => other.member === member))];
   });
+}
+
+/**
+ * The steps by their groups, in order; a member's stand with its collection, and those of no group under null.
+ * @param {Form} form @param {Question[]} steps @returns {{ group: string | null, steps: Question[] }[]}
+ */
+export function groupsOf(form, steps) {
+  const groupOf = (/** @type {string} */ path) => form.groups.find(([, paths]) => paths.includes(form.facts[path].collection ?? path))?.[0] ?? null;
+  /** @type {{ group: string | null, steps: Question[] }[]} */
+  const found = [...form.groups.map(([group]) => ({ group, steps: [] })), { group: null, steps: [] }];
+  for (const step of steps) found.find(({ group }) => group === groupOf(step.path))?.steps.push(step);
+  return found.filter((it) => it.steps.length > 0);
 }
 
 /**

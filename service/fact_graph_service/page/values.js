@@ -93,8 +93,8 @@ const withCommas = (digits) => digits.replace(/\B(?=(\d{3})+(?!\d))/g, ",");
 
 /** @param {string} text */
 function shownAmount(text) {
-  const [whole, cents] = text.replace("-", "").split(".");
-  return `${text.startsWith("-") ? "−" : ""}$${withCommas(whole)}.${cents}`;
+  const [whole, cents = ""] = text.replace("-", "").split(".");
+  return `${text.startsWith("-") ? "−" : ""}$${withCommas(whole)}.${cents.padEnd(2, "0")}`;
 }
 
 /** @param {string} text @param {string} language */

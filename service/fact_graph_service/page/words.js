@@ -42,6 +42,11 @@ export class Words {
     return this.makers.facts[path];
   }
 
+  /** @param {string} group */
+  heading(group) {
+    return this.makers.headings[group];
+  }
+
   /**
    * The word for a member of a collection.
    * @param {string} collection

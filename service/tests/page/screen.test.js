@@ -2,22 +2,22 @@
 import assert from "node:assert/strict";
 import { test } from "node:test";
 import { progressOf } from "../../fact_graph_service/page/questions.js";
-import { reasonsOf, screenOf, stepsOf } from "../../fact_graph_service/page/screen.js";
+import { groupsOf, reasonsOf, screenOf, stepsOf } from "../../fact_graph_service/page/screen.js";
 import { TEXTS } from "../../fact_graph_service/page/texts.js";
 import { Words } from "../../fact_graph_service/page/words.js";
 
 /** @typedef {import("../../fact_graph_service/page/screen.js").Form} Form */
 
 /** A fact that a person answers. */
-const asked = (type = "Int", more = {}) => ({ type, of: null, collection: null, isWritable: true, hasPlaceholder: false, limits: [], mentions: [], ...more });
+const asked = (type = "Int", more = {}) => ({ type, of: null, collection: null, isWritable: true, hasPlaceholder: false, purpose: "", limits: [], mentions: [], ...more });
 /** @param {string[]} mentions */
 const derived = (mentions, more = {}) => ({ ...asked("Int", more), isWritable: false, mentions });
 
 /** @param {Record<string, any>} facts @param {Partial<Form>} more @returns {Form} */
 function formOf(facts, more = {}) {
   const words = Object.fromEntries(Object.keys(facts).map((path) => [path, { label: path.slice(1), help: "", source: "" }]));
-  const english = { title: "", facts: words, members: {}, options: {} };
-  return { layout: "all", figures: [], questions: [], facts, languages: { en: english, es: english }, ...more };
+  const english = { title: "", introduction: [], headings: {}, facts: words, members: {}, options: {} };
+  return { layout: "all", figures: [], questions: [], groups: [], facts, languages: { en: english, es: english }, ...more };
 }
 
 /** An engine that replies so, and "incomplete", "open" or "missing 0" otherwise. @param {Record<string, string>} replies */
@@ -55,6 +55,14 @@ test("it is never said that all is answered beside a figure that isn't there", (
   assert.equal(said(form, { ...answered, "get /s": "fault overflow" }), "These results can't be worked out, because a number is too large or would be divided by zero: s.");
   assert.equal(said(form, answered), "Your answers are there, but these results can't be worked out from them: s.");
   assert.equal(said(form, { ...answered, "get /s": "complete 5", "final /s": "final 5" }), "All questions are answered.");
+});
+
+test("questions stand in their groups, a member's with its collection, and those of no group behind", () => {
+  const facts = { "/people": asked("Collection"), "/people/*/age": asked("Int", { collection: "/people" }), "/a": asked(), "/b": asked() };
+  const form = formOf(facts, { questions: Object.keys(facts), groups: [["none", []], ["one", ["/b"]], ["home", ["/people"]]] });
+  const steps = stepsOf(screenOf(form, replying({ "get /people": "complete [#1]" })));
+  const seen = groupsOf(form, steps).map(({ group, steps }) => [group, steps.map((it) => it.slot)]);
+  assert.deepEqual(seen, [["one", ["/b"]], ["home", ["/people", "/people/#1/age"]], [null, ["/a"]]]);
 });
 
 test("members' questions come behind their collection, member by member", () => {

@@ -74,6 +74,7 @@ test("a day is read of three fields", () => {
 test("values are shown as people read them", () => {
   assert.equal(shown("Dollar", "1240.50", "en"), "$1,240.50");
   assert.equal(shown("Dollar", "-1234567.00", "en"), "−$1,234,567.00");
+  assert.deepEqual(["0", "4700", "0.5"].map((bound) => shown("Dollar", bound, "en")), ["$0.00", "$4,700.00", "$0.50"]);
   assert.equal(shown("Int", "-1200", "en"), "−1,200");
   assert.equal(shown("Rational", "5/1", "en"), "5");
   assert.equal(shown("Day", "2023-04-01", "en"), "April 1, 2023");

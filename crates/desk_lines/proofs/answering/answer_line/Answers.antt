@@ -10,5 +10,5 @@ use Rattle.desk_lines.proofs.answering.answer_line.Goals as goal
 pub returns-in-Ok-clause-answered : goal.returns-in-Ok-clause-answered
 returns-in-Ok-clause-answered g c = λ d stands.
     let r = rules_of c.args.desk.now in
-    line_output _ _ _ _ c.args.desk.now c.answer_said-progress.new.desk r d (whole c.args.line.now) c.answer_said-progress.result
-    (subst (λ (s : PartyLine). DeskOutput (g.K.Sink.taken c.args.out.now) (g.K.Sink.taken c.answer_said-progress.new.out) (g.K.Sink.faults c.args.out.now) (g.K.Sink.faults c.answer_said-progress.new.out) c.args.desk.now c.answer_said-progress.new.desk (step_said r d s).text (step_said r d s).state c.answer_said-progress.result) c.in-Ok.ensures (c.answer_said-progress.ensures.output d stands))
+    line_output _ _ c.args.desk.now c.answer_said-progress.new.desk r d (whole c.args.line.now) c.answer_said-progress.result
+    (subst (λ (s : PartyLine). DeskOutput (g.K.Sink.output c.args.out.now) (g.K.Sink.output c.answer_said-progress.new.out) c.args.desk.now c.answer_said-progress.new.desk (step_said r d s).text (step_said r d s).state c.answer_said-progress.result) c.in-Ok.ensures (c.answer_said-progress.ensures.output d stands))

@@ -63,7 +63,7 @@ returns-clause-answered g c = λ d stands.
       (
         so_far.0,
         so_far.1,
-        subst (λ (l : List ℕ). DeskReplied (rules_of c.args.desk.now) (g.K.Sink.taken c.args.out.now) (g.K.Sink.taken c.loop-rest.out) d c.args.lines.now.so_far c.args.bytes.now (desk_open so_far.0) c.loop-rest.lines.so_far l []) (no_bytes c.loop-rest.rest.now none) so_far.2,
+        subst (λ (l : List ℕ). DeskReplied (rules_of c.args.desk.now) (g.K.Sink.output c.args.out.now).taken (g.K.Sink.output c.loop-rest.out).taken d c.args.lines.now.so_far c.args.bytes.now (desk_open so_far.0) c.loop-rest.lines.so_far l []) (no_bytes c.loop-rest.rest.now none) so_far.2,
       ),
       c.loop-rest.invariant.unended,
     )

@@ -9,13 +9,13 @@ use Rattle.desk_lines.proofs.answering.answer_piece.Given as goal
 
 abbrev pub invariant-loop-rest : goal.invariant-loop-rest
 invariant-loop-rest g l = record {
-  replied : (d : Desk) → StandsFor l.fn.desk d → (there : Desk) × StandsFor l.desk there × DeskReplied (rules_of l.fn.desk) (g.K.Sink.taken l.fn.out) (g.K.Sink.taken l.out) d l.fn.lines.so_far l.fn.bytes (desk_open there) l.lines.so_far l.rest []
+  replied : (d : Desk) → StandsFor l.fn.desk d → (there : Desk) × StandsFor l.desk there × DeskReplied (rules_of l.fn.desk) (g.K.Sink.output l.fn.out).taken (g.K.Sink.output l.out).taken d l.fn.lines.so_far l.fn.bytes (desk_open there) l.lines.so_far l.rest []
       × (l.steps + steps_of_desk_lines g.E.FactEngine.most (rules_of l.fn.desk) (desk_open there) (ended_lines (l.lines.so_far ++ l.rest))
       ≤ l.fn.steps + steps_of_desk_lines g.E.FactEngine.most (rules_of l.fn.desk) (desk_open d) (ended_lines (l.fn.lines.so_far ++ l.fn.bytes)));
   unended : HasNoNewline l.lines.so_far;
   dict : l.desk.session.dict ≡ l.fn.desk.session.dict;
   few : l.desk.session.changes + length l.rest ≤ l.fn.desk.session.changes + length l.fn.bytes;
-  later : g.K.Sink.faults l.fn.out ≤ g.K.Sink.faults l.out;
+  later : (g.K.Sink.output l.fn.out).faults ≤ (g.K.Sink.output l.out).faults;
 }
 
 abbrev pub decreases-loop-rest : goal.decreases-loop-rest

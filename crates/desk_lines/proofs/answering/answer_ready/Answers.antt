@@ -14,17 +14,16 @@ use Rattle.desk_lines.proofs.answering.answer_ready.Goals as goal
 
 pub returns-in-NotYet-clause-answered : goal.returns-in-NotYet-clause-answered
 returns-in-NotYet-clause-answered g c = λ d stands.
-    let at = g.K.Sink.taken c.args.out.now in
-    let faults = g.K.Sink.faults c.args.out.now in
-    subst (λ (k : Ready). DeskAnsweredAs (rules_of c.args.desk.now) at at faults faults c.args.desk.now c.args.desk.now d (ready_lines k c.args.line.now) More) (sym c.in-NotYet.is)
-    (sent_none at [], (stands, refl))
+    let at = g.K.Sink.output c.args.out.now in
+    subst (λ (k : Ready). DeskAnsweredAs (rules_of c.args.desk.now) at at c.args.desk.now c.args.desk.now d (ready_lines k c.args.line.now) More) (sym c.in-NotYet.is)
+    (sent_none at.taken [], (stands, refl))
 
 pub returns-in-Long-clause-answered : goal.returns-in-Long-clause-answered
 returns-in-Long-clause-answered g c = λ d stands.
     let r = rules_of c.args.desk.now in
-    subst (λ (k : Ready). DeskAnsweredAs r (g.K.Sink.taken c.args.out.now) (g.K.Sink.taken c.write_text.new.out) (g.K.Sink.faults c.args.out.now) (g.K.Sink.faults c.write_text.new.out) c.args.desk.now c.args.desk.now d (ready_lines k c.args.line.now) c.write_text.result) (sym c.in-Long.is)
-    (line_output _ _ _ _ c.args.desk.now c.args.desk.now r d long c.write_text.result
-    (written_output _ _ _ _ c.args.desk.now c.args.desk.now (line_with long_line_text) d c.write_text.result c.write_text.ensures.written stands))
+    subst (λ (k : Ready). DeskAnsweredAs r (g.K.Sink.output c.args.out.now) (g.K.Sink.output c.write_text.new.out) c.args.desk.now c.args.desk.now d (ready_lines k c.args.line.now) c.write_text.result) (sym c.in-Long.is)
+    (line_output _ _ c.args.desk.now c.args.desk.now r d long c.write_text.result
+    (written_output _ _ c.args.desk.now c.args.desk.now (line_with long_line_text) d c.write_text.result c.write_text.ensures.written stands))
 
 pub returns-in-NotYet-clause-steps : goal.returns-in-NotYet-clause-steps
 returns-in-NotYet-clause-steps g c = λ d stands. omega arith

@@ -10,19 +10,19 @@ use Rattle.desk_lines.proofs.answering.answer_said.Goals as goal
 pub returns-in-Silent-clause-output : goal.returns-in-Silent-clause-output
 returns-in-Silent-clause-output g c = λ d stands.
     let r = rules_of c.args.desk.now in
-    step_output (g.K.Sink.taken c.args.out.now) (g.K.Sink.taken c.args.out.now) (g.K.Sink.faults c.args.out.now) (g.K.Sink.faults c.args.out.now) c.args.desk.now c.args.desk.now (step_said r d c.args.said.now) (record { text = []; state = desk_open d }) More
+    step_output (g.K.Sink.output c.args.out.now) (g.K.Sink.output c.args.out.now) c.args.desk.now c.args.desk.now (step_said r d c.args.said.now) (record { text = []; state = desk_open d }) More
     (ap (step_said r d) c.in-Silent.is) (sent_none _ [], (stands, refl))
 
 pub returns-in-NoParty-clause-output : goal.returns-in-NoParty-clause-output
 returns-in-NoParty-clause-output g c = λ d stands.
     let r = rules_of c.args.desk.now in
-    step_output _ _ _ _ c.args.desk.now c.args.desk.now (step_said r d c.args.said.now) (record { text = line_with bad_line_text; state = desk_open d }) c.write_text.result
+    step_output _ _ c.args.desk.now c.args.desk.now (step_said r d c.args.said.now) (record { text = line_with bad_line_text; state = desk_open d }) c.write_text.result
     (ap (step_said r d) c.in-NoParty.is)
-    (written_output _ _ _ _ c.args.desk.now c.args.desk.now (line_with bad_line_text) d c.write_text.result c.write_text.ensures.written stands)
+    (written_output _ _ c.args.desk.now c.args.desk.now (line_with bad_line_text) d c.write_text.result c.write_text.ensures.written stands)
 
 pub returns-in-NoCommand-clause-output : goal.returns-in-NoCommand-clause-output
 returns-in-NoCommand-clause-output g c = λ d stands.
     let r = rules_of c.args.desk.now in
-    step_output _ _ _ _ c.args.desk.now c.args.desk.now (step_said r d c.args.said.now) (record { text = marked_lines c.in-NoCommand.party (bad_line_text ∷ []); state = desk_open d }) c.write_marked.result
+    step_output _ _ c.args.desk.now c.args.desk.now (step_said r d c.args.said.now) (record { text = marked_lines c.in-NoCommand.party (bad_line_text ∷ []); state = desk_open d }) c.write_marked.result
     (ap (step_said r d) c.in-NoCommand.is)
-    (written_output _ _ _ _ c.args.desk.now c.args.desk.now (marked_lines c.in-NoCommand.party (bad_line_text ∷ [])) d c.write_marked.result c.write_marked.ensures.written stands)
+    (written_output _ _ c.args.desk.now c.args.desk.now (marked_lines c.in-NoCommand.party (bad_line_text ∷ [])) d c.write_marked.result c.write_marked.ensures.written stands)

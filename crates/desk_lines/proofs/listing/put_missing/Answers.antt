@@ -13,13 +13,13 @@ use Rattle.desk_lines.proofs.listing.put_missing.Goals as goal
 pub returns-in-Err : goal.returns-in-Err
 returns-in-Err g c =
     let lines = map (slot_text (accepted c.args.session.now.dict).tree) c.args.slots.now in
-    subst (WrotePart _ _ _ _) (first_marked c.args.party (missing_count c.args.slots.now) lines)
-    (failed_before _ _ _ _ (marked_lines c.args.party (missing_count c.args.slots.now ∷ [])) (marked_lines c.args.party lines) c.in-Err.ensures)
+    subst (WrotePart _ _) (first_marked c.args.party (missing_count c.args.slots.now) lines)
+    (failed_before _ _ (marked_lines c.args.party (missing_count c.args.slots.now ∷ [])) (marked_lines c.args.party lines) c.in-Err.ensures)
 
 pub returns-in-Ok : goal.returns-in-Ok
 returns-in-Ok g c =
     let f = slot_text (accepted c.args.session.now.dict).tree in
     let first = marked_lines c.args.party (missing_count c.args.slots.now ∷ []) in
-    subst (λ (t : List ℕ). Wrote (g.K.Sink.taken c.args.out.now) (g.K.Sink.taken c.put_slots.new.out) (g.K.Sink.faults c.args.out.now) (g.K.Sink.faults c.put_slots.new.out) t c.put_slots.result)
+    subst (λ (t : List ℕ). Wrote (g.K.Sink.output c.args.out.now) (g.K.Sink.output c.put_slots.new.out) t c.put_slots.result)
     (ap (λ (t : List ℕ). first ++ t) (marked_each c.args.party f c.args.slots.now) ∙ first_marked c.args.party (missing_count c.args.slots.now) (map f c.args.slots.now))
-    (wrote_behind _ _ _ _ _ _ first (joined (map (λ s. marked c.args.party (f s)) c.args.slots.now)) c.put_slots.result c.in-Ok.ensures c.put_slots.ensures)
+    (wrote_behind _ _ _ first (joined (map (λ s. marked c.args.party (f s)) c.args.slots.now)) c.put_slots.result c.in-Ok.ensures c.put_slots.ensures)

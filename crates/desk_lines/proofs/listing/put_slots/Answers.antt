@@ -13,7 +13,7 @@ use Rattle.desk_lines.proofs.listing.put_slots.Goals as goal
 pub returns-in-Err : goal.returns-in-Err
 returns-in-Err g c =
     let f : Slot → List ℕ = λ s. marked c.args.party (slot_text (accepted c.args.session.now.dict).tree s) in
-    failed_within _ _ _ _ _ _ (joined (map f c.args.slots.now)) _ (joined (map f (drop (c.loop-slot.slot-index + 1) c.args.slots.now)))
+    failed_within _ _ _ (joined (map f c.args.slots.now)) _ (joined (map f (drop (c.loop-slot.slot-index + 1) c.args.slots.now)))
     (subst (Sent _ _ _) (next_line f c.args.slots.now c.loop-slot.slot-index _ c.loop-slot-test.true) c.loop-slot.invariant.sent)
     c.loop-slot.invariant.later c.in-Err.ensures
 

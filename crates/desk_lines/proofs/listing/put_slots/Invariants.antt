@@ -8,6 +8,6 @@ use Rattle.desk_lines.proofs.listing.put_slots.Given as goal
 
 abbrev pub invariant-loop-slot : goal.invariant-loop-slot
 invariant-loop-slot g l = record {
-  sent : Sent (g.K.Sink.taken l.fn.out) (g.K.Sink.taken l.out) (joined (map (λ s. marked l.party (slot_text (accepted l.session.dict).tree s)) l.slots)) (joined (map (λ s. marked l.party (slot_text (accepted l.session.dict).tree s)) (drop l.slot-index l.slots)));
-  later : g.K.Sink.faults l.fn.out ≤ g.K.Sink.faults l.out;
+  sent : Sent (g.K.Sink.output l.fn.out).taken (g.K.Sink.output l.out).taken (joined (map (λ s. marked l.party (slot_text (accepted l.session.dict).tree s)) l.slots)) (joined (map (λ s. marked l.party (slot_text (accepted l.session.dict).tree s)) (drop l.slot-index l.slots)));
+  later : (g.K.Sink.output l.fn.out).faults ≤ (g.K.Sink.output l.out).faults;
 }

@@ -4,8 +4,8 @@ use Rattle.fg_io.proofs.write.put_all.Given as goal
 
 abbrev pub invariant-loop-rest : goal.invariant-loop-rest
 invariant-loop-rest g l = record {
-  sent : Sent (g.K.Sink.taken l.fn.out) (g.K.Sink.taken l.out) l.fn.piece l.rest;
-  later : g.K.Sink.faults l.fn.out ≤ g.K.Sink.faults l.out;
+  sent : Sent (g.K.Sink.output l.fn.out).taken (g.K.Sink.output l.out).taken l.fn.piece l.rest;
+  later : (g.K.Sink.output l.fn.out).faults ≤ (g.K.Sink.output l.out).faults;
 }
 
 abbrev pub decreases-loop-rest : goal.decreases-loop-rest

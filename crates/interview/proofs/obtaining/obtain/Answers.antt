@@ -6,7 +6,7 @@ use Rattle.interview.proofs.obtaining.obtain.Goals as goal
 
 pub returns-in-File : goal.returns-in-File
 returns-in-File g c = record {
-  obtained = rw c.in-File.is (obtains_file (g.H.Shelf.contents c.args.shelf.now) c.in-File.name.now _ c.fetch.result c.fetch.ensures.fetched);
+  obtained = rw c.in-File.is (obtains_file (g.H.Shelf.files c.args.shelf.now).contents c.in-File.name.now _ c.fetch.result c.fetch.ensures.fetched);
   not_obtained = rw c.in-File.is c.fetch.ensures.not_fetched;
   kept = c.fetch.ensures.kept;
   later = c.fetch.ensures.later;

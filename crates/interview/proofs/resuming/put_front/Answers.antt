@@ -2,7 +2,7 @@ use Rattle.interview.proofs.ResumeLaws.{nothing_put}
 use Rattle.interview.proofs.resuming.put_front.Goals as goal
 
 pub returns-in-Nothing : goal.returns-in-Nothing
-returns-in-Nothing g c = λ front gives. nothing_put _ _ front (rw c.in-Nothing.is at gives)
+returns-in-Nothing g c = λ front gives. nothing_put (g.K.Sink.output c.args.out.now) front (rw c.in-Nothing.is at gives)
 
 pub put_dropped-requires : goal.put_dropped-requires
 put_dropped-requires g c = rw c.as_slice.ensures.value ((rw c.in-Lines.is at c.requires.1).1)

@@ -4,7 +4,7 @@ use Rattle.interview.proofs.ResumeLaws.{none_begins}
 use Rattle.interview.proofs.resuming.resume.Goals as goal
 
 pub returns-in-Unanswered : goal.returns-in-Unanswered
-returns-in-Unanswered g c = record { resumed = rw c.in-Unanswered.is (none_begins (g.H.Shelf.contents c.args.shelf.now) _ _ c.new.ensures); not_resumed = tt; unfetched = λ is. refl }
+returns-in-Unanswered g c = record { resumed = rw c.in-Unanswered.is (none_begins (g.H.Shelf.files c.args.shelf.now).contents _ _ c.new.ensures); not_resumed = tt; unfetched = λ is. refl }
 
 pub returns-in-Load : goal.returns-in-Load
 returns-in-Load g c = record {

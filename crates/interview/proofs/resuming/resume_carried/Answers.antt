@@ -9,8 +9,8 @@ pub returns-in-Ok-Some : goal.returns-in-Ok-Some
 returns-in-Ok-Some g c =
     let had = rw c.in-Ok-Some.field-0-is at c.in-Ok-Some.ensures.fetched in
     record {
-      resumed = resumed_by (g.H.Shelf.contents c.args.shelf.now) (by_carry c.args.name.now) _ (to_carry c.in-Ok-Some.bytes.items) had.0 c.carry_ready.result c.carry_ready.ensures.resumed;
-      not_resumed = wants_memory (λ s. NotResumed (by_carry c.args.name.now) _ _ _ s) tt c.carry_ready.result c.carry_ready.ensures.memory;
+      resumed = resumed_by (g.H.Shelf.files c.args.shelf.now).contents (by_carry c.args.name.now) _ (to_carry c.in-Ok-Some.bytes.items) had.0 c.carry_ready.result c.carry_ready.ensures.resumed;
+      not_resumed = wants_memory (λ s. NotResumed (by_carry c.args.name.now) (g.H.Shelf.files c.args.shelf.now) (g.H.Shelf.files c.fetch_text.new.shelf) s) tt c.carry_ready.result c.carry_ready.ensures.memory;
     }
 
 pub returns-in-Ok-None : goal.returns-in-Ok-None

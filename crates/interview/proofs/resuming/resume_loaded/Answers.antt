@@ -9,8 +9,8 @@ pub returns-in-Ok-Some : goal.returns-in-Ok-Some
 returns-in-Ok-Some g c =
     let had = rw c.in-Ok-Some.field-0-is at c.in-Ok-Some.ensures.fetched in
     record {
-      resumed = resumed_by (g.H.Shelf.contents c.args.shelf.now) (by_load c.args.name.now) _ (to_load c.in-Ok-Some.bytes.items) had.0 c.load_ready.result (rw c.as_slice.ensures.value at c.load_ready.ensures.resumed);
-      not_resumed = wants_memory (λ s. NotResumed (by_load c.args.name.now) _ _ _ s) tt c.load_ready.result c.load_ready.ensures.memory;
+      resumed = resumed_by (g.H.Shelf.files c.args.shelf.now).contents (by_load c.args.name.now) _ (to_load c.in-Ok-Some.bytes.items) had.0 c.load_ready.result (rw c.as_slice.ensures.value at c.load_ready.ensures.resumed);
+      not_resumed = wants_memory (λ s. NotResumed (by_load c.args.name.now) (g.H.Shelf.files c.args.shelf.now) (g.H.Shelf.files c.fetch_text.new.shelf) s) tt c.load_ready.result c.load_ready.ensures.memory;
     }
 
 pub returns-in-Ok-None : goal.returns-in-Ok-None

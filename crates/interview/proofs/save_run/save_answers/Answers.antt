@@ -10,4 +10,4 @@ pub returns-in-Ok : goal.returns-in-Ok
 returns-in-Ok g c =
     let text : saved (accepted c.dict.result.now).tree (answered c.answers.result.now) ≡ saved (accepted c.args.session.now.dict).tree c.args.session.now.timeline.now =
     λ i. saved (accepted (c.dict.ensures i)).tree (c.answers.ensures.value i) in
-    inl (refl, subst (λ t. Appends (g.K.Sink.taken c.args.out.now) (g.K.Sink.taken c.save.new.out) t) text (sent_whole _ _ _ (rw c.in-Ok.is at c.save.ensures.whole)))
+    inl (refl, subst (λ t. Appends (g.K.Sink.output c.args.out.now).taken (g.K.Sink.output c.save.new.out).taken t) text (sent_whole _ _ _ (rw c.in-Ok.is at c.save.ensures.whole)))

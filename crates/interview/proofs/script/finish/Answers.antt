@@ -5,5 +5,5 @@ use Rattle.interview.proofs.script.finish.Goals as goal
 
 pub returns-clause-output : goal.returns-clause-output
 returns-clause-output g c = λ m means.
-    subst (λ (l : List ScriptLine). LineOutputAs (g.K.Sink.taken c.args.out.now) (g.K.Sink.taken c.answer_ready.new.out) (g.K.Sink.faults c.args.out.now) (g.K.Sink.faults c.answer_ready.new.out) m (g.T.LineHandler.stands c.answer_ready.new.self) l c.answer_ready.result)
+    subst (λ (l : List ScriptLine). LineOutputAs (g.K.Sink.output c.args.out.now) (g.K.Sink.output c.answer_ready.new.out) m (g.T.LineHandler.stands c.answer_ready.new.self) l c.answer_ready.result)
     (ap (ready_lines c.finish-ready.result) c.line.ensures.line ∙ sym c.finish-ready.ensures.last) (c.answer_ready.ensures.output m means)

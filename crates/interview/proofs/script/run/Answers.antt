@@ -47,10 +47,10 @@ returns-in-Ok-eq0 g c =
     record {
       ends = λ m begins means.
           let so_far = c.loop-taken.invariant.0 m begins means in
-          ends_at m (script_did _ _ _ _ (g.S.Source.faults c.args.script.now) (g.S.Source.faults c.pull.new.self) (g.K.Sink.faults c.args.out.now) (g.K.Sink.faults c.finish.new.out)) _ _ _ so_far.0 _ so_far.2.0 _ _ (omega arith) read end c.finish.result _ c.status_at_end.ensures c.loop-taken.invariant.2 (c.finish.ensures.output so_far.0 so_far.1);
+          ends_at m (script_did (g.S.Source.input c.args.script.now) (g.S.Source.input c.pull.new.self) (g.K.Sink.output c.args.out.now) (g.K.Sink.output c.finish.new.out)) (g.S.Source.input c.loop-taken.script) (g.K.Sink.output c.loop-taken.out) _ so_far.0 _ so_far.2.0 _ (omega arith) read end c.finish.result _ c.status_at_end.ensures c.loop-taken.invariant.2 (c.finish.ensures.output so_far.0 so_far.1);
       leaves = λ m begins means.
           let so_far = c.loop-taken.invariant.0 m begins means in
-          leaves_at m (script_did _ _ _ _ (g.S.Source.faults c.args.script.now) (g.S.Source.faults c.pull.new.self) (g.K.Sink.faults c.args.out.now) (g.K.Sink.faults c.finish.new.out)) _ _ _ so_far.0 _ so_far.2.0 (g.K.Sink.faults c.loop-taken.out) _ (omega arith) read end c.finish.result _ c.status_at_end.ensures (c.finish.ensures.output so_far.0 so_far.1);
+          leaves_at m (script_did (g.S.Source.input c.args.script.now) (g.S.Source.input c.pull.new.self) (g.K.Sink.output c.args.out.now) (g.K.Sink.output c.finish.new.out)) (g.S.Source.input c.loop-taken.script) (g.K.Sink.output c.loop-taken.out) _ so_far.0 _ so_far.2.0 _ (omega arith) read end c.finish.result _ c.status_at_end.ensures (c.finish.ensures.output so_far.0 so_far.1);
       same_rules = c.finish.ensures.same_rules ∙ c.loop-taken.invariant.4;
       steps = λ m begins means.
           let so_far = c.loop-taken.invariant.0 m begins means in
@@ -64,11 +64,11 @@ returns-in-Over g c =
       ends = λ m begins means.
           let so_far = c.loop-taken.invariant.0 m begins means in
           let output = c.in-Over.ensures.output so_far.0 so_far.1 in
-          ends_over m (script_did _ _ _ _ (g.S.Source.faults c.args.script.now) (g.S.Source.faults c.pull.new.self) (g.K.Sink.faults c.args.out.now) (g.K.Sink.faults c.answer_piece.new.out)) _ _ _ so_far.0 _ so_far.2.0 _ _ c.in-Ok.count c.in-Ok.ensures.bytes.0 c.in-Ok.ensures.bound.1 same (omega (arith, c.in-Ok.ensures.bound.0, length-take {A = ℕ})) output.0 output.1 (omega (arith, c.in-Ok.ensures.bound.0, length-take {A = ℕ}));
+          ends_over m (script_did (g.S.Source.input c.args.script.now) (g.S.Source.input c.pull.new.self) (g.K.Sink.output c.args.out.now) (g.K.Sink.output c.answer_piece.new.out)) (g.S.Source.input c.loop-taken.script) (g.K.Sink.output c.loop-taken.out) _ so_far.0 _ so_far.2.0 _ _ c.in-Ok.count c.in-Ok.ensures.bytes.0 c.in-Ok.ensures.bound.1 same (omega (arith, c.in-Ok.ensures.bound.0, length-take {A = ℕ})) output.0 output.1 (omega (arith, c.in-Ok.ensures.bound.0, length-take {A = ℕ}));
       leaves = λ m begins means.
           let so_far = c.loop-taken.invariant.0 m begins means in
           let output = c.in-Over.ensures.output so_far.0 so_far.1 in
-          leaves_over m (script_did _ _ _ _ (g.S.Source.faults c.args.script.now) (g.S.Source.faults c.pull.new.self) (g.K.Sink.faults c.args.out.now) (g.K.Sink.faults c.answer_piece.new.out)) _ _ _ so_far.0 _ so_far.2.0 _ _ c.in-Ok.count c.in-Ok.ensures.bytes.0 c.in-Ok.ensures.bound.1 same (omega (arith, c.in-Ok.ensures.bound.0, length-take {A = ℕ})) output.0 output.1 _ output.2;
+          leaves_over m (script_did (g.S.Source.input c.args.script.now) (g.S.Source.input c.pull.new.self) (g.K.Sink.output c.args.out.now) (g.K.Sink.output c.answer_piece.new.out)) (g.S.Source.input c.loop-taken.script) (g.K.Sink.output c.loop-taken.out) _ so_far.0 _ so_far.2.0 _ _ c.in-Ok.count c.in-Ok.ensures.bytes.0 c.in-Ok.ensures.bound.1 same (omega (arith, c.in-Ok.ensures.bound.0, length-take {A = ℕ})) output.0 output.1 _ output.2;
       same_rules = c.answer_piece.ensures.same_rules ∙ c.loop-taken.invariant.4;
       steps = λ m begins means.
           let so_far = c.loop-taken.invariant.0 m begins means in
@@ -82,7 +82,7 @@ returns-in-Unwritten g c =
       ends = λ m begins means.
           let so_far = c.loop-taken.invariant.0 m begins means in
           let output = c.in-Unwritten.ensures.output so_far.0 so_far.1 in
-          ends_unwritten m (script_did _ _ _ _ (g.S.Source.faults c.args.script.now) (g.S.Source.faults c.pull.new.self) (g.K.Sink.faults c.args.out.now) (g.K.Sink.faults c.answer_piece.new.out)) _ _ _ so_far.0 _ so_far.2.0 _ _ c.in-Ok.count c.in-Ok.ensures.bytes.0 c.in-Ok.ensures.bound.1 same (omega (arith, c.in-Ok.ensures.bound.0, length-take {A = ℕ})) _ _ c.loop-taken.invariant.2 output.0 output.1.1;
+          ends_unwritten m (script_did (g.S.Source.input c.args.script.now) (g.S.Source.input c.pull.new.self) (g.K.Sink.output c.args.out.now) (g.K.Sink.output c.answer_piece.new.out)) (g.S.Source.input c.loop-taken.script) (g.K.Sink.output c.loop-taken.out) _ so_far.0 _ so_far.2.0 _ _ c.in-Ok.count c.in-Ok.ensures.bytes.0 c.in-Ok.ensures.bound.1 same (omega (arith, c.in-Ok.ensures.bound.0, length-take {A = ℕ})) _ c.loop-taken.invariant.2 output.0 output.1.1;
       leaves = λ m begins means. tt;
       same_rules = c.answer_piece.ensures.same_rules ∙ c.loop-taken.invariant.4;
       steps = λ m begins means.
@@ -97,7 +97,7 @@ returns-in-OutOfMemory g c =
       ends = λ m begins means.
           let so_far = c.loop-taken.invariant.0 m begins means in
           let output = c.in-OutOfMemory.ensures.output so_far.0 so_far.1 in
-          ends_out_of_memory m (script_did _ _ _ _ (g.S.Source.faults c.args.script.now) (g.S.Source.faults c.pull.new.self) (g.K.Sink.faults c.args.out.now) (g.K.Sink.faults c.answer_piece.new.out)) _ _ _ so_far.0 _ so_far.2.0 _ _ c.in-Ok.count c.in-Ok.ensures.bytes.0 c.in-Ok.ensures.bound.1 same (omega (arith, c.in-Ok.ensures.bound.0, length-take {A = ℕ})) output;
+          ends_out_of_memory m (script_did (g.S.Source.input c.args.script.now) (g.S.Source.input c.pull.new.self) (g.K.Sink.output c.args.out.now) (g.K.Sink.output c.answer_piece.new.out)) (g.S.Source.input c.loop-taken.script) (g.K.Sink.output c.loop-taken.out) _ so_far.0 _ so_far.2.0 _ _ c.in-Ok.count c.in-Ok.ensures.bytes.0 c.in-Ok.ensures.bound.1 same (omega (arith, c.in-Ok.ensures.bound.0, length-take {A = ℕ})) output;
       leaves = λ m begins means. tt;
       same_rules = c.answer_piece.ensures.same_rules ∙ c.loop-taken.invariant.4;
       steps = λ m begins means.
@@ -110,7 +110,7 @@ returns-in-Err g c =
     record {
       ends = λ m begins means.
           let so_far = c.loop-taken.invariant.0 m begins means in
-          ends_unread m (script_did _ _ _ _ (g.S.Source.faults c.args.script.now) (g.S.Source.faults c.pull.new.self) (g.K.Sink.faults c.args.out.now) (g.K.Sink.faults c.loop-taken.out)) _ _ _ so_far.0 _ so_far.2.0 c.loop-taken.invariant.1 refl c.in-Err.ensures.bytes (omega (arith, c.loop-taken.invariant.3, c.in-Err.ensures.cause.failed));
+          ends_unread m (script_did (g.S.Source.input c.args.script.now) (g.S.Source.input c.pull.new.self) (g.K.Sink.output c.args.out.now) (g.K.Sink.output c.loop-taken.out)) (g.S.Source.input c.loop-taken.script) (g.K.Sink.output c.loop-taken.out) _ so_far.0 _ so_far.2.0 c.loop-taken.invariant.1 refl c.in-Err.ensures.bytes (omega (arith, c.loop-taken.invariant.3, c.in-Err.ensures.cause.failed));
       leaves = λ m begins means. tt;
       same_rules = c.loop-taken.invariant.4;
       steps = λ m begins means.
@@ -127,10 +127,10 @@ returns-in-Ok-eq0-pull g c =
     record {
       ends = λ m begins means.
           let so_far = c.loop-taken.invariant.0 m begins means in
-          ends_at m (script_did _ _ _ _ (g.S.Source.faults c.args.script.now) (g.S.Source.faults c.pull-2.new.self) (g.K.Sink.faults c.args.out.now) (g.K.Sink.faults c.finish-in-Ok-eq0-pull.new.out)) _ _ _ so_far.0 _ so_far.2.0 _ _ c.loop-taken.invariant.1 read end c.finish-in-Ok-eq0-pull.result _ c.status_at_end-in-Ok-eq0-pull.ensures c.loop-taken.invariant.2 (c.finish-in-Ok-eq0-pull.ensures.output so_far.0 so_far.1);
+          ends_at m (script_did (g.S.Source.input c.args.script.now) (g.S.Source.input c.pull-2.new.self) (g.K.Sink.output c.args.out.now) (g.K.Sink.output c.finish-in-Ok-eq0-pull.new.out)) (g.S.Source.input c.loop-taken.script) (g.K.Sink.output c.loop-taken.out) _ so_far.0 _ so_far.2.0 _ c.loop-taken.invariant.1 read end c.finish-in-Ok-eq0-pull.result _ c.status_at_end-in-Ok-eq0-pull.ensures c.loop-taken.invariant.2 (c.finish-in-Ok-eq0-pull.ensures.output so_far.0 so_far.1);
       leaves = λ m begins means.
           let so_far = c.loop-taken.invariant.0 m begins means in
-          leaves_at m (script_did _ _ _ _ (g.S.Source.faults c.args.script.now) (g.S.Source.faults c.pull-2.new.self) (g.K.Sink.faults c.args.out.now) (g.K.Sink.faults c.finish-in-Ok-eq0-pull.new.out)) _ _ _ so_far.0 _ so_far.2.0 (g.K.Sink.faults c.loop-taken.out) _ c.loop-taken.invariant.1 read end c.finish-in-Ok-eq0-pull.result _ c.status_at_end-in-Ok-eq0-pull.ensures (c.finish-in-Ok-eq0-pull.ensures.output so_far.0 so_far.1);
+          leaves_at m (script_did (g.S.Source.input c.args.script.now) (g.S.Source.input c.pull-2.new.self) (g.K.Sink.output c.args.out.now) (g.K.Sink.output c.finish-in-Ok-eq0-pull.new.out)) (g.S.Source.input c.loop-taken.script) (g.K.Sink.output c.loop-taken.out) _ so_far.0 _ so_far.2.0 _ c.loop-taken.invariant.1 read end c.finish-in-Ok-eq0-pull.result _ c.status_at_end-in-Ok-eq0-pull.ensures (c.finish-in-Ok-eq0-pull.ensures.output so_far.0 so_far.1);
       same_rules = c.finish-in-Ok-eq0-pull.ensures.same_rules ∙ c.loop-taken.invariant.4;
       steps = λ m begins means.
           let so_far = c.loop-taken.invariant.0 m begins means in
@@ -142,7 +142,7 @@ returns-in-Ok-pull g c =
     record {
       ends = λ m begins means.
           let so_far = c.loop-taken.invariant.0 m begins means in
-          ends_too_long m (script_did _ _ _ _ (g.S.Source.faults c.args.script.now) (g.S.Source.faults c.pull-2.new.self) (g.K.Sink.faults c.args.out.now) (g.K.Sink.faults c.loop-taken.out)) _ _ _ so_far.0 _ so_far.2.0 _ refl c.in-Ok-pull.ensures.bytes.0 (omega arith) (omega (arith, c.in-Ok-pull.ensures.bound.1));
+          ends_too_long m (script_did (g.S.Source.input c.args.script.now) (g.S.Source.input c.pull-2.new.self) (g.K.Sink.output c.args.out.now) (g.K.Sink.output c.loop-taken.out)) (g.S.Source.input c.loop-taken.script) (g.K.Sink.output c.loop-taken.out) _ so_far.0 _ so_far.2.0 _ refl c.in-Ok-pull.ensures.bytes.0 (omega arith) (omega (arith, c.in-Ok-pull.ensures.bound.1));
       leaves = λ m begins means. tt;
       same_rules = c.loop-taken.invariant.4;
       steps = λ m begins means.
@@ -155,7 +155,7 @@ returns-in-Err-pull g c =
     record {
       ends = λ m begins means.
           let so_far = c.loop-taken.invariant.0 m begins means in
-          ends_unread m (script_did _ _ _ _ (g.S.Source.faults c.args.script.now) (g.S.Source.faults c.pull-2.new.self) (g.K.Sink.faults c.args.out.now) (g.K.Sink.faults c.loop-taken.out)) _ _ _ so_far.0 _ so_far.2.0 c.loop-taken.invariant.1 refl c.in-Err-pull.ensures.bytes (omega (arith, c.loop-taken.invariant.3, c.in-Err-pull.ensures.cause.failed));
+          ends_unread m (script_did (g.S.Source.input c.args.script.now) (g.S.Source.input c.pull-2.new.self) (g.K.Sink.output c.args.out.now) (g.K.Sink.output c.loop-taken.out)) (g.S.Source.input c.loop-taken.script) (g.K.Sink.output c.loop-taken.out) _ so_far.0 _ so_far.2.0 c.loop-taken.invariant.1 refl c.in-Err-pull.ensures.bytes (omega (arith, c.loop-taken.invariant.3, c.in-Err-pull.ensures.cause.failed));
       leaves = λ m begins means. tt;
       same_rules = c.loop-taken.invariant.4;
       steps = λ m begins means.

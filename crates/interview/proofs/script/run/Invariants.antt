@@ -1,17 +1,17 @@
 use Rattle.std.proofs.Common.{◌≡◌, ◌+◌, ◌-◌, ◌≤◌}
-use Rattle.script_lines.specs.Lines.{HasNoNewline, ended_lines}
 use Rattle.fact_watch.specs.Tables.{named_relations}
+use Rattle.script_lines.specs.Lines.{HasNoNewline, ended_lines}
 use Rattle.interview.proofs.script.run.Given as goal
 use Rattle.interview.specs.Meanings.{IsBeginning, Meaning}
 use Rattle.interview.specs.SoFar.{AnsweredSoFar}
 
 abbrev pub invariant-loop-taken : goal.invariant-loop-taken
 invariant-loop-taken g l =
-    ((m : Meaning) → IsBeginning m → g.T.LineHandler.means l.fn.handler (named_relations l.table) m
-    → (there : Meaning) × g.T.LineHandler.means l.handler (named_relations l.table) there
-    × ((so_far : AnsweredSoFar m (g.S.Source.left l.fn.script) (g.S.Source.left l.script) (g.K.Sink.taken l.fn.out) (g.K.Sink.taken l.out) l.taken there l.lines.so_far)
+    ((m : Meaning) → IsBeginning m → g.T.LineHandler.means l.fn.handler (named_relations l.tables.relations.now) m
+    → (there : Meaning) × g.T.LineHandler.means l.handler (named_relations l.tables.relations.now) there
+    × ((so_far : AnsweredSoFar m (g.S.Source.input l.fn.script).left (g.S.Source.input l.script).left (g.K.Sink.output l.fn.out).taken (g.K.Sink.output l.out).taken l.taken there l.lines.so_far)
     × (l.steps ≤ l.fn.steps + m.steps g.T.LineHandler.most (ended_lines so_far.bytes))))
-    × (l.taken ≤ 67108864) × (g.K.Sink.faults l.fn.out ≤ g.K.Sink.faults l.out) × (g.S.Source.faults l.fn.script ≤ g.S.Source.faults l.script)
+    × (l.taken ≤ 67108864) × ((g.K.Sink.output l.fn.out).faults ≤ (g.K.Sink.output l.out).faults) × ((g.S.Source.input l.fn.script).faults ≤ (g.S.Source.input l.script).faults)
     × (g.T.LineHandler.goes_by l.handler ≡ g.T.LineHandler.goes_by l.fn.handler) × (g.T.LineHandler.changes l.handler ≤ l.taken) × HasNoNewline l.lines.so_far
 
 abbrev pub decreases-loop-taken : goal.decreases-loop-taken

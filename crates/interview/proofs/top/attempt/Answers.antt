@@ -1,5 +1,6 @@
 use Rattle.std.proofs.Common.{inl, inr, refl, ◌∙◌}
 use Rattle.interview.specs.Words.{IsRun, beginning_of, origin_of, program, texts}
+use Rattle.interview.specs.Given.{did_by}
 use Rattle.interview.proofs.CheckLaws.{ends_check}
 use Rattle.interview.proofs.TopLaws.{accepted_run, ends_refused, ends_run, ends_unobtained, faulty_run}
 use Rattle.interview.proofs.WordLaws.{gen_is_no_check, gen_is_no_run, gen_is_no_save, not_both, same_beginning, same_origin, same_save, save_is_no_check, save_is_no_run}
@@ -10,7 +11,7 @@ returns-in-Ok-Accepted g c =
     let had = rw c.in-Ok-Accepted.field-0-is at c.in-Ok-Accepted.ensures.obtained in
     let asked : IsRun (texts c.args.words.now) (origin_of c.in-Run.origin) = record { beginning = beginning_of c.in-Run.beginning; mode = c.in-Run.mode; over = c.in-Run.ensures } in
     record {
-      ends = inl (ends_run _ _ (accepted_run _ _ had.0 _ asked had.1 had.2) _ _ c.run_from.result c.obtain.ensures.later c.obtain.ensures.kept c.run_from.ensures.ends);
+      ends = inl (ends_run _ (did_by (g.H.Shelf.files c.args.shelf.now) (g.H.Shelf.files c.run_from.new.shelf) (g.S.Source.input c.args.script.now) (g.S.Source.input c.run_from.new.script) (g.K.Sink.output c.args.out.now) (g.K.Sink.output c.run_from.new.out)) (accepted_run _ _ had.0 _ asked had.1 had.2) (g.H.Shelf.files c.obtain.new.shelf) c.run_from.result c.obtain.ensures.later c.obtain.ensures.kept c.run_from.ensures.ends);
       unfetched = λ b of_year none. c.run_from.ensures.unfetched (same_beginning _ _ _ asked of_year ∙ none) ∙ c.obtain.ensures.unfetched b (same_origin _ _ _ asked of_year);
       gen_unfetched = λ n gen. absurd (gen_is_no_run _ n _ gen asked);
       save_unfetched = λ b save. absurd (save_is_no_run _ (program b) _ save asked);
@@ -21,7 +22,7 @@ returns-in-Ok-Refused g c =
     let had = rw c.in-Ok-Refused.field-0-is at c.in-Ok-Refused.ensures.obtained in
     let asked : IsRun (texts c.args.words.now) (origin_of c.in-Run.origin) = record { beginning = beginning_of c.in-Run.beginning; mode = c.in-Run.mode; over = c.in-Run.ensures } in
     record {
-      ends = inl (ends_refused _ _ (faulty_run _ _ had.0 _ asked had.1 had.2) (refl, refl) c.end_by_fault.result c.end_by_fault.ensures);
+      ends = inl (ends_refused _ (did_by (g.H.Shelf.files c.args.shelf.now) (g.H.Shelf.files c.obtain.new.shelf) (g.S.Source.input c.args.script.now) (g.S.Source.input c.args.script.now) (g.K.Sink.output c.args.out.now) (g.K.Sink.output c.end_by_fault.new.out)) (faulty_run _ _ had.0 _ asked had.1 had.2) (refl, refl) c.end_by_fault.result c.end_by_fault.ensures);
       unfetched = λ b of_year none. c.obtain.ensures.unfetched b (same_origin _ _ _ asked of_year);
       gen_unfetched = λ n gen. absurd (gen_is_no_run _ n _ gen asked);
       save_unfetched = λ b save. absurd (save_is_no_run _ (program b) _ save asked);
@@ -31,7 +32,7 @@ pub returns-in-Err : goal.returns-in-Err
 returns-in-Err g c =
     let asked : IsRun (texts c.args.words.now) (origin_of c.in-Run.origin) = record { beginning = beginning_of c.in-Run.beginning; mode = c.in-Run.mode; over = c.in-Run.ensures } in
     record {
-      ends = inl (ends_unobtained _ _ _ asked c.in-Err.status refl (refl, refl) c.in-Err.ensures.not_obtained);
+      ends = inl (ends_unobtained _ (did_by (g.H.Shelf.files c.args.shelf.now) (g.H.Shelf.files c.obtain.new.shelf) (g.S.Source.input c.args.script.now) (g.S.Source.input c.args.script.now) (g.K.Sink.output c.args.out.now) (g.K.Sink.output c.args.out.now)) _ asked c.in-Err.status refl (refl, refl) c.in-Err.ensures.not_obtained);
       unfetched = λ b of_year none. c.obtain.ensures.unfetched b (same_origin _ _ _ asked of_year);
       gen_unfetched = λ n gen. absurd (gen_is_no_run _ n _ gen asked);
       save_unfetched = λ b save. absurd (save_is_no_run _ (program b) _ save asked);
@@ -39,7 +40,7 @@ returns-in-Err g c =
 
 pub returns-in-Check : goal.returns-in-Check
 returns-in-Check g c = record {
-  ends = inl (ends_check _ _ _ c.in-Check.ensures (refl, refl) c.check.result c.check.ensures.ends);
+  ends = inl (ends_check _ (did_by (g.H.Shelf.files c.args.shelf.now) (g.H.Shelf.files c.check.new.shelf) (g.S.Source.input c.args.script.now) (g.S.Source.input c.args.script.now) (g.K.Sink.output c.args.out.now) (g.K.Sink.output c.check.new.out)) _ c.in-Check.ensures (refl, refl) c.check.result c.check.ensures.ends);
   unfetched = λ b of_year none. absurd (not_both _ _ _ of_year c.in-Check.ensures);
   gen_unfetched = λ n gen. absurd (gen_is_no_check _ n _ gen c.in-Check.ensures);
   save_unfetched = λ b save. absurd (save_is_no_check _ (program b) _ save c.in-Check.ensures);

@@ -11,7 +11,7 @@ run-requires-clause-meant g c = c.requires.meant
 pub returns-in-Ok : goal.returns-in-Ok
 returns-in-Ok g c = λ front gives m begins means.
     let put = c.in-Ok.ensures front gives in
-    ends_behind m front _ (g.K.Sink.taken c.put_front.new.out) (g.K.Sink.faults c.put_front.new.out) c.run.result put.0 put.1 (c.run.ensures.ends m begins means)
+    ends_behind m front _ (g.K.Sink.output c.put_front.new.out).taken (g.K.Sink.output c.put_front.new.out).faults c.run.result put.0 put.1 (c.run.ensures.ends m begins means)
 
 pub returns : goal.returns
 returns g c = λ front gives m begins means. ends_before m front _ (c.in-Err.ensures front gives) (refl, refl)

@@ -4,7 +4,9 @@ use Rattle.recalc.proofs.EngineLaws.{start_propagation, start_running}
 use Rattle.recalc.proofs.changing.start.Goals as goal
 
 pub run-requires-clause-propagation : goal.run-requires-clause-propagation
-run-requires-clause-propagation g c = start_propagation (names_of c.args.dict.now.checks) (accepted c.args.dict.now) c.source-source.ensures.is_accepted (answered c.args.answers.now) c.requires.fit c.args.store.now.cells c.requires.cells
+run-requires-clause-propagation g c = start_propagation (names_of c.args.dict.now.checks) (accepted c.args.dict.now) c.source-source.ensures.is_accepted (answered c.args.answers.now) c.requires.fit c.args.state.now c.requires.cells
 
 pub run-requires-clause-start : goal.run-requires-clause-start
-run-requires-clause-start g c = start_running (names_of c.args.dict.now.checks) (accepted c.args.dict.now) c.source-source.ensures.is_accepted (answered c.args.answers.now) c.requires.fit c.args.store.now.cells c.requires.cells c.seed_all.new.queue c.in_ok-seed_all.ensures
+run-requires-clause-start g c =
+    start_running (names_of c.args.dict.now.checks) (accepted c.args.dict.now) c.source-source.ensures.is_accepted (answered c.args.answers.now) c.requires.fit c.args.state.now c.requires.cells
+    c.requires.idle.nothing_kept c.seed_all.new.queue c.in_ok-seed_all.ensures

@@ -3,85 +3,78 @@ use Rattle.dep_index.specs.Readers.{row}
 use Rattle.dep_index.specs.declared.row.ReaderOf.{ReaderOf}
 use Rattle.dictionary.specs.Weights.{slot_weight}
 use Rattle.recalc.specs.Propagations.{setting_of, spread_of}
-use Rattle.recalc.specs.Replacing.{entries}
-use Rattle.recalc.specs.Running.{HasTurned, IsPopped, IsRunning, slot_of}
+use Rattle.recalc.specs.Running.{IsPopped, IsRunning}
 use Rattle.recalc.specs.Waiting.{DirtySlots, waits}
 use Rattle.recalc.specs.declared.dirty_queue.DirtySlot.{DirtySlot}
+use Rattle.recalc.specs.declared.engine_state.EngineState.{EngineState}
 use Rattle.recalc.proofs.RunningLaws.{ended_new, fewer, popped_below, popped_new, popped_number, popped_stands, steps_after, steps_ended, steps_within, still_running, now_done}
 use Rattle.recalc.proofs.running.run.Goals as goal
 
 pub turn-requires-clause-stands : goal.turn-requires-clause-stands
 turn-requires-clause-stands g c =
-    let pop : IsPopped c.loop-dirty.queue c.pop.new.self c.in-Some.dirty = record { some = c.in-Some.ensures.some; rest = c.in-Some.ensures.rest; least = c.in-Some.ensures.least } in
-    popped_stands (setting_of c.args.propagation.now) (spread_of c.args.propagation.now) c.args.store.now.cells c.requires.propagation c.loop-dirty.queue (entries c.loop-dirty.log) c.loop-dirty.store.cells c.loop-dirty.invariant.running c.pop.new.self c.in-Some.dirty pop
+    let pop : IsPopped c.loop-dirty.state.queue c.pop.new.self c.in-Some.dirty = record { some = c.in-Some.ensures.some; rest = c.in-Some.ensures.rest; least = c.in-Some.ensures.least } in
+    popped_stands (setting_of c.args.propagation.now) (spread_of c.args.propagation.now) c.args.state.now.store.cells c.requires.propagation c.loop-dirty.state c.loop-dirty.invariant.running c.pop.new.self c.in-Some.dirty pop
 
 pub turn-requires-clause-below : goal.turn-requires-clause-below
 turn-requires-clause-below g c =
-    let pop : IsPopped c.loop-dirty.queue c.pop.new.self c.in-Some.dirty = record { some = c.in-Some.ensures.some; rest = c.in-Some.ensures.rest; least = c.in-Some.ensures.least } in
-    popped_below (setting_of c.args.propagation.now) (spread_of c.args.propagation.now) c.args.store.now.cells c.requires.propagation c.loop-dirty.queue (entries c.loop-dirty.log) c.loop-dirty.store.cells c.loop-dirty.invariant.running c.pop.new.self c.in-Some.dirty pop
+    let pop : IsPopped c.loop-dirty.state.queue c.pop.new.self c.in-Some.dirty = record { some = c.in-Some.ensures.some; rest = c.in-Some.ensures.rest; least = c.in-Some.ensures.least } in
+    popped_below (setting_of c.args.propagation.now) (spread_of c.args.propagation.now) c.args.state.now.store.cells c.requires.propagation c.loop-dirty.state c.loop-dirty.invariant.running c.pop.new.self c.in-Some.dirty pop
 
 pub turn-requires-clause-fresh : goal.turn-requires-clause-fresh
 turn-requires-clause-fresh g c =
-    let pop : IsPopped c.loop-dirty.queue c.pop.new.self c.in-Some.dirty = record { some = c.in-Some.ensures.some; rest = c.in-Some.ensures.rest; least = c.in-Some.ensures.least } in
-    popped_new (setting_of c.args.propagation.now) (spread_of c.args.propagation.now) c.args.store.now.cells c.requires.propagation c.loop-dirty.queue (entries c.loop-dirty.log) c.loop-dirty.store.cells c.loop-dirty.invariant.running c.pop.new.self c.in-Some.dirty pop
+    let pop : IsPopped c.loop-dirty.state.queue c.pop.new.self c.in-Some.dirty = record { some = c.in-Some.ensures.some; rest = c.in-Some.ensures.rest; least = c.in-Some.ensures.least } in
+    popped_new (setting_of c.args.propagation.now) (spread_of c.args.propagation.now) c.args.state.now.store.cells c.requires.propagation c.loop-dirty.state c.loop-dirty.invariant.running c.pop.new.self c.in-Some.dirty pop
 
 pub loop-dirty-preserved : goal.loop-dirty-preserved
 loop-dirty-preserved g c =
     let k = setting_of c.args.propagation.now in
     let s = spread_of c.args.propagation.now in
-    let first = c.args.store.now.cells in
-    let log = entries c.loop-dirty.log in
-    let cells = c.loop-dirty.store.cells in
+    let first = c.args.state.now.store.cells in
     let dirty = c.in-Some.dirty in
-    let rs : List ReaderOf = row c.args.readers.now dirty.fact in
-    let pop : IsPopped c.loop-dirty.queue c.pop.new.self dirty = record { some = c.in-Some.ensures.some; rest = c.in-Some.ensures.rest; least = c.in-Some.ensures.least } in
-    let are = c.requires.index.each dirty.fact (popped_number k s first c.requires.propagation c.loop-dirty.queue log cells c.loop-dirty.invariant.running c.pop.new.self dirty pop) in
-    let turned : HasTurned k rs (slot_of dirty) c.pop.new.self log cells c.turn.new.queue (entries c.turn.new.log) c.turn.new.store.cells = record { put = c.in_ok-turn.ensures.cells; kept = c.in_ok-turn.ensures.kept; marked = c.in_ok-turn.ensures.queue } in
+    let rs : List ReaderOf = row c.args.graph.now.readers dirty.fact in
+    let pop : IsPopped c.loop-dirty.state.queue c.pop.new.self dirty = record { some = c.in-Some.ensures.some; rest = c.in-Some.ensures.rest; least = c.in-Some.ensures.least } in
+    let are = c.requires.graph.index.each dirty.fact (popped_number k s first c.requires.propagation c.loop-dirty.state c.loop-dirty.invariant.running c.pop.new.self dirty pop) in
     record {
-      running = still_running k s first c.requires.propagation c.loop-dirty.queue log cells c.loop-dirty.invariant.running c.pop.new.self dirty pop rs are c.turn.new.queue (entries c.turn.new.log) c.turn.new.store.cells turned;
+      running = still_running k s first c.requires.propagation c.loop-dirty.state c.loop-dirty.invariant.running c.pop.new.self dirty pop rs are c.turn.new.state c.in_ok-turn.ensures.turned;
       undo = c.turn.ensures.undo ∙ c.loop-dirty.invariant.undo;
       can = c.turn.ensures.can c.loop-dirty.invariant.can;
       most = subst (λ ss. c.turn.new.steps ≤ c.args.steps.now + sum_by (slot_weight k.dict k.now) ss)
-          (sym (now_done k s first c.requires.propagation c.loop-dirty.queue log cells c.loop-dirty.invariant.running c.pop.new.self dirty pop rs are c.turn.new.queue (entries c.turn.new.log) c.turn.new.store.cells turned))
-          (steps_after k s first c.requires.propagation c.loop-dirty.queue log cells c.loop-dirty.invariant.running c.pop.new.self dirty pop c.args.steps.now c.loop-dirty.steps c.turn.new.steps c.loop-dirty.invariant.most c.turn.ensures.most);
+          (sym (now_done k s first c.requires.propagation c.loop-dirty.state c.loop-dirty.invariant.running c.pop.new.self dirty pop rs are c.turn.new.state c.in_ok-turn.ensures.turned))
+          (steps_after k s first c.requires.propagation c.loop-dirty.state c.loop-dirty.invariant.running c.pop.new.self dirty pop c.args.steps.now c.loop-dirty.steps c.turn.new.steps c.loop-dirty.invariant.most c.turn.ensures.most);
     }
 
 pub returns-in_err-turn-clause-most : goal.returns-in_err-turn-clause-most
 returns-in_err-turn-clause-most g c =
-    let pop : IsPopped c.loop-dirty.queue c.pop.new.self c.in-Some.dirty = record { some = c.in-Some.ensures.some; rest = c.in-Some.ensures.rest; least = c.in-Some.ensures.least } in
-    steps_within (setting_of c.args.propagation.now) (spread_of c.args.propagation.now) c.args.store.now.cells c.requires.propagation c.loop-dirty.queue (entries c.loop-dirty.log) c.loop-dirty.store.cells c.loop-dirty.invariant.running c.pop.new.self c.in-Some.dirty pop
+    let pop : IsPopped c.loop-dirty.state.queue c.pop.new.self c.in-Some.dirty = record { some = c.in-Some.ensures.some; rest = c.in-Some.ensures.rest; least = c.in-Some.ensures.least } in
+    steps_within (setting_of c.args.propagation.now) (spread_of c.args.propagation.now) c.args.state.now.store.cells c.requires.propagation c.loop-dirty.state c.loop-dirty.invariant.running c.pop.new.self c.in-Some.dirty pop
     c.args.steps.now c.loop-dirty.steps c.turn.new.steps c.loop-dirty.invariant.most c.turn.ensures.most
 
 pub loop-dirty-smaller : goal.loop-dirty-smaller
 loop-dirty-smaller g c =
     let k = setting_of c.args.propagation.now in
     let s = spread_of c.args.propagation.now in
-    let first = c.args.store.now.cells in
-    let log = entries c.loop-dirty.log in
-    let cells = c.loop-dirty.store.cells in
+    let first = c.args.state.now.store.cells in
     let dirty = c.in-Some.dirty in
-    let rs : List ReaderOf = row c.args.readers.now dirty.fact in
-    let pop : IsPopped c.loop-dirty.queue c.pop.new.self dirty = record { some = c.in-Some.ensures.some; rest = c.in-Some.ensures.rest; least = c.in-Some.ensures.least } in
-    let are = c.requires.index.each dirty.fact (popped_number k s first c.requires.propagation c.loop-dirty.queue log cells c.loop-dirty.invariant.running c.pop.new.self dirty pop) in
-    let turned : HasTurned k rs (slot_of dirty) c.pop.new.self log cells c.turn.new.queue (entries c.turn.new.log) c.turn.new.store.cells = record { put = c.in_ok-turn.ensures.cells; kept = c.in_ok-turn.ensures.kept; marked = c.in_ok-turn.ensures.queue } in
-    fewer k s first c.requires.propagation c.loop-dirty.queue log cells c.loop-dirty.invariant.running c.pop.new.self dirty pop rs are c.turn.new.queue (entries c.turn.new.log) c.turn.new.store.cells turned
+    let rs : List ReaderOf = row c.args.graph.now.readers dirty.fact in
+    let pop : IsPopped c.loop-dirty.state.queue c.pop.new.self dirty = record { some = c.in-Some.ensures.some; rest = c.in-Some.ensures.rest; least = c.in-Some.ensures.least } in
+    let are = c.requires.graph.index.each dirty.fact (popped_number k s first c.requires.propagation c.loop-dirty.state c.loop-dirty.invariant.running c.pop.new.self dirty pop) in
+    fewer k s first c.requires.propagation c.loop-dirty.state c.loop-dirty.invariant.running c.pop.new.self dirty pop rs are c.turn.new.state c.in_ok-turn.ensures.turned
 
 pub returns-clause-done : goal.returns-clause-done
 returns-clause-done g c =
     let k = setting_of c.args.propagation.now in
     let s = spread_of c.args.propagation.now in
-    let first = c.args.store.now.cells in
-    let log = entries c.loop-dirty.log in
-    let cells = c.loop-dirty.store.cells in
-    let running : IsRunning k s first c.pop.new.self log cells =
-    subst (λ (queue : DirtySlots). IsRunning k s first queue log cells) (sym c.in_default.ensures.unchanged) c.loop-dirty.invariant.running in
+    let first = c.args.state.now.store.cells in
+    let state : EngineState = record c.loop-dirty.state { queue = c.pop.new.self } in
+    let running : IsRunning k s first state =
+    subst (λ (queue : DirtySlots). IsRunning k s first (record c.loop-dirty.state { queue = queue })) (sym c.in_default.ensures.unchanged) c.loop-dirty.invariant.running in
     let none : (q : DirtySlot) → waits c.pop.new.self q ≡ false = (λ q. ap (λ (queue : DirtySlots). waits queue q) c.in_default.ensures.unchanged ∙ c.in_default.ensures.none q) in
     record {
       running = running;
       none = none;
-      results = ended_new k s first c.requires.propagation c.pop.new.self log cells running none;
+      results = ended_new k s first c.requires.propagation state running none;
     }
 
 pub returns-clause-most : goal.returns-clause-most
 returns-clause-most g c =
-    steps_ended (setting_of c.args.propagation.now) (spread_of c.args.propagation.now) c.args.store.now.cells c.requires.propagation c.loop-dirty.queue (entries c.loop-dirty.log) c.loop-dirty.store.cells c.loop-dirty.invariant.running c.args.steps.now c.loop-dirty.steps c.loop-dirty.invariant.most
+    steps_ended (setting_of c.args.propagation.now) (spread_of c.args.propagation.now) c.args.state.now.store.cells c.requires.propagation c.loop-dirty.state c.loop-dirty.invariant.running c.args.steps.now c.loop-dirty.steps c.loop-dirty.invariant.most

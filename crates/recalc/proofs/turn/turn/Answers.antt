@@ -13,4 +13,4 @@ mark-requires g c =
     let d = accepted c.args.propagation.now.dict.now in
     let fact = c.args.slot.fact in
     subst (λ (rs : List ReaderOf). All (λ (r : ReaderOf). IsNumber d.tree.facts r.fact) rs) (sym c.readers.ensures)
-    (readers_are_facts d fact (row c.args.readers.now fact) (c.requires.index.each fact (number_of_standing d (answered c.args.propagation.now.answers.now) c.args.slot c.requires.stands)))
+    (readers_are_facts d fact (row c.args.graph.now.readers fact) (c.requires.graph.index.each fact (number_of_standing d (answered c.args.propagation.now.answers.now) c.args.slot c.requires.stands)))

@@ -6,8 +6,8 @@ use Rattle.save_file.proofs.dropped.put_dropped.Goals as goal
 pub returns-clause-text : goal.returns-clause-text
 returns-clause-text g c =
     λ text is.
-    subst (λ (t : List ℕ). Wrote (g.K.Sink.taken c.args.out.now) (g.K.Sink.taken c.put_lines.new.out) (g.K.Sink.faults c.args.out.now) (g.K.Sink.faults c.put_lines.new.out) t c.put_lines.result)
+    subst (λ (t : List ℕ). Wrote (g.K.Sink.output c.args.out.now) (g.K.Sink.output c.put_lines.new.out) t c.put_lines.result)
     (said_text c.args.bytes.now c.args.dropped.now text is) c.put_lines.ensures
 
 pub returns-clause-cause : goal.returns-clause-cause
-returns-clause-cause g c = cause_of _ _ _ _ _ c.put_lines.result c.put_lines.ensures
+returns-clause-cause g c = cause_of (g.K.Sink.output c.args.out.now) (g.K.Sink.output c.put_lines.new.out) _ c.put_lines.result c.put_lines.ensures

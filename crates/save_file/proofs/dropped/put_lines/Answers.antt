@@ -14,7 +14,7 @@ returns-in-Err g c =
     let cut = c.cut_line-cut.result in
     let number = c.loop-rest.number in
     let left = c.loop-rest.left.now in
-    failed_within _ _ _ _ _ _ text (joined (said_if (is_next number left) cut.0.now)) (joined (said_at (number + 1) (past number left) (lines_of cut.1.now)))
+    failed_within _ _ _ text (joined (said_if (is_next number left) cut.0.now)) (joined (said_at (number + 1) (past number left) (lines_of cut.1.now)))
     (next_dropped _ _ text number left (past number left) cut.0.now (lines_of c.loop-rest.rest.now) (lines_of cut.1.now) c.cut_line-cut.ensures.lines refl c.loop-rest.invariant.sent)
     c.loop-rest.invariant.later c.in-Err.ensures
 

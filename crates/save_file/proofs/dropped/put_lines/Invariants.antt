@@ -7,9 +7,9 @@ use Rattle.save_file.proofs.dropped.put_lines.Given as goal
 
 abbrev pub invariant-loop-rest : goal.invariant-loop-rest
 invariant-loop-rest g l = record {
-  sent : Sent (g.K.Sink.taken l.fn.out) (g.K.Sink.taken l.out) (joined (said_at 1 l.fn.dropped (lines_of l.fn.bytes)))
+  sent : Sent (g.K.Sink.output l.fn.out).taken (g.K.Sink.output l.out).taken (joined (said_at 1 l.fn.dropped (lines_of l.fn.bytes)))
       (joined (said_at l.number l.left (lines_of l.rest)));
-  later : g.K.Sink.faults l.fn.out ≤ g.K.Sink.faults l.out;
+  later : (g.K.Sink.output l.fn.out).faults ≤ (g.K.Sink.output l.out).faults;
   room : l.number + length l.rest ≤ length l.fn.bytes + 1;
 }
 

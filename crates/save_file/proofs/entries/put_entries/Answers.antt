@@ -16,7 +16,7 @@ returns-in-Err g c =
     let a = answered c.args.answers.now in
     let f = entry_lines c.args.side d a in
     let rest = slots_left d a c.next.new.self in
-    failed_within _ _ _ _ _ _ (joined (entries c.args.side d a)) (joined (f c.in-Some.slot)) (joined (flat_map f rest))
+    failed_within _ _ _ (joined (entries c.args.side d a)) (joined (f c.in-Some.slot)) (joined (flat_map f rest))
     (next_piece f _ _ _ c.in-Some.slot (slots_left d a c.loop-slot.cursor) rest c.in-Some.ensures c.loop-slot.invariant.sent)
     c.loop-slot.invariant.later c.in-Err.ensures
 

@@ -10,9 +10,9 @@ use Rattle.save_file.proofs.entries.put_entries.Given as goal
 
 abbrev pub invariant-loop-slot : goal.invariant-loop-slot
 invariant-loop-slot g l = record {
-  sent : Sent (g.K.Sink.taken l.fn.out) (g.K.Sink.taken l.out) (joined (entries l.side (accepted l.dict).tree (answered l.answers)))
+  sent : Sent (g.K.Sink.output l.fn.out).taken (g.K.Sink.output l.out).taken (joined (entries l.side (accepted l.dict).tree (answered l.answers)))
       (joined (flat_map (entry_lines l.side (accepted l.dict).tree (answered l.answers)) (slots_left (accepted l.dict).tree (answered l.answers) l.cursor)));
-  later : g.K.Sink.faults l.fn.out ≤ g.K.Sink.faults l.out;
+  later : (g.K.Sink.output l.fn.out).faults ≤ (g.K.Sink.output l.out).faults;
 }
 
 abbrev pub decreases-loop-slot : goal.decreases-loop-slot

@@ -19,7 +19,7 @@ push-requires-2 g c =
 pub returns : goal.returns
 returns g c =
     let d = accepted c.args.dict.now in
-    subst (λ (t : List ℕ). Wrote (g.K.Sink.taken c.args.out.now) (g.K.Sink.taken c.put_text.new.out) (g.K.Sink.faults c.args.out.now) (g.K.Sink.faults c.put_text.new.out) t c.put_text.result)
+    subst (λ (t : List ℕ). Wrote (g.K.Sink.output c.args.out.now) (g.K.Sink.output c.put_text.new.out) t c.put_text.result)
     (c.bytes.ensures.value ∙ c.push-2.ensures.appended
     ∙ ap (λ (t : List ℕ). t ++ codes " ") (c.print_slot.ensures ∙ ap (λ (t : List ℕ). t ++ slot_text d.tree c.args.slot) (c.push.ensures.appended ∙ ap (λ (t : List ℕ). t ++ c.as_bytes.result.now) c.new-line.ensures ∙ c.as_bytes.ensures.value ∙ c.side_word.ensures.word))
     ∙ append_assoc (side_word c.args.side) (slot_text d.tree c.args.slot) (codes " "))

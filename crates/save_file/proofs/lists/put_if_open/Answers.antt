@@ -19,5 +19,5 @@ put_list-requires-clause-members g c =
 
 pub returns-in-Some : goal.returns-in-Some
 returns-in-Some g c =
-    subst (λ (o : Option (List ℕ)). Wrote (g.K.Sink.taken c.args.out.now) (g.K.Sink.taken c.put_list.new.out) (g.K.Sink.faults c.args.out.now) (g.K.Sink.faults c.put_list.new.out) (joined (list_lines_of (accepted c.args.dict.now).tree c.args.fact o)) c.put_list.result)
+    subst (λ (o : Option (List ℕ)). Wrote (g.K.Sink.output c.args.out.now) (g.K.Sink.output c.put_list.new.out) (joined (list_lines_of (accepted c.args.dict.now).tree c.args.fact o)) c.put_list.result)
     c.in-Some.ensures c.put_list.ensures

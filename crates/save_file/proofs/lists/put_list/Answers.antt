@@ -35,7 +35,7 @@ pub returns : goal.returns
 returns g c =
     let d = accepted c.args.dict.now in
     let text = slot_text d.tree (slot c.args.fact 0) in
-    subst (λ (t : List ℕ). Wrote (g.K.Sink.taken c.args.out.now) (g.K.Sink.taken c.put_text.new.out) (g.K.Sink.faults c.args.out.now) (g.K.Sink.faults c.put_text.new.out) t c.put_text.result)
+    subst (λ (t : List ℕ). Wrote (g.K.Sink.output c.args.out.now) (g.K.Sink.output c.put_text.new.out) t c.put_text.result)
     (c.bytes.ensures.value ∙ c.push-2.ensures.appended
     ∙ ap (λ (t : List ℕ). t ++ 10 ∷ []) (
     c.print_members.ensures.appended

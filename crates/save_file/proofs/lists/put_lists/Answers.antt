@@ -19,7 +19,7 @@ returns-in-Err g c =
     let count = c.fact_count-count.result in
     let one : suc done ≡ done + 1 = omega arith in
     let rest = counted (suc (done + 1)) (count - (done + 1)) in
-    failed_within _ _ _ _ _ _ (joined (lists d a)) (joined (f (done + 1))) (joined (flat_map f rest))
+    failed_within _ _ _ (joined (lists d a)) (joined (f (done + 1))) (joined (flat_map f rest))
     (next_piece f _ _ _ (done + 1) (counted (suc done) (count - done)) rest (counted_more done count c.loop-done-test.true ∙ ap (λ (n : ℕ). n ∷ counted (suc n) (count - n)) one) c.loop-done.invariant.sent)
     c.loop-done.invariant.later c.in-Err.ensures
 

@@ -9,9 +9,9 @@ use Rattle.save_file.proofs.lists.put_lists.Given as goal
 
 abbrev pub invariant-loop-done : goal.invariant-loop-done
 invariant-loop-done g l = record {
-  sent : Sent (g.K.Sink.taken l.fn.out) (g.K.Sink.taken l.out) (joined (lists (accepted l.dict).tree (answered l.answers)))
+  sent : Sent (g.K.Sink.output l.fn.out).taken (g.K.Sink.output l.out).taken (joined (lists (accepted l.dict).tree (answered l.answers)))
       (joined (flat_map (list_lines (accepted l.dict).tree (answered l.answers)) (counted (suc l.done) (l.count - l.done))));
-  later : g.K.Sink.faults l.fn.out ≤ g.K.Sink.faults l.out;
+  later : (g.K.Sink.output l.fn.out).faults ≤ (g.K.Sink.output l.out).faults;
 }
 
 abbrev pub decreases-loop-done : goal.decreases-loop-done

@@ -17,7 +17,7 @@ answer_noted-requires-clause-noted g c = λ change.
 pub returns-in-Ok-clause-stepped : goal.returns-in-Ok-clause-stepped
 returns-in-Ok-clause-stepped g c =
     let pairs : c.note.new.self.pairs ≡ c.args.watches.now.pairs = ap (λ (w : Watching). w.pairs) c.in-Ok.ensures.noted in
-    subst (λ (ps : List Pair). SteppedAs (g.K.Sink.taken c.args.out.now) (g.K.Sink.taken c.answer_noted.new.out) (g.K.Sink.faults c.args.out.now) (g.K.Sink.faults c.answer_noted.new.out)
+    subst (λ (ps : List Pair). SteppedAs (g.K.Sink.output c.args.out.now) (g.K.Sink.output c.answer_noted.new.out)
     (step_session_command (rules c.args.session.now.dict) (record { session_state = session_state c.args.session.now; relations = (named_relations c.args.table.now); watched = ps }) c.args.command.now)
     (record { session_state = session_state c.answer_noted.new.session; relations = (named_relations c.args.table.now); watched = c.note.new.self.pairs }) c.answer_noted.result)
     pairs c.answer_noted.ensures.stepped

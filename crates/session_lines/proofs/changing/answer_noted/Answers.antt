@@ -19,7 +19,7 @@ returns-in-Ok-clause-stepped g c =
     let r = rules c.args.session.now.dict in
     let here = line_state_of c.args.session.now (named_relations c.args.table.now) c.args.watches.now in
     let after = session_state c.command.new.self in
-    reply_steps _ _ _ _ r here after c.args.command.now c.in-Ok.reply (said r here c.args.command.now (reply_text r after c.in-Ok.reply) after) c.write_said.result
+    reply_steps _ _ r here after c.args.command.now c.in-Ok.reply (said r here c.args.command.now (reply_text r after c.in-Ok.reply) after) c.write_said.result
     c.in-Ok.ensures.ok refl
     (rw c.command.ensures.dict at (c.write_said.ensures.written (plain (accepted c.args.session.now.dict) c.args.session.now.timeline.now) c.requires.noted))
 
@@ -28,7 +28,7 @@ returns-in-Ok-clause-few g c = step_count (rules c.args.session.now.dict) (sessi
 
 pub returns-in-Err-clause-stepped : goal.returns-in-Err-clause-stepped
 returns-in-Err-clause-stepped g c =
-    refusal_steps _ _ _ _ (rules c.args.session.now.dict) (line_state_of c.args.session.now (named_relations c.args.table.now) c.args.watches.now) (session_state c.command.new.self) c.args.command.now c.in-Err.refusal c.write_refusal.result
+    refusal_steps _ _ (rules c.args.session.now.dict) (line_state_of c.args.session.now (named_relations c.args.table.now) c.args.watches.now) (session_state c.command.new.self) c.args.command.now c.in-Err.refusal c.write_refusal.result
     c.in-Err.ensures.refused (ap session_state c.in-Err.ensures.unchanged) c.write_refusal.ensures.written
 
 pub returns-in-Ok-clause-kept : goal.returns-in-Ok-clause-kept
@@ -36,10 +36,10 @@ returns-in-Ok-clause-kept g c =
     let r = rules c.args.session.now.dict in
     let here = line_state_of c.args.session.now (named_relations c.args.table.now) c.args.watches.now in
     let after = session_state c.command.new.self in
-    reply_keeps _ _ _ _ r here after c.args.command.now c.in-Ok.reply (said r here c.args.command.now (reply_text r after c.in-Ok.reply) after) c.write_said.result c.in-Ok.ensures.ok
+    reply_keeps _ _ r here after c.args.command.now c.in-Ok.reply (said r here c.args.command.now (reply_text r after c.in-Ok.reply) after) c.write_said.result c.in-Ok.ensures.ok
     (rw c.command.ensures.dict at (c.write_said.ensures.written (plain (accepted c.args.session.now.dict) c.args.session.now.timeline.now) c.requires.noted))
 
 pub returns-in-Err-clause-kept : goal.returns-in-Err-clause-kept
 returns-in-Err-clause-kept g c =
-    refusal_keeps _ _ _ _ (rules c.args.session.now.dict) (line_state_of c.args.session.now (named_relations c.args.table.now) c.args.watches.now) (session_state c.command.new.self) c.args.command.now c.in-Err.refusal c.write_refusal.result
+    refusal_keeps _ _ (rules c.args.session.now.dict) (line_state_of c.args.session.now (named_relations c.args.table.now) c.args.watches.now) (session_state c.command.new.self) c.args.command.now c.in-Err.refusal c.write_refusal.result
     c.in-Err.ensures.refused (ap session_state c.in-Err.ensures.unchanged) c.write_refusal.ensures.written

@@ -22,5 +22,5 @@ returns-in-Some g c = λ before noted.
     let d = accepted c.args.session.now.dict in
     let now = plain d c.args.session.now.timeline.now in
     let says = sym (c.fires.ensures before noted) ∙ c.if-not-fires.false in
-    subst (λ (t : List ℕ). Wrote (g.K.Sink.taken c.args.out.now) (g.K.Sink.taken c.put_line.new.out) (g.K.Sink.faults c.args.out.now) (g.K.Sink.faults c.put_line.new.out) t c.put_line.result)
+    subst (λ (t : List ℕ). Wrote (g.K.Sink.output c.args.out.now) (g.K.Sink.output c.put_line.new.out) t c.put_line.result)
     (sym (line_said d.tree (named_relations c.args.table.now) before now (slice_get c.args.watches.now.pairs c.args.n) c.in-Some.pair (sym c.in-Some.ensures) says)) c.put_line.ensures

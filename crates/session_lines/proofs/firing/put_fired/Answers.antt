@@ -19,7 +19,7 @@ returns-in-Err g c = λ before noted.
     let now = plain d c.args.session.now.timeline.now in
     let pairs = c.args.watches.now.pairs in
     let named = (named_relations c.args.table.now) in
-    failed_within _ _ _ _ _ _ (joined (firing_lines d.tree named before now pairs)) (joined (firing_lines_at d.tree named before now (slice_get pairs c.loop-n.n))) (joined (firing_lines d.tree named before now (drop (c.loop-n.n + 1) pairs)))
+    failed_within _ _ _ (joined (firing_lines d.tree named before now pairs)) (joined (firing_lines_at d.tree named before now (slice_get pairs c.loop-n.n))) (joined (firing_lines d.tree named before now (drop (c.loop-n.n + 1) pairs)))
     (subst (Sent _ _ _) (lines_at d.tree named before now c.loop-n.n pairs (omega (arith, c.loop-n-test.true, c.len-n-end.ensures.count))) (c.loop-n.invariant.sent before noted))
     c.loop-n.invariant.later (c.in-Err.ensures before noted)
 

@@ -11,8 +11,8 @@ use Rattle.session_lines.proofs.firing.put_fired.Given as goal
 
 abbrev pub invariant-loop-n : goal.invariant-loop-n
 invariant-loop-n g l = record {
-  sent : (before : Results) → l.watches ≡ noted l.watches.pairs before → Sent (g.K.Sink.taken l.fn.out) (g.K.Sink.taken l.out)
+  sent : (before : Results) → l.watches ≡ noted l.watches.pairs before → Sent (g.K.Sink.output l.fn.out).taken (g.K.Sink.output l.out).taken
       (joined (firing_lines (accepted l.session.dict).tree (named_relations l.table) before (plain (accepted l.session.dict) l.session.timeline.now) l.watches.pairs))
       (joined (firing_lines (accepted l.session.dict).tree (named_relations l.table) before (plain (accepted l.session.dict) l.session.timeline.now) (drop l.n l.watches.pairs)));
-  later : g.K.Sink.faults l.fn.out ≤ g.K.Sink.faults l.out;
+  later : (g.K.Sink.output l.fn.out).faults ≤ (g.K.Sink.output l.out).faults;
 }

@@ -10,10 +10,10 @@ use Rattle.session_lines.proofs.listing.answer_missing.Goals as goal
 
 pub returns-in-Ok-clause-output : goal.returns-in-Ok-clause-output
 returns-in-Ok-clause-output g c =
-    subst (λ o. OutputAs (g.K.Sink.taken c.args.out.now) (g.K.Sink.taken c.write_missing.new.out) (g.K.Sink.faults c.args.out.now) (g.K.Sink.faults c.write_missing.new.out) (missing_answer (rules c.args.session.now.dict) (session_state c.args.session.now) o) c.write_missing.result)
+    subst (λ o. OutputAs (g.K.Sink.output c.args.out.now) (g.K.Sink.output c.write_missing.new.out) (missing_answer (rules c.args.session.now.dict) (session_state c.args.session.now) o) c.write_missing.result)
     c.in-Ok.ensures.found c.write_missing.ensures.output
 
 pub returns-in-Err-clause-output : goal.returns-in-Err-clause-output
 returns-in-Err-clause-output g c =
-    subst (λ o. OutputAs (g.K.Sink.taken c.args.out.now) (g.K.Sink.taken c.write_refusal.new.out) (g.K.Sink.faults c.args.out.now) (g.K.Sink.faults c.write_refusal.new.out) (missing_answer (rules c.args.session.now.dict) (session_state c.args.session.now) o) c.write_refusal.result)
-    c.in-Err.ensures.found (refusal_output _ _ _ _ (line_with (refusal_text c.in-Err.refusal)) (is_memory c.in-Err.refusal) c.write_refusal.result c.write_refusal.ensures.written)
+    subst (λ o. OutputAs (g.K.Sink.output c.args.out.now) (g.K.Sink.output c.write_refusal.new.out) (missing_answer (rules c.args.session.now.dict) (session_state c.args.session.now) o) c.write_refusal.result)
+    c.in-Err.ensures.found (refusal_output _ _ (line_with (refusal_text c.in-Err.refusal)) (is_memory c.in-Err.refusal) c.write_refusal.result c.write_refusal.ensures.written)

@@ -10,13 +10,13 @@ use Rattle.session_lines.proofs.watching.answer_unwatch.Goals as goal
 pub returns-in-Ok-clause-stepped : goal.returns-in-Ok-clause-stepped
 returns-in-Ok-clause-stepped g c =
     let here = line_state_of c.args.session.now (named_relations c.args.table.now) c.args.watches.now in
-    subst (λ o. SteppedAs (g.K.Sink.taken c.args.out.now) (g.K.Sink.taken c.unwatch_slot.new.out) (g.K.Sink.faults c.args.out.now) (g.K.Sink.faults c.unwatch_slot.new.out) (cut_watch here c.args.name.now o) (line_state_of c.args.session.now (named_relations c.args.table.now) c.unwatch_slot.new.watches) c.unwatch_slot.result)
+    subst (λ o. SteppedAs (g.K.Sink.output c.args.out.now) (g.K.Sink.output c.unwatch_slot.new.out) (cut_watch here c.args.name.now o) (line_state_of c.args.session.now (named_relations c.args.table.now) c.unwatch_slot.new.watches) c.unwatch_slot.result)
     c.in-Ok.ensures.found c.unwatch_slot.ensures.stepped
 
 pub returns-in-Err-clause-stepped : goal.returns-in-Err-clause-stepped
 returns-in-Err-clause-stepped g c =
     let here = line_state_of c.args.session.now (named_relations c.args.table.now) c.args.watches.now in
-    ends_or_steps _ _ _ _ _ here (refusal_text c.in-Err.refusal) (is_memory c.in-Err.refusal) c.write_refusal.result
+    ends_or_steps _ _ _ here (refusal_text c.in-Err.refusal) (is_memory c.in-Err.refusal) c.write_refusal.result
     (λ _. ap (cut_watch here c.args.name.now) (sym c.in-Err.ensures.found)) c.write_refusal.ensures.written
 
 pub returns-in-Ok-clause-kept : goal.returns-in-Ok-clause-kept
@@ -28,5 +28,5 @@ returns-in-Ok-clause-kept g c =
 pub returns-in-Err-clause-kept : goal.returns-in-Err-clause-kept
 returns-in-Err-clause-kept g c =
     let here = line_state_of c.args.session.now (named_relations c.args.table.now) c.args.watches.now in
-    keeps_refused _ _ _ _ here here _ (line_with (refusal_text c.in-Err.refusal)) (is_memory c.in-Err.refusal) c.write_refusal.result refl
+    keeps_refused _ _ here here _ (line_with (refusal_text c.in-Err.refusal)) (is_memory c.in-Err.refusal) c.write_refusal.result refl
     (λ _. ap (λ o. (cut_watch here c.args.name.now o).state) (sym c.in-Err.ensures.found)) c.write_refusal.ensures.written

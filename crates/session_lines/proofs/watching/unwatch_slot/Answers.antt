@@ -13,7 +13,7 @@ returns-in-Ok-clause-stepped g c =
     let pairs = c.args.watches.now.pairs in
     let place = place_in (named_relations c.args.table.now) c.args.name.now in
     let same = place_by_names c.args.table.now.relations.items (λ r. r.name) (λ r. r.code) c.args.name.now in
-    allowed_steps _ _ _ _ (line_state_of c.args.session.now _ c.args.watches.now) (without (pair_of place slot) pairs) c.unwatch.new.watches.pairs c.write_text.result
+    allowed_steps _ _ (line_state_of c.args.session.now _ c.args.watches.now) (without (pair_of place slot) pairs) c.unwatch.new.watches.pairs c.write_text.result
     (unwatch_refusal place pairs slot) (ap (λ p. unwatch_refusal p pairs slot) same ∙ c.in-Ok.ensures.allowed)
     (ap (λ (w : Watching). w.pairs) c.in-Ok.ensures.cut ∙ ap (λ p. without (pair_of p slot) pairs) (sym same))
     c.write_text.ensures.written
@@ -24,7 +24,7 @@ returns-in-Err-clause-stepped g c =
     let pairs = c.args.watches.now.pairs in
     let place = place_in (named_relations c.args.table.now) c.args.name.now in
     let same = place_by_names c.args.table.now.relations.items (λ r. r.name) (λ r. r.code) c.args.name.now in
-    refused_steps _ _ _ _ (line_state_of c.args.session.now _ c.args.watches.now) (without (pair_of place slot) pairs) c.unwatch.new.watches.pairs c.write_watch_refusal.result
+    refused_steps _ _ (line_state_of c.args.session.now _ c.args.watches.now) (without (pair_of place slot) pairs) c.unwatch.new.watches.pairs c.write_watch_refusal.result
     (unwatch_refusal place pairs slot) c.in-Err.refusal (subst (λ p. Refused c.in-Err.refusal (unwatch_refusal p pairs slot)) (sym same) c.in-Err.ensures.refused)
     (ap (λ (w : Watching). w.pairs) c.in-Err.ensures.unchanged)
     c.write_watch_refusal.ensures.written
@@ -35,7 +35,7 @@ returns-in-Ok-clause-kept g c =
     let pairs = c.args.watches.now.pairs in
     let place = place_in (named_relations c.args.table.now) c.args.name.now in
     let same = place_by_names c.args.table.now.relations.items (λ r. r.name) (λ r. r.code) c.args.name.now in
-    allowed_keeps _ _ _ _ (line_state_of c.args.session.now _ c.args.watches.now) (without (pair_of place slot) pairs) c.unwatch.new.watches.pairs c.write_text.result
+    allowed_keeps _ _ (line_state_of c.args.session.now _ c.args.watches.now) (without (pair_of place slot) pairs) c.unwatch.new.watches.pairs c.write_text.result
     (unwatch_refusal place pairs slot) (ap (λ p. unwatch_refusal p pairs slot) same ∙ c.in-Ok.ensures.allowed)
     (ap (λ (w : Watching). w.pairs) c.in-Ok.ensures.cut ∙ ap (λ p. without (pair_of p slot) pairs) (sym same))
     c.write_text.ensures.written
@@ -46,7 +46,7 @@ returns-in-Err-clause-kept g c =
     let pairs = c.args.watches.now.pairs in
     let place = place_in (named_relations c.args.table.now) c.args.name.now in
     let same = place_by_names c.args.table.now.relations.items (λ r. r.name) (λ r. r.code) c.args.name.now in
-    refused_keeps _ _ _ _ (line_state_of c.args.session.now _ c.args.watches.now) (without (pair_of place slot) pairs) c.unwatch.new.watches.pairs c.write_watch_refusal.result
+    refused_keeps _ _ (line_state_of c.args.session.now _ c.args.watches.now) (without (pair_of place slot) pairs) c.unwatch.new.watches.pairs c.write_watch_refusal.result
     (unwatch_refusal place pairs slot) c.in-Err.refusal (subst (λ p. Refused c.in-Err.refusal (unwatch_refusal p pairs slot)) (sym same) c.in-Err.ensures.refused)
     (ap (λ (w : Watching). w.pairs) c.in-Err.ensures.unchanged)
     c.write_watch_refusal.ensures.written

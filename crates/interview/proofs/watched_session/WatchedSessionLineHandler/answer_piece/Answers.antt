@@ -5,7 +5,7 @@ use Rattle.interview.proofs.watched_session.WatchedSessionLineHandler.answer_pie
 
 pub returns : goal.returns
 returns g c = record {
-  output = session_piece_output _ c.args.self.now.session c.answer_piece.new.session c.args.self.now.watches c.answer_piece.new.watches _ _ _ _ _ _ _ c.answer_piece.ensures.dict c.answer_piece.result c.answer_piece.ensures.answered;
+  output = session_piece_output _ c.args.self.now.session c.answer_piece.new.session c.args.self.now.watches c.answer_piece.new.watches (g.K.Sink.output c.args.out.now) (g.K.Sink.output c.answer_piece.new.out) _ _ _ c.answer_piece.ensures.dict c.answer_piece.result c.answer_piece.ensures.answered;
   same_rules = ap rules c.answer_piece.ensures.dict;
   few = c.answer_piece.ensures.few;
   later = c.answer_piece.ensures.later;

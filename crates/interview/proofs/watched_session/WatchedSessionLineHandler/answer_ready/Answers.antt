@@ -5,7 +5,7 @@ use Rattle.interview.proofs.watched_session.WatchedSessionLineHandler.answer_rea
 
 pub returns : goal.returns
 returns g c = record {
-  output = session_output _ c.args.self.now.session c.answer_ready.new.session c.args.self.now.watches c.answer_ready.new.watches _ _ _ _ _ c.answer_ready.result c.answer_ready.ensures.answered;
+  output = session_output _ c.args.self.now.session c.answer_ready.new.session c.args.self.now.watches c.answer_ready.new.watches (g.K.Sink.output c.args.out.now) (g.K.Sink.output c.answer_ready.new.out) _ c.answer_ready.result c.answer_ready.ensures.answered;
   same_rules = ap rules c.answer_ready.ensures.dict;
   later = c.answer_ready.ensures.later;
   steps = steps_output _ _ _ _ _ c.answer_ready.ensures.steps;

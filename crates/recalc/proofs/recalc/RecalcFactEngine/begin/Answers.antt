@@ -1,13 +1,12 @@
 use Rattle.std.proofs.Common.{refl}
 use Rattle.answers.specs.Meaning.{answered}
 use Rattle.dictionary.specs.Accepted.{accepted}
-use Rattle.recalc.specs.Replacing.{entries}
 use Rattle.recalc.proofs.EngineLaws.{start_stamps}
 use Rattle.recalc.proofs.recalc.RecalcFactEngine.begin.Goals as goal
 
 pub returns-clause-fresh : goal.returns-clause-fresh
 returns-clause-fresh c = λ _. record {
   changes = refl;
-  stamps = start_stamps (accepted c.args.dict.now) (answered c.args.answers.now) c.in_ok-store.store.cells c.in_ok-store.ensures.cells c.start.new.queue (entries c.start.new.log) c.start.new.store.cells c.in_ok-start.ensures;
+  stamps = start_stamps (accepted c.args.dict.now) (answered c.args.answers.now) c.in_ok-state.state.store.cells c.in_ok-state.ensures.cells c.start.new.state c.in_ok-start.ensures;
   touched = refl;
 }

@@ -2,7 +2,6 @@ use Rattle.std.proofs.Common.{◌+◌, refl, ◌∙◌}
 use Rattle.answers.specs.Meaning.{answered, change}
 use Rattle.dictionary.specs.Accepted.{accepted, names_of}
 use Rattle.dictionary.specs.Undone.{IsUndone}
-use Rattle.recalc.specs.Replacing.{entries}
 use Rattle.recalc.proofs.EngineLaws.{changed_count, changed_results, changed_stamps}
 use Rattle.recalc.proofs.recalc.RecalcFactEngine.refresh.Goals as goal
 
@@ -10,13 +9,11 @@ pub returns-in-Ok-clause-stands : goal.returns-in-Ok-clause-stands
 returns-in-Ok-clause-stands g c =
     let u : IsUndone (accepted c.args.dict.now) (change c.args.undo.now) (answered c.args.now.now) = record { can = c.requires.undone; before = c.requires.fit_before; after = c.requires.fit_now } in
     record {
-      compiled = c.requires.before.compiled;
-      index = c.requires.before.index;
+      graph = c.requires.before.graph;
       results = changed_results (names_of c.args.dict.now.checks) (accepted c.args.dict.now) c.source-source.ensures.is_accepted (change c.args.undo.now) (answered c.args.now.now)
-          u c.gone-gone.result c.gone-gone.ensures (c.args.self.now.changes + 1) c.args.self.now.store.cells c.requires.before.results
-          c.go_on.new.queue (entries c.go_on.new.log) c.go_on.new.store.cells c.in-Ok.ensures.done c.by_rank.result.now c.by_rank.ensures c.forget.new.store.cells c.forget.ensures;
-      none_waits = c.in-Ok.ensures.done.none;
-      nothing_kept = c.clear.ensures;
+          u c.gone-gone.result c.gone-gone.ensures (c.args.self.now.changes + 1) c.args.self.now.state c.requires.before.results
+          c.go_on.new.state c.in-Ok.ensures.done c.by_rank.result.now c.by_rank.ensures c.forget.new.store.cells c.forget.ensures;
+      idle = record { none_waits = c.in-Ok.ensures.done.none; nothing_kept = c.clear.ensures };
     }
 
 pub returns-in-Ok-clause-marked : goal.returns-in-Ok-clause-marked
@@ -25,9 +22,9 @@ returns-in-Ok-clause-marked g c = λ _.
     record {
       changes = refl;
       stamps = changed_stamps (names_of c.args.dict.now.checks) (accepted c.args.dict.now) c.source-source.ensures.is_accepted (change c.args.undo.now) (answered c.args.now.now)
-          u c.gone-gone.result c.gone-gone.ensures (c.args.self.now.changes + 1) c.args.self.now.store.cells c.requires.before.results
-          c.go_on.new.queue (entries c.go_on.new.log) c.go_on.new.store.cells c.in-Ok.ensures.done c.by_rank.result.now c.by_rank.ensures c.forget.new.store.cells c.forget.ensures;
+          u c.gone-gone.result c.gone-gone.ensures (c.args.self.now.changes + 1) c.args.self.now.state c.requires.before.results
+          c.go_on.new.state c.in-Ok.ensures.done c.by_rank.result.now c.by_rank.ensures c.forget.new.store.cells c.forget.ensures;
       touched = c.len.ensures ∙ changed_count (names_of c.args.dict.now.checks) (accepted c.args.dict.now) c.source-source.ensures.is_accepted (change c.args.undo.now) (answered c.args.now.now)
-          u c.gone-gone.result c.gone-gone.ensures (c.args.self.now.changes + 1) c.args.self.now.store.cells c.requires.before.results
-          c.go_on.new.queue (entries c.go_on.new.log) c.go_on.new.store.cells c.in-Ok.ensures.done c.by_rank.result.now c.by_rank.ensures c.forget.new.store.cells c.forget.ensures;
+          u c.gone-gone.result c.gone-gone.ensures (c.args.self.now.changes + 1) c.args.self.now.state c.requires.before.results
+          c.go_on.new.state c.in-Ok.ensures.done c.by_rank.result.now c.by_rank.ensures c.forget.new.store.cells c.forget.ensures;
     }

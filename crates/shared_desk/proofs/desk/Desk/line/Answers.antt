@@ -3,10 +3,10 @@ use Rattle.shared_desk.proofs.StandLaws.{line_leaves, line_refuses, line_replies
 use Rattle.shared_desk.proofs.desk.Desk.line.Goals as goal
 
 pub returns-in-None-clause-reply : goal.returns-in-None-clause-reply
-returns-in-None-clause-reply g c = λ d f. line_replies c.args.self.now c.answer.new.self d c.args.party c.args.command.now f c.answer.result (sym c.in-None.ensures) c.answer.ensures.ok
+returns-in-None-clause-reply g c = λ d f. line_replies c.args.self.now c.answer.new.self d c.args.party c.args.command.now f c.answer.result (sym c.in-None.ensures) c.answer.ensures.stepped.ok
 
 pub returns-in-None-clause-after : goal.returns-in-None-clause-after
-returns-in-None-clause-after g c = λ d f. line_leaves c.args.self.now c.answer.new.self d c.args.party c.args.command.now f c.answer.result (sym c.in-None.ensures) c.answer.ensures.ok c.answer.ensures.kept
+returns-in-None-clause-after g c = λ d f. line_leaves c.args.self.now c.answer.new.self d c.args.party c.args.command.now f c.answer.result (sym c.in-None.ensures) c.answer.ensures.stepped.ok c.answer.ensures.stepped.kept
 
 pub returns-in-None-clause-refused : goal.returns-in-None-clause-refused
-returns-in-None-clause-refused g c = λ d f. line_refuses c.args.self.now c.answer.new.self d c.args.party c.args.command.now f c.answer.result (sym c.in-None.ensures) c.answer.ensures.refused
+returns-in-None-clause-refused g c = λ d f. line_refuses c.args.self.now c.answer.new.self d c.args.party c.args.command.now f c.answer.result (sym c.in-None.ensures) c.answer.ensures.stepped.refused

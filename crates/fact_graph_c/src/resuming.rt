@@ -1,0 +1,102 @@
+// Begins sessions from saved texts that came from outside.
+ghost use Rattle.std.specs.Prelude.{◌≡◌, IfErr, IfOk, map};
+ghost use Rattle.answers.specs.Meaning.{answered};
+ghost use Rattle.text_checks.specs.Tables.{named_checks};
+ghost use Rattle.dictionary.specs.declared.fault.DictFault.TheVariants.{NoMemory as WantsMemory};
+ghost use Rattle.graph_session.specs.Rules.{rules};
+ghost use Rattle.save_file.specs.CarriedText.{IsCarriedText};
+ghost use Rattle.save_file.specs.Resuming.{IsResume, told};
+ghost use Rattle.session_lines.specs.Tables.{standard_checks};
+ghost use Rattle.fact_graph_c.specs.Openings.{NotCarried, RefusesOver, Resumes, ResumesOver};
+ghost use Rattle.fact_graph_c.specs.declared.fault.NotBegun.TheVariants.{Dictionary as OfDictionary};
+
+use crate::engine::Engine;
+use crate::fault::NotBegun;
+use crate::opening::{SAVED_LIMIT, accepted_dictionary, begin, not_resumed, wants_memory};
+use crate::telling::text_of;
+use dictionary::Dictionary;
+use fact_values::NoMemory;
+use save_file::{Resumed, resume};
+use session_lines::standard_checks;
+use std::alloc::{AllocError, Global};
+use text_checks::CheckTable;
+
+// A session over the dictionary from what was taken of the text, which says which lines aren't kept.
+fn begin_from(
+    alloc: Global,
+    dict: Dictionary,
+    saved: &[u8],
+    resumed: Resumed,
+) -> Result<Box<Engine>, NotBegun>
+    requires same { dict.checks ≡ standard_checks }
+    requires is_resume { IsResume (rules dict) saved.now (answered resumed.answers) (map told resumed.dropped.items) }
+    ensures resumed { IfOk result (λ e. ResumesOver (rules dict) saved.now e.value) }
+    ensures memory { IfErr result (λ why. why ≡ OfDictionary WantsMemory) }
+{
+    match text_of(alloc, resumed.dropped.as_slice()) {
+        Ok(text) => begin(alloc, dict, resumed.answers, text),
+        Err(NoMemory) => Err(wants_memory()),
+    }
+}
+
+// A session over the dictionary from what may be taken of the text.
+fn begin_resumed(
+    alloc: Global,
+    dict: Dictionary,
+    checks: &CheckTable,
+    saved: &[u8],
+) -> Result<Box<Engine>, NotBegun>
+    requires same { dict.checks ≡ standard_checks }
+    requires checks { named_checks checks.now ≡ standard_checks }
+    ensures resumed { IfOk result (λ e. ResumesOver (rules dict) saved.now e.value) }
+    ensures refused { IfErr result (RefusesOver IsCarriedText saved.now) }
+{
+    if saved.len() > SAVED_LIMIT {
+        return Err(NotBegun::Saved(0));
+    }
+    match resume(alloc, &dict, checks, saved) {
+        Ok(resumed) => begin_from(alloc, dict, saved, resumed),
+        Err(fault) => Err(not_resumed(fault)),
+    }
+}
+
+fn resume_by(
+    alloc: Global,
+    checks: &CheckTable,
+    bytes: &[u8],
+    saved: &[u8],
+) -> Result<Box<Engine>, NotBegun>
+    requires { named_checks checks.now ≡ standard_checks }
+    ensures resumed { IfOk result (λ e. Resumes bytes.now saved.now e.value) }
+    ensures refused { IfErr result (NotCarried bytes.now saved.now) }
+{
+    match accepted_dictionary(alloc, checks, bytes) {
+        Ok(dict) => begin_resumed(alloc, dict, checks, saved),
+        Err(why) => Err(why),
+    }
+}
+
+fn try_resume(
+    alloc: Global,
+    bytes: &[u8],
+    saved: &[u8],
+) -> Result<Result<Box<Engine>, NotBegun>, AllocError>
+    ensures resumed { IfOk result (λ r. IfOk r (λ e. Resumes bytes.now saved.now e.value)) }
+    ensures refused { IfOk result (λ r. IfErr r (NotCarried bytes.now saved.now)) }
+{
+    let mut checks = CheckTable::new(alloc);
+    standard_checks!(alloc, checks);
+    Ok(resume_by(alloc, &checks, bytes, saved))
+}
+
+/// A session over the dictionary that the bytes spell with what may be taken of a saved text that came from outside, or why there
+/// is none. It says which lines aren't kept, and why.
+pub fn open_resumed(alloc: Global, bytes: &[u8], saved: &[u8]) -> Result<Box<Engine>, NotBegun>
+    ensures resumed { IfOk result (λ e. Resumes bytes.now saved.now e.value) }
+    ensures refused { IfErr result (NotCarried bytes.now saved.now) }
+{
+    match try_resume(alloc, bytes, saved) {
+        Ok(opened) => opened,
+        Err(_) => Err(wants_memory()),
+    }
+}

@@ -1,0 +1,36 @@
+-- What an `Update` stands for.
+use Rattle.std.specs.Prelude.{◌≡◌, ℕ}
+use Rattle.answers.specs.Answered.{Answered}
+use Rattle.answers.specs.Change.{Change, applied}
+use Rattle.answers.specs.Meaning.{answered, change}
+use Rattle.dictionary.specs.Accepted.{Accepted, accepted}
+use Rattle.dictionary.specs.Undone.{IsUndone, went}
+use Rattle.recalc.specs.BetweenAnswers.{between}
+use Rattle.recalc.specs.EngineInvariant.{setting_from}
+use Rattle.recalc.specs.Running.{Setting, is_that}
+use Rattle.recalc.specs.Spread.{Spread}
+use Rattle.recalc.specs.declared.update.Update.{Update}
+
+abbrev pub dict_of : Update → Accepted
+dict_of u = accepted u.dict.now
+
+-- the change that gives the answers before
+abbrev pub undo_of : Update → Change
+undo_of u = change u.undo.now
+
+abbrev pub answers_after : Update → Answered
+answers_after u = answered u.answers.now
+
+abbrev pub answers_before : Update → Answered
+answers_before u = applied (undo_of u) (answers_after u)
+
+-- the change can be undone, and this is the member that went
+pub record IsUpdate (u : Update) : Type 0 where
+  pub undone : IsUndone (dict_of u) (undo_of u) (answers_after u)
+  pub gone : (m : ℕ) → is_that u.gone m ≡ went (undo_of u) (answers_after u) m
+
+abbrev pub update_setting : Update → Setting
+update_setting u = setting_from (dict_of u) (undo_of u) (answers_after u) u.gone u.stamp
+
+abbrev pub update_spread : Update → Spread
+update_spread u = between (dict_of u) (answers_before u) (answers_after u)

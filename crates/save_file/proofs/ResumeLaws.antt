@@ -1,0 +1,277 @@
+-- What is taken of a text that came from outside, and what is told of the lines that aren't kept.
+use Rattle.std.proofs.Common.{Bool, Contains, List, None, Option, Some, [], ap, append_assoc, arith, drop, false, filter, get_or, length, map, not, refl, subst, suc, sym, true, ℕ, ◌&&◌, ◌++◌, ◌+◌, ◌<◌, ◌||◌, ◌∙◌, ◌∷◌, ◌≡◌, ◌≤◌}
+use Rattle.std.proofs.lemmas.List.Filters.{length-filter_both}
+use Rattle.std.proofs.lemmas.List.{drop_more, length-map}
+use Rattle.std.specs.List.{AllByRecursion, list_any}
+use Rattle.std.specs.FinMap as map
+use Rattle.std.specs.Prelude.{Err, IsTrue, Ok, OnOk, Result, if◌then◌else◌, is_none, is_some, option_map, string_bytes, unwrap_or}
+use Rattle.answers.specs.Answered.{Answered, value_of}
+use Rattle.answers.specs.declared.edit.Side.TheVariants.{Answer, Override}
+use Rattle.answers.specs.declared.edit.Side.{Side}
+use Rattle.common_lemmas.proofs.Bools.{both}
+use Rattle.dictionary.specs.Accepted.{names_of}
+use Rattle.dictionary.specs.Fits.{is_answered_by}
+use Rattle.dict_tree.specs.Dictionary.{Dictionary as Tree}
+use Rattle.fact_paths.specs.declared.slot_path.SlotPath.TheVariants.{Global, Member}
+use Rattle.fact_paths.specs.declared.slot_path.SlotPath.{SlotPath}
+use Rattle.fact_values.specs.declared.slot.Slot.{Slot}
+use Rattle.fact_values.specs.declared.value.Value.{Value}
+use Rattle.graph_session.specs.Kinds.{value_spelled}
+use Rattle.graph_session.specs.Naming.{fact_of, lacks_member, named_fact}
+use Rattle.graph_session.specs.Refusals.{Refused, first_of, limit_refusals, set_refusals, value_refusals, when}
+use Rattle.graph_session.specs.Rules.{Rules, tree_of}
+use Rattle.graph_session.specs.Run.{is_memory}
+use Rattle.graph_session.specs.declared.reply.Refusal.TheVariants.{BadValue, NoMember, NoMemory, UnknownFact, WrongKind}
+use Rattle.graph_session.specs.declared.reply.Refusal.{Refusal}
+use Rattle.save_file.proofs.CarriedAnswers.{chosen_by, placed_where}
+use Rattle.save_file.proofs.CarryLaws.{of_one, one_text}
+use Rattle.save_file.proofs.Lines.{one_of_all}
+use Rattle.save_file.specs.CarriedParsing.{is_override, line_of_entry, line_of_list, lines_of, text_of}
+use Rattle.save_file.specs.CarriedText.{CarriedLine, CarriedText, HasItsForm, IsBelowNext, IsCarried, IsInOrder, IsShort, NamesOther, Pairs, SharesNone, carried, collection, entry, has_its_member, is_collection, lists_member}
+use Rattle.save_file.specs.Carrying.{AreOfKept, IsCarryOf, kept_collection, kept_value}
+use Rattle.save_file.specs.Keeping.{IsPlaced}
+use Rattle.save_file.specs.Resuming.{CarryingGivesTheSame, IsResumeOf, LimitsAllowWhatStands, NoOverrideStands, SetSaysTheReason, Told, ToldWhereNotKept, all_told, fact_refusals, overrides, reason_of, told_from, told_where, without_overrides}
+use Rattle.save_file.specs.declared.carried_line.EntryLine.{EntryLine}
+use Rattle.save_file.specs.declared.carried_line.ListLine.{ListLine}
+use Rattle.save_file.specs.declared.carried_read.CarriedRead.{CarriedRead}
+use Rattle.save_file.specs.declared.reason.Reason.TheVariants.{NoCollection, Refused as RefusedBy}
+use Rattle.save_file.specs.declared.reason.Reason.{Reason}
+
+-- ==== lines without overrides
+
+-- ---- what they keep
+
+abbrev left : List CarriedLine → List CarriedLine
+left lines = filter (λ line. not (overrides line)) lines
+
+all_left : (P : CarriedLine → Type 0) (lines : List CarriedLine) → AllByRecursion P lines → AllByRecursion P (left lines)
+all_left P [] all = tt
+all_left P (collection n ms ∷ lines) all = (all.0, all_left P lines all.1)
+all_left P (entry Answer p t ∷ lines) all = (all.0, all_left P lines all.1)
+all_left P (entry Override p t ∷ lines) all = all_left P lines all.1
+
+pairs_left : (R : CarriedLine → CarriedLine → Type 0) (lines : List CarriedLine) → Pairs R lines → Pairs R (left lines)
+pairs_left R [] pairs = tt
+pairs_left R (collection n ms ∷ lines) pairs = (all_left (R (collection n ms)) lines pairs.0, pairs_left R lines pairs.1)
+pairs_left R (entry Answer p t ∷ lines) pairs = (all_left (R (entry Answer p t)) lines pairs.0, pairs_left R lines pairs.1)
+pairs_left R (entry Override p t ∷ lines) pairs = pairs_left R lines pairs.1
+
+lists_left : (lines : List CarriedLine) → filter is_collection (left lines) ≡ filter is_collection lines
+lists_left [] = refl
+lists_left (collection n ms ∷ lines) = ap (λ (ls : List CarriedLine). collection n ms ∷ ls) (lists_left lines)
+lists_left (entry Answer p t ∷ lines) = lists_left lines
+lists_left (entry Override p t ∷ lines) = lists_left lines
+
+member_left : (name : List ℕ) (k : ℕ) (lines : List CarriedLine) → list_any (lists_member name k) (left lines) ≡ list_any (lists_member name k) lines
+member_left name k [] = refl
+member_left name k (collection n ms ∷ lines) = ap (λ (b : Bool). lists_member name k (collection n ms) || b) (member_left name k lines)
+member_left name k (entry Answer p t ∷ lines) = member_left name k lines
+member_left name k (entry Override p t ∷ lines) = member_left name k lines
+
+has_left : (lines : List CarriedLine) (line : CarriedLine) → has_its_member (left lines) line ≡ has_its_member lines line
+has_left lines (collection n ms) = refl
+has_left lines (entry side (Global n) t) = refl
+has_left lines (entry side (Member c k n) t) = member_left c k lines
+
+members_left : (lines xs : List CarriedLine) → AllByRecursion (λ line. IsTrue (has_its_member lines line)) xs → AllByRecursion (λ line. IsTrue (has_its_member (left lines) line)) xs
+members_left lines [] all = tt
+members_left lines (x ∷ xs) all = (subst IsTrue (sym (has_left lines x)) all.0, members_left lines xs all.1)
+
+pub carried_left : (c : CarriedText) → IsCarried c → IsCarried (without_overrides c)
+carried_left c is = record {
+  number = is.number;
+  forms = all_left HasItsForm c.lines is.forms;
+  short = all_left IsShort c.lines is.short;
+  below = all_left (IsBelowNext c.next) c.lines is.below;
+  order = pairs_left IsInOrder c.lines is.order;
+  once = pairs_left NamesOther c.lines is.once;
+  apart = pairs_left SharesNone c.lines is.apart;
+  few = subst (λ (ls : List CarriedLine). length ls ≤ 32) (sym (lists_left c.lines)) is.few;
+  members = all_left (λ line. IsTrue (has_its_member (left c.lines) line)) c.lines (members_left c.lines c.lines is.members);
+}
+
+none_left : (lines : List CarriedLine) → AllByRecursion (λ line. overrides line ≡ false) (left lines)
+none_left [] = tt
+none_left (collection n ms ∷ lines) = (refl, none_left lines)
+none_left (entry Answer p t ∷ lines) = (refl, none_left lines)
+none_left (entry Override p t ∷ lines) = none_left lines
+
+nothing_goes : (lines : List CarriedLine) → AllByRecursion (λ line. overrides line ≡ false) lines → left lines ≡ lines
+nothing_goes [] none = refl
+nothing_goes (collection n ms ∷ lines) none = ap (λ (ls : List CarriedLine). collection n ms ∷ ls) (nothing_goes lines none.1)
+nothing_goes (entry Answer p t ∷ lines) none = ap (λ (ls : List CarriedLine). entry Answer p t ∷ ls) (nothing_goes lines none.1)
+nothing_goes (entry Override p t ∷ lines) none = absurd (let other : true ≡ false = none.0 in cc)
+
+-- ---- of what was read
+
+side_tells : (side : Side) (p : SlotPath) (t : List ℕ) → overrides (entry side p t) ≡ is_override side
+side_tells Answer p t = refl
+side_tells Override p t = refl
+
+entries_left : (es : List EntryLine) → left (map line_of_entry es) ≡ map line_of_entry (filter (λ (e : EntryLine). not (is_override e.side)) es)
+entries_left [] = refl
+entries_left (e ∷ es) =
+    ap (λ (b : Bool). if not b then line_of_entry e ∷ left (map line_of_entry es) else left (map line_of_entry es)) (side_tells e.side e.path (string_bytes e.text))
+    ∙ at (is_override e.side) (entries_left es)
+  where
+    at : (b : Bool) → left (map line_of_entry es) ≡ map line_of_entry (filter (λ (x : EntryLine). not (is_override x.side)) es)
+        → (if not b then line_of_entry e ∷ left (map line_of_entry es) else left (map line_of_entry es))
+        ≡ map line_of_entry (if not b then e ∷ filter (λ (x : EntryLine). not (is_override x.side)) es else filter (λ (x : EntryLine). not (is_override x.side)) es)
+    at true h = h
+    at false h = ap (λ (ls : List CarriedLine). line_of_entry e ∷ ls) h
+
+behind_lists : (ls : List ListLine) (rest : List CarriedLine) → left (map line_of_list ls ++ rest) ≡ map line_of_list ls ++ left rest
+behind_lists [] rest = refl
+behind_lists (l ∷ ls) rest = ap (λ (xs : List CarriedLine). line_of_list l ∷ xs) (behind_lists ls rest)
+
+module _ (old new : CarriedRead) (next : new.next ≡ old.next) (lists : new.lists.items ≡ old.lists.items) (entries : new.entries.items ≡ filter (λ (e : EntryLine). not (is_override e.side)) old.entries.items) where
+  pub text_left : text_of new ≡ without_overrides (text_of old)
+  text_left =
+      ap (λ (n : ℕ). record { next = n; lines = lines_of new }) next
+      ∙ ap (λ (ls : List CarriedLine). record { next = old.next; lines = ls })
+      (ap (λ (ls : List ListLine). map line_of_list ls ++ map line_of_entry new.entries.items) lists
+      ∙ ap (λ (es : List EntryLine). map line_of_list old.lists.items ++ map line_of_entry es) entries
+      ∙ ap (λ (xs : List CarriedLine). map line_of_list old.lists.items ++ xs) (sym (entries_left old.entries.items))
+      ∙ sym (behind_lists old.lists.items (map line_of_entry old.entries.items)))
+
+  pub few_left : (most : ℕ) → length old.lists.items + length old.entries.items + 3 < most → length new.lists.items + length new.entries.items + 3 < most
+  few_left most few =
+      let parts = length-filter_both (λ (e : EntryLine). not (is_override e.side)) (λ (e : EntryLine). not (not (is_override e.side))) (λ e. refl) old.entries.items in
+      omega (arith, parts, few, ap length lists, ap length entries)
+
+-- ==== what is told
+
+-- ---- a refusal
+
+-- other than want of memory
+pub refused_with : (f : Refusal) (o : Option Refusal) → is_memory f ≡ false → Refused f o → o ≡ Some f
+refused_with NoMemory o m h = absurd cc
+refused_with f o m h = h
+
+-- ---- line after line
+
+told-append : (r : Rules) (n : ℕ) (xs ys : List CarriedLine) → told_from r n (xs ++ ys) ≡ told_from r n xs ++ told_from r (length xs + n) ys
+told-append r n [] ys = ap (λ (m : ℕ). told_from r m ys) (let zero_more : n ≡ 0 + n = omega arith in zero_more)
+told-append r n (x ∷ xs) ys =
+    let later : length xs + suc n ≡ length (x ∷ xs) + n = omega arith in
+    ap (λ (ts : List Told). told_where n x (reason_of r x) ++ ts) (told-append r (suc n) xs ys ∙ ap (λ (m : ℕ). told_from r (suc n) xs ++ told_from r m ys) later)
+    ∙ sym (append_assoc (told_where n x (reason_of r x)) (told_from r (suc n) xs) (told_from r (length (x ∷ xs) + n) ys))
+
+pub lines_told : (r : Rules) (read : CarriedRead) → told_from r 3 (map line_of_list read.lists.items) ++ told_from r (length read.lists.items + 3) (map line_of_entry read.entries.items) ≡ all_told r (lines_of read)
+lines_told r read =
+    ap (λ (n : ℕ). told_from r 3 (map line_of_list read.lists.items) ++ told_from r (n + 3) (map line_of_entry read.entries.items)) (sym (length-map read.lists.items line_of_list))
+    ∙ sym (told-append r 3 (map line_of_list read.lists.items) (map line_of_entry read.entries.items))
+
+-- the entries' behind the lists'
+pub told_behind : {T E : Type 0} (r : Rules) (read : CarriedRead) (result : Result T E) (old lists new : List Told) → lists ≡ old ++ told_from r 3 (map line_of_list read.lists.items)
+    → OnOk result (new ≡ lists ++ told_from r (length read.lists.items + 3) (map line_of_entry read.entries.items)) → OnOk result (new ≡ old ++ all_told r (lines_of read))
+told_behind r read (Ok x) old lists new e told =
+    let of_lists = told_from r 3 (map line_of_list read.lists.items) in
+    let of_entries = told_from r (length read.lists.items + 3) (map line_of_entry read.entries.items) in
+    told ∙ ap (λ (ts : List Told). ts ++ of_entries) e ∙ append_assoc old of_lists of_entries ∙ ap (λ (ts : List Told). old ++ ts) (lines_told r read)
+told_behind r read (Err fault) old lists new e told = tt
+
+pub told_on : {X : Type 0} (r : Rules) (line_of : X → CarriedLine) (items : List X) (i : ℕ) (item : X) → i < length items → item ≡ get_or items i item
+    → (n m : ℕ) (old new : List Told) → new ≡ old ++ told_where n (line_of item) (reason_of r (line_of item)) → m ≡ suc n
+    → new ++ told_from r m (map line_of (drop (i + 1) items)) ≡ old ++ told_from r n (map line_of (drop i items))
+told_on {X = X} r line_of items i item low is n m old new e next =
+    let this = told_where n (line_of item) (reason_of r (line_of item)) in
+    let rest = map line_of (drop (i + 1) items) in
+    let split : drop i items ≡ item ∷ drop (i + 1) items = drop_more items i item low ∙ ap (λ (x : X). x ∷ drop (i + 1) items) (sym is) in
+    ap (λ (ts : List Told). ts ++ told_from r m rest) e
+    ∙ ap (λ (k : ℕ). (old ++ this) ++ told_from r k rest) next
+    ∙ append_assoc old this (told_from r (suc n) rest)
+    ∙ sym (ap (λ (xs : List X). old ++ told_from r n (map line_of xs)) split)
+
+-- ==== laws
+
+-- ---- what stands
+
+no_override_there : (lines : List CarriedLine) (path : SlotPath) (text : List ℕ) → Contains (left lines) (entry Override path text) → ⊥
+no_override_there lines path text there =
+    let other : true ≡ false = one_of_all (λ line. overrides line ≡ false) (left lines) (entry Override path text) (none_left lines) there in
+    cc
+
+pub no_override : NoOverrideStands
+no_override r bytes a others resume s = at (value_of Override a s) refl
+  where
+    at : (o : Option Value) → value_of Override a s ≡ o → o ≡ None
+    at None e = refl
+    at (Some v) e = absurd (let given = (resume.3.kept.values Override s v).0 e in no_override_there resume.0.lines given.0 given.1 given.2)
+
+nothing : (o : Option Refusal) → is_none o ≡ true → o ≡ None
+nothing None e = refl
+nothing (Some f) e = absurd cc
+
+kept_allowed : (r : Rules) (fact : ℕ) (text : List ℕ) (v : Value) → kept_value r Answer fact text ≡ Some v → IsTrue (is_answered_by (tree_of r) fact) × (first_of (limit_refusals r fact (Some v)) ≡ None)
+kept_allowed r fact text v e =
+    let parts = chosen_by (is_answered_by (tree_of r) fact && is_none (first_of (value_refusals r fact text))) (value_spelled (tree_of r) fact text) v e in
+    let tests = both (is_answered_by (tree_of r) fact) (is_none (first_of (value_refusals r fact text))) parts.0 in
+    (tests.0, nothing (first_of (limit_refusals r fact (Some v))) (sym (ap (λ (o : Option Value). is_none (first_of (when (is_none o) BadValue ∷ limit_refusals r fact o))) parts.1) ∙ tests.1))
+
+pub limits_allow : LimitsAllowWhatStands
+limits_allow r bytes a others resume s v has =
+    let given = (resume.3.kept.values Answer s v).0 has in
+    kept_allowed r s.fact given.1 v given.4
+
+-- ---- which lines are told
+
+abbrev as_reason : Option Refusal → Option Reason
+as_reason o = option_map (λ f. RefusedBy f) o
+
+spelled_where : (r : Rules) (fact : ℕ) (w : Option Value) → first_of (when (is_none w) BadValue ∷ limit_refusals r fact w) ≡ None → is_some w ≡ true
+spelled_where r fact None e = absurd cc
+spelled_where r fact (Some v) e = refl
+
+taken_where : (f : Option Refusal) (w : Option Value) → (f ≡ None → is_some w ≡ true) → is_none (as_reason f) ≡ is_some (if is_none f then w else None)
+taken_where None w spelled = sym (spelled refl)
+taken_where (Some f) w spelled = refl
+
+answered_where : (b : Bool) (fs : List (Option Refusal)) (w : Option Value) → (first_of fs ≡ None → is_some w ≡ true)
+    → is_none (as_reason (first_of (when (not b) WrongKind ∷ fs))) ≡ is_some (if b && is_none (first_of fs) then w else None)
+answered_where true fs w spelled = taken_where (first_of fs) w spelled
+answered_where false fs w spelled = refl
+
+no_answer : (d : Tree) → is_answered_by d 0 ≡ false
+no_answer d = refl
+
+pub told_where_not : ToldWhereNotKept
+told_where_not r (collection name members) = at (kept_collection (tree_of r) name)
+  where
+    at : (o : Option ℕ) → is_none (if is_some o then None else Some NoCollection) ≡ is_some o
+    at None = refl
+    at (Some c) = refl
+told_where_not r (entry Override path text) = refl
+told_where_not r (entry Answer path text) = at (named_fact (tree_of r) path)
+  where
+    at : (o : Option ℕ) → is_none (as_reason (first_of (when (is_none o) UnknownFact ∷ fact_refusals r (unwrap_or o 0) text))) ≡ is_some (kept_value r Answer (unwrap_or o 0) text)
+    at None = sym (ap (λ (b : Bool). is_some (if b && is_none (first_of (value_refusals r 0 text)) then value_spelled (tree_of r) 0 text else None)) (no_answer (tree_of r)))
+    at (Some n) = answered_where (is_answered_by (tree_of r) n) (value_refusals r n text) (value_spelled (tree_of r) n text) (spelled_where r n (value_spelled (tree_of r) n text))
+
+-- ---- what `set` says
+
+set_says_same : (r : Rules) (a : Answered) (path : SlotPath) (text : List ℕ) → IsPlaced (tree_of r) a path → reason_of r (entry Answer path text) ≡ as_reason (first_of (set_refusals r a path text))
+set_says_same r a path text placed = ap as_reason (at (named_fact (tree_of r) path) refl)
+  where
+    at : (o : Option ℕ) → named_fact (tree_of r) path ≡ o
+        → first_of (when (is_none o) UnknownFact ∷ fact_refusals r (fact_of (tree_of r) path) text)
+        ≡ first_of (when (is_none o) UnknownFact ∷ when (lacks_member (tree_of r) a path) NoMember ∷ fact_refusals r (fact_of (tree_of r) path) text)
+    at None e = refl
+    at (Some n) e = ap (λ (b : Bool). first_of (when b NoMember ∷ fact_refusals r (fact_of (tree_of r) path) text)) (sym (placed n e))
+
+pub set_says : SetSaysTheReason
+set_says r is c carried a others of path text there = set_says_same r a path text (at path (one_of_all (λ line. IsTrue (has_its_member c.lines line)) c.lines (entry Answer path text) carried.members there))
+  where
+    at : (p : SlotPath) → IsTrue (has_its_member c.lines (entry Answer p text)) → IsPlaced (tree_of r) a p
+    at (Global n) has = λ f e. refl
+    at (Member name k n) has =
+        placed_where (names_of r.checks) r is a (left c.lines) name k n (λ q ms h kept. (of.kept.lists q ms).1 (name, h, kept)) (member_left name k c.lines ∙ has)
+
+-- ---- beside carrying
+
+pub carrying_same : CarryingGivesTheSame
+carrying_same r c is none a b dropped others carry resume =
+    let of_carry : IsCarryOf r c a dropped = subst (λ (x : CarriedText). IsCarryOf r x a dropped) (one_text carry.0 c carry.1 is (sym carry.2)) carry.3 in
+    let of_resume : IsResumeOf r c b others = subst (λ (x : CarriedText). IsResumeOf r x b others) (one_text resume.0 c resume.1 is (sym resume.2)) resume.3 in
+    let kept : AreOfKept r c b = subst (λ (ls : List CarriedLine). AreOfKept r (record { next = c.next; lines = ls }) b) (nothing_goes c.lines none) of_resume.kept in
+    (of_one r c a b dropped dropped of_carry (record { kept = kept; fit = of_resume.fit; others = of_carry.others })).0

@@ -1,0 +1,142 @@
+// Why a line of a text that came from outside isn't kept.
+ghost use Rattle.std.specs.Prelude.{◌≡◌, Some, IfErr, IfOk, option_map, string_bytes};
+ghost use Rattle.text_checks.specs.Tables.{named_checks};
+ghost use Rattle.dict_tree.specs.Finding.{IsNumber};
+ghost use Rattle.answers.specs.declared.edit.Side.TheVariants.{Answer};
+ghost use Rattle.graph_session.specs.Naming.{named_fact};
+ghost use Rattle.graph_session.specs.Refusals.{SameChecks, first_of};
+ghost use Rattle.graph_session.specs.Rules.{rules, tree_of};
+ghost use Rattle.save_file.specs.CarriedParsing.{line_of_entry, line_of_list};
+ghost use Rattle.save_file.specs.CarriedText.{entry};
+ghost use Rattle.save_file.specs.Resuming.{fact_refusals, reason_of};
+ghost use Rattle.save_file.specs.declared.fault.LoadFault.TheVariants as faults;
+ghost use Rattle.save_file.specs.declared.reason.Reason.TheVariants.{Refused as RefusedBy};
+
+use crate::carried_line::{EntryLine, ListLine};
+use crate::fault::LoadFault;
+use crate::keeping::collection_of;
+use answers::Side;
+use dictionary::Dictionary;
+use fact_paths::SlotPath;
+use graph_session::{Refusal, is_answered, is_want_of_memory, judge_value};
+use std::alloc::Global;
+use text_checks::CheckTable;
+
+/// Why a line isn't kept.
+#[derive(Clone, Copy, PartialEq, Eq)]
+pub enum Reason {
+    /// The dictionary has no writable collection of the name.
+    NoCollection,
+    /// `set` refuses the value with this.
+    Refused(Refusal),
+    /// The line is an override.
+    Override,
+}
+
+/// A line that isn't kept.
+#[derive(Drop)]
+pub struct Dropped {
+    /// Its number in the text, from 1.
+    pub number: u32,
+    /// Its kind and what it names: `list /N`, `value SLOT` or `override SLOT`.
+    pub key: String,
+    pub reason: Reason,
+}
+
+/// Why the list isn't kept.
+pub fn reason_of_list(dict: &Dictionary, line: &ListLine) -> Option<Reason>
+    ensures { result ≡ reason_of (rules dict.now) (line_of_list line.now) }
+{
+    match collection_of(dict, line) {
+        Some(_) => None,
+        None => Some(Reason::NoCollection),
+    }
+}
+
+// The number of the path's fact.
+fn find_fact(dict: &Dictionary, path: &SlotPath) -> Option<u32>
+    ensures { result ≡ named_fact (tree_of (rules dict.now)) path.now }
+{
+    match path {
+        SlotPath::Global(name) => dict.source().find_global(name),
+        SlotPath::Member(collection, _, name) => dict.source().find_member(collection, name),
+    }
+}
+
+// Why the text is no answer of the fact.
+fn refusal_of(
+    alloc: Global,
+    dict: &Dictionary,
+    checks: &CheckTable,
+    fact: u32,
+    text: &str,
+) -> Result<Option<Refusal>, LoadFault>
+    requires number { IsNumber (tree_of (rules dict.now)).facts fact }
+    requires same_checks { SameChecks (rules dict.now) (named_checks checks.now) }
+    ensures refusal { IfOk result (λ o. o ≡ first_of (fact_refusals (rules dict.now) fact text.now)) }
+    ensures memory { IfErr result (λ fault. fault ≡ faults.NoMemory) }
+{
+    if !is_answered(dict, fact) {
+        return Ok(Some(Refusal::WrongKind));
+    }
+    match judge_value(alloc, dict, checks, fact, text) {
+        Ok(value) => {
+            drop(value);
+            Ok(None)
+        }
+        Err(refusal) => {
+            if is_want_of_memory(refusal) {
+                Err(LoadFault::NoMemory)
+            } else {
+                Ok(Some(refusal))
+            }
+        }
+    }
+}
+
+fn refused(refusal: Option<Refusal>) -> Option<Reason>
+    ensures { result ≡ option_map (λ f. RefusedBy f) refusal }
+{
+    match refusal {
+        None => None,
+        Some(refusal) => Some(Reason::Refused(refusal)),
+    }
+}
+
+// Why the value isn't kept.
+fn reason_of_value(
+    alloc: Global,
+    dict: &Dictionary,
+    checks: &CheckTable,
+    path: &SlotPath,
+    text: &str,
+) -> Result<Option<Reason>, LoadFault>
+    requires same_checks { SameChecks (rules dict.now) (named_checks checks.now) }
+    ensures reason { IfOk result (λ o. o ≡ reason_of (rules dict.now) (entry Answer path.now text.now)) }
+    ensures memory { IfErr result (λ fault. fault ≡ faults.NoMemory) }
+{
+    let Some(fact) = find_fact(dict, path) else {
+        return Ok(Some(Reason::Refused(Refusal::UnknownFact)));
+    };
+    match refusal_of(alloc, dict, checks, fact, text) {
+        Err(fault) => Err(fault),
+        Ok(refusal) => Ok(refused(refusal)),
+    }
+}
+
+/// Why the entry isn't kept.
+pub fn reason_of_entry(
+    alloc: Global,
+    dict: &Dictionary,
+    checks: &CheckTable,
+    line: &EntryLine,
+) -> Result<Option<Reason>, LoadFault>
+    requires same_checks { SameChecks (rules dict.now) (named_checks checks.now) }
+    ensures reason { IfOk result (λ o. o ≡ reason_of (rules dict.now) (line_of_entry line.now)) }
+    ensures memory { IfErr result (λ fault. fault ≡ faults.NoMemory) }
+{
+    match line.side {
+        Side::Answer => reason_of_value(alloc, dict, checks, &line.path, line.text.as_str()),
+        Side::Override => Ok(Some(Reason::Override)),
+    }
+}

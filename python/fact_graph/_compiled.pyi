@@ -1,0 +1,3 @@
+# The compiled module, which a package has that was built where there is a C compiler; its source is ../compiled.c.
+
+def answer(answer: int, read: int, graph: int, text_size: int, line: str | bytes, /) -> str | int: ...
