@@ -47,31 +47,34 @@ fn said(alloc: Global, desk: &mut Desk<Recalc>, party: u32, command: &Command) -
     said
 }
 
+// Whether the party is answered so: none where memory is wanting.
 fn is_answered(
     alloc: Global,
     desk: &mut Desk<Recalc>,
     party: u32,
     command: &Command,
     wanted: &Said,
-) -> bool {
-    let said = said(alloc, desk, party, command);
-    said == *wanted
+) -> Option<bool> {
+    match said(alloc, desk, party, command) {
+        Err(DeskRefusal::Session(Refusal::NoMemory)) => None,
+        said => Some(said == *wanted),
+    }
 }
 
-/// Whether the party's line is answered so.
+/// Whether the party's line is answered so: none where memory is wanting.
 pub fn is_said(
     alloc: Global,
     desk: &mut Desk<Recalc>,
     party: u32,
     line: &str,
     wanted: &Said,
-) -> bool {
+) -> Option<bool> {
     match spelled(alloc, line) {
         Some(command) => {
             let is_answered = is_answered(alloc, desk, party, &command, wanted);
             drop(command);
             is_answered
         }
-        None => false,
+        None => None,
     }
 }

@@ -17,29 +17,36 @@ const S: Slot = Slot { fact: 3, member: 0 };
 
 const DONE: Said = Ok(Reply::Done);
 
-fn waits_for_a_look(alloc: Global, desk: &mut Desk<Recalc>) -> bool {
-    is_said(alloc, desk, 1, "set /a 5", &DONE)
-        && is_said(alloc, desk, 2, "set /a 6", &Err(DeskRefusal::Stale(1)))
-        && is_said(alloc, desk, 2, "get /a", &Ok(Reply::Answer(A)))
-        && is_said(alloc, desk, 2, "set /a 6", &DONE)
+fn waits_for_a_look(alloc: Global, desk: &mut Desk<Recalc>) -> Option<bool> {
+    Some(
+        is_said(alloc, desk, 1, "set /a 5", &DONE)?
+            && is_said(alloc, desk, 2, "set /a 6", &Err(DeskRefusal::Stale(1)))?
+            && is_said(alloc, desk, 2, "get /a", &Ok(Reply::Answer(A)))?
+            && is_said(alloc, desk, 2, "set /a 6", &DONE)?,
+    )
 }
 
 // The undo is the third change, and the second party's.
-fn waits_for_its_party(alloc: Global, desk: &mut Desk<Recalc>) -> bool {
-    is_said(alloc, desk, 1, "get /s", &Ok(Reply::Answer(S)))
-        && is_said(alloc, desk, 1, "undo", &Err(DeskRefusal::NotYours(2)))
-        && is_said(alloc, desk, 2, "undo", &DONE)
-        && is_said(alloc, desk, 1, "set /a 7", &Err(DeskRefusal::Stale(3)))
+fn waits_for_its_party(alloc: Global, desk: &mut Desk<Recalc>) -> Option<bool> {
+    Some(
+        is_said(alloc, desk, 1, "get /s", &Ok(Reply::Answer(S)))?
+            && is_said(alloc, desk, 1, "undo", &Err(DeskRefusal::NotYours(2)))?
+            && is_said(alloc, desk, 2, "undo", &DONE)?
+            && is_said(alloc, desk, 1, "set /a 7", &Err(DeskRefusal::Stale(3)))?,
+    )
+}
+
+fn waits(alloc: Global, desk: &mut Desk<Recalc>) -> Option<bool> {
+    Some(waits_for_a_look(alloc, desk)? && waits_for_its_party(alloc, desk)?)
 }
 
 // Whether both wait: none where memory is wanting.
 fn both_wait(alloc: Global) -> Option<bool> {
     match begin(alloc, SUM) {
         Some(mut desk) => {
-            let both_wait = waits_for_a_look(alloc, &mut desk)
-                && waits_for_its_party(alloc, &mut desk);
+            let both_wait = waits(alloc, &mut desk);
             drop(desk);
-            Some(both_wait)
+            both_wait
         }
         None => None,
     }
