@@ -1,4 +1,4 @@
--- What C is told of a session that is begun, or isn't.
+-- What is reported to C of a session that is begun, or isn't.
 use Rattle.std.proofs.Common.{◌≡◌, Some, Result, Ok, Err, IfErr, IfOk, inl, inr}
 use Rattle.fact_graph_c.specs.Calls.{BeginsCall}
 use Rattle.fact_graph_c.specs.Faults.{fault_numbers, plain}
@@ -8,7 +8,7 @@ use Rattle.fact_graph_c.specs.declared.fault.Fault.{Fault}
 use Rattle.fact_graph_c.specs.declared.fault.NotBegun.{NotBegun}
 use Rattle.fact_graph_c.specs.declared.session_slot.SessionSlot.{SessionSlot}
 
--- a session that is begun is handed out, and else its fault is told
+-- a session that is begun is handed out, and else its fault is reported
 pub tells : (Begins : Engine → Type 0) (IsWhy : NotBegun → Type 0) (place place_now : SessionSlot) (fault : Fault) (result : Result Boxed NotBegun) → IfOk result (λ x. Begins x.value) → IfErr result IsWhy
     → IfOk result (λ x. (place_now.value ≡ Some x.value) × (fault ≡ plain 0)) → IfErr result (λ why. (place_now ≡ place) × (fault ≡ fault_numbers why)) → BeginsCall Begins IsWhy place place_now fault
 tells Begins IsWhy place place_now fault (Ok x) begins why handed output = inl (x.value, begins, handed.0, handed.1)

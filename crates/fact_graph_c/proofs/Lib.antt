@@ -3,6 +3,6 @@ pub mod BuiltInLaws
 pub mod CallLaws
 pub mod OpeningLaws
 pub mod RoomLaws
-pub mod TellingLaws
+pub mod DroppedLineLaws
 pub mod TextLaws
 mod Values

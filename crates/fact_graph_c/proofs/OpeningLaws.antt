@@ -11,12 +11,12 @@ use Rattle.graph_session.specs.SessionView.{SessionView, session_state, start_at
 use Rattle.fact_watch.specs.Watching.{nothing_watched}
 use Rattle.save_file.specs.Carrying.{IsCarry}
 use Rattle.save_file.specs.Dropped.{dropped_text}
-use Rattle.save_file.specs.Resuming.{IsResume, Told}
+use Rattle.save_file.specs.Resuming.{IsResume, DroppedLine}
 use Rattle.save_file.specs.SavedText.{saved}
 use Rattle.save_file.specs.declared.fault.LoadFault.{LoadFault}
 use Rattle.save_file.specs.declared.fault.LoadFault.TheVariants as loads
 use Rattle.fact_graph_c.specs.Answering.{said}
-use Rattle.fact_graph_c.specs.Telling.{told_text}
+use Rattle.fact_graph_c.specs.DroppedLines.{dropped_lines_text}
 use Rattle.fact_graph_c.specs.Openings.{Accepts, Brings, CarriesOver, IsBadText, IsBegun, IsFaultOfText, LoadsOver, NotBrought, NotOpened, NotResumed, Opens, OpensBuiltIn, RefusesOver, ResumesOver}
 use Rattle.session_lines.specs.Tables.{standard_checks, standard_relations}
 use Rattle.fact_graph_c.specs.declared.engine.Engine.{Engine}
@@ -67,7 +67,7 @@ carries_over r text a dropped front c (Ok x) is begun = (a, (dropped, (c, subst 
 carries_over r text a dropped front c (Err why) is begun = tt
 
 -- a text that came from outside
-pub resumes_over : (r : Rules) (text : List ℕ) (a : Answered) (others : List Told) (front : List ℕ) → IsResume r text a others → (result : Result Boxed NotBegun) → front ≡ told_text others
+pub resumes_over : (r : Rules) (text : List ℕ) (a : Answered) (others : List DroppedLine) (front : List ℕ) → IsResume r text a others → (result : Result Boxed NotBegun) → front ≡ dropped_lines_text others
     → IfOk result (λ x. IsBegun r a front x.value) → IfOk result (λ x. ResumesOver r text x.value)
 resumes_over r text a others front resume (Ok x) is begun = (a, (others, (resume, subst (λ (t : List ℕ). IsBegun r a t x.value) is begun)))
 resumes_over r text a others front resume (Err why) is begun = tt

@@ -1,4 +1,4 @@
--- What C is told.
+-- What is reported to C.
 use Rattle.std.specs.Prelude.{◌≡◌, ◌⊎◌, ℕ, List, [], length, Option, Some}
 use Rattle.graph_session.specs.SessionView.{bounded_to}
 use Rattle.fact_graph_c.specs.Answering.{Answers, said}

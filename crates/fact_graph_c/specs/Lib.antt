@@ -12,4 +12,4 @@ pub mod Room
 pub mod Saving
 pub mod Saying
 pub mod Sound
-pub mod Telling
+pub mod DroppedLines

@@ -13,12 +13,12 @@ use Rattle.save_file.specs.CarriedText.{IsCarriedText}
 use Rattle.save_file.specs.Carrying.{IsCarry}
 use Rattle.save_file.specs.Dropped.{dropped_text}
 use Rattle.save_file.specs.Loading.{IsRefusedAt, IsSavedText}
-use Rattle.save_file.specs.Resuming.{IsResume, Told}
+use Rattle.save_file.specs.Resuming.{IsResume, DroppedLine}
 use Rattle.save_file.specs.SavedText.{saved}
 use Rattle.save_file.specs.declared.fault.LoadFault.{LoadFault}
 use Rattle.save_file.specs.declared.fault.LoadFault.TheVariants as loads
 use Rattle.fact_graph_c.specs.Answering.{rules_of, said, state_of}
-use Rattle.fact_graph_c.specs.Telling.{told_text}
+use Rattle.fact_graph_c.specs.DroppedLines.{dropped_lines_text}
 use Rattle.session_lines.specs.Tables.{standard_checks, standard_relations}
 use Rattle.fact_graph_c.specs.declared.engine.Engine.{Engine}
 use Rattle.fact_graph_c.specs.declared.fault.NotBegun.{NotBegun}
@@ -68,7 +68,7 @@ Carries bytes text e = (r : Rules) × Accepts bytes r × CarriesOver r text e
 
 -- with the answers that `set` would take of a text that came from outside; of the other lines it is said why they aren't kept
 abbrev pub ResumesOver : Rules → List ℕ → Engine → Type 0
-ResumesOver r text e = (a : Answered) × ((others : List Told) × (IsResume r text a others × IsBegun r a (told_text others) e))
+ResumesOver r text e = (a : Answered) × ((others : List DroppedLine) × (IsResume r text a others × IsBegun r a (dropped_lines_text others) e))
 
 abbrev pub Resumes : List ℕ → List ℕ → Engine → Type 0
 Resumes bytes text e = (r : Rules) × Accepts bytes r × ResumesOver r text e

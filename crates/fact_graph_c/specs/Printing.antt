@@ -1,4 +1,4 @@
--- What a host is told of a session's dictionary.
+-- What is said to a host of a session's dictionary.
 use Rattle.std.specs.Prelude.{◌≡◌, ◌≤◌, ℕ, List, length, Some, Ok}
 use Rattle.serde_json.specs.Read.{read}
 use Rattle.dict_tree.specs.DictParsing.{BytesGive, max_bytes}

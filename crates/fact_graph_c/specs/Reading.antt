@@ -1,4 +1,4 @@
--- What a host is told of the slots that a slot reads.
+-- What is said to a host of the slots that a slot reads.
 use Rattle.std.specs.Prelude.{◌≡◌, ◌++◌, ℕ, nat_le, List, length, codes, Option, Some, None, if◌then◌else◌}
 use Rattle.fact_paths.specs.declared.slot_path.SlotPath.{SlotPath}
 use Rattle.script_lines.specs.Parsing.{Heard, command, heard_in}

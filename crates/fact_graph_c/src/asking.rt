@@ -32,7 +32,7 @@ pub fn path_of_get(command: Command) -> Option<SlotPath>
     }
 }
 
-/// The path that the line asks for, where the script goes on and there is memory for it. Only `get` is told here.
+/// The path that the line asks for, where the script goes on and there is memory for it. Only `get` is read here.
 pub fn asked_path(alloc: Global, over: bool, line: &[u8]) -> Option<SlotPath>
     ensures goes_on { IfSome result (λ _. over ≡ false) }
     ensures short { IfSome result (λ _. length line.now ≤ 4096) }

@@ -5,15 +5,15 @@ ghost use Rattle.text_checks.specs.Tables.{named_checks};
 ghost use Rattle.dictionary.specs.declared.fault.DictFault.TheVariants.{NoMemory as WantsMemory};
 ghost use Rattle.graph_session.specs.Rules.{rules};
 ghost use Rattle.save_file.specs.CarriedText.{IsCarriedText};
-ghost use Rattle.save_file.specs.Resuming.{IsResume, told};
+ghost use Rattle.save_file.specs.Resuming.{IsResume, dropped_line};
 ghost use Rattle.session_lines.specs.Tables.{standard_checks};
 ghost use Rattle.fact_graph_c.specs.Openings.{NotCarried, RefusesOver, Resumes, ResumesOver};
 ghost use Rattle.fact_graph_c.specs.declared.fault.NotBegun.TheVariants.{Dictionary as OfDictionary};
 
+use crate::dropped_lines::dropped_lines_text;
 use crate::engine::Engine;
 use crate::fault::NotBegun;
 use crate::opening::{SAVED_LIMIT, accepted_dictionary, begin, not_resumed, wants_memory};
-use crate::telling::text_of;
 use dictionary::Dictionary;
 use fact_values::NoMemory;
 use save_file::{Resumed, resume};
@@ -29,11 +29,11 @@ fn begin_from(
     resumed: Resumed,
 ) -> Result<Box<Engine>, NotBegun>
     requires same { dict.checks ≡ standard_checks }
-    requires is_resume { IsResume (rules dict) saved.now (answered resumed.answers) (map told resumed.dropped.items) }
+    requires is_resume { IsResume (rules dict) saved.now (answered resumed.answers) (map dropped_line resumed.dropped.items) }
     ensures resumed { IfOk result (λ e. ResumesOver (rules dict) saved.now e.value) }
     ensures memory { IfErr result (λ why. why ≡ OfDictionary WantsMemory) }
 {
-    match text_of(alloc, resumed.dropped.as_slice()) {
+    match dropped_lines_text(alloc, resumed.dropped.as_slice()) {
         Ok(text) => begin(alloc, dict, resumed.answers, text),
         Err(NoMemory) => Err(wants_memory()),
     }

@@ -72,7 +72,7 @@ few_lists [] ys all = let none = ap length (no_lists ys all) in omega (arith, no
 few_lists (collection n ms ∷ xs) ys all = omega (arith, few_lists xs ys all)
 few_lists (entry side path text ∷ xs) ys all = omega (arith, few_lists xs ys all)
 
--- ==== a line of a carried text is told by its text
+-- ==== the text of a line of a carried text is that of no other line
 
 -- ---- first words
 
@@ -158,7 +158,7 @@ no_whole [] xs e = never_empty (map line_text xs) end_line e
 no_whole (b ∷ before) [] e = no_end b (sym (cons_parts end_line (line_text b) [] (map line_text before) e).0)
 no_whole (b ∷ before) (x ∷ xs) e = no_whole before xs (cons_parts (line_text x) (line_text b) (map line_text xs ++ end_line ∷ []) (map line_text before) e).1
 
--- lines are told by their texts
+-- so are those of lines
 pub same_lines : (xs ys : List CarriedLine) → AllByRecursion HasItsForm xs → AllByRecursion HasItsForm ys → map line_text xs ++ end_line ∷ [] ≡ map line_text ys ++ end_line ∷ [] → xs ≡ ys
 same_lines [] [] is other e = refl
 same_lines [] (y ∷ ys) is other e = absurd (no_end y (sym (cons_parts end_line (line_text y) [] (map line_text ys ++ end_line ∷ []) e).0))

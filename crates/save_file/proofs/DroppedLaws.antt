@@ -24,7 +24,7 @@ use Rattle.save_file.proofs.SlotTexts.{Tail, tail_of}
 use Rattle.save_file.proofs.TextLaws.{empty_is, whole_lines}
 use Rattle.save_file.specs.CarriedText.{CarriedLine, CarriedText, HasItsForm, IsCarried, carried_lines, collection, entry, line_text}
 use Rattle.save_file.specs.Carrying.{IsCarry, dropped_numbers, keeps, numbers_failing}
-use Rattle.save_file.specs.Dropped.{IsDroppedText, behind_word, dropped_line, dropped_lines, dropped_text, is_next, past, said, said_at, said_if, said_of, word_of}
+use Rattle.save_file.specs.Dropped.{IsDroppedText, behind_word, dropped_key, dropped_keys, dropped_text, is_next, past, said, said_at, said_if, said_of, word_of}
 use Rattle.save_file.specs.SavedText.{end_line, entries, lists, next_line, opening_line, saved}
 use Rattle.script_lines.proofs.Bytes.{at_byte, at_other}
 use Rattle.script_lines.proofs.JoinedLaws.{joined-append}
@@ -146,7 +146,7 @@ behind_uncut text none = sym (none_behind text (lacks_of text none))
 
 -- ---- what is said of a line
 
-pub said_line : (line : CarriedLine) → HasItsForm line → said_of (line_text line) ≡ dropped_line line
+pub said_line : (line : CarriedLine) → HasItsForm line → said_of (line_text line) ≡ dropped_key line
 said_line (collection name members) form =
     ap (λ (word : List ℕ). codes "dropped " ++ (codes "list" ++ (codes " " ++ word)))
     (word_before (47 ∷ name) (printed_rest members) (let other : 47 ≢ 32 = omega arith in other, name_lacks_blank name form.0) (tail_of members))
@@ -239,16 +239,16 @@ module _ {X : Type 0} (test : X → Bool) where
 
 -- ---- lines of a carried text
 
-said_lines : (test : CarriedLine → Bool) (lines : List CarriedLine) → AllByRecursion HasItsForm lines → map (λ (l : CarriedLine). said_of (line_text l)) (filter test lines) ≡ map dropped_line (filter test lines)
+said_lines : (test : CarriedLine → Bool) (lines : List CarriedLine) → AllByRecursion HasItsForm lines → map (λ (l : CarriedLine). said_of (line_text l)) (filter test lines) ≡ map dropped_key (filter test lines)
 said_lines test [] forms = refl
 said_lines test (l ∷ lines) forms = at (test l) (said_lines test lines forms.1)
   where
-    at : (b : Bool) → map (λ (x : CarriedLine). said_of (line_text x)) (filter test lines) ≡ map dropped_line (filter test lines)
-        → map (λ (x : CarriedLine). said_of (line_text x)) (if b then l ∷ filter test lines else filter test lines) ≡ map dropped_line (if b then l ∷ filter test lines else filter test lines)
-    at true rest = ap (λ (ls : List (List ℕ)). said_of (line_text l) ∷ ls) rest ∙ ap (λ (x : List ℕ). x ∷ map dropped_line (filter test lines)) (said_line l forms.0)
+    at : (b : Bool) → map (λ (x : CarriedLine). said_of (line_text x)) (filter test lines) ≡ map dropped_key (filter test lines)
+        → map (λ (x : CarriedLine). said_of (line_text x)) (if b then l ∷ filter test lines else filter test lines) ≡ map dropped_key (if b then l ∷ filter test lines else filter test lines)
+    at true rest = ap (λ (ls : List (List ℕ)). said_of (line_text l) ∷ ls) rest ∙ ap (λ (x : List ℕ). x ∷ map dropped_key (filter test lines)) (said_line l forms.0)
     at false rest = rest
 
-pub said_dropped : (r : Rules) (c : CarriedText) → IsCarried c → said_at 1 (dropped_numbers r c.lines) (carried_lines c) ≡ dropped_lines r c.lines
+pub said_dropped : (r : Rules) (c : CarriedText) → IsCarried c → said_at 1 (dropped_numbers r c.lines) (carried_lines c) ≡ dropped_keys r c.lines
 said_dropped r c is =
     said_earlier (keeps r) 1 3 c.lines opening_line (next_line c.next ∷ (map line_text c.lines ++ end_line ∷ [])) (omega arith)
     ∙ said_earlier (keeps r) 2 3 c.lines (next_line c.next) (map line_text c.lines ++ end_line ∷ []) (omega arith)

@@ -113,7 +113,7 @@ shorter rest word behind e = omega (arith, ap length (cut_some 32 rest word behi
 
 -- ---- the next number
 
--- it is told by its digits
+-- its digits are those of no other number
 pub decimals_one : (n k : ℕ) → n ≤ 1000001 → k ≤ 1000001 → decimal n ≡ decimal k → n ≡ k
 decimals_one n k low high e = sym (digits_value-decimal own n (omega (arith, low))) ∙ ap (digits_value 10) e ∙ digits_value-decimal own k (omega (arith, high))
 

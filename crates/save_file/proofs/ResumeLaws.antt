@@ -1,4 +1,4 @@
--- What is taken of a text that came from outside, and what is told of the lines that aren't kept.
+-- What is taken of a text that came from outside, and which lines are dropped.
 use Rattle.std.proofs.Common.{Bool, Contains, List, None, Option, Some, [], ap, append_assoc, arith, drop, false, filter, get_or, length, map, not, refl, subst, suc, sym, true, ℕ, ◌&&◌, ◌++◌, ◌+◌, ◌<◌, ◌||◌, ◌∙◌, ◌∷◌, ◌≡◌, ◌≤◌}
 use Rattle.std.proofs.lemmas.List.Filters.{length-filter_both}
 use Rattle.std.proofs.lemmas.List.{drop_more, length-map}
@@ -30,7 +30,7 @@ use Rattle.save_file.specs.CarriedParsing.{is_override, line_of_entry, line_of_l
 use Rattle.save_file.specs.CarriedText.{CarriedLine, CarriedText, HasItsForm, IsBelowNext, IsCarried, IsInOrder, IsShort, NamesOther, Pairs, SharesNone, carried, collection, entry, has_its_member, is_collection, lists_member}
 use Rattle.save_file.specs.Carrying.{AreOfKept, IsCarryOf, kept_collection, kept_value}
 use Rattle.save_file.specs.Keeping.{IsPlaced}
-use Rattle.save_file.specs.Resuming.{CarryingGivesTheSame, IsResumeOf, LimitsAllowWhatStands, NoOverrideStands, SetSaysTheReason, Told, ToldWhereNotKept, all_told, fact_refusals, overrides, reason_of, told_from, told_where, without_overrides}
+use Rattle.save_file.specs.Resuming.{CarryingGivesTheSame, IsResumeOf, LimitsAllowWhatStands, NoOverrideStands, SetSaysTheReason, DroppedLine, DroppedWhereNotKept, all_dropped, fact_refusals, overrides, reason_of, dropped_from, dropped_where, without_overrides}
 use Rattle.save_file.specs.declared.carried_line.EntryLine.{EntryLine}
 use Rattle.save_file.specs.declared.carried_line.ListLine.{ListLine}
 use Rattle.save_file.specs.declared.carried_read.CarriedRead.{CarriedRead}
@@ -139,7 +139,7 @@ module _ (old new : CarriedRead) (next : new.next ≡ old.next) (lists : new.lis
       let parts = length-filter_both (λ (e : EntryLine). not (is_override e.side)) (λ (e : EntryLine). not (not (is_override e.side))) (λ e. refl) old.entries.items in
       omega (arith, parts, few, ap length lists, ap length entries)
 
--- ==== what is told
+-- ==== the lines that are dropped
 
 -- ---- a refusal
 
@@ -150,38 +150,38 @@ refused_with f o m h = h
 
 -- ---- line after line
 
-told-append : (r : Rules) (n : ℕ) (xs ys : List CarriedLine) → told_from r n (xs ++ ys) ≡ told_from r n xs ++ told_from r (length xs + n) ys
-told-append r n [] ys = ap (λ (m : ℕ). told_from r m ys) (let zero_more : n ≡ 0 + n = omega arith in zero_more)
-told-append r n (x ∷ xs) ys =
+dropped-append : (r : Rules) (n : ℕ) (xs ys : List CarriedLine) → dropped_from r n (xs ++ ys) ≡ dropped_from r n xs ++ dropped_from r (length xs + n) ys
+dropped-append r n [] ys = ap (λ (m : ℕ). dropped_from r m ys) (let zero_more : n ≡ 0 + n = omega arith in zero_more)
+dropped-append r n (x ∷ xs) ys =
     let later : length xs + suc n ≡ length (x ∷ xs) + n = omega arith in
-    ap (λ (ts : List Told). told_where n x (reason_of r x) ++ ts) (told-append r (suc n) xs ys ∙ ap (λ (m : ℕ). told_from r (suc n) xs ++ told_from r m ys) later)
-    ∙ sym (append_assoc (told_where n x (reason_of r x)) (told_from r (suc n) xs) (told_from r (length (x ∷ xs) + n) ys))
+    ap (λ (ts : List DroppedLine). dropped_where n x (reason_of r x) ++ ts) (dropped-append r (suc n) xs ys ∙ ap (λ (m : ℕ). dropped_from r (suc n) xs ++ dropped_from r m ys) later)
+    ∙ sym (append_assoc (dropped_where n x (reason_of r x)) (dropped_from r (suc n) xs) (dropped_from r (length (x ∷ xs) + n) ys))
 
-pub lines_told : (r : Rules) (read : CarriedRead) → told_from r 3 (map line_of_list read.lists.items) ++ told_from r (length read.lists.items + 3) (map line_of_entry read.entries.items) ≡ all_told r (lines_of read)
-lines_told r read =
-    ap (λ (n : ℕ). told_from r 3 (map line_of_list read.lists.items) ++ told_from r (n + 3) (map line_of_entry read.entries.items)) (sym (length-map read.lists.items line_of_list))
-    ∙ sym (told-append r 3 (map line_of_list read.lists.items) (map line_of_entry read.entries.items))
+pub dropped_in_all : (r : Rules) (read : CarriedRead) → dropped_from r 3 (map line_of_list read.lists.items) ++ dropped_from r (length read.lists.items + 3) (map line_of_entry read.entries.items) ≡ all_dropped r (lines_of read)
+dropped_in_all r read =
+    ap (λ (n : ℕ). dropped_from r 3 (map line_of_list read.lists.items) ++ dropped_from r (n + 3) (map line_of_entry read.entries.items)) (sym (length-map read.lists.items line_of_list))
+    ∙ sym (dropped-append r 3 (map line_of_list read.lists.items) (map line_of_entry read.entries.items))
 
 -- the entries' behind the lists'
-pub told_behind : {T E : Type 0} (r : Rules) (read : CarriedRead) (result : Result T E) (old lists new : List Told) → lists ≡ old ++ told_from r 3 (map line_of_list read.lists.items)
-    → OnOk result (new ≡ lists ++ told_from r (length read.lists.items + 3) (map line_of_entry read.entries.items)) → OnOk result (new ≡ old ++ all_told r (lines_of read))
-told_behind r read (Ok x) old lists new e told =
-    let of_lists = told_from r 3 (map line_of_list read.lists.items) in
-    let of_entries = told_from r (length read.lists.items + 3) (map line_of_entry read.entries.items) in
-    told ∙ ap (λ (ts : List Told). ts ++ of_entries) e ∙ append_assoc old of_lists of_entries ∙ ap (λ (ts : List Told). old ++ ts) (lines_told r read)
-told_behind r read (Err fault) old lists new e told = tt
+pub dropped_behind : {T E : Type 0} (r : Rules) (read : CarriedRead) (result : Result T E) (old lists new : List DroppedLine) → lists ≡ old ++ dropped_from r 3 (map line_of_list read.lists.items)
+    → OnOk result (new ≡ lists ++ dropped_from r (length read.lists.items + 3) (map line_of_entry read.entries.items)) → OnOk result (new ≡ old ++ all_dropped r (lines_of read))
+dropped_behind r read (Ok x) old lists new e noted =
+    let of_lists = dropped_from r 3 (map line_of_list read.lists.items) in
+    let of_entries = dropped_from r (length read.lists.items + 3) (map line_of_entry read.entries.items) in
+    noted ∙ ap (λ (ts : List DroppedLine). ts ++ of_entries) e ∙ append_assoc old of_lists of_entries ∙ ap (λ (ts : List DroppedLine). old ++ ts) (dropped_in_all r read)
+dropped_behind r read (Err fault) old lists new e noted = tt
 
-pub told_on : {X : Type 0} (r : Rules) (line_of : X → CarriedLine) (items : List X) (i : ℕ) (item : X) → i < length items → item ≡ get_or items i item
-    → (n m : ℕ) (old new : List Told) → new ≡ old ++ told_where n (line_of item) (reason_of r (line_of item)) → m ≡ suc n
-    → new ++ told_from r m (map line_of (drop (i + 1) items)) ≡ old ++ told_from r n (map line_of (drop i items))
-told_on {X = X} r line_of items i item low is n m old new e next =
-    let this = told_where n (line_of item) (reason_of r (line_of item)) in
+pub dropped_on : {X : Type 0} (r : Rules) (line_of : X → CarriedLine) (items : List X) (i : ℕ) (item : X) → i < length items → item ≡ get_or items i item
+    → (n m : ℕ) (old new : List DroppedLine) → new ≡ old ++ dropped_where n (line_of item) (reason_of r (line_of item)) → m ≡ suc n
+    → new ++ dropped_from r m (map line_of (drop (i + 1) items)) ≡ old ++ dropped_from r n (map line_of (drop i items))
+dropped_on {X = X} r line_of items i item low is n m old new e next =
+    let this = dropped_where n (line_of item) (reason_of r (line_of item)) in
     let rest = map line_of (drop (i + 1) items) in
     let split : drop i items ≡ item ∷ drop (i + 1) items = drop_more items i item low ∙ ap (λ (x : X). x ∷ drop (i + 1) items) (sym is) in
-    ap (λ (ts : List Told). ts ++ told_from r m rest) e
-    ∙ ap (λ (k : ℕ). (old ++ this) ++ told_from r k rest) next
-    ∙ append_assoc old this (told_from r (suc n) rest)
-    ∙ sym (ap (λ (xs : List X). old ++ told_from r n (map line_of xs)) split)
+    ap (λ (ts : List DroppedLine). ts ++ dropped_from r m rest) e
+    ∙ ap (λ (k : ℕ). (old ++ this) ++ dropped_from r k rest) next
+    ∙ append_assoc old this (dropped_from r (suc n) rest)
+    ∙ sym (ap (λ (xs : List X). old ++ dropped_from r n (map line_of xs)) split)
 
 -- ==== laws
 
@@ -214,7 +214,7 @@ limits_allow r bytes a others resume s v has =
     let given = (resume.3.kept.values Answer s v).0 has in
     kept_allowed r s.fact given.1 v given.4
 
--- ---- which lines are told
+-- ---- which lines those are
 
 abbrev as_reason : Option Refusal → Option Reason
 as_reason o = option_map (λ f. RefusedBy f) o
@@ -235,14 +235,14 @@ answered_where false fs w spelled = refl
 no_answer : (d : Tree) → is_answered_by d 0 ≡ false
 no_answer d = refl
 
-pub told_where_not : ToldWhereNotKept
-told_where_not r (collection name members) = at (kept_collection (tree_of r) name)
+pub dropped_where_not : DroppedWhereNotKept
+dropped_where_not r (collection name members) = at (kept_collection (tree_of r) name)
   where
     at : (o : Option ℕ) → is_none (if is_some o then None else Some NoCollection) ≡ is_some o
     at None = refl
     at (Some c) = refl
-told_where_not r (entry Override path text) = refl
-told_where_not r (entry Answer path text) = at (named_fact (tree_of r) path)
+dropped_where_not r (entry Override path text) = refl
+dropped_where_not r (entry Answer path text) = at (named_fact (tree_of r) path)
   where
     at : (o : Option ℕ) → is_none (as_reason (first_of (when (is_none o) UnknownFact ∷ fact_refusals r (unwrap_or o 0) text))) ≡ is_some (kept_value r Answer (unwrap_or o 0) text)
     at None = sym (ap (λ (b : Bool). is_some (if b && is_none (first_of (value_refusals r 0 text)) then value_spelled (tree_of r) 0 text else None)) (no_answer (tree_of r)))

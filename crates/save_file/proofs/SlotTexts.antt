@@ -172,7 +172,7 @@ same_member m n is other e =
     let digits : decimal m ≡ decimal n = cc in
     same_Some m n (sym (member_number-decimal m is) ∙ ap member_number_of digits ∙ member_number-decimal n other)
 
--- members are told by their text
+-- the text of members is that of no others
 pub same_members : (ms ns : List ℕ) → AllByRecursion IsMemberNumber ms → AllByRecursion IsMemberNumber ns → printed_rest ms ≡ printed_rest ns → ms ≡ ns
 same_members [] [] is other e = refl
 same_members [] (n ∷ ns) is other e = absurd cc

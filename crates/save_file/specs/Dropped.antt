@@ -10,16 +10,16 @@ use Rattle.save_file.specs.Carrying.{dropped_numbers, keeps}
 -- ---- their text
 
 -- the kind of a line and what it names: `dropped list /N`, `dropped value SLOT` or `dropped override SLOT`
-abbrev pub dropped_line : CarriedLine → List ℕ
-dropped_line line = codes "dropped " ++ key_text line
+abbrev pub dropped_key : CarriedLine → List ℕ
+dropped_key line = codes "dropped " ++ key_text line
 
 -- one for each line that isn't kept, in order
-abbrev pub dropped_lines : Rules → List CarriedLine → List (List ℕ)
-dropped_lines r lines = map dropped_line (filter (λ line. not (keeps r line)) lines)
+abbrev pub dropped_keys : Rules → List CarriedLine → List (List ℕ)
+dropped_keys r lines = map dropped_key (filter (λ line. not (keeps r line)) lines)
 
 -- each is ended by a newline
 abbrev pub dropped_text : Rules → List CarriedLine → List ℕ
-dropped_text r lines = joined (dropped_lines r lines)
+dropped_text r lines = joined (dropped_keys r lines)
 
 -- the bytes are a carried text, these are the numbers of the lines that some rules drop, and that is what is said of them
 abbrev pub IsDroppedText : List ℕ → List ℕ → List ℕ → Type 0
@@ -64,11 +64,11 @@ said_at n ns [] = []
 said_at n ns (line ∷ lines) = said_if (is_next n ns) line ++ said_at (suc n) (past n ns) lines
 
 -- worked examples
-dropped_line-list : dropped_line (collection (codes "c") (2 ∷ [])) ≡ codes "dropped list /c"
-dropped_line-list = refl
+dropped_key-list : dropped_key (collection (codes "c") (2 ∷ [])) ≡ codes "dropped list /c"
+dropped_key-list = refl
 
-dropped_line-override : dropped_line (entry Override (Global (codes "s")) (codes "a b")) ≡ codes "dropped override /s"
-dropped_line-override = refl
+dropped_key-override : dropped_key (entry Override (Global (codes "s")) (codes "a b")) ≡ codes "dropped override /s"
+dropped_key-override = refl
 
 said_of-value : said_of (codes "value /n 7 a") ≡ codes "dropped value /n"
 said_of-value = refl

@@ -21,7 +21,7 @@ use Rattle.save_file.specs.declared.reason.Reason.{Reason}
 use Rattle.save_file.specs.declared.reason.Reason.TheVariants.{NoCollection, Refused}
 use Rattle.save_file.specs.declared.reason.Reason.TheVariants as reasons
 
--- ---- why a line isn't kept
+-- ---- why a line is dropped
 
 -- the refusals of `set` over the path's fact: the member in the path stands, since its list is in the text
 abbrev pub fact_refusals : Rules → ℕ → List ℕ → List (Option Refusal)
@@ -36,28 +36,28 @@ reason_of r (collection name members) = if is_some (kept_collection (tree_of r) 
 reason_of r (entry Answer path text) = option_map (λ f. Refused f) (first_of (answer_refusals r path text))
 reason_of r (entry Override path text) = Some reasons.Override
 
--- ---- what is told of the lines that aren't kept
+-- ---- the lines that are dropped
 
--- the number of a line, from 1, what it names with its kind, and why it isn't kept
-abbrev pub Told : Type 0
-Told = ℕ × (List ℕ × Reason)
+-- the number of a line, from 1, what it names with its kind, and why it is dropped
+abbrev pub DroppedLine : Type 0
+DroppedLine = ℕ × (List ℕ × Reason)
 
-abbrev pub told_where : ℕ → CarriedLine → Option Reason → List Told
-told_where n line None = []
-told_where n line (Some reason) = (n, (key_text line, reason)) ∷ []
+abbrev pub dropped_where : ℕ → CarriedLine → Option Reason → List DroppedLine
+dropped_where n line None = []
+dropped_where n line (Some reason) = (n, (key_text line, reason)) ∷ []
 
 -- of lines, the first of which has this number
-abbrev pub told_from : Rules → ℕ → List CarriedLine → List Told
-told_from r n [] = []
-told_from r n (line ∷ lines) = told_where n line (reason_of r line) ++ told_from r (suc n) lines
+abbrev pub dropped_from : Rules → ℕ → List CarriedLine → List DroppedLine
+dropped_from r n [] = []
+dropped_from r n (line ∷ lines) = dropped_where n line (reason_of r line) ++ dropped_from r (suc n) lines
 
 -- the first two lines of the text are kept
-abbrev pub all_told : Rules → List CarriedLine → List Told
-all_told r lines = told_from r 3 lines
+abbrev pub all_dropped : Rules → List CarriedLine → List DroppedLine
+all_dropped r lines = dropped_from r 3 lines
 
 -- as they are handed out
-abbrev pub told : Dropped → Told
-told d = (d.number, (string_bytes d.key, d.reason))
+abbrev pub dropped_line : Dropped → DroppedLine
+dropped_line d = (d.number, (string_bytes d.key, d.reason))
 
 -- ---- what resuming says
 
@@ -70,36 +70,36 @@ abbrev pub without_overrides : CarriedText → CarriedText
 without_overrides c = record { next = c.next; lines = filter (λ line. not (overrides line)) c.lines }
 
 -- the answers are those of the lines that are kept, and of no override
-pub record IsResumeOf (r : Rules) (c : CarriedText) (a : Answered) (others : List Told) : Type 0 where
+pub record IsResumeOf (r : Rules) (c : CarriedText) (a : Answered) (others : List DroppedLine) : Type 0 where
   pub kept : AreOfKept r (without_overrides c) a
   pub fit : AnswersFit (tree_of r) a
-  pub told : others ≡ all_told r c.lines
+  pub dropped : others ≡ all_dropped r c.lines
 
 -- the bytes are a carried text, which gives these answers
-abbrev pub IsResume : Rules → List ℕ → Answered → List Told → Type 0
+abbrev pub IsResume : Rules → List ℕ → Answered → List DroppedLine → Type 0
 IsResume r bytes a others = (c : CarriedText) × IsCarried c × (bytes ≡ carried c) × IsResumeOf r c a others
 
 -- ---- laws
 
 -- no override stands
 abbrev pub NoOverrideStands : Type 0
-NoOverrideStands = (r : Rules) (bytes : List ℕ) (a : Answered) (others : List Told) → IsResume r bytes a others → (s : Slot) → value_of Override a s ≡ None
+NoOverrideStands = (r : Rules) (bytes : List ℕ) (a : Answered) (others : List DroppedLine) → IsResume r bytes a others → (s : Slot) → value_of Override a s ≡ None
 
 -- each answer that stands is one that a fact may have, and no limit and no check refuses it
 abbrev pub LimitsAllowWhatStands : Type 0
 LimitsAllowWhatStands =
-    (r : Rules) (bytes : List ℕ) (a : Answered) (others : List Told) → IsResume r bytes a others
+    (r : Rules) (bytes : List ℕ) (a : Answered) (others : List DroppedLine) → IsResume r bytes a others
     → (s : Slot) (v : Value) → value_of Answer a s ≡ Some v
     → IsTrue (is_answered_by (tree_of r) s.fact) × (first_of (limit_refusals r s.fact (Some v)) ≡ None)
 
--- a line is told of where carrying drops it or it is an override, and in no other case
-abbrev pub ToldWhereNotKept : Type 0
-ToldWhereNotKept = (r : Rules) (line : CarriedLine) → is_none (reason_of r line) ≡ (if overrides line then false else keeps r line)
+-- a line is dropped where carrying drops it or it is an override, and in no other case
+abbrev pub DroppedWhereNotKept : Type 0
+DroppedWhereNotKept = (r : Rules) (line : CarriedLine) → is_none (reason_of r line) ≡ (if overrides line then false else keeps r line)
 
 -- the reason of a value is what `set` refuses it with in the resumed session
 abbrev pub SetSaysTheReason : Type 0
 SetSaysTheReason =
-    (r : Rules) → IsAccepted (names_of r.checks) r.accepted → (c : CarriedText) → IsCarried c → (a : Answered) (others : List Told) → IsResumeOf r c a others
+    (r : Rules) → IsAccepted (names_of r.checks) r.accepted → (c : CarriedText) → IsCarried c → (a : Answered) (others : List DroppedLine) → IsResumeOf r c a others
     → (path : SlotPath) (text : List ℕ) → Contains c.lines (entry Answer path text)
     → reason_of r (entry Answer path text) ≡ option_map (λ f. Refused f) (first_of (set_refusals r a path text))
 
@@ -107,11 +107,11 @@ SetSaysTheReason =
 abbrev pub CarryingGivesTheSame : Type 0
 CarryingGivesTheSame =
     (r : Rules) (c : CarriedText) → IsCarried c → AllByRecursion (λ line. overrides line ≡ false) c.lines
-    → (a b : Answered) (dropped : List ℕ) (others : List Told) → IsCarry r (carried c) a dropped → IsResume r (carried c) b others → a ≡ b
+    → (a b : Answered) (dropped : List ℕ) (others : List DroppedLine) → IsCarry r (carried c) a dropped → IsResume r (carried c) b others → a ≡ b
 
 -- worked examples
-told_from-override : (r : Rules) → told_from r 3 (entry Override (Global (codes "s")) (codes "a b") ∷ []) ≡ (3, (codes "override /s", reasons.Override)) ∷ []
-told_from-override r = refl
+dropped_from-override : (r : Rules) → dropped_from r 3 (entry Override (Global (codes "s")) (codes "a b") ∷ []) ≡ (3, (codes "override /s", reasons.Override)) ∷ []
+dropped_from-override r = refl
 
-told_where-refused : told_where 4 (entry Answer (Global (codes "n")) (codes "7")) (Some (Refused WrongKind)) ≡ (4, (codes "value /n", Refused WrongKind)) ∷ []
-told_where-refused = refl
+dropped_where-refused : dropped_where 4 (entry Answer (Global (codes "n")) (codes "7")) (Some (Refused WrongKind)) ≡ (4, (codes "value /n", Refused WrongKind)) ∷ []
+dropped_where-refused = refl

@@ -2,7 +2,7 @@
 ghost use Rattle.save_file.specs.CarriedText.{CarriedTextsTellLines};
 ghost use Rattle.save_file.specs.Carrying.{CarryingGivesOne, EachLineIsKeptOrListed, OwnLinesAreKept, SavedTextsAreCarried};
 ghost use Rattle.save_file.specs.Loading.{SavedTextsTellAnswers};
-ghost use Rattle.save_file.specs.Resuming.{CarryingGivesTheSame, LimitsAllowWhatStands, NoOverrideStands, SetSaysTheReason, ToldWhereNotKept};
+ghost use Rattle.save_file.specs.Resuming.{CarryingGivesTheSame, LimitsAllowWhatStands, NoOverrideStands, SetSaysTheReason, DroppedWhereNotKept};
 
 /// Answers that fit an accepted dictionary and have one saved text are the same.
 pub fn saved_texts_tell_their_answers()
@@ -47,8 +47,8 @@ pub fn limits_allow_what_is_resumed()
 {}
 
 /// Resuming lists the lines that carrying drops, and the overrides.
-pub fn dropped_lines_are_told()
-    ensures { ToldWhereNotKept }
+pub fn dropped_lines_are_listed()
+    ensures { DroppedWhereNotKept }
 {}
 
 /// The reason that is listed with a value is what `set` refuses the value with in the resumed session.

@@ -8,6 +8,7 @@ mod carried_text;
 mod carrying;
 mod cursor;
 mod dropped;
+mod dropped_lines;
 mod entries;
 mod entry_keys;
 mod entry_line;
@@ -24,7 +25,6 @@ mod reason;
 mod resuming;
 mod saving;
 mod stage;
-mod telling;
 mod texts;
 
 pub use carrying::{Carried, carry};

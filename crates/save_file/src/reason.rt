@@ -1,4 +1,4 @@
-// Why a line of a text that came from outside isn't kept.
+// Why a line of a text that came from outside is dropped.
 ghost use Rattle.std.specs.Prelude.{◌≡◌, Some, IfErr, IfOk, option_map, string_bytes};
 ghost use Rattle.text_checks.specs.Tables.{named_checks};
 ghost use Rattle.dict_tree.specs.Finding.{IsNumber};
@@ -22,7 +22,7 @@ use graph_session::{Refusal, is_answered, is_want_of_memory, judge_value};
 use std::alloc::Global;
 use text_checks::CheckTable;
 
-/// Why a line isn't kept.
+/// Why a line is dropped.
 #[derive(Clone, Copy, PartialEq, Eq)]
 pub enum Reason {
     /// The dictionary has no writable collection of the name.
@@ -33,7 +33,7 @@ pub enum Reason {
     Override,
 }
 
-/// A line that isn't kept.
+/// A line that is dropped.
 #[derive(Drop)]
 pub struct Dropped {
     /// Its number in the text, from 1.
@@ -43,7 +43,7 @@ pub struct Dropped {
     pub reason: Reason,
 }
 
-/// Why the list isn't kept.
+/// Why the list is dropped.
 pub fn reason_of_list(dict: &Dictionary, line: &ListLine) -> Option<Reason>
     ensures { result ≡ reason_of (rules dict.now) (line_of_list line.now) }
 {
@@ -103,7 +103,7 @@ fn refused(refusal: Option<Refusal>) -> Option<Reason>
     }
 }
 
-// Why the value isn't kept.
+// Why the value is dropped.
 fn reason_of_value(
     alloc: Global,
     dict: &Dictionary,
@@ -124,7 +124,7 @@ fn reason_of_value(
     }
 }
 
-/// Why the entry isn't kept.
+/// Why the entry is dropped.
 pub fn reason_of_entry(
     alloc: Global,
     dict: &Dictionary,

@@ -8,15 +8,15 @@ ghost use Rattle.graph_session.specs.Rules.{rules, tree_of};
 ghost use Rattle.save_file.specs.CarriedParsing.{is_override as is_side_override, text_of};
 ghost use Rattle.save_file.specs.CarriedText.{IsCarried};
 ghost use Rattle.save_file.specs.Carrying.{AreOfKept, RefusesCarried};
-ghost use Rattle.save_file.specs.Resuming.{IsResume, IsResumeOf, told, without_overrides};
+ghost use Rattle.save_file.specs.Resuming.{IsResume, IsResumeOf, dropped_line, without_overrides};
 ghost use Rattle.save_file.specs.declared.fault.LoadFault.TheVariants.{NoMemory};
 
 use crate::carried_read::{CarriedRead, is_override};
 use crate::carried_text::read_lines;
 use crate::carrying::carry_lines;
+use crate::dropped_lines::lines_dropped;
 use crate::fault::LoadFault;
 use crate::reason::Dropped;
-use crate::telling::lines_dropped;
 use answers::Answers;
 use dictionary::Dictionary;
 use std::alloc::Global;
@@ -72,7 +72,7 @@ fn resume_lines(
     requires text { IsCarried (text_of read.old) }
     requires few { length read.old.lists.items + length read.old.entries.items + 3 < 4294967296 }
     ensures resumed { IfOk result (λ x. IsResumeOf (rules dict.now) (text_of read.old) (answered x.answers)
-        (map told x.dropped.items)) }
+        (map dropped_line x.dropped.items)) }
     ensures memory { IfErr result (λ fault. fault ≡ NoMemory) }
 {
     match lines_dropped(alloc, dict, checks, read) {
@@ -88,7 +88,7 @@ fn resume_lines(
 }
 
 /// What may be taken of a saved text that came from outside: the answers that `set` would take, over any dictionary as `carry`
-/// has it, and no override. Each line that isn't kept is listed with its reason.
+/// has it, and no override. Each line that is dropped is listed with its reason.
 pub fn resume(
     alloc: Global,
     dict: &Dictionary,
@@ -98,7 +98,7 @@ pub fn resume(
     requires same_checks { SameChecks (rules dict.now) (named_checks checks.now) }
     requires short { length bytes.now < 4294967295 }
     ensures resumed { IfOk result (λ x. IsResume (rules dict.now) bytes.now (answered x.answers)
-        (map told x.dropped.items)) }
+        (map dropped_line x.dropped.items)) }
     ensures refused { IfErr result (RefusesCarried bytes.now) }
 {
     match read_lines(alloc, bytes) {

@@ -2,7 +2,7 @@ use Rattle.std.proofs.Common.{[], ◌∷◌, ◌++◌}
 use Rattle.std.specs.Prelude.{codes}
 use Rattle.fg_io.proofs.WritingLaws.{failed_before, wrote_behind}
 use Rattle.session_lines.specs.Replies.{refusal_text}
-use Rattle.fact_graph_c.proofs.telling.put_reason.Goals as goal
+use Rattle.fact_graph_c.proofs.dropped_lines.put_reason.Goals as goal
 
 pub returns-in-Err : goal.returns-in-Err
 returns-in-Err g c = rw c.in-Refused.is (failed_before _ _ (codes " ") (refusal_text c.in-Refused.refusal ++ 10 ∷ []) c.in-Err.ensures)

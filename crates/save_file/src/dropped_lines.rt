@@ -1,11 +1,11 @@
-// Tells of the lines that aren't kept of a text that came from outside.
+// Lists the lines that are dropped of a text that came from outside.
 ghost use Rattle.std.specs.Prelude.{◌≡◌, ◌+◌, ◌<◌, ◌++◌, ◌∷◌, [], ◌≤◌, IfErr, IfOk, OnOk, length, map, string_bytes};
 ghost use Rattle.text_checks.specs.Tables.{named_checks};
 ghost use Rattle.graph_session.specs.Refusals.{SameChecks};
 ghost use Rattle.graph_session.specs.Rules.{rules};
 ghost use Rattle.save_file.specs.CarriedParsing.{line_of_entry, line_of_list, lines_of};
 ghost use Rattle.save_file.specs.CarriedText.{key_text};
-ghost use Rattle.save_file.specs.Resuming.{all_told, reason_of, told, told_from, told_where};
+ghost use Rattle.save_file.specs.Resuming.{all_dropped, dropped_from, dropped_line, dropped_where, reason_of};
 ghost use Rattle.save_file.specs.declared.fault.LoadFault.TheVariants.{NoMemory};
 
 use crate::carried_line::{EntryLine, ListLine};
@@ -16,14 +16,14 @@ use dictionary::Dictionary;
 use std::alloc::Global;
 use text_checks::CheckTable;
 
-fn add(
+fn note(
     number: u32,
     key: String,
     reason: Reason,
     dropped: &mut Vec<Dropped>,
 ) -> Result<(), LoadFault>
-    ensures told { OnOk result (map told dropped.new.items
-        ≡ map told dropped.old.items ++ (number, (string_bytes key, reason)) ∷ []) }
+    ensures noted { OnOk result (map dropped_line dropped.new.items
+        ≡ map dropped_line dropped.old.items ++ (number, (string_bytes key, reason)) ∷ []) }
     ensures memory { IfErr result (λ fault. fault ≡ NoMemory) }
 {
     let line = Dropped {
@@ -59,29 +59,29 @@ fn key_of_entry(alloc: Global, line: &EntryLine) -> Result<String, LoadFault>
     }
 }
 
-// Tells of a list with this reason, where there is one.
-fn tell_list(
+// Notes a list that is dropped.
+fn note_list(
     alloc: Global,
     dict: &Dictionary,
     line: &ListLine,
     number: u32,
     dropped: &mut Vec<Dropped>,
 ) -> Result<(), LoadFault>
-    ensures told { OnOk result (map told dropped.new.items ≡ map told dropped.old.items
-        ++ told_where number (line_of_list line.now) (reason_of (rules dict.now) (line_of_list line.now))) }
+    ensures noted { OnOk result (map dropped_line dropped.new.items ≡ map dropped_line dropped.old.items
+        ++ dropped_where number (line_of_list line.now) (reason_of (rules dict.now) (line_of_list line.now))) }
     ensures memory { IfErr result (λ fault. fault ≡ NoMemory) }
 {
     match reason_of_list(dict, line) {
         None => Ok(()),
         Some(reason) => match key_of_list(alloc, line) {
             Err(fault) => Err(fault),
-            Ok(key) => add(number, key, reason, dropped),
+            Ok(key) => note(number, key, reason, dropped),
         },
     }
 }
 
 // The same of an entry, whose reason may want memory.
-fn tell_entry(
+fn note_entry(
     alloc: Global,
     dict: &Dictionary,
     checks: &CheckTable,
@@ -90,8 +90,8 @@ fn tell_entry(
     dropped: &mut Vec<Dropped>,
 ) -> Result<(), LoadFault>
     requires same_checks { SameChecks (rules dict.now) (named_checks checks.now) }
-    ensures told { OnOk result (map told dropped.new.items ≡ map told dropped.old.items
-        ++ told_where number (line_of_entry line.now) (reason_of (rules dict.now) (line_of_entry line.now))) }
+    ensures noted { OnOk result (map dropped_line dropped.new.items ≡ map dropped_line dropped.old.items
+        ++ dropped_where number (line_of_entry line.now) (reason_of (rules dict.now) (line_of_entry line.now))) }
     ensures memory { IfErr result (λ fault. fault ≡ NoMemory) }
 {
     match reason_of_entry(alloc, dict, checks, line) {
@@ -99,26 +99,26 @@ fn tell_entry(
         Ok(None) => Ok(()),
         Ok(Some(reason)) => match key_of_entry(alloc, line) {
             Err(fault) => Err(fault),
-            Ok(key) => add(number, key, reason, dropped),
+            Ok(key) => note(number, key, reason, dropped),
         },
     }
 }
 
 // Goes through the lists.
-fn tell_lists(
+fn note_lists(
     alloc: Global,
     dict: &Dictionary,
     lists: &[ListLine],
     dropped: &mut Vec<Dropped>,
 ) -> Result<(), LoadFault>
     requires { length lists.now ≤ 32 }
-    ensures told { OnOk result (map told dropped.new.items ≡ map told dropped.old.items
-        ++ told_from (rules dict.now) 3 (map line_of_list lists.now)) }
+    ensures noted { OnOk result (map dropped_line dropped.new.items ≡ map dropped_line dropped.old.items
+        ++ dropped_from (rules dict.now) 3 (map line_of_list lists.now)) }
     ensures memory { IfErr result (λ fault. fault ≡ NoMemory) }
 {
     let mut number = 3;
     for line in lists {
-        match tell_list(alloc, dict, line, number, dropped) {
+        match note_list(alloc, dict, line, number, dropped) {
             Err(fault) => return Err(fault),
             Ok(()) => number += 1,
         }
@@ -127,7 +127,7 @@ fn tell_lists(
 }
 
 // Goes through the entries, the first of which has this number.
-fn tell_entries(
+fn note_entries(
     alloc: Global,
     dict: &Dictionary,
     checks: &CheckTable,
@@ -137,13 +137,13 @@ fn tell_entries(
 ) -> Result<(), LoadFault>
     requires same_checks { SameChecks (rules dict.now) (named_checks checks.now) }
     requires few { first + length entries.now < 4294967296 }
-    ensures told { OnOk result (map told dropped.new.items ≡ map told dropped.old.items
-        ++ told_from (rules dict.now) first (map line_of_entry entries.now)) }
+    ensures noted { OnOk result (map dropped_line dropped.new.items ≡ map dropped_line dropped.old.items
+        ++ dropped_from (rules dict.now) first (map line_of_entry entries.now)) }
     ensures memory { IfErr result (λ fault. fault ≡ NoMemory) }
 {
     let mut number = first;
     for line in entries {
-        match tell_entry(alloc, dict, checks, line, number, dropped) {
+        match note_entry(alloc, dict, checks, line, number, dropped) {
             Err(fault) => return Err(fault),
             Ok(()) => number += 1,
         }
@@ -151,8 +151,8 @@ fn tell_entries(
     Ok(())
 }
 
-// The same of all lines, behind what was told.
-fn tell_lines(
+// The same of all lines, behind those that are noted.
+fn note_lines(
     alloc: Global,
     dict: &Dictionary,
     checks: &CheckTable,
@@ -162,20 +162,20 @@ fn tell_lines(
     requires same_checks { SameChecks (rules dict.now) (named_checks checks.now) }
     requires lists { length read.now.lists.items ≤ 32 }
     requires few { length read.now.lists.items + length read.now.entries.items + 3 < 4294967296 }
-    ensures told { OnOk result (map told dropped.new.items ≡ map told dropped.old.items
-        ++ all_told (rules dict.now) (lines_of read.now)) }
+    ensures noted { OnOk result (map dropped_line dropped.new.items ≡ map dropped_line dropped.old.items
+        ++ all_dropped (rules dict.now) (lines_of read.now)) }
     ensures memory { IfErr result (λ fault. fault ≡ NoMemory) }
 {
-    match tell_lists(alloc, dict, read.lists.as_slice(), dropped) {
+    match note_lists(alloc, dict, read.lists.as_slice(), dropped) {
         Err(fault) => Err(fault),
         Ok(()) => {
             let first = read.lists.len() as u32 + 3;
-            tell_entries(alloc, dict, checks, read.entries.as_slice(), first, dropped)
+            note_entries(alloc, dict, checks, read.entries.as_slice(), first, dropped)
         }
     }
 }
 
-/// The lines that aren't kept, in order, each with the reason.
+/// The lines that are dropped, in order, each with the reason.
 pub fn lines_dropped(
     alloc: Global,
     dict: &Dictionary,
@@ -185,11 +185,12 @@ pub fn lines_dropped(
     requires same_checks { SameChecks (rules dict.now) (named_checks checks.now) }
     requires lists { length read.now.lists.items ≤ 32 }
     requires few { length read.now.lists.items + length read.now.entries.items + 3 < 4294967296 }
-    ensures told { IfOk result (λ dropped. map told dropped.items ≡ all_told (rules dict.now) (lines_of read.now)) }
+    ensures dropped { IfOk result (λ dropped. map dropped_line dropped.items
+        ≡ all_dropped (rules dict.now) (lines_of read.now)) }
     ensures memory { IfErr result (λ fault. fault ≡ NoMemory) }
 {
     let mut dropped = Vec::new(alloc);
-    match tell_lines(alloc, dict, checks, read, &mut dropped) {
+    match note_lines(alloc, dict, checks, read, &mut dropped) {
         Err(fault) => {
             drop(dropped);
             Err(fault)

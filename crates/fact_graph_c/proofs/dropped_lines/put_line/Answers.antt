@@ -1,7 +1,7 @@
 use Rattle.std.proofs.Common.{refl}
 use Rattle.save_file.proofs.DroppedLaws.{failed_piece, last_piece, wrote_piece}
-use Rattle.fact_graph_c.proofs.TellingLaws.{line_left}
-use Rattle.fact_graph_c.proofs.telling.put_line.Goals as goal
+use Rattle.fact_graph_c.proofs.DroppedLineLaws.{line_left}
+use Rattle.fact_graph_c.proofs.dropped_lines.put_line.Goals as goal
 
 pub returns-in_err-put_text : goal.returns-in_err-put_text
 returns-in_err-put_text g c = failed_piece _ c.from_residual.result c.from_residual.ensures.1 (line_left c.args.line.now _ refl _) c.in_err-put_text.ensures

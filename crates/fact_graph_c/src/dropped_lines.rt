@@ -1,9 +1,9 @@
-// Says which lines aren't kept of a text that came from outside.
+// Says which lines are dropped of a text that came from outside.
 ghost use Rattle.std.specs.Prelude.{◌≡◌, ◌++◌, ◌∷◌, [], IfOk, map};
 ghost use Rattle.fg_io.specs.Writing.{Wrote};
-ghost use Rattle.save_file.specs.Resuming.{told};
+ghost use Rattle.save_file.specs.Resuming.{dropped_line};
 ghost use Rattle.session_lines.specs.Replies.{refusal_text};
-ghost use Rattle.fact_graph_c.specs.Telling.{reason_text, told_line, told_text};
+ghost use Rattle.fact_graph_c.specs.DroppedLines.{dropped_line_text, dropped_lines_text as text_of_lines, reason_text};
 
 use crate::text::Text;
 use fact_values::NoMemory;
@@ -24,7 +24,7 @@ fn put_refusal<K: Sink>(refusal: Refusal, out: &mut K) -> Result<(), Failed>
     put_text(line.bytes(), out)
 }
 
-// Puts why a line isn't kept, and its newline.
+// Puts why a line is dropped, and its newline.
 fn put_reason<K: Sink>(reason: Reason, out: &mut K) -> Result<(), Failed>
     ensures { Wrote (K.output out.old) (K.output out.new) (reason_text reason ++ 10 ∷ []) result }
 {
@@ -40,7 +40,8 @@ fn put_reason<K: Sink>(reason: Reason, out: &mut K) -> Result<(), Failed>
 
 // Puts what is said of a line.
 fn put_line<K: Sink>(line: &Dropped, out: &mut K) -> Result<(), Failed>
-    ensures { Wrote (K.output out.old) (K.output out.new) (told_line (told line.now) ++ 10 ∷ []) result }
+    ensures { Wrote (K.output out.old) (K.output out.new) (dropped_line_text (dropped_line line.now) ++ 10 ∷ [])
+        result }
 {
     put_text(b"dropped ", out)?;
     put_text(line.key.as_bytes(), out)?;
@@ -49,7 +50,7 @@ fn put_line<K: Sink>(line: &Dropped, out: &mut K) -> Result<(), Failed>
 
 // Goes through the lines.
 fn put_lines<K: Sink>(lines: &[Dropped], out: &mut K) -> Result<(), Failed>
-    ensures { Wrote (K.output out.old) (K.output out.new) (told_text (map told lines.now)) result }
+    ensures { Wrote (K.output out.old) (K.output out.new) (text_of_lines (map dropped_line lines.now)) result }
 {
     for line in lines {
         match put_line(line, out) {
@@ -61,8 +62,8 @@ fn put_lines<K: Sink>(lines: &[Dropped], out: &mut K) -> Result<(), Failed>
 }
 
 /// What is said of these lines.
-pub fn text_of(alloc: Global, lines: &[Dropped]) -> Result<Text, NoMemory>
-    ensures { IfOk result (λ t. t.bytes.items ≡ told_text (map told lines.now)) }
+pub fn dropped_lines_text(alloc: Global, lines: &[Dropped]) -> Result<Text, NoMemory>
+    ensures { IfOk result (λ t. t.bytes.items ≡ text_of_lines (map dropped_line lines.now)) }
 {
     let mut text = Text::new(alloc);
     match put_lines(lines, &mut text) {

@@ -1,0 +1,16 @@
+use Rattle.std.proofs.Common.{map, suc, ◌+◌, ◌∙◌, ◌≡◌, arith}
+use Rattle.graph_session.specs.Rules.{rules}
+use Rattle.save_file.specs.CarriedParsing.{line_of_entry}
+use Rattle.save_file.specs.Resuming.{dropped_line}
+use Rattle.save_file.proofs.ResumeLaws.{dropped_on}
+use Rattle.save_file.proofs.dropped_lines.note_entries.Goals as goal
+
+pub loop-line-preserved : goal.loop-line-preserved
+loop-line-preserved g c =
+    let one : c.loop-line.number + 1 ≡ suc c.loop-line.number = omega arith in
+    let all = dropped_on (rules c.args.dict.now) line_of_entry c.args.entries.now c.loop-line.line-index c.line-item.result c.loop-line-test.true c.line-item.is
+    c.loop-line.number (c.loop-line.number + 1) (map dropped_line c.loop-line.dropped.items) (map dropped_line c.note_entry.new.dropped.items) c.in-Ok.ensures.noted one in
+    record {
+      all = all ∙ c.loop-line.invariant.all;
+      number = omega (arith, c.loop-line.invariant.number);
+    }
