@@ -18,10 +18,9 @@ use Rattle.fact_values.specs.declared.slot.Slot.{Slot}
 use Rattle.fact_values.specs.declared.value.Value.{Value}
 use Rattle.graph_session.specs.Kinds.{value_spelled}
 use Rattle.graph_session.specs.Naming.{fact_of, lacks_member, named_fact}
-use Rattle.graph_session.specs.Refusals.{Refused, first_of, limit_refusals, set_refusals, value_refusals, when}
+use Rattle.graph_session.specs.Refusals.{first_of, limit_refusals, set_refusals, value_refusals, when}
 use Rattle.graph_session.specs.Rules.{Rules, tree_of}
-use Rattle.graph_session.specs.Run.{is_memory}
-use Rattle.graph_session.specs.declared.reply.Refusal.TheVariants.{BadValue, NoMember, NoMemory, UnknownFact, WrongKind}
+use Rattle.graph_session.specs.declared.reply.Refusal.TheVariants.{BadValue, NoMember, UnknownFact, WrongKind}
 use Rattle.graph_session.specs.declared.reply.Refusal.{Refusal}
 use Rattle.save_file.proofs.CarriedAnswers.{chosen_by, placed_where}
 use Rattle.save_file.proofs.CarryLaws.{of_one, one_text}
@@ -140,15 +139,6 @@ module _ (old new : CarriedRead) (next : new.next ≡ old.next) (lists : new.lis
       omega (arith, parts, few, ap length lists, ap length entries)
 
 -- ==== the lines that are dropped
-
--- ---- a refusal
-
--- other than want of memory
-pub refused_with : (f : Refusal) (o : Option Refusal) → is_memory f ≡ false → Refused f o → o ≡ Some f
-refused_with NoMemory o m h = absurd cc
-refused_with f o m h = h
-
--- ---- line after line
 
 dropped-append : (r : Rules) (n : ℕ) (xs ys : List CarriedLine) → dropped_from r n (xs ++ ys) ≡ dropped_from r n xs ++ dropped_from r (length xs + n) ys
 dropped-append r n [] ys = ap (λ (m : ℕ). dropped_from r m ys) (let zero_more : n ≡ 0 + n = omega arith in zero_more)
