@@ -149,7 +149,7 @@ export class Session {
   }
 
   /**
-   * A session without answers over a dictionary that comes with the engine: `year 2023`, `year 2024` or `income 2023`. Throws
+   * A session without answers over a dictionary that comes with the engine: `year 2023`, `year 2024`, `income 2023` or `income 2024`. Throws
    * UnknownDictionary for other words.
    * @param {string} words
    * @param {Options} [options]

@@ -118,7 +118,7 @@ class Session:  # pylint: disable=too-many-instance-attributes # what its calls 
 
     @classmethod
     def built_in(cls, words: str, *, undo: int | None = None) -> Session:
-        """A session without answers over a dictionary that comes with the library: `year 2023`, `year 2024` or `income 2023`.
+        """A session without answers over a dictionary that comes with the library: `year 2023`, `year 2024`, `income 2023` or `income 2024`.
 
         Raises `UnknownDictionary` for other words.
 

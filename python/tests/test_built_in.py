@@ -16,7 +16,7 @@ from .calls import replies
 from .places import EXAMPLES, SUM
 
 HOUSEHOLDS = {"year 2023": EXAMPLES / "years" / "2023.script", "income 2023": EXAMPLES / "income" / "2023.script"}
-FACTS = {"year 2023": 45, "year 2024": 45, "income 2023": 69}
+FACTS = {"year 2023": 45, "year 2024": 45, "income 2023": 69, "income 2024": 69}
 
 
 @pytest.mark.parametrize(("words", "script"), HOUSEHOLDS.items())

@@ -7,9 +7,10 @@ use Rattle.dictionary.specs.Checks.{has_check}
 use Rattle.tax_2023.specs.Facts.{dictionary}
 use Rattle.tax_2023.specs.Figures.{figures}
 use Rattle.tax_2023.specs.Laws.{IsOfYear}
-use Rattle.tax_2023.specs.Years.{Year, tables_2023}
-use Rattle.tax_income.specs.Facts.{income_dictionary}
+use Rattle.tax_2023.specs.Years.{Year}
+use Rattle.tax_income.specs.Facts.{dictionary_of}
 use Rattle.tax_income.specs.Laws.{IsOfIncome}
+use Rattle.tax_income.specs.Years.{IncomeYear}
 
 -- it is accepted as this
 pub brings : (IsThis : Accepted → Type 0) (r : Result Kept NoMemory) → IfOk r (λ d. IsThis (accepted d)) → IfOk r (λ d. d.checks ≡ []) → IfOk r (λ d. IsThis (accepted d) × (d.checks ≡ []))
@@ -20,13 +21,13 @@ brings IsThis (Err fault) h k = tt
 year_names_none : (y : Year) → has_check (dictionary (figures y)) ≡ false
 year_names_none y = refl
 
-income_names_none : (y : Year) → has_check (income_dictionary (figures y)) ≡ false
+income_names_none : (y : IncomeYear) → has_check (dictionary_of y) ≡ false
 income_names_none y = refl
 
 pub year_brings_no_check : (y : Year) (r : Result Kept NoMemory) → IfOk r (λ d. IsOfYear y (accepted d)) → IfOk r (λ d. has_check (accepted d).tree ≡ false)
 year_brings_no_check y (Ok d) h = ap has_check h.facts ∙ year_names_none y
 year_brings_no_check y (Err fault) h = tt
 
-pub income_brings_no_check : (r : Result Kept NoMemory) → IfOk r (λ d. IsOfIncome (accepted d)) → IfOk r (λ d. has_check (accepted d).tree ≡ false)
-income_brings_no_check (Ok d) h = ap has_check h.facts ∙ income_names_none tables_2023
-income_brings_no_check (Err fault) h = tt
+pub income_brings_no_check : (y : IncomeYear) (r : Result Kept NoMemory) → IfOk r (λ d. IsOfIncome y (accepted d)) → IfOk r (λ d. has_check (accepted d).tree ≡ false)
+income_brings_no_check y (Ok d) h = ap has_check h.facts ∙ income_names_none y
+income_brings_no_check y (Err fault) h = tt

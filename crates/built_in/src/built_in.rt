@@ -8,7 +8,7 @@ use dictionary::Dictionary;
 use fact_values::NoMemory;
 use std::alloc::Global;
 use tax_2023::{year_2023, year_2024};
-use tax_income::income_2023;
+use tax_income::{income_2023, income_2024};
 
 /// A dictionary that comes with the program and the library.
 #[derive(Clone, Copy)]
@@ -19,9 +19,11 @@ pub enum BuiltIn {
     Year2024,
     /// What there is of 2023, and the rate schedule and the child tax credit behind it.
     Income2023,
+    /// The same of 2024.
+    Income2024,
 }
 
-/// The dictionary of these words: `year 2023`, `year 2024` or `income 2023`.
+/// The dictionary of these words: `year 2023`, `year 2024`, `income 2023` or `income 2024`.
 pub fn named(words: &str) -> Option<BuiltIn>
     ensures { result ≡ built_in_of words.now }
 {
@@ -29,6 +31,7 @@ pub fn named(words: &str) -> Option<BuiltIn>
         "year 2023" => Some(BuiltIn::Year2023),
         "year 2024" => Some(BuiltIn::Year2024),
         "income 2023" => Some(BuiltIn::Income2023),
+        "income 2024" => Some(BuiltIn::Income2024),
         _ => None,
     }
 }
@@ -42,5 +45,6 @@ pub fn bring(alloc: Global, built_in: BuiltIn) -> Result<Dictionary, NoMemory>
         BuiltIn::Year2023 => year_2023(alloc),
         BuiltIn::Year2024 => year_2024(alloc),
         BuiltIn::Income2023 => income_2023(alloc),
+        BuiltIn::Income2024 => income_2024(alloc),
     }
 }

@@ -9,7 +9,7 @@ use Rattle.std.proofs.lemmas.Str.{IsUtf8-from_ascii}
 use Rattle.std.proofs.lemmas.Str.Ascii.{IsAscii-cons, IsAscii-nil}
 use Rattle.dict_tree.specs.Names.{under_name}
 use Rattle.built_in.specs.BuiltIns.{built_in_of}
-use Rattle.built_in.specs.declared.built_in.BuiltIn.TheVariants.{Year2023, Year2024, Income2023}
+use Rattle.built_in.specs.declared.built_in.BuiltIn.TheVariants.{Year2023, Year2024, Income2023, Income2024}
 
 -- each byte is ASCII
 ascii : (bs : List ℕ) → IsTrue (list_all (λ b. nat_lt b 128) bs) → IsAscii bs
@@ -29,7 +29,8 @@ differ words name all bad = by (bytes_eq words name) refl
 
 pub names_none : (words : List ℕ) → ¬ (IsUtf8 words) → None ≡ built_in_of words
 names_none words bad = sym (
-    ap (λ (b : Bool). if b then Some Year2023 else under_name words ((codes "year 2024", Year2024) ∷ (codes "income 2023", Income2023) ∷ [])) (differ words (codes "year 2023") refl bad)
-    ∙ ap (λ (b : Bool). if b then Some Year2024 else under_name words ((codes "income 2023", Income2023) ∷ [])) (differ words (codes "year 2024") refl bad)
-    ∙ ap (λ (b : Bool). if b then Some Income2023 else None) (differ words (codes "income 2023") refl bad)
+    ap (λ (b : Bool). if b then Some Year2023 else under_name words ((codes "year 2024", Year2024) ∷ (codes "income 2023", Income2023) ∷ (codes "income 2024", Income2024) ∷ [])) (differ words (codes "year 2023") refl bad)
+    ∙ ap (λ (b : Bool). if b then Some Year2024 else under_name words ((codes "income 2023", Income2023) ∷ (codes "income 2024", Income2024) ∷ [])) (differ words (codes "year 2024") refl bad)
+    ∙ ap (λ (b : Bool). if b then Some Income2023 else under_name words ((codes "income 2024", Income2024) ∷ [])) (differ words (codes "income 2023") refl bad)
+    ∙ ap (λ (b : Bool). if b then Some Income2024 else None) (differ words (codes "income 2024") refl bad)
     )

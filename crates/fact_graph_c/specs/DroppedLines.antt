@@ -1,5 +1,5 @@
 -- What is said of the lines that are dropped of a text that came from outside.
-use Rattle.std.specs.Prelude.{◌≡◌, ℕ, List, [], ◌∷◌, ◌++◌, map, codes, refl}
+use Rattle.std.specs.Prelude.{◌≡◌, ℕ, List, [], ◌++◌, map, codes, refl}
 use Rattle.graph_session.specs.declared.reply.Refusal.TheVariants.{BadValue}
 use Rattle.script_lines.specs.Joined.{joined}
 use Rattle.session_lines.specs.Replies.{refusal_text}

@@ -1,5 +1,5 @@
 -- A session with stamps and one without answer the same, but for what is counted.
-use Rattle.std.proofs.Common.{◌≡◌, ℕ, Bool, true, false, List, [], ◌∷◌, ◌++◌, length, take, drop, Option, Some, None, inl, inr, refl, sym, ap, subst, ◌∙◌, take-append-drop}
+use Rattle.std.proofs.Common.{◌≡◌, ◌⊎◌, ℕ, Bool, true, false, List, [], ◌∷◌, ◌++◌, length, take, drop, Option, Some, None, inl, inr, refl, sym, ap, subst, ◌∙◌, take-append-drop}
 use Rattle.std.specs.Prelude.{All, Result, Ok, Err, nat_le, if◌then◌else◌}
 use Rattle.std.proofs.Math.Seq.{take-append_seam}
 use Rattle.std.proofs.lemmas.List.Elements.{All-head, All-tail, All-take}
@@ -18,14 +18,18 @@ use Rattle.graph_session.specs.Step as session
 use Rattle.graph_session.specs.declared.reply.Refusal.{Refusal}
 use Rattle.graph_session.specs.declared.reply.Reply.{Reply}
 use Rattle.graph_session.specs.declared.reply.Reply.TheVariants as replied
-use Rattle.interview.specs.declared.status.Status.TheVariants.{Done, ScriptTooLong}
+use Rattle.interview.specs.declared.status.Status.{Status}
+use Rattle.interview.specs.declared.status.Status.TheVariants.{Done, DictionaryRefused, Usage, FetchFault, ReadFault, WriteFault, ScriptTooLong, NoMemory, SavedRefused}
 use Rattle.interview.specs.Beginnings.{Basis}
 use Rattle.interview.specs.Dictionaries.{Content}
-use Rattle.interview.specs.Engines.{AsksNoCounts, EnginesAgree, asks_counts, is_of_counts, line_asks_counts}
+use Rattle.interview.specs.Ends.{ComesTo, EndedByRun, Interviewed, KnownRun}
+use Rattle.interview.specs.Engines.{AsksNoCounts, EndedSo, EnginesAgree, LinesAgree, RunsAgree, Twins, asks_counts, is_of_counts, line_asks_counts}
+use Rattle.interview.specs.Given.{Did, EndedAs, Given, IsOneOf}
 use Rattle.interview.specs.Interview.{Defined, GoesOnTo, RunsTo, answered_lines, defined_script, script_limit}
 use Rattle.interview.specs.Meanings.{meaning_of}
 use Rattle.interview.specs.declared.words.Mode.{Mode}
 use Rattle.interview.specs.declared.words.Mode.TheVariants.{Incremental, Plain}
+use Rattle.interview.proofs.RunLaws.{one_run}
 use Rattle.session_lines.specs.Replies.{reply_text}
 use Rattle.session_lines.specs.Stepping.{LineState, State, Step, at_start, cut_watch, missing_answer, open_at, place_in, put_watch, replies, said, state_after, step, step_answered, step_command, step_heard, step_line, watch_decided}
 use Rattle.fact_watch.specs.Refusals.{unwatch_refusal, watch_refusal}
@@ -185,3 +189,109 @@ engines_agree relations script none = record {
   there = to_other Incremental Plain relations script (λ r a. script_same r relations a script none);
   back = to_other Plain Incremental relations script (λ r a. sym (script_same r relations a script none));
 }
+
+-- ---- one line behind whatever lines
+
+-- what a command that changes no answer leaves
+asked_kept : (r : Rules) (s : LineState) (asked : Command) (o : Option Refusal) (reply : Reply) → (step_answered r s asked (decided o (reply, s.session_state))).state ≡ open_at s
+asked_kept r s asked None reply = refl
+asked_kept r s asked (Some refusal) reply = refl
+
+-- what a command leaves, also one that asks for counts
+command_leaves : (r : Rules) (s : LineState) (asked : Command) → (step_command r (plain_line_state s) asked).state ≡ plain_state (step_command r s asked).state
+command_leaves r s (Stamp path) =
+    let c = s.session_state in
+    asked_kept r (plain_line_state s) (Stamp path) (session.refusal r (plain_session_state c) (Stamp path)) (session.reply r (plain_session_state c) (Stamp path))
+    ∙ ap plain_state (sym (asked_kept r s (Stamp path) (session.refusal r c (Stamp path)) (session.reply r c (Stamp path))))
+command_leaves r s Touched =
+    let c = s.session_state in
+    asked_kept r (plain_line_state s) Touched (session.refusal r (plain_session_state c) Touched) (session.reply r (plain_session_state c) Touched)
+    ∙ ap plain_state (sym (asked_kept r s Touched (session.refusal r c Touched) (session.reply r c Touched)))
+command_leaves r s asked = ap (λ (t : Step). t.state) (command_same r s asked refl)
+
+heard_leaves : (r : Rules) (s : LineState) (heard : Heard) → (step_heard r (plain_line_state s) heard).state ≡ plain_state (step_heard r s heard).state
+heard_leaves r s nothing = refl
+heard_leaves r s bad_line = refl
+heard_leaves r s (command asked) = command_leaves r s asked
+
+line_leaves : (r : Rules) (s : LineState) (line : ScriptLine) → (step_line r (plain_line_state s) line).state ≡ plain_state (step_line r s line).state
+line_leaves r s (whole line) = heard_leaves r s (heard_in line)
+line_leaves r s long = refl
+
+step_leaves : (r : Rules) (s : State) (line : ScriptLine) → (step r (plain_state s) line).state ≡ plain_state (step r s line).state
+step_leaves r s line = by s.over
+  where
+    by : (over : Bool) → (if over then record { text = []; state = plain_state s } else step_line r (plain_line_state s.standing) line).state ≡ plain_state (if over then record { text = []; state = s } else step_line r s.standing line).state
+    by true = refl
+    by false = line_leaves r s.standing line
+
+lines_lead : (r : Rules) (s : State) (lines : List ScriptLine) → state_after r (plain_state s) lines ≡ plain_state (state_after r s lines)
+lines_lead r s [] = refl
+lines_lead r s (line ∷ lines) = ap (λ t. state_after r t lines) (step_leaves r s line) ∙ lines_lead r (step r s line).state lines
+
+pub lines_agree : LinesAgree
+lines_agree r relations a lines line none =
+    let s = at_start r (record { answers = a; stamps = true; relations = relations }) in
+    sym (ap (λ (t : State). (step r t line).text) (lines_lead r s lines) ∙ ap (λ (t : Step). t.text) (step_same r (state_after r s lines) line none))
+
+-- ---- two runs
+
+abbrev is_of_outside : Status → Bool
+is_of_outside Done = false
+is_of_outside DictionaryRefused = false
+is_of_outside Usage = false
+is_of_outside FetchFault = true
+is_of_outside ReadFault = true
+is_of_outside WriteFault = true
+is_of_outside ScriptTooLong = false
+is_of_outside NoMemory = true
+is_of_outside SavedRefused = false
+
+not_of_outside : (status : Status) → EndedSo status → is_of_outside status ≡ false
+not_of_outside status (inl is) = ap is_of_outside is
+not_of_outside status (inr (inl is)) = ap is_of_outside is
+not_of_outside status (inr (inr (inl is))) = ap is_of_outside is
+not_of_outside status (inr (inr (inr (inl is)))) = ap is_of_outside is
+not_of_outside status (inr (inr (inr (inr none)))) = absurd none
+
+of_outside : (status : Status) → IsOneOf status (FetchFault ∷ ReadFault ∷ WriteFault ∷ NoMemory ∷ []) → is_of_outside status ≡ true
+of_outside status (inl is) = ap is_of_outside is
+of_outside status (inr (inl is)) = ap is_of_outside is
+of_outside status (inr (inr (inl is))) = ap is_of_outside is
+of_outside status (inr (inr (inr (inl is)))) = ap is_of_outside is
+of_outside status (inr (inr (inr (inr none)))) = absurd none
+
+ended_by_run : (given : Given) (did : Did) (status : Status) → Interviewed given did status → EndedSo status → (run : KnownRun given) → EndedByRun given run did status
+ended_by_run given did status interviewed so run = by (interviewed.exact run)
+  where
+    by : EndedByRun given run did status ⊎ IsOneOf status (FetchFault ∷ ReadFault ∷ WriteFault ∷ NoMemory ∷ []) → EndedByRun given run did status
+    by (inl ended) = ended
+    by (inr outside) = let both : true ≡ false = sym (of_outside status outside) ∙ not_of_outside status so in cc
+
+module _ (given other : Given) (twins : Twins given other) where
+  -- what a run with this mode comes to over what the first is given
+  abbrev Runs : Mode → Defined → Type 0
+  Runs mode d = RunsTo twins.run.content given.checks twins.run.basis mode given.relations twins.run.script d
+
+  run_comes : (d : Defined) → ComesTo given twins.run d → Runs Incremental d
+  run_comes d comes = subst (λ m. Runs m d) twins.by_run comes
+
+  plain_run_comes : (d : Defined) → ComesTo other twins.plain_run d → Runs Plain d
+  plain_run_comes d comes =
+      let mode = subst (λ m. RunsTo twins.plain_run.content other.checks twins.plain_run.basis m other.relations twins.plain_run.script d) twins.by_run_plain comes in
+      let checks = subst (λ c. RunsTo twins.plain_run.content c twins.plain_run.basis Plain other.relations twins.plain_run.script d) twins.same_checks mode in
+      let relations = subst (λ n. RunsTo twins.plain_run.content given.checks twins.plain_run.basis Plain n twins.plain_run.script d) twins.same_relations checks in
+      let content = subst (λ c. RunsTo c given.checks twins.plain_run.basis Plain given.relations twins.plain_run.script d) twins.same_content relations in
+      let basis = subst (λ b. RunsTo twins.run.content given.checks b Plain given.relations twins.plain_run.script d) twins.same_basis content in
+      subst (λ s. RunsTo twins.run.content given.checks twins.run.basis Plain given.relations s d) twins.same_script basis
+
+  one_text : (d e : Defined) → ComesTo given twins.run d → ComesTo other twins.plain_run e → e ≡ d
+  one_text d e comes plain_comes =
+      one_run twins.run.content given.checks twins.run.basis Plain given.relations twins.run.script e d (plain_run_comes e plain_comes)
+      ((engines_agree given.relations twins.run.script twins.no_counts).there twins.run.content given.checks twins.run.basis d (run_comes d comes))
+
+pub runs_agree : RunsAgree
+runs_agree given other twins did also status other_status interviewed plain_interviewed so plain_so =
+    let ended = ended_by_run given did status interviewed so twins.run in
+    let plain_ended = ended_by_run other also other_status plain_interviewed plain_so twins.plain_run in
+    (ended.0, ended.2, subst (EndedAs also other_status) (one_text given other twins ended.0 plain_ended.0 ended.1 plain_ended.1) plain_ended.2)

@@ -20,6 +20,8 @@ use Rattle.interview.specs.Beginnings.{Basis, Brings, IsRefusedStart, IsStart, M
 use Rattle.interview.specs.Dictionaries.{Content, Gives, HasFault, IsAcceptedAs, MayGive}
 use Rattle.interview.specs.Interview.{ChecksTo, Defined, GoesOnTo, RunsTo, TablesHoldIn, answered_lines, defined_fault, defined_run, defined_saved_refused, defined_script}
 use Rattle.interview.specs.Finals.{AreFinalsKept}
+use Rattle.interview.specs.FinalFigures.{FinalsAreFigures}
+use Rattle.interview.proofs.FigureLaws.{finals_are_figures}
 use Rattle.interview.specs.Meanings.{meaning_of}
 use Rattle.interview.specs.Devices.{Around, SentPart, SentWhole, SinkFailed, SourceFailed}
 use Rattle.interview.specs.GenEnds.{GenInterviewed}
@@ -634,6 +636,13 @@ module _ (given : Given) where
         let accepted = rules_are_accepted given.checks over.content over.rules over.is_accepted in
         finals_are_kept accepted.0 over.rules accepted.1 over.asked.mode given.relations run.start.answers lines
 
+    pub final_figures : (b : BuiltIn) → IsRun given.words (program b) → (run : BegunRun given) (lines : List ScriptLine) → FinalsAreFigures b run.over.rules run.over.asked.mode given.relations run.start.answers lines
+    final_figures b asked run lines =
+        let over = run.over in
+        let accepted = rules_are_accepted given.checks over.content over.rules over.is_accepted in
+        let gave = subst (λ q. MayGive given.contents q over.content) (same_origin given.words over.origin (program b) over.asked asked) over.gave in
+        finals_are_figures b over.rules (brought_is_this given.contents given.checks b over.content over.rules gave over.is_accepted) accepted.0 accepted.1 over.asked.mode given.relations run.start.answers lines
+
     pub interviewed : (status : Status) → Ends given did status → GenInterviewed given did status → SaveInterviewed given did status → Interviewed given did status
     interviewed status ends gen saving = record {
       ends = inl ends;
@@ -652,6 +661,7 @@ module _ (given : Given) where
       read_through = read_through status ends;
       finals = finals;
       tables = tables;
+      final_figures = final_figures;
       check_unread = check_unread status ends;
       check_refused = check_refused status ends;
       check_exact = check_exact status ends;

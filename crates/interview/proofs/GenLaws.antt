@@ -11,7 +11,7 @@ use Rattle.interview.specs.Ends.{Ends, EndsByWord, Interviewed, IsFetched, LineP
 use Rattle.interview.specs.GenEnds.{EndedByGen, GenEnds, GenInterviewed}
 use Rattle.interview.specs.Interview.{Defined}
 use Rattle.interview.specs.Load.{GeneratedAs, GensTo}
-use Rattle.interview.proofs.ExactLaws.{finals, interviewed, tables}
+use Rattle.interview.proofs.ExactLaws.{final_figures, finals, interviewed, tables}
 use Rattle.interview.proofs.LoadLaws.{one_gen, same_gen}
 use Rattle.interview.proofs.SaveEndLaws.{known_saving, of_save, to_save}
 use Rattle.interview.proofs.ScriptLaws.{nothing_part, part_of}
@@ -125,6 +125,7 @@ module _ (given : Given) (did : Did) where
           read_through = λ run is. absurd (gen_is_no_run given.words n run.origin asked run.asked);
           finals = finals given did same_left;
           tables = tables given did same_left;
+          final_figures = final_figures given did same_left;
           check_unread = λ name check. ends.3;
           check_refused = λ check fault is. absurd (gen_is_no_check given.words n check.name asked check.asked);
           check_exact = λ check. absurd (gen_is_no_check given.words n check.name asked check.asked);

@@ -5,6 +5,7 @@ pub mod EndLaws
 pub mod EngineLaws
 pub mod EnumLaws
 pub mod ExactLaws
+pub mod FigureLaws
 pub mod FinalLaws
 pub mod FirstWords
 pub mod GenLaws

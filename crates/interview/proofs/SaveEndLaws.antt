@@ -21,7 +21,7 @@ use Rattle.interview.specs.Save.{DoneWith, defined_save, save_meaning, saved_aft
 use Rattle.interview.specs.SaveEnds.{AcceptedSave, AreToSave, EndedBySave, KnownSave, RefusedSave, SaveComesTo, SaveEnds, SaveFetchFailed, SaveInterviewed}
 use Rattle.interview.specs.ScriptEnds.{ReadThrough}
 use Rattle.interview.proofs.DictionaryLaws.{accepted_is_faultless, brought_is_faultless, known_content, nothing_missing}
-use Rattle.interview.proofs.ExactLaws.{finals, tables}
+use Rattle.interview.proofs.ExactLaws.{final_figures, finals, tables}
 use Rattle.interview.proofs.SaveLaws.{one_save}
 use Rattle.interview.proofs.WordLaws.{gen_is_no_save, save_is_no_check, save_is_no_fetch, save_is_no_run, same_save}
 use Rattle.interview.proofs.ScriptLaws.{nothing_part, part_of}
@@ -321,6 +321,7 @@ module _ (given : Given) where
           read_through = λ run is. absurd (save_is_no_run given.words o run.origin asked run.asked);
           finals = finals given did same_left;
           tables = tables given did same_left;
+          final_figures = final_figures given did same_left;
           check_unread = λ name check. absurd (save_is_no_check given.words o name asked check);
           check_refused = λ check fault is. absurd (save_is_no_check given.words o check.name asked check.asked);
           check_exact = λ check. absurd (save_is_no_check given.words o check.name asked check.asked);

@@ -4,7 +4,7 @@ use Rattle.std.specs.Prelude.{bytes_eq, codes, decimal, false, if◌then◌else�
 use Rattle.std.proofs.lemmas.Bool.{false_from_ne_true}
 use Rattle.common_lemmas.proofs.Bytes.{same_bytes}
 use Rattle.built_in.specs.declared.built_in.BuiltIn.{BuiltIn}
-use Rattle.built_in.specs.declared.built_in.BuiltIn.TheVariants.{Year2023, Year2024, Income2023}
+use Rattle.built_in.specs.declared.built_in.BuiltIn.TheVariants.{Year2023, Year2024, Income2023, Income2024}
 use Rattle.interview.specs.declared.words.Mode.{Mode}
 use Rattle.interview.specs.declared.words.Mode.TheVariants.{Incremental, Plain, Desk}
 use Rattle.interview.specs.Words.{Beginning, Fetches, HasNoForm, IsCheck, IsFrom, IsGen, IsRun, IsRunOver, IsSave, Origin, by_carry, by_load, file, program, unanswered}
@@ -71,6 +71,8 @@ asks_run words (program Income2023) unanswered Incremental is = ap asked_by is
 asks_run words (program Year2023) (by_carry saved) Incremental is = ap asked_by is
 asks_run words (program Year2024) (by_carry saved) Incremental is = ap asked_by is
 asks_run words (program Income2023) (by_carry saved) Incremental is = absurd is
+asks_run words (program Income2024) unanswered Incremental is = absurd is
+asks_run words (program Income2024) (by_carry saved) Incremental is = absurd is
 asks_run words o b e is = absurd is
 
 asks_of_run : (words : List (List ℕ)) (o : Origin) (r : IsRun words o) → asked_by words ≡ Some (run o r.beginning r.mode)
@@ -87,6 +89,7 @@ asks_save words (file name) is = ap asked_by is
 asks_save words (program Year2023) is = ap asked_by is
 asks_save words (program Year2024) is = ap asked_by is
 asks_save words (program Income2023) is = absurd is
+asks_save words (program Income2024) is = absurd is
 
 -- ---- one thing
 

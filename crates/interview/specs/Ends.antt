@@ -14,6 +14,7 @@ use Rattle.interview.specs.Beginnings.{Basis, Brings, IsRefusedStart, IsStart, M
 use Rattle.interview.specs.Dictionaries.{Content, Gives, HasFault, IsAcceptedAs, MayGive}
 use Rattle.interview.specs.Interview.{ChecksTo, Defined, RunsTo, TablesHoldIn, defined_fault, defined_saved_refused, usage}
 use Rattle.interview.specs.Finals.{AreFinalsKept}
+use Rattle.interview.specs.FinalFigures.{FinalsAreFigures}
 use Rattle.interview.specs.Meanings.{Meaning, meaning_of}
 use Rattle.interview.specs.GenEnds.{GenEnds, GenInterviewed}
 use Rattle.interview.specs.SaveEnds.{SaveEnds, SaveInterviewed}
@@ -196,6 +197,9 @@ pub record Interviewed (given : Given) (did : Did) (status : Status) : Type 0 wh
   -- over the dictionary of a year, wherever the lines of a script lead: what its facts are worth there is what the written tables
   -- of the year give
   pub tables : (b : BuiltIn) → IsRun given.words (program b) → (run : BegunRun given) (lines : List ScriptLine) → TablesHoldIn b run.over.rules ((meaning_in given run).answers lines)
+  -- and what is printed as final of such a fact is the tables' figure, for every household that has the answers given there, however
+  -- it answers the rest
+  pub final_figures : (b : BuiltIn) → IsRun given.words (program b) → (run : BegunRun given) (lines : List ScriptLine) → FinalsAreFigures b run.over.rules run.over.asked.mode given.relations run.start.answers lines
   -- a check reads nothing of the script
   pub check_unread : (name : List ℕ) → IsCheck given.words name → Unread did
   -- a check of a dictionary that is known and has this fault ends with its line

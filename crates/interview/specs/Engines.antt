@@ -1,5 +1,5 @@
 -- Where it makes no difference which engine keeps the results.
-use Rattle.std.specs.Prelude.{◌≡◌, ℕ, Bool, true, false, List, All}
+use Rattle.std.specs.Prelude.{◌≡◌, ℕ, Bool, true, false, List, [], ◌∷◌, All}
 use Rattle.script_lines.specs.Lines.{ScriptLine, whole, long, script_lines}
 use Rattle.script_lines.specs.Parsing.{Heard, nothing, bad_line, command, heard_in}
 use Rattle.script_lines.specs.declared.command.Command.{Command}
@@ -7,8 +7,13 @@ use Rattle.script_lines.specs.declared.command.Command.TheVariants as commands
 use Rattle.answers.specs.Answered.{Answered}
 use Rattle.dictionary.specs.Accepted.{Named}
 use Rattle.graph_session.specs.Rules.{Rules}
+use Rattle.session_lines.specs.Stepping.{at_start, state_after, step}
+use Rattle.interview.specs.declared.status.Status.{Status}
+use Rattle.interview.specs.declared.status.Status.TheVariants.{Done, DictionaryRefused, ScriptTooLong, SavedRefused}
 use Rattle.interview.specs.Beginnings.{Basis}
 use Rattle.interview.specs.Dictionaries.{Content}
+use Rattle.interview.specs.Ends.{Interviewed, KnownRun}
+use Rattle.interview.specs.Given.{Did, EndedAs, Given, IsOneOf}
 use Rattle.interview.specs.Interview.{Defined, RunsTo, defined_script}
 use Rattle.interview.specs.Meanings.{meaning_of}
 use Rattle.interview.specs.declared.words.Mode.TheVariants.{Incremental, Plain}
@@ -33,7 +38,7 @@ line_asks_counts long = false
 abbrev pub AsksNoCounts : List ℕ → Type 0
 AsksNoCounts script = All (λ l. line_asks_counts l ≡ false) (script_lines script)
 
--- ---- a law
+-- ---- laws
 
 -- What such a script comes to is the same with stamps and without, with whatever answers it begins, and whatever may be watched:
 -- `run` and `run-plain` have one defined interview.
@@ -44,3 +49,37 @@ pub record AgreeOn (relations : List Named) (script : List ℕ) : Type 0 where
 
 abbrev pub EnginesAgree : Type 0
 EnginesAgree = (relations : List Named) (script : List ℕ) → AsksNoCounts script → AgreeOn relations script
+
+-- what a line is answered behind these lines, with stamps or without
+abbrev pub reply_behind : Rules → Bool → List Named → Answered → List ScriptLine → ScriptLine → List ℕ
+reply_behind r stamps relations a lines line =
+    (step r (state_after r (at_start r (record { answers = a; stamps = stamps; relations = relations })) lines) line).text
+
+-- Behind whatever lines, one that asks for no counts is answered the same by both.
+abbrev pub LinesAgree : Type 0
+LinesAgree =
+    (r : Rules) (relations : List Named) (a : Answered) (lines : List ScriptLine) (line : ScriptLine) → line_asks_counts line ≡ false
+    → reply_behind r true relations a lines line ≡ reply_behind r false relations a lines line
+
+-- A run and a plain run over the same dictionary, saved text and script, which asks for no counts. What they come to is known.
+pub record Twins (given other : Given) : Type 0 where
+  pub run : KnownRun given
+  pub plain_run : KnownRun other
+  pub by_run : run.asked.mode ≡ Incremental
+  pub by_run_plain : plain_run.asked.mode ≡ Plain
+  pub same_checks : other.checks ≡ given.checks
+  pub same_relations : other.relations ≡ given.relations
+  pub same_content : plain_run.content ≡ run.content
+  pub same_basis : plain_run.basis ≡ run.basis
+  pub same_script : plain_run.script ≡ run.script
+  pub no_counts : AsksNoCounts run.script
+
+-- it ended as defined: by nothing from outside, and not for want of memory
+abbrev pub EndedSo : Status → Type 0
+EndedSo status = IsOneOf status (Done ∷ DictionaryRefused ∷ ScriptTooLong ∷ SavedRefused ∷ [])
+
+-- Where both ended as defined, they have one status, and wrote the same bytes.
+abbrev pub RunsAgree : Type 0
+RunsAgree =
+    (given other : Given) → Twins given other → (did also : Did) (status other_status : Status) → Interviewed given did status → Interviewed other also other_status
+    → EndedSo status → EndedSo other_status → (d : Defined) × EndedAs did status d × EndedAs also other_status d

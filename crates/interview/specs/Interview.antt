@@ -16,9 +16,10 @@ use Rattle.tax_2023.specs.Laws.{HasTables, IsModest}
 use Rattle.tax_income.specs.Answers.{AreNumbered}
 use Rattle.tax_income.specs.Laws.{HasIncomeTables}
 use Rattle.tax_income.specs.Tables.{Numbered}
+use Rattle.tax_income.specs.Years.{IncomeYear, income_2023, income_2024}
 use Rattle.answers.specs.Answered.{Answered}
 use Rattle.built_in.specs.declared.built_in.BuiltIn.{BuiltIn}
-use Rattle.built_in.specs.declared.built_in.BuiltIn.TheVariants.{Income2023}
+use Rattle.built_in.specs.declared.built_in.BuiltIn.TheVariants.{Income2023, Income2024}
 use Rattle.interview.specs.declared.words.Mode.{Mode}
 use Rattle.interview.specs.Meanings.{Meaning, meaning_of}
 use Rattle.interview.specs.Beginnings.{Basis, IsRefusedStart, IsStart, Start}
@@ -112,8 +113,12 @@ pub record IsAnsweredBy (r : Rules) (a : Answered) (h : Household) : Type 0 wher
 
 -- then the facts of the dictionary have the values of the written tables, and those of the rates and the credit theirs, where it is
 -- said of each person whether it has a number
-abbrev pub TablesHoldIn : BuiltIn → Rules → Answered → Type 0
-TablesHoldIn Income2023 r a =
+abbrev pub IncomeTablesHoldIn : IncomeYear → Rules → Answered → Type 0
+IncomeTablesHoldIn y r a =
     (h : Household) (numbered : Numbered) → IsAnsweredBy r a h → AreNumbered (tree_of r) a numbered h.persons
-    → HasIncomeTables r.accepted a h numbered
+    → HasIncomeTables r.accepted y a h numbered
+
+abbrev pub TablesHoldIn : BuiltIn → Rules → Answered → Type 0
+TablesHoldIn Income2023 r a = IncomeTablesHoldIn income_2023 r a
+TablesHoldIn Income2024 r a = IncomeTablesHoldIn income_2024 r a
 TablesHoldIn b r a = (h : Household) → IsAnsweredBy r a h → HasTables r.accepted (tables_of b) a h

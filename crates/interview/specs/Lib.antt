@@ -13,6 +13,7 @@ pub mod ScriptEnds
 pub mod StepsOfScript
 pub mod StepEnds
 pub mod Finals
+pub mod FinalFigures
 pub mod Ends
 pub mod GenEnds
 pub mod Given

@@ -2,7 +2,7 @@
 use Rattle.std.specs.Prelude.{◌≡◌, ◌⊎◌, ℕ, ◌≤◌, List, [], ◌∷◌, map, codes, decimal, String, string_bytes}
 use Rattle.std.specs.declared.alloc.Global.{Global}
 use Rattle.built_in.specs.declared.built_in.BuiltIn.{BuiltIn}
-use Rattle.built_in.specs.declared.built_in.BuiltIn.TheVariants.{Year2023, Year2024, Income2023}
+use Rattle.built_in.specs.declared.built_in.BuiltIn.TheVariants.{Year2023, Year2024, Income2023, Income2024}
 use Rattle.interview.specs.declared.words.Mode.{Mode}
 use Rattle.interview.specs.declared.words.Mode.TheVariants.{Incremental, Plain, Desk}
 use Rattle.interview.specs.declared.words.Origin.{Origin as Asked}
@@ -19,11 +19,12 @@ pub data Origin : Type 0 where
   file : List ℕ → Origin
   program : BuiltIn → Origin
 
--- the words that run a script over a dictionary that the program brings
-abbrev pub words_for : BuiltIn → List (List ℕ)
-words_for Year2023 = codes "year" ∷ codes "2023" ∷ []
-words_for Year2024 = codes "year" ∷ codes "2024" ∷ []
-words_for Income2023 = codes "income" ∷ codes "2023" ∷ []
+-- the words run a script over a dictionary that the program brings; that of the income of 2024 is there for hosts alone
+abbrev pub AreFor : List (List ℕ) → BuiltIn → Type 0
+AreFor words Year2023 = words ≡ codes "year" ∷ codes "2023" ∷ []
+AreFor words Year2024 = words ≡ codes "year" ∷ codes "2024" ∷ []
+AreFor words Income2023 = words ≡ codes "income" ∷ codes "2023" ∷ []
+AreFor words Income2024 = ⊥
 
 -- where the answers at the start of a run come from: there are none, or they are those of the saved text of this name, which is
 -- loaded, or carried
@@ -47,7 +48,7 @@ IsRunOver words (file name) unanswered Plain = words ≡ codes "run-plain" ∷ n
 IsRunOver words (file name) unanswered Desk = words ≡ codes "desk" ∷ name ∷ []
 IsRunOver words (file name) (by_load saved) Incremental = words ≡ codes "load" ∷ name ∷ saved ∷ []
 IsRunOver words (file name) (by_carry saved) Incremental = words ≡ codes "carry" ∷ name ∷ saved ∷ []
-IsRunOver words (program b) unanswered Incremental = words ≡ words_for b
+IsRunOver words (program b) unanswered Incremental = AreFor words b
 IsRunOver words (program b) (by_carry saved) Incremental = AreCarriedTo words b saved
 IsRunOver words origin beginning mode = ⊥
 
@@ -85,7 +86,7 @@ abbrev pub IsSave : List (List ℕ) → Origin → Type 0
 IsSave words (file name) = words ≡ codes "save" ∷ name ∷ []
 IsSave words (program Year2023) = words ≡ codes "save-year" ∷ codes "2023" ∷ []
 IsSave words (program Year2024) = words ≡ codes "save-year" ∷ codes "2024" ∷ []
-IsSave words (program Income2023) = ⊥
+IsSave words (program other) = ⊥
 
 -- ---- all words
 

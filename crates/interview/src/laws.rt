@@ -1,5 +1,5 @@
 // Laws of the definitions, each the contract of a function that does nothing.
-ghost use Rattle.interview.specs.Engines.{EnginesAgree};
+ghost use Rattle.interview.specs.Engines.{EnginesAgree, LinesAgree, RunsAgree};
 ghost use Rattle.interview.specs.Interview.{OneEndOfCheck, OneEndOfRun};
 ghost use Rattle.interview.specs.Load.{OneEndOfGen};
 ghost use Rattle.interview.specs.Save.{OneEndOfSave};
@@ -18,6 +18,18 @@ pub fn a_run_has_one_end()
 #[tactic(auto, using(crate::proofs::EngineLaws::engines_agree))]
 pub fn engines_agree()
     ensures { EnginesAgree }
+{}
+
+/// Behind whatever lines, one that is no `stamp` and no `touched` is answered the same by `run` and `run-plain`.
+#[tactic(auto, using(crate::proofs::EngineLaws::lines_agree))]
+pub fn lines_agree()
+    ensures { LinesAgree }
+{}
+
+/// A `run` and a `run-plain` over the same dictionary, saved text and script, none of whose lines is a `stamp` or a `touched`,
+/// have one status and wrote the same bytes, where neither ended by a fault from outside or for want of memory.
+pub fn runs_agree()
+    ensures { RunsAgree }
 {}
 
 /// A load of so many sums comes to one text at most.

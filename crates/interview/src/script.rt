@@ -58,7 +58,8 @@ fn status_at_end(progress: Progress) -> Status
 }
 
 /// Runs a script, of which nothing was answered yet. It is read in pieces, and each line is answered before the next piece. Its
-/// steps are those of the changes that are accepted, each at most the engine's bound.
+/// steps are at most those that the lines mean: of a session the engine's bound for each change that is accepted, at a desk also for
+/// one that the session would accept and the desk refuses.
 pub fn run<T: LineHandler, L: Ledger, S: Source, K: Sink>(
     alloc: Global,
     handler: &mut T,

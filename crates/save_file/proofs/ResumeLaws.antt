@@ -14,7 +14,6 @@ use Rattle.dictionary.specs.Fits.{is_answered_by}
 use Rattle.dict_tree.specs.Dictionary.{Dictionary as Tree}
 use Rattle.fact_paths.specs.declared.slot_path.SlotPath.TheVariants.{Global, Member}
 use Rattle.fact_paths.specs.declared.slot_path.SlotPath.{SlotPath}
-use Rattle.fact_values.specs.declared.slot.Slot.{Slot}
 use Rattle.fact_values.specs.declared.value.Value.{Value}
 use Rattle.graph_session.specs.Kinds.{value_spelled}
 use Rattle.graph_session.specs.Naming.{fact_of, lacks_member, named_fact}

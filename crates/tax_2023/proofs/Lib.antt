@@ -1,6 +1,8 @@
 pub mod Ages
+pub mod Answering
 pub mod Behind
 pub mod Complete
+pub mod Example
 pub mod Facts
 mod HouseholdExamples
 pub mod Join

@@ -1,5 +1,5 @@
 -- What is promised of the dictionary of a year.
-use Rattle.std.specs.Prelude.{◌≡◌, ℕ, ◌≤◌, pos, unsigned_abs, List, [], ◌∷◌, codes, length, Some}
+use Rattle.std.specs.Prelude.{◌≡◌, ℕ, ◌<◌, ◌≤◌, pos, unsigned_abs, List, [], ◌∷◌, codes, length, Some}
 use Rattle.fact_values.specs.declared.value.Value.{Value}
 use Rattle.fact_values.specs.declared.value.Value.TheVariants.{Boolean, Choice, Dollar, Int, Members}
 use Rattle.value_text.specs.Enums.{option_at}
@@ -97,3 +97,9 @@ TablesHold y =
 -- where answers that fit the dictionary answer every question, they are those of a household
 abbrev pub HouseholdIsThere : Year → Type 0
 HouseholdIsThere y = (d : Accepted) → IsOfYear y d → (a : Answered) → AnswersFit d.tree a → AreComplete d.tree a → (h : Household) × AreOfHousehold d.tree a h
+
+-- and there are answers that fit it, of a household with a person and with modest incomes
+abbrev pub HouseholdAnswers : Year → Type 0
+HouseholdAnswers y =
+    (d : Accepted) → IsOfYear y d
+    → (a : Answered) × (h : Household) × AnswersFit d.tree a × AreOfHousehold d.tree a h × IsModest h.earned_income × IsModest h.other_income × (0 < length h.persons)

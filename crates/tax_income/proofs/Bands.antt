@@ -20,17 +20,18 @@ use Rattle.evaluation.specs.Sure.{value_of}
 use Rattle.answers.specs.Answered.{Answered}
 use Rattle.dictionary.specs.Dependencies.{constant_value}
 use Rattle.tax_2023.specs.Household.{Cents, Household, Status, single, separately, jointly, surviving_spouse, head_of_household}
-use Rattle.tax_2023.specs.Years.{tables_2023}
 use Rattle.tax_2023.specs.Tables.{cents, deduction, greater_of, lesser_of, status, taxable_income}
 use Rattle.tax_2023.specs.Facts as facts_of_year
 use Rattle.tax_2023.specs.Laws.{IsModest, status_place}
 use Rattle.tax_2023.proofs.Money.{deduction_small, difference_is, greater_is, in_range_of, lesser_is, modest}
-use Rattle.tax_2023.proofs.Spells.{written_2023}
 use Rattle.tax_income.specs.Bands.{bands, bands_from, ends, rates}
 use Rattle.tax_income.specs.Facts as facts
+use Rattle.tax_income.specs.Figures.{income_figures}
 use Rattle.tax_income.specs.Tables.{Numbered, part_above, part_between, schedule, schedule_tax}
+use Rattle.tax_income.specs.Years.{IncomeYear}
+use Rattle.tax_income.proofs.IncomeSpells.{IsWrittenIncome}
 use Rattle.tax_income.proofs.IncomeValues.{Worth, end_at, tax_between}
-use Rattle.tax_income.proofs.Rounding.{in_each, nat_part, part_is, rise, same_fraction, same_tax, small_part, small_tax, taxed, taxes, taxes_are}
+use Rattle.tax_income.proofs.Rounding.{in_each, nat_part, part_is, same_fraction, same_tax, small_part, small_tax, taxed, taxes, taxes_are}
 
 -- ---- the ends
 
@@ -46,29 +47,24 @@ end_by e same jointly = refl
 end_by e same surviving_spouse = rw same refl
 end_by e same head_of_household = refl
 
-module _ (t : TypedDictionary) (a : Answered) (h : Household) (numbered : Numbered) where
-  pub end10_stated : Worth t a h numbered 46 0 (Dollar (cents (end_at 0 (status h)))) (facts.by_status (codes "22000.00") (codes "15700.00") (codes "11000.00") (codes "11000.00"))
-  end10_stated = λ results. (refl, end_by (end_at 0) refl (status h))
+module _ (y : IncomeYear) (w : IsWrittenIncome y) (t : TypedDictionary) (a : Answered) (h : Household) (numbered : Numbered) where
+  pub end10_stated : Worth y t a h numbered 46 0 (Dollar (cents (end_at y 0 (status h)))) (facts.by_status (income_figures y) (codes "10 percent, couple") (codes "10 percent, head of household") (codes "10 percent, separately") (codes "10 percent, single"))
+  end10_stated = λ results. (refl, rw (w.end_10.couple, w.end_10.head, w.end_10.separate, w.end_10.other) (end_by y.end_10 w.end_10.shared (status h)))
 
-  pub end12_stated : Worth t a h numbered 47 0 (Dollar (cents (end_at 1 (status h)))) (facts.by_status (codes "89450.00") (codes "59850.00") (codes "44725.00") (codes "44725.00"))
-  end12_stated = λ results. (refl, end_by (end_at 1) refl (status h))
+  pub end12_stated : Worth y t a h numbered 47 0 (Dollar (cents (end_at y 1 (status h)))) (facts.by_status (income_figures y) (codes "12 percent, couple") (codes "12 percent, head of household") (codes "12 percent, separately") (codes "12 percent, single"))
+  end12_stated = λ results. (refl, rw (w.end_12.couple, w.end_12.head, w.end_12.separate, w.end_12.other) (end_by y.end_12 w.end_12.shared (status h)))
 
-  pub end22_stated : Worth t a h numbered 48 0 (Dollar (cents (end_at 2 (status h)))) (facts.by_status (codes "190750.00") (codes "95350.00") (codes "95375.00") (codes "95375.00"))
-  end22_stated = λ results. (refl, end_by (end_at 2) refl (status h))
+  pub end22_stated : Worth y t a h numbered 48 0 (Dollar (cents (end_at y 2 (status h)))) (facts.by_status (income_figures y) (codes "22 percent, couple") (codes "22 percent, head of household") (codes "22 percent, separately") (codes "22 percent, single"))
+  end22_stated = λ results. (refl, rw (w.end_22.couple, w.end_22.head, w.end_22.separate, w.end_22.other) (end_by y.end_22 w.end_22.shared (status h)))
 
-  pub end24_stated : Worth t a h numbered 49 0 (Dollar (cents (end_at 3 (status h)))) (facts.by_status (codes "364200.00") (codes "182100.00") (codes "182100.00") (codes "182100.00"))
-  end24_stated = λ results. (refl, end_by (end_at 3) refl (status h))
+  pub end24_stated : Worth y t a h numbered 49 0 (Dollar (cents (end_at y 3 (status h)))) (facts.by_status (income_figures y) (codes "24 percent, couple") (codes "24 percent, head of household") (codes "24 percent, separately") (codes "24 percent, single"))
+  end24_stated = λ results. (refl, rw (w.end_24.couple, w.end_24.head, w.end_24.separate, w.end_24.other) (end_by y.end_24 w.end_24.shared (status h)))
 
-  pub end32_stated : Worth t a h numbered 50 0 (Dollar (cents (end_at 4 (status h)))) (facts.by_status (codes "462500.00") (codes "231250.00") (codes "231250.00") (codes "231250.00"))
-  end32_stated = λ results. (refl, end_by (end_at 4) refl (status h))
+  pub end32_stated : Worth y t a h numbered 50 0 (Dollar (cents (end_at y 4 (status h)))) (facts.by_status (income_figures y) (codes "32 percent, couple") (codes "32 percent, head of household") (codes "32 percent, separately") (codes "32 percent, single"))
+  end32_stated = λ results. (refl, rw (w.end_32.couple, w.end_32.head, w.end_32.separate, w.end_32.other) (end_by y.end_32 w.end_32.shared (status h)))
 
-  pub end35_stated : Worth t a h numbered 51 0 (Dollar (cents (end_at 5 (status h)))) (facts.by_status (codes "693750.00") (codes "578100.00") (codes "346875.00") (codes "578125.00"))
-  end35_stated = λ results. (refl, end_by (end_at 5) refl (status h))
-
--- no end is over 1,000,000
-few_dollars : (s : Status) → IsTrue (list_all (λ e. nat_le e 1000000) (ends s))
-few_dollars single = refl
-few_dollars _ = refl
+  pub end35_stated : Worth y t a h numbered 51 0 (Dollar (cents (end_at y 5 (status h)))) (facts.by_status (income_figures y) (codes "35 percent, couple") (codes "35 percent, head of household") (codes "35 percent, separately") (codes "35 percent, single"))
+  end35_stated = λ results. (refl, rw (w.end_35.couple, w.end_35.head, w.end_35.separate, w.end_35.other) (end_by y.end_35 w.end_35.shared (status h)))
 
 -- ---- taxable income
 
@@ -98,13 +94,13 @@ greater_up_to n most h = up_to (greater_of (pos 0) n) most (not_below n) (not_ab
 abbrev pub IsTaxable : Cents → Type 0
 IsTaxable t = IsUpTo t 200000000000000
 
-pub is_taxable : (h : Household) → IsModest h.earned_income → IsModest h.other_income → IsTaxable (taxable_income tables_2023 h)
+pub is_taxable : (y : IncomeYear) → IsWrittenIncome y → (h : Household) → IsModest h.earned_income → IsModest h.other_income → IsTaxable (taxable_income y.tables h)
 unfolding taxable_income
-is_taxable h e o =
+is_taxable y w h e o =
     let i = modest h.earned_income e in
     let j = modest h.other_income o in
-    let d = deduction_small tables_2023 written_2023 h in
-    greater_up_to ((h.earned_income +ℤ h.other_income) -ℤ deduction tables_2023 h) 200000000000000 (omega (arith, ints, i.high, j.high, d.low))
+    let d = deduction_small y.tables w.tables h in
+    greater_up_to ((h.earned_income +ℤ h.other_income) -ℤ deduction y.tables h) 200000000000000 (omega (arith, ints, i.high, j.high, d.low))
 
 -- ---- a part at a rate
 
@@ -181,8 +177,8 @@ above_zero x u = rw u.same (part_is 0 None u.size ∙ ap pos (zeros u.size))
     zeros : (n : ℕ) → n - 0 * 100 ≡ n
     zeros n = omega arith
 
-few : (k : ℕ) (s : Status) → end_at k s ≤ 1000000
-few k s = at_most (ends s) (few_dollars s) k
+few : (y : IncomeYear) → IsWrittenIncome y → (k : ℕ) (s : Status) → end_at y k s ≤ 1000000
+few y w k s = at_most (ends y s) (w.few s) k
   where
     at_most : (es : List ℕ) → IsTrue (list_all (λ e. nat_le e 1000000) es) → (k : ℕ) → unwrap_or (slice_get es k) 0 ≤ 1000000
     at_most [] h k = omega arith
@@ -224,26 +220,20 @@ rate_37 = record { num = 37; den = 100; times = 1; value = refl; some = omega ar
 
 -- ---- the tax of all bands
 
--- ends rise
-rises : (s : Status) → IsTrue (rise 0 (ends s))
-rises single = refl
-rises _ = refl
-
-bands_total : (s : Status) (t : Cents)
-    → (taxed (part_between 0 (Some (end_at 0 s)) t) 10
-    +ℤ (taxed (part_between (end_at 0 s) (Some (end_at 1 s)) t) 12
-    +ℤ (taxed (part_between (end_at 1 s) (Some (end_at 2 s)) t) 22
-    +ℤ (taxed (part_between (end_at 2 s) (Some (end_at 3 s)) t) 24
-    +ℤ (taxed (part_between (end_at 3 s) (Some (end_at 4 s)) t) 32
-    +ℤ (taxed (part_between (end_at 4 s) (Some (end_at 5 s)) t) 35
-    +ℤ (taxed (part_between (end_at 5 s) None t) 37
+bands_total : (y : IncomeYear) (s : Status) (t : Cents)
+    → (taxed (part_between 0 (Some (end_at y 0 s)) t) 10
+    +ℤ (taxed (part_between (end_at y 0 s) (Some (end_at y 1 s)) t) 12
+    +ℤ (taxed (part_between (end_at y 1 s) (Some (end_at y 2 s)) t) 22
+    +ℤ (taxed (part_between (end_at y 2 s) (Some (end_at y 3 s)) t) 24
+    +ℤ (taxed (part_between (end_at y 3 s) (Some (end_at y 4 s)) t) 32
+    +ℤ (taxed (part_between (end_at y 4 s) (Some (end_at y 5 s)) t) 35
+    +ℤ (taxed (part_between (end_at y 5 s) None t) 37
     +ℤ pos 0)))))))
-    ≡ taxes (bands s) t
-bands_total single t = refl
-bands_total _ t = refl
+    ≡ taxes (bands y s) t
+bands_total y s t = refl
 
-schedule_is : (s : Status) (t : Cents) → IsTaxable t → taxes (bands s) t ≡ schedule s t
-schedule_is s t u = rw u.same (same_tax 0 (ends s) rates u.size (rises s))
+schedule_is : (y : IncomeYear) → IsWrittenIncome y → (s : Status) (t : Cents) → IsTaxable t → taxes (bands y s) t ≡ schedule y s t
+schedule_is y w s t u = rw u.same (same_tax 0 (ends y s) rates u.size (w.rises s))
 
 few_percent : (low : ℕ) (es rs : List ℕ) (n : ℕ) → n ≤ 200000000000000 → IsTrue (list_all (λ r. nat_le r 37) rs) → in_each (bands_from low es rs) n ≤ length rs * 74000000000000
 few_percent low es [] n h all = omega arith
@@ -263,59 +253,59 @@ few_percent low (e ∷ es) (r ∷ rs) n h all =
 abbrev pub IsTax : Cents → Type 0
 IsTax x = IsUpTo x 518000000000000
 
-schedule_small : (s : Status) (t : Cents) → IsTaxable t → IsTax (schedule s t)
-schedule_small s t u =
-    let is : schedule s t ≡ pos (in_each (bands s) u.size) = sym (schedule_is s t u) ∙ (ap (taxes (bands s)) u.same ∙ taxes_are (bands s) u.size) in
-    record { size = in_each (bands s) u.size; same = is; small = few_percent 0 (ends s) rates u.size u.small refl }
+schedule_small : (y : IncomeYear) → IsWrittenIncome y → (s : Status) (t : Cents) → IsTaxable t → IsTax (schedule y s t)
+schedule_small y w s t u =
+    let is : schedule y s t ≡ pos (in_each (bands y s) u.size) = sym (schedule_is y w s t u) ∙ (ap (taxes (bands y s)) u.same ∙ taxes_are (bands y s) u.size) in
+    record { size = in_each (bands y s) u.size; same = is; small = few_percent 0 (ends y s) rates u.size u.small refl }
 
-pub tax_small : (h : Household) → IsModest h.earned_income → IsModest h.other_income → IsTax (schedule_tax h)
+pub tax_small : (y : IncomeYear) → IsWrittenIncome y → (h : Household) → IsModest h.earned_income → IsModest h.other_income → IsTax (schedule_tax y h)
 unfolding schedule_tax
-tax_small h e o = schedule_small (status h) (taxable_income tables_2023 h) (is_taxable h e o)
+tax_small y w h e o = schedule_small y w (status h) (taxable_income y.tables h) (is_taxable y w h e o)
 
 sum_to : (x s : ℤ) → x ≡ s → IsTrue (is_in_range s) → value_as Dollar (checked x) ≡ Ok (Dollar s)
 sum_to x s e r = rw (e, r) refl
 
 -- ---- the facts
 
-module _ (t : TypedDictionary) (a : Answered) (h : Household) (numbered : Numbered) (e : IsModest h.earned_income) (o : IsModest h.other_income) where
-  taxable : IsTaxable (taxable_income tables_2023 h)
-  taxable = is_taxable h e o
+module _ (y : IncomeYear) (w : IsWrittenIncome y) (t : TypedDictionary) (a : Answered) (h : Household) (numbered : Numbered) (e : IsModest h.earned_income) (o : IsModest h.other_income) where
+  taxable : IsTaxable (taxable_income y.tables h)
+  taxable = is_taxable y w h e o
 
-  pub tax10_stated : Worth t a h numbered 52 0 (Dollar (tax_between h 0 (Some (end_at 0 (status h))) 10)) (facts.product facts.first_band (facts.rate (codes "1/10")))
+  pub tax10_stated : Worth y t a h numbered 52 0 (Dollar (tax_between y h 0 (Some (end_at y 0 (status h))) 10)) (facts.product facts.first_band (facts.rate (codes "1/10")))
   tax10_stated =
-      let x = taxable_income tables_2023 h in
-      let high = end_at 0 (status h) in
+      let x = taxable_income y.tables h in
+      let high = end_at y 0 (status h) in
       let u = lesser_taxable x high taxable in
       let product = times_is (lesser_value x high) (rate_of (codes "1/10")) (lesser_of x (cents high)) 10 (lesser_is (Dollar x) (Dollar (cents high)) x (cents high) refl refl) u rate_10 in
       λ results. (ap is_ok product, ap value_of product ∙ ap (λ n. Dollar (taxed n 10)) (sym (above_zero (lesser_of x (cents high)) u)))
 
-  pub tax12_stated : Worth t a h numbered 53 0 (Dollar (tax_between h (end_at 0 (status h)) (Some (end_at 1 (status h))) 12)) (facts.product (facts.band (codes "/end10") (codes "/end12")) (facts.rate (codes "12/100")))
-  tax12_stated = λ results. band_taxed (taxable_income tables_2023 h) (rate_of (codes "12/100")) (end_at 0 (status h)) (end_at 1 (status h)) 12 taxable (few 0 (status h)) rate_12
+  pub tax12_stated : Worth y t a h numbered 53 0 (Dollar (tax_between y h (end_at y 0 (status h)) (Some (end_at y 1 (status h))) 12)) (facts.product (facts.band (codes "/end10") (codes "/end12")) (facts.rate (codes "12/100")))
+  tax12_stated = λ results. band_taxed (taxable_income y.tables h) (rate_of (codes "12/100")) (end_at y 0 (status h)) (end_at y 1 (status h)) 12 taxable (few y w 0 (status h)) rate_12
 
-  pub tax22_stated : Worth t a h numbered 54 0 (Dollar (tax_between h (end_at 1 (status h)) (Some (end_at 2 (status h))) 22)) (facts.product (facts.band (codes "/end12") (codes "/end22")) (facts.rate (codes "22/100")))
-  tax22_stated = λ results. band_taxed (taxable_income tables_2023 h) (rate_of (codes "22/100")) (end_at 1 (status h)) (end_at 2 (status h)) 22 taxable (few 1 (status h)) rate_22
+  pub tax22_stated : Worth y t a h numbered 54 0 (Dollar (tax_between y h (end_at y 1 (status h)) (Some (end_at y 2 (status h))) 22)) (facts.product (facts.band (codes "/end12") (codes "/end22")) (facts.rate (codes "22/100")))
+  tax22_stated = λ results. band_taxed (taxable_income y.tables h) (rate_of (codes "22/100")) (end_at y 1 (status h)) (end_at y 2 (status h)) 22 taxable (few y w 1 (status h)) rate_22
 
-  pub tax24_stated : Worth t a h numbered 55 0 (Dollar (tax_between h (end_at 2 (status h)) (Some (end_at 3 (status h))) 24)) (facts.product (facts.band (codes "/end22") (codes "/end24")) (facts.rate (codes "24/100")))
-  tax24_stated = λ results. band_taxed (taxable_income tables_2023 h) (rate_of (codes "24/100")) (end_at 2 (status h)) (end_at 3 (status h)) 24 taxable (few 2 (status h)) rate_24
+  pub tax24_stated : Worth y t a h numbered 55 0 (Dollar (tax_between y h (end_at y 2 (status h)) (Some (end_at y 3 (status h))) 24)) (facts.product (facts.band (codes "/end22") (codes "/end24")) (facts.rate (codes "24/100")))
+  tax24_stated = λ results. band_taxed (taxable_income y.tables h) (rate_of (codes "24/100")) (end_at y 2 (status h)) (end_at y 3 (status h)) 24 taxable (few y w 2 (status h)) rate_24
 
-  pub tax32_stated : Worth t a h numbered 56 0 (Dollar (tax_between h (end_at 3 (status h)) (Some (end_at 4 (status h))) 32)) (facts.product (facts.band (codes "/end24") (codes "/end32")) (facts.rate (codes "32/100")))
-  tax32_stated = λ results. band_taxed (taxable_income tables_2023 h) (rate_of (codes "32/100")) (end_at 3 (status h)) (end_at 4 (status h)) 32 taxable (few 3 (status h)) rate_32
+  pub tax32_stated : Worth y t a h numbered 56 0 (Dollar (tax_between y h (end_at y 3 (status h)) (Some (end_at y 4 (status h))) 32)) (facts.product (facts.band (codes "/end24") (codes "/end32")) (facts.rate (codes "32/100")))
+  tax32_stated = λ results. band_taxed (taxable_income y.tables h) (rate_of (codes "32/100")) (end_at y 3 (status h)) (end_at y 4 (status h)) 32 taxable (few y w 3 (status h)) rate_32
 
-  pub tax35_stated : Worth t a h numbered 57 0 (Dollar (tax_between h (end_at 4 (status h)) (Some (end_at 5 (status h))) 35)) (facts.product (facts.band (codes "/end32") (codes "/end35")) (facts.rate (codes "35/100")))
-  tax35_stated = λ results. band_taxed (taxable_income tables_2023 h) (rate_of (codes "35/100")) (end_at 4 (status h)) (end_at 5 (status h)) 35 taxable (few 4 (status h)) rate_35
+  pub tax35_stated : Worth y t a h numbered 57 0 (Dollar (tax_between y h (end_at y 4 (status h)) (Some (end_at y 5 (status h))) 35)) (facts.product (facts.band (codes "/end32") (codes "/end35")) (facts.rate (codes "35/100")))
+  tax35_stated = λ results. band_taxed (taxable_income y.tables h) (rate_of (codes "35/100")) (end_at y 4 (status h)) (end_at y 5 (status h)) 35 taxable (few y w 4 (status h)) rate_35
 
-  pub tax37_stated : Worth t a h numbered 58 0 (Dollar (tax_between h (end_at 5 (status h)) None 37)) (facts.product facts.last_band (facts.rate (codes "37/100")))
+  pub tax37_stated : Worth y t a h numbered 58 0 (Dollar (tax_between y h (end_at y 5 (status h)) None 37)) (facts.product facts.last_band (facts.rate (codes "37/100")))
   tax37_stated =
-      let x = taxable_income tables_2023 h in
-      λ results. part_taxed (Dollar x) (rate_of (codes "37/100")) x (end_at 5 (status h)) 37 refl taxable (few 5 (status h)) rate_37
+      let x = taxable_income y.tables h in
+      λ results. part_taxed (Dollar x) (rate_of (codes "37/100")) x (end_at y 5 (status h)) 37 refl taxable (few y w 5 (status h)) rate_37
 
-  schedule_sum : (taxes (bands (status h)) (taxable_income tables_2023 h)) ≡ schedule_tax h
+  schedule_sum : (taxes (bands y (status h)) (taxable_income y.tables h)) ≡ schedule_tax y h
   unfolding schedule_tax
-  schedule_sum = schedule_is (status h) (taxable_income tables_2023 h) taxable
+  schedule_sum = schedule_is y w (status h) (taxable_income y.tables h) taxable
 
-  pub schedule_stated : Worth t a h numbered 59 0 (Dollar (schedule_tax h)) facts.all_taxes
+  pub schedule_stated : Worth y t a h numbered 59 0 (Dollar (schedule_tax y h)) facts.all_taxes
   schedule_stated =
-      let x = taxable_income tables_2023 h in
+      let x = taxable_income y.tables h in
       let s = status h in
-      let sum = sum_to _ (schedule_tax h) (bands_total s x ∙ schedule_sum) (up_to_range (schedule_tax h) 518000000000000 (tax_small h e o) (omega arith)) in
+      let sum = sum_to _ (schedule_tax y h) (bands_total y s x ∙ schedule_sum) (up_to_range (schedule_tax y h) 518000000000000 (tax_small y w h e o) (omega arith)) in
       λ results. (ap is_ok sum, ap value_of sum)

@@ -1,5 +1,5 @@
 -- The facts of the credit: for whom there is one, how much, and what is left of the tax.
-use Rattle.std.proofs.Common.{◌≡◌, ℕ, suc, ◌+◌, ◌*◌, ◌≤◌, ◌&&◌, Bool, true, false, if◌then◌else◌, IsTrue, int_lt, ℤ, pos, negsuc, ◌+ℤ◌, ◌-ℤ◌, ◌*ℤ◌, ◌≤ℤ◌, List, [], ◌∷◌, length, filter, Ok, is_ok, refl, sym, ap, ◌∙◌, subst, arith}
+use Rattle.std.proofs.Common.{◌-◌, ◌≡◌, ℕ, suc, ◌+◌, ◌*◌, ◌≤◌, ◌&&◌, Bool, true, false, if◌then◌else◌, IsTrue, int_lt, ℤ, pos, negsuc, ◌+ℤ◌, ◌-ℤ◌, ◌*ℤ◌, ◌≤ℤ◌, List, [], ◌∷◌, length, filter, Ok, is_ok, refl, sym, ap, ◌∙◌, subst, arith}
 use Rattle.std.specs.Prelude.{◌==◌}
 use Rattle.std.proofs.lemmas.Int.{ints}
 use Rattle.std.proofs.Math.Nat.{mul-le-mul}
@@ -9,7 +9,6 @@ use Rattle.fact_values.specs.Range.{is_in_range}
 use Rattle.fact_values.specs.Rounding.{rounded_size}
 use Rattle.fact_values.specs.declared.value.Value.{Value}
 use Rattle.fact_values.specs.declared.value.Value.TheVariants.{Boolean, Dollar, Int}
-use Rattle.value_text.specs.Dates.{date_number}
 use Rattle.dict_tree.specs.declared.operators.ManyOp.TheVariants.{Add, GreaterOf, Subtract}
 use Rattle.dict_tree.specs.declared.operators.OneOp.TheVariants.{Round}
 use Rattle.dict_tree.specs.declared.operators.TwoOp.TheVariants.{Divide, Multiply}
@@ -19,15 +18,16 @@ use Rattle.evaluation.specs.Sure.{value_of}
 use Rattle.answers.specs.Answered.{Answered}
 use Rattle.dictionary.specs.Slots.{is_member}
 use Rattle.tax_2023.specs.Household.{Cents, Dependent, Household, Status, single, separately, jointly, surviving_spouse, head_of_household}
-use Rattle.tax_2023.specs.Years.{tables_2023}
-use Rattle.tax_2023.specs.Tables.{cents, greater_of, is_qualifying_child, lesser_of, members, status}
+use Rattle.tax_2023.specs.Tables.{cents, greater_of, lesser_of, members, status}
 use Rattle.tax_2023.specs.Laws.{IsModest, status_place}
 use Rattle.tax_2023.proofs.Ages.{first_of, is_gt-int_lt, young}
 use Rattle.tax_2023.proofs.Money.{Between, difference_is, greater_is, in_range_of, lesser_is, modest, product_is, sum_is}
 use Rattle.tax_2023.proofs.Persons.{AreGiven, IsOpen, all_members, counted}
-use Rattle.tax_2023.proofs.Spells.{around}
 use Rattle.tax_2023.proofs.Values.{person}
 use Rattle.tax_income.specs.Facts as facts
+use Rattle.tax_income.specs.Figures.{income_figures}
+use Rattle.tax_income.specs.Years.{IncomeYear}
+use Rattle.tax_income.proofs.IncomeSpells.{IsWrittenIncome}
 use Rattle.tax_income.specs.Tables.{Numbered, child_credit, credit_base, credit_children, excess, income_limit, is_credit_child, is_other_dependent, other_dependents, reduction, schedule_tax, tax_after_credits, thousands}
 use Rattle.tax_income.proofs.Bands.{IsTax, IsUpTo, greater_up_to, not_below, tax_small, up_to, up_to_range}
 use Rattle.tax_income.proofs.IncomeValues.{Worth}
@@ -35,32 +35,28 @@ use Rattle.tax_income.proofs.Rounding.{by_division, rounded_up, thousands_are}
 
 -- ---- persons
 
--- who was born after 2006 is under 17
-under_17 : (born : ℤ) → int_lt (first_of 2007 -ℤ pos 1) born ≡ int_lt (pos 2023 -ℤ year_of born) (pos 17)
-under_17 born = young born 2023 16 (omega arith) (omega arith) (omega arith)
+-- who was born after the last day of a year is under 17 at the end of the seventeenth one behind it
+born_later : (y : IncomeYear) → IsWrittenIncome y → (born : ℤ) → is_gt (int_cmp born (first_of (y.tables.year - 16) -ℤ pos 1)) ≡ int_lt (pos y.tables.year -ℤ year_of born) (pos 17)
+born_later y w born =
+    let small = w.tables.small in
+    is_gt-int_lt born (first_of (y.tables.year - 16) -ℤ pos 1) ∙ young born y.tables.year 16 (omega (arith, small.from)) (omega (arith, small.from)) (omega (arith, small.until))
 
-last_of_2006 : date_number 2006 12 31 ≡ first_of 2007 -ℤ pos 1
-last_of_2006 = ap (λ n. n -ℤ pos 1) (around 2007)
-
-born_later : (born : ℤ) → is_gt (int_cmp born (date_number 2006 12 31)) ≡ int_lt (pos 2023 -ℤ year_of born) (pos 17)
-born_later born = is_gt-int_lt born (date_number 2006 12 31) ∙ (ap (λ n. int_lt n born) last_of_2006 ∙ under_17 born)
-
-module _ (t : TypedDictionary) (a : Answered) (h : Household) (numbered : Numbered) where
-  pub credit_child_stated : (m : ℕ) → IsTrue (is_member a 26 m) → Worth t a h numbered 61 m (Boolean (is_credit_child h numbered (person a m))) facts.credit_child
+module _ (y : IncomeYear) (w : IsWrittenIncome y) (t : TypedDictionary) (a : Answered) (h : Household) (numbered : Numbered) where
+  pub credit_child_stated : (m : ℕ) → IsTrue (is_member a 26 m) → Worth y t a h numbered 61 m (Boolean (is_credit_child y h numbered (person a m))) (facts.credit_child (income_figures y))
   unfolding is_credit_child
   credit_child_stated m st = λ results.
       let p = person a m in
-      (rw st refl, ap (λ b. Boolean (is_qualifying_child tables_2023 h p && b && numbered m)) (born_later p.date_of_birth))
+      (rw st refl, rw (w.under_17_after, born_later y w p.date_of_birth) refl)
 
-  pub other_dependent_stated : (m : ℕ) → IsTrue (is_member a 26 m) → Worth t a h numbered 62 m (Boolean (is_other_dependent h numbered (person a m))) facts.other_dependent
+  pub other_dependent_stated : (m : ℕ) → IsTrue (is_member a 26 m) → Worth y t a h numbered 62 m (Boolean (is_other_dependent y h numbered (person a m))) facts.other_dependent
   unfolding is_other_dependent
   other_dependent_stated m st = λ results. (rw st refl, refl)
 
-  pub credit_children_stated : IsOpen a h → AreGiven a h.persons → Worth t a h numbered 63 0 (Int (pos (credit_children h numbered))) facts.credit_child_count
-  credit_children_stated opened given = λ results. (rw (opened, all_members (members h.persons)) refl, ap (λ n. Int (pos n)) (counted a (is_credit_child h numbered) h.persons given))
+  pub credit_children_stated : IsOpen a h → AreGiven a h.persons → Worth y t a h numbered 63 0 (Int (pos (credit_children y h numbered))) facts.credit_child_count
+  credit_children_stated opened given = λ results. (rw (opened, all_members (members h.persons)) refl, ap (λ n. Int (pos n)) (counted a (is_credit_child y h numbered) h.persons given))
 
-  pub other_dependents_stated : IsOpen a h → AreGiven a h.persons → Worth t a h numbered 64 0 (Int (pos (other_dependents h numbered))) facts.other_dependent_count
-  other_dependents_stated opened given = λ results. (rw (opened, all_members (members h.persons)) refl, ap (λ n. Int (pos n)) (counted a (is_other_dependent h numbered) h.persons given))
+  pub other_dependents_stated : IsOpen a h → AreGiven a h.persons → Worth y t a h numbered 64 0 (Int (pos (other_dependents y h numbered))) facts.other_dependent_count
+  other_dependents_stated opened given = λ results. (rw (opened, all_members (members h.persons)) refl, ap (λ n. Int (pos n)) (counted a (is_other_dependent y h numbered) h.persons given))
 
 -- ---- the credit before limits
 
@@ -88,8 +84,8 @@ base_is c o = omega (arith, ints)
 small_base : (c o : ℕ) → c ≤ 100 → o ≤ 100 → IsUpTo (cents (2000 * c + 500 * o)) 25000000
 small_base c o h k = record { size = (2000 * c + 500 * o) * 100; same = refl; small = omega (arith, h, k) }
 
-pub base_small : (h : Household) (numbered : Numbered) → AreFew h → IsUpTo (credit_base h numbered) 25000000
-base_small h numbered few = small_base (credit_children h numbered) (other_dependents h numbered) (counted_few h few (is_credit_child h numbered)) (counted_few h few (is_other_dependent h numbered))
+pub base_small : (y : IncomeYear) (h : Household) (numbered : Numbered) → AreFew h → IsUpTo (credit_base y h numbered) 25000000
+base_small y h numbered few = small_base (credit_children y h numbered) (other_dependents y h numbered) (counted_few h few (is_credit_child y h numbered)) (counted_few h few (is_other_dependent y h numbered))
 
 each_in_range : (n c : ℕ) → n ≤ 200000 → c ≤ 100 → IsTrue (is_in_range (pos n *ℤ pos c))
 each_in_range n c h k =
@@ -160,9 +156,9 @@ reduction_small h e o =
 
 -- ---- the credit
 
-base_less : (h : Household) (numbered : Numbered) → AreFew h → IsModest h.earned_income → IsModest h.other_income → Between (negsuc 9999999999999) (credit_base h numbered -ℤ reduction h) (pos 25000000)
-base_less h numbered few e o =
-    let b = base_small h numbered few in
+base_less : (y : IncomeYear) (h : Household) (numbered : Numbered) → AreFew h → IsModest h.earned_income → IsModest h.other_income → Between (negsuc 9999999999999) (credit_base y h numbered -ℤ reduction h) (pos 25000000)
+base_less y h numbered few e o =
+    let b = base_small y h numbered few in
     let r = reduction_small h e o in
     record { low = rw (b.same, r.same) (omega (arith, ints, r.small)); high = rw (b.same, r.same) (omega (arith, ints, b.small)) }
 
@@ -175,29 +171,29 @@ lesser_up_to x y most u low = rw u.same (up_to (lesser_of (pos u.size) y) most (
     below : (n : ℕ) (y : Cents) → n ≤ most → lesser_of (pos n) y ≤ℤ pos most
     below n y h = grind (arith, ints)
 
-pub credit_small : (h : Household) (numbered : Numbered) → IsModest h.earned_income → IsModest h.other_income → IsTax (child_credit h numbered)
+pub credit_small : (y : IncomeYear) → IsWrittenIncome y → (h : Household) (numbered : Numbered) → IsModest h.earned_income → IsModest h.other_income → IsTax (child_credit y h numbered)
 unfolding child_credit
-credit_small h numbered e o = lesser_up_to (schedule_tax h) (greater_of (pos 0) (credit_base h numbered -ℤ reduction h)) 518000000000000 (tax_small h e o) (not_below (credit_base h numbered -ℤ reduction h))
+credit_small y w h numbered e o = lesser_up_to (schedule_tax y h) (greater_of (pos 0) (credit_base y h numbered -ℤ reduction h)) 518000000000000 (tax_small y w h e o) (not_below (credit_base y h numbered -ℤ reduction h))
 
 -- ---- the facts
 
-module _ (t : TypedDictionary) (a : Answered) (h : Household) (numbered : Numbered) (few : AreFew h) (e : IsModest h.earned_income) (o : IsModest h.other_income) where
-  pub credit_base_stated : Worth t a h numbered 65 0 (Dollar (credit_base h numbered)) facts.credit_base
+module _ (y : IncomeYear) (w : IsWrittenIncome y) (t : TypedDictionary) (a : Answered) (h : Household) (numbered : Numbered) (few : AreFew h) (e : IsModest h.earned_income) (o : IsModest h.other_income) where
+  pub credit_base_stated : Worth y t a h numbered 65 0 (Dollar (credit_base y h numbered)) facts.credit_base
   credit_base_stated =
-      let c = credit_children h numbered in
-      let d = other_dependents h numbered in
-      let each = product_is (Dollar (pos 200000)) (Int (pos c)) (pos 200000) (pos c) refl refl (each_in_range 200000 c (omega arith) (counted_few h few (is_credit_child h numbered))) in
-      let other = product_is (Dollar (pos 50000)) (Int (pos d)) (pos 50000) (pos d) refl refl (each_in_range 50000 d (omega arith) (counted_few h few (is_other_dependent h numbered))) in
+      let c = credit_children y h numbered in
+      let d = other_dependents y h numbered in
+      let each = product_is (Dollar (pos 200000)) (Int (pos c)) (pos 200000) (pos c) refl refl (each_in_range 200000 c (omega arith) (counted_few h few (is_credit_child y h numbered))) in
+      let other = product_is (Dollar (pos 50000)) (Int (pos d)) (pos 50000) (pos d) refl refl (each_in_range 50000 d (omega arith) (counted_few h few (is_other_dependent y h numbered))) in
       let v = value_of (two_value Multiply (Dollar (pos 200000)) (Int (pos c))) in
       let w = value_of (two_value Multiply (Dollar (pos 50000)) (Int (pos d))) in
-      let range : IsTrue (is_in_range (pos 200000 *ℤ pos c +ℤ pos 50000 *ℤ pos d)) = subst (λ n. IsTrue (is_in_range n)) (sym (base_is c d)) (up_to_range (credit_base h numbered) 25000000 (base_small h numbered few) (omega arith)) in
+      let range : IsTrue (is_in_range (pos 200000 *ℤ pos c +ℤ pos 50000 *ℤ pos d)) = subst (λ n. IsTrue (is_in_range n)) (sym (base_is c d)) (up_to_range (credit_base y h numbered) 25000000 (base_small y h numbered few) (omega arith)) in
       let sum = sum_is v w (pos 200000 *ℤ pos c) (pos 50000 *ℤ pos d) (ap value_of each) (ap value_of other) range in
       λ results. (
         base_sure (is_ok (two_value Multiply (Dollar (pos 200000)) (Int (pos c)))) (is_ok (two_value Multiply (Dollar (pos 50000)) (Int (pos d)))) (is_ok (many_value Add (v ∷ w ∷ []))) (ap is_ok each) (ap is_ok other) (ap is_ok sum),
         ap value_of sum ∙ ap (λ n. Dollar n) (base_is c d),
       )
 
-  pub excess_stated : Worth t a h numbered 66 0 (Dollar (excess h)) facts.excess
+  pub excess_stated : Worth y t a h numbered 66 0 (Dollar (excess h)) facts.excess
   unfolding excess
   excess_stated =
       let income = h.earned_income +ℤ h.other_income in
@@ -209,7 +205,7 @@ module _ (t : TypedDictionary) (a : Answered) (h : Household) (numbered : Number
       let left = value_of (many_value Subtract (Dollar income ∷ limited ∷ [])) in
       λ results. (two_sure (is_ok (many_value Subtract (Dollar income ∷ limited ∷ []))) (ap is_ok rest), greater_is (Dollar (pos 0)) left (pos 0) (income -ℤ limit) refl (ap value_of rest))
 
-  pub reduction_stated : Worth t a h numbered 67 0 (Dollar (reduction h)) facts.reduction
+  pub reduction_stated : Worth y t a h numbered 67 0 (Dollar (reduction h)) facts.reduction
   reduction_stated =
       let u = excess_small h e o in
       let n = u.size in
@@ -232,12 +228,12 @@ module _ (t : TypedDictionary) (a : Answered) (h : Household) (numbered : Number
         ap value_of product ∙ ap (λ k. Dollar k) (fifty_each q ∙ is),
       )
 
-  pub child_credit_stated : Worth t a h numbered 68 0 (Dollar (child_credit h numbered)) facts.child_credit
+  pub child_credit_stated : Worth y t a h numbered 68 0 (Dollar (child_credit y h numbered)) facts.child_credit
   unfolding child_credit
   child_credit_stated =
-      let base = credit_base h numbered in
+      let base = credit_base y h numbered in
       let less = reduction h in
-      let b = base_less h numbered few e o in
+      let b = base_less y h numbered few e o in
       let range = in_range_of (base -ℤ less) (record { low = omega (arith, ints, b.low); high = omega (arith, ints, b.high) }) in
       let rest = difference_is (Dollar base) (Dollar less) base less refl refl range in
       let left = value_of (many_value Subtract (Dollar base ∷ Dollar less ∷ [])) in
@@ -245,13 +241,13 @@ module _ (t : TypedDictionary) (a : Answered) (h : Household) (numbered : Number
       let most = greater_is (Dollar (pos 0)) left (pos 0) (base -ℤ less) refl (ap value_of rest) in
       λ results. (
         four_sure (is_ok (many_value Subtract (Dollar base ∷ Dollar less ∷ []))) (ap is_ok rest),
-        lesser_is (Dollar (schedule_tax h)) greater (schedule_tax h) (greater_of (pos 0) (base -ℤ less)) refl most,
+        lesser_is (Dollar (schedule_tax y h)) greater (schedule_tax y h) (greater_of (pos 0) (base -ℤ less)) refl most,
       )
 
-  pub after_credits_stated : Worth t a h numbered 69 0 (Dollar (tax_after_credits h numbered)) facts.tax_after_credits
+  pub after_credits_stated : Worth y t a h numbered 69 0 (Dollar (tax_after_credits y h numbered)) facts.tax_after_credits
   after_credits_stated =
-      let s = tax_small h e o in
-      let c = credit_small h numbered e o in
-      let range = in_range_of (tax_after_credits h numbered) (record { low = rw (s.same, c.same) (omega (arith, ints, c.small)); high = rw (s.same, c.same) (omega (arith, ints, s.small)) }) in
-      let rest = difference_is (Dollar (schedule_tax h)) (Dollar (child_credit h numbered)) (schedule_tax h) (child_credit h numbered) refl refl range in
+      let s = tax_small y w h e o in
+      let c = credit_small y w h numbered e o in
+      let range = in_range_of (tax_after_credits y h numbered) (record { low = rw (s.same, c.same) (omega (arith, ints, c.small)); high = rw (s.same, c.same) (omega (arith, ints, s.small)) }) in
+      let rest = difference_is (Dollar (schedule_tax y h)) (Dollar (child_credit y h numbered)) (schedule_tax y h) (child_credit y h numbered) refl refl range in
       λ results. (ap is_ok rest, ap value_of rest)

@@ -1,4 +1,4 @@
--- The dictionary has no fault, by computation.
+-- The dictionaries have no fault, by computation.
 use Rattle.std.proofs.Common.{◌≡◌, ℕ, ◌++◌, IsTrue, List, [], ◌∷◌, Result, Ok, Err, refl, ap, ◌∙◌}
 use Rattle.std.specs.Prelude.{IfOk}
 use Rattle.fact_values.specs.Rationals.{gcd}
@@ -10,11 +10,12 @@ use Rattle.dictionary.specs.Accepted.{IsAccepted, Kept, accepted}
 use Rattle.dictionary.specs.Faults.{HasNoFault}
 use Rattle.written_facts.specs.Figures.{Named}
 use Rattle.tax_2023.specs.Figures.{figures, spelled_day, spelled_dollars}
-use Rattle.tax_2023.specs.Years.{tables_2023}
 use Rattle.tax_2023.proofs.NoFault.{IsSound, no_fault}
 use Rattle.tax_2023.proofs.YearDictionary.{ranks}
-use Rattle.tax_income.specs.Facts.{income_dictionary}
+use Rattle.tax_income.specs.Facts.{dictionary_of, income_dictionary}
+use Rattle.tax_income.specs.Figures.{income_figures}
 use Rattle.tax_income.specs.Laws.{IsOfIncome}
+use Rattle.tax_income.specs.Years.{IncomeYear, income_2023, income_2024}
 
 -- of the facts behind those of the year
 abbrev pub further_ranks : List ℕ
@@ -25,17 +26,27 @@ further_ranks =
     ∷ 5 ∷ 7 ∷ 8 ∷ 3 ∷ 4 ∷ 9 ∷ 10
     ∷ []
 
-pub ranks_are : (fs : List Named) → IsTrue (are_ranks (mention_graph (income_dictionary fs)) (ranks ++ further_ranks))
-ranks_are fs = refl
+pub ranks_are : (fs gs : List Named) → IsTrue (are_ranks (mention_graph (income_dictionary fs gs)) (ranks ++ further_ranks))
+ranks_are fs gs = refl
 
-sound : IsSound (income_dictionary (figures tables_2023)) (ranks ++ further_ranks)
+of_tables : (y : IncomeYear) → IsTrue (are_ranks (mention_graph (dictionary_of y)) (ranks ++ further_ranks))
+of_tables y = ranks_are (figures y.tables) (income_figures y)
+
+sound_2023 : IsSound (dictionary_of income_2023) (ranks ++ further_ranks)
 unfolding spelled_dollars spelled_day gcd
-sound = record { typed = refl; ranked = ranks_are (figures tables_2023) }
+sound_2023 = record { typed = refl; ranked = of_tables income_2023 }
 
-pub no_fault_of_income : HasNoFault (income_dictionary (figures tables_2023)) []
-no_fault_of_income = no_fault (income_dictionary (figures tables_2023)) (ranks ++ further_ranks) sound
+sound_2024 : IsSound (dictionary_of income_2024) (ranks ++ further_ranks)
+unfolding spelled_dollars spelled_day gcd
+sound_2024 = record { typed = refl; ranked = of_tables income_2024 }
 
--- the dictionary that is answered is this one
-pub is_of_income : (source : Written) → dictionary_view source ≡ income_dictionary (figures tables_2023) → (r : Result Kept NoMemory) → IfOk r (λ d. IsAccepted [] (accepted d)) → IfOk r (λ d. d.source ≡ source) → IfOk r (λ d. IsOfIncome (accepted d))
-is_of_income source e (Ok d) h k = record { is_accepted = h; facts = ap dictionary_view k ∙ e }
-is_of_income source e (Err fault) h k = tt
+pub no_fault_2023 : HasNoFault (dictionary_of income_2023) []
+no_fault_2023 = no_fault (dictionary_of income_2023) (ranks ++ further_ranks) sound_2023
+
+pub no_fault_2024 : HasNoFault (dictionary_of income_2024) []
+no_fault_2024 = no_fault (dictionary_of income_2024) (ranks ++ further_ranks) sound_2024
+
+-- the dictionary that is answered is that of the year
+pub is_of_income : (y : IncomeYear) (source : Written) → dictionary_view source ≡ dictionary_of y → (r : Result Kept NoMemory) → IfOk r (λ d. IsAccepted [] (accepted d)) → IfOk r (λ d. d.source ≡ source) → IfOk r (λ d. IsOfIncome y (accepted d))
+is_of_income y source e (Ok d) h k = record { is_accepted = h; facts = ap dictionary_view k ∙ e }
+is_of_income y source e (Err fault) h k = tt

@@ -1,11 +1,12 @@
--- The schedule by hand: at each end of each band, a cent below and a cent above, from the printed schedules, which give the tax of
+-- The schedule of 2023 by hand: at each end of each band, a cent below and a cent above, from the printed schedules, which give the tax of
 -- the bands below and the rate of what is over them.
 use Rattle.std.proofs.Common.{◌≡◌, pos, ℤ, List, [], ◌∷◌, map, refl}
 use Rattle.tax_2023.specs.Household.{Status, single, separately, jointly, surviving_spouse, head_of_household}
 use Rattle.tax_income.specs.Tables.{schedule, thousands}
+use Rattle.tax_income.specs.Years.{income_2023, income_2024}
 
 abbrev taxes : Status → List ℤ → List ℤ
-taxes s ts = map (schedule s) ts
+taxes s ts = map (schedule income_2023 s) ts
 
 -- single
 single_11000 : taxes single (pos 1099999 ∷ pos 1100000 ∷ pos 1100001 ∷ pos 1100005 ∷ []) ≡ pos 110000 ∷ pos 110000 ∷ pos 110000 ∷ pos 110001 ∷ []
@@ -101,6 +102,31 @@ head_of_household_231250 = refl
 
 head_of_household_578100 : taxes head_of_household (pos 57809999 ∷ pos 57810000 ∷ pos 57810001 ∷ pos 57810005 ∷ []) ≡ pos 17262350 ∷ pos 17262350 ∷ pos 17262350 ∷ pos 17262352 ∷ []
 head_of_household_578100 = refl
+
+-- ---- 2024: at the end of each band but the last, and 100.00 above it, from the printed schedule
+
+abbrev taxes_2024 : Status → List ℤ → List ℤ
+taxes_2024 s ts = map (schedule income_2024 s) ts
+
+single_in_2024 : taxes_2024 single (pos 1160000 ∷ pos 1170000 ∷ pos 4715000 ∷ pos 4725000 ∷ pos 10052500 ∷ pos 10062500 ∷ pos 19195000 ∷ pos 19205000 ∷ pos 24372500 ∷ pos 24382500 ∷ pos 60935000 ∷ pos 60945000 ∷ [])
+    ≡ pos 116000 ∷ pos 117200 ∷ pos 542600 ∷ pos 544800 ∷ pos 1716850 ∷ pos 1719250 ∷ pos 3911050 ∷ pos 3914250 ∷ pos 5567850 ∷ pos 5571350 ∷ pos 18364725 ∷ pos 18368425 ∷ []
+single_in_2024 = refl
+
+separately_in_2024 : taxes_2024 separately (pos 1160000 ∷ pos 1170000 ∷ pos 4715000 ∷ pos 4725000 ∷ pos 10052500 ∷ pos 10062500 ∷ pos 19195000 ∷ pos 19205000 ∷ pos 24372500 ∷ pos 24382500 ∷ pos 36560000 ∷ pos 36570000 ∷ [])
+    ≡ pos 116000 ∷ pos 117200 ∷ pos 542600 ∷ pos 544800 ∷ pos 1716850 ∷ pos 1719250 ∷ pos 3911050 ∷ pos 3914250 ∷ pos 5567850 ∷ pos 5571350 ∷ pos 9833475 ∷ pos 9837175 ∷ []
+separately_in_2024 = refl
+
+jointly_in_2024 : taxes_2024 jointly (pos 2320000 ∷ pos 2330000 ∷ pos 9430000 ∷ pos 9440000 ∷ pos 20105000 ∷ pos 20115000 ∷ pos 38390000 ∷ pos 38400000 ∷ pos 48745000 ∷ pos 48755000 ∷ pos 73120000 ∷ pos 73130000 ∷ [])
+    ≡ pos 232000 ∷ pos 233200 ∷ pos 1085200 ∷ pos 1087400 ∷ pos 3433700 ∷ pos 3436100 ∷ pos 7822100 ∷ pos 7825300 ∷ pos 11135700 ∷ pos 11139200 ∷ pos 19666950 ∷ pos 19670650 ∷ []
+jointly_in_2024 = refl
+
+surviving_spouse_in_2024 : taxes_2024 surviving_spouse (pos 2320000 ∷ pos 2330000 ∷ pos 9430000 ∷ pos 9440000 ∷ pos 20105000 ∷ pos 20115000 ∷ pos 38390000 ∷ pos 38400000 ∷ pos 48745000 ∷ pos 48755000 ∷ pos 73120000 ∷ pos 73130000 ∷ [])
+    ≡ pos 232000 ∷ pos 233200 ∷ pos 1085200 ∷ pos 1087400 ∷ pos 3433700 ∷ pos 3436100 ∷ pos 7822100 ∷ pos 7825300 ∷ pos 11135700 ∷ pos 11139200 ∷ pos 19666950 ∷ pos 19670650 ∷ []
+surviving_spouse_in_2024 = refl
+
+head_of_household_in_2024 : taxes_2024 head_of_household (pos 1655000 ∷ pos 1665000 ∷ pos 6310000 ∷ pos 6320000 ∷ pos 10050000 ∷ pos 10060000 ∷ pos 19195000 ∷ pos 19205000 ∷ pos 24370000 ∷ pos 24380000 ∷ pos 60935000 ∷ pos 60945000 ∷ [])
+    ≡ pos 165500 ∷ pos 166700 ∷ pos 724100 ∷ pos 726300 ∷ pos 1546900 ∷ pos 1549300 ∷ pos 3741700 ∷ pos 3744900 ∷ pos 5397700 ∷ pos 5401200 ∷ pos 18195450 ∷ pos 18199150 ∷ []
+head_of_household_in_2024 = refl
 
 -- ---- thousands: none of nothing, one of a cent and of 1,000.00, two of a cent more
 

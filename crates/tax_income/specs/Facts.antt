@@ -1,10 +1,10 @@
--- The facts of the rate schedule and the child tax credit, behind those of 2023. The tables are beside them, in `Tables`.
+-- The facts of the rate schedule and the child tax credit, behind those of a year. The tables are beside them, in `Tables`.
 use Rattle.std.specs.Prelude.{ℕ, List, [], ◌∷◌, ◌++◌, codes}
 use Rattle.dict_tree.specs.declared.operators.ReadOp.TheVariants.{Count}
 use Rattle.dict_tree.specs.declared.operators.ManyOp.TheVariants.{GreaterOf, LesserOf, Subtract}
 use Rattle.dict_tree.specs.declared.operators.OneOp.TheVariants.{Round}
 use Rattle.dict_tree.specs.declared.operators.TwoOp.TheVariants.{Divide, Equal, GreaterThan, Multiply}
-use Rattle.dict_tree.specs.Tree.{Source, literal_day, literal_dollar, literal_rational, literal, many, one, read, two}
+use Rattle.dict_tree.specs.Tree.{Source, literal_dollar, literal_rational, literal, many, one, read, two}
 use Rattle.dict_tree.specs.View.{trees_of}
 use Rattle.dict_tree.specs.Parsing.{use_of}
 use Rattle.dict_tree.specs.Facts.{Fact}
@@ -12,7 +12,10 @@ use Rattle.dict_tree.specs.Dictionary.{Dictionary}
 use Rattle.written_facts.specs.Figures.{Named}
 use Rattle.written_facts.specs.Rows.{asked, derived}
 use Rattle.written_facts.specs.Taking.{with_facts}
-use Rattle.tax_2023.specs.Facts.{all, any, boolean, cases, choice, dictionary, dollar, int, isnt, no_dollars, otherwise, sum, value, whole}
+use Rattle.tax_2023.specs.Figures.{figures}
+use Rattle.tax_income.specs.Figures.{income_figures}
+use Rattle.tax_income.specs.Years.{IncomeYear}
+use Rattle.tax_2023.specs.Facts.{all, amount, any, boolean, cases, choice, day, dictionary, dollar, int, isnt, no_dollars, otherwise, sum, value, whole}
 
 -- ---- words
 
@@ -39,14 +42,14 @@ product a b = two Multiply a b
 
 -- ---- expressions
 
--- an amount for a couple, a head of household, one who files separately, and another
-abbrev pub by_status : List ℕ → List ℕ → List ℕ → List ℕ → Source
-by_status couple head separate other =
+-- the figure of these names for a couple, a head of household, one who files separately, and another
+abbrev pub by_status : List Named → List ℕ → List ℕ → List ℕ → List ℕ → Source
+by_status gs couple head separate other =
     cases
-    ((any (is_filed (codes "marriedFilingJointly") ∷ is_filed (codes "qualifyingSurvivingSpouse") ∷ []), dollars couple)
-    ∷ (is_filed (codes "headOfHousehold"), dollars head)
-    ∷ (is_filed (codes "marriedFilingSeparately"), dollars separate)
-    ∷ (otherwise, dollars other)
+    ((any (is_filed (codes "marriedFilingJointly") ∷ is_filed (codes "qualifyingSurvivingSpouse") ∷ []), amount gs couple)
+    ∷ (is_filed (codes "headOfHousehold"), amount gs head)
+    ∷ (is_filed (codes "marriedFilingSeparately"), amount gs separate)
+    ∷ (otherwise, amount gs other)
     ∷ [])
 
 abbrev pub first_band : Source
@@ -71,8 +74,8 @@ all_taxes =
     ∷ value (codes "/tax37")
     ∷ [])
 
-abbrev pub credit_child : Source
-credit_child = all (value (codes "../qualifyingChild") ∷ two GreaterThan (value (codes "../dateOfBirth")) (literal (literal_day (codes "2006-12-31"))) ∷ value (codes "../hasNumber") ∷ [])
+abbrev pub credit_child : List Named → Source
+credit_child gs = all (value (codes "../qualifyingChild") ∷ two GreaterThan (value (codes "../dateOfBirth")) (day gs (codes "under 17, born after")) ∷ value (codes "../hasNumber") ∷ [])
 
 abbrev pub other_dependent : Source
 other_dependent = all (value (codes "../isDependent") ∷ isnt (value (codes "../creditChild")) ∷ [])
@@ -103,15 +106,15 @@ tax_after_credits = difference (value (codes "/scheduleTax")) (value (codes "/ch
 
 -- ---- facts
 
--- the upper ends of the bands
-abbrev pub ends : List Fact
-ends =
-    derived (codes "/end10") dollar (by_status (codes "22000.00") (codes "15700.00") (codes "11000.00") (codes "11000.00"))
-    ∷ derived (codes "/end12") dollar (by_status (codes "89450.00") (codes "59850.00") (codes "44725.00") (codes "44725.00"))
-    ∷ derived (codes "/end22") dollar (by_status (codes "190750.00") (codes "95350.00") (codes "95375.00") (codes "95375.00"))
-    ∷ derived (codes "/end24") dollar (by_status (codes "364200.00") (codes "182100.00") (codes "182100.00") (codes "182100.00"))
-    ∷ derived (codes "/end32") dollar (by_status (codes "462500.00") (codes "231250.00") (codes "231250.00") (codes "231250.00"))
-    ∷ derived (codes "/end35") dollar (by_status (codes "693750.00") (codes "578100.00") (codes "346875.00") (codes "578125.00"))
+-- the upper ends of the bands, with these figures
+abbrev pub ends : List Named → List Fact
+ends gs =
+    derived (codes "/end10") dollar (by_status gs (codes "10 percent, couple") (codes "10 percent, head of household") (codes "10 percent, separately") (codes "10 percent, single"))
+    ∷ derived (codes "/end12") dollar (by_status gs (codes "12 percent, couple") (codes "12 percent, head of household") (codes "12 percent, separately") (codes "12 percent, single"))
+    ∷ derived (codes "/end22") dollar (by_status gs (codes "22 percent, couple") (codes "22 percent, head of household") (codes "22 percent, separately") (codes "22 percent, single"))
+    ∷ derived (codes "/end24") dollar (by_status gs (codes "24 percent, couple") (codes "24 percent, head of household") (codes "24 percent, separately") (codes "24 percent, single"))
+    ∷ derived (codes "/end32") dollar (by_status gs (codes "32 percent, couple") (codes "32 percent, head of household") (codes "32 percent, separately") (codes "32 percent, single"))
+    ∷ derived (codes "/end35") dollar (by_status gs (codes "35 percent, couple") (codes "35 percent, head of household") (codes "35 percent, separately") (codes "35 percent, single"))
     ∷ []
 
 -- the tax of each band, and of all
@@ -128,10 +131,10 @@ taxes =
     ∷ []
 
 -- for whom there is a credit
-abbrev pub children : List Fact
-children =
+abbrev pub children : List Named → List Fact
+children gs =
     asked (codes "/dependents/*/hasNumber") boolean
-    ∷ derived (codes "/dependents/*/creditChild") boolean credit_child
+    ∷ derived (codes "/dependents/*/creditChild") boolean (credit_child gs)
     ∷ derived (codes "/dependents/*/otherDependent") boolean other_dependent
     ∷ []
 
@@ -147,20 +150,24 @@ credit =
     ∷ derived (codes "/taxAfterCredits") dollar tax_after_credits
     ∷ []
 
-abbrev pub facts_of_income : List Fact
-facts_of_income = ends ++ (taxes ++ (children ++ credit))
+abbrev pub facts_of_income : List Named → List Fact
+facts_of_income gs = ends gs ++ (taxes ++ (children gs ++ credit))
 
--- behind the facts of a year
-abbrev pub income_dictionary : List Named → Dictionary
-income_dictionary fs = with_facts (dictionary fs) facts_of_income
+-- behind the facts of a year: with its figures, and those of its income
+abbrev pub income_dictionary : (fs gs : List Named) → Dictionary
+income_dictionary fs gs = with_facts (dictionary fs) (facts_of_income gs)
+
+-- of this year
+abbrev pub dictionary_of : IncomeYear → Dictionary
+dictionary_of y = income_dictionary (figures y.tables) (income_figures y)
 
 -- ---- the dictionary group by group
 
-abbrev pub with_ends : List Named → Dictionary
-with_ends fs = with_facts (dictionary fs) ends
+abbrev pub with_ends : (fs gs : List Named) → Dictionary
+with_ends fs gs = with_facts (dictionary fs) (ends gs)
 
-abbrev pub with_taxes : List Named → Dictionary
-with_taxes fs = with_facts (with_ends fs) taxes
+abbrev pub with_taxes : (fs gs : List Named) → Dictionary
+with_taxes fs gs = with_facts (with_ends fs gs) taxes
 
-abbrev pub with_children : List Named → Dictionary
-with_children fs = with_facts (with_taxes fs) children
+abbrev pub with_children : (fs gs : List Named) → Dictionary
+with_children fs gs = with_facts (with_taxes fs gs) (children gs)

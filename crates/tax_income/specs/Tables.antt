@@ -1,12 +1,12 @@
--- What the rate schedule and the child tax credit of 2023 give a household. Sources: the 2023 tax rate schedules of the
--- instructions of Form 1040, and the instructions of Schedule 8812 for 2023. Total income stands for modified adjusted gross
--- income, and no part of the credit is refundable.
+-- What the rate schedule and the child tax credit of a year give a household. Sources: the tax rate schedules of the instructions
+-- of Form 1040, and the instructions of Schedule 8812, whose amounts are the same for 2023 and 2024. Total income stands for
+-- modified adjusted gross income, and no part of the credit is refundable.
 use Rattle.std.specs.Prelude.{ℕ, zero, suc, ◌+◌, ◌*◌, ℤ, pos, ◌+ℤ◌, ◌-ℤ◌, ◌*ℤ◌, int_lt, unsigned_abs, Bool, true, false, not, ◌&&◌, List, [], ◌∷◌, length, filter, Option, Some, None}
 use Rattle.fact_values.specs.Rounding.{rounded}
 use Rattle.tax_2023.specs.Household.{Cents, Dependent, Household, Status, jointly}
 use Rattle.tax_2023.specs.Tables.{age_in, cents, greater_of, is_dependent, is_qualifying_child, lesser_of, status, taxable_income}
-use Rattle.tax_2023.specs.Years.{tables_2023}
 use Rattle.tax_income.specs.Bands.{Band, bands}
+use Rattle.tax_income.specs.Years.{IncomeYear}
 
 -- ---- the tax of the schedule
 
@@ -28,11 +28,11 @@ exact_tax [] t = pos 0
 exact_tax (b ∷ bs) t = part b t *ℤ pos b.percent +ℤ exact_tax bs t
 
 -- the tax of an amount, rounded once to the cent, at a tie away from zero
-abbrev pub schedule : Status → Cents → Cents
-schedule s t = rounded (exact_tax (bands s) t) 100
+abbrev pub schedule : IncomeYear → Status → Cents → Cents
+schedule y s t = rounded (exact_tax (bands y s) t) 100
 
-unfoldable pub schedule_tax : Household → Cents
-schedule_tax h = schedule (status h) (taxable_income tables_2023 h)
+unfoldable pub schedule_tax : IncomeYear → Household → Cents
+schedule_tax y h = schedule y (status h) (taxable_income y.tables h)
 
 -- ---- for whom there is a credit
 
@@ -40,23 +40,23 @@ schedule_tax h = schedule (status h) (taxable_income tables_2023 h)
 abbrev pub Numbered : Type 0
 Numbered = ℕ → Bool
 
-unfoldable pub is_credit_child : Household → Numbered → Dependent → Bool
-is_credit_child h numbered p = is_qualifying_child tables_2023 h p && int_lt (age_in tables_2023 p.date_of_birth) (pos 17) && numbered p.member
+unfoldable pub is_credit_child : IncomeYear → Household → Numbered → Dependent → Bool
+is_credit_child y h numbered p = is_qualifying_child y.tables h p && int_lt (age_in y.tables p.date_of_birth) (pos 17) && numbered p.member
 
-unfoldable pub is_other_dependent : Household → Numbered → Dependent → Bool
-is_other_dependent h numbered p = is_dependent tables_2023 h p && not (is_credit_child h numbered p)
+unfoldable pub is_other_dependent : IncomeYear → Household → Numbered → Dependent → Bool
+is_other_dependent y h numbered p = is_dependent y.tables h p && not (is_credit_child y h numbered p)
 
-abbrev pub credit_children : Household → Numbered → ℕ
-credit_children h numbered = length (filter (is_credit_child h numbered) h.persons)
+abbrev pub credit_children : IncomeYear → Household → Numbered → ℕ
+credit_children y h numbered = length (filter (is_credit_child y h numbered) h.persons)
 
-abbrev pub other_dependents : Household → Numbered → ℕ
-other_dependents h numbered = length (filter (is_other_dependent h numbered) h.persons)
+abbrev pub other_dependents : IncomeYear → Household → Numbered → ℕ
+other_dependents y h numbered = length (filter (is_other_dependent y h numbered) h.persons)
 
 -- ---- the credit
 
 -- before limits
-abbrev pub credit_base : Household → Numbered → Cents
-credit_base h numbered = cents (2000 * credit_children h numbered + 500 * other_dependents h numbered)
+abbrev pub credit_base : IncomeYear → Household → Numbered → Cents
+credit_base y h numbered = cents (2000 * credit_children y h numbered + 500 * other_dependents y h numbered)
 
 -- in dollars
 abbrev pub income_limit : Status → ℕ
@@ -85,8 +85,8 @@ abbrev pub reduction : Household → Cents
 reduction h = cents (50 * thousands (excess h))
 
 -- the rest, not below 0 and at most the tax
-unfoldable pub child_credit : Household → Numbered → Cents
-child_credit h numbered = lesser_of (schedule_tax h) (greater_of (pos 0) (credit_base h numbered -ℤ reduction h))
+unfoldable pub child_credit : IncomeYear → Household → Numbered → Cents
+child_credit y h numbered = lesser_of (schedule_tax y h) (greater_of (pos 0) (credit_base y h numbered -ℤ reduction h))
 
-abbrev pub tax_after_credits : Household → Numbered → Cents
-tax_after_credits h numbered = schedule_tax h -ℤ child_credit h numbered
+abbrev pub tax_after_credits : IncomeYear → Household → Numbered → Cents
+tax_after_credits y h numbered = schedule_tax y h -ℤ child_credit y h numbered

@@ -2,7 +2,7 @@
 use dict_tree::ManyOp::Any;
 use dict_tree::ReadOp::Dependency;
 use dict_tree::TwoOp::Equal;
-use written_facts::Fixed::{Choice, Day, Dollar, Int, Rational, True};
+use written_facts::Fixed::{Choice, DayOf, Dollar, Int, Rational, True};
 use written_facts::Form;
 use written_facts::Form::{Const, Many, Read, Two};
 
@@ -111,8 +111,8 @@ pub const RATE_35: Form<'static> = Const(Rational("35/100"));
 
 pub const RATE_37: Form<'static> = Const(Rational("37/100"));
 
-// Who was born later is under 17 at the end of 2023.
-pub const UNDER_17_AFTER: Form<'static> = Const(Day("2006-12-31"));
+// Who was born later is under 17 at the end of the year.
+pub const UNDER_17_AFTER: Form<'static> = Const(DayOf("under 17, born after"));
 
 pub const FOR_A_CHILD: Form<'static> = Const(Dollar("2000.00"));
 

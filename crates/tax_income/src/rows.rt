@@ -4,71 +4,71 @@ use dict_tree::ManyOp::{Add, All, GreaterOf, LesserOf, Subtract};
 use dict_tree::OneOp::{Not, Round};
 use dict_tree::ReadOp::Count;
 use dict_tree::TwoOp::{Divide, GreaterThan, Multiply};
-use written_facts::Fixed::Dollar;
+use written_facts::Fixed::DollarOf;
 use written_facts::Form::{Const, Many, One, Read, Switch, Two};
 use written_facts::Row::{Asked, Derived};
 use written_facts::{Form, Kind, Row, When};
 
-/// The upper ends of the bands of the 2023 tax rate schedules.
+/// The upper ends of the bands.
 pub const ENDS: &'static [Row<'static>] = &[
     Derived(
         "/end10",
         Kind::Dollar,
         Switch(&[
-            When(IS_COUPLE, Const(Dollar("22000.00"))),
-            When(IS_HEAD, Const(Dollar("15700.00"))),
-            When(IS_SEPARATE, Const(Dollar("11000.00"))),
-            When(OTHERWISE, Const(Dollar("11000.00"))),
+            When(IS_COUPLE, Const(DollarOf("10 percent, couple"))),
+            When(IS_HEAD, Const(DollarOf("10 percent, head of household"))),
+            When(IS_SEPARATE, Const(DollarOf("10 percent, separately"))),
+            When(OTHERWISE, Const(DollarOf("10 percent, single"))),
         ]),
     ),
     Derived(
         "/end12",
         Kind::Dollar,
         Switch(&[
-            When(IS_COUPLE, Const(Dollar("89450.00"))),
-            When(IS_HEAD, Const(Dollar("59850.00"))),
-            When(IS_SEPARATE, Const(Dollar("44725.00"))),
-            When(OTHERWISE, Const(Dollar("44725.00"))),
+            When(IS_COUPLE, Const(DollarOf("12 percent, couple"))),
+            When(IS_HEAD, Const(DollarOf("12 percent, head of household"))),
+            When(IS_SEPARATE, Const(DollarOf("12 percent, separately"))),
+            When(OTHERWISE, Const(DollarOf("12 percent, single"))),
         ]),
     ),
     Derived(
         "/end22",
         Kind::Dollar,
         Switch(&[
-            When(IS_COUPLE, Const(Dollar("190750.00"))),
-            When(IS_HEAD, Const(Dollar("95350.00"))),
-            When(IS_SEPARATE, Const(Dollar("95375.00"))),
-            When(OTHERWISE, Const(Dollar("95375.00"))),
+            When(IS_COUPLE, Const(DollarOf("22 percent, couple"))),
+            When(IS_HEAD, Const(DollarOf("22 percent, head of household"))),
+            When(IS_SEPARATE, Const(DollarOf("22 percent, separately"))),
+            When(OTHERWISE, Const(DollarOf("22 percent, single"))),
         ]),
     ),
     Derived(
         "/end24",
         Kind::Dollar,
         Switch(&[
-            When(IS_COUPLE, Const(Dollar("364200.00"))),
-            When(IS_HEAD, Const(Dollar("182100.00"))),
-            When(IS_SEPARATE, Const(Dollar("182100.00"))),
-            When(OTHERWISE, Const(Dollar("182100.00"))),
+            When(IS_COUPLE, Const(DollarOf("24 percent, couple"))),
+            When(IS_HEAD, Const(DollarOf("24 percent, head of household"))),
+            When(IS_SEPARATE, Const(DollarOf("24 percent, separately"))),
+            When(OTHERWISE, Const(DollarOf("24 percent, single"))),
         ]),
     ),
     Derived(
         "/end32",
         Kind::Dollar,
         Switch(&[
-            When(IS_COUPLE, Const(Dollar("462500.00"))),
-            When(IS_HEAD, Const(Dollar("231250.00"))),
-            When(IS_SEPARATE, Const(Dollar("231250.00"))),
-            When(OTHERWISE, Const(Dollar("231250.00"))),
+            When(IS_COUPLE, Const(DollarOf("32 percent, couple"))),
+            When(IS_HEAD, Const(DollarOf("32 percent, head of household"))),
+            When(IS_SEPARATE, Const(DollarOf("32 percent, separately"))),
+            When(OTHERWISE, Const(DollarOf("32 percent, single"))),
         ]),
     ),
     Derived(
         "/end35",
         Kind::Dollar,
         Switch(&[
-            When(IS_COUPLE, Const(Dollar("693750.00"))),
-            When(IS_HEAD, Const(Dollar("578100.00"))),
-            When(IS_SEPARATE, Const(Dollar("346875.00"))),
-            When(OTHERWISE, Const(Dollar("578125.00"))),
+            When(IS_COUPLE, Const(DollarOf("35 percent, couple"))),
+            When(IS_HEAD, Const(DollarOf("35 percent, head of household"))),
+            When(IS_SEPARATE, Const(DollarOf("35 percent, separately"))),
+            When(OTHERWISE, Const(DollarOf("35 percent, single"))),
         ]),
     ),
 ];

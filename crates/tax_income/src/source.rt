@@ -1,97 +1,132 @@
-// The source of the dictionary.
+// The source of the dictionary of each year.
 ghost use Rattle.std.specs.Prelude.{◌≡◌, List, IfOk, OnOk};
 ghost use Rattle.dict_tree.specs.Dictionary.{dictionary_view};
-ghost use Rattle.written_facts.specs.Figures.{Named};
+ghost use Rattle.written_facts.specs.Figures.{Named, figures_view};
 ghost use Rattle.written_facts.specs.Rows.{rows_view};
 ghost use Rattle.tax_2023.specs.Facts.{dictionary};
-ghost use Rattle.tax_2023.specs.Figures.{figures};
-ghost use Rattle.tax_2023.specs.Years.{tables_2023};
-ghost use Rattle.tax_income.specs.Facts.{children, credit, ends, income_dictionary, taxes, with_children, with_ends, with_taxes};
+ghost use Rattle.tax_income.specs.Facts.{children, credit, dictionary_of, ends, income_dictionary, taxes, with_children, with_ends, with_taxes};
+ghost use Rattle.tax_income.specs.Years.{income_2023, income_2024};
 
+use crate::figures::{FIGURES_2023, FIGURES_2024};
 use crate::rows::{CHILDREN, CREDIT, ENDS, TAXES};
 use dict_tree::DictSource;
 use fact_values::NoMemory;
 use std::alloc::Global;
-use tax_2023::source_2023;
-use written_facts::{Row, push_rows};
+use tax_2023::{source_2023, source_2024};
+use written_facts::{Figure, Row, push_rows};
 
-// ---- the rows write these facts
+// ---- the rows write these facts, with any figures
 
 fn end_rows() -> &'static [Row<'static>]
-    ensures { (fs : List Named) → rows_view fs result.now ≡ ends }
+    ensures { (gs : List Named) → rows_view gs result.now ≡ ends gs }
 {
     ENDS
 }
 
 fn tax_rows() -> &'static [Row<'static>]
-    ensures { (fs : List Named) → rows_view fs result.now ≡ taxes }
+    ensures { (gs : List Named) → rows_view gs result.now ≡ taxes }
 {
     TAXES
 }
 
 fn child_rows() -> &'static [Row<'static>]
-    ensures { (fs : List Named) → rows_view fs result.now ≡ children }
+    ensures { (gs : List Named) → rows_view gs result.now ≡ children gs }
 {
     CHILDREN
 }
 
 fn credit_rows() -> &'static [Row<'static>]
-    ensures { (fs : List Named) → rows_view fs result.now ≡ credit }
+    ensures { (gs : List Named) → rows_view gs result.now ≡ credit }
 {
     CREDIT
 }
 
-// ---- the source takes them, group by group
+// ---- the source of a year takes them, group by group, whatever the figures of the year
 
-fn add_ends(alloc: Global, source: &mut DictSource) -> Result<(), NoMemory>
-    requires { dictionary_view source.old ≡ dictionary (figures tables_2023) }
-    ensures { OnOk result (dictionary_view source.new ≡ with_ends (figures tables_2023)) }
+fn add_ends(alloc: Global, figures: &[Figure<'_>], source: &mut DictSource) -> Result<(), NoMemory>
+    requires { (fs : List Named) × (dictionary_view source.old ≡ dictionary fs) }
+    ensures { (fs : List Named) → dictionary_view source.old ≡ dictionary fs
+        → OnOk result (dictionary_view source.new ≡ with_ends fs (figures_view figures.now)) }
 {
-    push_rows(alloc, &[], end_rows(), source)
+    push_rows(alloc, figures, end_rows(), source)
 }
 
-fn add_taxes(alloc: Global, source: &mut DictSource) -> Result<(), NoMemory>
-    requires { dictionary_view source.old ≡ with_ends (figures tables_2023) }
-    ensures { OnOk result (dictionary_view source.new ≡ with_taxes (figures tables_2023)) }
+fn add_taxes(alloc: Global, figures: &[Figure<'_>], source: &mut DictSource) -> Result<(), NoMemory>
+    requires { (fs : List Named) × (dictionary_view source.old ≡ with_ends fs (figures_view figures.now)) }
+    ensures { (fs : List Named) → dictionary_view source.old ≡ with_ends fs (figures_view figures.now)
+        → OnOk result (dictionary_view source.new ≡ with_taxes fs (figures_view figures.now)) }
 {
-    push_rows(alloc, &[], tax_rows(), source)
+    push_rows(alloc, figures, tax_rows(), source)
 }
 
-fn add_children(alloc: Global, source: &mut DictSource) -> Result<(), NoMemory>
-    requires { dictionary_view source.old ≡ with_taxes (figures tables_2023) }
-    ensures { OnOk result (dictionary_view source.new ≡ with_children (figures tables_2023)) }
+fn add_children(
+    alloc: Global,
+    figures: &[Figure<'_>],
+    source: &mut DictSource,
+) -> Result<(), NoMemory>
+    requires { (fs : List Named) × (dictionary_view source.old ≡ with_taxes fs (figures_view figures.now)) }
+    ensures { (fs : List Named) → dictionary_view source.old ≡ with_taxes fs (figures_view figures.now)
+        → OnOk result (dictionary_view source.new ≡ with_children fs (figures_view figures.now)) }
 {
-    push_rows(alloc, &[], child_rows(), source)
+    push_rows(alloc, figures, child_rows(), source)
 }
 
-fn add_credit(alloc: Global, source: &mut DictSource) -> Result<(), NoMemory>
-    requires { dictionary_view source.old ≡ with_children (figures tables_2023) }
-    ensures { OnOk result (dictionary_view source.new ≡ income_dictionary (figures tables_2023)) }
+fn add_credit(
+    alloc: Global,
+    figures: &[Figure<'_>],
+    source: &mut DictSource,
+) -> Result<(), NoMemory>
+    requires { (fs : List Named) × (dictionary_view source.old ≡ with_children fs (figures_view figures.now)) }
+    ensures { (fs : List Named) → dictionary_view source.old ≡ with_children fs (figures_view figures.now)
+        → OnOk result (dictionary_view source.new ≡ income_dictionary fs (figures_view figures.now)) }
 {
-    push_rows(alloc, &[], credit_rows(), source)
+    push_rows(alloc, figures, credit_rows(), source)
 }
 
-// Adds the 24 facts behind those of 2023.
-fn add_facts(alloc: Global, source: &mut DictSource) -> Result<(), NoMemory>
-    requires { dictionary_view source.old ≡ dictionary (figures tables_2023) }
-    ensures { OnOk result (dictionary_view source.new ≡ income_dictionary (figures tables_2023)) }
+// Adds the 24 facts behind those of a year.
+fn add_facts(alloc: Global, figures: &[Figure<'_>], source: &mut DictSource) -> Result<(), NoMemory>
+    requires { (fs : List Named) × (dictionary_view source.old ≡ dictionary fs) }
+    ensures { (fs : List Named) → dictionary_view source.old ≡ dictionary fs
+        → OnOk result (dictionary_view source.new ≡ income_dictionary fs (figures_view figures.now)) }
 {
-    add_ends(alloc, source)?;
-    add_taxes(alloc, source)?;
-    add_children(alloc, source)?;
-    add_credit(alloc, source)
+    add_ends(alloc, figures, source)?;
+    add_taxes(alloc, figures, source)?;
+    add_children(alloc, figures, source)?;
+    add_credit(alloc, figures, source)
 }
 
-/// The 45 facts of 2023 and the 24 behind them, in order.
-pub fn income_source(alloc: Global) -> Result<DictSource, NoMemory>
-    ensures { IfOk result (λ source. dictionary_view source ≡ income_dictionary (figures tables_2023)) }
+// The facts of a year and the 24 behind them.
+fn with_income(
+    alloc: Global,
+    figures: &[Figure<'_>],
+    year: DictSource,
+) -> Result<DictSource, NoMemory>
+    requires { (fs : List Named) × (dictionary_view year ≡ dictionary fs) }
+    ensures { (fs : List Named) → dictionary_view year ≡ dictionary fs
+        → IfOk result (λ source. dictionary_view source ≡ income_dictionary fs (figures_view figures.now)) }
 {
-    let mut source = source_2023(alloc)?;
-    match add_facts(alloc, &mut source) {
+    let mut source = year;
+    match add_facts(alloc, figures, &mut source) {
         Ok(()) => Ok(source),
         Err(NoMemory) => {
             drop(source);
             Err(NoMemory)
         }
     }
+}
+
+/// The 45 facts of 2023 and the 24 behind them, in order.
+pub fn income_source_2023(alloc: Global) -> Result<DictSource, NoMemory>
+    ensures { IfOk result (λ source. dictionary_view source ≡ dictionary_of income_2023) }
+{
+    let year = source_2023(alloc)?;
+    with_income(alloc, &FIGURES_2023, year)
+}
+
+/// The same of 2024.
+pub fn income_source_2024(alloc: Global) -> Result<DictSource, NoMemory>
+    ensures { IfOk result (λ source. dictionary_view source ≡ dictionary_of income_2024) }
+{
+    let year = source_2024(alloc)?;
+    with_income(alloc, &FIGURES_2024, year)
 }

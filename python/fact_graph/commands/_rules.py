@@ -65,7 +65,7 @@ def text_named(words: str) -> bytes:
     try:
         return text_of(words)
     except UnknownDictionary as unknown:
-        raise Failed(Status.USAGE, f"no rules {words} come with fact-graph, which has year 2023, year 2024 and income 2023") from unknown
+        raise Failed(Status.USAGE, f"no rules {words} come with fact-graph, which has year 2023, year 2024, income 2023 and income 2024") from unknown
 
 
 def is_written(name: str, text: bytes) -> bool:

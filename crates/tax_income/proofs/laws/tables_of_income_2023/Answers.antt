@@ -1,12 +1,18 @@
+use Rattle.tax_income.proofs.IncomeExample.{household_answers}
+use Rattle.tax_income.specs.Years.{income_2023}
 use Rattle.tax_income.proofs.IncomeLaw.{household_is_there, income_tables_hold}
+use Rattle.tax_income.proofs.IncomeSpells.{written_2023}
 use Rattle.tax_income.proofs.Rounding.{are_least}
 use Rattle.tax_income.proofs.laws.tables_of_income_2023.Goals as goal
 
 pub returns-clause-tables : goal.returns-clause-tables
-returns-clause-tables c = income_tables_hold
+returns-clause-tables c = income_tables_hold income_2023 written_2023
 
 pub returns-clause-households : goal.returns-clause-households
-returns-clause-households c = household_is_there
+returns-clause-households c = household_is_there income_2023
 
 pub returns-clause-thousands : goal.returns-clause-thousands
 returns-clause-thousands c = are_least
+
+pub returns-clause-answered : goal.returns-clause-answered
+returns-clause-answered c = household_answers income_2023

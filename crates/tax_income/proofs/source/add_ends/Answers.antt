@@ -1,18 +1,20 @@
-use Rattle.std.proofs.Common.{[], refl}
+use Rattle.std.proofs.Common.{refl}
 use Rattle.dict_tree.specs.Dictionary.{dictionary_view}
+use Rattle.written_facts.specs.Figures.{figures_view}
 use Rattle.written_facts.specs.Rows.{rows_view}
-use Rattle.tax_2023.specs.Facts.{dictionary}
-use Rattle.tax_2023.specs.Figures.{figures}
-use Rattle.tax_2023.specs.Years.{tables_2023}
 use Rattle.tax_2023.proofs.SourceLaws.{grown, taken}
+use Rattle.tax_2023.specs.Facts.{dictionary}
 use Rattle.tax_income.specs.Facts.{ends, with_ends}
 use Rattle.tax_income.proofs.IncomeSource.{ends_taken}
 use Rattle.tax_income.proofs.source.add_ends.Goals as goal
 
 pub push_rows-requires : goal.push_rows-requires
 push_rows-requires c =
-    taken (dictionary_view c.args.source.now) (dictionary (figures tables_2023)) (rows_view [] c.end_rows.result.now) ends c.requires (c.end_rows.ensures []) (ends_taken (figures tables_2023))
+    let gs = figures_view c.args.figures.now in
+    let fs = c.requires.0 in
+    taken (dictionary_view c.args.source.now) (dictionary fs) (rows_view gs c.end_rows.result.now) (ends gs) c.requires.1 (c.end_rows.ensures gs) (ends_taken fs gs)
 
 pub returns : goal.returns
-returns c =
-    grown (dictionary_view c.args.source.now) (dictionary (figures tables_2023)) (dictionary_view c.push_rows.new.source) (rows_view [] c.end_rows.result.now) ends (with_ends (figures tables_2023)) c.push_rows.result c.push_rows.ensures c.requires (c.end_rows.ensures []) refl
+returns c = λ fs is.
+    let gs = figures_view c.args.figures.now in
+    grown (dictionary_view c.args.source.now) (dictionary fs) (dictionary_view c.push_rows.new.source) (rows_view gs c.end_rows.result.now) (ends gs) (with_ends fs gs) c.push_rows.result c.push_rows.ensures is (c.end_rows.ensures gs) refl

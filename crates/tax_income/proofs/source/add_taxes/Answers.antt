@@ -1,8 +1,7 @@
-use Rattle.std.proofs.Common.{[], refl}
+use Rattle.std.proofs.Common.{refl}
 use Rattle.dict_tree.specs.Dictionary.{dictionary_view}
+use Rattle.written_facts.specs.Figures.{figures_view}
 use Rattle.written_facts.specs.Rows.{rows_view}
-use Rattle.tax_2023.specs.Figures.{figures}
-use Rattle.tax_2023.specs.Years.{tables_2023}
 use Rattle.tax_2023.proofs.SourceLaws.{grown, taken}
 use Rattle.tax_income.specs.Facts.{taxes, with_ends, with_taxes}
 use Rattle.tax_income.proofs.IncomeSource.{taxes_taken}
@@ -10,8 +9,11 @@ use Rattle.tax_income.proofs.source.add_taxes.Goals as goal
 
 pub push_rows-requires : goal.push_rows-requires
 push_rows-requires c =
-    taken (dictionary_view c.args.source.now) (with_ends (figures tables_2023)) (rows_view [] c.tax_rows.result.now) taxes c.requires (c.tax_rows.ensures []) (taxes_taken (figures tables_2023))
+    let gs = figures_view c.args.figures.now in
+    let fs = c.requires.0 in
+    taken (dictionary_view c.args.source.now) (with_ends fs gs) (rows_view gs c.tax_rows.result.now) (taxes) c.requires.1 (c.tax_rows.ensures gs) (taxes_taken fs gs)
 
 pub returns : goal.returns
-returns c =
-    grown (dictionary_view c.args.source.now) (with_ends (figures tables_2023)) (dictionary_view c.push_rows.new.source) (rows_view [] c.tax_rows.result.now) taxes (with_taxes (figures tables_2023)) c.push_rows.result c.push_rows.ensures c.requires (c.tax_rows.ensures []) refl
+returns c = λ fs is.
+    let gs = figures_view c.args.figures.now in
+    grown (dictionary_view c.args.source.now) (with_ends fs gs) (dictionary_view c.push_rows.new.source) (rows_view gs c.tax_rows.result.now) (taxes) (with_taxes fs gs) c.push_rows.result c.push_rows.ensures is (c.tax_rows.ensures gs) refl
