@@ -93,15 +93,13 @@ def touched() -> Iterator[tuple[str, list[str]]]:
 
 
 def missing() -> Iterator[tuple[str, list[str]]]:
-    """A sum of sums over all fields of all members. Each of them is missing until it is answered."""
+    """A sum of sums over all fields of all members, which are missing but for the last, once that is answered."""
     slots = [f"/c/#{k}/f{n}" for n in FIELDS for k in MEMBERS]
     for k in MEMBERS:
         yield "@1 add /c", [f"ok #{k}"]
     yield "@1 missing /s", [f"missing {len(slots)}", *slots]
-    for slot in slots:
-        yield f"@1 set {slot} 1", ["ok"]
-    yield "@1 missing /s", ["missing 0"]
-    yield "@1 get /s", [f"complete {len(slots)}"]
+    yield f"@1 set {slots[-1]} 1", ["ok"]
+    yield "@1 missing /s", [f"missing {len(slots) - 1}", *slots[:-1]]
 
 
 def limits() -> Iterator[Made]:
