@@ -3,31 +3,34 @@ from collections.abc import Iterator
 
 from stored_cases import Made
 
+# The numbers of sums whose loads take a moment, and of the others those where a count may end.
+QUICK = range(1, 301)
+LARGE = (*range(400, 1000, 100), 511, 512, 513, *range(990, 1001))
+
+
 def usage(words: list[str]) -> Made:
     return (f"{' '.join(words)!r} has no form", words, None, b"", b"usage: interview COMMAND ARGUMENTS\n", 2)
 
 
-def load(n: int, lines: int, complete: int, last: int, script: bytes = b"") -> Made:
-    """The first hundred sums each bring a member, and each round asks for the last sum while the members behind its own are unanswered."""
-    incomplete = min(n, 100)
+def load(n: int, script: bytes = b"") -> Made:
+    """Each of the members, one for each sum and a hundred at most, is added; so many rounds as there are sums answer them in turn by 1, 2, 3 ..
+    and ask for the last sum each, which is incomplete until all are answered. Undone, all are unanswered; redone, they have their last answers."""
+    members = min(n, 100)
+    incomplete, complete = members - 1 + 1, n - (members - 1) + 1
+    # each sum is one more than the sum before it, and the first one sums up the answers, each and one
+    last = sum(answer + 1 for answer in range(n - members + 1, n + 1)) + n - 1
     text = (
-        f"gen {n}\nfacts {n + 3} nodes {3 * n + 1} lines {lines}\n"
+        f"gen {n}\nfacts {n + 3} nodes {3 * n + 1} lines {members + 2 * n + 2 * (n + 1)}\n"
         f"complete {complete} placeholder 0 incomplete {incomplete} fault 0 refused 0\nlast complete {last}\n"
     )
     return (f"a load of {n} sums", ["gen", str(n)], None, script, text.encode(), 0)
 
 
 def cases() -> Iterator[Made]:
-    # one member, answered 1; undone, it is unanswered
-    yield load(1, 7, 2, 2)
-    yield load(2, 12, 2, 6)
+    for n in (*QUICK, *LARGE):
+        yield load(n)
     # the given script isn't read
-    yield load(2, 12, 2, 6, b"quit\nno command\n")
-    # the last sum is n(n + 1)/2 of the answers, n of the members, and n - 1 of the sums in front of it
-    yield load(100, 502, 2, 100 * 101 // 2 + 2 * 100 - 1)
-    # with one sum more than members, the first member is answered a second time
-    yield load(101, 506, 3, 101 * 102 // 2 - 1 + 100 + 100)
-    yield load(1000, 4102, 902, 96149)
+    yield load(2, b"quit\nno command\n")
     for number in ("0", "01", "1001", "1000000", "1000001", "99999999999999999999", "-1", "+1", "2 ", " 2", "", "two", "2.0"):
         yield usage(["gen", number])
     yield usage(["gen"])

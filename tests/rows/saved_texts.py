@@ -1,5 +1,7 @@
 """Saved texts at the limits of their bytes, lines, lists and members, and one that is cut at every byte."""
+import string
 from collections.abc import Iterable, Iterator
+from itertools import islice, product
 
 from stored_cases import Made
 
@@ -96,7 +98,28 @@ def limits() -> Iterator[Made]:
     yield "carry of lists in another order", words["carry"], None, b"get /c\nget /d\n", b"complete [#1]\ncomplete [#2]\n", 0, turned
 
 
+def shortest_names(room: int, more: int) -> list[str]:
+    """The shortest names for which there is room, where each takes so many bytes more than its own."""
+    behind = string.ascii_letters + string.digits + "_-"
+    found: list[str] = []
+    for length in range(1, 5):
+        names = list(islice(map("".join, product(string.ascii_letters, *[behind] * (length - 1))), room // (length + more)))
+        room -= (length + more) * len(names)
+        found += names
+    return found
+
+
+def most_dropped() -> Made:
+    """A text with as many lines as its greatest length has room for. All are dropped: no fact of 2023 has a name of so few bytes."""
+    before, after = "value /", " \n"
+    dropped = shortest_names(LIMIT - len(FRONT) - len("end\n"), len(before) + len(after))
+    text = FRONT + (before + (after + before).join(dropped) + after).encode() + b"end\n"
+    due = ("dropped value /" + "\ndropped value /".join(dropped)).encode() + b"\nok\ncomplete false\n"
+    return "carry of as many lines as there may be", ["carry-year", "2023", "s"], None, b"set /married false\nget /joint\n", due, 0, text
+
+
 def cases() -> Iterator[Made]:
+    yield most_dropped()
     yield from cut("load")
     yield from cut("carry")
     yield from limits()
