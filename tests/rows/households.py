@@ -16,8 +16,7 @@ Worksheet, both of the instructions of Form 1040; the credit by the lines of Sch
     under 19, and as a student under 24: born in    2005, 2000    2006, 2001, or later
     gross income of a qualifying relative below      4,700     5,050
 
-First a household answers what the figures of one of the years wait for. Then nothing is missing, and the figures are final. Then it
-answers all the rest, and they stay what they were.
+First a household answers as much as makes the figures final in both years. Then it answers all the rest, and they stay what they were.
 """
 from collections.abc import Iterator
 from typing import NamedTuple
@@ -26,7 +25,7 @@ from stored_cases import Made
 
 # How many answers there are on the filer and the spouse, and on each person, where one is the number that the credit asks for.
 OF_THE_FILER, OF_A_PERSON = 16, 11
-# What is shown once nothing is missing.
+# What is shown while the rest is open.
 OF_THE_YEAR = ["/filingStatus", "/standardDeduction", "/totalIncome", "/taxableIncome", "/dependentCount"]
 OF_THE_INCOME = ["/scheduleTax", "/childCredit", "/taxAfterCredits"]
 
@@ -171,7 +170,7 @@ COUPLE = Household(
 APART = Household(
     "considered unmarried, with children of 11, 18 and 13 in 2023, the last without a number; the tax ends at half a cent",
     3,
-    # of the second, who is 19 in 2024, that year asks more than 2023
+    # of the second, who is 19 in 2024, that year wants more than 2023
     asked="""
     /married true, /fileJointly false, /consideredUnmarried true, /paidHalfOfHome true, /qualifyingPerson true
     /canBeClaimed false, /dateOfBirth 1985-11-30, /blind false, /earnedIncome 102500, /otherIncome 310.25
@@ -403,7 +402,6 @@ def turns(household: Household, words: str) -> Iterator[tuple[str, str]]:
     for command in answers(household.asked, is_of_income):
         yield command, "ok"
     for path in [*OF_THE_YEAR, *(OF_THE_INCOME if is_of_income else ())]:
-        yield f"missing {path}", "missing 0"
         yield f"final {path}", f"final {due[path]}"
     for command in answers(household.rest, is_of_income):
         yield command, "ok"
