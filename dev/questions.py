@@ -12,7 +12,7 @@ PAGE = TOP / "docs" / "TAX_YEARS.md"
 OF_YEARS, OF_INCOME = (TOP / "crates" / name / "src" / "rows.rt" for name in ("tax_2023", "tax_income"))
 # Where the pages in a browser say that a question comes from.
 TEXTS = [TOP / "python" / "fact_graph" / "pages" / f"{name}.page" for name in ("common", "income")]
-EXAMPLE = TOP / "examples" / "saved"
+EXAMPLE = TOP / "examples" / "next_year"
 ASKED = re.compile(r'\bAsked(?:From)?\(\s*"([^"]+)"')
 HEADING = "## What is asked"
 ROW = re.compile(r"^\| `([/…][^`]*)` \| (.*) \| (.*) \| (.*) \|$", re.MULTILINE)
@@ -67,8 +67,8 @@ def fact_of(slot: str) -> str:
 
 def wrong_example(rows: dict[str, Row]) -> Iterator[str]:
     """Where the example doesn't clear what was answered of the year, and that alone, but for persons who are taken out."""
-    saved = (EXAMPLE / "household.saved").read_text(encoding="utf-8")
-    script = (EXAMPLE / "next_year.script").read_text(encoding="utf-8")
+    saved = (EXAMPLE / "2023.saved").read_text(encoding="utf-8")
+    script = (EXAMPLE / "2024.script").read_text(encoding="utf-8")
     answered = re.findall(r"^value (\S+)", saved, re.MULTILINE)
     cleared = re.findall(r"^clear (\S+)", script, re.MULTILINE)
     gone = tuple(f"{path}/{member}/" for path, member in re.findall(r"^remove (\S+) (\S+)", script, re.MULTILINE))
