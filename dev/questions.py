@@ -52,8 +52,8 @@ def wrong_rows(rows: dict[str, Row]) -> Iterator[str]:
 def wrong_sources(rows: dict[str, Row]) -> Iterator[str]:
     """Where an answer comes from another place by the page in a browser. There the publication is named each time."""
     sources: dict[str, str] = {}
-    for path in TEXTS:
-        sources |= json.loads(path.read_text(encoding="utf-8"))["sources"]
+    for text in TEXTS:
+        sources |= json.loads(text.read_text(encoding="utf-8"))["sources"]
     for path, row in rows.items():
         there = sources.get(path, "").replace("Publication 501, ", "")
         if row.source != there:
