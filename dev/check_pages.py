@@ -8,6 +8,8 @@
 - docs/PROVED.md has rows for each crate with code, in the same order.
 - README.md has a line for each of these crates, its first row there: the main claim, and the clause that carries it.
 - README.md and docs/PROVING.md have the minutes of docs/GATE.md, of the last run from nothing that dev/gate_times.py wrote there.
+- docs/TAX_YEARS.md has a row for each fact that the tax years ask for, with its source as the page in a browser has it; and the example
+  of the next year clears what these rows say is of the year.
 - A block of code below `<!-- from PATH -->` stands so in that file.
 - A link in a page leads to a file that is there, and what follows a `#` to a heading of it.
 
@@ -21,6 +23,7 @@ from pathlib import Path
 
 from crates import TOP, Crate, crates
 from draw_crates import draw
+from questions import wrong_questions
 
 DOCS = TOP / "docs"
 ARCHITECTURE, PROVED, GATE, PROVING = (DOCS / f"{name}.md" for name in ("ARCHITECTURE", "PROVED", "GATE", "PROVING"))
@@ -171,7 +174,7 @@ def main(argv: list[str]) -> int:
             path.write_text(text, encoding="utf-8")
         elif not path.is_file() or read(path) != text:
             wrong.append(f"{path.relative_to(TOP)} isn't what dev/check_pages.py --write makes")
-    wrong += [*wrong_citations(), *broken_links()]
+    wrong += [*wrong_questions(), *wrong_citations(), *broken_links()]
     print("\n".join([*wrong, f"check_pages: {len(wrong)} wrong"]))
     return 1 if wrong else 0
 

@@ -35,7 +35,7 @@ def examples() -> Iterator[tuple[str, str, str, list[str]]]:
     yield "three at a desk", "desk/household.replies", "desk/household.script", ["desk", "screener.json"]
     yield "saved on Monday", "saved/monday.saved", "saved/monday.script", ["save", "screener.json"]
     yield "loaded on Tuesday", "saved/tuesday.replies", "saved/tuesday.script", ["load", "screener.json", "saved/monday.saved"]
-    yield "carried to the next year", "saved/next_year.replies", "saved/next_year.script", ["carry-year", "2024", "saved/household.saved"]
+    yield "carried to the next year", "next_year/2024.replies", "next_year/2024.script", ["carry-year", "2024", "next_year/2023.saved"]
     yield "carried on Thursday", "saved/thursday.replies", "saved/thursday.script", ["carry", "saved/mended.json", "saved/monday.saved"]
     for due in sorted(EXAMPLES.glob("*.check")):
         yield f"{due.stem}, checked", due.name, os.devnull, ["check", f"{due.stem}.json"]

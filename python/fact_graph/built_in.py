@@ -1,4 +1,4 @@
-"""The rules that come with the package, those of the tax years, and the files of their pages.
+"""The rules that come with the package, those of the tax years, and their pages.
 
     >>> is_built_in("year 2023"), is_built_in("screener.json")
     (True, False)
@@ -6,11 +6,15 @@
 
 from __future__ import annotations
 
+import json
 from pathlib import Path
+from typing import Any
 
 from .session import BUILT_IN_WORDS, Session
 
 PAGES = Path(__file__).with_name("pages")
+GROSS_INCOMES = {2023: "$4,700", 2024: "$5,050"}
+"""What the gross income of a qualifying relative stays below, by year. All else that moves in a page is worked out of the year."""
 
 
 def is_built_in(name: str) -> bool:
@@ -24,10 +28,45 @@ def text_of(words: str) -> bytes:
         return session.source
 
 
-def page_of(words: str) -> Path:
-    """Where the page of these rules stands, if they have one.
+def page_of(words: str, language: str = "") -> bytes | None:
+    """The page of these rules, or in a language its words alone, where they have one.
 
-    >>> page_of("year 2023").name
-    'year_2023.page'
+    What all of them say stands in one file, and what is said by those of a kind, as `year`, in another. Both leave room for the numbers.
+
+    >>> page = json.loads(page_of("year 2024"))
+    >>> page["labels"]["/married"], page["labels"]["/spouseDied"]
+    ('Were you married on December 31, 2024?', 'Did your spouse die in 2022 or 2023?')
     """
-    return PAGES / f"{words.replace(' ', '_')}.page"
+    kind, _, year = words.partition(" ")
+    own, common = (PAGES / ".".join(filter(None, (part, language, "page"))) for part in (kind, "common"))
+    if int(year) not in GROSS_INCOMES or not own.is_file():
+        return None
+    whole = joined(*(json.loads(part.read_text(encoding="utf-8")) for part in (own, common)))
+    return json.dumps(with_numbers(whole, numbers_of(int(year))), ensure_ascii=False, indent=2).encode()
+
+
+def numbers_of(year: int) -> dict[str, object]:
+    """What the pages leave room for."""
+    return {"year": year, "before": year - 1, "two_before": year - 2, "birth_year": year - 64, "gross_income": GROSS_INCOMES[year]}
+
+
+def joined(own: Any, common: Any) -> Any:
+    """Both in one: objects key by key, and lists one behind the other; else what is the own.
+
+    >>> joined({"a": ["own"], "b": "own"}, {"a": ["common"], "b": "common", "c": "common"})
+    {'a': ['own', 'common'], 'b': 'own', 'c': 'common'}
+    """
+    if isinstance(own, dict):
+        return {**own, **{key: joined(own[key], it) if key in own else it for key, it in common.items()}}
+    return own + common if isinstance(own, list) else own
+
+
+def with_numbers(stated: Any, numbers: dict[str, object]) -> Any:
+    """The same with its numbers.
+
+    >>> with_numbers({"a": ["of {year}"]}, numbers_of(2023))
+    {'a': ['of 2023']}
+    """
+    if isinstance(stated, dict):
+        return {key: with_numbers(it, numbers) for key, it in stated.items()}
+    return [with_numbers(it, numbers) for it in stated] if isinstance(stated, list) else stated.format_map(numbers)

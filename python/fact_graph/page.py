@@ -3,7 +3,7 @@
 Beside the rules in `NAME.json` a file `NAME.page` says so, and so does a file of the package for the rules that come with it. Where
 there is none, or it is silent, the figures are the derived facts on which no other rests, and the words are made of the facts' names.
 
-    >>> page = Page("Help with the bill", ("/help",), {"/help": "Amount of help"})
+    >>> page = Page("Help with the bill", ("/help",), {"/help": "Amount of help"}, {})
     >>> page.label("/help"), page.label("/people/#2/bornOn")
     ('Amount of help', 'Born on')
 """
@@ -36,38 +36,57 @@ PURPOSES = {
 
 
 class Page(NamedTuple):
-    """A title, the paths of the figures, and labels by path; that of `/people/*` is the word for a member of `/people`."""
+    """A title, the paths of the figures, labels by path, where that of `/people/*` is the word for a member of `/people`, and what stands
+    below them."""
 
     title: str
     figures: tuple[str, ...]
     labels: dict[str, str]
+    helps: dict[str, str]
 
     @classmethod
     def over(cls, text: bytes, stated: dict[str, Any]) -> Page:
         """That of a dictionary, with what is stated of it."""
         title = stated.get("title") or json.loads(text).get("description") or "Interview"
-        return cls(title, tuple(stated.get("figures") or figures(facts(text))), stated.get("labels", {}))
+        return cls(title, tuple(stated.get("figures") or figures(facts(text))), stated.get("labels", {}), stated.get("help", {}))
 
     def label(self, slot: str) -> str:
         """The words for a slot."""
         path = path_of(slot)
         return self.labels.get(path) or words_of(path.rpartition("/")[2])
 
+    def help(self, fact: Fact) -> str:
+        """What stands below the label of a fact: what is said of it, or its description."""
+        return self.helps.get(fact.path, fact.description)
+
     def member(self, collection: str) -> str:
         """The word for a member of a collection."""
         return self.labels.get(f"{collection}/*") or f"Member of {words_of(collection[1:]).lower()}"
 
 
-def page_beside(name: str, language: str = "") -> Path | None:
-    """The file of the page beside that of the rules, or with those that come along, where there is one; in a language its words alone.
+class Beside(NamedTuple):
+    """The text of a page, and the name by which its maker knows it."""
 
-    >>> page_beside("screener.json", "es")
-    PosixPath('screener.es.page')
+    name: str
+    text: bytes
+
+    def __str__(self) -> str:
+        return self.name
+
+
+def page_beside(name: str, language: str = "") -> Beside | None:
+    """The page beside the rules of a name, or of those that come along, where there is one; in a language its words alone.
+
+    >>> print(page_beside("screener.json", "es"), page_beside("year 2024"), sep="; ")
+    screener.es.page; the page of year 2024
     """
+    if is_built_in(name):
+        text = page_of(name, language)
+        return Beside(f"the page of {name}", text) if text is not None else None
     if name == "-":
         return None
-    path = (page_of(name) if is_built_in(name) else Path(name)).with_suffix(f".{language}.page" if language else ".page")
-    return path if path.is_file() else None
+    path = Path(name).with_suffix(f".{language}.page" if language else ".page")
+    return Beside(str(path), path.read_bytes()) if path.is_file() else None
 
 
 def words_of(name: str) -> str:

@@ -1,15 +1,21 @@
-"""The dictionaries that come with the library, what a slot reads, and the memory of long texts."""
+"""The dictionaries that come with the library and their pages, what a slot reads, and the memory of long texts."""
 
 from __future__ import annotations
 
 import copy
 import ctypes
+import json
+import re
+from datetime import date
 from pathlib import Path
+from typing import Any
 
 import pytest
 
 from fact_graph import DictionaryRefused, Refused, Session, UnknownDictionary, UnknownSlot
 from fact_graph._library import library
+from fact_graph.built_in import page_of
+from fact_graph.page import misstated
 from fact_graph.session import KEPT
 
 from .calls import replies
@@ -51,6 +57,51 @@ def test_a_text_is_kept_as_it_was_given() -> None:
         assert session.source == SUM.encode()
     with pytest.raises(DictionaryRefused):
         Session("year 2023")
+
+
+# ---- the pages
+
+
+def page(words: str, language: str = "") -> dict[str, Any]:
+    """What the page of these rules says."""
+    text = page_of(words, language)
+    assert text is not None
+    said: dict[str, Any] = json.loads(text)
+    return said
+
+
+def constant(session: Session, path: str, kind: str) -> str:
+    """The one constant of a type in the expression of a fact, as it is spelled there."""
+    [fact] = [fact for fact in json.loads(session.source)["facts"] if fact["path"] == path]
+    [spelled] = set(re.findall(rf'\["{kind}", "([^"]+)"\]', json.dumps(fact["is"])))
+    return str(spelled)
+
+
+@pytest.mark.parametrize("language", ["", "es"])
+@pytest.mark.parametrize("words", FACTS)
+def test_each_question_has_its_words_on_the_page(words: str, language: str) -> None:
+    said = page(words, language)
+    with Session.built_in(words) as session:
+        dictionary = session.dictionary
+        assert not list(misstated({"groups": page(words)["groups"], **said}, dictionary))
+    assert [path for path in (*dictionary.facts, "/dependents/*") if not said["labels"].get(path)] == []
+    asked = [path for path, fact in dictionary.facts.items() if fact.is_writable]
+    assert [path for path in (*asked, *page(words)["figures"]) if not said["sources"].get(path)] == []
+    assert list(said["headings"]) == list(page(words)["groups"]) and "{" not in "".join(said["introduction"])
+
+
+@pytest.mark.parametrize("words", FACTS)
+def test_a_page_has_the_numbers_of_its_dictionary(words: str) -> None:
+    helps = page(words)["help"]
+    with Session.built_in(words) as session:
+        below = float(constant(session, "/dependents/*/qualifyingRelative", "Dollar"))
+        born = date.fromisoformat(constant(session, "/boxes", "Day"))
+    assert f"has less than ${below:,.0f}." in helps["/dependents/*/grossIncome"]
+    assert all(f"born before {born:%B} {born.day}, {born.year}." in helps[path] for path in ("/dateOfBirth", "/spouseDateOfBirth"))
+
+
+def test_a_year_that_there_is_not_has_no_page() -> None:
+    assert (page_of("year 2022"), page_of("year 2023", "fr")) == (None, None)
 
 
 # ---- what a slot reads

@@ -70,6 +70,7 @@ def wait_for(server: subprocess.Popen[bytes], client: httpx.Client) -> None:
     [
         (["examples/screener.json"], "Help with the heating bill", "/savings", "examples/screener.sqlite"),
         (["year", "2023"], "Tax year 2023: filing status, standard deduction and dependents", "/otherIncome", "year 2023.sqlite"),
+        (["income 2023"], "Tax year 2023: tax by the rate schedule, and child tax credit", "/otherIncome", "income 2023.sqlite"),
     ],
 )  # fmt: skip
 def test_what_is_installed_serves(serving: Path, outside: Path, bare: dict[str, str], words: list[str], title: str, slot: str, store: str) -> None:

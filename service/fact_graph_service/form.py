@@ -14,7 +14,7 @@ from typing import Any
 from fact_graph import Fact, Session
 from fact_graph.built_in import is_built_in, text_of
 from fact_graph.graph import facts
-from fact_graph.page import CHOICES, misstated, page_beside, words_of
+from fact_graph.page import CHOICES, Beside, misstated, page_beside, words_of
 
 LANGUAGES = CHOICES["language"]
 
@@ -144,11 +144,11 @@ def _dictionary(name: str) -> bytes:
         raise FormWrong(f"{name}: {wrong}") from wrong
 
 
-def _read(path: Path) -> dict[str, Any]:
+def _read(beside: Beside) -> dict[str, Any]:
     try:
-        page = json.loads(path.read_text(encoding="utf-8"))
+        page = json.loads(beside.text)
     except ValueError as wrong:
-        raise FormWrong(f"{path.name}: {wrong}") from wrong
+        raise FormWrong(f"{beside}: {wrong}") from wrong
     if not isinstance(page, dict):
-        raise FormWrong(f"{path.name} is no object")
+        raise FormWrong(f"{beside} is no object")
     return page

@@ -1,9 +1,9 @@
-"""The tax year 2023, served with questions in plain words, and filled in on a telephone by keyboard alone."""
+"""The tax years, served with questions in plain words; that of 2023 is filled in on a telephone by keyboard alone."""
 
 from __future__ import annotations
 
 import secrets
-from collections.abc import Iterator
+from contextlib import AbstractContextManager
 from pathlib import Path
 from typing import Any
 
@@ -18,6 +18,9 @@ from servers import Worker, held_ports
 from test_workers import page_at, serving, wait_for
 
 YEAR = "year 2023"
+# How many questions there are, and the examples that are run.
+ASKED = {"year 2023": 27, "year 2024": 27, "income 2023": 28}
+HOUSEHOLDS = {"year 2023": "years/2023", "income 2023": "income/2023"}
 NARROW = 320
 STEPS = ("get", "final")
 CHANGES = ("set", "add", "undo")
@@ -28,41 +31,42 @@ return [...document.querySelectorAll(".answer")].map((it) => `${it.querySelector
 """
 
 
-def lines_of_household() -> list[tuple[str, str]]:
-    """The commands of the household, with the replies that are due."""
-    script = [line for line in (EXAMPLES / "years" / "2023.script").read_text().splitlines() if line and not line.startswith("#")]
-    return list(zip(script, (EXAMPLES / "years" / "2023.replies").read_text().splitlines(), strict=True))
+def lines_of_household(name: str) -> list[tuple[str, str]]:
+    """The commands of a household, with the replies that are due."""
+    script = [line for line in (EXAMPLES / f"{name}.script").read_text().splitlines() if line and not line.startswith("#")]
+    return list(zip(script, (EXAMPLES / f"{name}.replies").read_text().splitlines(), strict=True))
 
 
-@pytest.fixture
-def page_of_year(tmp_path: Path) -> Iterator[Page]:
-    """A page of a new visitor over the tax year."""
-    with Page.open(Settings(YEAR, f"sqlite:{tmp_path}/store.sqlite", secrets.token_bytes(32), rate=10_000)) as opened:
-        yield opened
+def opened(words: str, folder: Path) -> AbstractContextManager[Page]:
+    """A page of a new visitor over the rules of a tax year."""
+    return Page.open(Settings(words, f"sqlite:{folder}/store.sqlite", secrets.token_bytes(32), rate=10_000))
 
 
-def test_each_question_has_its_words_in_both_languages(page_of_year: Page) -> None:
-    form = page_of_year.client.get("/form.json").json()
+@pytest.mark.parametrize(("words", "count"), ASKED.items())
+def test_each_question_has_its_words_in_both_languages(tmp_path: Path, words: str, count: int) -> None:
+    with opened(words, tmp_path) as page:
+        form = page.client.get("/form.json").json()
     asked = [path for path, fact in form["facts"].items() if fact["isWritable"]]
-    assert asked[0] == "/married" and len(asked) == 27
+    assert asked[0] == "/married" and len(asked) == count
     for language in ("en", "es"):
-        words = form["languages"][language]
-        assert [path for path in asked if not words["facts"][path]["source"]] == []
-        assert [path for path in form["figures"] if not words["facts"][path]["source"]] == []
-        assert len(words["introduction"]) == 2 and len(words["headings"]) == len(form["groups"]) == 4
+        said = form["languages"][language]
+        assert [path for path in (*asked, *form["figures"]) if not said["facts"][path]["source"]] == []
+        assert len(said["introduction"]) > 2 and len(said["headings"]) == len(form["groups"]) == 4
     english, spanish = (form["languages"][language] for language in ("en", "es"))
     same = [path for path in form["facts"] if english["facts"][path]["label"] == spanish["facts"][path]["label"]]
     assert same == []
     assert set(english["options"]["filingStatus"].values()).isdisjoint(spanish["options"]["filingStatus"].values())
 
 
-def test_a_household_has_its_replies(page_of_year: Page) -> None:
-    for line, reply in lines_of_household():
-        verb = line.split(" ")[0]
-        if verb in CHANGES:
-            assert page_of_year.change(line)["reply"] == reply, line
-        else:
-            assert verb in STEPS and page_of_year.ask(line) == [reply], line
+@pytest.mark.parametrize(("words", "name"), HOUSEHOLDS.items())
+def test_a_household_has_its_replies(tmp_path: Path, words: str, name: str) -> None:
+    with opened(words, tmp_path) as page:
+        for line, reply in lines_of_household(name):
+            verb = line.split(" ")[0]
+            if verb in CHANGES:
+                assert page.change(line)["reply"] == reply, line
+            else:
+                assert verb in STEPS and page.ask(line) == [reply], line
 
 
 @pytest.mark.parametrize("words", [["year", "2023"], ["year 2023"]])

@@ -102,7 +102,7 @@ class Interview:
         stands_in = self.shown(slot)
         if stands_in[1] == "estimate":
             kinds.append(f"{stands_in[0]} is taken until you answer")
-        return Question(slot, self.label(slot), fact.description, "; ".join(it for it in kinds if it), answers)
+        return Question(slot, self.label(slot), self.page.help(fact), "; ".join(it for it in kinds if it), answers)
 
     def label(self, slot: str) -> str:
         """The words for a slot, with the member whose it is."""

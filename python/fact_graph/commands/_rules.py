@@ -13,6 +13,7 @@ from click.shell_completion import CompletionItem
 from ..built_in import is_built_in, text_of
 from ..errors import DictionaryRefused, UnknownDictionary
 from ..faults import Examined, Source
+from ..page import Beside, page_beside
 from ..session import Session
 from ..status import Status
 from ._failures import Failed
@@ -42,6 +43,13 @@ class Rules(NamedTuple):
     def carried(self, saved: bytes) -> Session:
         """A session with what may stand of a text that was saved over other rules."""
         return self.begun(lambda: Session.carry(self.text, saved))
+
+    def page(self) -> Beside | None:
+        """What stands beside the rules of their page."""
+        try:
+            return page_beside(self.name)
+        except OSError as wrong:
+            raise Failed(Status.FETCH_FAULT, f"{wrong.filename}: {wrong.strerror}") from wrong
 
     def begun(self, begin: Callable[[], Session]) -> Session:
         """A session that is begun so."""

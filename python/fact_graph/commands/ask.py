@@ -13,7 +13,7 @@ from rich.console import Console
 from rich.table import Table
 from rich.text import Text
 
-from ..page import Page, misstated, page_beside
+from ..page import Page, misstated
 from ..status import Status
 from ._failures import Failed
 from ._interview import Figure, Interview, Question
@@ -51,9 +51,9 @@ def _page(rules: Rules, figures: tuple[str, ...]) -> Page:
     """The page of the rules, with these figures in place of its own where some are named."""
     with rules.session() as session:
         dictionary = session.dictionary
-    beside = page_beside(rules.name)
+    beside = rules.page()
     try:
-        stated = json.loads(beside.read_bytes()) if beside else {}
+        stated = json.loads(beside.text) if beside else {}
     except ValueError as wrong:
         raise Failed(Status.FINDINGS, f"{beside} is no JSON: {wrong}") from wrong
     wrongs = list(misstated(stated, dictionary))

@@ -3,7 +3,6 @@
 from __future__ import annotations
 
 from collections.abc import Iterator
-from pathlib import Path
 
 import click
 
@@ -11,7 +10,7 @@ from ..dictionary import Dictionary
 from ..errors import DictionaryRefused
 from ..faults import Examined
 from ..located import NotJson, read
-from ..page import misstated, page_beside
+from ..page import Beside, misstated
 from ..session import Session
 from ..status import Status
 from ._faults import excerpt, found, refused, where
@@ -40,7 +39,7 @@ def command(rules: Rules, is_all: bool) -> Status:
     click.echo(f"{rules.name}: accepted, {examined.facts} facts, {examined.nodes} nodes")
     for place, key in examined.repeated:
         click.echo(f"{where(rules.name, place)}: the key `{key}` stands twice here, and the last one counts")
-    beside = page_beside(rules.name)
+    beside = rules.page()
     notes = list(_of_page(beside, dictionary)) if beside else []
     for line in notes:
         click.echo(line)
@@ -57,10 +56,10 @@ def _others(rules: Rules, examined: Examined, fault: DictionaryRefused) -> Itera
     yield f"\n{len(others) + 1} in all"
 
 
-def _of_page(beside: Path, dictionary: Dictionary) -> Iterator[str]:
+def _of_page(beside: Beside, dictionary: Dictionary) -> Iterator[str]:
     """The lines on what is wrong with a page."""
     try:
-        document = read(beside.read_bytes())
+        document = read(beside.text)
     except NotJson as wrong:
         yield f"{where(str(beside), wrong.place)}: {wrong.reason}"
         return

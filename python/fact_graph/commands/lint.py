@@ -8,7 +8,7 @@ from pathlib import Path
 import click
 
 from ..checks import CHECKS, Allowance, NotAllowed, findings, left_over, read_allowances
-from ..page import Page, page_beside
+from ..page import Page
 from ..rulebook import Rulebook
 from ..status import Status
 from ._failures import Failed
@@ -38,9 +38,9 @@ def command(rules: Rules, figures: tuple[str, ...]) -> Status:
 
 def figures_of(rules: Rules, rulebook: Rulebook, named: tuple[str, ...]) -> list[str]:
     """The figures that are named, or those of the page beside the rules."""
-    beside = page_beside(rules.name)
+    beside = rules.page()
     try:
-        stated = json.loads(read(str(beside))) if beside and not named else {}
+        stated = json.loads(beside.text) if beside and not named else {}
         figures = list(named or Page.over(rules.text, stated).figures)
     except (ValueError, AttributeError, TypeError) as wrong:
         raise Failed(Status.USAGE, f"{beside}: this is no page: {wrong}") from wrong

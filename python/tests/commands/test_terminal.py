@@ -78,6 +78,7 @@ def test_ask_asks_for_what_is_missing_and_goes_on_from_what_was_kept(tmp_path: P
         terminal.shows("rents")
         terminal.type("\t\r")
         terminal.shows("0.00 is taken until you answer")
+        terminal.shows("What the household has in the bank.")
         terminal.answers("\r")  # left out
         terminal.shows("People in the home (how many)")
         terminal.answers("1\r")
