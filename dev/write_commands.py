@@ -117,7 +117,8 @@ def main(argv: list[str]) -> int:
     given = words.parse_args(argv)
     os.environ["FACT_GRAPH_LIBRARY"] = str(given.library)
     stands = {path: path.read_bytes() for path in [*PAGES, *PICTURES] if path.is_file()}
-    due, drawn = {}, {}
+    due: dict[Path, bytes] = {}
+    drawn: dict[str, bytes] = {}
     for page in PAGES:
         text, pictures = page_shown(stands[page].decode())
         due[page] = text.encode()

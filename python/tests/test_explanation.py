@@ -80,8 +80,8 @@ def test_a_description_is_one_line_where_its_slot_stands_first() -> None:
     )
     with Session(twice) as session:
         assert session.why("/s").children[0].description == " one\n\ttwo\x1b[31m "
-        due = ["/s incomplete", "  /a incomplete (missing)  # one two [31m", "  /b placeholder 0.00 (missing)", "  /t incomplete", "    /a incomplete (missing)"]
-        assert str(session.why("/s")).splitlines() == due
+        first = ["/s incomplete", "  /a incomplete (missing)  # one two [31m", "  /b placeholder 0.00 (missing)"]
+        assert str(session.why("/s")).splitlines() == [*first, "  /t incomplete", "    /a incomplete (missing)"]
 
 
 def test_a_tree_goes_down_to_a_depth() -> None:
