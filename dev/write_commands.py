@@ -1,12 +1,12 @@
 #!/usr/bin/python3
-"""Writes into docs/COMMAND_LINE.md and docs/CASES.md what the commands of `fact-graph` show, or checks that it stands there.
+"""Writes into docs/COMMAND_LINE.md, docs/CASES.md and docs/PYTHON.md what the commands of `fact-graph` show, or checks that it stands there.
 
     dev/write_commands.py [--check] [--library PATH]
 
-In a block `console` each line behind `$ ` is run by a shell, in a folder with the examples, and what it prints follows it; a block
-that begins with a command of the table below is held at a terminal, with what the table types. The picture that `graph` makes is
-kept beside the pages, and the table of exit statuses is that of the package. With --check nothing is written, and the exit status
-is 1 where a page or the picture is another.
+In a block `console` each line behind `$ ` is run by a shell, in a folder of the page's own with the examples, and what it prints follows
+it; a command of the table below is held at a terminal, with what the table types. The pictures that `graph` makes are kept beside the
+pages, and the table of exit statuses is that of the package. With --check nothing is written, and the exit status is 1 where a page or a
+picture is another.
 """
 
 from __future__ import annotations
@@ -27,8 +27,8 @@ from fact_graph.status import Status  # noqa: E402 # pylint: disable=wrong-impor
 from harness import add_library, words_of  # noqa: E402 # pylint: disable=wrong-import-position # found by the path above
 from terminal import Terminal  # noqa: E402 # pylint: disable=wrong-import-position # found by the path above
 
-PAGES = [TOP / "docs" / name for name in ("COMMAND_LINE.md", "CASES.md")]
-PICTURE = "help.svg"
+PAGES = [TOP / "docs" / name for name in ("COMMAND_LINE.md", "CASES.md", "PYTHON.md")]
+PICTURES = [TOP / "docs" / name for name in ("help.svg", "status.svg")]
 BLOCK = re.compile(r"^```console\n(.*?)^```$", re.MULTILINE | re.DOTALL)
 STATUSES = re.compile(r"^\| Status \| When \|\n(?:\|.*\n)+", re.MULTILINE)
 
@@ -37,6 +37,7 @@ TYPED = {
         ("How do you live there?", "rents"), ("Savings", ""), ("People in the home", "1"), ("Born on", "1958-11-30"), ("Wages of a year", "12000"),
         ("Heating bill", "9000"), ("at most 5000.00.", "1240.50"),
     ],
+    "fact-graph ask year 2023 --figure /filingStatus --saved mine": [("Were you married", "yes"), ("file a joint return", "yes")],
     "fact-graph run screener.json": [
         ("", "set /bill 1240.50"), ("ok", "set /bill 9000"), ("refused", "get /bill"),
         ("complete", "get /savings"), ("placeholder", "final /savings"), ("open", "quit"),
@@ -68,9 +69,9 @@ def prepare(folder: Path) -> dict[str, str]:
     return {**os.environ, "PATH": f"{command.parent}:{os.environ['PATH']}", "PYTHONPATH": str(TOP / "python"), "COLUMNS": "100"}
 
 
-def at_terminal(command: str, folder: Path) -> list[str]:
+def at_terminal(command: str, folder: Path, environment: dict[str, str]) -> list[str]:
     """The lines that a command shows at a terminal."""
-    with Terminal(command.split()[1:], folder, folder) as terminal:
+    with Terminal(command.split()[1:], folder, folder, environment) as terminal:
         for due, text in TYPED[command]:
             terminal.shows(due)
             terminal.answers(f"{text}\r")
@@ -90,7 +91,16 @@ def shown(block: str, folder: Path, environment: dict[str, str]) -> Iterator[str
         if line.startswith("$ "):
             command = line[2:]
             yield line
-            yield from at_terminal(command, folder) if command in TYPED else at_shell(command, folder, environment)
+            yield from (at_terminal if command in TYPED else at_shell)(command, folder, environment)
+
+
+def page_shown(text: str) -> tuple[str, dict[str, bytes]]:
+    """A page with what its commands show, and the pictures that they make, by their names."""
+    with tempfile.TemporaryDirectory(prefix="write_commands.") as name:
+        folder = Path(name)
+        environment = prepare(folder)
+        due = BLOCK.sub(lambda found: "\n".join(["```console", *shown(found[1], folder, environment), "```"]), text)
+        return STATUSES.sub(lambda found: statuses(), due), {made.name: made.read_bytes() for made in folder.glob("*.svg")}
 
 
 def statuses() -> str:
@@ -106,20 +116,19 @@ def main(argv: list[str]) -> int:
     words.add_argument("--check", action="store_true", help="writes nothing")
     given = words.parse_args(argv)
     os.environ["FACT_GRAPH_LIBRARY"] = str(given.library)
-    stands, picture = [page.read_text(encoding="utf-8") for page in PAGES], PAGES[0].with_name(PICTURE)
-    with tempfile.TemporaryDirectory(prefix="write_commands.") as name:
-        folder = Path(name)
-        environment = prepare(folder)
-        due = [BLOCK.sub(lambda found: "\n".join(["```console", *shown(found[1], folder, environment), "```"]), text) for text in stands]
-        drawn = (folder / PICTURE).read_bytes()
-    due = [STATUSES.sub(lambda found: statuses(), text) for text in due]
+    stands = {path: path.read_bytes() for path in [*PAGES, *PICTURES] if path.is_file()}
+    due: dict[Path, bytes] = {}
+    drawn: dict[str, bytes] = {}
+    for page in PAGES:
+        text, pictures = page_shown(stands[page].decode())
+        due[page] = text.encode()
+        drawn |= pictures
+    due |= {path: drawn[path.name] for path in PICTURES}
     if given.check:
-        is_so = due == stands and picture.is_file() and picture.read_bytes() == drawn
-        print("the pages " + ("show what the commands show" if is_so else "show otherwise: run dev/write_commands.py"))
-        return int(not is_so)
-    for page, text in zip(PAGES, due):
-        page.write_text(text, encoding="utf-8")
-    picture.write_bytes(drawn)
+        print("the pages " + ("show what the commands show" if due == stands else "show otherwise: run dev/write_commands.py"))
+        return int(due != stands)
+    for path, made in due.items():
+        path.write_bytes(made)
     return 0
 
 

@@ -3,8 +3,8 @@
 >>> from fact_graph import Session
 >>> with Session.open("screener.json") as session:
 ...     session["/bill"] = "1240.50"
-...     session.get("/help"), session.missing("/help")
-(Result(kind='incomplete', value=None, fault=None), ['/tenure', '/savings', '/people'])
+...     session.get("/help"), session.missing("/help").slots
+(Result(kind='incomplete', value=None, fault=None), ('/tenure', '/savings', '/people'))
 
 `Session` has a method for each command of a script; docs/COMMANDS.md says what each does, docs/DICTIONARIES.md how a
 dictionary is written, and docs/FAULTS.md what each refusal means. What is refused is raised, and changes nothing. The
@@ -25,6 +25,7 @@ from .errors import (
     UnknownDictionary,
     UnknownSlot,
 )
+from .explanation import Explanation, Missing
 from .session import Dropped, Session, Watch
 from .values import Answer, Kind, Result, Value
 
@@ -35,6 +36,7 @@ __all__ = [
     "Dictionary",
     "DictionaryRefused",
     "Dropped",
+    "Explanation",
     "Fact",
     "FactGraphError",
     "FactType",
@@ -42,6 +44,7 @@ __all__ = [
     "LibraryMissing",
     "Limit",
     "ListedFact",
+    "Missing",
     "OutOfMemory",
     "Refused",
     "Result",

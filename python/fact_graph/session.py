@@ -16,6 +16,7 @@ from ._answering import answering
 from ._library import NO_MEMORY, OVER, SAID, Fault, last_text, library
 from .dictionary import Dictionary, ListedFact, path_of
 from .errors import FactGraphError, OutOfMemory, Refused, SessionBusy, SessionClosed, SessionForked
+from .explanation import Explanation, Missing, Walk
 from .values import KINDS, READERS, Answer, Result, Value, text_of, text_of_int
 
 # The library keeps no text of more bytes once it was read.
@@ -107,8 +108,8 @@ class Session:  # pylint: disable=too-many-instance-attributes # what its calls 
         that comes with the library under these words, as `built_in` has it: a file of such a name is given as a `Path`.
 
         >>> session = Session.open("screener.json")
-        >>> session.missing("/help")
-        ['/tenure', '/savings', '/people']
+        >>> session.missing("/help").slots
+        ('/tenure', '/savings', '/people')
         >>> Session.open("year 2023").get("/filingStatus").kind
         'incomplete'
         """
@@ -366,17 +367,46 @@ class Session:  # pylint: disable=too-many-instance-attributes # what its calls 
         word, _, text = self._ask("final " + slot)[:-1].partition(" ")
         return self._reader(slot)(text) if word == "final" else None
 
-    def missing(self, slot: str) -> list[str]:
-        """The slots whose answers a result still wants, in the order of the dictionary.
+    def missing(self, slot: str) -> Missing:
+        """The slots whose answers a result still wants, in the order of the dictionary, and the tree of what leads to them.
 
         >>> session = Session.open("screener.json")
-        >>> session.missing("/means")
-        ['/savings', '/people']
+        >>> session.missing("/means").slots
+        ('/savings', '/people')
+        >>> for slot in session.missing("/size"):
+        ...     session.open_list(slot)
+        >>> bool(session.missing("/size"))
+        False
         """
-        return self._ask("missing " + slot).splitlines()[1:]
+        with self._lock:  # what other threads change waits
+            slots = self._missing(slot)
+            return Missing(slots, Walk(self, slot, slots).leading())
+
+    def why(self, slot: str, *, depth: int | None = None) -> Explanation:
+        """A result with all that it was worked out from, as a tree: down to answers, or so many levels and no further.
+
+        >>> session = Session.open("screener.json")
+        >>> session.open_list("/people")
+        >>> print(session.why("/means"))
+        /means placeholder 0.00
+          /wages final 0.00  # Those of children don't count.
+            /adults final []
+              /people final []  # Who lives in the home.
+          /savings placeholder 0.00 (missing)
+        >>> print(session.why("/means", depth=1))
+        /means placeholder 0.00
+          /wages final 0.00 (reads 1)  # Those of children don't count.
+          /savings placeholder 0.00 (missing)
+        """
+        with self._lock:
+            return Walk(self, slot, self._missing(slot)).why(depth)
+
+    def _missing(self, slot: str) -> tuple[str, ...]:
+        return tuple(self._ask("missing " + slot).splitlines()[1:])
 
     def reads(self, slot: str) -> list[str]:
-        """The slots that a result is worked out from, each once, in the order in which they are first read: why it is what it is.
+        """The slots that a result itself is worked out from, each once, in the order in which they are first read; `why` goes on from
+        each of them.
 
         A slot with an answer of its own, or with an override, reads none; one that has none reads what its placeholder does.
 

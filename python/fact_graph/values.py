@@ -96,6 +96,27 @@ def text_of_amount(value: Decimal) -> str:
     return str(cents) if cents == value else text
 
 
+def text_of_any(value: Value, kind: str) -> str:
+    """The text of any value, also of one that can't be set, by the name of its type.
+
+    >>> text_of_any((1, 3), "Collection"), text_of_any(2, "Item"), text_of_any(2, "Int")
+    ('[#1 #3]', '#2', '2')
+    """
+    if isinstance(value, tuple):
+        return "[" + " ".join(f"#{member}" for member in value) + "]"
+    return f"#{value}" if kind == "Item" else text_of(value)
+
+
+def said(result: Result, kind: str) -> str:
+    """A result as a session says it, by the name of its type.
+
+    >>> said(Result("complete", Decimal("5.00")), "Dollar"), said(Result("incomplete"), "Day"), said(Result("fault", None, "overflow"), "Int")
+    ('complete 5.00', 'incomplete', 'fault overflow')
+    """
+    text = result.fault if result.value is None else text_of_any(result.value, kind)
+    return result.kind if text is None else f"{result.kind} {text}"
+
+
 def _fraction(text: str) -> Fraction:
     numerator, _, denominator = text.partition("/")
     return Fraction(int(numerator), int(denominator))

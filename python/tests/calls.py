@@ -5,9 +5,9 @@ from __future__ import annotations
 import re
 from collections.abc import Callable
 
-from fact_graph import Answer, Refused, Session, Value
+from fact_graph import Answer, Refused, Session
 from fact_graph.dictionary import path_of
-from fact_graph.values import READERS, text_of
+from fact_graph.values import READERS, said, text_of, text_of_any
 
 VALUED = {"set": Session.set, "override": Session.override}
 CHANGES: dict[str, Callable[[Session, str], None]] = {"clear": Session.clear, "open": Session.open_list, "release": Session.release}
@@ -52,15 +52,6 @@ def typed(session: Session, slot: str, text: str) -> Answer:
         return text
 
 
-def shown(session: Session, slot: str, value: Value) -> str:
-    """Of any value, also one that can't be written, the text."""
-    if type_of(session, slot) == "Item":
-        return f"#{value}"
-    if isinstance(value, tuple):
-        return "[" + " ".join(f"#{member}" for member in value) + "]"
-    return text_of(value)
-
-
 def change(session: Session, verb: str, rest: list[str]) -> str:
     """Makes a change, and says what its reply says of it; nothing where the verb makes none."""
     if verb in VALUED:
@@ -81,15 +72,13 @@ def change(session: Session, verb: str, rest: list[str]) -> str:
 def question(session: Session, verb: str, rest: list[str]) -> list[str]:
     """The lines of what a question is answered."""
     if verb == "get":
-        kind, value, fault = session.get(*rest)
-        more = fault if value is None else shown(session, rest[0], value)
-        return [kind if more is None else f"{kind} {more}"]
+        return [said(session.get(*rest), type_of(session, rest[0]))]
     if verb == "final":
         value = session.final(*rest)
-        return ["open" if value is None else f"final {shown(session, rest[0], value)}"]
+        return ["open" if value is None else f"final {text_of_any(value, type_of(session, rest[0]))}"]
     if verb == "missing":
-        slots = session.missing(*rest)
-        return [f"missing {len(slots)}", *slots]
+        missing = session.missing(*rest)
+        return [f"missing {len(missing)}", *missing]
     if verb == "stamp":
         return [f"stamp {session.stamp(*rest)}"]
     if verb == "touched":
@@ -100,8 +89,8 @@ def question(session: Session, verb: str, rest: list[str]) -> list[str]:
 
 def replied(session: Session, verb: str, rest: list[str]) -> list[str]:
     """The lines of the reply to a call."""
-    said = change(session, verb, rest)
-    return [said, *(f"watch {name} {slot}" for name, slot in session.fired)] if said else question(session, verb, rest)
+    changed = change(session, verb, rest)
+    return [changed, *(f"watch {name} {slot}" for name, slot in session.fired)] if changed else question(session, verb, rest)
 
 
 def reply(session: Session, line: bytes) -> str:
@@ -118,9 +107,9 @@ def reply(session: Session, line: bytes) -> str:
 
 def replies(session: Session, script: bytes) -> str:
     """What the program writes to a script, call by call, up to `quit`."""
-    said = []
+    written = []
     for line in script.split(b"\n"):
         if line.removesuffix(b"\r") == b"quit":
             break
-        said.append(reply(session, line))
-    return "".join(said)
+        written.append(reply(session, line))
+    return "".join(written)

@@ -55,10 +55,10 @@ def test_changes_are_numbered() -> None:
 
 def test_missing_and_watches() -> None:
     with Session.open(DICTIONARIES / "two_amounts.json") as session:
-        assert session.missing("/s") == ["/a", "/b"]
+        assert session.missing("/s").slots == ("/a", "/b")
         session.watch("completed", "/s")
         session.set("/a", 1)
-        assert (session.missing("/s"), session.fired) == (["/b"], ())
+        assert (session.missing("/s").slots, session.fired) == (("/b",), ())
         session.set("/b", 2)
         assert session.fired == (Watch("completed", "/s"),)
         refused(17, "WatchThere", None, session.watch, "completed", "/s")
@@ -159,7 +159,7 @@ def test_a_reply_longer_than_the_room() -> None:
     uses = [["Dependency", path] for path in paths]
     facts = [*({"path": path, "writable": "Int"} for path in paths), {"path": "/s", "derived": "Int", "is": ["Add", *uses]}]
     with Session(json.dumps({"version": "1", "facts": facts})) as session:
-        assert session.missing("/s") == paths
+        assert list(session.missing("/s")) == paths
 
 
 def test_lines() -> None:

@@ -47,6 +47,7 @@ CALLS: dict[str, Callable[[Session], object]] = {
     "final": lambda session: session.final("/a"),
     "missing": lambda session: session.missing("/s"),
     "members": lambda session: session.members("/p"),
+    "why": lambda session: session.why("/s"),
     "reads": lambda session: session.reads("/s"),
     "stamp": lambda session: session.stamp("/a"),
     "touched": lambda session: session.touched(),

@@ -15,6 +15,7 @@ from fact_graph import Refused, Session
 
 from .calls import reply
 from .dictionaries import VALUES, dictionaries
+from .trees import agree
 
 FULL = "refused 13 NothingToUndo\n"
 PATHS = ("/nowhere", "/c", "/c/#1/f0", "/c/#99/f3", "/d/#2/f1", "f1", "/c/*/f1", "/f1 ", "/c/#0/f1", "/c/#1000001/f1")
@@ -123,9 +124,11 @@ class Sessions(RuleBasedStateMachine):
 
     @rule(data=st.data())
     def why(self, data: st.DataObject) -> None:
-        """Which slots a slot reads."""
+        """Which slots a slot reads, and the trees of all that is read for it."""
         slot = self.slot(data)
         assert reads(self.by_lines, slot) == reads(self.by_calls, slot) == self.plain.reads(slot)
+        if slot in self.by_calls:
+            agree(self.by_calls, self.plain, slot)
 
     @rule(data=st.data(), verb=st.sampled_from(("watch", "watch", "unwatch")), name=st.sampled_from(("changed", "completed", "lost", "raised", "moved", "")))
     def watch(self, data: st.DataObject, verb: str, name: str) -> None:

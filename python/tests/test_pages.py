@@ -8,7 +8,9 @@ from pathlib import Path
 from typing import NamedTuple
 
 import pytest
+import write_commands
 
+from .conftest import fresh, pip
 from .places import TOP
 
 # A block of code with a block of text behind it, which is what it prints.
@@ -60,6 +62,18 @@ def test_in_c(block: Block, library: Path, outside: Path, tmp_path: Path) -> Non
     flags = ["-std=c11", "-Wall", "-Wextra", "-Werror", f"-I{header}", f"-Wl,-rpath,{library.parent}"]
     subprocess.run(["cc", *flags, source, library, "-o", host], check=True)
     assert subprocess.run([host], capture_output=True, text=True, check=True, cwd=outside).stdout == block.text
+
+
+def test_the_first_commands_at_a_terminal(distributions: Path, tmp_path: Path, bare: dict[str, str]) -> None:
+    """They show what the page says where the wheel is installed, with what the command line needs and without the repository."""
+    python = fresh(tmp_path / "environment", with_system=True)
+    [wheel] = distributions.glob("*.whl")
+    pip(python, "install", str(wheel))
+    environment = {**bare, "PATH": f"{python.parent}:{bare['PATH']}", "COLUMNS": "100"}
+    [block] = write_commands.BLOCK.findall((TOP / "docs" / "PYTHON.md").read_text())
+    (tmp_path / "folder").mkdir()
+    assert [*write_commands.shown(block, tmp_path / "folder", environment)] == block.splitlines()
+    assert (tmp_path / "folder" / "status.svg").read_bytes() == (TOP / "docs" / "status.svg").read_bytes()
 
 
 def test_the_pages_of_the_package_have_examples() -> None:

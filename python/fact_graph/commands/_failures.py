@@ -2,12 +2,15 @@
 
 from __future__ import annotations
 
+import contextlib
 import os
 import sys
+from collections.abc import Iterator
 
 import click
 
 from ..errors import DictionaryRefused, LibraryMissing, OutOfMemory, Refused, SavedRefused, SessionClosed
+from ..faults.texts import text_of_refusal
 from ..status import Status
 
 STATUSES = (
@@ -35,6 +38,15 @@ class Failed(click.ClickException):
     def show(self, file: object = None) -> None:
         """Prints the line."""
         click.echo(f"fact-graph: {self.message}", err=True)
+
+
+@contextlib.contextmanager
+def naming(slot: str) -> Iterator[None]:
+    """A block that asks for a slot which the command line named: where that is refused, the command ends and says why."""
+    try:
+        yield
+    except Refused as refused:
+        raise Failed(Status.COMMAND_REFUSED, f"{slot}: {refused}: {text_of_refusal(refused.number).says}") from refused
 
 
 def status_of(wrong: Exception) -> int:

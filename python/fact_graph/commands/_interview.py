@@ -85,8 +85,8 @@ class Interview:
         return text, {"placeholder": "estimate", "incomplete": "open"}.get(word, word)
 
     def missing(self) -> list[str]:
-        """The slots that the figures want, in the order of the figures and of the rules."""
-        return list(dict.fromkeys(it for slot in self.asked() for it in self.session.missing(slot)))
+        """The slots that the figures want which aren't final yet, in the order of the figures and of the rules."""
+        return list(dict.fromkeys(it for slot in self.asked() if self.session.final(slot) is None for it in self.session.missing(slot)))
 
     def next(self) -> Question | None:
         """The question that is next, or None where all that are missing were left out."""

@@ -4,30 +4,26 @@ from __future__ import annotations
 
 import click
 
-from ..errors import Refused
-from ..faults.texts import text_of_refusal
-from ..session import Session
-from ..status import Status
-from ._failures import Failed
+from ._failures import naming
 from ._rules import Rules, rules_argument, saved_option
+from ._scripts import coloured
 
 
 @click.command()
 @rules_argument
 @click.argument("slots", metavar="SLOT..", nargs=-1, required=True)
 @saved_option
-def command(rules: Rules, slots: tuple[str, ...], saved: bytes | None) -> None:
+@click.option("--tree", "is_tree", is_flag=True, help="Shows by way of what each SLOT wants them, as why does.")
+def command(rules: Rules, slots: tuple[str, ...], saved: bytes | None, is_tree: bool) -> None:
     """Lists the answers that figures still want.
 
     They are those of the first SLOT in the order of the rules, then what the others want beside them.
     """
     with rules.session(saved) as session:
-        for answer in dict.fromkeys(answer for slot in slots for answer in _missing(session, slot)):
-            click.echo(answer)
-
-
-def _missing(session: Session, slot: str) -> list[str]:
-    try:
-        return session.missing(slot)
-    except Refused as refused:
-        raise Failed(Status.COMMAND_REFUSED, f"{slot}: {refused}: {text_of_refusal(refused.number).says}") from refused
+        found = []
+        for slot in slots:
+            with naming(slot):
+                found.append(session.missing(slot))
+    lines = (line for it in found for line in it.tree.lines(coloured)) if is_tree else dict.fromkeys(answer for it in found for answer in it)
+    for line in lines:
+        click.echo(line)

@@ -12,7 +12,7 @@ import subprocess
 import sys
 import termios
 import time
-from collections.abc import Sequence
+from collections.abc import Mapping, Sequence
 from pathlib import Path
 
 import pyte  # type: ignore[import] # Debian has no types of it
@@ -25,16 +25,18 @@ ROWS, COLUMNS = 200, 100
 
 
 class Terminal:
-    """A command of `fact-graph` that runs at a terminal of its own, for a user with this home."""
+    """A command of `fact-graph` that runs at a terminal of its own, for a user with this home: the one of an environment, else that of
+    the sources."""
 
-    def __init__(self, words: Sequence[str], home: Path, folder: Path | None = None) -> None:
+    def __init__(self, words: Sequence[str], home: Path, folder: Path | None = None, environment: Mapping[str, str] | None = None) -> None:
         self.ours, theirs = pty.openpty()
         fcntl.ioctl(theirs, termios.TIOCSWINSZ, struct.pack("HHHH", ROWS, COLUMNS, 0, 0))
         terminal = {"TERM": "xterm-256color", "COLUMNS": str(COLUMNS), "PROMPT_TOOLKIT_NO_CPR": "1"}
-        environment = {**os.environ, **terminal, "PYTHONPATH": str(PACKAGE), "HOME": str(home)}
-        environment.pop("XDG_STATE_HOME", None)
+        command = ["fact-graph"] if environment else [sys.executable, "-m", "fact_graph"]
+        given = {**(environment or {**os.environ, "PYTHONPATH": str(PACKAGE)}), **terminal, "HOME": str(home)}
+        given.pop("XDG_STATE_HOME", None)
         self.process = subprocess.Popen(  # pylint: disable=consider-using-with # it ends with the terminal
-            [sys.executable, "-m", "fact_graph", *words], stdin=theirs, stdout=theirs, stderr=theirs, env=environment, cwd=folder, start_new_session=True
+            [*command, *words], stdin=theirs, stdout=theirs, stderr=theirs, env=given, cwd=folder, start_new_session=True
         )
         os.close(theirs)
         self.raw = ""

@@ -40,12 +40,12 @@ def chain(length: int) -> str:
     [
         (
             ["/d", "--saved", "mine"],
-            ["/d complete 17", "  /c complete 11", "    /b complete 6", "      /a complete 5", "    /a complete 5", "  /b complete 6 (above)"],
+            ["/d final 17", "  /c final 11", "    /b final 6", "      /a final 5", "    /a final 5", "  /b final 6 (above)"],
         ),
-        (["/d", "--saved", "mine", "--depth", "1"], ["/d complete 17", "  /c complete 11 (reads 2)", "  /b complete 6 (reads 1)"]),
-        (["/d", "--saved", "mine", "--depth", "0"], ["/d complete 17 (reads 2)"]),
-        (["/a", "--saved", "mine", "--depth", "0"], ["/a complete 5"]),
-        (["/c"], ["/c incomplete", "  /b incomplete", "    /a incomplete", "  /a incomplete"]),
+        (["/d", "--saved", "mine", "--depth", "1"], ["/d final 17", "  /c final 11 (reads 2)", "  /b final 6 (reads 1)"]),
+        (["/d", "--saved", "mine", "--depth", "0"], ["/d final 17 (reads 2)"]),
+        (["/a", "--saved", "mine", "--depth", "0"], ["/a final 5"]),
+        (["/c"], ["/c incomplete", "  /b incomplete", "    /a incomplete (missing)", "  /a incomplete (missing)"]),
     ],
 )
 def test_what_a_figure_rests_on(words: list[str], due: list[str], capsys: Shown) -> None:
@@ -53,10 +53,19 @@ def test_what_a_figure_rests_on(words: list[str], due: list[str], capsys: Shown)
     assert capsys.readouterr().out.splitlines() == due
 
 
+@pytest.mark.usefixtures("folder")
+def test_what_leads_to_a_missing_answer(capsys: Shown) -> None:
+    assert main(["missing", "d.json", "/b", "/c", "--tree"]) == Status.DONE
+    due = ["/b incomplete", "  /a incomplete (missing)", "/c incomplete", "  /b incomplete", "    /a incomplete (missing)", "  /a incomplete (missing)"]
+    assert capsys.readouterr().out.splitlines() == due
+    assert main(["missing", "d.json", "/b", "--saved", "mine", "--tree"]) == Status.DONE
+    assert capsys.readouterr().out == "/b final 6\n"
+
+
 def test_a_long_chain_is_shown(folder: Path, capsys: Shown) -> None:
     (folder / "long.json").write_text(chain(2_000))
     assert main(["why", "long.json", "/f1999"]) == Status.DONE
-    assert capsys.readouterr().out.splitlines()[-1] == "  " * 1_999 + "/f0 incomplete"
+    assert capsys.readouterr().out.splitlines()[-1] == "  " * 1_999 + "/f0 incomplete (missing)"
 
 
 @pytest.mark.usefixtures("folder")
@@ -102,4 +111,4 @@ def test_answers_of_a_year_are_saved_and_asked_why(folder: Path, capsys: Shown) 
     assert main(["save", "year", "2023", str(EXAMPLES / "years" / "2023.script")]) == Status.DONE
     (folder / "couple").write_text(capsys.readouterr().out)
     assert main(["why", "year", "2023", "/standardDeduction", "--saved", "couple", "--depth", "0"]) == Status.DONE
-    assert capsys.readouterr().out.startswith("/standardDeduction complete 30700.00 (reads ")
+    assert capsys.readouterr().out.startswith("/standardDeduction final 30700.00 (reads ")

@@ -6,10 +6,10 @@ In a case the mark ¦ stands before the part that is wrong.
 
 import json
 import re
-import sys
 from pathlib import Path
 
 import pytest
+import write_faults
 
 from fact_graph import DictionaryRefused, Session
 from fact_graph.errors import FAULT_NAMES
@@ -18,9 +18,6 @@ from fact_graph.faults import Examined
 from fact_graph.faults.texts import tables, text_of_fault, text_of_refusal
 
 TOP = Path(__file__).resolve().parents[3]
-sys.path.insert(0, str(TOP / "dev"))
-
-import write_faults  # noqa: E402 # pylint: disable=wrong-import-position # its folder comes first
 
 MEMBERS = '{"path":"/c","writable":"Collection"},{"path":"/c/*/k","writable":"Boolean"},{"path":"/c/*/v","writable":"Int"}'
 ENUMS = '"enums":[{"name":"size","options":["small","large"]}],'
