@@ -46,6 +46,7 @@ module _ (d : Tree) (fact : ℕ) (has_types : HaveFactTypes d) where
   stands_for t u h k = record {
     result = λ results own inner. (same d fact results t 0 (node_place own inner) u k).0;
     weight = λ results own inner. (same d fact results t 0 (node_place own inner) u k).1;
+    visits = λ results own inner. (same d fact results t 0 (node_place own inner) u k).2;
     typed = λ dom results at cells. record {
       type_of = u;
       node = node_type d fact has_types t 0 None u h k 0;

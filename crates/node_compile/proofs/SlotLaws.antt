@@ -1,12 +1,12 @@
--- What a slot gives and weighs, by the nodes of its fact.
-use Rattle.std.proofs.Common.{◌≡◌, ℕ, ◌+◌, List, Option, Some, None, refl, sym, ap, subst, ◌∙◌}
+-- What a slot gives and weighs, and the nodes that its evaluation visits, by the nodes of its fact.
+use Rattle.std.proofs.Common.{◌≡◌, ℕ, ◌+◌, if◌then◌else◌, List, Option, Some, None, refl, sym, ap, subst, ◌∙◌}
 use Rattle.std.specs.Prelude.{option_and_then}
 use Rattle.fact_values.specs.declared.slot.Slot.{Slot}
 use Rattle.dict_tree.specs.Dictionary.{Dictionary as Tree}
 use Rattle.dict_tree.specs.Facts.{Fact, Stated}
 use Rattle.dict_tree.specs.Finding.{fact_at}
 use Rattle.dict_tree.specs.Tree.{Source}
-use Rattle.three_state.specs.Results.{down}
+use Rattle.three_state.specs.Results.{down, is_incomplete}
 use Rattle.three_state.specs.declared.res.Res.{Res}
 use Rattle.three_state.specs.declared.res.Res.TheVariants.{Complete, Placeholder, Incomplete, Fault}
 use Rattle.answers.specs.Answered.{Answered, value_of}
@@ -16,11 +16,12 @@ use Rattle.dictionary.specs.Fits.{AnswersFit, domains}
 use Rattle.dictionary.specs.Plain.{at_fact, body, main_result, or_override, or_placeholder, plain}
 use Rattle.dictionary.specs.Weights.{expression_weight}
 use Rattle.dictionary.proofs.TypedResultLaws.{plain_typed}
+use Rattle.visit_counts.specs.SlotVisits.{body_visits, placeholder_visits, unless_given}
 use Rattle.node_eval.specs.Results.{Results}
 use Rattle.node_eval.specs.View.{Compiled as NodeTree}
 use Rattle.node_eval.specs.declared.eval_position.EvalPosition.{EvalPosition as NodePlace}
 use Rattle.node_compile.specs.Compiled.{IsCompiled, IsNodeOf, main_of, placeholder_of}
-use Rattle.node_compile.specs.Laws.{MeetsTypes, NodesGiveSlots, NodesMeetTypes, NodesWeighSlots, main_node_result, node_weight, or_placeholder_node}
+use Rattle.node_compile.specs.Laws.{MeetsTypes, NodesGiveSlots, NodesMeetTypes, NodesVisitSlots, NodesWeighSlots, main_node_result, main_node_visits, node_weight, or_placeholder_node, placeholder_node_visits}
 use Rattle.node_compile.specs.declared.compiled.Compiled.{Compiled}
 
 -- ---- the nodes of a fact that is there
@@ -72,6 +73,29 @@ both_weigh d a s main placeholder (Some f) h k =
 
 pub nodes_weigh_slots : NodesWeighSlots
 nodes_weigh_slots d c is a s = both_weigh d a s (main_of c s.fact) (placeholder_of c s.fact) (fact_at d.tree.facts s.fact) (is.main s.fact) (is.placeholder s.fact)
+
+-- ---- visits
+
+main_visits : (d : Tree) (a : Answered) (results : Results) (s : Slot) (o : Option Source) (n : Option NodeTree) → IsNodeOf d s.fact o n → body_visits d a results s o ≡ main_node_visits a results s n
+main_visits d a results s None None h = refl
+main_visits d a results s None (Some node) h = absurd h
+main_visits d a results s (Some t) None h = absurd h
+main_visits d a results s (Some t) (Some node) h = ap (unless_given (value_of Override a s)) (sym (h.visits results s.member 0))
+
+stand_in_visits : (d : Tree) (results : Results) (s : Slot) (o : Option Source) (n : Option NodeTree) → IsNodeOf d s.fact o n → (r : Res) → placeholder_visits d results s o r ≡ placeholder_node_visits results s n r
+stand_in_visits d results s None None h r = refl
+stand_in_visits d results s None (Some node) h r = absurd h
+stand_in_visits d results s (Some t) None h r = absurd h
+stand_in_visits d results s (Some t) (Some node) h r = ap (λ n. if is_incomplete r then n else 0) (sym (h.visits results s.member 0))
+
+pub nodes_visit_slots : NodesVisitSlots
+nodes_visit_slots d c is a results s f e =
+    let main = main_node d c is s.fact f e in
+    let placeholder = placeholder_node d c is s.fact f e in
+    ap (λ n. n + placeholder_visits d results s f.placeholder (main_result d a results s f.stated (body f))) (main_visits d a results s (body f) (main_of c s.fact) main)
+    ∙ ap (λ n. main_node_visits a results s (main_of c s.fact) + n)
+    (ap (placeholder_visits d results s f.placeholder) (by_main d a results s f.stated (body f) (main_of c s.fact) main)
+    ∙ stand_in_visits d results s f.placeholder (placeholder_of c s.fact) placeholder (main_node_result a results s f.stated (main_of c s.fact)))
 
 -- ---- types
 

@@ -9,6 +9,7 @@ use Rattle.dict_types.specs.StatedTypes.{type_at}
 use Rattle.dict_types.specs.Typed.{numbered}
 use Rattle.evaluation.specs.Over.{over, weight}
 use Rattle.evaluation.specs.Typed.{Domains}
+use Rattle.evaluation.specs.Visits.{visits}
 use Rattle.dictionary.specs.Plain.{body}
 use Rattle.dictionary.specs.Dependencies.{EvalPosition, source_env}
 use Rattle.node_eval.specs.Results.{Results}
@@ -41,11 +42,12 @@ place own inner = record { base = 0; own = own; inner = inner }
 abbrev pub HasTypedCells : Domains → FactTypes → Results → Type 0
 HasTypedCells dom facts results = (s : Slot) → IsTypedCell dom facts results s
 
--- The node gives the result of an expression of the fact over any cells, and weighs as much. Over cells of the right types
--- it meets the condition of evaluation.
+-- The node gives the result of an expression of the fact over any cells, weighs as much, and its evaluation visits as many nodes.
+-- Over cells of the right types it meets the condition of evaluation.
 pub record StandsFor (d : Tree) (fact : ℕ) (t : Source) (node : NodeTree) : Type 0 where
   pub result : (results : Results) (own inner : ℕ) → over (node_env results) (node_place own inner) node ≡ over (source_env d results fact) (place own inner) t
   pub weight : (results : Results) (own inner : ℕ) → weight (node_env results) (node_place own inner) node ≡ weight (source_env d results fact) (place own inner) t
+  pub visits : (results : Results) (own inner : ℕ) → visits (node_env results) (node_place own inner) node ≡ visits (source_env d results fact) (place own inner) t
   pub typed : (dom : Domains) (results : Results) (at : NodePlace) → HasTypedCells dom (type_at d) results → IsTyped dom (type_at d) results at node
 
 -- there is a node exactly where there is an expression, for which it stands

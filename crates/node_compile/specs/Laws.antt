@@ -1,20 +1,22 @@
 -- Whole facts by their nodes.
-use Rattle.std.specs.Prelude.{◌≡◌, ℕ, ◌+◌, List, Option, Some, None}
+use Rattle.std.specs.Prelude.{◌≡◌, ℕ, ◌+◌, if◌then◌else◌, List, Option, Some, None}
 use Rattle.fact_values.specs.declared.slot.Slot.{Slot}
 use Rattle.dict_tree.specs.Dictionary.{Dictionary as Tree}
 use Rattle.dict_tree.specs.Facts.{Fact, Stated}
 use Rattle.dict_tree.specs.Finding.{fact_at}
 use Rattle.dict_types.specs.StatedTypes.{type_at}
-use Rattle.three_state.specs.Results.{down}
+use Rattle.three_state.specs.Results.{down, is_incomplete}
 use Rattle.three_state.specs.declared.res.Res.{Res}
 use Rattle.three_state.specs.declared.res.Res.TheVariants.{Complete, Placeholder, Incomplete, Fault}
 use Rattle.evaluation.specs.Over.{over, weight}
+use Rattle.evaluation.specs.Visits.{visits}
 use Rattle.answers.specs.Answered.{Answered, value_of}
 use Rattle.answers.specs.declared.edit.Side.TheVariants.{Override}
 use Rattle.dictionary.specs.Accepted.{Accepted, IsAccepted}
 use Rattle.dictionary.specs.Fits.{AnswersFit, domains}
 use Rattle.dictionary.specs.Plain.{answer_result, given_value, or_override, plain, slot_result}
 use Rattle.dictionary.specs.Weights.{slot_weight}
+use Rattle.visit_counts.specs.SlotVisits.{unless_given, visits_over}
 use Rattle.node_eval.specs.Results.{Results}
 use Rattle.node_eval.specs.NodeTypes.{IsTyped}
 use Rattle.node_eval.specs.Dependencies.{node_env}
@@ -55,6 +57,25 @@ node_weight results s (Some node) = weight (node_env results) (node_place s.memb
 abbrev pub weight_by_nodes : Compiled → Results → Slot → ℕ
 weight_by_nodes c results s = node_weight results s (main_of c s.fact) + node_weight results s (placeholder_of c s.fact)
 
+-- ---- the nodes that its evaluation visits
+
+abbrev pub node_visits : Results → Slot → NodeTree → ℕ
+node_visits results s node = visits (node_env results) (node_place s.member 0) node
+
+-- of the main node: none where there is no such node, or where an override stands in its place
+abbrev pub main_node_visits : Answered → Results → Slot → Option NodeTree → ℕ
+main_node_visits a results s None = 0
+main_node_visits a results s (Some node) = unless_given (value_of Override a s) (node_visits results s node)
+
+-- of the placeholder's node, which is evaluated where the main result is incomplete
+abbrev pub placeholder_node_visits : Results → Slot → Option NodeTree → Res → ℕ
+placeholder_node_visits results s None r = 0
+placeholder_node_visits results s (Some node) r = if is_incomplete r then node_visits results s node else 0
+
+abbrev pub visits_by_nodes : Compiled → Answered → Results → Slot → Stated → ℕ
+visits_by_nodes c a results s stated =
+    main_node_visits a results s (main_of c s.fact) + placeholder_node_visits results s (placeholder_of c s.fact) (main_node_result a results s stated (main_of c s.fact))
+
 -- ---- laws
 
 -- over any map, a slot's result is that of its fact's nodes
@@ -67,6 +88,12 @@ NodesGiveSlots =
 abbrev pub NodesWeighSlots : Type 0
 NodesWeighSlots =
     (d : Accepted) (c : Compiled) → IsCompiled d.tree c → (a : Answered) (s : Slot) → slot_weight d a s ≡ weight_by_nodes c (plain d a) s
+
+-- over any map, the evaluation of a slot visits as many of the nodes
+abbrev pub NodesVisitSlots : Type 0
+NodesVisitSlots =
+    (d : Tree) (c : Compiled) → IsCompiled d c → (a : Answered) (results : Results) (s : Slot) (f : Fact) → fact_at d.facts s.fact ≡ Some f
+    → visits_over d a results s f ≡ visits_by_nodes c a results s f.stated
 
 -- the condition of evaluation, where there is a node
 abbrev pub MeetsTypes : Accepted → Answered → NodePlace → Option NodeTree → Type 0

@@ -1,11 +1,12 @@
 // Laws of whole facts. Each function's contract is the theorem.
-ghost use Rattle.node_compile.specs.Laws.{NodesGiveSlots, NodesMeetTypes, NodesWeighSlots};
+ghost use Rattle.node_compile.specs.Laws.{NodesGiveSlots, NodesMeetTypes, NodesVisitSlots, NodesWeighSlots};
 
 /// A slot's result is that of its fact's main node, or the override, the answer or the placeholder's,
-/// and its weight is that of the nodes.
+/// its weight is that of the nodes, and its evaluation visits as many of them.
 pub fn nodes_give_slots()
     ensures result { NodesGiveSlots }
     ensures weight { NodesWeighSlots }
+    ensures visits { NodesVisitSlots }
 {}
 
 /// Whatever answers stand, over the results of plain evaluation each node meets the condition of

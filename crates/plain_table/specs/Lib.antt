@@ -3,5 +3,4 @@ pub mod TableContext
 pub mod Context
 pub mod NodeReads
 pub mod Noted
-pub mod SlotVisits
 pub mod Table

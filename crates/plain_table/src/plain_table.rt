@@ -6,8 +6,8 @@ ghost use Rattle.answers.specs.WellFormed.{FromOne, WellFormed};
 ghost use Rattle.dictionary.specs.Accepted.{Accepted, accepted};
 ghost use Rattle.dictionary.specs.Plain.{plain};
 ghost use Rattle.dictionary.specs.Weights.{whole_weight};
+ghost use Rattle.visit_counts.specs.SlotVisits.{whole_visits};
 ghost use Rattle.plain_table.specs.Filling.{HasAll, no_marks};
-ghost use Rattle.plain_table.specs.SlotVisits.{whole_visits};
 ghost use Rattle.plain_table.specs.Table.{results_of};
 
 use crate::table::Table;

@@ -10,9 +10,9 @@ ghost use Rattle.dict_tree.specs.View.{view};
 ghost use Rattle.evaluation.specs.Over.{over, weight};
 ghost use Rattle.dictionary.specs.Plain.{body, conditional_body, main_result, or_override, or_placeholder, slot_result};
 ghost use Rattle.dictionary.specs.Dependencies.{outermost, slot};
+ghost use Rattle.visit_counts.specs.SlotVisits.{body_visits, placeholder_visits, visits_over};
 ghost use Rattle.plain_table.specs.TableContext.{context_on};
 ghost use Rattle.plain_table.specs.Context.{env_of, option_weight};
-ghost use Rattle.plain_table.specs.SlotVisits.{body_visits, placeholder_visits, visits_over};
 
 use crate::body::eval_body;
 use crate::context::TableContext;

@@ -10,8 +10,8 @@ ghost use Rattle.dictionary.specs.Plain.{IsPlainBelow, rank};
 ghost use Rattle.dictionary.specs.Dependencies.{slot};
 ghost use Rattle.dictionary.specs.Slots.{members_of_home, slot_same, slots_of, stands};
 ghost use Rattle.dictionary.specs.Weights.{slot_weight, whole_weight};
+ghost use Rattle.visit_counts.specs.SlotVisits.{slot_visits, whole_visits};
 ghost use Rattle.plain_table.specs.Filling.{HasAll, IsFilled, is_at};
-ghost use Rattle.plain_table.specs.SlotVisits.{slot_visits, whole_visits};
 ghost use Rattle.plain_table.specs.Table.{results_of};
 
 use crate::context::TableContext;

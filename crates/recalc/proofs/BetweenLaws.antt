@@ -1,5 +1,5 @@
 -- The change from answers to answers spreads as a loop has to know, and the loop leaves what is defined.
-use Rattle.std.proofs.Common.{◌≡◌, ℕ, Bool, true, false, not, ◌&&◌, ◌||◌, if◌then◌else◌, IsTrue, List, [], ◌∷◌, length, sum_by, None, is_some, refl, sym, ap, subst, ◌∙◌}
+use Rattle.std.proofs.Common.{◌≡◌, ℕ, Bool, true, false, not, ◌&&◌, ◌||◌, if◌then◌else◌, IsTrue, List, [], ◌∷◌, length, filter, sum_by, None, is_some, refl, sym, ap, subst, ◌∙◌}
 use Rattle.std.specs.List.{list_any}
 use Rattle.common_lemmas.proofs.Bools.{and_true, both_left, both_right}
 use Rattle.common_lemmas.proofs.Lists.{same_filter}
@@ -20,7 +20,6 @@ use Rattle.dictionary.specs.Slots.{stands, standing}
 use Rattle.dictionary.specs.Steady.{steady}
 use Rattle.dictionary.specs.Touched.{has_moved, same_entry, touched, touches}
 use Rattle.dictionary.specs.Undone.{is_extended, is_touched_first, IsUndone}
-use Rattle.dictionary.specs.Weights.{slot_weight}
 use Rattle.dictionary.proofs.ExtensionLaws.{equal_same, test_tells_extends}
 use Rattle.dictionary.proofs.FeedLaws.{feeds_fall}
 use Rattle.dictionary.proofs.PlainLaws.{standing_have_results}
@@ -162,6 +161,14 @@ start_passes_from names d accepted b fit = record {
 pub start_passes : StartPasses
 start_passes names d accepted b fit old h = subst (λ results. IsTransition d b false results (from_nothing d b)) (sym (everywhere h)) (start_passes_from names d accepted b fit)
 
+-- it touches all slots
+all_touched : (d : Accepted) (b : Answered) (ss : List Slot) → filter (is_touched (from_nothing d b)) ss ≡ ss
+all_touched d b [] = refl
+all_touched d b (s ∷ ss) = ap (λ (ts : List Slot). s ∷ ts) (all_touched d b ss)
+
+pub start_touches_all : (d : Accepted) (b : Answered) → touched_of (from_nothing d b) ≡ standing d.tree b
+start_touches_all d b = all_touched d b (standing d.tree b)
+
 -- ---- the end
 
 same_touched : (d : Accepted) (a b : Answered) → touched_of (between d a b) ≡ touched d a b
@@ -183,4 +190,4 @@ all_is_done names d a b is done dirty m none =
     }
 
 pub touched_weigh : TouchedWeigh
-touched_weigh d a b = ap (sum_by (slot_weight d b)) (same_touched d a b)
+touched_weigh d a b weight = ap (sum_by weight) (same_touched d a b)

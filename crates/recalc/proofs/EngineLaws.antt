@@ -1,5 +1,5 @@
 -- From the cells that stand for answers, the loop leads to those that stand for the answers after a change.
-use Rattle.std.proofs.Common.{◌≡◌, ℕ, Bool, true, false, not, ◌&&◌, nat_eq, if◌then◌else◌, IsTrue, List, [], length, Option, Some, None, option_map, is_some, unwrap_or, refl, sym, ap, subst, ◌∙◌}
+use Rattle.std.proofs.Common.{◌≡◌, ℕ, Bool, true, false, not, ◌&&◌, nat_eq, if◌then◌else◌, IsTrue, List, [], length, sum_by, Option, Some, None, option_map, is_some, unwrap_or, refl, sym, ap, subst, ◌∙◌}
 use Rattle.std.specs.List.{list_any}
 use Rattle.std.specs.FinMap as finite
 use Rattle.std.proofs.lemmas.Bool.{not-false}
@@ -19,19 +19,20 @@ use Rattle.dictionary.specs.Plain.{plain}
 use Rattle.dictionary.specs.Slots.{stands}
 use Rattle.dictionary.specs.Touched.{stamped, touched_count}
 use Rattle.dictionary.specs.Undone.{came, is_touched_first, IsUndone, went}
-use Rattle.dictionary.specs.Weights.{touched_weight}
+use Rattle.dictionary.specs.Weights.{slot_weight, touched_weight}
 use Rattle.dictionary.proofs.PlainLaws.{standing_have_results}
 use Rattle.dictionary.proofs.UndoneLaws.{came_tells, went_tells}
+use Rattle.visit_counts.specs.SlotVisits.{slot_visits, touched_visits, whole_visits}
 use Rattle.recalc.specs.BetweenAnswers.{between, from_nothing, results_before}
 use Rattle.recalc.specs.Marking.{IsMarked}
 use Rattle.recalc.specs.Replacing.{entries, slots_of}
-use Rattle.recalc.specs.Running.{AreCells, AreRanked, AreWaiting, propagation_weight, HasRun, IsPropagation, IsRunning, is_that, live_results, Setting, slots_done, stamped_cell, waits_in}
+use Rattle.recalc.specs.Running.{AreCells, AreRanked, AreWaiting, propagation_visits, propagation_weight, HasRun, IsPropagation, IsRunning, is_that, live_results, Setting, slots_done, stamped_cell, waits_in}
 use Rattle.recalc.specs.Spread.{is_in, Spread}
 use Rattle.recalc.specs.EngineInvariant.{results_of, setting_from, stamp_in, start_setting, without_gone}
 use Rattle.recalc.specs.Waiting.{DirtySlots}
 use Rattle.recalc.specs.declared.engine_state.EngineState.{EngineState}
 use Rattle.recalc.specs.declared.log.Replaced.{Replaced}
-use Rattle.recalc.proofs.BetweenLaws.{all_is_done, are_between, edit_marks, start_passes, touched_weigh, undone_passes}
+use Rattle.recalc.proofs.BetweenLaws.{all_is_done, are_between, edit_marks, start_passes, start_touches_all, touched_weigh, undone_passes}
 use Rattle.recalc.proofs.MarkingLaws.{start_marks}
 use Rattle.dictionary.proofs.PlainLaws.{no_result}
 use Rattle.recalc.proofs.SeedingLaws.{standing_in}
@@ -74,6 +75,10 @@ module _ (names : List (List ℕ)) (d : Accepted) (accepted : IsAccepted names d
   start_running none queue w =
       begins (start_setting d b) (from_nothing d b) (record old { queue = queue }) none
       (start_marks (from_nothing d b) (waits_in d queue) (λ s. w.slots s ∙ sym (and_true (stands d.tree b s)))) w.ranked
+
+-- each slot that stands is evaluated once
+pub start_visits : (d : Accepted) (b : Answered) → propagation_visits (start_setting d b) (from_nothing d b) ≡ whole_visits d b
+start_visits d b = ap (sum_by (slot_visits d b)) (start_touches_all d b)
 
 -- where no slot is done that isn't there, all stamps are those of the start
 pub start_stamps : (d : Accepted) (b : Answered) (first : Cells) → first ≡ no_cells → (state : EngineState)
@@ -135,7 +140,10 @@ module _ (names : List (List ℕ)) (d : Accepted) (accepted : IsAccepted names d
       (edit_marks names d accepted undo now u (waits_in d queue) w.slots) w.ranked
 
   pub change_weight : propagation_weight (setting_from d undo now gone stamp) (between d (applied undo now) now) ≡ touched_weight d (applied undo now) now
-  change_weight = touched_weigh d (applied undo now) now
+  change_weight = touched_weigh d (applied undo now) now (slot_weight d now)
+
+  pub change_visits : propagation_visits (setting_from d undo now gone stamp) (between d (applied undo now) now) ≡ touched_visits d (applied undo now) now
+  change_visits = touched_weigh d (applied undo now) now (slot_visits d now)
 
   -- ---- once it is made
 

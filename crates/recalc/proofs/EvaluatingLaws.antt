@@ -1,4 +1,5 @@
--- A slot that is evaluated over new results gets its new result, and that takes no more steps than it weighs.
+-- A slot that is evaluated over new results gets its new result, and that takes as many steps as it visits nodes, and no more than
+-- it weighs.
 use Rattle.std.proofs.Common.{◌≡◌, ℕ, ◌+◌, IsTrue, if◌then◌else◌, List, Option, Some, None, refl, sym, ap, ◌∙◌}
 use Rattle.fact_values.specs.declared.slot.Slot.{Slot}
 use Rattle.dict_tree.specs.Dictionary.{Dictionary as Tree}
@@ -14,11 +15,13 @@ use Rattle.dictionary.specs.Slots.{stands}
 use Rattle.dictionary.specs.Weights.{slot_weight}
 use Rattle.dictionary.proofs.PlainLaws.{step_over_lower}
 use Rattle.dictionary.proofs.WeightLaws.{fact_weight, weight_over, weight_over_lower}
+use Rattle.visit_counts.specs.SlotVisits.{slot_visits}
+use Rattle.visit_counts.proofs.SlotVisitLaws.{visits_over_lower}
 use Rattle.node_eval.specs.View.{Compiled as NodeTree}
 use Rattle.node_compile.specs.Compiled.{IsCompiled, IsNodeOf, main_of, placeholder_of}
-use Rattle.node_compile.specs.Laws.{node_weight, result_by_nodes, weight_by_nodes}
+use Rattle.node_compile.specs.Laws.{node_weight, result_by_nodes, visits_by_nodes, weight_by_nodes}
 use Rattle.node_compile.specs.declared.compiled.Compiled.{Compiled}
-use Rattle.node_compile.proofs.SlotLaws.{main_node, nodes_give_slots, placeholder_node}
+use Rattle.node_compile.proofs.SlotLaws.{main_node, nodes_give_slots, nodes_visit_slots, placeholder_node}
 
 one_weighs : (d : Tree) (results : Results) (s : Slot) (t : Option Source) (n : Option NodeTree) → IsNodeOf d s.fact t n → node_weight results s n ≡ weight_over d results s t
 one_weighs d results s None None h = refl
@@ -34,6 +37,9 @@ module _ (names : List (List ℕ)) (d : Accepted) (accepted : IsAccepted names d
       ∙ sym (ap (λ (o : Option Fact). at_fact o None (λ g. if stands d.tree a s then Some (slot_result d.tree a results s g) else None)) e
       ∙ ap (λ b. if b then Some (slot_result d.tree a results s f) else None) there)
       ∙ step_over_lower names d accepted a results s below
+
+  pub nodes_visit : visits_by_nodes c a results s f.stated ≡ slot_visits d a s
+  nodes_visit = sym (nodes_visit_slots d.tree c is a results s f e) ∙ visits_over_lower names d accepted a results s f e below
 
   pub nodes_weigh : weight_by_nodes c results s ≡ slot_weight d a s
   nodes_weigh =

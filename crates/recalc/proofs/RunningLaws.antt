@@ -19,12 +19,13 @@ use Rattle.dictionary.specs.Plain.{IsPlainBelow, plain, rank}
 use Rattle.dictionary.specs.Slots.{slot_same, stands}
 use Rattle.dictionary.specs.Weights.{slot_weight}
 use Rattle.dictionary.proofs.SlotLaws.{slot_same-equal}
+use Rattle.visit_counts.specs.SlotVisits.{slot_visits}
 use Rattle.recalc.specs.Laws.{touched_of}
 use Rattle.recalc.specs.Marking.{IsLeast, IsMarked, IsNext}
 use Rattle.recalc.specs.Transitions.{AreResults, is_shielded, moves}
 use Rattle.recalc.specs.Readers.{dirty_of, marks}
 use Rattle.recalc.specs.Replacing.{entries, slots_of}
-use Rattle.recalc.specs.Running.{AreCells, propagation_weight, HasTurned, IsPropagation, IsPopped, IsRunning, is_that, marks_now, live_results_in, Setting, slot_of, slots_done, stamped_cell, waits_in}
+use Rattle.recalc.specs.Running.{AreCells, propagation_visits, propagation_weight, HasTurned, IsPropagation, IsPopped, IsRunning, is_that, marks_now, live_results_in, Setting, slot_of, slots_done, stamped_cell, waits_in}
 use Rattle.recalc.specs.Spread.{is_in, Spread}
 use Rattle.recalc.specs.Waiting.{dirty_same, DirtySlots, waits}
 use Rattle.recalc.specs.declared.log.Replaced.{Replaced}
@@ -36,7 +37,7 @@ use Rattle.recalc.proofs.TransitionLaws.{all_new, feeds_now, new_below, number_o
 use Rattle.recalc.proofs.ReaderLaws.{marks_feed, marks_rank}
 use Rattle.recalc.proofs.ReplacingLaws.{slots_push}
 use Rattle.recalc.proofs.SlotLists.{either, in_push}
-use Rattle.recalc.proofs.WeighingLaws.{done_weigh_less, length_is}
+use Rattle.recalc.proofs.WeighingLaws.{done_weigh_all, done_weigh_less, length_is}
 
 -- ---- cells and the results that are live
 
@@ -56,6 +57,13 @@ dirty_is d dirty ranked q =
     (λ e. ap (λ n. nat_eq n (rank d q.fact)) (ranked ∙ ap (rank d) (same_number dirty.fact q.fact e)) ∙ equal_number (rank d q.fact))
     ∙ ap (λ x. x && nat_eq dirty.member q.member) (nat_eq-comm dirty.fact q.fact)
     ∙ ap (λ x. nat_eq q.fact dirty.fact && x) (nat_eq-comm dirty.member q.member)
+
+-- one slot more, by any measure
+pushed : (w : Slot → ℕ) (ss : List Slot) (s : Slot) → sum_by w (ss ++ s ∷ []) ≡ sum_by w ss + w s
+pushed w ss s =
+    let e : sum_by w (ss ++ s ∷ []) ≡ sum_by w ss + sum_by w (s ∷ []) = sum_by-append w ss (s ∷ []) in
+    let f : sum_by w (s ∷ []) ≡ w s + 0 = sum_by-cons w s [] in
+    omega (arith, e, f)
 
 module _ (k : Setting) (c : Spread) (first : Cells) (propagation : IsPropagation k c first) (state : EngineState) (run : IsRunning k c first state) where
   stands_done : (s : Slot) → IsTrue (is_in (slots_done state) s) → IsTrue (stands k.dict.tree k.now s)
@@ -108,24 +116,20 @@ module _ (k : Setting) (c : Spread) (first : Cells) (propagation : IsPropagation
     within : sum_by (slot_weight k.dict k.now) (slots_done state ++ slot_of dirty ∷ []) ≤ propagation_weight k c
     within = (done_weigh_less c propagation.transition.spreads (slots_done state) (waits_in k.dict state.queue) run.marked (slot_weight k.dict k.now)).1 (slot_of dirty) popped_waits
 
-    pub steps_after : (start before after : ℕ) → before ≤ start + sum_by (slot_weight k.dict k.now) (slots_done state) → after ≤ before + slot_weight k.dict k.now (slot_of dirty)
-        → after ≤ start + sum_by (slot_weight k.dict k.now) (slots_done state ++ slot_of dirty ∷ [])
-    steps_after start before after h l =
-        let e : sum_by (slot_weight k.dict k.now) (slots_done state ++ slot_of dirty ∷ []) ≡ sum_by (slot_weight k.dict k.now) (slots_done state) + sum_by (slot_weight k.dict k.now) (slot_of dirty ∷ []) =
-        sum_by-append (slot_weight k.dict k.now) (slots_done state) (slot_of dirty ∷ []) in
-        let f : sum_by (slot_weight k.dict k.now) (slot_of dirty ∷ []) ≡ slot_weight k.dict k.now (slot_of dirty) + 0 = sum_by-cons (slot_weight k.dict k.now) (slot_of dirty) [] in
-        omega (arith, h, l, e, f)
-
     pub steps_within : (start before after : ℕ) → before ≤ start + sum_by (slot_weight k.dict k.now) (slots_done state) → after ≤ before + slot_weight k.dict k.now (slot_of dirty)
         → after ≤ start + propagation_weight k c
-    steps_within start before after h l = let m = steps_after start before after h l in omega (arith, m, within)
+    steps_within start before after h l = omega (arith, h, l, pushed (slot_weight k.dict k.now) (slots_done state) (slot_of dirty), within)
 
     -- ---- once it is done
 
     module _ (rs : List ReaderOf) (are : AreReaders k.dict dirty.fact rs) (state' : EngineState)
         (turned : HasTurned k rs (slot_of dirty) (record state { queue = left }) state') where
-      pub now_done : slots_done state' ≡ slots_done state ++ slot_of dirty ∷ []
+      now_done : slots_done state' ≡ slots_done state ++ slot_of dirty ∷ []
       now_done = ap slots_of turned.kept ∙ slots_push (entries state.log) (record { slot = slot_of dirty; cell = finite.get state.store.cells (slot_of dirty) })
+
+      -- by any measure what is done is more by the slot
+      pub done_more : (w : Slot → ℕ) → sum_by w (slots_done state') ≡ sum_by w (slots_done state) + w (slot_of dirty)
+      done_more w = ap (sum_by w) now_done ∙ pushed w (slots_done state) (slot_of dirty)
 
       -- the cells
       choose : (q : Slot) (x y : Bool) → slot_same q (slot_of dirty) ≡ x
@@ -225,6 +229,10 @@ module _ (k : Setting) (c : Spread) (first : Cells) (propagation : IsPropagation
   module _ (none : (q : DirtySlot) → waits state.queue q ≡ false) where
     pub ended_new : (s : Slot) → live_results_in k state.store.cells s ≡ plain k.dict k.now s
     ended_new = all_new k.dict k.now k.extended (live_results_in k first) c propagation.transition (slots_done state) (waits_in k.dict state.queue) run.marked (live_results_in k state.store.cells) are_results (λ s. none (dirty_of k.dict s))
+
+    pub visits_ended : (start now : ℕ) → now ≡ start + sum_by (slot_visits k.dict k.now) (slots_done state) → now ≡ start + propagation_visits k c
+    visits_ended start now h =
+        h ∙ ap (λ n. start + n) (done_weigh_all c propagation.transition.spreads propagation.transition.once (slots_done state) (waits_in k.dict state.queue) run.marked (λ s. none (dirty_of k.dict s)) (slot_visits k.dict k.now))
 
   pub steps_ended : (start now : ℕ) → now ≤ start + sum_by (slot_weight k.dict k.now) (slots_done state) → now ≤ start + propagation_weight k c
   steps_ended start now h =

@@ -1,4 +1,4 @@
--- How many steps changes take at most, by example.
+-- How many steps changes take, by example.
 use Rattle.std.proofs.Common.{◌≡◌, ℕ, true, false, List, [], ◌∷◌, Some, None, pos}
 use Rattle.std.specs.Prelude.{codes, map as map_list}
 use Rattle.fact_paths.specs.Paths.{fact_path_text, use_path_text}
@@ -22,7 +22,7 @@ use Rattle.dictionary.specs.Extension.{extends}
 use Rattle.dictionary.specs.Plain.{plain, table}
 use Rattle.dictionary.specs.Slots.{standing}
 use Rattle.dictionary.specs.Steady.{steady_by_rank}
-use Rattle.dictionary.specs.Weights.{touched_weight}
+use Rattle.visit_counts.specs.SlotVisits.{touched_visits}
 
 -- ---- a rate, and a list of members, each with a test, a number, and the sum of that and the rate; those that pass the test, and
 -- their sums in all
@@ -91,21 +91,21 @@ passes v = (3, Boolean true) ∷ (4, Int (pos v)) ∷ []
 -- ---- steps
 
 -- one member's number: the three nodes of its sum, and the one that adds all sums up
-number_set : touched_weight sums (given 1 (passes 5) (passes 7)) (given 1 (passes 5) (passes 8)) ≡ 4
+number_set : touched_visits sums (given 1 (passes 5) (passes 7)) (given 1 (passes 5) (passes 8)) ≡ 4
 unfolding plain table standing extends steady_by_rank
 number_set = simp get_at
 
 -- the rate: three nodes for each member, and the one that adds their sums up
-rate_set : touched_weight sums (given 1 (passes 5) (passes 7)) (given 2 (passes 5) (passes 7)) ≡ 7
+rate_set : touched_visits sums (given 1 (passes 5) (passes 7)) (given 2 (passes 5) (passes 7)) ≡ 7
 unfolding plain table standing extends steady_by_rank
 rate_set = simp get_at
 
 -- a test: the Filter and its condition at each member, and the node that adds the sums up
-test_set : touched_weight sums (given 1 (passes 5) (passes 7)) (given 1 (passes 5) ((3, Boolean false) ∷ (4, Int (pos 7)) ∷ [])) ≡ 4
+test_set : touched_visits sums (given 1 (passes 5) (passes 7)) (given 1 (passes 5) ((3, Boolean false) ∷ (4, Int (pos 7)) ∷ [])) ≡ 4
 unfolding plain table standing extends steady_by_rank
 test_set = simp get_at
 
 -- the same value again
-same_again : touched_weight sums (given 1 (passes 5) (passes 7)) (given 1 (passes 5) (passes 7)) ≡ 0
+same_again : touched_visits sums (given 1 (passes 5) (passes 7)) (given 1 (passes 5) (passes 7)) ≡ 0
 unfolding plain table standing extends steady_by_rank
 same_again = simp get_at

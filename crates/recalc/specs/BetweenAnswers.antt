@@ -11,9 +11,8 @@ use Rattle.dictionary.specs.Fits.{AnswersFit}
 use Rattle.dictionary.specs.Plain.{plain, rank}
 use Rattle.dictionary.specs.Dependencies.{Results}
 use Rattle.dictionary.specs.Slots.{stands, standing}
-use Rattle.dictionary.specs.Touched.{has_moved, same_entry, stamped, touched_count, touches}
+use Rattle.dictionary.specs.Touched.{has_moved, same_entry, stamped, touched, touched_count, touches}
 use Rattle.dictionary.specs.Undone.{is_extended, is_touched_first, IsUndone}
-use Rattle.dictionary.specs.Weights.{slot_weight, touched_weight}
 use Rattle.recalc.specs.Spread.{Spread, is_in, is_touched, IsSpread, NoTwice}
 use Rattle.recalc.specs.Marking.{IsMarked}
 use Rattle.recalc.specs.Laws.{touched_of}
@@ -95,6 +94,6 @@ AllIsDone =
     (names : List (List ℕ)) (d : Accepted) (a b : Answered) → AreBetween names d a b
     → (done : List Slot) (dirty : Slot → Bool) → IsMarked (between d a b) done dirty → ((s : Slot) → dirty s ≡ false) → IsAllDone d a b done
 
--- what it touches weighs what the touched slots weigh
+-- what it touches weighs what the touched slots weigh, by any measure of a slot
 abbrev pub TouchedWeigh : Type 0
-TouchedWeigh = (d : Accepted) (a b : Answered) → sum_by (slot_weight d b) (touched_of (between d a b)) ≡ touched_weight d a b
+TouchedWeigh = (d : Accepted) (a b : Answered) (weight : Slot → ℕ) → sum_by weight (touched_of (between d a b)) ≡ sum_by weight (touched d a b)

@@ -13,6 +13,7 @@ use Rattle.dictionary.specs.Plain.{plain, rank}
 use Rattle.dictionary.specs.Dependencies.{Results, slot}
 use Rattle.dictionary.specs.Slots.{stands}
 use Rattle.dictionary.specs.Weights.{slot_weight}
+use Rattle.visit_counts.specs.SlotVisits.{slot_visits}
 use Rattle.recalc.specs.Laws.{touched_of}
 use Rattle.recalc.specs.Spread.{Spread, is_in}
 use Rattle.recalc.specs.Marking.{IsMarked}
@@ -100,9 +101,12 @@ pub record IsRunning (k : Setting) (c : Spread) (first : Cells) (w : EngineState
 abbrev pub put_now : Setting → Cells → Slot → Cells
 put_now k cells s = put_at cells s (option_map (stamped_cell k.stamp) (plain k.dict k.now s))
 
--- all that the change touches
+-- what all that the change touches weighs, and the nodes that its evaluation visits
 abbrev pub propagation_weight : Setting → Spread → ℕ
 propagation_weight k c = sum_by (slot_weight k.dict k.now) (touched_of c)
+
+abbrev pub propagation_visits : Setting → Spread → ℕ
+propagation_visits k c = sum_by (slot_visits k.dict k.now) (touched_of c)
 
 -- the slots that are shielded, and which slots a reader or all of these let wait
 abbrev pub shielded_in : Setting → Cells → Slot → Bool

@@ -5,6 +5,7 @@ ghost use Rattle.cell_store.specs.Contents.{no_cells};
 ghost use Rattle.dictionary.specs.Accepted.{accepted};
 ghost use Rattle.dictionary.specs.Fits.{AnswersFit};
 ghost use Rattle.dictionary.specs.Weights.{touched_weight};
+ghost use Rattle.visit_counts.specs.SlotVisits.{touched_visits, whole_visits};
 ghost use Rattle.recalc.specs.BetweenAnswers.{from_nothing};
 ghost use Rattle.recalc.specs.EngineInvariant.{EngineInvariant, IsGraphOf, IsIdle, start_setting};
 ghost use Rattle.recalc.specs.Replacing.{before, CanPutBack, entries};
@@ -25,8 +26,38 @@ use std::alloc::Global;
 use std::sync::ledger::{Blank, Ledger};
 use steps::Steps;
 
-/// The results of all slots, with the stamp 0, where the steps are counted for nobody.
+/// The results of all slots, with the stamp 0.
 pub fn start<'a, L: Ledger>(
+    alloc: Global,
+    graph: &DependencyGraph,
+    dict: &'a Dictionary,
+    answers: &'a Answers,
+    state: &mut EngineState,
+    steps: &mut Steps<L>,
+) -> Result<(), NoMemory>
+    requires graph { IsGraphOf (accepted dict.now) graph.now }
+    requires fit { AnswersFit (accepted dict.now).tree (answered answers.now) }
+    requires cells { state.old.store.cells ≡ no_cells }
+    requires idle { IsIdle state.old }
+    ensures done { OnOk result (HasRun (start_setting (accepted dict.now) (answered answers.now))
+        (from_nothing (accepted dict.now) (answered answers.now)) state.old.store.cells state.new) }
+    ensures visits { OnOk result (steps.new ≡ steps.old + whole_visits (accepted dict.now) (answered answers.now)) }
+{
+    let _source = dict.source();
+    seed_all(&mut state.queue, dict, answers)?;
+    let propagation = Propagation {
+        dict,
+        answers,
+        undo: None,
+        extended: false,
+        gone: None,
+        stamp: 0,
+    };
+    run(alloc, graph, &propagation, state, steps)
+}
+
+/// The same, where the steps are counted for nobody.
+pub fn start_uncounted<'a, L: Ledger>(
     alloc: Global,
     graph: &DependencyGraph,
     dict: &'a Dictionary,
@@ -45,17 +76,7 @@ pub fn start<'a, L: Ledger>(
         (from_nothing (accepted dict.now) (answered answers.now)) state.old.store.cells state.new) }
 {
     let mut steps = Steps::<L>::new(blank);
-    let _source = dict.source();
-    seed_all(&mut state.queue, dict, answers)?;
-    let propagation = Propagation {
-        dict,
-        answers,
-        undo: None,
-        extended: false,
-        gone: None,
-        stamp: 0,
-    };
-    run(alloc, graph, &propagation, state, &mut steps)
+    start(alloc, graph, dict, answers, state, &mut steps)
 }
 
 /// The results of the touched slots, with the number of the change. The cells of a member that went are
@@ -73,6 +94,8 @@ pub fn go_on<L: Ledger>(
         state.new) }
     ensures undo { before (entries state.new.log) state.new.store.cells ≡ state.old.store.cells }
     ensures can { CanPutBack (entries state.new.log) state.new.store.cells }
+    ensures visits { OnOk result (steps.new ≡ steps.old + touched_visits (dict_of update.now) (answers_before update.now)
+        (answers_after update.now)) }
     ensures most { steps.new ≤ steps.old + touched_weight (dict_of update.now) (answers_before update.now)
         (answers_after update.now) }
 {

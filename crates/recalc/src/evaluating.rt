@@ -1,5 +1,5 @@
 // The new result of a slot.
-ghost use Rattle.std.specs.Prelude.{◌≡◌, ◌+◌, ◌≤◌, IfOk, IsTrue, Some};
+ghost use Rattle.std.specs.Prelude.{◌≡◌, ◌+◌, ◌≤◌, IfOk, IsTrue, OnOk, Some};
 ghost use Rattle.answers.specs.Answered.{value_of};
 ghost use Rattle.answers.specs.Meaning.{answered};
 ghost use Rattle.answers.specs.WellFormed.{FromOne, WellFormed};
@@ -9,8 +9,11 @@ ghost use Rattle.dictionary.specs.Accepted.{accepted};
 ghost use Rattle.dictionary.specs.Plain.{IsPlainBelow, or_override, plain, rank};
 ghost use Rattle.dictionary.specs.Slots.{stands};
 ghost use Rattle.dictionary.specs.Weights.{slot_weight};
+ghost use Rattle.visit_counts.specs.SlotVisits.{slot_visits};
 ghost use Rattle.node_compile.specs.Compiled.{IsCompiled, main_of, placeholder_of};
-ghost use Rattle.node_compile.specs.Laws.{main_node_result, node_result, node_weight, or_placeholder_node, result_by_nodes, weight_by_nodes};
+ghost use Rattle.node_compile.specs.Laws.{main_node_result, node_result, or_placeholder_node, result_by_nodes};
+ghost use Rattle.node_compile.specs.Laws.{main_node_visits, node_visits, placeholder_node_visits, visits_by_nodes};
+ghost use Rattle.node_compile.specs.Laws.{node_weight, weight_by_nodes};
 ghost use Rattle.node_eval.specs.View.{view};
 ghost use Rattle.recalc.specs.Running.{live_results};
 
@@ -36,6 +39,8 @@ fn node_result<L: Ledger>(
 ) -> Result<Res, NoMemory>
     ensures value { IfOk result (λ r. r ≡ node_result (live_results cells.now.gone cells.now.store.now.cells) slot
         (view node.now)) }
+    ensures visits { OnOk result (steps.new ≡ steps.old + node_visits
+        (live_results cells.now.gone cells.now.store.now.cells) slot (view node.now)) }
     ensures most { steps.new ≤ steps.old + node_weight (live_results cells.now.gone cells.now.store.now.cells) slot
         (Some (view node.now)) }
 {
@@ -53,6 +58,8 @@ fn derived_result<L: Ledger>(
 ) -> Result<Res, NoMemory>
     ensures value { IfOk result (λ r. r ≡ or_override (value_of Override (answered answers.now) slot)
         (node_result (live_results cells.now.gone cells.now.store.now.cells) slot (view node.now))) }
+    ensures visits { OnOk result (steps.new ≡ steps.old + main_node_visits (answered answers.now)
+        (live_results cells.now.gone cells.now.store.now.cells) slot (Some (view node.now))) }
     ensures most { steps.new ≤ steps.old + node_weight (live_results cells.now.gone cells.now.store.now.cells) slot
         (Some (view node.now)) }
 {
@@ -77,6 +84,8 @@ fn main_result<L: Ledger>(
     ensures value { IfOk result (λ r. r ≡ main_node_result (answered answers.now)
         (live_results cells.now.gone cells.now.store.now.cells) slot (stated_view stated.now)
         (main_of nodes.now slot.fact)) }
+    ensures visits { OnOk result (steps.new ≡ steps.old + main_node_visits (answered answers.now)
+        (live_results cells.now.gone cells.now.store.now.cells) slot (main_of nodes.now slot.fact)) }
     ensures most { steps.new ≤ steps.old + node_weight (live_results cells.now.gone cells.now.store.now.cells) slot
         (main_of nodes.now slot.fact) }
 {
@@ -97,6 +106,8 @@ fn with_placeholder<L: Ledger>(
 ) -> Result<Res, NoMemory>
     ensures value { IfOk result (λ r. r ≡ or_placeholder_node (live_results cells.now.gone cells.now.store.now.cells)
         slot (Some (view node.now)) res) }
+    ensures visits { OnOk result (steps.new ≡ steps.old + placeholder_node_visits
+        (live_results cells.now.gone cells.now.store.now.cells) slot (Some (view node.now)) res) }
     ensures most { steps.new ≤ steps.old + node_weight (live_results cells.now.gone cells.now.store.now.cells) slot
         (Some (view node.now)) }
 {
@@ -124,6 +135,8 @@ fn result_by_nodes<L: Ledger>(
     requires well { WellFormed (answered answers.now) }
     requires from_one { FromOne (answered answers.now) }
     ensures value { IfOk result (λ r. r ≡ result_by_nodes nodes.now (answered answers.now)
+        (live_results cells.now.gone cells.now.store.now.cells) slot (stated_view stated.now)) }
+    ensures visits { OnOk result (steps.new ≡ steps.old + visits_by_nodes nodes.now (answered answers.now)
         (live_results cells.now.gone cells.now.store.now.cells) slot (stated_view stated.now)) }
     ensures most { steps.new ≤ steps.old + weight_by_nodes nodes.now
         (live_results cells.now.gone cells.now.store.now.cells) slot }
@@ -153,6 +166,7 @@ pub fn new_result<L: Ledger>(
     requires below { IsPlainBelow (accepted dict.now) (answered answers.now) (rank (accepted dict.now) slot.fact)
         (live_results cells.now.gone cells.now.store.now.cells) }
     ensures value { IfOk result (λ r. Some r ≡ plain (accepted dict.now) (answered answers.now) slot) }
+    ensures visits { OnOk result (steps.new ≡ steps.old + slot_visits (accepted dict.now) (answered answers.now) slot) }
     ensures most { steps.new ≤ steps.old + slot_weight (accepted dict.now) (answered answers.now) slot }
 {
     let Some(fact) = dict.source().fact(slot.fact) else {

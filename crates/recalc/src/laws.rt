@@ -34,7 +34,7 @@ pub fn changes_pass()
     ensures start { StartPasses }
 {}
 
-/// In the end what is done is what the change touches, so many slots, of this weight.
+/// In the end what is done is what the change touches: so many slots, and the same sum of any measure of them.
 pub fn a_change_of_answers_is_done()
     ensures done { AllIsDone }
     ensures weight { TouchedWeigh }

@@ -9,9 +9,10 @@ ghost use Rattle.dictionary.specs.Fits.{AnswersFit};
 ghost use Rattle.dictionary.specs.Plain.{plain};
 ghost use Rattle.dictionary.specs.Slots.{stands};
 ghost use Rattle.dictionary.specs.Weights.{touched_weight};
+ghost use Rattle.visit_counts.specs.SlotVisits.{touched_visits};
 ghost use Rattle.recalc.specs.EngineInvariant.{EngineInvariant, marks_by, stamp_in};
 
-use crate::changing::{go_on, start};
+use crate::changing::{go_on, start_uncounted};
 use crate::dependency_graph::DependencyGraph;
 use crate::engine_state::EngineState;
 use crate::forgetting::forget;
@@ -56,7 +57,7 @@ impl FactEngine for Recalc {
         let graph = DependencyGraph::new(alloc, dict)?;
         let facts = dict.source().facts().len();
         let mut state = EngineState::new(alloc, facts)?;
-        start::<Brand>(alloc, &graph, dict, answers, &mut state, Blank::new(1))?;
+        start_uncounted::<Brand>(alloc, &graph, dict, answers, &mut state, Blank::new(1))?;
         state.log.clear();
         Ok(Recalc {
             alloc,
@@ -91,6 +92,8 @@ impl FactEngine for Recalc {
         ensures same_marks { OnErr result (IsTrue true → AreSameMarks
             (marks_by self.old.changes self.old.state.store.cells self.old.touched)
             (marks_by self.new.changes self.new.state.store.cells self.new.touched)) }
+        ensures visits { OnOk result (steps.new ≡ steps.old + touched_visits (accepted dict.now)
+            (applied (change undo.now) (answered now.now)) (answered now.now)) }
         ensures steps { steps.new ≤ steps.old + touched_weight (accepted dict.now)
             (applied (change undo.now) (answered now.now)) (answered now.now) }
     {

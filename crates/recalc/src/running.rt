@@ -6,7 +6,7 @@ ghost use Rattle.dictionary.specs.Accepted.{accepted};
 ghost use Rattle.recalc.specs.EngineInvariant.{IsGraphOf};
 ghost use Rattle.recalc.specs.Propagations.{setting_of, spread_of};
 ghost use Rattle.recalc.specs.Replacing.{before, CanPutBack, entries};
-ghost use Rattle.recalc.specs.Running.{propagation_weight, HasRun, IsPropagation, IsRunning};
+ghost use Rattle.recalc.specs.Running.{propagation_visits, propagation_weight, HasRun, IsPropagation, IsRunning};
 
 use crate::dependency_graph::DependencyGraph;
 use crate::engine_state::EngineState;
@@ -38,6 +38,8 @@ pub fn run<L: Ledger>(
         state.new) }
     ensures undo { before (entries state.new.log) state.new.store.cells ≡ state.old.store.cells }
     ensures can { CanPutBack (entries state.new.log) state.new.store.cells }
+    ensures visits { OnOk result (steps.new ≡ steps.old + propagation_visits (setting_of propagation.now)
+        (spread_of propagation.now)) }
     ensures most { steps.new ≤ steps.old + propagation_weight (setting_of propagation.now) (spread_of propagation.now) }
 {
     while let Some(dirty) = state.queue.pop() {

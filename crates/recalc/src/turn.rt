@@ -7,6 +7,7 @@ ghost use Rattle.dictionary.specs.Accepted.{accepted};
 ghost use Rattle.dictionary.specs.Plain.{IsPlainBelow, rank};
 ghost use Rattle.dictionary.specs.Slots.{stands};
 ghost use Rattle.dictionary.specs.Weights.{slot_weight};
+ghost use Rattle.visit_counts.specs.SlotVisits.{slot_visits};
 ghost use Rattle.recalc.specs.EngineInvariant.{IsGraphOf};
 ghost use Rattle.recalc.specs.Propagations.{setting_of};
 ghost use Rattle.recalc.specs.Transitions.{moves};
@@ -62,6 +63,8 @@ pub fn turn<L: Ledger>(
         ≡ before (entries state.old.log) state.old.store.cells }
     ensures can { CanPutBack (entries state.old.log) state.old.store.cells
         → CanPutBack (entries state.new.log) state.new.store.cells }
+    ensures visits { OnOk result (steps.new ≡ steps.old + slot_visits (accepted propagation.now.dict.now)
+        (answered propagation.now.answers.now) slot) }
     ensures most { steps.new ≤ steps.old + slot_weight (accepted propagation.now.dict.now)
         (answered propagation.now.answers.now) slot }
 {

@@ -5,8 +5,8 @@ use Rattle.dictionary.specs.Accepted.{accepted}
 use Rattle.dictionary.specs.Homes.{home}
 use Rattle.dictionary.specs.Dependencies.{slot}
 use Rattle.dictionary.specs.Slots.{members_of_home}
+use Rattle.visit_counts.specs.SlotVisits.{slot_visits}
 use Rattle.plain_table.specs.Filling.{IsFilled, is_at}
-use Rattle.plain_table.specs.SlotVisits.{slot_visits}
 use Rattle.plain_table.specs.Table.{results_of}
 use Rattle.plain_table.proofs.WholeLaws.{home_list, home_once}
 use Rattle.plain_table.proofs.WorkLaws.{sum_mapped}

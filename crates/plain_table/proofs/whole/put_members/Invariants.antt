@@ -5,8 +5,8 @@ use Rattle.dictionary.specs.Accepted.{accepted}
 use Rattle.dictionary.specs.Plain.{IsPlainBelow, rank}
 use Rattle.dictionary.specs.Dependencies.{slot}
 use Rattle.dictionary.specs.Weights.{slot_weight}
+use Rattle.visit_counts.specs.SlotVisits.{slot_visits}
 use Rattle.plain_table.specs.Filling.{filled, is_at}
-use Rattle.plain_table.specs.SlotVisits.{slot_visits}
 use Rattle.plain_table.specs.Table.{results_of}
 use Rattle.plain_table.proofs.whole.put_members.Given as goal
 

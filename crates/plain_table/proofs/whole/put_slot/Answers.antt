@@ -7,11 +7,11 @@ use Rattle.three_state.specs.declared.res.Res.{Res}
 use Rattle.answers.specs.Meaning.{answered}
 use Rattle.dictionary.specs.Accepted.{accepted, names_of}
 use Rattle.dictionary.specs.Plain.{slot_result}
+use Rattle.visit_counts.specs.SlotVisits.{slot_visits, visits_over}
+use Rattle.visit_counts.proofs.SlotVisitLaws.{visits_over_lower}
 use Rattle.plain_table.specs.Context.{Context}
-use Rattle.plain_table.specs.SlotVisits.{slot_visits, visits_over}
 use Rattle.plain_table.specs.Table.{results_of}
 use Rattle.plain_table.proofs.FillingLaws.{put_is_filled, result_is_plain}
-use Rattle.plain_table.proofs.SlotVisitLaws.{slot_visited}
 use Rattle.plain_table.proofs.WorkLaws.{slot_weighs}
 use Rattle.plain_table.proofs.whole.put_slot.Goals as goal
 
@@ -56,5 +56,5 @@ returns-clause-visits g c =
     c.in_ok-res.ensures.visits
     ∙ ap (λ n. c.args.steps.now + n)
     (ap (λ (w : Written). visits_over (dictionary_view w) a results c.args.slot fact) c.source-source.ensures.value
-    ∙ slot_visited (names_of c.args.dict.now.checks) d c.source-source.ensures.is_accepted a results c.args.slot fact here c.requires.below) in
+    ∙ visits_over_lower (names_of c.args.dict.now.checks) d c.source-source.ensures.is_accepted a results c.args.slot fact here c.requires.below) in
     on_ok_weaker c.put.result (λ _. visited) c.put.ensures

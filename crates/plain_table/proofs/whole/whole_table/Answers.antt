@@ -5,7 +5,7 @@ use Rattle.dictionary.specs.Slots.{slots_of}
 use Rattle.dictionary.specs.Weights.{slot_weight}
 use Rattle.dictionary.proofs.ByRankLaws.{fact_at_place}
 use Rattle.dictionary.proofs.KeptLaws.{count_ranks}
-use Rattle.plain_table.specs.SlotVisits.{slot_visits}
+use Rattle.visit_counts.specs.SlotVisits.{slot_visits}
 use Rattle.plain_table.specs.Table.{results_of}
 use Rattle.plain_table.proofs.EvalLaws.{members_weigh}
 use Rattle.plain_table.proofs.WholeLaws.{all_done, below_next, facts_next}

@@ -3,8 +3,8 @@ use Rattle.answers.specs.Meaning.{answered}
 use Rattle.dictionary.specs.Accepted.{accepted}
 use Rattle.dictionary.specs.Slots.{slots_of}
 use Rattle.dictionary.specs.Weights.{slot_weight, whole_weight}
+use Rattle.visit_counts.specs.SlotVisits.{slot_visits, whole_visits}
 use Rattle.plain_table.specs.Filling.{HasFacts}
-use Rattle.plain_table.specs.SlotVisits.{slot_visits, whole_visits}
 use Rattle.plain_table.specs.Table.{results_of}
 use Rattle.plain_table.proofs.whole.whole_table.Given as goal
 

@@ -1,13 +1,14 @@
-use Rattle.std.proofs.Common.{◌≡◌, ◌+◌, ◌≤◌, ◌∙◌, List, false, ap, subst, sum_by, sym}
+use Rattle.std.proofs.Common.{◌≡◌, ◌∙◌, List, false, ap, arith, subst, sym}
 use Rattle.dep_index.specs.Readers.{row}
 use Rattle.dep_index.specs.declared.row.ReaderOf.{ReaderOf}
 use Rattle.dictionary.specs.Weights.{slot_weight}
+use Rattle.visit_counts.specs.SlotVisits.{slot_visits}
 use Rattle.recalc.specs.Propagations.{setting_of, spread_of}
 use Rattle.recalc.specs.Running.{IsPopped, IsRunning}
 use Rattle.recalc.specs.Waiting.{DirtySlots, waits}
 use Rattle.recalc.specs.declared.dirty_queue.DirtySlot.{DirtySlot}
 use Rattle.recalc.specs.declared.engine_state.EngineState.{EngineState}
-use Rattle.recalc.proofs.RunningLaws.{ended_new, fewer, popped_below, popped_new, popped_number, popped_stands, steps_after, steps_ended, steps_within, still_running, now_done}
+use Rattle.recalc.proofs.RunningLaws.{ended_new, fewer, popped_below, popped_new, popped_number, popped_stands, done_more, steps_ended, steps_within, still_running, visits_ended}
 use Rattle.recalc.proofs.running.run.Goals as goal
 
 pub turn-requires-clause-stands : goal.turn-requires-clause-stands
@@ -34,13 +35,13 @@ loop-dirty-preserved g c =
     let rs : List ReaderOf = row c.args.graph.now.readers dirty.fact in
     let pop : IsPopped c.loop-dirty.state.queue c.pop.new.self dirty = record { some = c.in-Some.ensures.some; rest = c.in-Some.ensures.rest; least = c.in-Some.ensures.least } in
     let are = c.requires.graph.index.each dirty.fact (popped_number k s first c.requires.propagation c.loop-dirty.state c.loop-dirty.invariant.running c.pop.new.self dirty pop) in
+    let more = done_more k s first c.requires.propagation c.loop-dirty.state c.loop-dirty.invariant.running c.pop.new.self dirty pop rs are c.turn.new.state c.in_ok-turn.ensures.turned in
     record {
       running = still_running k s first c.requires.propagation c.loop-dirty.state c.loop-dirty.invariant.running c.pop.new.self dirty pop rs are c.turn.new.state c.in_ok-turn.ensures.turned;
       undo = c.turn.ensures.undo ∙ c.loop-dirty.invariant.undo;
       can = c.turn.ensures.can c.loop-dirty.invariant.can;
-      most = subst (λ ss. c.turn.new.steps ≤ c.args.steps.now + sum_by (slot_weight k.dict k.now) ss)
-          (sym (now_done k s first c.requires.propagation c.loop-dirty.state c.loop-dirty.invariant.running c.pop.new.self dirty pop rs are c.turn.new.state c.in_ok-turn.ensures.turned))
-          (steps_after k s first c.requires.propagation c.loop-dirty.state c.loop-dirty.invariant.running c.pop.new.self dirty pop c.args.steps.now c.loop-dirty.steps c.turn.new.steps c.loop-dirty.invariant.most c.turn.ensures.most);
+      visits = omega (arith, more (slot_visits k.dict k.now), c.in_ok-turn.ensures.visits, c.loop-dirty.invariant.visits);
+      most = omega (arith, more (slot_weight k.dict k.now), c.turn.ensures.most, c.loop-dirty.invariant.most);
     }
 
 pub returns-in_err-turn-clause-most : goal.returns-in_err-turn-clause-most
@@ -74,6 +75,11 @@ returns-clause-done g c =
       none = none;
       results = ended_new k s first c.requires.propagation state running none;
     }
+
+pub returns-clause-visits : goal.returns-clause-visits
+returns-clause-visits g c =
+    visits_ended (setting_of c.args.propagation.now) (spread_of c.args.propagation.now) c.args.state.now.store.cells c.requires.propagation c.loop-dirty.state c.loop-dirty.invariant.running c.in_default.ensures.none
+    c.args.steps.now c.loop-dirty.steps c.loop-dirty.invariant.visits
 
 pub returns-clause-most : goal.returns-clause-most
 returns-clause-most g c =

@@ -2,6 +2,7 @@ use Rattle.std.proofs.Common.{◌≡◌, ◌+◌, ◌-◌, ◌≤◌, length, su
 use Rattle.answers.specs.Meaning.{answered}
 use Rattle.dictionary.specs.Accepted.{accepted}
 use Rattle.dictionary.specs.Weights.{slot_weight}
+use Rattle.visit_counts.specs.SlotVisits.{slot_visits}
 use Rattle.recalc.specs.Propagations.{setting_of, spread_of}
 use Rattle.recalc.specs.Laws.{touched_of}
 use Rattle.recalc.specs.Replacing.{before, CanPutBack, entries}
@@ -13,6 +14,7 @@ invariant-loop-dirty g l = record {
   running : IsRunning (setting_of l.propagation) (spread_of l.propagation) l.initial.state.store.cells l.state;
   undo : before (entries l.state.log) l.state.store.cells ≡ l.initial.state.store.cells;
   can : CanPutBack (entries l.state.log) l.state.store.cells;
+  visits : l.steps ≡ l.initial.steps + sum_by (slot_visits (accepted l.propagation.dict.now) (answered l.propagation.answers.now)) (slots_done l.state);
   most : l.steps ≤ l.initial.steps + sum_by (slot_weight (accepted l.propagation.dict.now) (answered l.propagation.answers.now)) (slots_done l.state);
 }
 

@@ -1,5 +1,5 @@
 -- The number of nodes that the evaluation of a slot visits.
-use Rattle.std.specs.Prelude.{ℕ, ◌+◌, if◌then◌else◌, Option, Some, None, sum_by}
+use Rattle.std.specs.Prelude.{◌≡◌, ℕ, ◌+◌, ◌≤◌, if◌then◌else◌, List, Option, Some, None, sum_by}
 use Rattle.fact_values.specs.declared.slot.Slot.{Slot}
 use Rattle.fact_values.specs.declared.value.Value.{Value}
 use Rattle.dict_tree.specs.Dictionary.{Dictionary as Tree}
@@ -11,10 +11,12 @@ use Rattle.three_state.specs.Results.{is_incomplete}
 use Rattle.evaluation.specs.Visits.{visits}
 use Rattle.answers.specs.Answered.{Answered, value_of}
 use Rattle.answers.specs.declared.edit.Side.TheVariants.{Override}
-use Rattle.dictionary.specs.Accepted.{Accepted}
-use Rattle.dictionary.specs.Plain.{at_fact, body, main_result, plain}
+use Rattle.dictionary.specs.Accepted.{Accepted, IsAccepted}
+use Rattle.dictionary.specs.Plain.{IsPlainBelow, at_fact, body, main_result, plain, rank}
 use Rattle.dictionary.specs.Dependencies.{Results, outermost, source_env}
 use Rattle.dictionary.specs.Slots.{standing}
+use Rattle.dictionary.specs.Touched.{touched}
+use Rattle.dictionary.specs.Weights.{slot_weight}
 
 -- ---- over any map of results
 
@@ -48,3 +50,19 @@ slot_visits d a s = at_fact (fact_at d.tree.facts s.fact) 0 (visits_over d.tree 
 -- of all slots that stand
 abbrev pub whole_visits : Accepted → Answered → ℕ
 whole_visits d a = sum_by (slot_visits d a) (standing d.tree a)
+
+-- of the slots that a change touches, after it, each once
+abbrev pub touched_visits : Accepted → Answered → Answered → ℕ
+touched_visits d a b = sum_by (slot_visits d b) (touched d a b)
+
+-- ---- laws
+
+-- as many over any map that has plain evaluation of the facts of lower rank
+abbrev pub VisitsOverLower : Type 0
+VisitsOverLower =
+    (names : List (List ℕ)) (d : Accepted) → IsAccepted names d → (a : Answered) (results : Results) (s : Slot) (f : Fact) → fact_at d.tree.facts s.fact ≡ Some f
+    → IsPlainBelow d a (rank d s.fact) results → visits_over d.tree a results s f ≡ slot_visits d a s
+
+-- at most as many as the slot weighs
+abbrev pub SlotVisitsWithinWeight : Type 0
+SlotVisitsWithinWeight = (d : Accepted) (a : Answered) (s : Slot) → slot_visits d a s ≤ slot_weight d a s
