@@ -13,7 +13,6 @@ use Rattle.three_state.specs.Results.{is_incomplete}
 use Rattle.evaluation.proofs.VisitLaws.{visits-within-weight}
 use Rattle.answers.specs.Answered.{Answered, value_of}
 use Rattle.answers.specs.declared.edit.Side.TheVariants.{Override}
-use Rattle.dictionary.specs.Accepted.{Accepted}
 use Rattle.dictionary.specs.Plain.{at_fact, body, main_result, or_override, plain}
 use Rattle.dictionary.specs.Dependencies.{Results, EvalPosition, outermost, source_env}
 use Rattle.dictionary.proofs.FactMentions.{EachUse}
