@@ -198,10 +198,33 @@ test("saved text is loaded and carried", async () => {
   const other = JSON.parse(DICTIONARY);
   other.facts = other.facts.filter(({ path }) => path !== "/note");
   const carried = await Session.carry(JSON.stringify(other), saved);
-  assert.deepEqual(carried.dropped, [{ kind: "value", slot: "/note" }]);
+  assert.deepEqual(carried.dropped, [{ kind: "value", slot: "/note", refused: null }]);
   assert.deepEqual(carried.get("/rent"), complete(5n));
   const kept = await Session.carry(DICTIONARY, new TextEncoder().encode(saved));
   assert.deepEqual(kept.dropped, []);
+});
+
+test("a text that came from outside is resumed without overrides, and each value that isn't taken has its refusal", async () => {
+  const text = "saved 1\nnext 1\nlist /nowhere\nvalue /rent 6000.00\nvalue /rooms 3\nvalue /other 1\noverride /housing 9.00\nend\n";
+  const session = await Session.resume(DICTIONARY, text, { undo: 1 });
+  assert.deepEqual(session.dropped.map(({ kind, slot, refused }) => [kind, slot, refused && [refused.name, refused.message]]), [
+    ["list", "/nowhere", null], ["value", "/rent", ["Refused", "refused 7 Limit 2"]], ["value", "/other", ["UnknownSlot", "refused 3 UnknownFact"]],
+    ["override", "/housing", null],
+  ]);
+  assert.throws(() => session.set("/rent", "6000.00"), { number: 7, place: 2 });
+  assert.equal(session.save(), "saved 1\nnext 1\nvalue /rooms 3\nend\n");
+  assert.throws(() => session.undo(), { number: 13 });
+  assert.deepEqual((await Session.resume(DICTIONARY, new TextEncoder().encode(session.save()))).dropped, []);
+  await assert.rejects(Session.resume(DICTIONARY, text.replace("next 1\n", "")), (wrong) => wrong instanceof SavedRefused && wrong.line === 2);
+  await assert.rejects(Session.resume("{", text), { message: "dictionary refused 2 NotJson" });
+});
+
+test("what is dropped of a long text is told in whole", async () => {
+  const facts = Array.from({ length: 2000 }, (_, k) => ({ path: `/a${k}`, writable: "Int", limits: [["Max", "9"]] }));
+  const values = facts.map(({ path }) => `value ${path} 10\n`).join("");
+  const session = await Session.resume(JSON.stringify({ version: "1", facts }), `saved 1\nnext 1\n${values}end\n`);
+  assert.deepEqual(session.dropped.map(({ slot }) => slot), facts.map(({ path }) => path));
+  assert.ok(session.dropped.every(({ refused }) => refused.number === 7));
 });
 
 test("the engine lists the facts", async () => {
