@@ -2,6 +2,7 @@
 
 import assert from "node:assert/strict";
 import { readFileSync } from "node:fs";
+import { createServer } from "node:http";
 import { test } from "node:test";
 import {
   DictionaryRefused, Engine, FactGraphError, OutOfMemory, Rational, Refused, SavedRefused, Session, SessionClosed, UnknownDictionary, UnknownSlot,
@@ -320,6 +321,26 @@ test("an engine is loaded of a compiled module, of bytes and of a file", async (
   await assert.rejects(Engine.load(new Uint8Array(8)), WebAssembly.CompileError);
 });
 
+test("an engine is loaded from a host, whatever type it gives", async () => {
+  const module = readFileSync(new URL("../src/fact_graph.wasm", import.meta.url));
+  const host = createServer(({ url }, response) => {
+    const types = { "/typed": "application/wasm", "/untyped": "application/octet-stream" };
+    response.writeHead(url in types ? 200 : 404, { "Content-Type": types[url] ?? "text/plain" }).end(module);
+  });
+  await new Promise((listening) => host.listen(0, "127.0.0.1", listening));
+  const address = `http://127.0.0.1:${host.address().port}`;
+  try {
+    for (const path of ["/typed", "/untyped"]) {
+      const session = await Session.open(DICTIONARY, { engine: await Engine.load(address + path) });
+      assert.equal(session.get("/rent").kind, "incomplete");
+    }
+    await assert.rejects(Engine.load(`${address}/nowhere`), /404/);
+  } finally {
+    host.close();
+    host.closeAllConnections();
+  }
+});
+
 test("amounts are printed and read exactly", () => {
   for (const [cents, text] of [[0n, "0.00"], [5n, "0.05"], [-5n, "-0.05"], [124050n, "1240.50"], [-123456789012345n, "-1234567890123.45"]]) {
     assert.equal(amountText(cents), text);
@@ -389,6 +410,9 @@ test("a dictionary comes with the engine", async () => {
     assert.equal(session.get("/standardDeduction").value, 3_070_000n);
     assert.ok(session.slots().every((slot) => session.has(slot)));
   }
-  assert.equal((await Session.builtIn("year 2024")).dictionary.facts.size, 45);
+  const year = await Session.builtIn("year 2024");
+  assert.equal(year.dictionary.facts.size, 45);
+  year.close();
+  assert.equal(year.dictionary.facts.size, 45);
   await assert.rejects(Session.builtIn("year 2022"), UnknownDictionary);
 });
