@@ -75,7 +75,7 @@ class Handler(SimpleHTTPRequestHandler):
         if self.path == "/next":
             self.answer(next(self.server.asked, "").encode())
         elif TOP / self.path[1:] == MODULE:
-            self.answer(self.server.marked())
+            self.answer(self.server.marked(), "application/wasm")
         else:
             super().do_GET()
 
@@ -84,9 +84,10 @@ class Handler(SimpleHTTPRequestHandler):
         self.server.told.put(json.loads(self.rfile.read(int(self.headers["Content-Length"]))))
         self.answer(b"")
 
-    def answer(self, body: bytes) -> None:
+    def answer(self, body: bytes, kind: str = "text/plain") -> None:
         """Sends an answer."""
         self.send_response(200)
+        self.send_header("Content-Type", kind)
         self.send_header("Content-Length", str(len(body)))
         self.end_headers()
         self.wfile.write(body)

@@ -5,6 +5,7 @@
 
 - steps: what each step of javascript/wasm meets and refuses, and the runtime in C under the sanitizers, by pytest
 - types: the package's types, those of the engine of a page that needs no server, and those of what bench/webassembly.py times, by tsc
+- comments: a script that such a page ships has the code that it was written with, and no comments
 - same: two builds have the same bytes; the first is the module of the parts below
 - node: the package's own tests, and those of the runtime as WebAssembly, where each allocation fails in turn, by node --test
 - cases: the stored cases that a library serves, in Node; and once more over the module as binaryen lowers it, without vectors
@@ -17,6 +18,7 @@ library's module is wanting.
 """
 import json
 import os
+import re
 import shutil
 import subprocess
 import sys
@@ -32,8 +34,15 @@ from javascript.random_lines import Script
 
 JAVASCRIPT = TOP / "javascript"
 WASM = JAVASCRIPT / "wasm"
+PAGE = TOP / "service" / "fact_graph_service" / "page"
+SAME_CODE = TOP / "tests" / "javascript" / "same_code.cjs"
+# Where Debian has the packages of Node.
+NODE_PATH = "/usr/share/nodejs"
 sys.path.insert(0, str(WASM))
-# pylint: disable-next=wrong-import-position,wrong-import-order # found by the path above
+sys.path.insert(0, str(TOP / "python"))
+# pylint: disable=wrong-import-position,wrong-import-order # found by the paths above
+from fact_graph.uncommented import uncommented  # noqa: E402
+
 from build_wasm import LOWERED_BY_BINARYEN, SHIPPED, TESTING, Builder, kept_module, words_of_module  # noqa: E402
 
 SMALL = 65_536
@@ -75,12 +84,26 @@ class Parts:
         """The package's types, those of the page's engine, where it stands in a page, and those of what is timed."""
         self.ends_well("types", [tool("tsc"), "-p", "."])
         page = self.folder / "page"
-        shutil.copytree(TOP / "service" / "fact_graph_service" / "page", page / "page")
+        shutil.copytree(PAGE, page / "page")
         shutil.copytree(JAVASCRIPT / "page", page / "page", dirs_exist_ok=True)
         shutil.copytree(JAVASCRIPT / "src", page / "engine")
         words = ["--allowJs", "--checkJs", "--noEmit", "--strict", "--target", "ES2022", "--module", "ES2022", "--moduleResolution", "node"]
         self.ends_well("types of the page's engine", [tool("tsc"), *words, "page/browser_engine.js"], page)
         self.ends_well("types of what is timed", [tool("tsc"), *words, "bench/webassembly/page.js"], TOP)
+
+    def comments(self) -> None:
+        """The scripts of a page, as they are written and as they are shipped."""
+        bare = self.folder / "bare"
+        pairs: list[Path] = []
+        for script in sorted(path for folder in (PAGE, JAVASCRIPT / "src", JAVASCRIPT / "page") for path in folder.glob("*.js")):
+            shipped = bare / script.parent.name / script.name
+            shipped.parent.mkdir(parents=True, exist_ok=True)
+            shipped.write_text(uncommented(script.read_text(encoding="utf-8")), encoding="utf-8")
+            pairs += [script, shipped]
+            left = re.search(r"^ *(//|/\*)|/\*\*", shipped.read_text(encoding="utf-8"), re.MULTILINE)
+            self.tally.judge(f"comments of {script.name}", f"it has {left[0]}" if left else "")
+        differing = subprocess.run([tool("node"), SAME_CODE, *pairs], env={**os.environ, "NODE_PATH": NODE_PATH}, stdout=subprocess.PIPE, text=True, check=True)
+        self.tally.expect("scripts whose code differs", differing.stdout, "")
 
     def same(self) -> None:
         """Two builds."""
@@ -140,7 +163,7 @@ class Parts:
         self.tally.expect("the files of the package", json.dumps(names), json.dumps(due))
 
 
-PARTS = ("steps", "types", "same", "node", "cases", "random", *BROWSERS, "package")
+PARTS = ("steps", "types", "comments", "same", "node", "cases", "random", *BROWSERS, "package")
 
 
 def main(argv: list[str]) -> int:

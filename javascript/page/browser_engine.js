@@ -3,12 +3,11 @@
 // What is kept is the saved text that the interview went on from, if any, and the lines that were accepted since: they are said again when
 // the page is opened, so that `undo` reaches as far back as before.
 
-import { Refused, SavedRefused, Session } from "../engine/index.js";
+import { SavedRefused, Session } from "../engine/index.js";
 import { TextRefused, Unreachable } from "./session.js";
 
 /** @typedef {import("./session.js").Answered} Answered */
 /** @typedef {import("./session.js").Change} Change */
-/** @typedef {import("./session.js").Dropped} Dropped */
 /** @typedef {import("./session.js").Engine} Engine */
 /** @typedef {import("./screen.js").Form} Form */
 /**
@@ -151,11 +150,12 @@ class BrowserEngine {
    */
   resume(text) {
     return this.#alone(async () => {
-      const { saved, dropped } = await resumed(this.dictionary, text);
+      const session = await resumed(this.dictionary, text);
       const { revision } = this.kept();
       this.#close();
-      this.keep({ saved, lines: [], revision, last: null });
-      await this.begin();
+      this.#session = session;
+      this.keep({ saved: session.save(), lines: [], revision, last: null });
+      const dropped = session.dropped.map((line) => ({ kind: line.kind, slot: line.slot, why: why(line) }));
       return { reply: null, stale: false, replies: [], dropped, ...this.#now() };
     });
   }
@@ -201,55 +201,23 @@ function told(session, line, verbs) {
 }
 
 /**
- * What may stand of a saved text, and what is dropped, each with the reason.
+ * A session that goes on from a saved text, as a person may bring it.
  * @param {string} dictionary
  * @param {string} text
  */
 async function resumed(dictionary, text) {
-  /** @type {Session} */
-  let session;
   try {
-    session = await Session.carry(dictionary, text);
+    return await Session.resume(dictionary, text);
   } catch (wrong) {
     if (wrong instanceof SavedRefused) throw new TextRefused();
     throw wrong;
   }
-  const given = entries(text, "value");
-  /** @type {Dropped[]} */
-  const dropped = session.dropped.map(({ kind, slot }) => ({ kind, slot, why: reason(session, kind, slot, given.get(slot)) }));
-  for (const slot of entries(session.save(), "override").keys()) {
-    session.release(slot);
-    dropped.push({ kind: "override", slot, why: "override" });
-  }
-  const saved = session.save();
-  session.close();
-  return { saved, dropped };
 }
 
 /**
- * Why a line isn't carried: `override`, `unknown` where the dictionary has no such list, or the refusal of the answer.
- * @param {Session} session
- * @param {string} kind
- * @param {string} slot
- * @param {string | undefined} value
+ * Why a line isn't kept: the refusal of its answer, `override`, or `unknown` where the dictionary has no such list.
+ * @param {import("../engine/index.js").Dropped} line
  */
-function reason(session, kind, slot, value) {
-  if (kind !== "value") return kind === "override" ? "override" : "unknown";
-  try {
-    session.set(slot, String(value));
-  } catch (wrong) {
-    if (wrong instanceof Refused) return wrong.message;
-    throw wrong;
-  }
-  throw new Error(`${slot} wasn't carried, and can be set`);
-}
-
-/**
- * The texts of a kind of a saved text's lines, by their slots.
- * @param {string} saved
- * @param {string} kind
- */
-function entries(saved, kind) {
-  const lines = saved.split("\n").map((line) => /^(\w+) (\S+) (.*)$/.exec(line)).filter((found) => found?.[1] === kind);
-  return new Map(lines.map((found) => [String(found?.[2]), String(found?.[3])]));
+function why({ kind, refused }) {
+  return refused?.message ?? (kind === "override" ? "override" : "unknown");
 }

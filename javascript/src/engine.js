@@ -62,7 +62,8 @@ async function compiled(source) {
   }
   const response = await fetch(url);
   if (!response.ok) throw new Error(`${url}: ${response.status} ${response.statusText}`);
-  // (a host may give another type than the streaming compiler wants)
+  // the streaming compiler, which begins before the last byte has come, takes this type alone
+  if (response.headers.get("Content-Type") === "application/wasm") return WebAssembly.compileStreaming(response);
   return WebAssembly.compile(await response.arrayBuffer());
 }
 

@@ -20,6 +20,7 @@ const encoder = new TextEncoder();
 const decoder = new TextDecoder("utf-8", { fatal: true, ignoreBOM: true });
 
 /** @typedef {(...numbers: number[]) => number} Call */
+/** @typedef {"open" | "load" | "carry" | "resume" | "open_built_in"} Beginning */
 
 /**
  * The bytes of a text. Throws TypeError where it isn't well formed.
@@ -160,9 +161,9 @@ export class Machine {
   }
 
   /**
-   * Begins a session: `open` over a dictionary, `load` or `carry` with a saved text, or `open_built_in` over the dictionary of these words
-   * that comes with the engine. Returns its block.
-   * @param {"open" | "load" | "carry" | "open_built_in"} how
+   * Begins a session: `open` over a dictionary, `load`, `carry` or `resume` with a saved text, or `open_built_in` over the dictionary of these
+   * words that comes with the engine. Returns its block. What `carry` and `resume` don't keep is the session's text.
+   * @param {Beginning} how
    * @param {Uint8Array} dictionary
    * @param {Uint8Array} [saved]
    */
@@ -178,7 +179,7 @@ export class Machine {
         taken.push(at);
         return [at, size];
       });
-      const places = how === "carry" ? [block + HANDLE, block + SIZE, block + FAULT] : [block + HANDLE, block + FAULT];
+      const places = [block + HANDLE, ...(how === "carry" || how === "resume" ? [block + SIZE] : []), block + FAULT];
       const number = this.call(`fact_graph_${how}`, ...texts, ...places);
       if (number) throw this.#fault(number, block + FAULT);
       hasBegun = true;

@@ -7,6 +7,7 @@ import { bytesOf, textOfBytes } from "./machine.js";
 import { READERS, textOf } from "./values.js";
 
 /** @typedef {import("./dictionary.js").ListedFact} ListedFact */
+/** @typedef {import("./machine.js").Beginning} Beginning */
 /** @typedef {import("./machine.js").Machine} Machine */
 /** @typedef {import("./values.js").Answer} Answer */
 /** @typedef {import("./values.js").Kind} Kind */
@@ -18,8 +19,9 @@ import { READERS, textOf } from "./values.js";
  * @typedef {{ name: string, slot: string }} Watch
  */
 /**
- * A line of a saved text that isn't carried: `list`, `value` or `override`, and what it names.
- * @typedef {{ kind: string, slot: string }} Dropped
+ * A line of a saved text that isn't kept: `list`, `value` or `override`, and what it names. Of a value that `resume` doesn't take, `refused` is
+ * what `set` refuses it with; else that is null.
+ * @typedef {{ kind: string, slot: string, refused: Refused | null }} Dropped
  */
 /**
  * The engine that the session is opened in; where none is given, one that all such sessions share. And how many changes at most are kept for
@@ -60,11 +62,11 @@ function stepOf(line) {
   return STEPS[blank < 0 ? line.replace(/\r$/, "") : line.slice(0, blank)] ?? 0;
 }
 
-/** @type {(machine: Machine, block: number, source: string, undo: number, dropped: Dropped[]) => Session} */
+/** @type {(machine: Machine, block: number, source: string | null, undo: number, dropped: Dropped[]) => Session} */
 let created;
 
 /**
- * @param {"open" | "load" | "carry" | "open_built_in"} how
+ * @param {Beginning} how
  * @param {string | Uint8Array} dictionary
  * @param {string | Uint8Array | undefined} saved
  * @param {Options} [options]
@@ -77,8 +79,8 @@ async function begun(how, dictionary, saved, options) {
   const machine = machineOf(options?.engine ?? (await sharedEngine()));
   const block = machine.begin(how, text, kept);
   try {
-    const dropped = how === "carry" ? linesOf(machine.text(block)).map(droppedOf) : [];
-    const source = how === "open_built_in" ? textOfBytes(machine.dictionary(block)) : typeof dictionary === "string" ? dictionary : textOfBytes(text);
+    const dropped = linesOf(machine.text(block)).map(droppedOf);
+    const source = how === "open_built_in" ? null : typeof dictionary === "string" ? dictionary : textOfBytes(text);
     return created(machine, block, source, Math.floor(undo), dropped);
   } catch (wrong) {
     machine.end(block); // there was no memory for its texts
@@ -106,7 +108,7 @@ export class Session {
   #floor = -Infinity;
 
   /**
-   * What `carry` didn't keep.
+   * What `carry` or `resume` didn't keep.
    * @type {readonly Dropped[]}
    */
   dropped;
@@ -125,7 +127,7 @@ export class Session {
    * @private
    * @param {Machine} machine
    * @param {number} block
-   * @param {string} source
+   * @param {string | null} source the dictionary's text, unless it comes with the engine
    * @param {number} undo
    * @param {Dropped[]} dropped
    */
@@ -177,6 +179,17 @@ export class Session {
    */
   static async carry(dictionary, saved, options) {
     return begun("carry", dictionary, saved, options);
+  }
+
+  /**
+   * A session that goes on from a saved text which came from outside, as from a person's upload: as `carry`, but it takes no override, and each
+   * value of `dropped` has what `set` refuses it with.
+   * @param {string | Uint8Array} dictionary
+   * @param {string | Uint8Array} saved
+   * @param {Options} [options]
+   */
+  static async resume(dictionary, saved, options) {
+    return begun("resume", dictionary, saved, options);
   }
 
   // ---- changes
@@ -344,7 +357,13 @@ export class Session {
 
   /** What the dictionary's text says of its facts: placeholders, limits, options and descriptions, too. */
   get dictionary() {
-    return (this.#dictionary ??= new Dictionary(this.#source));
+    return (this.#dictionary ??= new Dictionary(this.#source ?? this.#printed()));
+  }
+
+  // the text of a dictionary that comes with the engine
+  #printed() {
+    this.#hold();
+    return textOfBytes(this.#machine.dictionary(this.#block));
   }
 
   /** The slots that stand now, in the order of the dictionary, and of a fact in the order of its members. */
@@ -387,7 +406,7 @@ export class Session {
 
   // ---- the whole
 
-  /** The answers that stand, as a text for `load` and `carry`. */
+  /** The answers that stand, as a text for `load`, `carry` and `resume`. */
   save() {
     this.#hold();
     return textOfBytes(this.#machine.save(this.#block));
@@ -521,13 +540,13 @@ function linesOf(text) {
 }
 
 /**
- * Of a line such as `dropped value /people/#2/born`.
+ * Of a line such as `dropped override /size`, or `dropped value /people/#2/born refused 7 Limit 1`.
  * @param {string} line
  * @returns {Dropped}
  */
 function droppedOf(line) {
-  const [, kind = "", slot = ""] = line.split(" ");
-  return { kind, slot };
+  const [, kind = "", slot = "", ...reply] = line.split(" ");
+  return { kind, slot, refused: reply.length ? Refused.ofReply(reply.join(" ")) : null };
 }
 
 /**

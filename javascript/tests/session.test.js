@@ -2,6 +2,7 @@
 
 import assert from "node:assert/strict";
 import { readFileSync } from "node:fs";
+import { createServer } from "node:http";
 import { test } from "node:test";
 import {
   DictionaryRefused, Engine, FactGraphError, OutOfMemory, Rational, Refused, SavedRefused, Session, SessionClosed, UnknownDictionary, UnknownSlot,
@@ -198,10 +199,33 @@ test("saved text is loaded and carried", async () => {
   const other = JSON.parse(DICTIONARY);
   other.facts = other.facts.filter(({ path }) => path !== "/note");
   const carried = await Session.carry(JSON.stringify(other), saved);
-  assert.deepEqual(carried.dropped, [{ kind: "value", slot: "/note" }]);
+  assert.deepEqual(carried.dropped, [{ kind: "value", slot: "/note", refused: null }]);
   assert.deepEqual(carried.get("/rent"), complete(5n));
   const kept = await Session.carry(DICTIONARY, new TextEncoder().encode(saved));
   assert.deepEqual(kept.dropped, []);
+});
+
+test("a text that came from outside is resumed without overrides, and each value that isn't taken has its refusal", async () => {
+  const text = "saved 1\nnext 1\nlist /nowhere\nvalue /rent 6000.00\nvalue /rooms 3\nvalue /other 1\noverride /housing 9.00\nend\n";
+  const session = await Session.resume(DICTIONARY, text, { undo: 1 });
+  assert.deepEqual(session.dropped.map(({ kind, slot, refused }) => [kind, slot, refused && [refused.name, refused.message]]), [
+    ["list", "/nowhere", null], ["value", "/rent", ["Refused", "refused 7 Limit 2"]], ["value", "/other", ["UnknownSlot", "refused 3 UnknownFact"]],
+    ["override", "/housing", null],
+  ]);
+  assert.throws(() => session.set("/rent", "6000.00"), { number: 7, place: 2 });
+  assert.equal(session.save(), "saved 1\nnext 1\nvalue /rooms 3\nend\n");
+  assert.throws(() => session.undo(), { number: 13 });
+  assert.deepEqual((await Session.resume(DICTIONARY, new TextEncoder().encode(session.save()))).dropped, []);
+  await assert.rejects(Session.resume(DICTIONARY, text.replace("next 1\n", "")), (wrong) => wrong instanceof SavedRefused && wrong.line === 2);
+  await assert.rejects(Session.resume("{", text), { message: "dictionary refused 2 NotJson" });
+});
+
+test("what is dropped of a long text is told in whole", async () => {
+  const facts = Array.from({ length: 2000 }, (_, k) => ({ path: `/a${k}`, writable: "Int", limits: [["Max", "9"]] }));
+  const values = facts.map(({ path }) => `value ${path} 10\n`).join("");
+  const session = await Session.resume(JSON.stringify({ version: "1", facts }), `saved 1\nnext 1\n${values}end\n`);
+  assert.deepEqual(session.dropped.map(({ slot }) => slot), facts.map(({ path }) => path));
+  assert.ok(session.dropped.every(({ refused }) => refused.number === 7));
 });
 
 test("the engine lists the facts", async () => {
@@ -297,6 +321,26 @@ test("an engine is loaded of a compiled module, of bytes and of a file", async (
   await assert.rejects(Engine.load(new Uint8Array(8)), WebAssembly.CompileError);
 });
 
+test("an engine is loaded from a host, whatever type it gives", async () => {
+  const module = readFileSync(new URL("../src/fact_graph.wasm", import.meta.url));
+  const host = createServer(({ url }, response) => {
+    const types = { "/typed": "application/wasm", "/untyped": "application/octet-stream" };
+    response.writeHead(url in types ? 200 : 404, { "Content-Type": types[url] ?? "text/plain" }).end(module);
+  });
+  await new Promise((listening) => host.listen(0, "127.0.0.1", listening));
+  const address = `http://127.0.0.1:${host.address().port}`;
+  try {
+    for (const path of ["/typed", "/untyped"]) {
+      const session = await Session.open(DICTIONARY, { engine: await Engine.load(address + path) });
+      assert.equal(session.get("/rent").kind, "incomplete");
+    }
+    await assert.rejects(Engine.load(`${address}/nowhere`), /404/);
+  } finally {
+    host.close();
+    host.closeAllConnections();
+  }
+});
+
 test("amounts are printed and read exactly", () => {
   for (const [cents, text] of [[0n, "0.00"], [5n, "0.05"], [-5n, "-0.05"], [124050n, "1240.50"], [-123456789012345n, "-1234567890123.45"]]) {
     assert.equal(amountText(cents), text);
@@ -366,6 +410,9 @@ test("a dictionary comes with the engine", async () => {
     assert.equal(session.get("/standardDeduction").value, 3_070_000n);
     assert.ok(session.slots().every((slot) => session.has(slot)));
   }
-  assert.equal((await Session.builtIn("year 2024")).dictionary.facts.size, 45);
+  const year = await Session.builtIn("year 2024");
+  assert.equal(year.dictionary.facts.size, 45);
+  year.close();
+  assert.equal(year.dictionary.facts.size, 45);
   await assert.rejects(Session.builtIn("year 2022"), UnknownDictionary);
 });

@@ -1,7 +1,8 @@
 """Makes the text of an LLVM module for x86-64 that of one for WebAssembly with addresses of 64 bits.
 
 Sizes, layouts and calls are the same on both, so nothing but what names the processor changes. What the module may have of it is listed
-here; anything else that is of a processor, of threads or of C is refused, since it could mean something else on WebAssembly.
+here; anything else that is of a processor, of threads or of C is refused, since it could mean something else on WebAssembly. What no
+line of a session reaches is compiled for size: it runs where a session begins or is saved, and a visitor waits for all of the code.
 """
 
 from __future__ import annotations
@@ -48,13 +49,20 @@ UNKNOWN = re.compile(
     r"\b(?:x86_\w+|asm|thread_local|atomicrmw|cmpxchg|(?:load|store) atomic|fence|addrspace|callbr|invoke|landingpad|va_arg"
     r"|blockaddress|ifunc|comdat|section|gc|prologue|musttail)\b"
 )
-TEXT_OF_A_CONSTANT = re.compile(r'c"[^"]*"')
+TEXT_OF_A_CONSTANT = re.compile(r'(?<= )c"[^"]*"')
 NAME = re.compile(r'[@%!](?:"[^"]*"|[\w.$-]+)')
+
+# The functions that a line calls. What they don't reach has attributes of its own, a group whose number begins so.
+OF_LINES = {"@fact_graph_answer", "@fact_graph_read"}
+SMALL = "77"
+GLOBAL = re.compile(r'@(?:"[^"]*"|[\w.$-]+)')
+FUNCTION = re.compile(r'^(?P<head>define [^\n]*?(?P<name>@(?:"[^"]*"|[\w.$-]+))\([^\n]*) #(?P<group>\d+) \{(?P<body>\n(?:.*\n)*?\})$', re.MULTILINE)
+CONSTANT = re.compile(r'^(?P<name>@(?:"[^"]*"|[\w.$-]+)) = .*$', re.MULTILINE)
 
 
 def retargeted(text: str, has_vectors: bool) -> str:
     """The module for WebAssembly, whose instructions on vectors are there or not."""
-    text = without_fence(without_shuffle(without_processor(for_target(text)), has_vectors))
+    text = without_fence(without_shuffle(for_size(without_processor(for_target(text))), has_vectors))
     refuse_unknown(text, has_vectors)
     return text
 
@@ -79,6 +87,30 @@ def without_processor(text: str) -> str:
         return re.sub(rf' "(?:{"|".join(OF_THE_PROCESSOR)})"="[^"]*"', "", line[0])
 
     return re.sub(r"^attributes #\d+ = .*$", change, text, flags=re.MULTILINE)
+
+
+def for_size(text: str) -> str:
+    """Has LLVM keep each function small that no line reaches."""
+    reached = reached_from(OF_LINES, text)
+
+    def change(function: re.Match[str]) -> str:
+        return function[0] if function["name"] in reached else f"{function['head']} #{SMALL}{function['group']} {{{function['body']}"
+
+    def doubled(line: re.Match[str]) -> str:
+        return f"{line[0]}\nattributes #{SMALL}{line[1]} = {{ minsize optsize{line[2]}"
+
+    return re.sub(r"^attributes #(\d+) = \{(.*)$", doubled, FUNCTION.sub(change, text), flags=re.MULTILINE)
+
+
+def reached_from(names: set[str], text: str) -> set[str]:
+    """The names that functions and constants name, from these on."""
+    parts = {found["name"]: found[0] for pattern in (FUNCTION, CONSTANT) for found in pattern.finditer(text)}
+    reached, left = set(names), list(names)
+    while left:
+        named = set(GLOBAL.findall(TEXT_OF_A_CONSTANT.sub("", parts.get(left.pop(), "")))) - reached
+        reached |= named
+        left += named
+    return reached
 
 
 def without_declaration(text: str, name: str) -> str:

@@ -1,5 +1,7 @@
 """What each step of the build may meet, and what it refuses."""
 
+import re
+
 import pytest
 from hypothesis import given
 from hypothesis import strategies as some
@@ -38,7 +40,26 @@ def test_the_target_is_the_other_one() -> None:
 def test_attributes_of_the_processor_go() -> None:
     """The others stay."""
     text = retargeted(HEAD + 'attributes #0 = { nounwind "frame-pointer"="all" "target-cpu"="x86-64-v2" "probe-stack"="inline-asm" }\n', True)
-    assert text.endswith('attributes #0 = { nounwind "frame-pointer"="all" }\n')
+    assert 'attributes #0 = { nounwind "frame-pointer"="all" }\n' in text
+
+
+def test_what_no_line_reaches_is_compiled_for_size() -> None:
+    """What a line calls, or finds in a table of its own, isn't."""
+    text = retargeted(
+        HEAD
+        + '@table = private constant { ptr, [2 x i8] } { ptr @"in a table", [2 x i8] c"@s" }\n'
+        + 'define i32 @fact_graph_answer() #0 {\n  call void @"called (by a line) c"()\n}\n\n'
+        + 'define internal void @"called (by a line) c"() #1 {\n  store ptr @table, ptr %p\n}\n\n'
+        + 'define internal void @"in a table"() #0 {\n}\n\n'
+        + 'define i32 @fact_graph_open() #0 {\n  call void @"called (by a line) c"()\n  call void @s()\n}\n\n'
+        + "define internal void @s() #1 {\n}\n\n"
+        + 'attributes #0 = { nounwind }\nattributes #1 = { nounwind "rattle-sig"="1" }\n',
+        True,
+    )
+    groups = re.findall(r'^define .*?@"?(.*?)"?\(\) (#\d+) \{$', text, re.MULTILINE)
+    assert groups == [("fact_graph_answer", "#0"), ("called (by a line) c", "#1"), ("in a table", "#0"), ("fact_graph_open", "#770"), ("s", "#771")]
+    assert "attributes #770 = { minsize optsize nounwind }\n" in text
+    assert 'attributes #771 = { minsize optsize nounwind "rattle-sig"="1" }\n' in text
 
 
 def test_the_shuffle_of_x86_is_the_one_of_webassembly() -> None:

@@ -6,12 +6,14 @@ import hashlib
 import json
 import re
 import shutil
+from collections.abc import Sequence
 from pathlib import Path
 from typing import TYPE_CHECKING
 
 import click
 
 from ..status import Status
+from ..uncommented import uncommented
 from ._failures import SERVICE_FROM, Failed
 from ._rules import Rules, rules_argument
 
@@ -31,6 +33,9 @@ POLICY = (
 # What differs from the service's page: which engine it opens, and what its head says.
 ENGINE_OF_SERVICE, ENGINE_OF_PAGE = "./http_engine.js", "./browser_engine.js"
 TOKEN = re.compile(r'<meta name="token" content="[^"]*">')
+# What the page asks for at once, and not only when the script that uses it runs.
+SCRIPT, FILE = '<link rel="modulepreload" href="{}">', '<link rel="preload" as="fetch" crossorigin href="{}">'
+FETCHED = (f"engine/{MODULE}", "dictionary.json", "form.json")
 
 
 @click.command()
@@ -66,14 +71,26 @@ def command(rules: Rules, out: Path, engine: Path) -> None:
 
 def write(out: Path, form: Form, page: Path, engine: Path) -> None:
     """Writes the folder of a form's page, of the parts of the service's page and of the engine."""
-    shutil.copytree(page, out / "page", ignore=shutil.ignore_patterns("index.html", "http_engine.js", "main.js"))
-    shutil.copy(engine / "page" / "browser_engine.js", out / "page")
-    shutil.copytree(engine / "src", out / "engine")
-    out.joinpath("page", "main.js").write_text(replaced((page / "main.js").read_text(encoding="utf-8"), ENGINE_OF_SERVICE, ENGINE_OF_PAGE), encoding="utf-8")
-    out.joinpath("index.html").write_text(head_of_its_own((page / "index.html").read_text(encoding="utf-8")), encoding="utf-8")
+    shutil.copytree(page, out / "page", ignore=shutil.ignore_patterns("index.html", "http_engine.js"), copy_function=copy_part)
+    copy_part(engine / "page" / "browser_engine.js", out / "page" / "browser_engine.js")
+    shutil.copytree(engine / "src", out / "engine", copy_function=copy_part)
+    main = out / "page" / "main.js"
+    main.write_text(replaced(main.read_text(encoding="utf-8"), ENGINE_OF_SERVICE, ENGINE_OF_PAGE), encoding="utf-8")
+    scripts = sorted(path.relative_to(out).as_posix() for path in out.rglob("*.js"))
+    html = (page / "index.html").read_text(encoding="utf-8")
+    out.joinpath("index.html").write_text(head_of_its_own(html, [*map(SCRIPT.format, scripts), *map(FILE.format, FETCHED)]), encoding="utf-8")
     out.joinpath("dictionary.json").write_bytes(form.text)
     described = {"id": hashlib.sha256(form.text).hexdigest()[:16], **form.described()}
     out.joinpath("form.json").write_text(json.dumps(described, ensure_ascii=False), encoding="utf-8")
+
+
+def copy_part(source: str | Path, target: str | Path) -> None:
+    """Copies a file of the page, a script without its comments."""
+    part = Path(source)
+    if part.suffix == ".js":
+        Path(target).write_text(uncommented(part.read_text(encoding="utf-8")), encoding="utf-8")
+    else:
+        shutil.copyfile(part, target)
 
 
 def empty(folder: Path) -> None:
@@ -96,12 +113,13 @@ def replaced(text: str, old: str, new: str) -> str:
     return before + new + behind
 
 
-def head_of_its_own(html: str) -> str:
-    """The page's text, which says itself what it may load, and has no token.
+def head_of_its_own(html: str, links: Sequence[str]) -> str:
+    """The page's text, which says itself what it may load and loads at once, and has no token.
 
-    >>> head_of_its_own('<meta name="token" content="{token}">').startswith('<meta http-equiv="Content-Security-Policy"')
-    True
+    >>> policy, link = head_of_its_own('<meta name="token" content="{token}">', [SCRIPT.format("page/main.js")]).splitlines()
+    >>> policy.startswith('<meta http-equiv="Content-Security-Policy"'), link
+    (True, '<link rel="modulepreload" href="page/main.js">')
     """
     found = TOKEN.search(html)
     assert found, "the page has a place for the token"
-    return replaced(html, found[0], f'<meta http-equiv="Content-Security-Policy" content="{POLICY}">')
+    return replaced(html, found[0], "\n".join([f'<meta http-equiv="Content-Security-Policy" content="{POLICY}">', *links]))
