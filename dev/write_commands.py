@@ -1,12 +1,13 @@
 #!/usr/bin/python3
-"""Writes into docs/COMMAND_LINE.md, docs/CASES.md and docs/PYTHON.md what the commands of `fact-graph` show, or checks that it stands there.
+"""Writes into docs/COMMAND_LINE.md, docs/CASES.md, docs/PYTHON.md and docs/RULES.md what the commands of `fact-graph` show, or checks
+that it stands there.
 
     dev/write_commands.py [--check] [--library PATH]
 
 In a block `console` each line behind `$ ` is run by a shell, in a folder of the page's own with the examples, and what it prints follows
-it; a command of the table below is held at a terminal, with what the table types. The pictures that `graph` makes are kept beside the
-pages, and the table of exit statuses is that of the package. With --check nothing is written, and the exit status is 1 where a page or a
-picture is another.
+it; a command of the table below is held at a terminal, with what the table types. `fact-graph serve` is ended once its page is there, and
+the line follows in which it says where. The pictures that `graph` makes are kept beside the pages, and the table of exit statuses is that
+of the package. With --check nothing is written, and the exit status is 1 where a page or a picture is another.
 """
 
 from __future__ import annotations
@@ -14,11 +15,13 @@ from __future__ import annotations
 import os
 import re
 import shutil
+import socket
 import subprocess
 import sys
 import tempfile
-from collections.abc import Iterator
+from collections.abc import Callable, Iterator
 from pathlib import Path
+from urllib.request import urlopen
 
 TOP = Path(__file__).resolve().parent.parent
 sys.path += [str(TOP / "python"), str(TOP / "python" / "tests" / "commands"), str(TOP / "tests")]
@@ -27,7 +30,7 @@ from fact_graph.status import Status  # noqa: E402 # pylint: disable=wrong-impor
 from harness import add_library, words_of  # noqa: E402 # pylint: disable=wrong-import-position # found by the path above
 from terminal import Terminal  # noqa: E402 # pylint: disable=wrong-import-position # found by the path above
 
-PAGES = [TOP / "docs" / name for name in ("COMMAND_LINE.md", "CASES.md", "PYTHON.md")]
+PAGES = [TOP / "docs" / name for name in ("COMMAND_LINE.md", "CASES.md", "PYTHON.md", "RULES.md")]
 PICTURES = [TOP / "docs" / name for name in ("help.svg", "status.svg")]
 BLOCK = re.compile(r"^```console\n(.*?)^```$", re.MULTILINE | re.DOTALL)
 STATUSES = re.compile(r"^\| Status \| When \|\n(?:\|.*\n)+", re.MULTILINE)
@@ -44,6 +47,8 @@ TYPED = {
     ],
 }  # fmt: skip
 """By a command what is waited for and typed at its terminal."""
+
+SERVES, OWN_PORT = "fact-graph serve ", "8000"
 
 WRONG = """{
   "version": "1",
@@ -66,7 +71,7 @@ def prepare(folder: Path) -> dict[str, str]:
     command.parent.mkdir()
     command.write_text(f'#!/bin/sh\nexec {sys.executable} -m fact_graph "$@"\n', encoding="utf-8")
     command.chmod(0o755)
-    return {**os.environ, "PATH": f"{command.parent}:{os.environ['PATH']}", "PYTHONPATH": str(TOP / "python"), "COLUMNS": "100"}
+    return {**os.environ, "PATH": f"{command.parent}:{os.environ['PATH']}", "PYTHONPATH": f"{TOP / 'python'}:{TOP / 'service'}", "COLUMNS": "100"}
 
 
 def at_terminal(command: str, folder: Path, environment: dict[str, str]) -> list[str]:
@@ -85,13 +90,38 @@ def at_shell(command: str, folder: Path, environment: dict[str, str]) -> list[st
     return ran.stdout.splitlines()
 
 
+def at_server(command: str, folder: Path, environment: dict[str, str]) -> list[str]:
+    """The line in which a server says where its page is, which is asked for there. It has a free port, and shows its own."""
+    with socket.socket() as holder:  # which doesn't listen, and nobody else gets its port
+        holder.setsockopt(socket.SOL_SOCKET, socket.SO_REUSEADDR, 1)
+        holder.bind(("127.0.0.1", 0))
+        port = str(holder.getsockname()[1])
+        words = [*command.split(), "--port", port]
+        with subprocess.Popen(words, cwd=folder, env=environment, stdout=subprocess.DEVNULL, stderr=subprocess.PIPE, text=True) as server:
+            try:
+                assert server.stderr is not None
+                said = next(line.rstrip() for line in server.stderr if port in line)
+                with urlopen(f"http://127.0.0.1:{port}/") as page:
+                    page.read()
+            finally:
+                server.terminate()
+    return [said.replace(port, OWN_PORT)]
+
+
 def shown(block: str, folder: Path, environment: dict[str, str]) -> Iterator[str]:
     """The lines of a block: its commands, each with what it shows."""
     for line in block.splitlines():
         if line.startswith("$ "):
             command = line[2:]
             yield line
-            yield from (at_terminal if command in TYPED else at_shell)(command, folder, environment)
+            yield from way_of(command)(command, folder, environment)
+
+
+def way_of(command: str) -> Callable[[str, Path, dict[str, str]], list[str]]:
+    """The way in which a command is run."""
+    if command in TYPED:
+        return at_terminal
+    return at_server if command.startswith(SERVES) else at_shell
 
 
 def page_shown(text: str) -> tuple[str, dict[str, bytes]]:

@@ -69,6 +69,7 @@ def wait_for(server: subprocess.Popen[bytes], client: httpx.Client) -> None:
     ("words", "title", "slot", "store"),
     [
         (["examples/screener.json"], "Help with the heating bill", "/savings", "examples/screener.sqlite"),
+        (["examples/snap.facts"], "SNAP benefits, October 2023 to September 2024", "/otherIncome", "examples/snap.sqlite"),
         (["year", "2023"], "Tax year 2023: filing status, standard deduction and dependents", "/otherIncome", "year 2023.sqlite"),
         (["income 2023"], "Tax year 2023: tax by the rate schedule, and child tax credit", "/otherIncome", "income 2023.sqlite"),
     ],

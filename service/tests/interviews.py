@@ -1,4 +1,4 @@
-"""Interviews that are filled in on the page by keyboard, as a person does it: the screener, and the tax year."""
+"""Interviews that are filled in on the page by keyboard, as a person does it: the screener, SNAP, and the tax year."""
 
 from __future__ import annotations
 
@@ -55,7 +55,24 @@ def fill_year(screen: Screen) -> None:
     screen.type("3000.50")
 
 
+def fill_snap(screen: Screen) -> None:
+    """Three persons with wages and a rent, none of them elderly or disabled."""
+    screen.reach("/size")
+    screen.type("3")
+    screen.reach("/elderlyOrDisabled")
+    screen.answer(is_first=False)
+    for slot, amount in (("/earnings", "$1,500"), ("/otherIncome", "0"), ("/dependentCareCosts", "0")):
+        screen.reach(slot)
+        screen.type(amount)
+    screen.reach("/takesHomelessDeduction")
+    screen.answer(is_first=False)
+    for slot, amount in (("/rent", "700.49"), ("/utilities", "350.50")):
+        screen.reach(slot)
+        screen.type(amount)
+
+
 INTERVIEWS = {
     "screener": Interview(EXAMPLES / "screener.json", fill_screener, {"/bill": "x", "/caseNumber": "12-345678"}),
+    "snap": Interview(EXAMPLES / "snap.facts", fill_snap, {"/size": "0", "/earnings": "much"}),
     "year 2023": Interview("year 2023", fill_year, {"/earnedIncome": "-1", "/otherIncome": "much"}),
 }

@@ -12,10 +12,12 @@ import pytest
 from hypothesis import given, settings
 from hypothesis import strategies as st
 
+from fact_graph import built_in
 from fact_graph.rules import NotRules, formatted, parse, text_of
 
 from ..dictionaries import dictionaries as accepted
 from ..places import TOP
+from ..test_built_in import FACTS
 from .random_forms import Forms
 
 STORED = sorted([*(TOP / "examples").rglob("*.json"), *(TOP / "tests" / "dictionaries").glob("*.json")])
@@ -49,6 +51,12 @@ def holds(dictionary: dict[str, Any]) -> None:
 def test_stored_dictionaries(path: Path) -> None:
     """The laws hold of each dictionary that is stored here."""
     holds(json.loads(path.read_bytes()))
+
+
+@pytest.mark.parametrize("words", FACTS)
+def test_dictionaries_that_come_along(words: str) -> None:
+    """They hold of the rules of the tax years."""
+    holds(json.loads(built_in.text_of(words)))
 
 
 @settings(max_examples=1_000, deadline=None)
