@@ -46,10 +46,22 @@ def test_its_text_is_its_dictionary(words: str) -> None:
         assert (of_text.dictionary, of_text.source) == (session.dictionary, session.source)
 
 
-@pytest.mark.parametrize("words", ["", "year", "year 2022", "year 2023 ", "income 2024", "Year 2023"])
+@pytest.mark.parametrize("words", ["", "year", "year 2022", "year 2023 ", "income 2022", "Year 2023"])
 def test_there_are_no_others(words: str) -> None:
     with pytest.raises(UnknownDictionary):
         Session.built_in(words)
+
+
+def test_the_income_of_2024_has_its_own_schedule() -> None:
+    """By hand: 55,000.50 less 29,200 are 25,800.50, of which 23,200 at 10 percent are 2,320.00 and 2,600.50 at 12 percent 312.06."""
+    with Session.built_in("income 2024") as session:
+        for path, value in {"married": "true", "fileJointly": "true", "spouseItemizes": "false", "canBeClaimed": "false", "blind": "false",
+                            "spouseBlind": "false", "dateOfBirth": "1985-03-10", "spouseDateOfBirth": "1987-07-04", "earnedIncome": "52000.00",
+                            "otherIncome": "3000.50"}.items():
+            assert session.line(f"set /{path} {value}") == "ok\n"
+        assert session.line("open /dependents") == "ok\n"
+        assert session.line("final /standardDeduction") == "final 29200.00\n"
+        assert session.line("final /taxAfterCredits") == "final 2632.06\n"
 
 
 def test_a_text_is_kept_as_it_was_given() -> None:

@@ -328,7 +328,7 @@ static void goes_on_when_over(void) {
 /* ---- fact_graph_open_built_in */
 
 static void knows_no_others(void) {
-  static const char *const words[] = {"", "year", "year 2022", "year 2023 ", " year 2023", "Year 2023", "year  2023", "year 2023\n", "income 2024", "\xff"};
+  static const char *const words[] = {"", "year", "year 2022", "year 2023 ", " year 2023", "Year 2023", "year  2023", "year 2023\n", "income 2022", "\xff"};
   for (size_t k = 0; k < sizeof words / sizeof words[0]; k++) {
     fact_graph graph = {NULL};
     fact_graph_fault fault = {9, 9, 9, 9, 9};
