@@ -59,7 +59,8 @@ from fact_graph_service.sealing import Vault
 from fact_graph_service.settings import Settings
 from fact_graph_service.store import Store, StoreFailed
 from pages import EXAMPLES
-from servers import SECONDS, Worker, served
+from servers import Worker, served
+from waiting import SECONDS
 
 DICTIONARY = EXAMPLES / "screener.json"
 QUESTIONS = ["get /outcome", "final /outcome", "get /help", "missing /help", "get /means", "get /people"]

@@ -11,7 +11,8 @@ from selenium.webdriver.common.by import By
 from selenium.webdriver.common.keys import Keys
 from selenium.webdriver.support.wait import WebDriverWait
 
-from servers import SECONDS, Worker
+from servers import Worker
+from waiting import SECONDS
 
 WIDE = 1280
 PICTURES = os.environ.get("FACT_GRAPH_PICTURES")
@@ -55,6 +56,7 @@ class Screen:
         """Loads the page anew."""
         self.driver.get(self.address)
         self.until("document.querySelector('.result, .field') !== null")
+        self.come_back()
         return self
 
     def resize(self, width: int, height: int = 900) -> None:
@@ -104,6 +106,11 @@ class Screen:
     def back(self) -> None:
         """Goes back to the control before."""
         ActionChains(self.driver).key_down(Keys.SHIFT).send_keys(Keys.TAB).key_up(Keys.SHIFT).perform()
+
+    def come_back(self) -> None:
+        """Goes on in the page, where the tabulator may have come to the browser's own controls. In Chromium all keys are the page's."""
+        if hasattr(self.driver, "focus_page"):
+            self.driver.focus_page()
 
     def reach(self, slot: str, kind: str = "input, select") -> None:
         """Goes by the tabulator to a control of a field, once the field is there: on, or back where an answer brought it."""

@@ -18,8 +18,6 @@ from screens import WIDE, Screen
 from servers import Worker
 
 NARROW = 320
-# No walk has come to its end in Firefox yet; the page's other tests run there too.
-pytestmark = pytest.mark.parametrize("driver", ["chromium"], indirect=True, scope="session")
 ANSWERS = """
 const answer = (it) => (it.type === "radio" ? it.checked : it.value);
 const answers = (it) => [...it.querySelectorAll("input, select")].map(answer).join();
@@ -78,6 +76,7 @@ class Walk:
             if stop is None:
                 break
             stops.append(stop)
+        self.screen.come_back()
         self.note("keyboard", state, [] if len({stop["name"] + stop["key"] for stop in stops}) == due else [f"{len(stops)} of {due} stops"])
         self.note("focus_visible", state, [stop["name"] for stop in stops if not stop["isOutlined"]])
         self.note("focus_not_obscured", state, [stop["name"] for stop in stops if not stop["isSeen"]])

@@ -17,7 +17,8 @@ from selenium.webdriver.common.keys import Keys
 from fact_graph_service.settings import Settings
 from pages import EXAMPLES
 from screens import Screen
-from servers import SECONDS, Worker, served
+from servers import Worker, served
+from waiting import SECONDS
 
 NARROW = 320
 
