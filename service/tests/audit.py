@@ -128,31 +128,27 @@ SPACED_TEXT = """@media all {
 """What people may do to the text of any page: a rule of style that makes it larger, and one that gives it more space."""
 
 STOP = COLOURS + """
-const stop = () => {
-  const it = document.activeElement;
-  if (!it || it === document.body) return null;
-  const shown = it.matches(".sr-only") ? it.nextElementSibling : it;
-  const panel = it.closest(".asked, .follows, .review, dialog, header") ?? document.body;
-  const box = shown.getBoundingClientRect();
-  const from = panel.getBoundingClientRect();
-  const style = getComputedStyle(shown);
-  const middleOf = (start, end, most) => (Math.max(start, 0) + Math.min(end, most)) / 2;
-  const middle = document.elementFromPoint(middleOf(box.left, box.right, innerWidth), middleOf(box.top, box.bottom, innerHeight));
-  return {
-    name: it.outerHTML.slice(0, 100),
-    key: it.id || `${it.textContent} ${it.closest("[data-slot]")?.dataset.slot ?? ""}`,
-    panel: panel.className || panel.tagName,
-    left: box.left - from.left,
-    top: box.top - from.top + panel.scrollTop,
-    height: box.height,
-    isOutlined: style.outlineStyle !== "none" && parseFloat(style.outlineWidth) >= 2 && contrast(style.outlineColor, groundOf(shown.parentElement)) >= 3,
-    isSeen: middle !== null && (shown.contains(middle) || middle.contains(shown) || Boolean(middle.closest("label"))),
-  };
+const it = document.activeElement;
+if (!it || it === document.body) return null;
+const shown = it.matches(".sr-only") ? it.nextElementSibling : it;
+const panel = it.closest(".asked, .follows, .review, dialog, header") ?? document.body;
+const box = shown.getBoundingClientRect();
+const from = panel.getBoundingClientRect();
+const style = getComputedStyle(shown);
+const middleOf = (start, end, most) => (Math.max(start, 0) + Math.min(end, most)) / 2;
+const middle = document.elementFromPoint(middleOf(box.left, box.right, innerWidth), middleOf(box.top, box.bottom, innerHeight));
+return {
+  name: it.outerHTML.slice(0, 100),
+  key: it.id || `${it.textContent} ${it.closest("[data-slot]")?.dataset.slot ?? ""}`,
+  panel: panel.className || panel.tagName,
+  left: box.left - from.left,
+  top: box.top - from.top + panel.scrollTop,
+  height: box.height,
+  isOutlined: style.outlineStyle !== "none" && parseFloat(style.outlineWidth) >= 2 && contrast(style.outlineColor, groundOf(shown.parentElement)) >= 3,
+  isSeen: middle !== null && (shown.contains(middle) || middle.contains(shown) || Boolean(middle.closest("label"))),
 };
-const frame = () => new Promise(requestAnimationFrame);
-return frame().then(frame).then(stop);
 """
-"""What has the focus, once it is drawn: where it is, and whether it is seen."""
+"""What has the focus: where it is, and whether it is seen."""
 
 STOPS = """
 const controls = [...document.querySelectorAll("button, input, select, summary, a[href]")].filter((it) => it.checkVisibility() && !it.disabled);

@@ -17,6 +17,7 @@ from pathlib import Path
 from typing import Any
 
 from selenium import webdriver
+from selenium.common.exceptions import WebDriverException
 from selenium.webdriver.chrome.service import Service
 from selenium.webdriver.remote.command import Command
 
@@ -88,8 +89,8 @@ class Marionette:
             ("WebDriver:ExecuteScript", {"script": script, "args": given}),
             ("Marionette:SetContext", {"value": CONTENT}),
         ]
-        for name, given in steps:
-            error, _ = self._ask(name, given)
+        for name, said in steps:
+            error, _ = self._ask(name, said)
             if error:
                 raise RuntimeError(f"{name}: {error}")
 
@@ -199,6 +200,16 @@ class Driver(Service):
                 raise RuntimeError(f"Chromium's driver has ended: {said.read_text(encoding='utf-8')}")
 
 
+def _chrome(options: webdriver.ChromeOptions, tries: int) -> Any:
+    """A Chromium. Its driver waits a minute for it, which a cold machine may take longer for: then it is tried again."""
+    try:
+        return webdriver.Chrome(service=Driver("/usr/bin/chromedriver"), options=options)
+    except WebDriverException:
+        if tries == 1:
+            raise
+        return _chrome(options, tries - 1)
+
+
 @contextmanager
 def chromium() -> Iterator[Any]:
     """A Chromium of its own, with a new profile."""
@@ -206,7 +217,7 @@ def chromium() -> Iterator[Any]:
     options.binary_location = "/usr/bin/chromium"
     for flag in ("headless=new", "no-sandbox", "disable-gpu", "disable-dev-shm-usage", "no-first-run", "disable-background-networking", f"lang={LANGUAGE}"):
         options.add_argument(f"--{flag}")
-    driver = webdriver.Chrome(service=Driver("/usr/bin/chromedriver"), options=options)
+    driver = _chrome(options, 3)
     try:
         yield driver
     finally:

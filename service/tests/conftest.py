@@ -21,8 +21,8 @@ from pages import EXAMPLES, Page
 from servers import Worker, served
 from waiting import SECONDS
 
-
 MOST_SECONDS = 3 * SECONDS
+"""A walk through an interview, which is made for many tests, takes longest; this is far more than it takes."""
 
 
 def pytest_runtest_logstart(nodeid: str) -> None:

@@ -1,4 +1,4 @@
-"""The rules of the Web Content Accessibility Guidelines 2.2, levels A and AA, over each interview, in Chromium.
+"""The rules of the Web Content Accessibility Guidelines 2.2, levels A and AA, over each interview.
 
 A walk goes through an interview by keyboard alone. What breaks a rule of `audit.RULES` is noted at each state of the page; what depends
 on where the focus goes, or on another size of the page or of its text, is looked at on the way.
@@ -71,6 +71,7 @@ class Walk:
         self.screen.back()
         due, stops = self.screen.js(audit.STOPS), list[dict[str, Any]]()
         for _ in range(due):
+            self.screen.drawn()
             stop = self.screen.js(audit.STOP)
             self.screen.keys(Keys.TAB)
             if stop is None:
@@ -195,7 +196,7 @@ def test_the_purpose_of_what_is_asked_of_the_person_is_said(driver: Any, workers
     for slot, value in (("/married", "true"), ("/fileJointly", "true"), ("/canBeClaimed", "false")):
         screen.choose(slot, value)
     screen.field("/dateOfBirth")
-    said = screen.js("return [...document.querySelectorAll('.field[data-slot=\"/dateOfBirth\"] input')].map((it) => it.autocomplete)")
+    said = screen.js("return [...document.querySelectorAll('.field[data-slot=\"/dateOfBirth\"] input')].map((it) => it.getAttribute('autocomplete'))")
     assert said == ["bday-month", "bday-day", "bday-year"]
 
 

@@ -72,7 +72,6 @@ def serving(folder: Path, *words: str, **variables: str) -> Iterator[subprocess.
 def wait_for(server: subprocess.Popen[str], port: int) -> None:
     """Waits until the command line serves."""
 
-
     def answers() -> bool:
         assert server.poll() is None, "it has ended"
         try:

@@ -7,7 +7,7 @@ from collections.abc import Callable
 
 SECONDS = 600
 """After so long without what it waits for, a test has failed. It is far more than a slow machine takes."""
-PAUSE = 0.05
+PAUSE = 0.1
 
 
 def wait_until(what: str, is_so: Callable[[], object]) -> None:
