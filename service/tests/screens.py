@@ -76,7 +76,7 @@ class Screen:
     def is_zoomed_to(self, width: int) -> bool:
         """Whether Firefox's page has this width. Where it hasn't, it is zoomed, and has it a while later."""
         now, of_window = self.js("return [innerWidth, innerWidth * devicePixelRatio]")
-        is_so = abs(now - width) <= 1
+        is_so = bool(abs(now - width) <= 1)
         if not is_so:
             self.driver.zoom(of_window / width)
         return is_so
