@@ -11,17 +11,17 @@ import shutil
 import socket
 import subprocess
 import tempfile
-import time
 from collections.abc import Iterator
 from contextlib import contextmanager
 from pathlib import Path
 from typing import Any
 
 from selenium import webdriver
+from selenium.common.exceptions import WebDriverException
 from selenium.webdriver.chrome.service import Service
 from selenium.webdriver.remote.command import Command
 
-from servers import SECONDS
+from waiting import SECONDS, wait_until
 
 LANGUAGE = "en-US"
 
@@ -82,15 +82,15 @@ class Marionette:
             return {"value": value}
         return {"value": value["value"] if isinstance(value, dict) and "value" in value else value}
 
-    def zoom(self, factor: float) -> None:
-        """Shows the page so many times as large, as a person may."""
+    def run_in_window(self, script: str, *given: object) -> None:
+        """Runs a script in Firefox's own window."""
         steps: list[tuple[str, dict[str, Any]]] = [
             ("Marionette:SetContext", {"value": CHROME}),
-            ("WebDriver:ExecuteScript", {"script": "gBrowser.selectedBrowser.fullZoom = arguments[0];", "args": [factor]}),
+            ("WebDriver:ExecuteScript", {"script": script, "args": given}),
             ("Marionette:SetContext", {"value": CONTENT}),
         ]
-        for name, given in steps:
-            error, _ = self._ask(name, given)
+        for name, said in steps:
+            error, _ = self._ask(name, said)
             if error:
                 raise RuntimeError(f"{name}: {error}")
 
@@ -103,7 +103,10 @@ class Marionette:
         self._number += 1
         text = json.dumps([0, self._number, name, given]).encode()
         self._socket.sendall(str(len(text)).encode() + b":" + text)
-        _, _, error, value = self._message()
+        try:
+            _, _, error, value = self._message()
+        except TimeoutError as late:
+            raise TimeoutError(f"Firefox answers {text.decode()}: not within {SECONDS} seconds") from late
         return error, value
 
     def _message(self) -> Any:
@@ -124,24 +127,31 @@ class Marionette:
 
 def _port_of(browser: subprocess.Popen[bytes], file: Path) -> int:
     """The port that Firefox has chosen, once it writes it into a file of its profile."""
-    until = time.monotonic() + SECONDS
-    while not (file.is_file() and file.read_text(encoding="ascii")):
-        if browser.poll() is not None or time.monotonic() > until:
-            raise RuntimeError("Firefox didn't begin")
-        time.sleep(0.2)
-    return int(file.read_text(encoding="ascii"))
+
+    def said() -> str:
+        return file.read_text(encoding="ascii") if file.is_file() else ""
+
+    wait_until("Firefox says its port", lambda: said() or browser.poll() is not None)
+    if browser.poll() is not None:
+        raise RuntimeError("Firefox has ended")
+    return int(said())
 
 
 class Firefox(webdriver.Remote):
-    """Firefox, whose page can be zoomed too."""
+    """Firefox, whose page can be zoomed and given the keyboard too."""
 
     def __init__(self, protocol: Marionette, options: webdriver.FirefoxOptions) -> None:
         super().__init__(command_executor=protocol, options=options)
         self._protocol = protocol
 
     def zoom(self, factor: float) -> None:
-        """Shows the page so many times as large."""
-        self._protocol.zoom(factor)
+        """Shows the page so many times as large, as a person may."""
+        self._protocol.run_in_window("gBrowser.selectedBrowser.fullZoom = arguments[0];", factor)
+
+    def focus_page(self) -> None:
+        """Gives the page the keyboard. Behind the page's last control the tabulator comes to those of the window, and while one of them has
+        the focus, no key presses a button of the page."""
+        self._protocol.run_in_window("gBrowser.selectedBrowser.focus();")
 
 
 @contextmanager
@@ -168,21 +178,36 @@ def firefox() -> Iterator[Any]:
         shutil.rmtree(folder, ignore_errors=True)
 
 
+def _driver_port(said: Path) -> int:
+    """The port that Chromium's driver has chosen, or 0 where it hasn't said it yet."""
+    found = re.search(r"successfully on port (\d+)", said.read_text(encoding="utf-8"))
+    return int(found[1]) if found else 0
+
+
 class Driver(Service):
     """Chromium's driver, at a port that it chooses itself."""
 
     def start(self) -> None:
         """Starts the driver, and waits until it says its port."""
-        # pylint: disable-next=consider-using-with,attribute-defined-outside-init # it is ended by `stop`, and the class above reads it
-        self.process = subprocess.Popen([self.path, "--port=0"], stdout=subprocess.PIPE, text=True)
-        said = ""
-        for line in self.process.stdout or ():
-            said += line
-            found = re.search(r"successfully on port (\d+)", line)
-            if found:
-                self.port = int(found[1])
-                return
-        raise RuntimeError(f"Chromium's driver didn't begin\n{said}")
+        with tempfile.TemporaryDirectory(prefix="chromedriver.") as folder:
+            said = Path(folder, "said")
+            with said.open("wb") as file:
+                # pylint: disable-next=consider-using-with,attribute-defined-outside-init # `stop` ends it, and the class above reads it
+                process = self.process = subprocess.Popen([self.path, "--port=0"], stdout=file)
+            wait_until("Chromium's driver says its port", lambda: _driver_port(said) or process.poll() is not None)
+            self.port = _driver_port(said)
+            if not self.port:
+                raise RuntimeError(f"Chromium's driver has ended: {said.read_text(encoding='utf-8')}")
+
+
+def _chrome(options: webdriver.ChromeOptions, tries: int) -> Any:
+    """A Chromium. Its driver waits a minute for it, which a cold machine may take longer for: then it is tried again."""
+    try:
+        return webdriver.Chrome(service=Driver("/usr/bin/chromedriver"), options=options)
+    except WebDriverException:
+        if tries == 1:
+            raise
+        return _chrome(options, tries - 1)
 
 
 @contextmanager
@@ -192,7 +217,7 @@ def chromium() -> Iterator[Any]:
     options.binary_location = "/usr/bin/chromium"
     for flag in ("headless=new", "no-sandbox", "disable-gpu", "disable-dev-shm-usage", "no-first-run", "disable-background-networking", f"lang={LANGUAGE}"):
         options.add_argument(f"--{flag}")
-    driver = webdriver.Chrome(service=Driver("/usr/bin/chromedriver"), options=options)
+    driver = _chrome(options, 3)
     try:
         yield driver
     finally:

@@ -4,6 +4,7 @@ from __future__ import annotations
 
 import os
 import secrets
+import signal
 from collections.abc import Iterator
 from contextlib import ExitStack
 from pathlib import Path
@@ -17,7 +18,26 @@ from fact_graph_service import app, store
 from fact_graph_service.settings import Settings
 from interviews import INTERVIEWS
 from pages import EXAMPLES, Page
-from servers import SECONDS, Worker, served
+from servers import Worker, served
+from waiting import SECONDS
+
+MOST_SECONDS = 3 * SECONDS
+"""A walk through an interview, which is made for many tests, takes longest; this is far more than it takes."""
+
+
+def pytest_runtest_logstart(nodeid: str) -> None:
+    """Has a test fail that doesn't come to its end, wherever it waits; what it does then has an end too."""
+
+    def end(*_: object) -> None:
+        raise TimeoutError(f"{nodeid}: no end within {MOST_SECONDS} seconds")
+
+    signal.signal(signal.SIGALRM, end)
+    signal.setitimer(signal.ITIMER_REAL, MOST_SECONDS, SECONDS)
+
+
+def pytest_runtest_logfinish() -> None:
+    """The test has come to its end."""
+    signal.setitimer(signal.ITIMER_REAL, 0)
 
 
 @pytest.fixture(autouse=True)

@@ -13,7 +13,7 @@ from pathlib import Path
 
 import psycopg
 
-from servers import SECONDS
+from waiting import SECONDS, wait_until
 
 BIN = max(Path("/usr/lib/postgresql").glob("*/bin"), default=Path("/usr/bin"))
 USER = "postgres"
@@ -60,8 +60,7 @@ class Postgres:
     def kill(self) -> None:
         """Kills the server, as a crash does."""
         os.kill(self.pids()[0], signal.SIGKILL)
-        while self.answers():
-            time.sleep(0.1)
+        wait_until("a PostgreSQL that was killed answers no more", lambda: not self.answers())
 
     def close(self) -> None:
         """Ends the server, where it is still there, and removes its folder."""

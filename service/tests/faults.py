@@ -59,7 +59,8 @@ from fact_graph_service.sealing import Vault
 from fact_graph_service.settings import Settings
 from fact_graph_service.store import Store, StoreFailed
 from pages import EXAMPLES
-from servers import SECONDS, Worker, served
+from servers import Worker, served
+from waiting import SECONDS, wait_until
 
 DICTIONARY = EXAMPLES / "screener.json"
 QUESTIONS = ["get /outcome", "final /outcome", "get /help", "missing /help", "get /means", "get /people"]
@@ -374,14 +375,17 @@ async def change_all(kind: Kind, place: Any, workers: list[Worker], visitors: li
 
 def answering(place: str) -> Store:
     """The store, once it answers."""
-    store, until = Store(place), time.monotonic() + SECONDS
-    while True:
+    store = Store(place)
+
+    def answers() -> bool:
         try:
             store.check()
-            return store
         except StoreFailed:
-            if time.monotonic() > until:
-                raise
+            return False
+        return True
+
+    wait_until("the store answers", answers)
+    return store
 
 
 async def judge(store: Store, vault: Vault, visitor: Visitor, tally: Tally) -> None:

@@ -3,15 +3,17 @@
 from __future__ import annotations
 
 import os
+from contextlib import suppress
 from pathlib import Path
 from typing import Any
 
+from selenium.common.exceptions import JavascriptException
 from selenium.webdriver.common.action_chains import ActionChains
 from selenium.webdriver.common.by import By
 from selenium.webdriver.common.keys import Keys
-from selenium.webdriver.support.wait import WebDriverWait
 
-from servers import SECONDS, Worker
+from servers import Worker
+from waiting import wait_until
 
 WIDE = 1280
 PICTURES = os.environ.get("FACT_GRAPH_PICTURES")
@@ -22,7 +24,9 @@ const headers = { "Content-Type": "application/json", "X-Token": document.queryS
 return fetch("end", { method: "POST", headers, body: "{}" }).then(() => 0);
 """
 
-
+FRAMES = "return new Promise((done) => requestAnimationFrame(() => requestAnimationFrame(() => done(null))))"
+BUTTON = "[...document.querySelectorAll('button')].find((it) => it.checkVisibility() && it.innerText.trim().startsWith(arguments[0]))"
+"""The first button that is seen with a text."""
 WAY = """
 const [slot, kind] = arguments;
 const it = document.activeElement;
@@ -55,6 +59,7 @@ class Screen:
         """Loads the page anew."""
         self.driver.get(self.address)
         self.until("document.querySelector('.result, .field') !== null")
+        self.come_back()
         return self
 
     def resize(self, width: int, height: int = 900) -> None:
@@ -62,19 +67,40 @@ class Screen:
         narrow, by the zoom of its page."""
         if hasattr(self.driver, "execute_cdp_cmd"):
             self.driver.execute_cdp_cmd("Emulation.setDeviceMetricsOverride", {"width": width, "height": height, "deviceScaleFactor": 1, "mobile": False})
+            self.until(f"Math.abs(innerWidth - {width}) <= 1")
         else:
-            self.driver.zoom(1)
             self.driver.set_window_rect(0, 0, WIDE, height)
-            self.driver.zoom(self.js("return innerWidth") / width)
-        self.until(f"Math.abs(innerWidth - {width}) <= 1")
+            wait_until(f"the page is {width} pixels wide", lambda: self.is_zoomed_to(width))
+        self.drawn()
+
+    def is_zoomed_to(self, width: int) -> bool:
+        """Whether Firefox's page has this width. Where it hasn't, it is zoomed, and has it a while later."""
+        now, of_window = self.js("return [innerWidth, innerWidth * devicePixelRatio]")
+        is_so = bool(abs(now - width) <= 1)
+        if not is_so:
+            self.driver.zoom(of_window / width)
+        return is_so
+
+    def drawn(self) -> None:
+        """Waits until the page is drawn as it stands now."""
+        self.js(FRAMES)
 
     def js(self, code: str, *given: Any) -> Any:
         """What a script returns."""
         return self.driver.execute_script(code, *given)
 
-    def until(self, code: str) -> None:
-        """Waits until the code gives a true value."""
-        WebDriverWait(self.driver, SECONDS).until(lambda _: self.js(f"return Boolean({code})"), code)
+    def until(self, code: str, *given: Any) -> Any:
+        """Waits until the code gives a true value, and returns it. The code may speak of what isn't there yet."""
+        value: Any = None
+
+        def is_there() -> Any:
+            nonlocal value
+            with suppress(JavascriptException):
+                value = self.js(f"return ({code})", *given)
+            return value
+
+        wait_until(f"{code} on the page, of {given}", is_there)
+        return value
 
     def saved(self) -> None:
         """Waits until all changes are answered."""
@@ -86,8 +112,7 @@ class Screen:
     def field(self, slot: str, inside: str = "input, select") -> Any:
         """The first part of a field of this kind, once the field is there."""
         selector = f'.field[data-slot="{slot}"] :is({inside})'
-        WebDriverWait(self.driver, SECONDS).until(lambda _: self.driver.find_elements(By.CSS_SELECTOR, selector), selector)
-        return self.find(selector)
+        return self.until("document.querySelector(arguments[0])", selector)
 
     def write(self, slot: str, text: str) -> None:
         """Writes into a field over what stands there, and leaves it by the tabulator."""
@@ -104,6 +129,11 @@ class Screen:
     def back(self) -> None:
         """Goes back to the control before."""
         ActionChains(self.driver).key_down(Keys.SHIFT).send_keys(Keys.TAB).key_up(Keys.SHIFT).perform()
+
+    def come_back(self) -> None:
+        """Goes on in the page, where the tabulator may have come to the browser's own controls. In Chromium all keys are the page's."""
+        if hasattr(self.driver, "focus_page"):
+            self.driver.focus_page()
 
     def reach(self, slot: str, kind: str = "input, select") -> None:
         """Goes by the tabulator to a control of a field, once the field is there: on, or back where an answer brought it."""
@@ -142,8 +172,8 @@ class Screen:
         self.saved()
 
     def press(self, text: str) -> Any:
-        """Presses a button by the keyboard."""
-        button = next(it for it in self.driver.find_elements(By.CSS_SELECTOR, "button") if it.text.strip().startswith(text))
+        """Presses a button by the keyboard, once it is there, and returns it."""
+        button = self.until(BUTTON, text)
         button.send_keys(Keys.ENTER)
         return button
 

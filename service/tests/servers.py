@@ -8,7 +8,6 @@ import signal
 import socket
 import subprocess
 import sys
-import time
 import urllib.error
 import urllib.request
 from collections.abc import Iterator
@@ -17,10 +16,9 @@ from pathlib import Path
 from typing import IO
 
 from fact_graph_service.settings import Settings
+from waiting import SECONDS, wait_until
 
 TOP = Path(__file__).resolve().parents[2]
-SECONDS = 600
-"""After so long without what it waits for, a test has failed. It is far more than a slow machine takes."""
 
 
 @contextmanager
@@ -50,11 +48,9 @@ class Worker:
         words = [sys.executable, "-m", "uvicorn", "--factory", "fact_graph_service.app:application", "--no-access-log", "--port", str(self.port)]
         # pylint: disable-next=consider-using-with # it is ended by `end`
         self._process = subprocess.Popen(words, env=environment, stdout=self._log, stderr=self._log)
-        until = time.monotonic() + SECONDS
-        while not self.is_well():
-            if self._process.poll() is not None or time.monotonic() > until:
-                raise RuntimeError(f"no worker began at port {self.port}")
-            time.sleep(0.05)
+        wait_until(f"a worker answers at port {self.port}", lambda: self.is_well() or self.has_ended())
+        if self.has_ended():
+            raise RuntimeError(f"the worker at port {self.port} has ended")
 
     def is_well(self) -> bool:
         """Whether the process answers."""
@@ -63,6 +59,11 @@ class Worker:
                 return bool(answer.status == 200)
         except (OSError, urllib.error.URLError):
             return False
+
+    def has_ended(self) -> bool:
+        """Whether the process is there no more."""
+        assert self._process is not None
+        return self._process.poll() is not None
 
     @property
     def pid(self) -> int:

@@ -1,4 +1,4 @@
-"""The rules of the Web Content Accessibility Guidelines 2.2, levels A and AA, over each interview, in Chromium.
+"""The rules of the Web Content Accessibility Guidelines 2.2, levels A and AA, over each interview.
 
 A walk goes through an interview by keyboard alone. What breaks a rule of `audit.RULES` is noted at each state of the page; what depends
 on where the focus goes, or on another size of the page or of its text, is looked at on the way.
@@ -18,8 +18,6 @@ from screens import WIDE, Screen
 from servers import Worker
 
 NARROW = 320
-# No walk has come to its end in Firefox yet; the page's other tests run there too.
-pytestmark = pytest.mark.parametrize("driver", ["chromium"], indirect=True, scope="session")
 ANSWERS = """
 const answer = (it) => (it.type === "radio" ? it.checked : it.value);
 const answers = (it) => [...it.querySelectorAll("input, select")].map(answer).join();
@@ -73,11 +71,13 @@ class Walk:
         self.screen.back()
         due, stops = self.screen.js(audit.STOPS), list[dict[str, Any]]()
         for _ in range(due):
+            self.screen.drawn()
             stop = self.screen.js(audit.STOP)
             self.screen.keys(Keys.TAB)
             if stop is None:
                 break
             stops.append(stop)
+        self.screen.come_back()
         self.note("keyboard", state, [] if len({stop["name"] + stop["key"] for stop in stops}) == due else [f"{len(stops)} of {due} stops"])
         self.note("focus_visible", state, [stop["name"] for stop in stops if not stop["isOutlined"]])
         self.note("focus_not_obscured", state, [stop["name"] for stop in stops if not stop["isSeen"]])
@@ -196,7 +196,7 @@ def test_the_purpose_of_what_is_asked_of_the_person_is_said(driver: Any, workers
     for slot, value in (("/married", "true"), ("/fileJointly", "true"), ("/canBeClaimed", "false")):
         screen.choose(slot, value)
     screen.field("/dateOfBirth")
-    said = screen.js("return [...document.querySelectorAll('.field[data-slot=\"/dateOfBirth\"] input')].map((it) => it.autocomplete)")
+    said = screen.js("return [...document.querySelectorAll('.field[data-slot=\"/dateOfBirth\"] input')].map((it) => it.getAttribute('autocomplete'))")
     assert said == ["bday-month", "bday-day", "bday-year"]
 
 

@@ -15,6 +15,7 @@ from fact_graph_service.settings import Settings
 from fact_graph_service.store import Head, Hold
 
 from pages import EXAMPLES, Page
+from waiting import SECONDS
 
 
 def test_a_change_is_answered_with_its_reply_and_those_of_the_questions(page: Page) -> None:
@@ -88,7 +89,7 @@ def test_of_two_windows_that_begin_at_once_one_is_told(settings: Settings, monke
 
         monkeypatch.setattr(Hold, "begin", begin_beside)
         assert page.change("set /bill 5")["reply"] == "ok"
-        changing.join()
+        changing.join(SECONDS)
         assert (told[0]["stale"], told[0]["reply"], told[0]["replies"]) == (True, None, ["complete 5.00"])
         assert other.change("set /bill 7")["reply"] == "ok"
         assert page.change("set /bill 8")["stale"]

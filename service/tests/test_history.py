@@ -2,7 +2,7 @@
 
 from __future__ import annotations
 
-from hypothesis import given, settings
+from hypothesis import HealthCheck, given, settings
 from hypothesis import strategies as st
 
 from fact_graph import Session
@@ -26,7 +26,7 @@ def accepted(session: Session, said: list[str]) -> list[tuple[str, str]]:
     return [(line, reply) for line, reply in ((line, session.line(line)) for line in said) if not reply.startswith("refused ")]
 
 
-@settings(deadline=None, max_examples=200)
+@settings(deadline=None, max_examples=200, suppress_health_check=[HealthCheck.too_slow])
 @given(st.lists(lines, max_size=40), st.integers(0, 8))
 def test_a_cut_changes_no_reply(said: list[str], reach: int) -> None:
     with Session(DICTIONARY) as session:

@@ -17,7 +17,8 @@ from selenium.webdriver.common.keys import Keys
 from fact_graph_service.settings import Settings
 from pages import EXAMPLES
 from screens import Screen
-from servers import SECONDS, Worker, served
+from servers import Worker, served
+from waiting import SECONDS
 
 NARROW = 320
 
@@ -134,7 +135,7 @@ def test_what_is_wrong_is_told_in_plain_words_beside_the_field_and_in_a_summary(
     screen.find(".summary a").send_keys(Keys.ENTER)
     assert screen.focused() in ("/bill", "/caseNumber")
     assert screen.field("/bill").accessible_name.startswith("Heating bill")
-    assert screen.field("/bill").get_attribute("aria-invalid") == "true" if hasattr(screen.driver, "execute_cdp_cmd") else True
+    assert screen.js("return arguments[0].getAttribute('aria-invalid')", screen.field("/bill")) == "true"
 
 
 def test_an_earlier_answer_wipes_no_later_error(screen: Screen, worker: Worker) -> None:

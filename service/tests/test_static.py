@@ -21,6 +21,7 @@ from fact_graph.status import Status
 from pages import EXAMPLES
 from screens import Screen
 from test_examples import DRIVER, check_result, commands, play
+from waiting import SECONDS
 
 # A module that is put beside the page: it notes each line that the page says to its engine, with the reply.
 LISTENER = """
@@ -64,14 +65,16 @@ def hosted(folder: Path) -> Iterator[Host]:
     """A folder, served by a plain host."""
     with ThreadingHTTPServer(("127.0.0.1", 0), functools.partial(Handler, directory=str(folder))) as server:
         threading.Thread(target=server.serve_forever, daemon=True).start()
-        yield Host(server.server_address[1])
-        server.shutdown()
+        try:
+            yield Host(server.server_address[1])
+        finally:
+            server.shutdown()
 
 
 def replies(program: Path, lines: list[str]) -> list[str]:
     """The lines that the program replies to a script of lines."""
     script = "".join(f"{line}\n" for line in lines)
-    return subprocess.run([program, "year", "2023"], input=script, stdout=subprocess.PIPE, text=True, check=True).stdout.splitlines(keepends=True)
+    return subprocess.run([program, "year", "2023"], input=script, stdout=subprocess.PIPE, text=True, check=True, timeout=SECONDS).stdout.splitlines(keepends=True)
 
 
 def answers_of(name: str) -> dict[str, str]:

@@ -10,7 +10,6 @@ import signal
 import socket
 import subprocess
 import sys
-import time
 from collections.abc import Iterator
 from contextlib import contextmanager
 from pathlib import Path
@@ -20,7 +19,8 @@ import httpx
 
 from fact_graph_service.settings import Settings
 from pages import EXAMPLES, Page
-from servers import SECONDS, TOP, Worker, held_ports, served
+from servers import TOP, Worker, held_ports, served
+from waiting import SECONDS, wait_until
 
 
 def page_at(port: int) -> Page:
@@ -39,8 +39,7 @@ def answered_at_the_end(worker: Worker, page: Page, said: dict[str, Any]) -> byt
         connection.sendall("\r\n".join(lines).encode())
         assert answer.readline() == b"HTTP/1.1 100 Continue\r\n", "it has begun, and asks for the body"
         worker.send(signal.SIGTERM)
-        while worker.is_well():
-            time.sleep(0.05)
+        wait_until("a worker that is ended takes no other request", lambda: not worker.is_well())
         connection.sendall(body)
         return answer.read()
 
@@ -72,14 +71,15 @@ def serving(folder: Path, *words: str, **variables: str) -> Iterator[subprocess.
 
 def wait_for(server: subprocess.Popen[str], port: int) -> None:
     """Waits until the command line serves."""
-    until = time.monotonic() + SECONDS
-    while True:
+
+    def answers() -> bool:
+        assert server.poll() is None, "it has ended"
         try:
-            httpx.get(f"http://127.0.0.1:{port}/health")
-            return
+            return httpx.get(f"http://127.0.0.1:{port}/health").is_success
         except httpx.HTTPError:
-            assert server.poll() is None and time.monotonic() < until
-            time.sleep(0.1)
+            return False
+
+    wait_until(f"the command line serves at port {port}", answers)
 
 
 def test_one_command_serves_a_dictionary_and_keeps_the_answers_beside_it(tmp_path: Path) -> None:
@@ -93,7 +93,7 @@ def test_one_command_serves_a_dictionary_and_keeps_the_answers_beside_it(tmp_pat
                 told = page.change(f"set /bill {bill}")
                 assert told["reply"] == "ok" and 0 < told["seconds"] <= 1800
                 server.send_signal(signal.SIGTERM)
-                assert server.wait() == 0
+                assert server.wait(SECONDS) == 0
     assert page is not None and page.revision == 2
     assert (tmp_path / "screener.sqlite").is_file()
 
@@ -113,9 +113,9 @@ def test_what_the_maker_misstates_is_told(tmp_path: Path) -> None:
     shutil.copy(EXAMPLES / "screener.json", tmp_path)
     (tmp_path / "screener.page").write_text('{"figures": ["/help", "/halp"]}', encoding="utf-8")
     with serving(tmp_path, "screener.json") as server:
-        said = server.communicate()[1]
+        said = server.communicate(timeout=SECONDS)[1]
         assert server.returncode == 2 and "figures.1: there is no fact" in said and "/halp" in said
     (tmp_path / "screener.page").unlink()
     with serving(tmp_path, "screener.json", "--store", "mysql:x") as server:
-        said = server.communicate()[1]
+        said = server.communicate(timeout=SECONDS)[1]
         assert server.returncode == 2 and "mysql:x" in said
