@@ -65,7 +65,7 @@ int open(const char *name, int flags, ...) {
   if ((flags & O_CREAT) != 0) {
     va_list rest;
     va_start(rest, flags);
-    mode = va_arg(rest, mode_t);
+    mode = va_arg(rest, mode_t); /* NOLINT(clang-analyzer-valist.Uninitialized): it doesn't see va_start in a second file of a run */
     va_end(rest);
   }
   int file = fails() ? -1 : next_open(name, flags, mode);
