@@ -100,7 +100,8 @@ class Conversation:
         """Puts a question until it is answered or left out. Says whether to go on."""
         click.echo(f"\n{click.style(question.label, bold=True)}" + (f" ({question.kind})" if question.kind else ""))
         if question.help:
-            click.echo(question.help)
+            # At a terminal lines end between words.
+            Console(file=sys.stdout, highlight=False).print(Text(question.help), soft_wrap=not sys.stdout.isatty())
         while True:
             try:
                 text = ask_line(question.answers).strip()
