@@ -74,7 +74,8 @@ def hosted(folder: Path) -> Iterator[Host]:
 def replies(program: Path, lines: list[str]) -> list[str]:
     """The lines that the program replies to a script of lines."""
     script = "".join(f"{line}\n" for line in lines)
-    return subprocess.run([program, "year", "2023"], input=script, stdout=subprocess.PIPE, text=True, check=True, timeout=SECONDS).stdout.splitlines(keepends=True)
+    ran = subprocess.run([program, "year", "2023"], input=script, stdout=subprocess.PIPE, text=True, check=True, timeout=SECONDS)
+    return ran.stdout.splitlines(keepends=True)
 
 
 def answers_of(name: str) -> dict[str, str]:

@@ -144,7 +144,7 @@ class _Typing:
             return None
         if option not in self.options[name]:
             like = nearest(option, self.options[name])
-            hint = f"`{like}` is like it" if like else f"it has {listed(self.options[name], 'and')}"
+            hint = f"`{like}` is like it" if like else f"it has {listed(self.options[name], 'and') if self.options[name] else 'none'}"
             self.note(node, f"the list `{name}` has no option `{option}`", hint, (("enums", list(self.options).index(name)),), (*node.pointer, 2))
             return None
         return f"Enum({name})"

@@ -120,6 +120,11 @@ def test_all_faults_are_found_behind_the_first() -> None:
     assert [it.line for it in Examined(text.encode()).findings] == ["3 Shape fact 1", "9 UnknownPath fact 2", "13 BadLimit fact 3"]
 
 
+def test_an_option_of_a_list_without_any_is_found_behind_it() -> None:
+    text = of('{"path":"/a","derived":"Enum(size)","is":["Enum","size","small"]}', '"enums":[{"name":"size","options":[]}],')
+    assert ("the list `size` has no option `small`", "it has none") in [(it.reason, it.hint) for it in Examined(text.encode()).findings]
+
+
 def test_a_dictionary_without_a_fault_has_no_finding() -> None:
     for path in sorted([*(TOP / "examples").glob("*.json"), *(TOP / "tests" / "dictionaries").glob("*.json")]):
         examined = Examined(path.read_bytes())
