@@ -31,7 +31,7 @@ fn put(store: &mut Store, slot: Slot, stamp: u64) -> bool {
     if store.reserve(1).is_err() {
         return false;
     }
-    store.put(slot, Res::Incomplete, stamp).is_some()
+    store.put(slot, Res::Incomplete, stamp).cell.is_some()
 }
 
 fn get(store: &Store, slot: Slot) -> bool {

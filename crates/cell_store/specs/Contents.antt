@@ -1,10 +1,13 @@
 -- What a store keeps.
-use Rattle.std.specs.Prelude.{ℕ, refl}
+use Rattle.std.specs.Prelude.{ℕ, Bool, false, not, Option, Some, None, refl}
 use Rattle.std.specs.Coded.{Coded, code_by, coded×, coded_ℕ}
 use Rattle.std.specs.FinMap as map
 use Rattle.fact_values.specs.contracts.slot.Slot as slot
+use Rattle.three_state.specs.declared.res.Res.{Res}
+use Rattle.three_state.specs.Equality.{res_same}
 use Rattle.cell_store.specs.SlotOrder.{slot_cmp}
 use Rattle.cell_store.specs.contracts.cell.Cell as cell
+use Rattle.cell_store.specs.declared.cell.Cell.{Cell}
 use Rattle.cell_store.specs.declared.cell.Cell.{Cell}
 
 -- a cell at each slot of some
@@ -13,6 +16,11 @@ Cells = map.FinMap slot_cmp Cell
 
 abbrev pub no_cells : Cells
 no_cells = map.empty
+
+-- there is a cell, of another result than this one
+abbrev pub has_other : Option Cell → Res → Bool
+has_other None r = false
+has_other (Some c) r = not (res_same c.res r)
 
 -- the cells, and for how many new slots there is room
 pub record Contents : Type 0 where

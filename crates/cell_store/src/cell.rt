@@ -1,4 +1,7 @@
-// What the store keeps for a slot: its result and its stamp.
+// What the store keeps for a slot, its result and its stamp, and what a put displaces.
+ghost use Rattle.std.specs.Prelude.{◌≡◌, not};
+ghost use Rattle.three_state.specs.Equality.{res_same};
+
 use three_state::Res;
 
 /// What is kept at a slot.
@@ -7,4 +10,22 @@ pub struct Cell {
     pub res: Res,
     /// The number of the last change that touched the slot, and 0 if none did.
     pub stamp: u64,
+}
+
+/// What was at a slot before a put.
+#[derive(Debug, Drop)]
+pub struct Displaced {
+    /// The cell that was there.
+    pub cell: Option<Cell>,
+    /// Whether it had another result than the one that was put.
+    pub moved: bool,
+}
+
+impl Cell {
+    /// Whether its result is another than this one.
+    pub fn is_other(&self, res: &Res) -> bool
+        ensures { result ≡ not (res_same self.now.res res.now) }
+    {
+        !self.res.same(res)
+    }
 }

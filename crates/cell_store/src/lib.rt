@@ -6,5 +6,5 @@ pub mod laws;
 mod placed;
 mod store;
 
-pub use cell::Cell;
+pub use cell::{Cell, Displaced};
 pub use store::Store;

@@ -1,10 +1,10 @@
 // The cells of slots that are found by their fact and their member, and the room for new ones.
 ghost use Rattle.std.specs.Prelude.{◌≡◌, ◌-◌, ◌<◌, ◌≤◌, None, max, is_some, if◌then◌else◌, option_map, option_copied, OnErr, OnOk, IsOk};
 ghost use Rattle.std.specs.FinMap as map;
-ghost use Rattle.cell_store.specs.Contents.{no_cells};
+ghost use Rattle.cell_store.specs.Contents.{has_other, no_cells};
 ghost use Rattle.cell_store.specs.declared.cell.Cell.{Cell};
 
-use crate::cell::Cell;
+use crate::cell::{Cell, Displaced};
 use fact_values::{NoMemory, Slot};
 use slab::Slab;
 use std::alloc::Global;
@@ -73,27 +73,35 @@ impl Placed {
         self.room -= 1;
     }
 
-    /// Puts a cell at a slot, and hands back the result that was there. It takes no memory.
-    pub fn put(&mut self, slot: Slot, res: Res, stamp: u64) -> Option<Res>
+    /// Puts a cell at a slot, and hands back the one that was there, and whether its result was another. It takes no memory.
+    pub fn put(&mut self, slot: Slot, res: Res, stamp: u64) -> Displaced
         requires { map.get self.old.cells slot ≡ None → 0 < self.old.room }
-        ensures old { result ≡ option_map (λ c. c.res) (map.get self.old.cells slot) }
+        ensures cell { result.cell ≡ map.get self.old.cells slot }
+        ensures moved { result.moved ≡ has_other (map.get self.old.cells slot) res }
         ensures cells { self.new.cells
             ≡ map.insert self.old.cells slot (record { res = res; stamp = stamp }) }
         ensures room { self.new.room
-            ≡ (if is_some result then self.old.room else self.old.room - 1) }
+            ≡ (if is_some result.cell then self.old.room else self.old.room - 1) }
     {
         let key = (slot.fact, slot.member);
-        let cell = Cell { res, stamp };
         match self.places.get(&key) {
             Some(place) => {
                 let place = *place;
-                Some(mem::replace(&mut self.cells[place], cell).res)
+                let moved = self.cells[place].is_other(&res);
+                let old = mem::replace(&mut self.cells[place], Cell { res, stamp });
+                Displaced {
+                    cell: Some(old),
+                    moved,
+                }
             }
             None => {
-                let place = self.cells.insert_reserved(cell);
+                let place = self.cells.insert_reserved(Cell { res, stamp });
                 let _ = self.places.insert(key, place);
                 self.room -= 1;
-                None
+                Displaced {
+                    cell: None,
+                    moved: false,
+                }
             }
         }
     }

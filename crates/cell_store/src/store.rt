@@ -1,11 +1,11 @@
 // The cells of slots: those of global facts by the facts' numbers, and all others in places.
 ghost use Rattle.std.specs.Prelude.{◌≡◌, ◌-◌, ◌<◌, ◌≤◌, ℕ, None, max, is_some, if◌then◌else◌, option_map, option_copied, slice_index_or, IfOk, OnErr, OnOk, IsOk};
 ghost use Rattle.std.specs.FinMap as map;
-ghost use Rattle.cell_store.specs.Contents.{no_cells};
+ghost use Rattle.cell_store.specs.Contents.{has_other, no_cells};
 ghost use Rattle.cell_store.specs.Globals.{is_global};
 ghost use Rattle.cell_store.specs.declared.cell.Cell.{Cell};
 
-use crate::cell::Cell;
+use crate::cell::{Cell, Displaced};
 use crate::placed::Placed;
 use fact_values::{NoMemory, Slot};
 use std::alloc::Global;
@@ -72,27 +72,27 @@ impl Store {
         self.placed.reserve(n)
     }
 
-    /// Puts a cell at a slot, and hands back the result that was there. It takes no memory.
+    /// Puts a cell at a slot, and hands back the one that was there, and whether its result was another. It takes no memory.
     #[tactic(auto, using(crate::proofs::GlobalLaws::globals))]
-    pub fn put(&mut self, slot: Slot, res: Res, stamp: u64) -> Option<Res>
+    pub fn put(&mut self, slot: Slot, res: Res, stamp: u64) -> Displaced
         requires { map.get self.old.cells slot ≡ None → 0 < self.old.room }
-        ensures old { result ≡ option_map (λ c. c.res) (map.get self.old.cells slot) }
+        ensures cell { result.cell ≡ map.get self.old.cells slot }
+        ensures moved { result.moved ≡ has_other (map.get self.old.cells slot) res }
         ensures cells { self.new.cells
             ≡ map.insert self.old.cells slot (record { res = res; stamp = stamp }) }
         ensures room { self.new.room
-            ≡ (if is_some result then self.old.room else self.old.room - 1) }
+            ≡ (if is_some result.cell then self.old.room else self.old.room - 1) }
     {
         if !is_global(&self.globals, slot) {
             return self.placed.put(slot, res, stamp);
         }
-        let cell = Cell { res, stamp };
-        match mem::replace(&mut self.globals[slot.fact as usize], Some(cell)) {
-            Some(old) => Some(old.res),
-            None => {
-                self.placed.use_room();
-                None
-            }
+        let moved = is_other(self.cell(slot), &res);
+        let new = Some(Cell { res, stamp });
+        let cell = mem::replace(&mut self.globals[slot.fact as usize], new);
+        if cell.is_none() {
+            self.placed.use_room();
         }
+        Displaced { cell, moved }
     }
 
     /// Takes the cell of a slot away, and hands back the result that was there.
@@ -140,6 +140,16 @@ fn is_global(globals: &[Option<Cell>], slot: Slot) -> bool
     ensures { result ≡ is_global globals.now slot }
 {
     (slot.fact as usize) < globals.len() && slot.member == 0
+}
+
+// Whether there is a cell, of another result.
+fn is_other(cell: Option<&Cell>, res: &Res) -> bool
+    ensures { result ≡ has_other (option_copied cell.entry) res.now }
+{
+    match cell {
+        None => false,
+        Some(cell) => cell.is_other(res),
+    }
 }
 
 // No cell for any fact up to this number.

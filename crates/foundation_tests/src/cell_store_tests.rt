@@ -3,7 +3,7 @@
 ghost use Rattle.std.specs.Prelude.{◌≡◌, ◌<◌, IsTrue, None};
 ghost use Rattle.std.specs.FinMap as map;
 
-use cell_store::Store;
+use cell_store::{Cell, Displaced, Store};
 use fact_values::{Slot, ValueFault};
 use std::alloc::Global;
 use three_state::Res;
@@ -23,16 +23,19 @@ fn has_place(store: &mut Store, slot: Slot) -> bool
     store.reserve(1).is_ok()
 }
 
-fn put(store: &mut Store, slot: Slot, res: Res, stamp: u64) -> Option<Res> {
+fn put(store: &mut Store, slot: Slot, res: Res, stamp: u64) -> Displaced {
     if !has_place(store, slot) {
-        return Some(res);
+        return Displaced {
+            cell: Some(Cell { res, stamp }),
+            moved: false,
+        };
     }
     store.put(slot, res, stamp)
 }
 
 // Whether nothing stood at the slot.
 fn is_new(store: &mut Store, slot: Slot, stamp: u64) -> bool {
-    put(store, slot, Res::Incomplete, stamp).is_none()
+    put(store, slot, Res::Incomplete, stamp).cell.is_none()
 }
 
 fn is_taken(store: &mut Store, slot: Slot) -> bool {
@@ -83,13 +86,21 @@ fn what_is_put_is_found_until_it_is_taken(rt: HostRuntime) {
     assert!(rt; keeps_by_numbers(rt.alloc()));
 }
 
-fn is_incomplete(res: &Option<Res>) -> bool {
-    matches!(res, Some(Res::Incomplete))
+fn is_incomplete(cell: &Option<Cell>, stamp: u64) -> bool {
+    match cell {
+        Some(cell) => matches!(cell.res, Res::Incomplete) && cell.stamp == stamp,
+        None => false,
+    }
+}
+
+// Puts a result over the incomplete one of this stamp, and says whether it moved.
+fn moves(store: &mut Store, before: u64, res: Res, stamp: u64) -> bool {
+    let old = put(store, WHOLE, res, stamp);
+    is_incomplete(&old.cell, before) && old.moved
 }
 
 fn hands_back(store: &mut Store) -> bool {
-    let old = put(store, WHOLE, Res::Fault(ValueFault::Overflow), 2);
-    is_incomplete(&old)
+    !moves(store, 1, Res::Incomplete, 7) && moves(store, 7, Res::Fault(ValueFault::Overflow), 2)
 }
 
 fn has_the_new(store: &Store) -> bool {
@@ -108,7 +119,7 @@ fn replaces_by_numbers(alloc: Global) -> bool {
 }
 
 #[test]
-fn a_put_hands_the_old_result_back(rt: HostRuntime) {
+fn a_put_hands_the_old_cell_back(rt: HostRuntime) {
     assert!(rt; is_replaced(&mut Store::new(rt.alloc())));
     assert!(rt; replaces_by_numbers(rt.alloc()));
 }

@@ -14,4 +14,5 @@ pub mod SeedingLaws
 pub mod SlotLists
 pub mod StandingOnce
 pub mod StepExamples
+pub mod TurnLaws
 pub mod WeighingLaws

@@ -1,8 +1,7 @@
 -- What was replaced in a store, and how all is put back.
-use Rattle.std.specs.Prelude.{◌≡◌, ℕ, false, IsTrue, IsSome, List, [], ◌∷◌, ◌++◌, map, Option, Some, None}
+use Rattle.std.specs.Prelude.{◌≡◌, false, IsTrue, IsSome, List, [], ◌∷◌, ◌++◌, map, Option}
 use Rattle.std.specs.FinMap as finite
 use Rattle.fact_values.specs.declared.slot.Slot.{Slot}
-use Rattle.three_state.specs.declared.res.Res.{Res}
 use Rattle.cell_store.specs.Contents.{Cells}
 use Rattle.cell_store.specs.Places.{put_at}
 use Rattle.cell_store.specs.declared.cell.Cell.{Cell}
@@ -15,11 +14,6 @@ entries log = log.entries.items
 
 abbrev pub slots_of : List Replaced → List Slot
 slots_of = map (λ e. e.slot)
-
-abbrev pub cell_from : Option Res → Option ℕ → Option Cell
-cell_from None stamp = None
-cell_from (Some r) None = None
-cell_from (Some r) (Some n) = Some (record { res = r; stamp = n })
 
 -- the cells before they were replaced: the first of two entries for a slot counts
 abbrev pub before : List Replaced → Cells → Cells

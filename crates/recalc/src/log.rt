@@ -1,11 +1,12 @@
 // What a change replaced in a store, from which all is put back.
-ghost use Rattle.std.specs.Prelude.{◌≡◌, ◌<◌, ◌++◌, ◌∷◌, [], false, length, IsSome, OnErr, OnOk};
+ghost use Rattle.std.specs.Prelude.{◌≡◌, ◌<◌, ◌++◌, ◌∷◌, [], false, length, IfOk, IsSome, OnErr, OnOk};
 ghost use Rattle.std.specs.FinMap as map;
+ghost use Rattle.cell_store.specs.Contents.{has_other};
 ghost use Rattle.cell_store.specs.Places.{put_at};
-ghost use Rattle.recalc.specs.Replacing.{before, CanPutBack, cell_from, entries, slots_of};
+ghost use Rattle.recalc.specs.Replacing.{before, CanPutBack, entries, slots_of};
 ghost use Rattle.recalc.specs.Spread.{is_in};
 
-use cell_store::{Cell, Store};
+use cell_store::{Cell, Displaced, Store};
 use fact_values::{NoMemory, Slot};
 use std::alloc::Global;
 use three_state::Res;
@@ -40,19 +41,20 @@ impl Log {
     }
 
     #[tactic(auto, using(crate::proofs::ReplacingLaws::put_keeps_before, crate::proofs::ReplacingLaws::put_can_be_put_back))]
-    /// Puts a cell at a slot, and keeps what was there. For want of memory nothing changes.
+    /// Puts a cell at a slot, keeps what was there, and says whether that had another result. For want of memory nothing changes.
     pub fn put(
         &mut self,
         store: &mut Store,
         slot: Slot,
         res: Res,
         stamp: u64,
-    ) -> Result<(), NoMemory>
+    ) -> Result<bool, NoMemory>
         requires { is_in (slots_of (entries self.old)) slot ≡ false }
         ensures cells { OnOk result (store.new.cells
             ≡ map.insert store.old.cells slot (record { res = res; stamp = stamp })) }
         ensures kept { OnOk result (entries self.new ≡ entries self.old
             ++ record { slot = slot; cell = map.get store.old.cells slot } ∷ []) }
+        ensures moved { IfOk result (λ moved. moved ≡ has_other (map.get store.old.cells slot) res) }
         ensures store_unchanged { OnErr result (store.new ≡ store.old) }
         ensures unchanged { OnErr result (entries self.new ≡ entries self.old) }
         ensures undo { before (entries self.new) store.new.cells ≡ before (entries self.old) store.old.cells }
@@ -60,9 +62,9 @@ impl Log {
     {
         self.entries.reserve(1)?;
         store.reserve(1)?;
-        let cell = exchanged(store, slot, res, stamp);
+        let Displaced { cell, moved } = store.put(slot, res, stamp);
         let _ = self.entries.push(Replaced { slot, cell });
-        Ok(())
+        Ok(moved)
     }
 
     /// Puts all back as it was, and forgets it. It takes no memory.
@@ -97,29 +99,5 @@ fn put_one_back(store: &mut Store, entry: Replaced)
         None => {
             let _ = store.take(slot);
         }
-    }
-}
-
-// Puts a cell at a slot, and hands back the one that was there.
-fn exchanged(store: &mut Store, slot: Slot, res: Res, stamp: u64) -> Option<Cell>
-    requires { 0 < store.old.room }
-    ensures old { result ≡ map.get store.old.cells slot }
-    ensures cells { store.new.cells
-        ≡ map.insert store.old.cells slot (record { res = res; stamp = stamp }) }
-{
-    let old_stamp = store.stamp(slot);
-    let old = store.put(slot, res, stamp);
-    joined(old, old_stamp)
-}
-
-fn joined(res: Option<Res>, stamp: Option<u64>) -> Option<Cell>
-    ensures { result ≡ cell_from res stamp }
-{
-    match res {
-        Some(res) => match stamp {
-            Some(stamp) => Some(Cell { res, stamp }),
-            None => None,
-        },
-        None => None,
     }
 }

@@ -1,8 +1,9 @@
 // One turn: a slot that waits gets its new result.
-ghost use Rattle.std.specs.Prelude.{◌≡◌, ◌+◌, ◌≤◌, false, IsTrue, OnOk, Some};
+ghost use Rattle.std.specs.Prelude.{◌≡◌, ◌+◌, ◌≤◌, ◌&&◌, ◌||◌, All, false, IsTrue, OnOk};
 ghost use Rattle.answers.specs.Meaning.{answered};
 ghost use Rattle.answers.specs.WellFormed.{FromOne, WellFormed};
 ghost use Rattle.dep_index.specs.Readers.{row};
+ghost use Rattle.dict_tree.specs.Finding.{IsNumber};
 ghost use Rattle.dictionary.specs.Accepted.{accepted};
 ghost use Rattle.dictionary.specs.Plain.{IsPlainBelow, rank};
 ghost use Rattle.dictionary.specs.Slots.{stands};
@@ -10,31 +11,43 @@ ghost use Rattle.dictionary.specs.Weights.{slot_weight};
 ghost use Rattle.visit_counts.specs.SlotVisits.{slot_visits};
 ghost use Rattle.recalc.specs.EngineInvariant.{IsGraphOf};
 ghost use Rattle.recalc.specs.Propagations.{setting_of};
-ghost use Rattle.recalc.specs.Transitions.{moves};
 ghost use Rattle.recalc.specs.Replacing.{before, CanPutBack, entries};
-ghost use Rattle.recalc.specs.Running.{HasTurned, live_results, live_results_in, slots_done};
+ghost use Rattle.recalc.specs.Running.{HasTurned, is_that, let_by_all, live_results_in, slots_done};
 ghost use Rattle.recalc.specs.Spread.{is_in};
+ghost use Rattle.recalc.specs.Waiting.{waits};
+ghost use Rattle.recalc.specs.declared.dirty_queue.DirtySlot.{DirtySlot};
 
 use crate::dependency_graph::DependencyGraph;
+use crate::dirty_queue::DirtyQueue;
 use crate::engine_state::EngineState;
 use crate::evaluating::new_result;
 use crate::live_cells::LiveCells;
 use crate::marking::mark;
 use crate::propagation::Propagation;
+use cell_store::Store;
+use dep_index::ReaderOf;
 use fact_values::{NoMemory, Slot};
-use node_eval::Cells;
 use std::alloc::Global;
 use std::sync::ledger::Ledger;
 use steps::Steps;
-use three_state::Res;
 
-// Whether the slot had a result, and has another one now.
-fn moves(cells: &LiveCells, slot: Slot, res: &Res) -> bool
-    ensures { result ≡ moves (live_results cells.now.gone cells.now.store.now.cells slot) (Some res.now) }
+// Where a slot moved, the slots wait that it feeds.
+fn mark_if(
+    moved: bool,
+    queue: &mut DirtyQueue,
+    propagation: &Propagation,
+    store: &Store,
+    slot: Slot,
+    readers: &[ReaderOf],
+) -> Result<(), NoMemory>
+    requires { All (λ r. IsNumber (accepted propagation.now.dict.now).tree.facts r.fact) readers.now }
+    ensures { OnOk result ((q : DirtySlot) → waits queue.new q ≡ (waits queue.old q
+        || (moved && let_by_all (setting_of propagation.now) store.now.cells slot readers.now q))) }
 {
-    match cells.cell(slot) {
-        None => false,
-        Some(old) => !old.same(res),
+    if moved {
+        mark(queue, propagation, store, slot, readers)
+    } else {
+        Ok(())
     }
 }
 
@@ -53,6 +66,7 @@ pub fn turn<L: Ledger>(
     requires from_one { FromOne (answered propagation.now.answers.now) }
     requires stands { IsTrue (stands (accepted propagation.now.dict.now).tree (answered propagation.now.answers.now)
         slot) }
+    requires stay { is_that propagation.now.gone slot.member ≡ false }
     requires below { IsPlainBelow (accepted propagation.now.dict.now) (answered propagation.now.answers.now)
         (rank (accepted propagation.now.dict.now) slot.fact) (live_results_in (setting_of propagation.now)
         state.old.store.cells) }
@@ -81,19 +95,15 @@ pub fn turn<L: Ledger>(
         slot,
         steps,
     )?;
-    let moved = moves(&live_results, slot, &res);
-    state
+    let moved = state
         .log
         .put(&mut state.store, slot, res, propagation.stamp)?;
-    if moved {
-        mark(
-            &mut state.queue,
-            propagation,
-            &state.store,
-            slot,
-            graph.readers.readers(slot.fact),
-        )
-    } else {
-        Ok(())
-    }
+    mark_if(
+        moved,
+        &mut state.queue,
+        propagation,
+        &state.store,
+        slot,
+        graph.readers.readers(slot.fact),
+    )
 }

@@ -4,7 +4,7 @@ use Rattle.dep_index.specs.declared.row.ReaderOf.{ReaderOf}
 use Rattle.dictionary.specs.Weights.{slot_weight}
 use Rattle.visit_counts.specs.SlotVisits.{slot_visits}
 use Rattle.recalc.specs.Propagations.{setting_of, spread_of}
-use Rattle.recalc.specs.Running.{IsPopped, IsRunning}
+use Rattle.recalc.specs.Running.{IsPopped, IsRunning, slot_of}
 use Rattle.recalc.specs.Waiting.{DirtySlots, waits}
 use Rattle.recalc.specs.declared.dirty_queue.DirtySlot.{DirtySlot}
 use Rattle.recalc.specs.declared.engine_state.EngineState.{EngineState}
@@ -15,6 +15,12 @@ pub turn-requires-clause-stands : goal.turn-requires-clause-stands
 turn-requires-clause-stands g c =
     let pop : IsPopped c.loop-dirty.state.queue c.pop.new.self c.in-Some.dirty = record { some = c.in-Some.ensures.some; rest = c.in-Some.ensures.rest; least = c.in-Some.ensures.least } in
     popped_stands (setting_of c.args.propagation.now) (spread_of c.args.propagation.now) c.args.state.now.store.cells c.requires.propagation c.loop-dirty.state c.loop-dirty.invariant.running c.pop.new.self c.in-Some.dirty pop
+
+pub turn-requires-clause-stay : goal.turn-requires-clause-stay
+turn-requires-clause-stay g c =
+    let pop : IsPopped c.loop-dirty.state.queue c.pop.new.self c.in-Some.dirty = record { some = c.in-Some.ensures.some; rest = c.in-Some.ensures.rest; least = c.in-Some.ensures.least } in
+    c.requires.propagation.stay (slot_of c.in-Some.dirty)
+    (popped_stands (setting_of c.args.propagation.now) (spread_of c.args.propagation.now) c.args.state.now.store.cells c.requires.propagation c.loop-dirty.state c.loop-dirty.invariant.running c.pop.new.self c.in-Some.dirty pop)
 
 pub turn-requires-clause-below : goal.turn-requires-clause-below
 turn-requires-clause-below g c =
