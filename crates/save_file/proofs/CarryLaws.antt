@@ -76,7 +76,7 @@ listed_where test n (suc place) k (y ∷ xs) x e found = at (test y) (listed_whe
     at true h = h
     at false h = ap (λ (b : Bool). b || list_any (nat_eq k) (numbers_failing test (suc n) xs)) other ∙ h
 
-there_at : (xs : List CarriedLine) (place : ℕ) (x : CarriedLine) → slice_get xs place ≡ Some x → Contains xs x
+pub there_at : (xs : List CarriedLine) (place : ℕ) (x : CarriedLine) → slice_get xs place ≡ Some x → Contains xs x
 there_at [] place x e = absurd cc
 there_at (y ∷ xs) zero x e = subst (λ (l : CarriedLine). Contains (y ∷ xs) l) (same_Some y x e) (at_first y xs)
 there_at (y ∷ xs) (suc place) x e = later_too y xs x (there_at xs place x e)

@@ -319,6 +319,12 @@ pub all_of : {X : Type 0} (P : X → Type 0) (xs : List X) → ((x : X) → Cont
 all_of P [] each = tt
 all_of P (x ∷ xs) each = (each x (at_first x xs), all_of P xs (λ y h. each y (later_too x xs y h)))
 
+-- what stands at a place of a list stands there too where each is mapped and more follow
+pub mapped_at : {X Y : Type 0} (f : X → Y) (xs : List X) (ys : List Y) (place : ℕ) (x : X) → slice_get xs place ≡ Some x → slice_get (map f xs ++ ys) place ≡ Some (f x)
+mapped_at f [] ys place x e = absurd cc
+mapped_at f (z ∷ xs) ys zero x e = ap Some (ap f (same_Some z x e))
+mapped_at f (z ∷ xs) ys (suc place) x e = mapped_at f xs ys place x e
+
 -- of two that aren't one, the one comes first or the other
 pub either_first : {X : Type 0} (R : X → X → Type 0) (xs : List X) (a b : X) → Pairs R xs → Contains xs a → Contains xs b → (a ≡ b) ⊎ (R a b ⊎ R b a)
 either_first R [] a b pairs ha hb = absurd (none_there a ha)

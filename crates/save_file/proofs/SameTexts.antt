@@ -1,5 +1,7 @@
 -- The saved text of answers that fit an accepted dictionary: it is a carried text, it tells its answers, and its own dictionary keeps its lines, but for answers that are refused now.
-use Rattle.std.proofs.Common.{Bool, IsSome, List, None, Option, Some, [], ap, append_assoc, arith, bytes_eq, cond, false, if◌then◌else◌, is_none, is_some, length, map, nat_eq, refl, slice_get, subst, suc, sym, true, unwrap_or, ℕ, ◌&&◌, ◌++◌, ◌+◌, ◌<◌, ◌∙◌, ◌∷◌, ◌≡◌, ◌≤◌}
+use Rattle.save_file.specs.SavedLines.{EachAnswerIsKeptOrListed, HasALineEach, IsOnlyAt, IsSaid, KeepsOrListsAll, SavedTextsHaveALineEach}
+use Rattle.std.proofs.lemmas.Option.{none-some, same_Some}
+use Rattle.std.proofs.Common.{Bool, Contains, IsSome, List, None, Option, Some, [], ap, append_assoc, arith, bytes_eq, cond, false, if◌then◌else◌, inl, inr, is_none, is_some, length, map, nat_eq, refl, slice_get, subst, suc, sym, true, unwrap_or, zero, ℕ, ◌&&◌, ◌++◌, ◌+◌, ◌<◌, ◌∙◌, ◌∷◌, ◌≡◌, ◌≤◌, ◌⊎◌}
 use Rattle.std.proofs.lemmas.Bool.{false_from_ne_true, ltb-false}
 use Rattle.std.proofs.lemmas.List.Folds.{list_any-append}
 use Rattle.std.proofs.lemmas.List.{map-append}
@@ -46,16 +48,16 @@ use Rattle.graph_session.specs.declared.reply.Refusal.{Refusal}
 use Rattle.save_file.proofs.CarriedAnswers.{named_kept}
 use Rattle.save_file.proofs.CarriedEnds.{are_lines}
 use Rattle.save_file.proofs.CarriedLines.{entry_pieces, few_lists, higher, in_order, names_other, shares_none}
-use Rattle.save_file.proofs.CarryLaws.{one_text, same_options}
+use Rattle.save_file.proofs.CarryLaws.{kept_or_listed, one_text, same_options, there_at}
 use Rattle.save_file.proofs.EntriesFollow.{at_one}
 use Rattle.save_file.proofs.LineTexts.{IsLine, entry_short, list_short, rest_short, value_short}
-use Rattle.save_file.proofs.Lines.{across, all_shown, any_counted, any_keys, counted_rise, each_shown, few_shown, map_shown, one_of_all, onto, pairs-append, pairs_shown, shown}
+use Rattle.save_file.proofs.Lines.{across, all_of, all_shown, any_counted, any_keys, counted_rise, each_shown, few_shown, first_or, map_shown, mapped_at, none_there, one_of_all, onto, pairs-append, pairs_shown, shown}
 use Rattle.save_file.proofs.ListsFollow.{at_counted, list_within}
 use Rattle.save_file.proofs.SlotTexts.{entry_slot, found_at, list_slot, members_numbered, numbers_of, of_type, one_slot, open_list, open_list_members, path_parts, printed_line, printed_read, same_behind}
 use Rattle.save_file.proofs.SlotsLeft.{all_slots, none_outside, same_answers}
 use Rattle.save_file.proofs.TextLaws.{all-append, all_behind, in_front}
-use Rattle.save_file.specs.CarriedText.{CarriedLine, CarriedText, HasItsForm, IsBelowNext, IsCarried, IsInOrder, IsShort, NamesOther, Pairs, SharesNone, carried, carried_lines, collection, entry, has_its_member, line_text, lists_member, lists_member_of, rank}
-use Rattle.save_file.specs.Carrying.{IsRefusedAnswer, OwnLinesAreKept, SavedTextsAreCarried, keeps}
+use Rattle.save_file.specs.CarriedText.{CarriedLine, CarriedText, HasItsForm, IsBelowNext, IsCarried, IsInOrder, IsShort, NamesOther, Pairs, SharesNone, carried, carried_lines, collection, entry, has_its_member, key_text, line_text, lists_member, lists_member_of, rank}
+use Rattle.save_file.specs.Carrying.{IsCarry, IsCarryOf, IsKeptOrListed, IsRefusedAnswer, OwnLinesAreKept, SavedTextsAreCarried, keeps}
 use Rattle.save_file.specs.Following.{AreSlots}
 use Rattle.save_file.specs.Loading.{SavedTextsTellAnswers}
 use Rattle.save_file.specs.SavedText.{end_line, entries, entry_line, entry_lines, entry_lines_of, facts, list_line, list_lines, list_lines_of, lists, next_line, opening_line, saved, saved_lines, side_word, slots}
@@ -210,6 +212,26 @@ module _ (names : List (List ℕ)) (d : Accepted) (is : IsAccepted names d) (enu
   of_all P lists entries =
       all-append P (list_part d.tree a) (behind d.tree a) (of_lists P lists)
       (all-append P (side_part d.tree a Answer) (side_part d.tree a Override) (of_side P Answer (entries Answer)) (of_side P Override (entries Override)))
+
+  -- and what is true of all lines is true of each list's and of each value's
+  list_of_all : (P : CarriedLine → Type 0) → AllByRecursion P (all_parts d.tree a) → (c : ℕ) (ms : List ℕ) → map.get a.lists c ≡ Some ms → P (collection (name_of d.tree c) ms)
+  list_of_all P all c ms has =
+      let within = list_within d.tree c (open_list d.tree a fit c ms has) in
+      at_counted (λ k. (x : CarriedLine) → list_at d.tree a k ≡ Some x → P x) 1 (length d.tree.facts) (each_shown (list_at d.tree a) P (facts d.tree) (in_front P (list_part d.tree a) (behind d.tree a) all)) c (omega (arith, within.0)) (omega (arith, within.1))
+      (collection (name_of d.tree c) ms) (ap (option_map (collection (name_of d.tree c))) has)
+
+  side_of_all : (P : CarriedLine → Type 0) → AllByRecursion P (all_parts d.tree a) → (side : Side) → AllByRecursion P (side_part d.tree a side)
+  side_of_all P all Answer = in_front P (side_part d.tree a Answer) (side_part d.tree a Override) (all_behind P (list_part d.tree a) (behind d.tree a) all)
+  side_of_all P all Override = all_behind P (side_part d.tree a Answer) (side_part d.tree a Override) (all_behind P (list_part d.tree a) (behind d.tree a) all)
+
+  value_of_all : (P : CarriedLine → Type 0) → AllByRecursion P (all_parts d.tree a) → (side : Side) (s : Slot) (v : Value) → value_of side a s ≡ Some v → P (entry side (path_at d.tree s) (printed d.tree.enums v))
+  value_of_all P all side s v has = at (list_any (slot_same s) (slots d.tree a)) refl
+    where
+      at : (t : Bool) → list_any (slot_same s) (slots d.tree a) ≡ t → P (entry side (path_at d.tree s) (printed d.tree.enums v))
+      at false out = absurd (none-some v (sym (none_outside d.tree a fit side s out) ∙ has))
+      at true there =
+          at_one (λ u. (x : CarriedLine) → entry_at d.tree a side u ≡ Some x → P x) (slots d.tree a) s (each_shown (entry_at d.tree a side) P (slots d.tree a) (side_of_all P all side)) there
+          (entry side (path_at d.tree s) (printed d.tree.enums v)) (ap (option_map (λ (w : Value). entry side (path_at d.tree s) (printed d.tree.enums w))) has)
 
   -- ---- what each line keeps
 
@@ -431,33 +453,18 @@ module _ (names : List (List ℕ)) (d : Accepted) (is : IsAccepted names d) (enu
   shown_lines : AllByRecursion (Tells d b) (all_parts d.tree a)
   shown_lines = subst (AllByRecursion (Tells d b)) (sym same_parts) (of_all names d is enums b other_fit (Tells d b) (λ c ms has. (c, has, refl)) (λ side s v has. (s, v, has, refl, refl)))
 
-  side_lines : (side : Side) → AllByRecursion (Tells d b) (side_part d.tree a side)
-  side_lines Answer = in_front (Tells d b) (side_part d.tree a Answer) (side_part d.tree a Override) (all_behind (Tells d b) (list_part d.tree a) (behind d.tree a) shown_lines)
-  side_lines Override = all_behind (Tells d b) (side_part d.tree a Answer) (side_part d.tree a Override) (all_behind (Tells d b) (list_part d.tree a) (behind d.tree a) shown_lines)
-
   list_too : (c : ℕ) (ms : List ℕ) → map.get a.lists c ≡ Some ms → map.get b.lists c ≡ Some ms
   list_too c ms has =
-      let list = open_list d.tree a fit c ms has in
-      let within = list_within d.tree c list in
-      let keys = each_shown (list_at d.tree a) (Tells d b) (facts d.tree) (in_front (Tells d b) (list_part d.tree a) (behind d.tree a) shown_lines) in
-      let found =
-      at_counted (λ (k : ℕ). (x : CarriedLine) → list_at d.tree a k ≡ Some x → Tells d b x) 1 (length d.tree.facts) keys c (omega (arith, within.0)) (omega (arith, within.1))
-      (collection (name_of d.tree c) ms) (ap (option_map (collection (name_of d.tree c))) has) in
-      ap (map.get b.lists) (one_name names d is c found.0 list (open_list d.tree b other_fit found.0 ms found.1) found.2) ∙ found.1
+      let found = list_of_all names d is enums a fit (Tells d b) shown_lines c ms has in
+      ap (map.get b.lists) (one_name names d is c found.0 (open_list d.tree a fit c ms has) (open_list d.tree b other_fit found.0 ms found.1) found.2) ∙ found.1
 
   value_too : (side : Side) (s : Slot) (v : Value) → value_of side a s ≡ Some v → value_of side b s ≡ Some v
-  value_too side s v has = at (list_any (slot_same s) (slots d.tree a)) refl
-    where
-      at : (t : Bool) → list_any (slot_same s) (slots d.tree a) ≡ t → value_of side b s ≡ Some v
-      at false out = absurd (let none : value_of side a s ≡ None = none_outside d.tree a fit side s out in cc)
-      at true there =
-          let found =
-          at_one (λ (u : Slot). (x : CarriedLine) → entry_at d.tree a side u ≡ Some x → Tells d b x) (slots d.tree a) s (each_shown (entry_at d.tree a side) (Tells d b) (slots d.tree a) (side_lines side)) there
-          (entry side (path_at d.tree s) (printed d.tree.enums v)) (ap (option_map (λ (w : Value). entry side (path_at d.tree s) (printed d.tree.enums w))) has) in
-          let same_slot = one_path names d is s found.0 (entry_slot d.tree a fit side s v has) (entry_slot d.tree b other_fit side found.0 found.1 found.2) (ap slot_path_text found.3) in
-          ap (value_of side b) same_slot ∙ found.2 ∙ sym (printed_read names d is enums b other_fit side found.0 found.1 found.2)
-          ∙ ap (λ (u : Slot). value_spelled d.tree u.fact (printed d.tree.enums found.1)) (sym same_slot)
-          ∙ ap (value_spelled d.tree s.fact) (sym found.4) ∙ printed_read names d is enums a fit side s v has
+  value_too side s v has =
+      let found = value_of_all names d is enums a fit (Tells d b) shown_lines side s v has in
+      let same_slot = one_path names d is s found.0 (entry_slot d.tree a fit side s v has) (entry_slot d.tree b other_fit side found.0 found.1 found.2) (ap slot_path_text found.3) in
+      ap (value_of side b) same_slot ∙ found.2 ∙ sym (printed_read names d is enums b other_fit side found.0 found.1 found.2)
+      ∙ ap (λ (u : Slot). value_spelled d.tree u.fact (printed d.tree.enums found.1)) (sym same_slot)
+      ∙ ap (value_spelled d.tree s.fact) (sym found.4) ∙ printed_read names d is enums a fit side s v has
 
 pub one_saved : SavedTextsTellAnswers
 one_saved names d is enums a b fit other_fit e =
@@ -474,7 +481,104 @@ one_saved names d is enums a b fit other_fit e =
     parts : all_parts d.tree a ≡ all_parts d.tree b
     parts = ap (λ (c : CarriedText). c.lines) one
 
--- ---- its shown_lines over its own dictionary
+-- ---- one line for each list, answer and override
+
+only_at : (lines : List CarriedLine) (line : CarriedLine) → Pairs NamesOther lines → Contains lines line → (place : ℕ) × IsOnlyAt lines place line
+only_at [] line pairs h = absurd (none_there line h)
+only_at (x ∷ lines) line pairs h = at (first_or x lines line h) (only_at lines line pairs.1)
+  where
+    -- none behind the first one names what it names
+    later : (k : ℕ) (l : CarriedLine) → slice_get lines k ≡ Some l → NamesOther x l
+    later k l e = one_of_all (NamesOther x) lines l pairs.0 (there_at lines k l e)
+
+    at : (x ≡ line) ⊎ Contains lines line → (Contains lines line → (place : ℕ) × IsOnlyAt lines place line) → (place : ℕ) × IsOnlyAt (x ∷ lines) place line
+    at (inl one) rest = (0, (ap Some one, none))
+      where
+        none : (other : ℕ) (l : CarriedLine) → slice_get (x ∷ lines) other ≡ Some l → key_text l ≡ key_text line → other ≡ 0
+        none zero l e key = refl
+        none (suc k) l e key = absurd (later k l e (ap key_text one ∙ sym key))
+    at (inr there) rest = (suc (rest there).0, ((rest there).1.0, one))
+      where
+        one : (other : ℕ) (l : CarriedLine) → slice_get (x ∷ lines) other ≡ Some l → key_text l ≡ key_text line → other ≡ suc (rest there).0
+        one zero l e key = absurd (one_of_all (NamesOther x) lines line pairs.0 there (ap key_text (same_Some x l e) ∙ key))
+        one (suc k) l e key = ap suc ((rest there).1.1 k l e key)
+
+module _ (names : List (List ℕ)) (d : Accepted) (is : IsAccepted names d) (enums : AreLists d.tree.enums) (a : Answered) (fit : AnswersFit d.tree a) where
+  each_there : AllByRecursion (Contains (all_parts d.tree a)) (all_parts d.tree a)
+  each_there = all_of (Contains (all_parts d.tree a)) (all_parts d.tree a) (λ l h. h)
+
+  line_at : (line : CarriedLine) → Contains (all_parts d.tree a) line → (place : ℕ) × IsOnlyAt (all_parts d.tree a) place line
+  line_at line h = only_at (all_parts d.tree a) line (is_carried names d is enums a fit).once h
+
+  list_at_place : (c : ℕ) (ms : List ℕ) → map.get a.lists c ≡ Some ms → (place : ℕ) × IsOnlyAt (all_parts d.tree a) place (collection (name_of d.tree c) ms)
+  list_at_place c ms has = line_at (collection (name_of d.tree c) ms) (list_of_all names d is enums a fit (Contains (all_parts d.tree a)) each_there c ms has)
+
+  value_at_place : (side : Side) (s : Slot) (v : Value) → value_of side a s ≡ Some v → (place : ℕ) × IsOnlyAt (all_parts d.tree a) place (entry side (path_at d.tree s) (printed d.tree.enums v))
+  value_at_place side s v has = line_at (entry side (path_at d.tree s) (printed d.tree.enums v)) (value_of_all names d is enums a fit (Contains (all_parts d.tree a)) each_there side s v has)
+
+  said : AllByRecursion (IsSaid d.tree a) (all_parts d.tree a)
+  said =
+      of_all names d is enums a fit (IsSaid d.tree a) (λ c ms has. (c, has, (list_of_name names d is enums a fit c ms has).1.1))
+      (λ side s v has. (s, v, has, (spelled_entry names d is enums a fit side s v has).1.1, refl))
+
+  own_has_each : HasALineEach d.tree a (own_text d.tree a)
+  own_has_each = record {
+    number = refl;
+    lists = λ c ms has. (let found = list_at_place c ms has in (name_of d.tree c, found.0, (list_of_name names d is enums a fit c ms has).1.1, found.1));
+    values = λ side s v has. (let found = value_at_place side s v has in (path_at d.tree s, found.0, (spelled_entry names d is enums a fit side s v has).1.1, found.1));
+    only = λ line there. one_of_all (IsSaid d.tree a) (all_parts d.tree a) line said there;
+  }
+
+  own_is : (c : CarriedText) → IsCarried c → saved d.tree a ≡ carried c → own_text d.tree a ≡ c
+  own_is c text e = one_text (own_text d.tree a) c (is_carried names d is enums a fit) text (sym (saved_is names d is enums a fit) ∙ e)
+
+  pub has_each : (c : CarriedText) → IsCarried c → saved d.tree a ≡ carried c → HasALineEach d.tree a c
+  has_each c text e = subst (HasALineEach d.tree a) (own_is c text e) own_has_each
+
+  -- ---- so each is kept or listed
+
+  line_there : (place : ℕ) (line : CarriedLine) (text : List ℕ) → slice_get (all_parts d.tree a) place ≡ Some line → line_text line ≡ text → slice_get (saved_lines d.tree a) (suc (suc place)) ≡ Some text
+  line_there place line text e same =
+      ap (λ (ls : List (List ℕ)). slice_get ls (suc (suc place))) (same_text names d is enums a fit) ∙ mapped_at line_text (all_parts d.tree a) (end_line ∷ []) place line e ∙ ap Some same
+
+  module _ (r : Rules) (b : Answered) (dropped : List ℕ) (carry : IsCarry r (saved d.tree a) b dropped) where
+    own_carry : IsCarryOf r (own_text d.tree a) b dropped
+    own_carry = subst (λ (c : CarriedText). IsCarryOf r c b dropped) (sym (own_is carry.0 carry.1 carry.2)) carry.3
+
+    listed_or_kept : (place : ℕ) (line : CarriedLine) → slice_get (all_parts d.tree a) place ≡ Some line → IsKeptOrListed r b dropped (suc (suc place) + 1) line
+    listed_or_kept place line e =
+        let number : place + 3 ≡ suc (suc place) + 1 = omega arith in
+        subst (λ (n : ℕ). IsKeptOrListed r b dropped n line) number (kept_or_listed r (own_text d.tree a) b dropped own_carry place line e)
+
+    pub keeps_all : KeepsOrListsAll d.tree a r b dropped
+    keeps_all = record {
+      lists = λ c ms has.
+          (let found = list_at_place c ms has in
+          let line = collection (name_of d.tree c) ms in (
+            name_of d.tree c,
+            suc (suc found.0),
+            (list_of_name names d is enums a fit c ms has).1.1,
+            line_there found.0 line (list_line d.tree c ms) found.1.0 (list_text names d is enums a fit c ms has),
+            listed_or_kept found.0 line found.1.0,
+          ));
+      values = λ side s v has.
+          (let found = value_at_place side s v has in
+          let line = entry side (path_at d.tree s) (printed d.tree.enums v) in (
+            path_at d.tree s,
+            suc (suc found.0),
+            (spelled_entry names d is enums a fit side s v has).1.1,
+            line_there found.0 line (entry_line side d.tree s v) found.1.0 (entry_text names d is enums a fit side s v has),
+            listed_or_kept found.0 line found.1.0,
+          ));
+    }
+
+pub a_line_each : SavedTextsHaveALineEach
+a_line_each names d is enums a fit = has_each names d is enums a fit
+
+pub all_kept_or_listed : EachAnswerIsKeptOrListed
+all_kept_or_listed names d is enums a fit = keeps_all names d is enums a fit
+
+-- ---- its lines over its own dictionary
 
 path_back : (m : ℕ) (p : FactPath) → path_of (slot_path_of m p) ≡ p
 path_back m (facts_by.Global n) = refl

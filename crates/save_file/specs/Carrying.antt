@@ -90,12 +90,15 @@ abbrev pub IsKept : Rules → Answered → CarriedLine → Type 0
 IsKept r a (collection name members) = map.get a.lists (fact_of (tree_of r) (Global name)) ≡ Some members
 IsKept r a (entry side path text) = value_of side a (slot_of (tree_of r) path) ≡ kept_value r side (fact_of (tree_of r) path) text
 
--- What each line says is in the answers, or its number is listed: the line at a place, from 0, has the number 3 more.
+-- what the line says is in the answers, or its number is listed, and never both
+abbrev pub IsKeptOrListed : Rules → Answered → List ℕ → ℕ → CarriedLine → Type 0
+IsKeptOrListed r a dropped number line = (list_any (nat_eq number) dropped ≡ not (keeps r line)) × (IsTrue (keeps r line) → IsKept r a line)
+
+-- so of each line: the one at a place, from 0, has the number 3 more
 abbrev pub EachLineIsKeptOrListed : Type 0
 EachLineIsKeptOrListed =
     (r : Rules) (c : CarriedText) (a : Answered) (dropped : List ℕ) → IsCarryOf r c a dropped
-    → (place : ℕ) (line : CarriedLine) → slice_get c.lines place ≡ Some line
-    → (list_any (nat_eq (place + 3)) dropped ≡ not (keeps r line)) × (IsTrue (keeps r line) → IsKept r a line)
+    → (place : ℕ) (line : CarriedLine) → slice_get c.lines place ≡ Some line → IsKeptOrListed r a dropped (place + 3) line
 
 -- carrying gives one result
 abbrev pub CarryingGivesOne : Type 0

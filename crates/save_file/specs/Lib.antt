@@ -9,4 +9,5 @@ pub mod Keeping
 pub mod Loading
 pub mod Parsing
 pub mod Resuming
+pub mod SavedLines
 pub mod SavedText

@@ -2,6 +2,7 @@
 ghost use Rattle.save_file.specs.CarriedText.{CarriedTextsTellLines};
 ghost use Rattle.save_file.specs.Carrying.{CarryingGivesOne, EachLineIsKeptOrListed, OwnLinesAreKept, SavedTextsAreCarried};
 ghost use Rattle.save_file.specs.Loading.{SavedTextsTellAnswers};
+ghost use Rattle.save_file.specs.SavedLines.{EachAnswerIsKeptOrListed, SavedTextsHaveALineEach};
 ghost use Rattle.save_file.specs.Resuming.{CarryingGivesTheSame, LimitsAllowWhatStands, NoOverrideStands, SetSaysTheReason, DroppedWhereNotKept};
 
 /// Answers that fit an accepted dictionary and have one saved text are the same.
@@ -28,6 +29,16 @@ pub fn carrying_gives_one_result()
 /// at most 32 lists.
 pub fn saved_texts_are_carried()
     ensures { SavedTextsAreCarried }
+{}
+
+/// It has one line for each list, answer and override, and no other.
+pub fn saved_texts_have_a_line_each()
+    ensures { SavedTextsHaveALineEach }
+{}
+
+/// Carried over any dictionary, each list, answer and override of it is in the answers, or the number of its line is listed.
+pub fn each_answer_is_kept_or_listed()
+    ensures { EachAnswerIsKeptOrListed }
 {}
 
 /// Where the saved text of answers is carried to their own dictionary, it drops nothing but answers that a limit or a check
