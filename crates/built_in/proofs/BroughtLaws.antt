@@ -18,16 +18,18 @@ brings IsThis (Ok d) h k = (h, k)
 brings IsThis (Err fault) h k = tt
 
 -- and names no check
+pub brings_no_check : (IsThis : Accepted → Type 0) → ((d : Accepted) → IsThis d → has_check d.tree ≡ false) → (r : Result Kept NoMemory) → IfOk r (λ d. IsThis (accepted d)) → IfOk r (λ d. has_check (accepted d).tree ≡ false)
+brings_no_check IsThis none (Ok d) h = none (accepted d) h
+brings_no_check IsThis none (Err fault) h = tt
+
 year_names_none : (y : Year) → has_check (dictionary (figures y)) ≡ false
 year_names_none y = refl
 
 income_names_none : (y : IncomeYear) → has_check (dictionary_of y) ≡ false
 income_names_none y = refl
 
-pub year_brings_no_check : (y : Year) (r : Result Kept NoMemory) → IfOk r (λ d. IsOfYear y (accepted d)) → IfOk r (λ d. has_check (accepted d).tree ≡ false)
-year_brings_no_check y (Ok d) h = ap has_check h.facts ∙ year_names_none y
-year_brings_no_check y (Err fault) h = tt
+pub year_checks_none : (y : Year) (d : Accepted) → IsOfYear y d → has_check d.tree ≡ false
+year_checks_none y d is = ap has_check is.facts ∙ year_names_none y
 
-pub income_brings_no_check : (y : IncomeYear) (r : Result Kept NoMemory) → IfOk r (λ d. IsOfIncome y (accepted d)) → IfOk r (λ d. has_check (accepted d).tree ≡ false)
-income_brings_no_check y (Ok d) h = ap has_check h.facts ∙ income_names_none y
-income_brings_no_check y (Err fault) h = tt
+pub income_checks_none : (y : IncomeYear) (d : Accepted) → IsOfIncome y d → has_check d.tree ≡ false
+income_checks_none y d is = ap has_check is.facts ∙ income_names_none y

@@ -3,4 +3,4 @@
 
 mod built_in;
 
-pub use built_in::{BuiltIn, bring, named};
+pub use built_in::{BuiltIn, bring, named, program_income_named};

@@ -4,6 +4,7 @@ pub mod Behind
 pub mod Complete
 pub mod Example
 pub mod Facts
+pub mod FigureLines
 mod HouseholdExamples
 pub mod Join
 pub mod Money

@@ -15,7 +15,9 @@ use Rattle.dictionary.proofs.FirstLaws.{has_no_fault}
 use Rattle.tax_2023.specs.Facts.{dictionary}
 use Rattle.tax_2023.specs.Figures.{figures, spelled_day, spelled_dollars}
 use Rattle.tax_2023.specs.Laws.{IsOfYear}
-use Rattle.tax_2023.specs.Years.{Year, tables_2023, tables_2024}
+use Rattle.tax_2023.specs.Years.{Year, tables_of}
+use Rattle.tax_2023.specs.declared.years.TaxYear.{TaxYear}
+use Rattle.tax_2023.specs.declared.years.TaxYear.TheVariants.{Year2023}
 use Rattle.tax_2023.proofs.YearDictionary.{ranks, ranks_are}
 
 -- types are found, and a written list is the rs
@@ -35,19 +37,13 @@ no_fault d rs s =
 
 -- ---- the years
 
-sound_2023 : IsSound (dictionary (figures tables_2023)) ranks
+sound : (y : TaxYear) → IsSound (dictionary (figures (tables_of y))) ranks
 unfolding spelled_dollars spelled_day
-sound_2023 = record { typed = refl; ranked = ranks_are (figures tables_2023) }
+sound Year2023 = record { typed = refl; ranked = ranks_are (figures (tables_of Year2023)) }
+sound y = record { typed = refl; ranked = ranks_are (figures (tables_of y)) }
 
-sound_2024 : IsSound (dictionary (figures tables_2024)) ranks
-unfolding spelled_dollars spelled_day
-sound_2024 = record { typed = refl; ranked = ranks_are (figures tables_2024) }
-
-pub no_fault_2023 : HasNoFault (dictionary (figures tables_2023)) []
-no_fault_2023 = no_fault (dictionary (figures tables_2023)) ranks sound_2023
-
-pub no_fault_2024 : HasNoFault (dictionary (figures tables_2024)) []
-no_fault_2024 = no_fault (dictionary (figures tables_2024)) ranks sound_2024
+pub year_has_none : (y : TaxYear) → HasNoFault (dictionary (figures (tables_of y))) []
+year_has_none y = no_fault (dictionary (figures (tables_of y))) ranks (sound y)
 
 -- ---- the dictionary that is answered is that of the year
 

@@ -1,10 +1,13 @@
 -- The figures of a year spell the numbers and days of its tables.
-use Rattle.std.proofs.Common.{◌≡◌, ℕ, ◌+◌, ◌-◌, ◌≤◌, pos, ◌+ℤ◌, ◌-ℤ◌, Some, codes, refl, ap, arith}
+use Rattle.std.proofs.Common.{◌≡◌, ℕ, ◌+◌, ◌-◌, ◌≤◌, IsTrue, nat_le, pos, ◌+ℤ◌, ◌-ℤ◌, Some, codes, refl, ap, arith}
+use Rattle.std.proofs.lemmas.Bool.Decides.{nat_tests}
 use Rattle.value_text.specs.Dates.{date_number, day_at}
 use Rattle.value_text.specs.Dollars.{dollar_at}
 use Rattle.value_text.proofs.DateLemmas.{date_number-number_of}
 use Rattle.tax_2023.specs.Household.{single, separately, jointly, surviving_spouse, head_of_household}
-use Rattle.tax_2023.specs.Years.{Year, tables_2023, tables_2024}
+use Rattle.tax_2023.specs.Years.{Year, tables_of}
+use Rattle.tax_2023.specs.declared.years.TaxYear.{TaxYear}
+use Rattle.tax_2023.specs.declared.years.TaxYear.TheVariants.{Year2023}
 use Rattle.tax_2023.specs.Tables.{cents}
 use Rattle.tax_2023.specs.Figures.{spelled_day, spelled_dollars}
 use Rattle.tax_2023.proofs.Ages.{first_of}
@@ -51,9 +54,11 @@ pub record IsWritten (y : Year) : Type 0 where
 pub around : (year : ℕ) → date_number year 1 1 ≡ first_of year
 around year = date_number-number_of year 1 1 (omega arith) (omega arith) (omega arith)
 
-spells_2023 : Spells tables_2023
+-- ---- each year is written so: a clause for the first, and one for all others
+
+spells : (y : TaxYear) → Spells (tables_of y)
 unfolding spelled_dollars spelled_day
-spells_2023 = record {
+spells Year2023 = record {
   basic_single = refl;
   basic_jointly = refl;
   basic_head = refl;
@@ -66,10 +71,7 @@ spells_2023 = record {
   under_19_after = ap (λ n. Some (n -ℤ pos 1)) (around 2005);
   under_24_after = ap (λ n. Some (n -ℤ pos 1)) (around 2000);
 }
-
-spells_2024 : Spells tables_2024
-unfolding spelled_dollars spelled_day
-spells_2024 = record {
+spells y = record {
   basic_single = refl;
   basic_jointly = refl;
   basic_head = refl;
@@ -78,41 +80,40 @@ spells_2024 = record {
   claimed_at_least = refl;
   claimed_above = refl;
   gross_below = refl;
-  old_before = ap (λ n. Some (n +ℤ pos 1)) (around 1960);
-  under_19_after = ap (λ n. Some (n -ℤ pos 1)) (around 2006);
-  under_24_after = ap (λ n. Some (n -ℤ pos 1)) (around 2001);
+  old_before = ap (λ n. Some (n +ℤ pos 1)) (around ((tables_of y).year - 64));
+  under_19_after = ap (λ n. Some (n -ℤ pos 1)) (around ((tables_of y).year - 18));
+  under_24_after = ap (λ n. Some (n -ℤ pos 1)) (around ((tables_of y).year - 23));
 }
 
-pub written_2023 : IsWritten tables_2023
-written_2023 = record {
-  spells = spells_2023;
-  shares = record { basic_separately = refl; basic_surviving = refl; box_head = refl; box_jointly = refl; box_surviving = refl };
-  small = record {
-    basic_single = omega arith;
-    basic_jointly = omega arith;
-    basic_head = omega arith;
-    box_single = omega arith;
-    box_separately = omega arith;
-    claimed_at_least = omega arith;
-    claimed_above = omega arith;
-    from = omega arith;
-    until = omega arith;
-  };
+shares : (y : TaxYear) → Shares (tables_of y)
+shares y = record { basic_separately = refl; basic_surviving = refl; box_head = refl; box_jointly = refl; box_surviving = refl }
+
+at_most : (n m : ℕ) → IsTrue (nat_le n m) → n ≤ m
+at_most n m h = grind (arith, nat_tests)
+
+small : (y : TaxYear) → IsSmall (tables_of y)
+small Year2023 = record {
+  basic_single = at_most _ _ refl;
+  basic_jointly = at_most _ _ refl;
+  basic_head = at_most _ _ refl;
+  box_single = at_most _ _ refl;
+  box_separately = at_most _ _ refl;
+  claimed_at_least = at_most _ _ refl;
+  claimed_above = at_most _ _ refl;
+  from = at_most _ _ refl;
+  until = at_most _ _ refl;
+}
+small y = record {
+  basic_single = at_most _ _ refl;
+  basic_jointly = at_most _ _ refl;
+  basic_head = at_most _ _ refl;
+  box_single = at_most _ _ refl;
+  box_separately = at_most _ _ refl;
+  claimed_at_least = at_most _ _ refl;
+  claimed_above = at_most _ _ refl;
+  from = at_most _ _ refl;
+  until = at_most _ _ refl;
 }
 
-pub written_2024 : IsWritten tables_2024
-written_2024 = record {
-  spells = spells_2024;
-  shares = record { basic_separately = refl; basic_surviving = refl; box_head = refl; box_jointly = refl; box_surviving = refl };
-  small = record {
-    basic_single = omega arith;
-    basic_jointly = omega arith;
-    basic_head = omega arith;
-    box_single = omega arith;
-    box_separately = omega arith;
-    claimed_at_least = omega arith;
-    claimed_above = omega arith;
-    from = omega arith;
-    until = omega arith;
-  };
-}
+pub written : (y : TaxYear) → IsWritten (tables_of y)
+written y = record { spells = spells y; shares = shares y; small = small y }

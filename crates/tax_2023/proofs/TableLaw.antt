@@ -23,7 +23,8 @@ use Rattle.dictionary.specs.Dependencies.{outermost, slot}
 use Rattle.dictionary.specs.Slots.{is_member}
 use Rattle.dictionary.proofs.PlainLaws.{plain_is_recursive}
 use Rattle.tax_2023.specs.Household.{Dependent, Household, single, separately, jointly, surviving_spouse, head_of_household}
-use Rattle.tax_2023.specs.Years.{Year, tables_2023, tables_2024}
+use Rattle.tax_2023.specs.Years.{Year, tables_of}
+use Rattle.tax_2023.specs.declared.years.TaxYear.{TaxYear}
 use Rattle.tax_2023.specs.Figures.{figures}
 use Rattle.tax_2023.specs.Facts as facts
 use Rattle.tax_2023.specs.Facts.{dictionary}
@@ -32,7 +33,7 @@ use Rattle.tax_2023.specs.Tables.{basic_amount, box_amount, boxes, deduction, de
 use Rattle.tax_2023.specs.Laws.{HasPerson, HasPersons, HasTables, IsModest, IsOfYear, StatusesAreNamed, TablesHold, status_value}
 use Rattle.tax_2023.proofs.Join.{all_known, joined, stated_slot}
 use Rattle.tax_2023.proofs.Persons.{all_members, kept_members}
-use Rattle.tax_2023.proofs.Spells.{IsWritten, written_2023, written_2024}
+use Rattle.tax_2023.proofs.Spells.{IsWritten, written}
 use Rattle.tax_2023.proofs.Stated.{Stated, known}
 use Rattle.tax_2023.proofs.Values.{person, stated}
 use Rattle.tax_2023.proofs.YearDictionary.{Rest, no_rest, of_year, parts, ranks, ranks_are}
@@ -128,11 +129,8 @@ tables_hold y w d o a h i earned other =
     let household : AreOfHousehold (dictionary (figures y)) a h = subst (λ (t : Tree). AreOfHousehold t a h) o.facts i in
     subst (λ (e : Accepted). HasTables e y a h) same (tables y w (no_rest d.typed) accepted a h household earned other)
 
-pub tables_hold_2023 : TablesHold tables_2023
-tables_hold_2023 = tables_hold tables_2023 written_2023
-
-pub tables_hold_2024 : TablesHold tables_2024
-tables_hold_2024 = tables_hold tables_2024 written_2024
+pub year_tables_hold : (y : TaxYear) → TablesHold (tables_of y)
+year_tables_hold y = tables_hold (tables_of y) (written y)
 
 -- ---- filing statuses by name
 

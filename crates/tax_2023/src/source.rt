@@ -5,10 +5,10 @@ ghost use Rattle.written_facts.specs.Figures.{Named, figures_view};
 ghost use Rattle.written_facts.specs.Rows.{rows_view};
 ghost use Rattle.tax_2023.specs.Facts.{at_start, counts, dictionary, filed, filer, filing_statuses, persons, tests, with_filer, with_persons, with_return, with_tests};
 ghost use Rattle.tax_2023.specs.Figures.{figures};
-ghost use Rattle.tax_2023.specs.Years.{tables_2023, tables_2024};
+ghost use Rattle.tax_2023.specs.Years.{tables_of};
 
-use crate::figures::{FIGURES_2023, FIGURES_2024};
 use crate::rows::{COUNTS, DEPENDENTS, FILER, FILING_STATUSES, RETURN, TESTS};
+use crate::years::{TaxYear, figures_of};
 use dict_tree::DictSource;
 use fact_values::NoMemory;
 use std::alloc::Global;
@@ -133,16 +133,10 @@ fn source(alloc: Global, figures: &[Figure<'_>]) -> Result<DictSource, NoMemory>
     }
 }
 
-/// The 45 facts of 2023, in order.
-pub fn source_2023(alloc: Global) -> Result<DictSource, NoMemory>
-    ensures { IfOk result (λ source. dictionary_view source ≡ dictionary (figures tables_2023)) }
+/// The 45 facts of the year, in order.
+pub fn year_source(alloc: Global, year: TaxYear) -> Result<DictSource, NoMemory>
+    ensures { IfOk result (λ source. dictionary_view source ≡ dictionary (figures (tables_of year))) }
 {
-    source(alloc, &FIGURES_2023)
-}
-
-/// The 45 facts of 2024, in order.
-pub fn source_2024(alloc: Global) -> Result<DictSource, NoMemory>
-    ensures { IfOk result (λ source. dictionary_view source ≡ dictionary (figures tables_2024)) }
-{
-    source(alloc, &FIGURES_2024)
+    let figures = figures_of(alloc, year)?;
+    source(alloc, &figures)
 }

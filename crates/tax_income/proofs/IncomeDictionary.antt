@@ -15,7 +15,9 @@ use Rattle.tax_2023.proofs.YearDictionary.{ranks}
 use Rattle.tax_income.specs.Facts.{dictionary_of, income_dictionary}
 use Rattle.tax_income.specs.Figures.{income_figures}
 use Rattle.tax_income.specs.Laws.{IsOfIncome}
-use Rattle.tax_income.specs.Years.{IncomeYear, income_2023, income_2024}
+use Rattle.tax_2023.specs.declared.years.TaxYear.{TaxYear}
+use Rattle.tax_2023.specs.declared.years.TaxYear.TheVariants.{Year2023}
+use Rattle.tax_income.specs.Years.{IncomeYear, income_of}
 
 -- of the facts behind those of the year
 abbrev pub further_ranks : List ℕ
@@ -32,19 +34,13 @@ ranks_are fs gs = refl
 of_tables : (y : IncomeYear) → IsTrue (are_ranks (mention_graph (dictionary_of y)) (ranks ++ further_ranks))
 of_tables y = ranks_are (figures y.tables) (income_figures y)
 
-sound_2023 : IsSound (dictionary_of income_2023) (ranks ++ further_ranks)
+sound : (y : TaxYear) → IsSound (dictionary_of (income_of y)) (ranks ++ further_ranks)
 unfolding spelled_dollars spelled_day gcd
-sound_2023 = record { typed = refl; ranked = of_tables income_2023 }
+sound Year2023 = record { typed = refl; ranked = of_tables (income_of Year2023) }
+sound y = record { typed = refl; ranked = of_tables (income_of y) }
 
-sound_2024 : IsSound (dictionary_of income_2024) (ranks ++ further_ranks)
-unfolding spelled_dollars spelled_day gcd
-sound_2024 = record { typed = refl; ranked = of_tables income_2024 }
-
-pub no_fault_2023 : HasNoFault (dictionary_of income_2023) []
-no_fault_2023 = no_fault (dictionary_of income_2023) (ranks ++ further_ranks) sound_2023
-
-pub no_fault_2024 : HasNoFault (dictionary_of income_2024) []
-no_fault_2024 = no_fault (dictionary_of income_2024) (ranks ++ further_ranks) sound_2024
+pub income_has_none : (y : TaxYear) → HasNoFault (dictionary_of (income_of y)) []
+income_has_none y = no_fault (dictionary_of (income_of y)) (ranks ++ further_ranks) (sound y)
 
 -- the dictionary that is answered is that of the year
 pub is_of_income : (y : IncomeYear) (source : Written) → dictionary_view source ≡ dictionary_of y → (r : Result Kept NoMemory) → IfOk r (λ d. IsAccepted [] (accepted d)) → IfOk r (λ d. d.source ≡ source) → IfOk r (λ d. IsOfIncome y (accepted d))

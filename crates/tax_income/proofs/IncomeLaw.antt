@@ -43,8 +43,9 @@ use Rattle.tax_income.specs.Answers.{AllAreStated, AreNumbered}
 use Rattle.tax_income.specs.Facts as facts
 use Rattle.tax_income.specs.Facts.{dictionary_of, facts_of_income}
 use Rattle.tax_income.specs.Figures.{income_figures}
-use Rattle.tax_income.specs.Years.{IncomeYear}
-use Rattle.tax_income.proofs.IncomeSpells.{IsWrittenIncome}
+use Rattle.tax_2023.specs.declared.years.TaxYear.{TaxYear}
+use Rattle.tax_income.specs.Years.{IncomeYear, income_of}
+use Rattle.tax_income.proofs.IncomeSpells.{IsWrittenIncome, written}
 use Rattle.tax_income.specs.Laws.{HasChild, HasChildren, HasIncomeTables, HouseholdIsThere, IncomeTablesHold}
 use Rattle.tax_income.specs.Tables.{Numbered, child_credit, credit_base, credit_children, excess, is_credit_child, is_other_dependent, other_dependents, reduction, schedule_tax, tax_after_credits}
 use Rattle.tax_income.proofs.Bands.{end10_stated, end12_stated, end22_stated, end24_stated, end32_stated, end35_stated, schedule_stated, tax10_stated, tax12_stated, tax22_stated, tax24_stated, tax32_stated, tax35_stated, tax37_stated}
@@ -232,7 +233,7 @@ module _ (y : IncomeYear) (w : IsWrittenIncome y) (t : TypedDictionary) (accepte
 few_persons : (a : Answered) (h : Household) → length (list_of a 26) ≤ 100 → list_of a 26 ≡ members h.persons → AreFew h
 few_persons a h le is = subst (λ n. n ≤ 100) (ap length is ∙ length-map h.persons (λ (p : Dependent). p.member)) le
 
-pub income_tables_hold : (y : IncomeYear) → IsWrittenIncome y → IncomeTablesHold y
+income_tables_hold : (y : IncomeYear) → IsWrittenIncome y → IncomeTablesHold y
 income_tables_hold y w d made a h numbered fit i n e o =
     let same : of_income y d.typed ≡ d = is_made_of d made.is_accepted (dictionary_of y) made.facts (ranks ++ further_ranks) (ranks_are (figures y.tables) (income_figures y)) in
     let accepted : IsAccepted [] (of_income y d.typed) = subst (IsAccepted []) (sym same) made.is_accepted in
@@ -241,6 +242,9 @@ income_tables_hold y w d made a h numbered fit i n e o =
     let numbers = subst (λ (t : Tree). AreNumbered t a numbered h.persons) made.facts n in
     let few = few_persons a h (fit.well.short 26) (ap (λ (l : Option (List ℕ)). unwrap_or l []) household.opened) in
     subst (λ (d : Accepted). HasIncomeTables d y a h numbered) same (income_tables y w d.typed accepted a h numbered household numbers few e o)
+
+pub income_year_tables_hold : (y : TaxYear) → IncomeTablesHold (income_of y)
+income_year_tables_hold y = income_tables_hold (income_of y) (written y)
 
 -- ---- there is such a household
 

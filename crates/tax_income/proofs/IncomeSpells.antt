@@ -7,9 +7,11 @@ use Rattle.tax_2023.specs.Figures.{spelled_day, spelled_dollars}
 use Rattle.tax_2023.specs.Household.{Status, single, separately, jointly, surviving_spouse, head_of_household}
 use Rattle.tax_2023.specs.Tables.{cents}
 use Rattle.tax_2023.proofs.Ages.{first_of}
-use Rattle.tax_2023.proofs.Spells.{IsWritten, around, written_2023 as written_tables_2023, written_2024 as written_tables_2024}
+use Rattle.tax_2023.proofs.Spells.{IsWritten, around, written as written_tables}
 use Rattle.tax_income.specs.Bands.{ends}
-use Rattle.tax_income.specs.Years.{IncomeYear, income_2023, income_2024}
+use Rattle.tax_2023.specs.declared.years.TaxYear.{TaxYear}
+use Rattle.tax_2023.specs.declared.years.TaxYear.TheVariants.{Year2023}
+use Rattle.tax_income.specs.Years.{IncomeYear, income_of}
 use Rattle.tax_income.proofs.Rounding.{rise}
 
 -- of the end of a band
@@ -34,48 +36,41 @@ pub record IsWrittenIncome (y : IncomeYear) : Type 0 where
   pub few : (s : Status) → IsTrue (list_all (λ e. nat_le e 1000000) (ends y s))
   pub rises : (s : Status) → IsTrue (rise 0 (ends y s))
 
-few_2023 : (s : Status) → IsTrue (list_all (λ e. nat_le e 1000000) (ends income_2023 s))
-few_2023 single = refl
-few_2023 _ = refl
+-- ---- each year is written so: clauses for the first, and one for all others
 
-rises_2023 : (s : Status) → IsTrue (rise 0 (ends income_2023 s))
-rises_2023 single = refl
-rises_2023 _ = refl
+few : (y : TaxYear) (s : Status) → IsTrue (list_all (λ e. nat_le e 1000000) (ends (income_of y) s))
+few Year2023 single = refl
+few y single = refl
+few y s = refl
 
-few_2024 : (s : Status) → IsTrue (list_all (λ e. nat_le e 1000000) (ends income_2024 s))
-few_2024 single = refl
-few_2024 _ = refl
+rises : (y : TaxYear) (s : Status) → IsTrue (rise 0 (ends (income_of y) s))
+rises Year2023 single = refl
+rises y single = refl
+rises y s = refl
 
-rises_2024 : (s : Status) → IsTrue (rise 0 (ends income_2024 s))
-rises_2024 single = refl
-rises_2024 _ = refl
-
-pub written_2023 : IsWrittenIncome income_2023
+pub written : (y : TaxYear) → IsWrittenIncome (income_of y)
 unfolding spelled_dollars spelled_day
-written_2023 = record {
-  tables = written_tables_2023;
+written Year2023 = record {
+  tables = written_tables Year2023;
   end_10 = record { couple = refl; head = refl; separate = refl; other = refl; shared = refl };
   end_12 = record { couple = refl; head = refl; separate = refl; other = refl; shared = refl };
   end_22 = record { couple = refl; head = refl; separate = refl; other = refl; shared = refl };
   end_24 = record { couple = refl; head = refl; separate = refl; other = refl; shared = refl };
   end_32 = record { couple = refl; head = refl; separate = refl; other = refl; shared = refl };
   end_35 = record { couple = refl; head = refl; separate = refl; other = refl; shared = refl };
-  under_17_after = ap (λ n. Some (n -ℤ pos 1)) (around 2007);
-  few = few_2023;
-  rises = rises_2023;
+  under_17_after = ap (λ n. Some (n -ℤ pos 1)) (around ((income_of Year2023).tables.year - 16));
+  few = few Year2023;
+  rises = rises Year2023;
 }
-
-pub written_2024 : IsWrittenIncome income_2024
-unfolding spelled_dollars spelled_day
-written_2024 = record {
-  tables = written_tables_2024;
+written y = record {
+  tables = written_tables y;
   end_10 = record { couple = refl; head = refl; separate = refl; other = refl; shared = refl };
   end_12 = record { couple = refl; head = refl; separate = refl; other = refl; shared = refl };
   end_22 = record { couple = refl; head = refl; separate = refl; other = refl; shared = refl };
   end_24 = record { couple = refl; head = refl; separate = refl; other = refl; shared = refl };
   end_32 = record { couple = refl; head = refl; separate = refl; other = refl; shared = refl };
   end_35 = record { couple = refl; head = refl; separate = refl; other = refl; shared = refl };
-  under_17_after = ap (λ n. Some (n -ℤ pos 1)) (around 2008);
-  few = few_2024;
-  rises = rises_2024;
+  under_17_after = ap (λ n. Some (n -ℤ pos 1)) (around ((income_of y).tables.year - 16));
+  few = few y;
+  rises = rises y;
 }

@@ -3,6 +3,7 @@ pub mod Credit
 pub mod IncomeDictionary
 pub mod IncomeExample
 pub mod IncomeLaw
+pub mod IncomeLines
 pub mod IncomeSource
 pub mod IncomeSpells
 pub mod IncomeValues

@@ -3,10 +3,11 @@
 use Rattle.std.proofs.Common.{◌≡◌, pos, ℤ, List, [], ◌∷◌, map, refl}
 use Rattle.tax_2023.specs.Household.{Status, single, separately, jointly, surviving_spouse, head_of_household}
 use Rattle.tax_income.specs.Tables.{schedule, thousands}
-use Rattle.tax_income.specs.Years.{income_2023, income_2024}
+use Rattle.tax_2023.specs.declared.years.TaxYear.TheVariants.{Year2023, Year2024}
+use Rattle.tax_income.specs.Years.{income_of}
 
 abbrev taxes : Status → List ℤ → List ℤ
-taxes s ts = map (schedule income_2023 s) ts
+taxes s ts = map (schedule (income_of Year2023) s) ts
 
 -- single
 single_11000 : taxes single (pos 1099999 ∷ pos 1100000 ∷ pos 1100001 ∷ pos 1100005 ∷ []) ≡ pos 110000 ∷ pos 110000 ∷ pos 110000 ∷ pos 110001 ∷ []
@@ -106,7 +107,7 @@ head_of_household_578100 = refl
 -- ---- 2024: at the end of each band but the last, and 100.00 above it, from the printed schedule
 
 abbrev taxes_2024 : Status → List ℤ → List ℤ
-taxes_2024 s ts = map (schedule income_2024 s) ts
+taxes_2024 s ts = map (schedule (income_of Year2024) s) ts
 
 single_in_2024 : taxes_2024 single (pos 1160000 ∷ pos 1170000 ∷ pos 4715000 ∷ pos 4725000 ∷ pos 10052500 ∷ pos 10062500 ∷ pos 19195000 ∷ pos 19205000 ∷ pos 24372500 ∷ pos 24382500 ∷ pos 60935000 ∷ pos 60945000 ∷ [])
     ≡ pos 116000 ∷ pos 117200 ∷ pos 542600 ∷ pos 544800 ∷ pos 1716850 ∷ pos 1719250 ∷ pos 3911050 ∷ pos 3914250 ∷ pos 5567850 ∷ pos 5571350 ∷ pos 18364725 ∷ pos 18368425 ∷ []

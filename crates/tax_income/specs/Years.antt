@@ -1,7 +1,11 @@
--- The written tables of the income of each year, in dollars.
-use Rattle.std.specs.Prelude.{ℕ}
+-- The written tables of the income of each year, in dollars. Their numbers stand in the module `figures`, a figure a line.
+use Rattle.std.specs.Prelude.{ℕ, ◌++◌, List, map, codes}
+use Rattle.written_facts.specs.Figures.{Named}
 use Rattle.tax_2023.specs.Household.{Status, single, separately, jointly, surviving_spouse, head_of_household}
-use Rattle.tax_2023.specs.Years.{Year, tables_2023, tables_2024}
+use Rattle.tax_2023.specs.Years.{Year, dollars_under, tables_of}
+use Rattle.tax_2023.specs.declared.years.TaxYear.{TaxYear}
+use Rattle.tax_2023.specs.declared.years.TaxYear.TheVariants.{Year2023, Year2024}
+use Rattle.tax_income.specs.declared.figures.TheConstants.{FIGURES_2023, FIGURES_2024}
 
 -- the tables of the year, and the upper ends of the bands of its rate schedule, by the rate below them in percent; the last band
 -- has none
@@ -14,114 +18,32 @@ pub record IncomeYear : Type 0 where
   pub end_32 : Status → ℕ
   pub end_35 : Status → ℕ
 
--- ---- 2023
+-- ---- the tables with these figures
 
--- Instructions of Form 1040 for 2023, tax rate schedules
-abbrev pub end_10_2023 : Status → ℕ
-end_10_2023 single = 11000
-end_10_2023 separately = 11000
-end_10_2023 jointly = 22000
-end_10_2023 surviving_spouse = 22000
-end_10_2023 head_of_household = 15700
+-- the upper end of the band with this name
+abbrev pub end_in : List Named → List ℕ → Status → ℕ
+end_in gs band single = dollars_under gs (band ++ codes ", single")
+end_in gs band separately = dollars_under gs (band ++ codes ", separately")
+end_in gs band jointly = dollars_under gs (band ++ codes ", couple")
+end_in gs band surviving_spouse = dollars_under gs (band ++ codes ", couple")
+end_in gs band head_of_household = dollars_under gs (band ++ codes ", head of household")
 
-abbrev pub end_12_2023 : Status → ℕ
-end_12_2023 single = 44725
-end_12_2023 separately = 44725
-end_12_2023 jointly = 89450
-end_12_2023 surviving_spouse = 89450
-end_12_2023 head_of_household = 59850
-
-abbrev pub end_22_2023 : Status → ℕ
-end_22_2023 single = 95375
-end_22_2023 separately = 95375
-end_22_2023 jointly = 190750
-end_22_2023 surviving_spouse = 190750
-end_22_2023 head_of_household = 95350
-
-abbrev pub end_24_2023 : Status → ℕ
-end_24_2023 single = 182100
-end_24_2023 separately = 182100
-end_24_2023 jointly = 364200
-end_24_2023 surviving_spouse = 364200
-end_24_2023 head_of_household = 182100
-
-abbrev pub end_32_2023 : Status → ℕ
-end_32_2023 single = 231250
-end_32_2023 separately = 231250
-end_32_2023 jointly = 462500
-end_32_2023 surviving_spouse = 462500
-end_32_2023 head_of_household = 231250
-
-abbrev pub end_35_2023 : Status → ℕ
-end_35_2023 single = 578125
-end_35_2023 separately = 346875
-end_35_2023 jointly = 693750
-end_35_2023 surviving_spouse = 693750
-end_35_2023 head_of_household = 578100
-
-abbrev pub income_2023 : IncomeYear
-income_2023 = record {
-  tables = tables_2023;
-  end_10 = end_10_2023;
-  end_12 = end_12_2023;
-  end_22 = end_22_2023;
-  end_24 = end_24_2023;
-  end_32 = end_32_2023;
-  end_35 = end_35_2023;
+abbrev pub income_in : Year → List Named → IncomeYear
+income_in y gs = record {
+  tables = y;
+  end_10 = end_in gs (codes "10 percent");
+  end_12 = end_in gs (codes "12 percent");
+  end_22 = end_in gs (codes "22 percent");
+  end_24 = end_in gs (codes "24 percent");
+  end_32 = end_in gs (codes "32 percent");
+  end_35 = end_in gs (codes "35 percent");
 }
 
--- ---- 2024
+-- ---- the years
 
--- Instructions of Form 1040 for 2024, tax rate schedules, after Revenue Procedure 2023-34
-abbrev pub end_10_2024 : Status → ℕ
-end_10_2024 single = 11600
-end_10_2024 separately = 11600
-end_10_2024 jointly = 23200
-end_10_2024 surviving_spouse = 23200
-end_10_2024 head_of_household = 16550
+abbrev pub ends_for : TaxYear → List Named
+ends_for Year2023 = map (λ f. (f.0.now, f.1.now)) FIGURES_2023
+ends_for Year2024 = map (λ f. (f.0.now, f.1.now)) FIGURES_2024
 
-abbrev pub end_12_2024 : Status → ℕ
-end_12_2024 single = 47150
-end_12_2024 separately = 47150
-end_12_2024 jointly = 94300
-end_12_2024 surviving_spouse = 94300
-end_12_2024 head_of_household = 63100
-
-abbrev pub end_22_2024 : Status → ℕ
-end_22_2024 single = 100525
-end_22_2024 separately = 100525
-end_22_2024 jointly = 201050
-end_22_2024 surviving_spouse = 201050
-end_22_2024 head_of_household = 100500
-
-abbrev pub end_24_2024 : Status → ℕ
-end_24_2024 single = 191950
-end_24_2024 separately = 191950
-end_24_2024 jointly = 383900
-end_24_2024 surviving_spouse = 383900
-end_24_2024 head_of_household = 191950
-
-abbrev pub end_32_2024 : Status → ℕ
-end_32_2024 single = 243725
-end_32_2024 separately = 243725
-end_32_2024 jointly = 487450
-end_32_2024 surviving_spouse = 487450
-end_32_2024 head_of_household = 243700
-
-abbrev pub end_35_2024 : Status → ℕ
-end_35_2024 single = 609350
-end_35_2024 separately = 365600
-end_35_2024 jointly = 731200
-end_35_2024 surviving_spouse = 731200
-end_35_2024 head_of_household = 609350
-
-abbrev pub income_2024 : IncomeYear
-income_2024 = record {
-  tables = tables_2024;
-  end_10 = end_10_2024;
-  end_12 = end_12_2024;
-  end_22 = end_22_2024;
-  end_24 = end_24_2024;
-  end_32 = end_32_2024;
-  end_35 = end_35_2024;
-}
+abbrev pub income_of : TaxYear → IncomeYear
+income_of y = income_in (tables_of y) (ends_for y)

@@ -2,28 +2,20 @@
 ghost use Rattle.std.specs.Prelude.{◌≡◌, [], IfOk};
 ghost use Rattle.dictionary.specs.Accepted.{accepted};
 ghost use Rattle.tax_income.specs.Laws.{IsOfIncome};
-ghost use Rattle.tax_income.specs.Years.{income_2023 as tables_of_2023, income_2024 as tables_of_2024};
+ghost use Rattle.tax_income.specs.Years.{income_of};
 
-use crate::source::{income_source_2023, income_source_2024};
+use crate::source::income_source;
 use dictionary::{Dictionary, of_faultless_source};
 use fact_values::NoMemory;
 use std::alloc::Global;
+use tax_2023::TaxYear;
 
-/// The dictionary of 2023 with the rate schedule and the child tax credit, accepted with no checks. That it has no fault is
+/// The dictionary of the year with the rate schedule and the child tax credit, accepted with no checks. That it has no fault is
 /// proved, so none is answered.
-pub fn income_2023(alloc: Global) -> Result<Dictionary, NoMemory>
-    ensures of_income { IfOk result (λ d. IsOfIncome tables_of_2023 (accepted d)) }
+pub fn income_dictionary(alloc: Global, year: TaxYear) -> Result<Dictionary, NoMemory>
+    ensures of_income { IfOk result (λ d. IsOfIncome (income_of year) (accepted d)) }
     ensures checks { IfOk result (λ d. d.checks ≡ []) }
 {
-    let source = income_source_2023(alloc)?;
-    of_faultless_source(alloc, source)
-}
-
-/// The same of 2024.
-pub fn income_2024(alloc: Global) -> Result<Dictionary, NoMemory>
-    ensures of_income { IfOk result (λ d. IsOfIncome tables_of_2024 (accepted d)) }
-    ensures checks { IfOk result (λ d. d.checks ≡ []) }
-{
-    let source = income_source_2024(alloc)?;
+    let source = income_source(alloc, year)?;
     of_faultless_source(alloc, source)
 }

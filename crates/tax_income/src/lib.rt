@@ -9,5 +9,5 @@ mod reads;
 mod rows;
 mod source;
 
-pub use income::{income_2023, income_2024};
-pub use laws::{tables_of_income_2023, tables_of_income_2024};
+pub use income::income_dictionary;
+pub use laws::tables_of_incomes;

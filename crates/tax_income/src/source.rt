@@ -5,14 +5,14 @@ ghost use Rattle.written_facts.specs.Figures.{Named, figures_view};
 ghost use Rattle.written_facts.specs.Rows.{rows_view};
 ghost use Rattle.tax_2023.specs.Facts.{dictionary};
 ghost use Rattle.tax_income.specs.Facts.{children, credit, dictionary_of, ends, income_dictionary, taxes, with_children, with_ends, with_taxes};
-ghost use Rattle.tax_income.specs.Years.{income_2023, income_2024};
+ghost use Rattle.tax_income.specs.Years.{income_of};
 
-use crate::figures::{FIGURES_2023, FIGURES_2024};
+use crate::figures::figures_of;
 use crate::rows::{CHILDREN, CREDIT, ENDS, TAXES};
 use dict_tree::DictSource;
 use fact_values::NoMemory;
 use std::alloc::Global;
-use tax_2023::{source_2023, source_2024};
+use tax_2023::{TaxYear, year_source};
 use written_facts::{Figure, Row, push_rows};
 
 // ---- the rows write these facts, with any figures
@@ -115,18 +115,11 @@ fn with_income(
     }
 }
 
-/// The 45 facts of 2023 and the 24 behind them, in order.
-pub fn income_source_2023(alloc: Global) -> Result<DictSource, NoMemory>
-    ensures { IfOk result (λ source. dictionary_view source ≡ dictionary_of income_2023) }
+/// The 45 facts of the year and the 24 behind them, in order.
+pub fn income_source(alloc: Global, year: TaxYear) -> Result<DictSource, NoMemory>
+    ensures { IfOk result (λ source. dictionary_view source ≡ dictionary_of (income_of year)) }
 {
-    let year = source_2023(alloc)?;
-    with_income(alloc, &FIGURES_2023, year)
-}
-
-/// The same of 2024.
-pub fn income_source_2024(alloc: Global) -> Result<DictSource, NoMemory>
-    ensures { IfOk result (λ source. dictionary_view source ≡ dictionary_of income_2024) }
-{
-    let year = source_2024(alloc)?;
-    with_income(alloc, &FIGURES_2024, year)
+    let figures = figures_of(alloc, year)?;
+    let source = year_source(alloc, year)?;
+    with_income(alloc, &figures, source)
 }
