@@ -1,31 +1,28 @@
--- A script of several parties on its way: commands, lines, and pieces of bytes one behind another.
-use Rattle.std.proofs.Common.{◌≡◌, ℕ, Bool, true, false, List, [], ◌∷◌, ◌++◌, length, drop, Option, Some, refl, sym, ap, subst, ◌∙◌, arith, append_assoc}
+-- A line of a party and its answer: commands, and lines one behind another.
+use Rattle.std.proofs.Common.{◌≡◌, ℕ, Bool, true, false, List, [], ◌∷◌, ◌++◌, Option, Some, refl, sym, ap, subst, ◌∙◌, append_assoc}
 use Rattle.std.specs.Prelude.{Ok}
 use Rattle.std.proofs.lemmas.List.{append-nil}
 use Rattle.fact_paths.specs.declared.slot_path.SlotPath.{SlotPath}
 use Rattle.fg_io.specs.Outside.{Output}
-use Rattle.fg_io.specs.Sent.{Sent}
-use Rattle.fg_io.proofs.SentLaws.{sent_none, sent_on}
-use Rattle.script_lines.specs.Lines.{ScriptLine, script_lines, ready_lines}
+use Rattle.script_lines.specs.Lines.{ScriptLine}
 use Rattle.script_lines.specs.declared.command.Command.{Command}
 use Rattle.script_lines.specs.declared.command.Command.TheVariants as commands
 use Rattle.script_lines.specs.declared.command.Command.TheVariants.{Missing}
-use Rattle.script_lines.specs.declared.lines.Ready.{Ready}
 use Rattle.graph_session.specs.Refusals.{slot_found}
 use Rattle.graph_session.specs.Rules.{Rules, rules}
 use Rattle.graph_session.specs.SessionView.{SessionState, SessionView, session_state}
 use Rattle.graph_session.specs.Step.{reply as reply_of}
 use Rattle.graph_session.specs.declared.reply.Reply.{Reply}
 use Rattle.session_lines.specs.Answering.{EndsOrWrites, OutputAs, WrittenAs}
-use Rattle.session_lines.specs.Replies.{reply_text}
+use Rattle.session_lines.specs.Replies.{missing_output, reply_text}
 use Rattle.session_lines.specs.declared.progress.Progress.{Progress}
 use Rattle.session_lines.specs.declared.progress.Progress.TheVariants.{More, Over, Unwritten, OutOfMemory}
 use Rattle.shared_desk.specs.Desk.{Desk, desk_after, desk_refusal, desk_step}
 use Rattle.shared_desk.specs.DeskView.{DeskView, StandsFor, rules_of}
 use Rattle.shared_desk.specs.Refusals.{Refused, RefusedBut, decided, wants_memory}
 use Rattle.shared_desk.specs.declared.refusal.DeskRefusal.{DeskRefusal}
-use Rattle.desk_lines.specs.DeskAnswering.{DeskReplied, DeskOutput}
-use Rattle.desk_lines.specs.DeskStepping.{DeskState, DeskStep, desk_line_step, desk_open, desk_refusal_text, desk_replies, desk_state_after, is_session_command, marked_lines, missing_output, step_asked, step_decided}
+use Rattle.desk_lines.specs.DeskAnswering.{DeskOutput}
+use Rattle.desk_lines.specs.DeskStepping.{DeskState, DeskStep, desk_line_step, desk_open, desk_refusal_text, desk_replies, desk_state_after, is_session_command, marked_lines, step_asked, step_decided}
 
 -- ---- one command
 
@@ -41,7 +38,7 @@ module _ (sink sink_now : Output) (v v_now : DeskView) where
       → DeskOutput sink sink_now v v_now text (desk_open d) progress
   written_output text d More written stands = (written, (stands, refl))
   written_output text d Over written stands = absurd written
-  written_output text d Unwritten written stands = written
+  written_output text d Unwritten written stands = (written, (stands, refl))
   written_output text d OutOfMemory written stands = absurd written
 
   -- so is one for which there may have been no memory
@@ -49,7 +46,7 @@ module _ (sink sink_now : Output) (v v_now : DeskView) where
       → DeskOutput sink sink_now v v_now text (desk_open d) progress
   maybe_output text d More output stands same = (output, (stands, refl))
   maybe_output text d Over output stands same = absurd output
-  maybe_output text d Unwritten output stands same = output
+  maybe_output text d Unwritten output stands same = (output, (stands, refl))
   maybe_output text d OutOfMemory output stands same = (output, same)
 
   -- the same of what a step tells
@@ -117,48 +114,3 @@ desk_replies-append r state (x ∷ xs) ys =
 pub desk_state_after-append : (r : Rules) (state : DeskState) (xs ys : List ScriptLine) → desk_state_after r state (xs ++ ys) ≡ desk_state_after r (desk_state_after r state xs) ys
 desk_state_after-append r state [] ys = refl
 desk_state_after-append r state (x ∷ xs) ys = desk_state_after-append r (desk_line_step r state x).state xs ys
-
--- ---- a piece on its way
-
-pub replied_none : (r : Rules) (taken : Option (List ℕ)) (here : Desk) (held bytes : List ℕ) → DeskReplied r taken taken here held bytes (desk_open here) held bytes []
-replied_none r taken here held bytes = record { lines = []; cut = λ more. refl; wrote = sent_none taken []; left = refl }
-
--- one more line was cut from what stands behind, and its reply was written as far as `rest`
-replied_line : (r : Rules) (a b c : Option (List ℕ)) (here here_now : Desk) (held bytes held_now behind held_next next rest : List ℕ) (lines : List ScriptLine) (state_next : DeskState)
-    → DeskReplied r a b here held bytes (desk_open here_now) held_now behind []
-    → ((more : List ℕ) → script_lines (held_now ++ (behind ++ more)) ≡ lines ++ script_lines (held_next ++ (next ++ more)))
-    → Sent b c (desk_replies r (desk_open here_now) lines) rest → desk_state_after r (desk_open here_now) lines ≡ state_next
-    → DeskReplied r a c here held bytes state_next held_next next rest
-replied_line r a b c here here_now held bytes held_now behind held_next next rest lines state_next replied stream wrote left = record {
-  lines = replied.lines ++ lines;
-  cut = λ more. replied.cut more ∙ ap (λ l. replied.lines ++ l) (stream more) ∙ sym (append_assoc replied.lines lines (script_lines (held_next ++ (next ++ more))));
-  wrote = subst (λ t. Sent a c t rest) (text lines) (sent_on a b c (desk_replies r (desk_open here) replied.lines) (desk_replies r (desk_open here_now) lines) rest replied.wrote wrote);
-  left = desk_state_after-append r (desk_open here) replied.lines lines ∙ ap (λ s. desk_state_after r s lines) replied.left ∙ left;
-}
-  where
-    text : (lines : List ScriptLine) → desk_replies r (desk_open here) replied.lines ++ desk_replies r (desk_open here_now) lines ≡ desk_replies r (desk_open here) (replied.lines ++ lines)
-    text lines =
-        ap (λ s. desk_replies r (desk_open here) replied.lines ++ desk_replies r s lines) (sym replied.left)
-        ∙ sym (desk_replies-append r (desk_open here) replied.lines lines)
-
--- the same, of the line that was fed and answered
-pub replied_fed : (r r_now : Rules) (a b c : Option (List ℕ)) (here here_now : Desk) (held bytes held_now behind held_next next rest line line_now : List ℕ) (ready : Ready) (n : ℕ) (state_next : DeskState)
-    → DeskReplied r a b here held bytes (desk_open here_now) held_now behind [] → r_now ≡ r
-    → ((more : List ℕ) → script_lines (held_now ++ (behind ++ more)) ≡ ready_lines ready line ++ script_lines (held_next ++ (drop n behind ++ more)))
-    → line_now ≡ line → next ≡ drop n behind
-    → Sent b c (desk_replies r_now (desk_open here_now) (ready_lines ready line_now)) rest → desk_state_after r_now (desk_open here_now) (ready_lines ready line_now) ≡ state_next
-    → DeskReplied r a c here held bytes state_next held_next next rest
-replied_fed r r_now a b c here here_now held bytes held_now behind held_next next rest line line_now ready n state_next replied same_rules stream same_line is_next wrote left =
-    replied_line r a b c here here_now held bytes held_now behind held_next next rest (ready_lines ready line) state_next replied
-    (λ more. stream more ∙ ap (λ l. ready_lines ready line ++ script_lines (held_next ++ (l ++ more))) (sym is_next))
-    (subst (λ t. Sent b c t rest) (λ i. desk_replies (same_rules i) (desk_open here_now) (ready_lines ready (same_line i))) wrote)
-    ((λ i. desk_state_after (sym same_rules i) (desk_open here_now) (ready_lines ready (sym same_line i))) ∙ left)
-
--- a state in which the script goes on
-pub open_state : (state : DeskState) → state.over ≡ false → state ≡ desk_open state.desk
-open_state state is = ap {A = Bool} {B = DeskState} (λ o. record { desk = state.desk; over = o }) is
-
--- nothing is left of a piece
-pub no_bytes : (bytes : List ℕ) → length bytes ≡ 0 → bytes ≡ []
-no_bytes [] e = refl
-no_bytes (b ∷ bytes) e = absurd (omega (arith, e))

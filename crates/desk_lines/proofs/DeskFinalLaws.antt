@@ -17,7 +17,7 @@ use Rattle.shared_desk.specs.Refusals.{decided, first_of}
 use Rattle.shared_desk.specs.declared.refusal.DeskRefusal.TheVariants.{Session}
 use Rattle.desk_lines.specs.DeskLaws.{DeskFinalLinesStay}
 use Rattle.desk_lines.specs.DeskStepping.{marked_lines, step_asked, step_decided}
-use Rattle.desk_lines.specs.PartyLines.{party_mark}
+use Rattle.session_lines.specs.Marks.{party_mark}
 
 -- the desk's session, with no watches
 abbrev session_of : Desk → LineState

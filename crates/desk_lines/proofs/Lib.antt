@@ -3,7 +3,6 @@ pub mod DeskExamples
 pub mod DeskFinalLaws
 pub mod DeskStepLaws
 pub mod MarkLaws
-pub mod MarkedLaws
 pub mod PartyExamples
 pub mod ReturnLaws
 pub mod SayingLaws

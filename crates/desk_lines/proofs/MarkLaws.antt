@@ -15,7 +15,8 @@ use Rattle.fact_paths.proofs.CutLaws.{after_some, cut-append, cut-lacks, cut_som
 use Rattle.fact_paths.proofs.MemberNumbers.{decimal_lacks, member_number_some, member_number-decimal}
 use Rattle.script_lines.specs.Commands.{without_return}
 use Rattle.script_lines.specs.Parsing.{at_blank}
-use Rattle.desk_lines.specs.PartyLines.{IsBlankAt, IsParty, party_mark, party_number_of, party_of}
+use Rattle.session_lines.specs.Marks.{party_mark}
+use Rattle.desk_lines.specs.PartyLines.{IsBlankAt, IsParty, party_number_of, party_of}
 use Rattle.desk_lines.proofs.ReturnLaws.{dropped, without_return-blanked}
 
 -- ---- blanks

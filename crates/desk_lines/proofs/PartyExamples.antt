@@ -7,7 +7,8 @@ use lib.Utf8.{encode}
 use Rattle.fact_paths.specs.declared.slot_path.SlotPath.{SlotPath}
 use Rattle.fact_paths.specs.declared.slot_path.SlotPath.TheVariants.{Global}
 use Rattle.script_lines.specs.declared.command.Command.TheVariants.{Get, Quit, Set, Undo}
-use Rattle.desk_lines.specs.PartyLines.{party_mark, party_said_in}
+use Rattle.session_lines.specs.Marks.{party_mark}
+use Rattle.desk_lines.specs.PartyLines.{party_said_in}
 use Rattle.desk_lines.specs.declared.party_line.PartyLine.TheVariants.{Silent, NoParty, NoCommand, Asks}
 
 abbrev a : SlotPath

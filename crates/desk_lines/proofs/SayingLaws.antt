@@ -4,7 +4,8 @@ use Rattle.std.specs.Prelude.{◌==◌, if◌then◌else◌}
 use Rattle.std.proofs.lemmas.Bool.{eqb-true}
 use Rattle.script_lines.specs.Commands.{IsSilentText, without_return}
 use Rattle.script_lines.specs.Parsing.{heard}
-use Rattle.desk_lines.specs.PartyLines.{IsParty, SaysByMark, is_silent, party_mark, party_of, party_said, said_behind, said_by}
+use Rattle.session_lines.specs.Marks.{party_mark}
+use Rattle.desk_lines.specs.PartyLines.{IsParty, SaysByMark, is_silent, party_of, party_said, said_behind, said_by}
 use Rattle.desk_lines.specs.declared.party_line.PartyLine.{PartyLine}
 use Rattle.desk_lines.specs.declared.party_line.PartyLine.TheVariants.{Silent, NoParty}
 use Rattle.desk_lines.proofs.MarkLaws.{party_of-mark, party_of-no_return, party_of-returned, party_of_some}

@@ -1,8 +1,8 @@
--- A script of several parties on its way: bytes are cut into lines, and each line is answered before the next is taken.
-use Rattle.std.specs.Prelude.{◌≡◌, ℕ, Bool, true, false, List, [], ◌∷◌, ◌++◌, Option}
+-- How a line of a party is answered: what was written, and what stands behind it.
+use Rattle.std.specs.Prelude.{◌≡◌, ℕ, Bool, true, false, List, [], ◌∷◌}
 use Rattle.fg_io.specs.Outside.{Output, Rose}
 use Rattle.fg_io.specs.Sent.{Sent}
-use Rattle.script_lines.specs.Lines.{ScriptLine, script_lines, HasNoNewline}
+use Rattle.script_lines.specs.Lines.{ScriptLine}
 use Rattle.graph_session.specs.Rules.{Rules}
 use Rattle.session_lines.specs.Answering.{EndsOrWrites}
 use Rattle.session_lines.specs.declared.progress.Progress.{Progress}
@@ -18,11 +18,13 @@ abbrev pub StandsAt : DeskView → DeskState → Bool → Type 0
 StandsAt v state over = StandsFor v state.desk × (state.over ≡ over)
 
 -- A text was told and a state left: the text was written whole, and the script goes on or is over; or it was written in part, after
--- a fault; or there was no memory for it, and then nothing was written, and what is kept is as before.
+-- a fault, and the state is left all the same; or there was no memory for it, and then nothing was written, and what is kept is as
+-- before.
 abbrev pub DeskOutput : Output → Output → DeskView → DeskView → List ℕ → DeskState → Progress → Type 0
 DeskOutput sink sink_now v v_now text state More = Sent sink.taken sink_now.taken text [] × StandsAt v_now state false
 DeskOutput sink sink_now v v_now text state Over = Sent sink.taken sink_now.taken text [] × StandsAt v_now state true
-DeskOutput sink sink_now v v_now text state Unwritten = Rose sink.faults sink_now.faults × ((rest : List ℕ) × Sent sink.taken sink_now.taken text rest)
+DeskOutput sink sink_now v v_now text state Unwritten =
+    (Rose sink.faults sink_now.faults × ((rest : List ℕ) × Sent sink.taken sink_now.taken text rest)) × StandsAt v_now state false
 DeskOutput sink sink_now v v_now text state OutOfMemory = (sink_now.taken ≡ sink.taken) × (v_now ≡ v)
 
 -- a line, or none, was answered
@@ -34,29 +36,3 @@ DeskAnsweredAs r sink sink_now v v_now here lines progress =
 abbrev pub DeskRefusedAs : Output → Output → ℕ → DeskRefusal → Progress → Type 0
 DeskRefusedAs sink sink_now p refusal progress =
     EndsOrWrites (wants_memory refusal) sink sink_now (marked_lines p (desk_refusal_text refusal ∷ [])) progress
-
--- Bytes came behind those held. Lines were cut from them, as far as what is held now and what stands behind, and the replies
--- to these lines were written but for the rest.
-pub record DeskReplied (r : Rules) (taken taken_now : Option (List ℕ)) (here : Desk) (held bytes : List ℕ) (state_now : DeskState) (held_now behind rest : List ℕ) : Type 0 where
-  pub lines : List ScriptLine
-  pub cut : (more : List ℕ) → script_lines (held ++ (bytes ++ more)) ≡ lines ++ script_lines (held_now ++ (behind ++ more))
-  pub wrote : Sent taken taken_now (desk_replies r (desk_open here) lines) rest
-  pub left : desk_state_after r (desk_open here) lines ≡ state_now
-
--- the same, wherever it stopped
-pub record DeskRepliedSome (r : Rules) (taken taken_now : Option (List ℕ)) (here : Desk) (held bytes rest : List ℕ) : Type 0 where
-  pub state_now : DeskState
-  pub held_now : List ℕ
-  pub behind : List ℕ
-  pub replied : DeskReplied r taken taken_now here held bytes state_now held_now behind rest
-
--- how far a piece was answered: whole, to a `quit`, to a reply that wasn't written whole, or to want of memory
-abbrev pub DeskPieceAnsweredAs : Rules → Output → Output → DeskView → Desk → List ℕ → List ℕ → List ℕ → Progress → Type 0
-DeskPieceAnsweredAs r sink sink_now v_now here held held_now bytes More =
-    ((there : Desk) × StandsFor v_now there × DeskReplied r sink.taken sink_now.taken here held bytes (desk_open there) held_now [] []) × HasNoNewline held_now
-DeskPieceAnsweredAs r sink sink_now v_now here held held_now bytes Over =
-    (some : DeskRepliedSome r sink.taken sink_now.taken here held bytes []) × StandsAt v_now some.state_now true
-DeskPieceAnsweredAs r sink sink_now v_now here held held_now bytes Unwritten =
-    Rose sink.faults sink_now.faults × ((rest : List ℕ) × DeskRepliedSome r sink.taken sink_now.taken here held bytes rest)
-DeskPieceAnsweredAs r sink sink_now v_now here held held_now bytes OutOfMemory =
-    (some : DeskRepliedSome r sink.taken sink_now.taken here held bytes []) × StandsAt v_now some.state_now false

@@ -1,21 +1,19 @@
 -- What a line of a party answers, and what it leaves.
-use Rattle.std.specs.Prelude.{ℕ, Bool, true, false, List, [], ◌∷◌, ◌++◌, codes, map, Result, Ok, Err, if◌then◌else◌}
-use Rattle.fact_values.specs.declared.slot.Slot.{Slot}
-use Rattle.script_lines.specs.Joined.{joined}
+use Rattle.std.specs.Prelude.{ℕ, Bool, true, false, List, [], ◌∷◌, ◌++◌, codes, Result, Ok, Err, if◌then◌else◌}
 use Rattle.script_lines.specs.Lines.{ScriptLine, whole, long}
 use Rattle.script_lines.specs.declared.command.Command.{Command}
 use Rattle.script_lines.specs.declared.command.Command.TheVariants as commands
 use Rattle.answers.specs.Answered.{Answered}
 use Rattle.graph_session.specs.Refusals.{slot_found}
 use Rattle.graph_session.specs.Rules.{Rules}
-use Rattle.graph_session.specs.SessionView.{SessionState}
-use Rattle.graph_session.specs.declared.reply.Refusal.{Refusal}
 use Rattle.graph_session.specs.declared.reply.Reply.{Reply}
 use Rattle.shared_desk.specs.Desk.{Desk, desk_begun, desk_step}
 use Rattle.shared_desk.specs.declared.refusal.DeskRefusal.{DeskRefusal}
 use Rattle.shared_desk.specs.declared.refusal.DeskRefusal.TheVariants as desk
-use Rattle.session_lines.specs.Replies.{bad_line_text, line_with, long_line_text, missing_lines, numbered, refusal_text, reply_text}
-use Rattle.desk_lines.specs.PartyLines.{party_mark, party_said_in}
+use Rattle.session_lines.specs.Replies.{bad_line_text, line_with, long_line_text, missing_output, numbered, refusal_text, reply_text}
+use Rattle.session_lines.specs.Marks as marks
+use Rattle.session_lines.specs.declared.mark.Mark.TheVariants.{Party}
+use Rattle.desk_lines.specs.PartyLines.{party_said_in}
 use Rattle.desk_lines.specs.declared.party_line.PartyLine.{PartyLine}
 use Rattle.desk_lines.specs.declared.party_line.PartyLine.TheVariants.{Silent, NoParty, NoCommand, Asks}
 
@@ -39,11 +37,8 @@ pub record DeskStep : Type 0 where
 -- ---- texts
 
 -- the party's mark stands before each line
-abbrev pub marked : ℕ → List ℕ → List ℕ
-marked p line = party_mark p ++ line
-
 abbrev pub marked_lines : ℕ → List (List ℕ) → List ℕ
-marked_lines p lines = joined (map (marked p) lines)
+marked_lines p lines = marks.marked_lines (Party p) lines
 
 abbrev pub desk_refusal_text : DeskRefusal → List ℕ
 desk_refusal_text (desk.Session refusal) = refusal_text refusal
@@ -60,11 +55,6 @@ step_telling d p lines = record { text = marked_lines p lines; state = desk_open
 abbrev pub step_decided : Rules → Desk → ℕ → Result (Reply × Desk) DeskRefusal → DeskStep
 step_decided r d p (Ok answer) = record { text = marked_lines p (reply_text r answer.1.session_state answer.0 ∷ []); state = desk_open answer.1 }
 step_decided r d p (Err refusal) = step_telling d p (desk_refusal_text refusal ∷ [])
-
--- what is missing of a slot, or why the slot isn't there
-abbrev pub missing_output : Rules → SessionState → Result Slot Refusal → List (List ℕ)
-missing_output r c (Ok slot) = missing_lines r c slot
-missing_output r c (Err refusal) = refusal_text refusal ∷ []
 
 -- the desk itself answers it
 abbrev pub is_session_command : Command → Bool

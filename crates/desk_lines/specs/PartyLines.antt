@@ -1,19 +1,16 @@
 -- The lines of several parties: which party a line is of, and what it says.
-use Rattle.std.specs.Prelude.{◌≡◌, ◌≢◌, ℕ, ◌<◌, ◌≤◌, ◌==◌, All, Bool, true, false, nat_le, List, [], ◌∷◌, ◌++◌, codes, decimal, length, slice_index, take, Option, Some, None, if◌then◌else◌}
+use Rattle.std.specs.Prelude.{◌≡◌, ◌≢◌, ℕ, ◌<◌, ◌≤◌, ◌==◌, All, Bool, true, false, nat_le, List, [], ◌∷◌, ◌++◌, codes, length, slice_index, take, Option, Some, None, if◌then◌else◌}
 use Rattle.fact_paths.specs.Cuts.{after}
 use Rattle.fact_paths.specs.Parsing.{◌>>=◌, member_number_of}
 use Rattle.script_lines.specs.Commands.{IsSilent, without_return}
 use Rattle.script_lines.specs.Parsing.{Heard, nothing, bad_line, command, at_blank, heard}
 use Rattle.script_lines.specs.declared.command.Command.{Command}
 use Rattle.script_lines.specs.declared.command.Command.TheVariants as commands
+use Rattle.session_lines.specs.Marks.{party_mark}
 use Rattle.desk_lines.specs.declared.party_line.PartyLine.{PartyLine}
 use Rattle.desk_lines.specs.declared.party_line.PartyLine.TheVariants.{Silent, NoParty, NoCommand, Asks}
 
 -- ---- marks
-
--- `@P `: it stands before each line of a party, and before each line that is replied to it
-abbrev pub party_mark : ℕ → List ℕ
-party_mark p = codes "@" ++ (decimal p ++ codes " ")
 
 abbrev pub IsParty : ℕ → Type 0
 IsParty p = (1 ≤ p) × (p ≤ 16)

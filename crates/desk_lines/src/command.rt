@@ -9,12 +9,11 @@ ghost use Rattle.shared_desk.specs.DeskView.{StandsFor, rules_of};
 ghost use Rattle.desk_lines.specs.DeskAnswering.{DeskOutput};
 ghost use Rattle.desk_lines.specs.DeskStepping.{is_session_command as known, step_asked, step_decided};
 
-use crate::listing::answer_missing;
-use crate::writing::{write_refusal, write_reply};
+use crate::writing::write_refusal;
 use dictionary::FactEngine;
 use fg_io::Sink;
 use script_lines::Command;
-use session_lines::Progress;
+use session_lines::{Mark, Progress, answer_missing, write_reply};
 use shared_desk::Desk;
 use std::alloc::Global;
 use std::sync::ledger::Ledger;
@@ -66,7 +65,7 @@ fn answer_session_command<E: FactEngine, L: Ledger, K: Sink>(
         (session_state desk.old.session) command.now }
 {
     match desk.line(party, command, checks, steps) {
-        Ok(reply) => write_reply(desk.session(), party, reply, out),
+        Ok(reply) => write_reply(desk.session(), Mark::Party(party), reply, out),
         Err(refusal) => write_refusal(party, refusal, out),
     }
 }
@@ -86,7 +85,9 @@ fn answer_host_command<E: FactEngine, K: Sink>(
     ensures later { (K.output out.old).faults ≤ (K.output out.new).faults }
 {
     match command {
-        Command::Missing(path) => answer_missing(alloc, desk.session(), party, path, out),
+        Command::Missing(path) => {
+            answer_missing(alloc, desk.session(), Mark::Party(party), path, out)
+        }
         _ => Progress::Over,
     }
 }

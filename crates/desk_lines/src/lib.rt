@@ -4,12 +4,11 @@
 mod answering;
 mod command;
 mod laws;
-mod listing;
 mod mark;
 mod party_line;
 mod reply;
 mod writing;
 
-pub use answering::{answer_piece, answer_ready};
+pub use answering::answer_ready;
 pub use laws::{a_line_is_of_one_party, what_is_printed_as_final_stays};
 pub use party_line::PartyLine;

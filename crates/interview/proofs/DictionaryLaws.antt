@@ -7,19 +7,17 @@ use Rattle.dictionary.specs.Faults.{IsFaultOf}
 use Rattle.dictionary.proofs.FirstLaws.{accepted_has_none, one_dictionary, one_fault}
 use Rattle.dictionary.specs.Fits.{AnswersFit}
 use Rattle.graph_session.specs.Rules.{Rules, tree_of}
-use Rattle.tax_2023.proofs.NoFault.{no_fault_2023, no_fault_2024}
-use Rattle.tax_2023.proofs.TableLaw.{one_of_year, tables_hold_2023, tables_hold_2024}
+use Rattle.tax_2023.proofs.NoFault.{year_has_none}
+use Rattle.tax_2023.proofs.TableLaw.{one_of_year, year_tables_hold}
 use Rattle.tax_2023.specs.Facts.{dictionary}
-use Rattle.tax_2023.specs.Years.{tables_2023, tables_2024}
-use Rattle.tax_income.specs.Years.{income_2023, income_2024}
-use Rattle.tax_income.proofs.IncomeDictionary.{no_fault_2023 as no_fault_of_income_2023, no_fault_2024 as no_fault_of_income_2024}
-use Rattle.tax_income.proofs.IncomeSpells.{written_2023, written_2024}
-use Rattle.tax_income.proofs.IncomeLaw.{income_tables_hold}
+use Rattle.tax_2023.specs.Years.{tables_of}
+use Rattle.tax_income.proofs.IncomeDictionary.{income_has_none}
+use Rattle.tax_income.proofs.IncomeLaw.{income_year_tables_hold}
 use Rattle.interview.specs.declared.fetching.Fetched.{Fetched}
 use Rattle.interview.specs.declared.fetching.Fetched.TheVariants as fetches
 use Rattle.interview.specs.declared.status.Status.{Status}
 use Rattle.built_in.specs.declared.built_in.BuiltIn.{BuiltIn}
-use Rattle.built_in.specs.declared.built_in.BuiltIn.TheVariants.{Year2023, Year2024, Income2023, Income2024}
+use Rattle.built_in.specs.declared.built_in.BuiltIn.TheVariants.{Year, Income}
 use Rattle.fg_io.specs.Outside.{MayHold, Contents, missing}
 use Rattle.interview.specs.Words.{Origin, file, program}
 use Rattle.built_in.specs.BuiltIns.{IsBrought, facts_of}
@@ -47,10 +45,8 @@ nothing_missing contents name (brought b) none gave = gave
 
 pub brought_has_none : (b : BuiltIn) (fault : DictFault) → IsFaultOf (facts_of b) [] fault → ⊥
 unfolding facts_of
-brought_has_none Year2023 = no_fault_2023
-brought_has_none Year2024 = no_fault_2024
-brought_has_none Income2023 = no_fault_of_income_2023
-brought_has_none Income2024 = no_fault_of_income_2024
+brought_has_none (Year y) = year_has_none y
+brought_has_none (Income y) = income_has_none y
 
 -- what is fetched comes from a file
 pub obtains_file : (contents : List ℕ → Contents) (name : List ℕ) (checks : List Named) (r : Result Fetched Status) → IfOk r (FetchedAs (contents name) checks) → IfOk r (ObtainedAs contents (file name) checks)
@@ -60,10 +56,8 @@ obtains_file contents name checks (Err status) h = tt
 
 -- the tables hold of what it brings, where the answers fit
 pub tables_hold : (b : BuiltIn) (r : Rules) (a : Answered) → IsBrought b r.accepted → AnswersFit (tree_of r) a → TablesHoldIn b r a
-tables_hold Year2023 r a is fit = λ h answered. tables_hold_2023 r.accepted is a h answered.answers answered.earned answered.other
-tables_hold Year2024 r a is fit = λ h answered. tables_hold_2024 r.accepted is a h answered.answers answered.earned answered.other
-tables_hold Income2023 r a is fit = λ h numbered answered contents. income_tables_hold income_2023 written_2023 r.accepted is a h numbered fit answered.answers contents answered.earned answered.other
-tables_hold Income2024 r a is fit = λ h numbered answered contents. income_tables_hold income_2024 written_2024 r.accepted is a h numbered fit answered.answers contents answered.earned answered.other
+tables_hold (Year y) r a is fit = λ h answered. year_tables_hold y r.accepted is a h answered.answers answered.earned answered.other
+tables_hold (Income y) r a is fit = λ h numbered answered contents. income_year_tables_hold y r.accepted is a h numbered fit answered.answers contents answered.earned answered.other
 
 pub brought_is_faultless : (contents : List ℕ → Contents) (checks : List Named) (b : BuiltIn) (content : Content) (fault : DictFault) → MayGive contents (program b) content → HasFault checks content fault → ⊥
 brought_is_faultless contents checks b (spelled bytes) fault gave is = gave
@@ -79,10 +73,8 @@ same_rules : (r s : Rules) → r.accepted ≡ s.accepted → r.checks ≡ s.chec
 same_rules r s a b = λ i. record { accepted = a i; checks = b i }
 
 one_brought : (b : BuiltIn) (d e : Accepted) → IsBrought b d → IsBrought b e → d ≡ e
-one_brought Year2023 d e h k = one_of_year tables_2023 d e h k
-one_brought Year2024 d e h k = one_of_year tables_2024 d e h k
-one_brought Income2023 d e h k = one_accepted [] d e (h.facts ∙ sym k.facts) h.is_accepted k.is_accepted
-one_brought Income2024 d e h k = one_accepted [] d e (h.facts ∙ sym k.facts) h.is_accepted k.is_accepted
+one_brought (Year y) d e h k = one_of_year (tables_of y) d e h k
+one_brought (Income y) d e h k = one_accepted [] d e (h.facts ∙ sym k.facts) h.is_accepted k.is_accepted
 
 pub one_set_of_rules : (checks : List Named) (content : Content) (r s : Rules) → IsAcceptedAs checks content r → IsAcceptedAs checks content s → r ≡ s
 one_set_of_rules checks (spelled bytes) r s h k = same_rules r s (one_dictionary bytes (names_of checks) r.accepted s.accepted h.0 k.0) (h.1 ∙ sym k.1)
@@ -97,10 +89,8 @@ one_first_fault checks (spelled bytes) fault other h k = one_fault bytes (names_
 one_first_fault checks (brought b) fault other h k = absurd (brought_has_none b fault h)
 
 brought_is_accepted : (b : BuiltIn) (d : Accepted) → IsBrought b d → IsAccepted [] d
-brought_is_accepted Year2023 d h = h.is_accepted
-brought_is_accepted Year2024 d h = h.is_accepted
-brought_is_accepted Income2023 d h = h.is_accepted
-brought_is_accepted Income2024 d h = h.is_accepted
+brought_is_accepted (Year y) d h = h.is_accepted
+brought_is_accepted (Income y) d h = h.is_accepted
 
 -- what a session goes by is an accepted dictionary
 pub rules_are_accepted : (checks : List Named) (content : Content) (r : Rules) → IsAcceptedAs checks content r → (names : List (List ℕ)) × IsAccepted names r.accepted

@@ -60,17 +60,17 @@ module _ (m : Meaning) (did : ScriptDid) (source_now : Input) (sink_now : Output
       let wrote = sent_whole did.output.before.taken did.output.after.taken (defined_script m so_far.bytes).text (last_sent [] short sent) in
       ((so_far.bytes, script_read read end, short_is_done m so_far.bytes (short_bytes short), wrote), inl (so_far.bytes, all_read read, end))
 
-  module _ (answers : Answered) (short : count ≤ script_limit) (read : Consumes source_now.left did.input.after.left []) (end : IsAtEnd did.input.after.left) where
-    ends_by : (progress : Progress) → did.output.before.faults ≤ sink_now.faults → LineOutputAs sink_now did.output.after there answers (script_lines held) progress → ScriptEnds m did (ending_of progress)
+  module _ (MeansNow : Meaning → Type 0) (answers : Answered) (short : count ≤ script_limit) (read : Consumes source_now.left did.input.after.left []) (end : IsAtEnd did.input.after.left) where
+    ends_by : (progress : Progress) → did.output.before.faults ≤ sink_now.faults → LineOutputAs MeansNow sink_now did.output.after there answers (script_lines held) progress → ScriptEnds m did (ending_of progress)
     ends_by More later output = whole_sent short read end output.0
     ends_by Over later output = whole_sent short read end output.0
     ends_by Unwritten later output =
         (omega (arith, output.0, later), (so_far.bytes, script_read read end, (output.1.0, last_sent output.1.0 short output.1.1)))
     ends_by OutOfMemory later output =
-        replied_first m did so_far.bytes lines_so_far _ (script_read read end) (all_lines short) (subst (λ now. Appends did.output.before.taken now text_so_far) (sym output) (sent_whole did.output.before.taken sink_now.taken text_so_far so_far.output.wrote))
+        replied_first m did so_far.bytes lines_so_far _ (script_read read end) (all_lines short) (subst (λ now. Appends did.output.before.taken now text_so_far) (sym output.0) (sent_whole did.output.before.taken sink_now.taken text_so_far so_far.output.wrote))
 
     pub ends_at : (progress : Progress) (status : Status) → status ≡ ending_of progress → did.output.before.faults ≤ sink_now.faults
-        → LineOutputAs sink_now did.output.after there answers (script_lines held) progress → ScriptEnds m did status
+        → LineOutputAs MeansNow sink_now did.output.after there answers (script_lines held) progress → ScriptEnds m did status
     ends_at progress status is later output = subst (ScriptEnds m did) (sym is) (ends_by progress later output)
 
     -- the answers that the last line leaves
@@ -82,14 +82,14 @@ module _ (m : Meaning) (did : ScriptDid) (source_now : Input) (sink_now : Output
       ap m.answers (all_lines short) ∙ so_far.output.left.answers (script_lines held) ∙ left,
     )
 
-    leaves_by : (progress : Progress) → LineOutputAs sink_now did.output.after there answers (script_lines held) progress → LeavesAnswers m did.input.before.left answers (ending_of progress)
+    leaves_by : (progress : Progress) → LineOutputAs MeansNow sink_now did.output.after there answers (script_lines held) progress → LeavesAnswers m did.input.before.left answers (ending_of progress)
     leaves_by More output = left_whole output.1
     leaves_by Over output = left_whole output.1
     leaves_by Unwritten output = tt
     leaves_by OutOfMemory output = tt
 
     pub leaves_at : (progress : Progress) (status : Status) → status ≡ ending_of progress
-        → LineOutputAs sink_now did.output.after there answers (script_lines held) progress → LeavesAnswers m did.input.before.left answers status
+        → LineOutputAs MeansNow sink_now did.output.after there answers (script_lines held) progress → LeavesAnswers m did.input.before.left answers status
     leaves_at progress status is output = subst (LeavesAnswers m did.input.before.left answers) (sym is) (leaves_by progress output)
 
   -- ---- between pieces

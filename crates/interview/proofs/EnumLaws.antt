@@ -7,7 +7,7 @@ use Rattle.dictionary.proofs.EnumLists.{read_lists}
 use Rattle.graph_session.specs.Rules.{Rules, tree_of}
 use Rattle.tax_2023.specs.Facts.{filing_statuses}
 use Rattle.built_in.specs.declared.built_in.BuiltIn.{BuiltIn}
-use Rattle.built_in.specs.declared.built_in.BuiltIn.TheVariants.{Year2023, Year2024, Income2023, Income2024}
+use Rattle.built_in.specs.declared.built_in.BuiltIn.TheVariants.{Year, Income}
 use Rattle.built_in.specs.BuiltIns.{IsBrought}
 use Rattle.interview.specs.Dictionaries.{Content, IsAcceptedAs, brought, spelled}
 
@@ -15,10 +15,8 @@ years_lists : AreLists filing_statuses
 years_lists = record { few = omega arith; distinct = refl; listed = refl }
 
 brought_lists : (b : BuiltIn) (r : Rules) → IsBrought b r.accepted → AreLists (tree_of r).enums
-brought_lists Year2023 r is = subst (λ (d : Dictionary). AreLists d.enums) (sym is.facts) years_lists
-brought_lists Year2024 r is = subst (λ (d : Dictionary). AreLists d.enums) (sym is.facts) years_lists
-brought_lists Income2023 r is = subst (λ (d : Dictionary). AreLists d.enums) (sym is.facts) years_lists
-brought_lists Income2024 r is = subst (λ (d : Dictionary). AreLists d.enums) (sym is.facts) years_lists
+brought_lists (Year y) r is = subst (λ (d : Dictionary). AreLists d.enums) (sym is.facts) years_lists
+brought_lists (Income y) r is = subst (λ (d : Dictionary). AreLists d.enums) (sym is.facts) years_lists
 
 pub accepted_lists : (checks : List Named) (content : Content) (r : Rules) → IsAcceptedAs checks content r → AreLists (tree_of r).enums
 accepted_lists checks (spelled bytes) r is = read_lists is.0.0.1 (tree_of r) is.0.0.3.0 is.0.0.3.1

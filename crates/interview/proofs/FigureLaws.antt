@@ -4,7 +4,6 @@ use Rattle.std.specs.List.{AllByRecursion}
 use Rattle.std.proofs.lemmas.Option.{same_Some}
 use Rattle.script_lines.specs.Lines.{ScriptLine}
 use Rattle.fact_paths.specs.declared.slot_path.SlotPath.{SlotPath}
-use Rattle.value_text.specs.Values.{printed}
 use Rattle.three_state.specs.declared.res.Res.{Res}
 use Rattle.three_state.specs.declared.res.Res.TheVariants.{Complete}
 use Rattle.answers.specs.Answered.{Answered}
@@ -23,12 +22,12 @@ use Rattle.save_file.proofs.Lines.{one_of_all}
 use Rattle.save_file.proofs.TextLaws.{all-append}
 use Rattle.tax_2023.specs.Household.{Dependent, Household}
 use Rattle.tax_2023.specs.Laws.{HasPersons, HasTables}
-use Rattle.tax_2023.specs.Years.{Year, tables_2023, tables_2024}
-use Rattle.tax_income.specs.Years.{IncomeYear, income_2023, income_2024}
+use Rattle.tax_2023.specs.Years.{Year, tables_of}
+use Rattle.tax_income.specs.Years.{IncomeYear, income_of}
 use Rattle.tax_income.specs.Laws.{HasChildren, HasIncomeTables}
 use Rattle.tax_income.specs.Tables.{Numbered}
 use Rattle.built_in.specs.declared.built_in.BuiltIn.{BuiltIn}
-use Rattle.built_in.specs.declared.built_in.BuiltIn.TheVariants.{Year2023, Year2024, Income2023, Income2024}
+use Rattle.built_in.specs.declared.built_in.BuiltIn.TheVariants as built_ins
 use Rattle.built_in.specs.BuiltIns.{IsBrought}
 use Rattle.interview.specs.declared.words.Mode.{Mode}
 use Rattle.interview.specs.declared.words.Mode.TheVariants.{Incremental, Plain, Desk}
@@ -105,10 +104,8 @@ module _ (d : Accepted) (a : Answered) where
   )
 
 figure_is_worth : (b : BuiltIn) (r : Rules) (a : Answered) → IsBrought b r.accepted → AnswersFit (tree_of r) a → (figure : Figure) → IsFigureOf b r a figure → plain r.accepted a (slot_of (tree_of r) figure.0) ≡ Some figure.1
-figure_is_worth Year2023 r a is fit figure (h, answered, there) = one_of_all (IsWorth r.accepted a) (year_figures tables_2023 h) figure (year_worth r.accepted a tables_2023 h (tables_hold Year2023 r a is fit h answered)) there
-figure_is_worth Year2024 r a is fit figure (h, answered, there) = one_of_all (IsWorth r.accepted a) (year_figures tables_2024 h) figure (year_worth r.accepted a tables_2024 h (tables_hold Year2024 r a is fit h answered)) there
-figure_is_worth Income2023 r a is fit figure (h, numbered, answered, are, there) = one_of_all (IsWorth r.accepted a) (income_figures income_2023 h numbered) figure (income_worth r.accepted a income_2023 h numbered (tables_hold Income2023 r a is fit h numbered answered are)) there
-figure_is_worth Income2024 r a is fit figure (h, numbered, answered, are, there) = one_of_all (IsWorth r.accepted a) (income_figures income_2024 h numbered) figure (income_worth r.accepted a income_2024 h numbered (tables_hold Income2024 r a is fit h numbered answered are)) there
+figure_is_worth (built_ins.Year y) r a is fit figure (h, answered, there) = one_of_all (IsWorth r.accepted a) (year_figures (tables_of y) h) figure (year_worth r.accepted a (tables_of y) h (tables_hold (built_ins.Year y) r a is fit h answered)) there
+figure_is_worth (built_ins.Income y) r a is fit figure (h, numbered, answered, are, there) = one_of_all (IsWorth r.accepted a) (income_figures (income_of y) h numbered) figure (income_worth r.accepted a (income_of y) h numbered (tables_hold (built_ins.Income y) r a is fit h numbered answered are)) there
 
 -- ---- what stays is what is worth by every extension
 

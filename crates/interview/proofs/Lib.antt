@@ -12,6 +12,7 @@ pub mod GenLaws
 pub mod LeadLaws
 pub mod LoadLaws
 pub mod MeaningLaws
+pub mod PieceLaws
 pub mod ResumeLaws
 pub mod RunLaws
 pub mod SaveEndLaws

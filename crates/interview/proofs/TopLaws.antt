@@ -7,11 +7,11 @@ use Rattle.fg_io.proofs.SentLaws.{rose_before}
 use Rattle.dictionary.specs.declared.fault.DictFault.{DictFault}
 use Rattle.graph_session.specs.Rules.{Rules}
 use Rattle.interview.specs.declared.status.Status.{Status}
-use Rattle.interview.specs.declared.status.Status.TheVariants.{Done, DictionaryRefused, FetchFault, ReadFault, WriteFault, ScriptTooLong, NoMemory, SavedRefused}
-use Rattle.interview.specs.Words.{Beginning, IsFrom, IsRun, Origin, by_carry, by_load, file, program, unanswered}
+use Rattle.interview.specs.declared.status.Status.TheVariants.{Done, DictionaryRefused, Usage, FetchFault, ReadFault, WriteFault, ScriptTooLong, NoMemory, SavedRefused}
+use Rattle.interview.specs.Words.{Beginning, HasNoForm, IsFrom, IsRun, Origin, by_carry, by_load, file, program, unanswered}
 use Rattle.interview.specs.Beginnings.{Basis, IsRefusedStart, IsStart, MayBring, Start}
 use Rattle.interview.specs.Dictionaries.{Content, HasFault, IsAcceptedAs, MayGive}
-use Rattle.interview.specs.Interview.{defined_fault, defined_saved_refused}
+use Rattle.interview.specs.Interview.{defined_fault, defined_saved_refused, usage}
 use Rattle.interview.specs.ScriptEnds.{EndsBefore, EndsBehind}
 use Rattle.interview.specs.StepEnds.{EndedBy, NotFetched, NotObtained, NotResumed, RunEnds, StartEnds}
 use Rattle.interview.specs.Given.{Did, Given, Unread}
@@ -86,6 +86,12 @@ module _ (given : Given) (did : Did) where
   ends_run over now status later same (inl (basis, brought, (s, is, ends))) = ends_begun over basis (subst (λ (t : List ℕ → Contents). MayBring t over.asked.beginning basis) same brought) s is status ends
   ends_run over now status later same (inr (inl (basis, brought, (n, is, ended, unread)))) = ends_saved_refused over basis (subst (λ (t : List ℕ → Contents). MayBring t over.asked.beginning basis) same brought) n is unread status ended
   ends_run over now status later same (inr (inr (not, still, unread))) = ends_unresumed over now later still unread over.asked.beginning refl status not
+
+  -- ---- words without a form
+
+  pub ends_unknown : HasNoForm given.words → Unread did → (status : Status) → Ended did usage.text Usage status → Ends given did status
+  ends_unknown none unread status (inl (same, wrote)) = subst (Ends given did) (sym same) (none, wrote, unread)
+  ends_unknown none unread status (inr (same, rose, part)) = subst (Ends given did) (sym same) (inr (rose, inl (none, part, unread)))
 
   -- ---- a dictionary with a fault
 

@@ -4,7 +4,9 @@ use Rattle.std.specs.Prelude.{bytes_eq, codes, decimal, false, if◌then◌else�
 use Rattle.std.proofs.lemmas.Bool.{false_from_ne_true}
 use Rattle.common_lemmas.proofs.Bytes.{same_bytes}
 use Rattle.built_in.specs.declared.built_in.BuiltIn.{BuiltIn}
-use Rattle.built_in.specs.declared.built_in.BuiltIn.TheVariants.{Year2023, Year2024, Income2023, Income2024}
+use Rattle.built_in.specs.declared.built_in.BuiltIn.TheVariants.{Year, Income}
+use Rattle.built_in.specs.BuiltIns.{program_income_of}
+use Rattle.tax_2023.specs.Years.{year_of_word}
 use Rattle.interview.specs.declared.words.Mode.{Mode}
 use Rattle.interview.specs.declared.words.Mode.TheVariants.{Incremental, Plain, Desk}
 use Rattle.interview.specs.Words.{Beginning, Fetches, HasNoForm, IsCheck, IsFrom, IsGen, IsRun, IsRunOver, IsSave, Origin, by_carry, by_load, file, program, unanswered}
@@ -18,12 +20,12 @@ pub data Asked : Type 0 where
   gen : List ℕ → Asked
   save : Origin → Asked
 
--- the dictionaries of years, and those of the rates
+-- the dictionary of a year, and that of an income, by the word of the year
 abbrev year_named : List ℕ → Option BuiltIn
-year_named text = if bytes_eq text (codes "2023") then Some Year2023 else if bytes_eq text (codes "2024") then Some Year2024 else None
+year_named word = option_map Year (year_of_word word)
 
 abbrev income_named : List ℕ → Option BuiltIn
-income_named text = if bytes_eq text (codes "2023") then Some Income2023 else None
+income_named word = option_map Income (program_income_of word)
 
 abbrev run_of : BuiltIn → Asked
 run_of b = run (program b) unanswered Incremental
@@ -65,14 +67,10 @@ asks_run words (file name) unanswered Plain is = ap asked_by is
 asks_run words (file name) unanswered Desk is = ap asked_by is
 asks_run words (file name) (by_load saved) Incremental is = ap asked_by is
 asks_run words (file name) (by_carry saved) Incremental is = ap asked_by is
-asks_run words (program Year2023) unanswered Incremental is = ap asked_by is
-asks_run words (program Year2024) unanswered Incremental is = ap asked_by is
-asks_run words (program Income2023) unanswered Incremental is = ap asked_by is
-asks_run words (program Year2023) (by_carry saved) Incremental is = ap asked_by is
-asks_run words (program Year2024) (by_carry saved) Incremental is = ap asked_by is
-asks_run words (program Income2023) (by_carry saved) Incremental is = absurd is
-asks_run words (program Income2024) unanswered Incremental is = absurd is
-asks_run words (program Income2024) (by_carry saved) Incremental is = absurd is
+asks_run words (program (Year y)) unanswered Incremental (word, is, named) = ap asked_by is ∙ ap (λ o. option_map run_of (option_map Year o)) named
+asks_run words (program (Income y)) unanswered Incremental (word, is, named) = ap asked_by is ∙ ap (λ o. option_map run_of (option_map Income o)) named
+asks_run words (program (Year y)) (by_carry saved) Incremental (word, is, named) = ap asked_by is ∙ ap (λ o. option_map (carried_to saved) (option_map Year o)) named
+asks_run words (program (Income y)) (by_carry saved) Incremental is = absurd is
 asks_run words o b e is = absurd is
 
 asks_of_run : (words : List (List ℕ)) (o : Origin) (r : IsRun words o) → asked_by words ≡ Some (run o r.beginning r.mode)
@@ -86,10 +84,8 @@ asks_gen words n is = ap asked_by is.spelled
 
 asks_save : (words : List (List ℕ)) (o : Origin) → IsSave words o → asked_by words ≡ Some (save o)
 asks_save words (file name) is = ap asked_by is
-asks_save words (program Year2023) is = ap asked_by is
-asks_save words (program Year2024) is = ap asked_by is
-asks_save words (program Income2023) is = absurd is
-asks_save words (program Income2024) is = absurd is
+asks_save words (program (Year y)) (word, is, named) = ap asked_by is ∙ ap (λ o. option_map save_of (option_map Year o)) named
+asks_save words (program (Income y)) is = absurd is
 
 -- ---- one thing
 
@@ -211,6 +207,19 @@ no_form words none = (
   λ n h. let same : 3 ≡ 0 = ap kind_of (sym (asks_gen words n h) ∙ none) in omega (arith, same),
   λ o h. let same : 4 ≡ 0 = ap kind_of (sym (asks_save words o h) ∙ none) in omega (arith, same),
 )
+
+-- behind these commands stands the word of no year
+pub no_year : (word : List ℕ) → None ≡ year_of_word word → HasNoForm (codes "year" ∷ word ∷ [])
+no_year word none = no_form (codes "year" ∷ word ∷ []) (ap (λ o. option_map run_of (option_map Year o)) (sym none))
+
+pub no_income : (word : List ℕ) → None ≡ program_income_of word → HasNoForm (codes "income" ∷ word ∷ [])
+no_income word none = no_form (codes "income" ∷ word ∷ []) (ap (λ o. option_map run_of (option_map Income o)) (sym none))
+
+pub no_saved_year : (word : List ℕ) → None ≡ year_of_word word → HasNoForm (codes "save-year" ∷ word ∷ [])
+no_saved_year word none = no_form (codes "save-year" ∷ word ∷ []) (ap (λ o. option_map save_of (option_map Year o)) (sym none))
+
+pub no_carried_year : (word saved : List ℕ) → None ≡ year_of_word word → HasNoForm (codes "carry-year" ∷ word ∷ saved ∷ [])
+no_carried_year word saved none = no_form (codes "carry-year" ∷ word ∷ saved ∷ []) (ap (λ o. option_map (carried_to saved) (option_map Year o)) (sym none))
 
 -- behind `gen` stands no such number
 pub no_number : (number : List ℕ) → ((n : ℕ) → 1 ≤ n → n ≤ 1000 → number ≡ decimal n → ⊥) → HasNoForm (codes "gen" ∷ number ∷ [])

@@ -23,14 +23,13 @@ use Rattle.tax_2023.specs.Household.{Dependent, Household}
 use Rattle.tax_2023.specs.Laws.{status_value}
 use Rattle.tax_2023.specs.Tables as tables
 use Rattle.tax_2023.specs.Tables.{dependents, members, qualifying_children, status}
-use Rattle.tax_2023.specs.Years.{Year}
+use Rattle.tax_2023.specs.Years.{Year, tables_of}
 use Rattle.tax_income.specs.Answers.{AreNumbered}
 use Rattle.tax_income.specs.Tables as income_tables
 use Rattle.tax_income.specs.Tables.{Numbered, credit_children, is_credit_child, is_other_dependent, other_dependents, schedule_tax}
-use Rattle.tax_income.specs.Years.{IncomeYear, income_2023, income_2024}
+use Rattle.tax_income.specs.Years.{IncomeYear, income_of}
 use Rattle.built_in.specs.declared.built_in.BuiltIn.{BuiltIn}
-use Rattle.built_in.specs.declared.built_in.BuiltIn.TheVariants.{Income2023, Income2024}
-use Rattle.built_in.specs.BuiltIns.{tables_of}
+use Rattle.built_in.specs.declared.built_in.BuiltIn.TheVariants as built_ins
 use Rattle.interview.specs.declared.words.Mode.{Mode}
 use Rattle.interview.specs.declared.words.Mode.TheVariants.{Incremental, Plain, Desk}
 use Rattle.interview.specs.Interview.{IsAnsweredBy}
@@ -103,9 +102,8 @@ IsIncomeFigureOf y r all figure =
     × Contains (income_figures y h numbered) figure
 
 abbrev pub IsFigureOf : BuiltIn → Rules → Answered → Figure → Type 0
-IsFigureOf Income2023 r all figure = IsIncomeFigureOf income_2023 r all figure
-IsFigureOf Income2024 r all figure = IsIncomeFigureOf income_2024 r all figure
-IsFigureOf b r all figure = (h : Household) × IsAnsweredBy r all h × Contains (year_figures (tables_of b) h) figure
+IsFigureOf (built_ins.Year y) r all figure = (h : Household) × IsAnsweredBy r all h × Contains (year_figures (tables_of y) h) figure
+IsFigureOf (built_ins.Income y) r all figure = IsIncomeFigureOf (income_of y) r all figure
 
 -- ---- what is printed as final
 

@@ -13,17 +13,17 @@ use Rattle.interview.specs.FaultLines.{accepted_line, fault_line, saved_refused_
 use Rattle.tax_2023.specs.Household.{Household}
 use Rattle.tax_2023.specs.Answers.{AreOfHousehold}
 use Rattle.tax_2023.specs.Laws.{HasTables, IsModest}
+use Rattle.tax_2023.specs.Years.{tables_of}
 use Rattle.tax_income.specs.Answers.{AreNumbered}
 use Rattle.tax_income.specs.Laws.{HasIncomeTables}
 use Rattle.tax_income.specs.Tables.{Numbered}
-use Rattle.tax_income.specs.Years.{IncomeYear, income_2023, income_2024}
+use Rattle.tax_income.specs.Years.{IncomeYear, income_of}
 use Rattle.answers.specs.Answered.{Answered}
 use Rattle.built_in.specs.declared.built_in.BuiltIn.{BuiltIn}
-use Rattle.built_in.specs.declared.built_in.BuiltIn.TheVariants.{Income2023, Income2024}
+use Rattle.built_in.specs.declared.built_in.BuiltIn.TheVariants.{Year, Income}
 use Rattle.interview.specs.declared.words.Mode.{Mode}
 use Rattle.interview.specs.Meanings.{Meaning, meaning_of}
 use Rattle.interview.specs.Beginnings.{Basis, IsRefusedStart, IsStart, Start}
-use Rattle.built_in.specs.BuiltIns.{tables_of}
 use Rattle.interview.specs.Dictionaries.{Content, HasFault, IsAcceptedAs}
 
 -- a text, and the status that comes with it
@@ -119,6 +119,5 @@ IncomeTablesHoldIn y r a =
     → HasIncomeTables r.accepted y a h numbered
 
 abbrev pub TablesHoldIn : BuiltIn → Rules → Answered → Type 0
-TablesHoldIn Income2023 r a = IncomeTablesHoldIn income_2023 r a
-TablesHoldIn Income2024 r a = IncomeTablesHoldIn income_2024 r a
-TablesHoldIn b r a = (h : Household) → IsAnsweredBy r a h → HasTables r.accepted (tables_of b) a h
+TablesHoldIn (Year y) r a = (h : Household) → IsAnsweredBy r a h → HasTables r.accepted (tables_of y) a h
+TablesHoldIn (Income y) r a = IncomeTablesHoldIn (income_of y) r a

@@ -1,8 +1,10 @@
 -- The words of the command line, and the forms that they may have.
-use Rattle.std.specs.Prelude.{◌≡◌, ◌⊎◌, ℕ, ◌≤◌, List, [], ◌∷◌, map, codes, decimal, String, string_bytes}
+use Rattle.std.specs.Prelude.{◌≡◌, ◌⊎◌, ℕ, ◌≤◌, List, [], ◌∷◌, map, codes, decimal, Some, String, string_bytes}
+use Rattle.tax_2023.specs.Years.{year_of_word}
 use Rattle.std.specs.declared.alloc.Global.{Global}
 use Rattle.built_in.specs.declared.built_in.BuiltIn.{BuiltIn}
-use Rattle.built_in.specs.declared.built_in.BuiltIn.TheVariants.{Year2023, Year2024, Income2023, Income2024}
+use Rattle.built_in.specs.declared.built_in.BuiltIn.TheVariants.{Year, Income}
+use Rattle.built_in.specs.BuiltIns.{program_income_of}
 use Rattle.interview.specs.declared.words.Mode.{Mode}
 use Rattle.interview.specs.declared.words.Mode.TheVariants.{Incremental, Plain, Desk}
 use Rattle.interview.specs.declared.words.Origin.{Origin as Asked}
@@ -19,12 +21,10 @@ pub data Origin : Type 0 where
   file : List ℕ → Origin
   program : BuiltIn → Origin
 
--- the words run a script over a dictionary that the program brings; that of the income of 2024 is there for hosts alone
+-- the words run a script over a dictionary that the program brings: that of a year, and that of an income that it has words for
 abbrev pub AreFor : List (List ℕ) → BuiltIn → Type 0
-AreFor words Year2023 = words ≡ codes "year" ∷ codes "2023" ∷ []
-AreFor words Year2024 = words ≡ codes "year" ∷ codes "2024" ∷ []
-AreFor words Income2023 = words ≡ codes "income" ∷ codes "2023" ∷ []
-AreFor words Income2024 = ⊥
+AreFor words (Year y) = (word : List ℕ) × (words ≡ codes "year" ∷ word ∷ []) × (year_of_word word ≡ Some y)
+AreFor words (Income y) = (word : List ℕ) × (words ≡ codes "income" ∷ word ∷ []) × (program_income_of word ≡ Some y)
 
 -- where the answers at the start of a run come from: there are none, or they are those of the saved text of this name, which is
 -- loaded, or carried
@@ -35,9 +35,8 @@ pub data Beginning : Type 0 where
 
 -- the words carry the saved text to a dictionary that the program brings: to that of a year alone
 abbrev pub AreCarriedTo : List (List ℕ) → BuiltIn → List ℕ → Type 0
-AreCarriedTo words Year2023 saved = words ≡ codes "carry-year" ∷ codes "2023" ∷ saved ∷ []
-AreCarriedTo words Year2024 saved = words ≡ codes "carry-year" ∷ codes "2024" ∷ saved ∷ []
-AreCarriedTo words other saved = ⊥
+AreCarriedTo words (Year y) saved = (word : List ℕ) × (words ≡ codes "carry-year" ∷ word ∷ saved ∷ []) × (year_of_word word ≡ Some y)
+AreCarriedTo words (Income y) saved = ⊥
 
 -- The words run a script over the dictionary from there, from these answers, in this mode: for a file `run`, `run-plain`, `desk`,
 -- `load` or `carry` and its name. Over what the program brings, and from a saved text, runs a session over the incremental engine
@@ -84,9 +83,8 @@ pub record IsGen (words : List (List ℕ)) (n : ℕ) : Type 0 where
 -- the dictionaries of the years alone have words of a save.
 abbrev pub IsSave : List (List ℕ) → Origin → Type 0
 IsSave words (file name) = words ≡ codes "save" ∷ name ∷ []
-IsSave words (program Year2023) = words ≡ codes "save-year" ∷ codes "2023" ∷ []
-IsSave words (program Year2024) = words ≡ codes "save-year" ∷ codes "2024" ∷ []
-IsSave words (program other) = ⊥
+IsSave words (program (Year y)) = (word : List ℕ) × (words ≡ codes "save-year" ∷ word ∷ []) × (year_of_word word ≡ Some y)
+IsSave words (program (Income y)) = ⊥
 
 -- ---- all words
 

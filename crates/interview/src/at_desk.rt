@@ -2,13 +2,15 @@
 ghost use Rattle.std.specs.Prelude.{◌≡◌, ◌<◌};
 ghost use Rattle.shared_desk.specs.Desk.{Desk as Defined};
 ghost use Rattle.shared_desk.specs.DeskView.{StandsFor, rules_of};
-ghost use Rattle.desk_lines.specs.DeskStepping.{desk_open};
+ghost use Rattle.desk_lines.specs.DeskStepping.{desk_at_start, desk_open};
 ghost use Rattle.interview.specs.Meanings.{of_desk};
 
 use crate::line_handler::LineHandler;
-use dictionary::FactEngine;
+use answers::Answers;
+use dictionary::{Dictionary, FactEngine};
+use fact_values::NoMemory;
 use fg_io::Sink;
-use script_lines::{Lines, Ready};
+use script_lines::Ready;
 use session_lines::{Progress, Tables};
 use shared_desk::Desk;
 use std::alloc::Global;
@@ -16,6 +18,10 @@ use std::sync::ledger::Ledger;
 use steps::Steps;
 
 impl<E: FactEngine> LineHandler for Desk<E> {
+    ghost can_begin = { E.STAMPS };
+
+    ghost meaning = { λ r relations a. of_desk r (desk_at_start r a) };
+
     ghost means = { λ v relations m. (d : Defined) × StandsFor v d × (m ≡ of_desk (rules_of v) (desk_open d)) };
 
     ghost goes_by = { rules_of };
@@ -25,6 +31,11 @@ impl<E: FactEngine> LineHandler for Desk<E> {
     ghost stands = { λ v. v.session.timeline.now };
 
     ghost most = { E.most };
+
+    fn begin(alloc: Global, dictionary: Dictionary, answers: Answers) -> Result<Desk<E>, NoMemory> {
+        let desk = Desk::<E>::resume(alloc, dictionary, answers)?;
+        Ok(desk)
+    }
 
     fn answer_ready<L: Ledger, K: Sink>(
         &mut self,
@@ -36,17 +47,5 @@ impl<E: FactEngine> LineHandler for Desk<E> {
         steps: &mut Steps<L>,
     ) -> Progress {
         desk_lines::answer_ready(alloc, self, tables.checks, ready, line, out, steps)
-    }
-
-    fn answer_piece<L: Ledger, K: Sink>(
-        &mut self,
-        alloc: Global,
-        tables: &Tables<'_>,
-        lines: &mut Lines,
-        out: &mut K,
-        bytes: &[u8],
-        steps: &mut Steps<L>,
-    ) -> Progress {
-        desk_lines::answer_piece(alloc, self, tables.checks, lines, out, bytes, steps)
     }
 }

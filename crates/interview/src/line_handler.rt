@@ -1,24 +1,35 @@
 // Who answers the lines of a script.
-ghost use Rattle.std.specs.Prelude.{◌≡◌, ℕ, List, ◌+◌, ◌<◌, ◌≤◌, ◌^◌, ◌++◌, length};
+ghost use Rattle.std.specs.Prelude.{◌≡◌, ℕ, Bool, true, List, ◌+◌, ◌<◌, ◌≤◌, ◌^◌, IfOk, length};
 ghost use Rattle.text_checks.specs.Tables.{named_checks};
 ghost use Rattle.fact_watch.specs.Tables.{named_relations};
-ghost use Rattle.script_lines.specs.Lines.{ended_lines, ready_lines, HasNoNewline};
+ghost use Rattle.script_lines.specs.Lines.{ready_lines};
 ghost use Rattle.answers.specs.Answered.{Answered};
-ghost use Rattle.dictionary.specs.Accepted.{Accepted, Named};
+ghost use Rattle.answers.specs.Meaning.{answered};
+ghost use Rattle.dictionary.specs.Accepted.{Accepted, Named, accepted};
+ghost use Rattle.dictionary.specs.Fits.{AnswersFit};
 ghost use Rattle.graph_session.specs.Refusals.{SameChecks};
-ghost use Rattle.graph_session.specs.Rules.{Rules};
-ghost use Rattle.interview.specs.Meanings.{Meaning};
-ghost use Rattle.interview.specs.Telling.{LineOutputAs, PieceOutputAs};
+ghost use Rattle.graph_session.specs.Rules.{Rules, rules};
+ghost use Rattle.interview.specs.Meanings.{IsBeginning, Meaning};
+ghost use Rattle.interview.specs.Telling.{LineOutputAs};
 
+use answers::Answers;
+use dictionary::Dictionary;
+use fact_values::NoMemory;
 use fg_io::Sink;
-use script_lines::{Lines, Ready};
+use script_lines::Ready;
 use session_lines::{Progress, Tables};
 use std::alloc::Global;
 use std::sync::ledger::Ledger;
 use steps::Steps;
 
 /// Answers the lines of a script one by one, and keeps where they lead.
-pub trait LineHandler {
+pub trait LineHandler: Drop {
+    /// Whether it can begin: a desk needs an engine with stamps.
+    ghost can_begin: { Bool };
+
+    /// What the lines of a script mean that begins over these rules with these answers, where slots may be watched by these relations.
+    ghost meaning: { Rules → List Named → Answered → Meaning };
+
     /// What the lines from here on mean, where slots may be watched by these relations.
     ghost means: { Self → List Named → Meaning → Type 0 };
 
@@ -34,6 +45,16 @@ pub trait LineHandler {
     /// The most steps that a change from answers to answers takes.
     ghost most: { Accepted → Answered → Answered → ℕ };
 
+    /// Begins with these answers, without a history.
+    fn begin(alloc: Global, dictionary: Dictionary, answers: Answers) -> Result<Self, NoMemory>
+        requires can_begin { can_begin ≡ true }
+        requires fit { AnswersFit (accepted dictionary).tree (answered answers) }
+        ensures begins { (relations : List Named) → IsBeginning (meaning (rules dictionary) relations (answered answers)) }
+        ensures meant { IfOk result (λ handler. (relations : List Named) → means handler relations (meaning (rules dictionary) relations
+            (answered answers))) }
+        ensures same_rules { IfOk result (λ handler. goes_by handler ≡ rules dictionary) }
+        ensures unchanged { IfOk result (λ handler. changes handler ≡ 0) };
+
     /// Answers the line that is ready, if there is one. It makes one change at most.
     fn answer_ready<L: Ledger, K: Sink>(
         &mut self,
@@ -47,32 +68,12 @@ pub trait LineHandler {
         requires short { length line.now ≤ 4096 }
         requires same_checks { SameChecks (goes_by self.old) (named_checks tables.now.checks.now) }
         requires few { changes self.old < 2 ^ 63 }
-        ensures output { (m : Meaning) → means self.old (named_relations tables.now.relations.now) m → LineOutputAs (K.output out.old)
-            (K.output out.new) m (stands self.new) (ready_lines ready line.now) result }
+        ensures output { (m : Meaning) → means self.old (named_relations tables.now.relations.now) m
+            → LineOutputAs (means self.new (named_relations tables.now.relations.now)) (K.output out.old) (K.output out.new) m
+            (stands self.new) (ready_lines ready line.now) result }
         ensures same_rules { goes_by self.new ≡ goes_by self.old }
+        ensures few { changes self.new ≤ changes self.old + 1 }
         ensures later { (K.output out.old).faults ≤ (K.output out.new).faults }
         ensures steps { (m : Meaning) → means self.old (named_relations tables.now.relations.now) m
             → steps.new ≤ steps.old + m.steps most (ready_lines ready line.now) };
-
-    /// Answers each line that ends in the bytes, in order. A line makes one change at most.
-    fn answer_piece<L: Ledger, K: Sink>(
-        &mut self,
-        alloc: Global,
-        tables: &Tables<'_>,
-        lines: &mut Lines,
-        out: &mut K,
-        bytes: &[u8],
-        steps: &mut Steps<L>,
-    ) -> Progress
-        requires unended { HasNoNewline lines.old.so_far }
-        requires same_checks { SameChecks (goes_by self.old) (named_checks tables.now.checks.now) }
-        requires few { changes self.old + length bytes.now < 2 ^ 63 }
-        ensures output { (m : Meaning) → means self.old (named_relations tables.now.relations.now) m
-            → PieceOutputAs (means self.new (named_relations tables.now.relations.now)) (K.output out.old) (K.output out.new) m
-            (stands self.new) lines.old.so_far lines.new.so_far bytes.now result }
-        ensures same_rules { goes_by self.new ≡ goes_by self.old }
-        ensures few { changes self.new ≤ changes self.old + length bytes.now }
-        ensures later { (K.output out.old).faults ≤ (K.output out.new).faults }
-        ensures steps { (m : Meaning) → means self.old (named_relations tables.now.relations.now) m
-            → steps.new ≤ steps.old + m.steps most (ended_lines (lines.old.so_far ++ bytes.now)) };
 }

@@ -18,6 +18,7 @@ mod laws;
 mod line_handler;
 mod load_run;
 mod obtaining;
+mod piece;
 mod resuming;
 mod save_run;
 mod script;

@@ -12,6 +12,7 @@ ghost use Rattle.interview.specs.Telling.{LineOutputAs};
 
 use crate::Status;
 use crate::line_handler::LineHandler;
+use crate::piece::answer_piece;
 use fg_io::{Failed, Sink, Source};
 use script_lines::Lines;
 use session_lines::{Progress, Tables};
@@ -35,8 +36,9 @@ fn finish<T: LineHandler, L: Ledger, K: Sink>(
 ) -> Progress
     requires same_checks { SameChecks (T.goes_by handler.old) (named_checks tables.now.checks.now) }
     requires few { T.changes handler.old < 2 ^ 63 }
-    ensures output { (m : Meaning) → T.means handler.old (named_relations tables.now.relations.now) m → LineOutputAs (K.output out.old)
-        (K.output out.new) m (T.stands handler.new) (script_lines lines.old.so_far) result }
+    ensures output { (m : Meaning) → T.means handler.old (named_relations tables.now.relations.now) m
+        → LineOutputAs (T.means handler.new (named_relations tables.now.relations.now)) (K.output out.old) (K.output out.new) m
+        (T.stands handler.new) (script_lines lines.old.so_far) result }
     ensures same_rules { T.goes_by handler.new ≡ T.goes_by handler.old }
     ensures later { (K.output out.old).faults ≤ (K.output out.new).faults }
     ensures steps { (m : Meaning) → T.means handler.old (named_relations tables.now.relations.now) m → steps.new ≤ steps.old + m.steps T.most
@@ -90,7 +92,15 @@ pub fn run<T: LineHandler, L: Ledger, S: Source, K: Sink>(
                 return status_at_end(finish(alloc, handler, tables, &mut lines, out, steps));
             }
             Ok(count) => {
-                match handler.answer_piece(alloc, tables, &mut lines, out, &buf[..count], steps) {
+                match answer_piece(
+                    alloc,
+                    handler,
+                    tables,
+                    &mut lines,
+                    out,
+                    &buf[..count],
+                    steps,
+                ) {
                     Progress::More => taken += count,
                     Progress::Over => return Status::Done,
                     Progress::Unwritten => return Status::WriteFault,

@@ -1,5 +1,5 @@
 // The top call: all that the program does, over the words of its command line and what it sees of the outside.
-ghost use Rattle.std.specs.Prelude.{◌≡◌, ◌<◌, ℕ, List};
+ghost use Rattle.std.specs.Prelude.{◌≡◌, ◌<◌, ℕ, true, List};
 ghost use Rattle.answers.specs.Meaning.{answered};
 ghost use Rattle.text_checks.specs.Tables.{named_checks};
 ghost use Rattle.dictionary.specs.Accepted.{accepted};
@@ -9,10 +9,9 @@ ghost use Rattle.graph_session.specs.Rules.{rules};
 ghost use Rattle.fact_watch.specs.Tables.{named_relations};
 ghost use Rattle.interview.specs.ScriptEnds.{script_did};
 ghost use Rattle.interview.specs.StepEnds.{Gives, RunEnds, StartEnds};
-ghost use Rattle.interview.specs.Ends.{EndsByWord, Interviewed};
+ghost use Rattle.interview.specs.Ends.{Interviewed};
 ghost use Rattle.interview.specs.Given.{did_by, given_by};
-ghost use Rattle.interview.specs.Meanings.{IsBeginning, Meaning, meaning_of, of_answers, of_desk};
-ghost use Rattle.desk_lines.specs.DeskStepping.{desk_at_start};
+ghost use Rattle.interview.specs.Meanings.{IsBeginning, Meaning, meaning_of};
 ghost use Rattle.interview.specs.Words.{IsGen, IsRun, IsSave, beginning_of, program, texts, unanswered};
 ghost use Rattle.built_in.specs.declared.built_in.BuiltIn.{BuiltIn};
 
@@ -28,7 +27,7 @@ use crate::save_run::run_and_save;
 use crate::script::run;
 use crate::watched_session::WatchedSession;
 use crate::words::{Beginning, Form, Mode, form_of};
-use dictionary::{Dictionary, FactEngine};
+use dictionary::Dictionary;
 use fact_values::NoMemory;
 use fact_watch::WatchTable;
 use fg_io::{Failed, Shelf, Sink, Source};
@@ -70,8 +69,8 @@ fn run_behind<T: LineHandler, L: Ledger, S: Source, K: Sink>(
     }
 }
 
-// Runs the script by a session over this engine. The session stands before anything is written.
-fn run_session<E: FactEngine, S: Source, K: Sink>(
+// Runs the script by whoever answers its lines, who begins before anything is written.
+fn run_as<T: LineHandler, S: Source, K: Sink>(
     alloc: Global,
     dictionary: Dictionary,
     ready: Ready,
@@ -79,60 +78,26 @@ fn run_session<E: FactEngine, S: Source, K: Sink>(
     script: &mut S,
     out: &mut K,
 ) -> Status
+    requires can_begin { T.can_begin ≡ true }
     requires same_checks { SameChecks (rules dictionary) (named_checks tables.now.checks.now) }
     requires fit { AnswersFit (accepted dictionary).tree (answered ready.answers) }
     requires given { (front : List ℕ) × Gives ready.dropped front }
     ensures { (front : List ℕ) → Gives ready.dropped front
-        → StartEnds (of_answers (rules dictionary) E.STAMPS (named_relations tables.now.relations.now)
-        (answered ready.answers)) front (script_did (S.input script.old) (S.input script.new) (K.output out.old)
-        (K.output out.new)) result }
-{
-    match WatchedSession::<E>::resume(alloc, dictionary, ready.answers) {
-        Ok(mut watched) => {
-            let status = run_behind::<WatchedSession<E>, Brand, S, K>(
-                alloc,
-                &mut watched,
-                &ready.dropped,
-                tables,
-                script,
-                out,
-                Blank::new(1),
-            );
-            drop(watched);
-            status
-        }
-        Err(NoMemory) => Status::NoMemory,
-    }
-}
-
-// Runs the script at a desk of several parties.
-fn run_at_desk<S: Source, K: Sink>(
-    alloc: Global,
-    dictionary: Dictionary,
-    ready: Ready,
-    tables: &Tables<'_>,
-    script: &mut S,
-    out: &mut K,
-) -> Status
-    requires same_checks { SameChecks (rules dictionary) (named_checks tables.now.checks.now) }
-    requires fit { AnswersFit (accepted dictionary).tree (answered ready.answers) }
-    requires given { (front : List ℕ) × Gives ready.dropped front }
-    ensures { (front : List ℕ) → Gives ready.dropped front
-        → StartEnds (of_desk (rules dictionary) (desk_at_start (rules dictionary) (answered ready.answers))) front
+        → StartEnds (T.meaning (rules dictionary) (named_relations tables.now.relations.now) (answered ready.answers)) front
         (script_did (S.input script.old) (S.input script.new) (K.output out.old) (K.output out.new)) result }
 {
-    match Desk::<Recalc>::resume(alloc, dictionary, ready.answers) {
-        Ok(mut desk) => {
-            let status = run_behind::<Desk<Recalc>, Brand, S, K>(
+    match T::begin(alloc, dictionary, ready.answers) {
+        Ok(mut handler) => {
+            let status = run_behind::<T, Brand, S, K>(
                 alloc,
-                &mut desk,
+                &mut handler,
                 &ready.dropped,
                 tables,
                 script,
                 out,
                 Blank::new(1),
             );
-            drop(desk);
+            drop(handler);
             status
         }
         Err(NoMemory) => Status::NoMemory,
@@ -159,12 +124,16 @@ fn run_by<S: Source, K: Sink>(
 {
     match mode {
         Mode::Incremental => {
-            run_session::<Recalc, S, K>(alloc, dictionary, ready, tables, script, out)
+            run_as::<WatchedSession<Recalc>, S, K>(alloc, dictionary, ready, tables, script, out)
         }
         Mode::Plain => {
-            run_session::<PlainTable, S, K>(alloc, dictionary, ready, tables, script, out)
+            run_as::<WatchedSession<PlainTable>, S, K>(
+                alloc, dictionary, ready, tables, script, out,
+            )
         }
-        Mode::Desk => run_at_desk(alloc, dictionary, ready, tables, script, out),
+        Mode::Desk => {
+            run_as::<Desk<Recalc>, S, K>(alloc, dictionary, ready, tables, script, out)
+        }
     }
 }
 
@@ -200,7 +169,12 @@ fn run_from<H: Shelf, S: Source, K: Sink>(
     }
 }
 
-fn attempt<H: Shelf, S: Source, K: Sink>(
+/// Does all that the program does, over the words of its command line, without the program's name. The checks are those
+/// that a dictionary may name, and the relations of the table those by which a slot may be watched.
+///
+/// A dictionary has at most 8,388,608 bytes, a saved text and a script at most 67,108,864 each. For a dictionary of the program's
+/// own without a saved text, and for `gen N`, nothing is fetched: the shelf is as it was.
+pub fn interview<H: Shelf, S: Source, K: Sink>(
     alloc: Global,
     words: &[String],
     checks: &CheckTable,
@@ -209,7 +183,7 @@ fn attempt<H: Shelf, S: Source, K: Sink>(
     script: &mut S,
     out: &mut K,
 ) -> Status
-    ensures ends { EndsByWord (given_by words.now (named_checks checks.now) (named_relations table.now)
+    ensures ends { Interviewed (given_by words.now (named_checks checks.now) (named_relations table.now)
         (H.files shelf.old) (S.input script.old)) (did_by (H.files shelf.old) (H.files shelf.new) (S.input script.old)
         (S.input script.new) (K.output out.old) (K.output out.new)) result }
     ensures unfetched { (b : BuiltIn) (asked : IsRun (texts words.now) (program b)) → asked.beginning ≡ unanswered
@@ -234,29 +208,4 @@ fn attempt<H: Shelf, S: Source, K: Sink>(
         Form::Save(origin) => run_and_save(alloc, origin, checks, table, shelf, script, out),
         Form::Unknown => end_by(out, b"usage: interview COMMAND ARGUMENTS\n", Status::Usage),
     }
-}
-
-/// Does all that the program does, over the words of its command line, without the program's name. The checks are those
-/// that a dictionary may name, and the relations of the table those by which a slot may be watched.
-///
-/// A dictionary has at most 8,388,608 bytes, a saved text and a script at most 67,108,864 each. For a dictionary of the program's
-/// own without a saved text, and for `gen N`, nothing is fetched: the shelf is as it was.
-pub fn interview<H: Shelf, S: Source, K: Sink>(
-    alloc: Global,
-    words: &[String],
-    checks: &CheckTable,
-    table: &WatchTable,
-    shelf: &mut H,
-    script: &mut S,
-    out: &mut K,
-) -> Status
-    ensures ends { Interviewed (given_by words.now (named_checks checks.now) (named_relations table.now)
-        (H.files shelf.old) (S.input script.old)) (did_by (H.files shelf.old) (H.files shelf.new) (S.input script.old)
-        (S.input script.new) (K.output out.old) (K.output out.new)) result }
-    ensures unfetched { (b : BuiltIn) (asked : IsRun (texts words.now) (program b)) → asked.beginning ≡ unanswered
-        → shelf.new ≡ shelf.old }
-    ensures gen_unfetched { (n : ℕ) → IsGen (texts words.now) n → shelf.new ≡ shelf.old }
-    ensures save_unfetched { (b : BuiltIn) → IsSave (texts words.now) (program b) → shelf.new ≡ shelf.old }
-{
-    attempt(alloc, words, checks, table, shelf, script, out)
 }

@@ -1,15 +1,12 @@
 // A session answers the lines of a script: they are those of one person.
-ghost use Rattle.std.specs.Prelude.{◌≡◌, ◌<◌, IfOk};
+ghost use Rattle.std.specs.Prelude.{◌≡◌, ◌<◌, true, IfOk};
 ghost use Rattle.answers.specs.Answered.{start};
-ghost use Rattle.answers.specs.Meaning.{answered};
-ghost use Rattle.dictionary.specs.Accepted.{accepted};
-ghost use Rattle.dictionary.specs.Fits.{AnswersFit};
 ghost use Rattle.graph_session.specs.Rules.{rules};
 ghost use Rattle.session_lines.specs.Answering.{line_state_of};
 ghost use Rattle.graph_session.specs.SessionView.{start_at};
 ghost use Rattle.fact_watch.specs.Watching.{nothing_watched};
 ghost use Rattle.session_lines.specs.Stepping.{open_at};
-ghost use Rattle.interview.specs.Meanings.{of_session};
+ghost use Rattle.interview.specs.Meanings.{of_answers, of_session};
 
 use crate::line_handler::LineHandler;
 use answers::Answers;
@@ -18,7 +15,7 @@ use fact_values::NoMemory;
 use fact_watch::Watches;
 use fg_io::Sink;
 use graph_session::Session;
-use script_lines::{Lines, Ready};
+use script_lines::Ready;
 use session_lines::{Progress, Tables};
 use std::alloc::Global;
 use std::sync::ledger::Ledger;
@@ -43,24 +40,13 @@ impl<E: FactEngine> WatchedSession<E> {
         let watches = Watches::new(alloc);
         Ok(WatchedSession { session, watches })
     }
-
-    /// These answers stand, without a history, and nothing is watched.
-    pub fn resume(
-        alloc: Global,
-        dictionary: Dictionary,
-        answers: Answers,
-    ) -> Result<WatchedSession<E>, NoMemory>
-        requires { AnswersFit (accepted dictionary).tree (answered answers) }
-        ensures session { IfOk result (λ a. a.session ≡ start_at dictionary (answered answers) E.STAMPS) }
-        ensures watches { IfOk result (λ a. a.watches ≡ nothing_watched) }
-    {
-        let session = Session::resume(alloc, dictionary, answers)?;
-        let watches = Watches::new(alloc);
-        Ok(WatchedSession { session, watches })
-    }
 }
 
 impl<E: FactEngine> LineHandler for WatchedSession<E> {
+    ghost can_begin = { true };
+
+    ghost meaning = { λ r relations a. of_answers r E.STAMPS relations a };
+
     ghost means = { λ a relations m. m ≡ of_session (rules a.session.dict)
         (open_at (line_state_of a.session relations a.watches)) };
 
@@ -71,6 +57,16 @@ impl<E: FactEngine> LineHandler for WatchedSession<E> {
     ghost stands = { λ a. a.session.timeline.now };
 
     ghost most = { E.most };
+
+    fn begin(
+        alloc: Global,
+        dictionary: Dictionary,
+        answers: Answers,
+    ) -> Result<WatchedSession<E>, NoMemory> {
+        let session = Session::resume(alloc, dictionary, answers)?;
+        let watches = Watches::new(alloc);
+        Ok(WatchedSession { session, watches })
+    }
 
     fn answer_ready<L: Ledger, K: Sink>(
         &mut self,
@@ -89,27 +85,6 @@ impl<E: FactEngine> LineHandler for WatchedSession<E> {
             ready,
             line,
             out,
-            steps,
-        )
-    }
-
-    fn answer_piece<L: Ledger, K: Sink>(
-        &mut self,
-        alloc: Global,
-        tables: &Tables<'_>,
-        lines: &mut Lines,
-        out: &mut K,
-        bytes: &[u8],
-        steps: &mut Steps<L>,
-    ) -> Progress {
-        session_lines::answer_piece(
-            alloc,
-            &mut self.session,
-            &mut self.watches,
-            tables,
-            lines,
-            out,
-            bytes,
             steps,
         )
     }

@@ -2,8 +2,9 @@
 ghost use Rattle.std.specs.Prelude.{◌≡◌, [], ◌∷◌, codes};
 ghost use Rattle.interview.specs.Words.{IsForm, texts};
 
-use built_in::BuiltIn;
+use built_in::{BuiltIn, program_income_named};
 use fact_paths::read_member_number;
+use tax_2023::year_named;
 
 /// Where the dictionary of a run comes from.
 #[derive(Clone, Copy)]
@@ -40,7 +41,7 @@ pub enum Mode {
 #[derive(Clone, Copy)]
 pub enum Form<'a> {
     /// `run NAME`, `run-plain NAME`, `desk NAME`, `load NAME SAVED`, `carry NAME SAVED`, `year Y`, `carry-year Y SAVED` or
-    /// `income 2023`: to run a script over this dictionary, from these answers, in this mode.
+    /// `income Y`: to run a script over this dictionary, from these answers, in this mode.
     Run(Mode, Origin<'a>, Beginning<'a>),
     /// `check NAME`: to say whether the dictionary of this name is accepted.
     Check(&'a str),
@@ -56,18 +57,13 @@ pub enum Form<'a> {
 fn form_of_year<'a>(year: &str) -> Form<'a>
     ensures { IsForm (codes "year" ∷ year.now ∷ []) result }
 {
-    match year {
-        "2023" => Form::Run(
+    match year_named(year) {
+        Some(year) => Form::Run(
             Mode::Incremental,
-            Origin::BuiltIn(BuiltIn::Year2023),
+            Origin::BuiltIn(BuiltIn::Year(year)),
             Beginning::Unanswered,
         ),
-        "2024" => Form::Run(
-            Mode::Incremental,
-            Origin::BuiltIn(BuiltIn::Year2024),
-            Beginning::Unanswered,
-        ),
-        _ => Form::Unknown,
+        None => Form::Unknown,
     }
 }
 
@@ -75,13 +71,13 @@ fn form_of_year<'a>(year: &str) -> Form<'a>
 fn form_of_income<'a>(year: &str) -> Form<'a>
     ensures { IsForm (codes "income" ∷ year.now ∷ []) result }
 {
-    match year {
-        "2023" => Form::Run(
+    match program_income_named(year) {
+        Some(year) => Form::Run(
             Mode::Incremental,
-            Origin::BuiltIn(BuiltIn::Income2023),
+            Origin::BuiltIn(BuiltIn::Income(year)),
             Beginning::Unanswered,
         ),
-        _ => Form::Unknown,
+        None => Form::Unknown,
     }
 }
 
@@ -105,10 +101,9 @@ fn form_of_gen<'a>(number: &str) -> Form<'a>
 fn form_of_save_year<'a>(year: &str) -> Form<'a>
     ensures { IsForm (codes "save-year" ∷ year.now ∷ []) result }
 {
-    match year {
-        "2023" => Form::Save(Origin::BuiltIn(BuiltIn::Year2023)),
-        "2024" => Form::Save(Origin::BuiltIn(BuiltIn::Year2024)),
-        _ => Form::Unknown,
+    match year_named(year) {
+        Some(year) => Form::Save(Origin::BuiltIn(BuiltIn::Year(year))),
+        None => Form::Unknown,
     }
 }
 
@@ -134,18 +129,13 @@ fn form_of_two<'a>(command: &str, word: &'a str) -> Form<'a>
 fn form_of_carried_year<'a>(year: &str, saved: &'a str) -> Form<'a>
     ensures { IsForm (codes "carry-year" ∷ year.now ∷ saved.now ∷ []) result }
 {
-    match year {
-        "2023" => Form::Run(
+    match year_named(year) {
+        Some(year) => Form::Run(
             Mode::Incremental,
-            Origin::BuiltIn(BuiltIn::Year2023),
+            Origin::BuiltIn(BuiltIn::Year(year)),
             Beginning::Carry(saved),
         ),
-        "2024" => Form::Run(
-            Mode::Incremental,
-            Origin::BuiltIn(BuiltIn::Year2024),
-            Beginning::Carry(saved),
-        ),
-        _ => Form::Unknown,
+        None => Form::Unknown,
     }
 }
 

@@ -1,14 +1,13 @@
--- A script on its way: steps, lines, and pieces of bytes one behind another.
-use Rattle.std.proofs.Common.{◌≡◌, ℕ, ◌-◌, ◌≤◌, Bool, true, false, List, [], ◌∷◌, ◌++◌, length, take, drop, Option, refl, sym, ap, subst, ◌∙◌, arith, append_assoc, length-drop}
+-- A line and its answer: commands, lines one behind another, and what stands behind them.
+use Rattle.std.proofs.Common.{◌≡◌, ℕ, Bool, true, false, List, [], ◌∷◌, ◌++◌, refl, sym, ap, subst, ◌∙◌, append_assoc}
 use Rattle.std.specs.Prelude.{Result, Ok}
-use Rattle.std.proofs.lemmas.List.{append-nil, take_all}
+use Rattle.std.proofs.lemmas.List.{append-nil}
 use Rattle.fg_io.specs.Outside.{Output}
 use Rattle.fg_io.specs.Sent.{Sent}
-use Rattle.fg_io.proofs.SentLaws.{sent_none, sent_on}
-use Rattle.script_lines.specs.Lines.{ScriptLine, script_lines, ready_lines}
+use Rattle.fg_io.proofs.SentLaws.{sent_none}
+use Rattle.script_lines.specs.Lines.{ScriptLine}
 use Rattle.script_lines.specs.declared.command.Command.{Command}
 use Rattle.script_lines.specs.declared.command.Command.TheVariants as commands
-use Rattle.script_lines.specs.declared.lines.Ready.{Ready}
 use Rattle.graph_session.specs.Refusals.{Refused}
 use Rattle.graph_session.specs.Rules.{Rules}
 use Rattle.graph_session.specs.Run.{is_memory}
@@ -19,7 +18,7 @@ use Rattle.graph_session.specs.declared.reply.Reply.{Reply}
 use Rattle.graph_session.proofs.RunLaws.{refused_step}
 use Rattle.session_lines.specs.declared.progress.Progress.{Progress}
 use Rattle.session_lines.specs.declared.progress.Progress.TheVariants.{More, Over, Unwritten, OutOfMemory}
-use Rattle.session_lines.specs.Answering.{AnsweredAs, EndsOrWrites, KeptAs, RefusedAs, RepliedLines, SteppedAs, OutputAs, WrittenAs}
+use Rattle.session_lines.specs.Answering.{AnsweredAs, EndsOrWrites, KeptAs, RefusedAs, SteppedAs, OutputAs, WrittenAs}
 use Rattle.session_lines.specs.Replies.{line_with, refusal_text, reply_text}
 use Rattle.session_lines.specs.Stepping.{LineState, State, Step, is_session_command, open_at, replies, said, state_after, step, step_answered, step_command, step_session_command, step_writing}
 
@@ -47,6 +46,14 @@ module _ (sink sink_now : Output) where
   written_output text Over written = absurd written
   written_output text Unwritten written = written
   written_output text OutOfMemory written = absurd written
+
+  -- a text for which there may have been no memory is a step
+  pub output_step : (text : List ℕ) (s : LineState) (progress : Progress) → OutputAs sink sink_now text progress
+      → SteppedAs sink sink_now (record { text = text; state = open_at s }) s progress
+  output_step text s More output = (output, refl)
+  output_step text s Over output = absurd output
+  output_step text s Unwritten output = output
+  output_step text s OutOfMemory output = output
 
   -- a refusal is told
   pub refusal_output : (text : List ℕ) (memory : Bool) (progress : Progress) → EndsOrWrites memory sink sink_now text progress → OutputAs sink sink_now text progress
@@ -143,43 +150,3 @@ replies-append r state (x ∷ xs) ys =
 pub state_after-append : (r : Rules) (state : State) (xs ys : List ScriptLine) → state_after r state (xs ++ ys) ≡ state_after r (state_after r state xs) ys
 state_after-append r state [] ys = refl
 state_after-append r state (x ∷ xs) ys = state_after-append r (step r state x).state xs ys
-
--- ---- a piece on its way
-
-pub replied_none : (r : Rules) (taken : Option (List ℕ)) (here : LineState) (held bytes : List ℕ) → RepliedLines r taken taken here held bytes (open_at here) held bytes []
-replied_none r taken here held bytes = record { lines = []; cut = λ more. refl; wrote = sent_none taken []; left = refl }
-
--- one more line was cut from what stands behind, and its reply was written as far as `rest`
-pub replied_line : (r : Rules) (a b c : Option (List ℕ)) (here here_now : LineState) (held bytes held_now behind held_next next rest : List ℕ) (lines : List ScriptLine) (state_next : State)
-    → RepliedLines r a b here held bytes (open_at here_now) held_now behind []
-    → ((more : List ℕ) → script_lines (held_now ++ (behind ++ more)) ≡ lines ++ script_lines (held_next ++ (next ++ more)))
-    → Sent b c (replies r (open_at here_now) lines) rest → state_after r (open_at here_now) lines ≡ state_next
-    → RepliedLines r a c here held bytes state_next held_next next rest
-replied_line r a b c here here_now held bytes held_now behind held_next next rest lines state_next replied stream wrote left = record {
-  lines = replied.lines ++ lines;
-  cut = λ more. replied.cut more ∙ ap (λ l. replied.lines ++ l) (stream more) ∙ sym (append_assoc replied.lines lines (script_lines (held_next ++ (next ++ more))));
-  wrote = subst (λ t. Sent a c t rest) (text lines) (sent_on a b c (replies r (open_at here) replied.lines) (replies r (open_at here_now) lines) rest replied.wrote wrote);
-  left = state_after-append r (open_at here) replied.lines lines ∙ ap (λ s. state_after r s lines) replied.left ∙ left;
-}
-  where
-    text : (lines : List ScriptLine) → replies r (open_at here) replied.lines ++ replies r (open_at here_now) lines ≡ replies r (open_at here) (replied.lines ++ lines)
-    text lines =
-        ap (λ s. replies r (open_at here) replied.lines ++ replies r s lines) (sym replied.left)
-        ∙ sym (replies-append r (open_at here) replied.lines lines)
-
--- the same, of the line that was fed and answered
-pub replied_fed : (r r_now : Rules) (a b c : Option (List ℕ)) (here here_now : LineState) (held bytes held_now behind held_next next rest line line_now : List ℕ) (ready : Ready) (n : ℕ) (state_next : State)
-    → RepliedLines r a b here held bytes (open_at here_now) held_now behind [] → r_now ≡ r
-    → ((more : List ℕ) → script_lines (held_now ++ (behind ++ more)) ≡ ready_lines ready line ++ script_lines (held_next ++ (drop n behind ++ more)))
-    → line_now ≡ line → next ≡ drop n behind
-    → Sent b c (replies r_now (open_at here_now) (ready_lines ready line_now)) rest → state_after r_now (open_at here_now) (ready_lines ready line_now) ≡ state_next
-    → RepliedLines r a c here held bytes state_next held_next next rest
-replied_fed r r_now a b c here here_now held bytes held_now behind held_next next rest line line_now ready n state_next replied same_rules stream same_line is_next wrote left =
-    replied_line r a b c here here_now held bytes held_now behind held_next next rest (ready_lines ready line) state_next replied
-    (λ more. stream more ∙ ap (λ l. ready_lines ready line ++ script_lines (held_next ++ (l ++ more))) (sym is_next))
-    (subst (λ t. Sent b c t rest) (λ i. replies (same_rules i) (open_at here_now) (ready_lines ready (same_line i))) wrote)
-    ((λ i. state_after (sym same_rules i) (open_at here_now) (ready_lines ready (sym same_line i))) ∙ left)
-
--- what the slice behind n bytes is
-pub behind_is : (bytes : List ℕ) (n m : ℕ) → length bytes - n ≤ m → take m (drop n bytes) ≡ drop n bytes
-behind_is bytes n m all = take_all m (drop n bytes) (omega (arith, length-drop n bytes))

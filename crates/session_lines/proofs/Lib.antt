@@ -2,6 +2,7 @@ pub mod AnsweringLaws
 pub mod FinalLineLaws
 pub mod FiringLaws
 pub mod ListingLaws
+pub mod MarkLaws
 pub mod PrintLaws
 pub mod ProgressLaws
 pub mod StepLaws

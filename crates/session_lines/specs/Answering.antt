@@ -1,8 +1,8 @@
--- A script on its way: bytes are cut into lines, and each line is answered before the next is taken.
-use Rattle.std.specs.Prelude.{◌≡◌, ℕ, Bool, true, false, List, [], ◌++◌, Option, Result, Ok, Err}
+-- How a line is answered: what was written, and where the session stands behind it.
+use Rattle.std.specs.Prelude.{◌≡◌, ℕ, Bool, true, false, List, [], ◌++◌, Result, Ok, Err}
 use Rattle.fg_io.specs.Outside.{Output, Rose}
 use Rattle.fg_io.specs.Sent.{Sent}
-use Rattle.script_lines.specs.Lines.{ScriptLine, script_lines, HasNoNewline}
+use Rattle.script_lines.specs.Lines.{ScriptLine}
 use Rattle.session_lines.specs.declared.progress.Progress.{Progress}
 use Rattle.session_lines.specs.declared.progress.Progress.TheVariants.{More, Over, Unwritten, OutOfMemory}
 use Rattle.graph_session.specs.Rules.{Rules, rules}
@@ -94,29 +94,3 @@ WatchRefusedAs sink sink_now refusal progress = EndsOrWrites (is_watch_memory re
 abbrev pub progress_of : {T E : Type 0} → Result T E → Progress
 progress_of (Ok done) = More
 progress_of (Err failed) = Unwritten
-
--- Bytes came behind those held. Lines were cut from them, as far as what is held now and what stands behind, and the replies
--- to these lines were written but for the rest.
-pub record RepliedLines (r : Rules) (taken taken_now : Option (List ℕ)) (here : LineState) (held bytes : List ℕ) (state_now : State) (held_now behind rest : List ℕ) : Type 0 where
-  pub lines : List ScriptLine
-  pub cut : (more : List ℕ) → script_lines (held ++ (bytes ++ more)) ≡ lines ++ script_lines (held_now ++ (behind ++ more))
-  pub wrote : Sent taken taken_now (replies r (open_at here) lines) rest
-  pub left : state_after r (open_at here) lines ≡ state_now
-
--- the same, wherever it stopped
-pub record RepliedSome (r : Rules) (taken taken_now : Option (List ℕ)) (here : LineState) (held bytes rest : List ℕ) : Type 0 where
-  pub state_now : State
-  pub held_now : List ℕ
-  pub behind : List ℕ
-  pub replied : RepliedLines r taken taken_now here held bytes state_now held_now behind rest
-
--- how far a piece was answered: whole, to a `quit`, to a reply that wasn't written whole, or to want of memory
-abbrev pub PieceAnsweredAs : Rules → Output → Output → LineState → LineState → List ℕ → List ℕ → List ℕ → Progress → Type 0
-PieceAnsweredAs r sink sink_now here here_now held held_now bytes More =
-    RepliedLines r sink.taken sink_now.taken here held bytes (open_at here_now) held_now [] [] × HasNoNewline held_now
-PieceAnsweredAs r sink sink_now here here_now held held_now bytes Over =
-    (some : RepliedSome r sink.taken sink_now.taken here held bytes []) × (some.state_now ≡ quit_at here_now)
-PieceAnsweredAs r sink sink_now here here_now held held_now bytes Unwritten =
-    Rose sink.faults sink_now.faults × ((rest : List ℕ) × RepliedSome r sink.taken sink_now.taken here held bytes rest)
-PieceAnsweredAs r sink sink_now here here_now held held_now bytes OutOfMemory =
-    RepliedSome r sink.taken sink_now.taken here held bytes []

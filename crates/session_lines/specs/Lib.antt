@@ -1,3 +1,4 @@
+pub mod Marks
 pub mod Replies
 pub mod Firing
 pub mod Stepping

@@ -1,5 +1,5 @@
 -- The texts of replies and of refusals.
-use Rattle.std.specs.Prelude.{ℕ, Bool, true, false, List, [], ◌∷◌, ◌++◌, codes, decimal, Option, Some, None, if◌then◌else◌, length, map}
+use Rattle.std.specs.Prelude.{ℕ, Bool, true, false, List, [], ◌∷◌, ◌++◌, codes, decimal, Option, Some, None, Result, Ok, Err, if◌then◌else◌, length, map}
 use Rattle.fact_values.specs.declared.fault.ValueFault.{ValueFault}
 use Rattle.fact_values.specs.declared.fault.ValueFault.TheVariants.{Overflow, ZeroDivide}
 use Rattle.fact_values.specs.declared.slot.Slot.{Slot}
@@ -148,3 +148,8 @@ abbrev pub missing_lines : Rules → SessionState → Slot → List (List ℕ)
 missing_lines r c slot =
     let slots = missing r.accepted c.timeline.now slot in
     missing_count slots ∷ map (slot_text (tree_of r)) slots
+
+-- or why the slot isn't there
+abbrev pub missing_output : Rules → SessionState → Result Slot Refusal → List (List ℕ)
+missing_output r c (Ok slot) = missing_lines r c slot
+missing_output r c (Err refusal) = refusal_text refusal ∷ []

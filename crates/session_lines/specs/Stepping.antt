@@ -22,7 +22,7 @@ use Rattle.fact_watch.specs.Refusals.{pair_of, unwatch_refusal, watch_refusal}
 use Rattle.fact_watch.specs.Watching.{Pair, without}
 use Rattle.fact_watch.specs.declared.commands.WatchRefusal.{WatchRefusal}
 use Rattle.session_lines.specs.Firing.{firing_lines}
-use Rattle.session_lines.specs.Replies.{bad_line_text, line_with, long_line_text, missing_lines, refusal_text, reply_text, watch_refusal_text}
+use Rattle.session_lines.specs.Replies.{bad_line_text, line_with, long_line_text, missing_output, refusal_text, reply_text, watch_refusal_text}
 
 -- ---- where a script stands
 
@@ -78,8 +78,7 @@ step_session_command r s asked = step_answered r s asked (session.step r s.sessi
 
 -- what is missing of a slot, or why the slot isn't there
 abbrev pub missing_answer : Rules → SessionState → Result Slot Refusal → List ℕ
-missing_answer r c (Ok slot) = joined (missing_lines r c slot)
-missing_answer r c (Err refusal) = line_with (refusal_text refusal)
+missing_answer r c found = joined (missing_output r c found)
 
 abbrev pub step_missing : Rules → LineState → SlotPath → Step
 step_missing r s path = record { text = missing_answer r s.session_state (slot_found r s.session_state.timeline.now path); state = open_at s }

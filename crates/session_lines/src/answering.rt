@@ -1,10 +1,10 @@
-// Answers the lines of a script while its bytes come.
-ghost use Rattle.std.specs.Prelude.{◌≡◌, ◌+◌, ◌<◌, ◌≤◌, ◌^◌, ◌∷◌, ◌++◌, [], length};
+// Answers a line of a script.
+ghost use Rattle.std.specs.Prelude.{◌≡◌, ◌+◌, ◌<◌, ◌≤◌, ◌^◌, ◌∷◌, [], length};
 ghost use Rattle.text_checks.specs.Tables.{named_checks};
-ghost use Rattle.script_lines.specs.Lines.{ended_lines, ready_lines, whole, HasNoNewline};
+ghost use Rattle.script_lines.specs.Lines.{ready_lines, whole};
 ghost use Rattle.graph_session.specs.Refusals.{SameChecks};
 ghost use Rattle.graph_session.specs.Rules.{rules};
-ghost use Rattle.session_lines.specs.Answering.{AnsweredAs, KeptAs, PieceAnsweredAs, state_by};
+ghost use Rattle.session_lines.specs.Answering.{AnsweredAs, KeptAs, state_by};
 ghost use Rattle.session_lines.specs.Stepping.{open_at, state_after};
 ghost use Rattle.session_lines.specs.Steps.{steps_of_line, steps_of_lines};
 
@@ -16,7 +16,7 @@ use dictionary::FactEngine;
 use fact_watch::Watches;
 use fg_io::Sink;
 use graph_session::Session;
-use script_lines::{LineFault, Lines, Ready, command_of};
+use script_lines::{LineFault, Ready, command_of};
 use std::alloc::Global;
 use std::sync::ledger::Ledger;
 use steps::Steps;
@@ -87,50 +87,4 @@ pub fn answer_ready<E: FactEngine, L: Ledger, K: Sink>(
         Ready::Whole => answer_line(alloc, session, watches, tables, line, out, steps),
         Ready::Long => write_text(b"refused 2 LongLine\n", out),
     }
-}
-
-/// Answers each line that ends in the bytes, in order. A line makes one change at most.
-pub fn answer_piece<E: FactEngine, L: Ledger, K: Sink>(
-    alloc: Global,
-    session: &mut Session<E>,
-    watches: &mut Watches,
-    tables: &Tables<'_>,
-    lines: &mut Lines,
-    out: &mut K,
-    bytes: &[u8],
-    steps: &mut Steps<L>,
-) -> Progress
-    requires unended { HasNoNewline lines.old.so_far }
-    requires same_checks { SameChecks (rules session.old.dict) (named_checks tables.now.checks.now) }
-    requires few { session.old.changes + length bytes.now < 2 ^ 63 }
-    ensures answered { PieceAnsweredAs (rules session.old.dict) (K.output out.old) (K.output out.new)
-        (state_by session.old tables.now.relations.now watches.old) (state_by session.new tables.now.relations.now watches.new) lines.old.so_far lines.new.so_far bytes.now result }
-    ensures dict { session.new.dict ≡ session.old.dict }
-    ensures few { session.new.changes ≤ session.old.changes + length bytes.now }
-    ensures later { (K.output out.old).faults ≤ (K.output out.new).faults }
-    ensures steps { steps.new ≤ steps.old + steps_of_lines E.most (rules session.old.dict)
-        (open_at (state_by session.old tables.now.relations.now watches.old))
-        (ended_lines (lines.old.so_far ++ bytes.now)) }
-{
-    let mut rest = bytes;
-    while !rest.is_empty() {
-        let fed = lines.feed(rest);
-        match answer_ready(
-            alloc,
-            session,
-            watches,
-            tables,
-            fed.ready,
-            lines.line(),
-            out,
-            steps,
-        ) {
-            Progress::More => {}
-            Progress::Over => return Progress::Over,
-            Progress::Unwritten => return Progress::Unwritten,
-            Progress::OutOfMemory => return Progress::OutOfMemory,
-        }
-        rest = &rest[fed.taken..];
-    }
-    Progress::More
 }

@@ -14,6 +14,7 @@ ghost use Rattle.session_lines.specs.Stepping.{step_session_command};
 ghost use Rattle.session_lines.specs.Steps.{steps_of_command};
 
 use crate::firing::write_fired;
+use crate::mark::Mark;
 use crate::progress::Progress;
 use crate::writing::{write_refusal, write_reply};
 use dictionary::FactEngine;
@@ -64,7 +65,7 @@ fn write_change<E: FactEngine, K: Sink>(
         result }
     ensures later { (K.output out.old).faults ≤ (K.output out.new).faults }
 {
-    match write_reply(session, reply, out) {
+    match write_reply(session, Mark::Unmarked, reply, out) {
         Progress::More => write_fired(session, watches, table, out),
         Progress::Over => Progress::Over,
         Progress::Unwritten => Progress::Unwritten,
@@ -90,7 +91,7 @@ fn write_said<E: FactEngine, K: Sink>(
     if is_change(command) {
         write_change(session, watches, table, reply, out)
     } else {
-        write_reply(session, reply, out)
+        write_reply(session, Mark::Unmarked, reply, out)
     }
 }
 
@@ -121,7 +122,7 @@ fn answer_noted<E: FactEngine, L: Ledger, K: Sink>(
 {
     match session.command(command, checks, steps) {
         Ok(reply) => write_said(session, watches, table, command, reply, out),
-        Err(refusal) => write_refusal(refusal, out),
+        Err(refusal) => write_refusal(Mark::Unmarked, refusal, out),
     }
 }
 

@@ -1,5 +1,5 @@
 // Answers which slots are missing of one.
-ghost use Rattle.std.specs.Prelude.{◌≡◌, ◌≤◌, ◌∷◌, ◌++◌, [], All, IsTrue, codes, map};
+ghost use Rattle.std.specs.Prelude.{◌≤◌, ◌∷◌, All, IsTrue, codes, map};
 ghost use Rattle.script_lines.specs.Joined.{joined};
 ghost use Rattle.dictionary.specs.Accepted.{accepted};
 ghost use Rattle.dictionary.specs.SlotText.{slot_text};
@@ -9,17 +9,18 @@ ghost use Rattle.graph_session.specs.Refusals.{slot_found};
 ghost use Rattle.graph_session.specs.Rules.{rules};
 ghost use Rattle.graph_session.specs.SessionView.{session_state};
 ghost use Rattle.session_lines.specs.Answering.{OutputAs};
-ghost use Rattle.session_lines.specs.Replies.{line_with, missing_count, missing_lines, numbered};
-ghost use Rattle.session_lines.specs.Stepping.{missing_answer};
+ghost use Rattle.session_lines.specs.Replies.{line_with, missing_count, missing_lines, missing_output, numbered};
+ghost use Rattle.session_lines.specs.Marks.{marked, marked_lines};
 
+use crate::mark::Mark;
 use crate::numbered::print_numbered;
 use crate::progress::Progress;
-use crate::writing::{as_progress, write_refusal};
+use crate::writing::{as_progress, put_line, write_refusal};
 use dictionary::FactEngine;
 use explain::missing;
 use fact_paths::SlotPath;
 use fact_values::{NoMemory, Slot};
-use fg_io::{Failed, Sink, put_text};
+use fg_io::{Failed, Sink};
 use graph_session::Session;
 use std::alloc::Global;
 use value_text::Line;
@@ -27,34 +28,35 @@ use value_text::Line;
 // Puts the path of a slot that stands.
 fn put_slot<E: FactEngine, K: Sink>(
     session: &Session<E>,
+    mark: Mark,
     slot: Slot,
     out: &mut K,
 ) -> Result<(), Failed>
     requires { IsTrue (stands (accepted session.now.dict).tree session.now.timeline.now slot) }
-    ensures { Wrote (K.output out.old) (K.output out.new) (slot_text (accepted session.now.dict).tree slot ++ 10 ∷ [])
-        result }
+    ensures { Wrote (K.output out.old) (K.output out.new)
+        (line_with (marked mark (slot_text (accepted session.now.dict).tree slot))) result }
 {
     let dict = session.dict();
     let _accepted = dict.source();
     let _fit = session.answers();
-    let mut line = Line::new();
-    dict.print_slot(slot, &mut line);
-    line.push(b"\n");
-    put_text(line.bytes(), out)
+    let mut path = Line::new();
+    dict.print_slot(slot, &mut path);
+    put_line(mark, &mut path, out)
 }
 
 /// Puts the paths of slots that stand, in order, each in a line.
 pub fn put_slots<E: FactEngine, K: Sink>(
     session: &Session<E>,
+    mark: Mark,
     slots: &[Slot],
     out: &mut K,
 ) -> Result<(), Failed>
     requires { All (λ s. IsTrue (stands (accepted session.now.dict).tree session.now.timeline.now s)) slots.now }
     ensures { Wrote (K.output out.old) (K.output out.new)
-        (joined (map (slot_text (accepted session.now.dict).tree) slots.now)) result }
+        (joined (map (λ s. marked mark (slot_text (accepted session.now.dict).tree s)) slots.now)) result }
 {
     for slot in slots {
-        match put_slot(session, *slot, out) {
+        match put_slot(session, mark, *slot, out) {
             Err(failed) => return Err(failed),
             Ok(()) => {}
         }
@@ -63,28 +65,30 @@ pub fn put_slots<E: FactEngine, K: Sink>(
 }
 
 // Puts how many they are.
-fn put_count<K: Sink>(count: usize, out: &mut K) -> Result<(), Failed>
-    ensures { Wrote (K.output out.old) (K.output out.new) (line_with (numbered (codes "missing ") count)) result }
+fn put_count<K: Sink>(mark: Mark, count: usize, out: &mut K) -> Result<(), Failed>
+    ensures { Wrote (K.output out.old) (K.output out.new) (line_with (marked mark (numbered (codes "missing ") count)))
+        result }
 {
     let mut line = Line::new();
     print_numbered("missing ", count as u64, &mut line);
-    line.push(b"\n");
-    put_text(line.bytes(), out)
+    put_line(mark, &mut line, out)
 }
 
 // Puts how many they are, and their paths.
 fn put_missing<E: FactEngine, K: Sink>(
     session: &Session<E>,
+    mark: Mark,
     slots: &[Slot],
     out: &mut K,
 ) -> Result<(), Failed>
     requires { All (λ s. IsTrue (stands (accepted session.now.dict).tree session.now.timeline.now s)) slots.now }
     ensures { Wrote (K.output out.old) (K.output out.new)
-        (joined (missing_count slots.now ∷ map (slot_text (accepted session.now.dict).tree) slots.now)) result }
+        (marked_lines mark (missing_count slots.now ∷ map (slot_text (accepted session.now.dict).tree) slots.now))
+        result }
 {
-    match put_count(slots.len(), out) {
+    match put_count(mark, slots.len(), out) {
         Err(failed) => Err(failed),
-        Ok(()) => put_slots(session, slots, out),
+        Ok(()) => put_slots(session, mark, slots, out),
     }
 }
 
@@ -92,16 +96,17 @@ fn put_missing<E: FactEngine, K: Sink>(
 fn write_missing<E: FactEngine, K: Sink>(
     alloc: Global,
     session: &Session<E>,
+    mark: Mark,
     slot: Slot,
     out: &mut K,
 ) -> Progress
     requires { IsTrue (stands (accepted session.now.dict).tree session.now.timeline.now slot) }
     ensures output { OutputAs (K.output out.old) (K.output out.new)
-        (joined (missing_lines (rules session.now.dict) (session_state session.now) slot)) result }
+        (marked_lines mark (missing_lines (rules session.now.dict) (session_state session.now) slot)) result }
     ensures later { (K.output out.old).faults ≤ (K.output out.new).faults }
 {
     match missing(alloc, session, slot) {
-        Ok(slots) => as_progress(put_missing(session, &slots, out)),
+        Ok(slots) => as_progress(put_missing(session, mark, &slots, out)),
         Err(NoMemory) => Progress::OutOfMemory,
     }
 }
@@ -110,15 +115,17 @@ fn write_missing<E: FactEngine, K: Sink>(
 pub fn answer_missing<E: FactEngine, K: Sink>(
     alloc: Global,
     session: &Session<E>,
+    mark: Mark,
     path: &SlotPath,
     out: &mut K,
 ) -> Progress
-    ensures output { OutputAs (K.output out.old) (K.output out.new) (missing_answer (rules session.now.dict)
-        (session_state session.now) (slot_found (rules session.now.dict) session.now.timeline.now path.now)) result }
+    ensures output { OutputAs (K.output out.old) (K.output out.new)
+        (marked_lines mark (missing_output (rules session.now.dict) (session_state session.now)
+        (slot_found (rules session.now.dict) session.now.timeline.now path.now))) result }
     ensures later { (K.output out.old).faults ≤ (K.output out.new).faults }
 {
     match session.slot_of(path) {
-        Ok(slot) => write_missing(alloc, session, slot, out),
-        Err(refusal) => write_refusal(refusal, out),
+        Ok(slot) => write_missing(alloc, session, mark, slot, out),
+        Err(refusal) => write_refusal(mark, refusal, out),
     }
 }

@@ -7,6 +7,7 @@ ghost use Rattle.session_lines.specs.Replies.{is_watch_memory, watch_refusal_nam
 ghost use Rattle.session_lines.specs.Stepping.{cut_watch, put_watch};
 ghost use Rattle.std.specs.Prelude.{Ok};
 
+use crate::mark::Mark;
 use crate::progress::Progress;
 use crate::writing::{write_refusal, write_text};
 use dictionary::FactEngine;
@@ -98,7 +99,7 @@ pub fn answer_watch<E: FactEngine, K: Sink>(
 {
     match session.slot_of(path) {
         Ok(slot) => watch_slot(session, watches, table, name, slot, out),
-        Err(refusal) => write_refusal(refusal, out),
+        Err(refusal) => write_refusal(Mark::Unmarked, refusal, out),
     }
 }
 
@@ -143,6 +144,6 @@ pub fn answer_unwatch<E: FactEngine, K: Sink>(
 {
     match session.slot_of(path) {
         Ok(slot) => unwatch_slot(session, watches, table, name, slot, out),
-        Err(refusal) => write_refusal(refusal, out),
+        Err(refusal) => write_refusal(Mark::Unmarked, refusal, out),
     }
 }

@@ -1,10 +1,14 @@
-// Writes texts, and tells how the script goes on behind them.
-ghost use Rattle.std.specs.Prelude.{◌≡◌, ◌≤◌};
+// Writes lines, and tells how the script goes on behind them.
+ghost use Rattle.std.specs.Prelude.{◌≡◌, ◌≤◌, length};
+ghost use Rattle.fg_io.specs.Writing.{Wrote};
 ghost use Rattle.graph_session.specs.Rules.{rules};
+ghost use Rattle.graph_session.specs.Run.{is_memory};
 ghost use Rattle.graph_session.specs.SessionView.{session_state};
-ghost use Rattle.session_lines.specs.Answering.{RefusedAs, WrittenAs, progress_of};
-ghost use Rattle.session_lines.specs.Replies.{line_with, reply_text};
+ghost use Rattle.session_lines.specs.Answering.{EndsOrWrites, WrittenAs, progress_of};
+ghost use Rattle.session_lines.specs.Marks.{marked};
+ghost use Rattle.session_lines.specs.Replies.{line_with, refusal_text, reply_text};
 
+use crate::mark::{Mark, print_mark};
 use crate::progress::Progress;
 use crate::reply::{print_refusal, print_reply};
 use dictionary::FactEngine;
@@ -31,48 +35,80 @@ pub fn write_text<K: Sink>(text: &[u8], out: &mut K) -> Progress
     as_progress(put)
 }
 
+/// Puts a printed text as a line: behind its mark, and with a newline.
+pub fn put_line<K: Sink>(mark: Mark, text: &mut Line, out: &mut K) -> Result<(), Failed>
+    requires { length text.old ≤ 1050 }
+    ensures { Wrote (K.output out.old) (K.output out.new) (line_with (marked mark text.old)) result }
+{
+    match mark {
+        Mark::Unmarked => {
+            text.push(b"\n");
+            put_text(text.bytes(), out)
+        }
+        Mark::Party(_) => {
+            let mut line = Line::new();
+            print_mark(mark, &mut line);
+            line.push(text.bytes());
+            line.push(b"\n");
+            put_text(line.bytes(), out)
+        }
+    }
+}
+
+/// Writes a printed text as a line, and says how the script goes on behind it.
+pub fn write_line<K: Sink>(mark: Mark, text: &mut Line, out: &mut K) -> Progress
+    requires { length text.old ≤ 1050 }
+    ensures written { WrittenAs (K.output out.old) (K.output out.new) (line_with (marked mark text.old)) result }
+    ensures later { (K.output out.old).faults ≤ (K.output out.new).faults }
+{
+    let put = put_line(mark, text, out);
+    as_progress(put)
+}
+
 // Writes what the session says, as a line that is printed.
 fn write_printed<E: FactEngine, K: Sink>(
     session: &Session<E>,
+    mark: Mark,
     reply: Reply,
     out: &mut K,
 ) -> Progress
     ensures written { WrittenAs (K.output out.old) (K.output out.new)
-        (line_with (reply_text (rules session.now.dict) (session_state session.now) reply)) result }
+        (line_with (marked mark (reply_text (rules session.now.dict) (session_state session.now) reply))) result }
     ensures later { (K.output out.old).faults ≤ (K.output out.new).faults }
 {
-    let mut line = Line::new();
-    print_reply(session, reply, &mut line);
-    line.push(b"\n");
-    write_text(line.bytes(), out)
+    let mut text = Line::new();
+    print_reply(session, reply, &mut text);
+    write_line(mark, &mut text, out)
 }
 
-/// Writes what the session says. That a change was made is said without a line being filled: most lines of a script are changes.
+/// Writes what the session says. That a change was made is said to the person of a session without a line being filled: most lines of
+/// a script are changes.
 pub fn write_reply<E: FactEngine, K: Sink>(
     session: &Session<E>,
+    mark: Mark,
     reply: Reply,
     out: &mut K,
 ) -> Progress
     ensures written { WrittenAs (K.output out.old) (K.output out.new)
-        (line_with (reply_text (rules session.now.dict) (session_state session.now) reply)) result }
+        (line_with (marked mark (reply_text (rules session.now.dict) (session_state session.now) reply))) result }
     ensures later { (K.output out.old).faults ≤ (K.output out.new).faults }
 {
-    match reply {
-        Reply::Done => write_text(b"ok\n", out),
-        _ => write_printed(session, reply, out),
+    match (mark, reply) {
+        (Mark::Unmarked, Reply::Done) => write_text(b"ok\n", out),
+        _ => write_printed(session, mark, reply, out),
     }
 }
 
 /// Writes why a command is refused.
-pub fn write_refusal<K: Sink>(refusal: Refusal, out: &mut K) -> Progress
-    ensures written { RefusedAs (K.output out.old) (K.output out.new) refusal result }
+pub fn write_refusal<K: Sink>(mark: Mark, refusal: Refusal, out: &mut K) -> Progress
+    ensures written { EndsOrWrites (is_memory refusal) (K.output out.old) (K.output out.new)
+        (line_with (marked mark (refusal_text refusal))) result }
     ensures later { (K.output out.old).faults ≤ (K.output out.new).faults }
 {
     if is_want_of_memory(refusal) {
         return Progress::OutOfMemory;
     }
-    let mut line = Line::new();
-    print_refusal(refusal, &mut line);
-    line.push(b"\n");
-    write_text(line.bytes(), out)
+    let mut text = Line::new();
+    print_refusal(refusal, &mut text);
+    write_line(mark, &mut text, out)
 }

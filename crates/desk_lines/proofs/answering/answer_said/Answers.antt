@@ -1,5 +1,6 @@
-use Rattle.std.proofs.Common.{[], ◌∷◌, refl, ap}
+use Rattle.std.proofs.Common.{◌≡◌, ℕ, List, [], ◌∷◌, rules, refl, ap, subst}
 use Rattle.fg_io.proofs.SentLaws.{sent_none}
+use Rattle.session_lines.specs.Answering.{WrittenAs}
 use Rattle.session_lines.specs.Replies.{bad_line_text, line_with}
 use Rattle.session_lines.specs.declared.progress.Progress.TheVariants.{More}
 use Rattle.shared_desk.specs.DeskView.{rules_of}
@@ -23,6 +24,8 @@ returns-in-NoParty-clause-output g c = λ d stands.
 pub returns-in-NoCommand-clause-output : goal.returns-in-NoCommand-clause-output
 returns-in-NoCommand-clause-output g c = λ d stands.
     let r = rules_of c.args.desk.now in
-    step_output _ _ c.args.desk.now c.args.desk.now (step_said r d c.args.said.now) (record { text = marked_lines c.in-NoCommand.party (bad_line_text ∷ []); state = desk_open d }) c.write_marked.result
+    let text : c.push.new.self ≡ bad_line_text = search rules in
+    step_output (g.K.Sink.output c.args.out.now) (g.K.Sink.output c.write_line.new.out) c.args.desk.now c.args.desk.now (step_said r d c.args.said.now) (record { text = marked_lines c.in-NoCommand.party (bad_line_text ∷ []); state = desk_open d }) c.write_line.result
     (ap (step_said r d) c.in-NoCommand.is)
-    (written_output _ _ c.args.desk.now c.args.desk.now (marked_lines c.in-NoCommand.party (bad_line_text ∷ [])) d c.write_marked.result c.write_marked.ensures.written stands)
+    (written_output _ _ c.args.desk.now c.args.desk.now (marked_lines c.in-NoCommand.party (bad_line_text ∷ [])) d c.write_line.result
+    (subst (λ (l : List ℕ). WrittenAs (g.K.Sink.output c.args.out.now) (g.K.Sink.output c.write_line.new.out) (marked_lines c.in-NoCommand.party (l ∷ [])) c.write_line.result) text c.write_line.ensures.written) stands)

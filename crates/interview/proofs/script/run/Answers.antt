@@ -10,7 +10,7 @@ pub loop-taken-init : goal.loop-taken-init
 loop-taken-init g c = (
   λ m begins means.
       let none = begins.steps g.T.LineHandler.most in
-      (m, means, (rw c.new-lines.ensures (none_so_far m begins _ _), omega (arith, none))),
+      (m, means, begins, (rw c.new-lines.ensures (none_so_far m begins _ _), omega (arith, none))),
   omega arith,
   omega arith,
   omega arith,
@@ -26,16 +26,16 @@ loop-taken-preserved g c =
     let before = c.loop-taken.invariant.0 begun.0 begun.1 begun.2 in (
       λ m begins means.
           let so_far = c.loop-taken.invariant.0 m begins means in
-          let output = c.in-More.ensures.output so_far.0 so_far.1 in
-          let more = more_so_far m so_far.0 output.0.0 _ _ _ _ _ _ _ _ _ _ _ _ so_far.2.0 c.in-Ok.ensures.bytes.0 c.in-Ok.ensures.bound.1 same output.0.3 output.0.2 output.1 in
-          let steps = steps_more g.T.LineHandler.most m begins _ _ _ _ _ so_far.0 _ so_far.2.0 _ _ so_far.2.1 _ _ _ same (c.answer_piece.ensures.steps so_far.0 so_far.1) in
-          (output.0.0, output.0.1, (more.0, rw more.1 steps)),
+          let output = c.in-More.ensures.output so_far.0 so_far.2 so_far.1 in
+          let more = more_so_far m so_far.0 output.0.0 _ _ _ _ _ _ _ _ _ _ _ _ so_far.3.0 c.in-Ok.ensures.bytes.0 c.in-Ok.ensures.bound.1 same output.0.3 output.0.2.over output.1 in
+          let steps = steps_more g.T.LineHandler.most m begins _ _ _ _ _ so_far.0 _ so_far.3.0 _ _ so_far.3.1 _ _ _ same (c.answer_piece.ensures.steps so_far.0 so_far.2 so_far.1) in
+          (output.0.0, output.0.1, output.0.2, (more.0, rw more.1 steps)),
       omega (arith, c.in-Ok.ensures.bound.0, length-take {A = ℕ}),
       omega (arith, c.loop-taken.invariant.2, c.answer_piece.ensures.later),
       omega (arith, c.loop-taken.invariant.3, c.in-Ok.ensures.cause.later),
       c.answer_piece.ensures.same_rules ∙ c.loop-taken.invariant.4,
       omega (arith, c.loop-taken.invariant.5, c.answer_piece.ensures.few, length-take {A = ℕ}),
-      (c.in-More.ensures.output before.0 before.1).1,
+      (c.in-More.ensures.output before.0 before.2 before.1).1,
     )
 
 pub returns-in-Ok-eq0 : goal.returns-in-Ok-eq0
@@ -47,14 +47,14 @@ returns-in-Ok-eq0 g c =
     record {
       ends = λ m begins means.
           let so_far = c.loop-taken.invariant.0 m begins means in
-          ends_at m (script_did (g.S.Source.input c.args.script.now) (g.S.Source.input c.pull.new.self) (g.K.Sink.output c.args.out.now) (g.K.Sink.output c.finish.new.out)) (g.S.Source.input c.loop-taken.script) (g.K.Sink.output c.loop-taken.out) _ so_far.0 _ so_far.2.0 _ (omega arith) read end c.finish.result _ c.status_at_end.ensures c.loop-taken.invariant.2 (c.finish.ensures.output so_far.0 so_far.1);
+          ends_at m (script_did (g.S.Source.input c.args.script.now) (g.S.Source.input c.pull.new.self) (g.K.Sink.output c.args.out.now) (g.K.Sink.output c.finish.new.out)) (g.S.Source.input c.loop-taken.script) (g.K.Sink.output c.loop-taken.out) _ so_far.0 _ so_far.3.0 _ _ (omega arith) read end c.finish.result _ c.status_at_end.ensures c.loop-taken.invariant.2 (c.finish.ensures.output so_far.0 so_far.1);
       leaves = λ m begins means.
           let so_far = c.loop-taken.invariant.0 m begins means in
-          leaves_at m (script_did (g.S.Source.input c.args.script.now) (g.S.Source.input c.pull.new.self) (g.K.Sink.output c.args.out.now) (g.K.Sink.output c.finish.new.out)) (g.S.Source.input c.loop-taken.script) (g.K.Sink.output c.loop-taken.out) _ so_far.0 _ so_far.2.0 _ (omega arith) read end c.finish.result _ c.status_at_end.ensures (c.finish.ensures.output so_far.0 so_far.1);
+          leaves_at m (script_did (g.S.Source.input c.args.script.now) (g.S.Source.input c.pull.new.self) (g.K.Sink.output c.args.out.now) (g.K.Sink.output c.finish.new.out)) (g.S.Source.input c.loop-taken.script) (g.K.Sink.output c.loop-taken.out) _ so_far.0 _ so_far.3.0 _ _ (omega arith) read end c.finish.result _ c.status_at_end.ensures (c.finish.ensures.output so_far.0 so_far.1);
       same_rules = c.finish.ensures.same_rules ∙ c.loop-taken.invariant.4;
       steps = λ m begins means.
           let so_far = c.loop-taken.invariant.0 m begins means in
-          within_all g.T.LineHandler.most m begins _ _ _ _ _ so_far.0 _ so_far.2.0 _ _ so_far.2.1 _ _ read (c.finish.ensures.steps so_far.0 so_far.1);
+          within_all g.T.LineHandler.most m begins _ _ _ _ _ so_far.0 _ so_far.3.0 _ _ so_far.3.1 _ _ read (c.finish.ensures.steps so_far.0 so_far.1);
     }
 
 pub returns-in-Over : goal.returns-in-Over
@@ -63,16 +63,16 @@ returns-in-Over g c =
     record {
       ends = λ m begins means.
           let so_far = c.loop-taken.invariant.0 m begins means in
-          let output = c.in-Over.ensures.output so_far.0 so_far.1 in
-          ends_over m (script_did (g.S.Source.input c.args.script.now) (g.S.Source.input c.pull.new.self) (g.K.Sink.output c.args.out.now) (g.K.Sink.output c.answer_piece.new.out)) (g.S.Source.input c.loop-taken.script) (g.K.Sink.output c.loop-taken.out) _ so_far.0 _ so_far.2.0 _ _ c.in-Ok.count c.in-Ok.ensures.bytes.0 c.in-Ok.ensures.bound.1 same (omega (arith, c.in-Ok.ensures.bound.0, length-take {A = ℕ})) output.0 output.1 (omega (arith, c.in-Ok.ensures.bound.0, length-take {A = ℕ}));
+          let output = c.in-Over.ensures.output so_far.0 so_far.2 so_far.1 in
+          ends_over m (script_did (g.S.Source.input c.args.script.now) (g.S.Source.input c.pull.new.self) (g.K.Sink.output c.args.out.now) (g.K.Sink.output c.answer_piece.new.out)) (g.S.Source.input c.loop-taken.script) (g.K.Sink.output c.loop-taken.out) _ so_far.0 _ so_far.3.0 _ _ c.in-Ok.count c.in-Ok.ensures.bytes.0 c.in-Ok.ensures.bound.1 same (omega (arith, c.in-Ok.ensures.bound.0, length-take {A = ℕ})) output.0 output.1 (omega (arith, c.in-Ok.ensures.bound.0, length-take {A = ℕ}));
       leaves = λ m begins means.
           let so_far = c.loop-taken.invariant.0 m begins means in
-          let output = c.in-Over.ensures.output so_far.0 so_far.1 in
-          leaves_over m (script_did (g.S.Source.input c.args.script.now) (g.S.Source.input c.pull.new.self) (g.K.Sink.output c.args.out.now) (g.K.Sink.output c.answer_piece.new.out)) (g.S.Source.input c.loop-taken.script) (g.K.Sink.output c.loop-taken.out) _ so_far.0 _ so_far.2.0 _ _ c.in-Ok.count c.in-Ok.ensures.bytes.0 c.in-Ok.ensures.bound.1 same (omega (arith, c.in-Ok.ensures.bound.0, length-take {A = ℕ})) output.0 output.1 _ output.2;
+          let output = c.in-Over.ensures.output so_far.0 so_far.2 so_far.1 in
+          leaves_over m (script_did (g.S.Source.input c.args.script.now) (g.S.Source.input c.pull.new.self) (g.K.Sink.output c.args.out.now) (g.K.Sink.output c.answer_piece.new.out)) (g.S.Source.input c.loop-taken.script) (g.K.Sink.output c.loop-taken.out) _ so_far.0 _ so_far.3.0 _ _ c.in-Ok.count c.in-Ok.ensures.bytes.0 c.in-Ok.ensures.bound.1 same (omega (arith, c.in-Ok.ensures.bound.0, length-take {A = ℕ})) output.0 output.1 _ output.2;
       same_rules = c.answer_piece.ensures.same_rules ∙ c.loop-taken.invariant.4;
       steps = λ m begins means.
           let so_far = c.loop-taken.invariant.0 m begins means in
-          within_piece g.T.LineHandler.most m begins _ _ _ _ _ so_far.0 _ so_far.2.0 _ _ so_far.2.1 _ _ _ _ c.in-Ok.ensures.bytes.0 same (c.answer_piece.ensures.steps so_far.0 so_far.1);
+          within_piece g.T.LineHandler.most m begins _ _ _ _ _ so_far.0 _ so_far.3.0 _ _ so_far.3.1 _ _ _ _ c.in-Ok.ensures.bytes.0 same (c.answer_piece.ensures.steps so_far.0 so_far.2 so_far.1);
     }
 
 pub returns-in-Unwritten : goal.returns-in-Unwritten
@@ -81,13 +81,13 @@ returns-in-Unwritten g c =
     record {
       ends = λ m begins means.
           let so_far = c.loop-taken.invariant.0 m begins means in
-          let output = c.in-Unwritten.ensures.output so_far.0 so_far.1 in
-          ends_unwritten m (script_did (g.S.Source.input c.args.script.now) (g.S.Source.input c.pull.new.self) (g.K.Sink.output c.args.out.now) (g.K.Sink.output c.answer_piece.new.out)) (g.S.Source.input c.loop-taken.script) (g.K.Sink.output c.loop-taken.out) _ so_far.0 _ so_far.2.0 _ _ c.in-Ok.count c.in-Ok.ensures.bytes.0 c.in-Ok.ensures.bound.1 same (omega (arith, c.in-Ok.ensures.bound.0, length-take {A = ℕ})) _ c.loop-taken.invariant.2 output.0 output.1.1;
+          let output = c.in-Unwritten.ensures.output so_far.0 so_far.2 so_far.1 in
+          ends_unwritten m (script_did (g.S.Source.input c.args.script.now) (g.S.Source.input c.pull.new.self) (g.K.Sink.output c.args.out.now) (g.K.Sink.output c.answer_piece.new.out)) (g.S.Source.input c.loop-taken.script) (g.K.Sink.output c.loop-taken.out) _ so_far.0 _ so_far.3.0 _ _ c.in-Ok.count c.in-Ok.ensures.bytes.0 c.in-Ok.ensures.bound.1 same (omega (arith, c.in-Ok.ensures.bound.0, length-take {A = ℕ})) _ c.loop-taken.invariant.2 output.0 output.1.1;
       leaves = λ m begins means. tt;
       same_rules = c.answer_piece.ensures.same_rules ∙ c.loop-taken.invariant.4;
       steps = λ m begins means.
           let so_far = c.loop-taken.invariant.0 m begins means in
-          within_piece g.T.LineHandler.most m begins _ _ _ _ _ so_far.0 _ so_far.2.0 _ _ so_far.2.1 _ _ _ _ c.in-Ok.ensures.bytes.0 same (c.answer_piece.ensures.steps so_far.0 so_far.1);
+          within_piece g.T.LineHandler.most m begins _ _ _ _ _ so_far.0 _ so_far.3.0 _ _ so_far.3.1 _ _ _ _ c.in-Ok.ensures.bytes.0 same (c.answer_piece.ensures.steps so_far.0 so_far.2 so_far.1);
     }
 
 pub returns-in-OutOfMemory : goal.returns-in-OutOfMemory
@@ -96,13 +96,13 @@ returns-in-OutOfMemory g c =
     record {
       ends = λ m begins means.
           let so_far = c.loop-taken.invariant.0 m begins means in
-          let output = c.in-OutOfMemory.ensures.output so_far.0 so_far.1 in
-          ends_out_of_memory m (script_did (g.S.Source.input c.args.script.now) (g.S.Source.input c.pull.new.self) (g.K.Sink.output c.args.out.now) (g.K.Sink.output c.answer_piece.new.out)) (g.S.Source.input c.loop-taken.script) (g.K.Sink.output c.loop-taken.out) _ so_far.0 _ so_far.2.0 _ _ c.in-Ok.count c.in-Ok.ensures.bytes.0 c.in-Ok.ensures.bound.1 same (omega (arith, c.in-Ok.ensures.bound.0, length-take {A = ℕ})) output;
+          let output = c.in-OutOfMemory.ensures.output so_far.0 so_far.2 so_far.1 in
+          ends_out_of_memory m (script_did (g.S.Source.input c.args.script.now) (g.S.Source.input c.pull.new.self) (g.K.Sink.output c.args.out.now) (g.K.Sink.output c.answer_piece.new.out)) (g.S.Source.input c.loop-taken.script) (g.K.Sink.output c.loop-taken.out) _ so_far.0 _ so_far.3.0 _ _ c.in-Ok.count c.in-Ok.ensures.bytes.0 c.in-Ok.ensures.bound.1 same (omega (arith, c.in-Ok.ensures.bound.0, length-take {A = ℕ})) output.0;
       leaves = λ m begins means. tt;
       same_rules = c.answer_piece.ensures.same_rules ∙ c.loop-taken.invariant.4;
       steps = λ m begins means.
           let so_far = c.loop-taken.invariant.0 m begins means in
-          within_piece g.T.LineHandler.most m begins _ _ _ _ _ so_far.0 _ so_far.2.0 _ _ so_far.2.1 _ _ _ _ c.in-Ok.ensures.bytes.0 same (c.answer_piece.ensures.steps so_far.0 so_far.1);
+          within_piece g.T.LineHandler.most m begins _ _ _ _ _ so_far.0 _ so_far.3.0 _ _ so_far.3.1 _ _ _ _ c.in-Ok.ensures.bytes.0 same (c.answer_piece.ensures.steps so_far.0 so_far.2 so_far.1);
     }
 
 pub returns-in-Err : goal.returns-in-Err
@@ -110,12 +110,12 @@ returns-in-Err g c =
     record {
       ends = λ m begins means.
           let so_far = c.loop-taken.invariant.0 m begins means in
-          ends_unread m (script_did (g.S.Source.input c.args.script.now) (g.S.Source.input c.pull.new.self) (g.K.Sink.output c.args.out.now) (g.K.Sink.output c.loop-taken.out)) (g.S.Source.input c.loop-taken.script) (g.K.Sink.output c.loop-taken.out) _ so_far.0 _ so_far.2.0 c.loop-taken.invariant.1 refl c.in-Err.ensures.bytes (omega (arith, c.loop-taken.invariant.3, c.in-Err.ensures.cause.failed));
+          ends_unread m (script_did (g.S.Source.input c.args.script.now) (g.S.Source.input c.pull.new.self) (g.K.Sink.output c.args.out.now) (g.K.Sink.output c.loop-taken.out)) (g.S.Source.input c.loop-taken.script) (g.K.Sink.output c.loop-taken.out) _ so_far.0 _ so_far.3.0 c.loop-taken.invariant.1 refl c.in-Err.ensures.bytes (omega (arith, c.loop-taken.invariant.3, c.in-Err.ensures.cause.failed));
       leaves = λ m begins means. tt;
       same_rules = c.loop-taken.invariant.4;
       steps = λ m begins means.
           let so_far = c.loop-taken.invariant.0 m begins means in
-          within_kept g.T.LineHandler.most m begins _ _ _ _ _ so_far.0 _ so_far.2.0 _ _ so_far.2.1 _ c.in-Err.ensures.bytes;
+          within_kept g.T.LineHandler.most m begins _ _ _ _ _ so_far.0 _ so_far.3.0 _ _ so_far.3.1 _ c.in-Err.ensures.bytes;
     }
 
 pub returns-in-Ok-eq0-pull : goal.returns-in-Ok-eq0-pull
@@ -127,14 +127,14 @@ returns-in-Ok-eq0-pull g c =
     record {
       ends = λ m begins means.
           let so_far = c.loop-taken.invariant.0 m begins means in
-          ends_at m (script_did (g.S.Source.input c.args.script.now) (g.S.Source.input c.pull-2.new.self) (g.K.Sink.output c.args.out.now) (g.K.Sink.output c.finish-in-Ok-eq0-pull.new.out)) (g.S.Source.input c.loop-taken.script) (g.K.Sink.output c.loop-taken.out) _ so_far.0 _ so_far.2.0 _ c.loop-taken.invariant.1 read end c.finish-in-Ok-eq0-pull.result _ c.status_at_end-in-Ok-eq0-pull.ensures c.loop-taken.invariant.2 (c.finish-in-Ok-eq0-pull.ensures.output so_far.0 so_far.1);
+          ends_at m (script_did (g.S.Source.input c.args.script.now) (g.S.Source.input c.pull-2.new.self) (g.K.Sink.output c.args.out.now) (g.K.Sink.output c.finish-in-Ok-eq0-pull.new.out)) (g.S.Source.input c.loop-taken.script) (g.K.Sink.output c.loop-taken.out) _ so_far.0 _ so_far.3.0 _ _ c.loop-taken.invariant.1 read end c.finish-in-Ok-eq0-pull.result _ c.status_at_end-in-Ok-eq0-pull.ensures c.loop-taken.invariant.2 (c.finish-in-Ok-eq0-pull.ensures.output so_far.0 so_far.1);
       leaves = λ m begins means.
           let so_far = c.loop-taken.invariant.0 m begins means in
-          leaves_at m (script_did (g.S.Source.input c.args.script.now) (g.S.Source.input c.pull-2.new.self) (g.K.Sink.output c.args.out.now) (g.K.Sink.output c.finish-in-Ok-eq0-pull.new.out)) (g.S.Source.input c.loop-taken.script) (g.K.Sink.output c.loop-taken.out) _ so_far.0 _ so_far.2.0 _ c.loop-taken.invariant.1 read end c.finish-in-Ok-eq0-pull.result _ c.status_at_end-in-Ok-eq0-pull.ensures (c.finish-in-Ok-eq0-pull.ensures.output so_far.0 so_far.1);
+          leaves_at m (script_did (g.S.Source.input c.args.script.now) (g.S.Source.input c.pull-2.new.self) (g.K.Sink.output c.args.out.now) (g.K.Sink.output c.finish-in-Ok-eq0-pull.new.out)) (g.S.Source.input c.loop-taken.script) (g.K.Sink.output c.loop-taken.out) _ so_far.0 _ so_far.3.0 _ _ c.loop-taken.invariant.1 read end c.finish-in-Ok-eq0-pull.result _ c.status_at_end-in-Ok-eq0-pull.ensures (c.finish-in-Ok-eq0-pull.ensures.output so_far.0 so_far.1);
       same_rules = c.finish-in-Ok-eq0-pull.ensures.same_rules ∙ c.loop-taken.invariant.4;
       steps = λ m begins means.
           let so_far = c.loop-taken.invariant.0 m begins means in
-          within_all g.T.LineHandler.most m begins _ _ _ _ _ so_far.0 _ so_far.2.0 _ _ so_far.2.1 _ _ read (c.finish-in-Ok-eq0-pull.ensures.steps so_far.0 so_far.1);
+          within_all g.T.LineHandler.most m begins _ _ _ _ _ so_far.0 _ so_far.3.0 _ _ so_far.3.1 _ _ read (c.finish-in-Ok-eq0-pull.ensures.steps so_far.0 so_far.1);
     }
 
 pub returns-in-Ok-pull : goal.returns-in-Ok-pull
@@ -142,12 +142,12 @@ returns-in-Ok-pull g c =
     record {
       ends = λ m begins means.
           let so_far = c.loop-taken.invariant.0 m begins means in
-          ends_too_long m (script_did (g.S.Source.input c.args.script.now) (g.S.Source.input c.pull-2.new.self) (g.K.Sink.output c.args.out.now) (g.K.Sink.output c.loop-taken.out)) (g.S.Source.input c.loop-taken.script) (g.K.Sink.output c.loop-taken.out) _ so_far.0 _ so_far.2.0 _ refl c.in-Ok-pull.ensures.bytes.0 (omega arith) (omega (arith, c.in-Ok-pull.ensures.bound.1));
+          ends_too_long m (script_did (g.S.Source.input c.args.script.now) (g.S.Source.input c.pull-2.new.self) (g.K.Sink.output c.args.out.now) (g.K.Sink.output c.loop-taken.out)) (g.S.Source.input c.loop-taken.script) (g.K.Sink.output c.loop-taken.out) _ so_far.0 _ so_far.3.0 _ refl c.in-Ok-pull.ensures.bytes.0 (omega arith) (omega (arith, c.in-Ok-pull.ensures.bound.1));
       leaves = λ m begins means. tt;
       same_rules = c.loop-taken.invariant.4;
       steps = λ m begins means.
           let so_far = c.loop-taken.invariant.0 m begins means in
-          within_so_far g.T.LineHandler.most m begins _ _ _ _ _ so_far.0 _ so_far.2.0 _ _ so_far.2.1 _ _ c.in-Ok-pull.ensures.bytes.0;
+          within_so_far g.T.LineHandler.most m begins _ _ _ _ _ so_far.0 _ so_far.3.0 _ _ so_far.3.1 _ _ c.in-Ok-pull.ensures.bytes.0;
     }
 
 pub returns-in-Err-pull : goal.returns-in-Err-pull
@@ -155,10 +155,10 @@ returns-in-Err-pull g c =
     record {
       ends = λ m begins means.
           let so_far = c.loop-taken.invariant.0 m begins means in
-          ends_unread m (script_did (g.S.Source.input c.args.script.now) (g.S.Source.input c.pull-2.new.self) (g.K.Sink.output c.args.out.now) (g.K.Sink.output c.loop-taken.out)) (g.S.Source.input c.loop-taken.script) (g.K.Sink.output c.loop-taken.out) _ so_far.0 _ so_far.2.0 c.loop-taken.invariant.1 refl c.in-Err-pull.ensures.bytes (omega (arith, c.loop-taken.invariant.3, c.in-Err-pull.ensures.cause.failed));
+          ends_unread m (script_did (g.S.Source.input c.args.script.now) (g.S.Source.input c.pull-2.new.self) (g.K.Sink.output c.args.out.now) (g.K.Sink.output c.loop-taken.out)) (g.S.Source.input c.loop-taken.script) (g.K.Sink.output c.loop-taken.out) _ so_far.0 _ so_far.3.0 c.loop-taken.invariant.1 refl c.in-Err-pull.ensures.bytes (omega (arith, c.loop-taken.invariant.3, c.in-Err-pull.ensures.cause.failed));
       leaves = λ m begins means. tt;
       same_rules = c.loop-taken.invariant.4;
       steps = λ m begins means.
           let so_far = c.loop-taken.invariant.0 m begins means in
-          within_kept g.T.LineHandler.most m begins _ _ _ _ _ so_far.0 _ so_far.2.0 _ _ so_far.2.1 _ c.in-Err-pull.ensures.bytes;
+          within_kept g.T.LineHandler.most m begins _ _ _ _ _ so_far.0 _ so_far.3.0 _ _ so_far.3.1 _ c.in-Err-pull.ensures.bytes;
     }

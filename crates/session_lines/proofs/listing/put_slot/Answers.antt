@@ -1,5 +1,4 @@
-use Rattle.std.proofs.Common.{length, sym, ap, subst, arith}
-use Rattle.std.proofs.Common.{length-append}
+use Rattle.std.proofs.Common.{length, sym, ap, subst, arith, length-append}
 use Rattle.dictionary.specs.Accepted.{Kept, accepted, names_of}
 use Rattle.dictionary.specs.SlotText.{IsSlot, slot_text}
 use Rattle.dictionary.proofs.SlotTextLaws.{slot_short, standing_slot}
@@ -10,9 +9,9 @@ print_slot-requires-clause-slot g c =
     let slot_is = standing_slot (accepted c.args.session.now.dict).tree c.args.session.now.timeline.now c.answers-fit.ensures.fit.well c.answers-fit.ensures.fit.from_one c.args.slot c.requires in
     subst (λ (k : Kept). IsSlot (accepted k).tree c.args.slot) (sym c.dict-dict.ensures) slot_is
 
-pub push-requires : goal.push-requires
-push-requires g c =
+pub put_line-requires : goal.put_line-requires
+put_line-requires g c =
     let k = c.dict-dict.result.now in
     let slot_is = standing_slot (accepted c.args.session.now.dict).tree c.args.session.now.timeline.now c.answers-fit.ensures.fit.well c.answers-fit.ensures.fit.from_one c.args.slot c.requires in
     let short = slot_short (names_of k.checks) (accepted k) c.source-accepted.ensures.is_accepted c.args.slot (subst (λ (k : Kept). IsSlot (accepted k).tree c.args.slot) (sym c.dict-dict.ensures) slot_is) in
-    omega (arith, ap length c.print_slot.ensures, length-append c.new-line.result (slot_text (accepted k).tree c.args.slot), short, ap length c.new-line.ensures)
+    omega (arith, ap length c.print_slot.ensures, length-append c.new-path.result (slot_text (accepted k).tree c.args.slot), short, ap length c.new-path.ensures)

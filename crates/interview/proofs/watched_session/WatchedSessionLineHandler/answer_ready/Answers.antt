@@ -5,8 +5,9 @@ use Rattle.interview.proofs.watched_session.WatchedSessionLineHandler.answer_rea
 
 pub returns : goal.returns
 returns g c = record {
-  output = session_output _ c.args.self.now.session c.answer_ready.new.session c.args.self.now.watches c.answer_ready.new.watches (g.K.Sink.output c.args.out.now) (g.K.Sink.output c.answer_ready.new.out) _ c.answer_ready.result c.answer_ready.ensures.answered;
+  output = session_output _ c.args.self.now.session c.answer_ready.new.session c.args.self.now.watches c.answer_ready.new.watches (g.K.Sink.output c.args.out.now) (g.K.Sink.output c.answer_ready.new.out) c.answer_ready.ensures.dict _ c.answer_ready.result c.answer_ready.ensures.answered c.answer_ready.ensures.kept;
   same_rules = ap rules c.answer_ready.ensures.dict;
+  few = c.answer_ready.ensures.few;
   later = c.answer_ready.ensures.later;
   steps = steps_output _ _ _ _ _ c.answer_ready.ensures.steps;
 }
