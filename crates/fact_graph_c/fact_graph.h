@@ -124,9 +124,9 @@ static inline const uint8_t *fact_graph_bytes(const void *bytes) {
  * the first fault, with all of it in `fault`, and `graph` as it was. */
 uint32_t fact_graph_open(const uint8_t *dictionary, size_t dictionary_size, fact_graph *graph, fact_graph_fault *fault);
 
-/* Opens a session over a dictionary that comes with the library, with no answers and no text. `words` are `year 2023` (filing
- * status, dependents and standard deduction of that tax year), `year 2024` (the same of that year) or `income 2023` (of 2023, and
- * the rate schedule and the child tax credit behind it); else the fault is FACT_GRAPH_FAULT_UNKNOWN. Otherwise as
+/* Opens a session over a dictionary that comes with the library, with no answers and no text. `words` are `year` and a tax year
+ * that has tables, as `year 2023` (filing status, dependents and standard deduction), or `income` and one, as `income 2023` (the
+ * same, and the rate schedule and the child tax credit behind it); else the fault is FACT_GRAPH_FAULT_UNKNOWN. Otherwise as
  * `fact_graph_open`. */
 uint32_t fact_graph_open_built_in(const uint8_t *words, size_t words_size, fact_graph *graph, fact_graph_fault *fault);
 

@@ -18,17 +18,19 @@ use Rattle.fact_graph_c.specs.Asking.{text_of_found, text_of_get}
 use Rattle.dictionary.specs.Accepted.{Kept, Named, accepted}
 use Rattle.dictionary.specs.Checks.{has_check}
 use Rattle.dictionary.specs.Fits.{AnswersFit}
-use Rattle.graph_session.specs.SessionView.{SessionView, session_state}
+use Rattle.graph_session.specs.SessionView.{SessionState, SessionView, session_state}
 use Rattle.fact_watch.specs.Watching.{Watching}
 use Rattle.session_lines.specs.Answering.{line_state_of}
 use Rattle.session_lines.specs.Stepping.{LineState, State, Step, open_at, replies, state_after, step, step_answered, step_command, step_heard}
 use Rattle.fact_graph_c.specs.Answering.{Stays, TakesStep, line_given, rules_of, said, state_of}
 use Rattle.fact_graph_c.specs.Checks.{HasStandardChecks}
+use Rattle.fact_graph_c.specs.Consulting.{Serves}
 use Rattle.fact_graph_c.specs.Room.{room_for}
 use Rattle.fact_graph_c.specs.Sound.{IsSound}
 use Rattle.session_lines.specs.Tables.{standard_checks, standard_relations}
 use Rattle.fact_graph_c.specs.declared.engine.Engine.{Engine}
 use Rattle.fact_graph_c.specs.declared.text.Text.{Text}
+use Rattle.fact_graph_c.proofs.ConsultingLaws.{alike, by_standard, short_names, unwatched}
 use Rattle.fact_graph_c.proofs.RoomLaws.{fills_still}
 use Rattle.fact_graph_c.proofs.TextLaws.{put_behind, put_whole, room_stays}
 
@@ -52,25 +54,52 @@ given_whole line short =
     ap (λ (b : Bool). if b then whole line else long) within
 
 module _ (old new : Engine) (line : List ℕ) where
-  -- the reply to the line was taken whole, where nothing was said before
-  pub takes_step : (over : Bool) (relations : List Named) (lines : List ScriptLine)
-      → relations ≡ standard_relations → lines ≡ line_given line ∷ []
-      → old.over ≡ false → said old ≡ [] → new.over ≡ over
-      → Sent (Some (old.text.room ∷ said old)) (Some (new.text.room ∷ said new)) (replies (rules_of old) (open_at (line_state_of old.session relations old.watches)) lines) []
-      → state_after (rules_of old) (open_at (line_state_of old.session relations old.watches)) lines ≡ record { standing = line_state_of new.session relations new.watches; over = over }
+  -- where the script stands by these relations
+  abbrev here : List Named → State
+  here relations = open_at (line_state_of old.session relations old.watches)
+
+  -- the step of the line from there
+  abbrev made : State → Step
+  made st = step (rules_of old) st (line_given line)
+
+  -- the reply from such a place was taken whole, and a step from it is the line's but for the relations
+  behind : (over : Bool) (relations : List Named) (lines : List ScriptLine) (st : State)
+      → here relations ≡ st → (made st).text ≡ (made (state_of old)).text → by_standard (made st).state ≡ (made (state_of old)).state
+      → lines ≡ line_given line ∷ [] → said old ≡ [] → new.over ≡ over
+      → Sent (Some (old.text.room ∷ said old)) (Some (new.text.room ∷ said new)) (replies (rules_of old) (here relations) lines) []
+      → state_after (rules_of old) (here relations) lines ≡ record { standing = line_state_of new.session relations new.watches; over = over }
       → TakesStep old new line over
-  takes_step over relations lines standard given goes_on empty ends sent left =
-      let r = rules_of old in
-      let here = open_at (line_state_of old.session relations old.watches) in
-      let stands : here ≡ state_of old = λ i. record { standing = line_state_of old.session (standard i) old.watches; over = sym goes_on i } in
-      let text : replies r here lines ≡ replies r (state_of old) (line_given line ∷ []) = λ i. replies r (stands i) (given i) in
-      let state : state_after r here lines ≡ (step r (state_of old) (line_given line)).state = λ i. state_after r (stands i) (given i) in
-      let now : state_of new ≡ record { standing = line_state_of new.session relations new.watches; over = over } = λ i. record { standing = line_state_of new.session (sym standard i) new.watches; over = ends i } in
+  behind over relations lines st stands text state given empty ends sent left =
+      let text_here : replies (rules_of old) (here relations) lines ≡ replies (rules_of old) st (line_given line ∷ []) = λ i. replies (rules_of old) (stands i) (given i) in
+      let state_here : state_after (rules_of old) (here relations) lines ≡ (made st).state = λ i. state_after (rules_of old) (stands i) (given i) in
+      let now : state_of new ≡ by_standard (record { standing = line_state_of new.session relations new.watches; over = over }) = λ i. record { standing = line_state_of new.session standard_relations new.watches; over = ends i } in
       record {
-        text = put_whole old.text.room new.text.room (said old) (said new) (replies r here lines) sent ∙ ap (λ (t : List ℕ). t ++ replies r here lines) empty ∙ text ∙ append-nil (step r (state_of old) (line_given line)).text;
-        state = now ∙ sym left ∙ state;
+        text = put_whole old.text.room new.text.room (said old) (said new) (replies (rules_of old) (here relations) lines) sent ∙ ap (λ (t : List ℕ). t ++ replies (rules_of old) (here relations) lines) empty
+            ∙ text_here ∙ append-nil (made st).text ∙ text;
+        state = now ∙ ap by_standard (sym left ∙ state_here) ∙ state;
         ends = ends;
       }
+
+  -- the reply to the line was taken whole, where nothing was said before
+  pub takes_step : (over : Bool) (relations : List Named) (lines : List ScriptLine)
+      → Serves relations old.watches.pairs line → lines ≡ line_given line ∷ []
+      → old.over ≡ false → said old ≡ [] → new.over ≡ over
+      → Sent (Some (old.text.room ∷ said old)) (Some (new.text.room ∷ said new)) (replies (rules_of old) (here relations) lines) []
+      → state_after (rules_of old) (here relations) lines ≡ record { standing = line_state_of new.session relations new.watches; over = over }
+      → TakesStep old new line over
+  takes_step over relations lines (inl standard) given goes_on empty ends sent left =
+      let stands : here relations ≡ state_of old = λ i. record { standing = line_state_of old.session (standard i) old.watches; over = sym goes_on i } in
+      let state_here : state_after (rules_of old) (here relations) lines ≡ (made (state_of old)).state = λ i. state_after (rules_of old) (stands i) (given i) in
+      let at_standard : by_standard (record { standing = line_state_of new.session relations new.watches; over = over }) ≡ record { standing = line_state_of new.session relations new.watches; over = over } =
+      λ i. record { standing = line_state_of new.session (sym standard i) new.watches; over = over } in
+      behind over relations lines (state_of old) stands refl (ap by_standard (sym state_here ∙ left) ∙ at_standard ∙ sym left ∙ state_here) given empty ends sent left
+  takes_step over relations lines (inr none) given goes_on empty ends sent left =
+      let c : SessionState = session_state old.session in
+      let stands : here relations ≡ open_at (unwatched c []) = λ i. record { standing = record { session_state = c; relations = none.0 i; watched = none.1.0 i }; over = false } in
+      let standard : state_of old ≡ open_at (unwatched c standard_relations) = λ i. record { standing = record { session_state = c; relations = standard_relations; watched = none.1.0 i }; over = goes_on i } in
+      let same = alike (rules_of old) c line none.1.1 in
+      behind over relations lines (open_at (unwatched c [])) stands
+      (sym same.0 ∙ sym (ap (λ (st : State). (made st).text) standard)) (sym same.1 ∙ sym (ap (λ (st : State). (made st).state) standard)) given empty ends sent left
 
   -- nothing follows `quit`
   pub stays_over : old.over ≡ true → said new ≡ [] → new.session ≡ old.session → new.watches ≡ old.watches → new.over ≡ true → TakesStep old new line true
@@ -88,20 +117,17 @@ module _ (old new : Engine) (line : List ℕ) where
 -- ---- no memory
 
 -- the script stands where it stood
-pub stays : (old new : Engine) (relations : List Named) → relations ≡ standard_relations → said new ≡ [] → line_state_of new.session relations new.watches ≡ line_state_of old.session relations old.watches → new.over ≡ old.over → Stays old new
-stays old new relations standard empty kept over =
-    let stands : line_state_of new.session standard_relations new.watches ≡ line_state_of old.session standard_relations old.watches =
-    subst (λ (ns : List Named). line_state_of new.session ns new.watches ≡ line_state_of old.session ns old.watches) standard kept in
-    record { text = empty; state = λ i. record { standing = stands i; over = over i } }
+pub stays : (old new : Engine) (relations : List Named) → said new ≡ [] → line_state_of new.session relations new.watches ≡ line_state_of old.session relations old.watches → new.over ≡ old.over → Stays old new
+stays old new relations empty kept over = record { text = empty; state = λ i. record { standing = record (kept i) { relations = standard_relations }; over = over i } }
 
 -- the text was longer than the room for it, so that its step changes nothing
 pub stays_full : (old : Engine) (line : List ℕ) (session : SessionView) (watches : Watching) (text : Text) (relations : List Named) (lines : List ScriptLine) (rest : List ℕ)
     → IsSound old → room_for (length old.watches.pairs) ≤ old.text.room → AnswersFit (accepted session.dict).tree session.timeline.now → session.dict ≡ old.session.dict
-    → relations ≡ standard_relations → lines ≡ line_given line ∷ [] → said old ≡ [] → Rose old.text.faults text.faults
+    → Serves relations old.watches.pairs line → lines ≡ line_given line ∷ [] → said old ≡ [] → Rose old.text.faults text.faults
     → Sent (Some (old.text.room ∷ said old)) (Some (text.room ∷ text.bytes.items)) (replies (rules_of old) (open_at (line_state_of old.session relations old.watches)) lines) rest
     → state_after (rules_of old) (open_at (line_state_of old.session relations old.watches)) lines ≡ open_at (line_state_of session relations watches)
     → line_state_of session relations watches ≡ line_state_of old.session relations old.watches
-stays_full old line session watches text relations lines rest sound roomy fit same standard given empty rose sent left =
+stays_full old line session watches text relations lines rest sound roomy fit same serves given empty rose sent left =
     let r = rules_of old in
     let here : LineState = line_state_of old.session relations old.watches in
     let made : Step = step r (open_at here) (line_given line) in
@@ -110,7 +136,7 @@ stays_full old line session watches text relations lines rest sound roomy fit sa
     let filled : text.room ≤ length text.bytes.items = text.full (omega (arith, rose)) in
     let roomy_still : room_for (length old.watches.pairs) ≤ text.room = subst (λ (n : ℕ). room_for (length old.watches.pairs) ≤ n) (sym (room_stays _ _ _ _ _ rest sent)) roomy in
     let long_text : text.room ≤ length made.text = omega (arith, filled, ap length (put_behind _ _ _ _ _ rest sent), length-append (said old) sent.front, ap length empty, ap length sent.split, length-append sent.front rest, ap length whole_text) in
-    fills_still r here (line_state_of session relations watches) sound.is_accepted sound.fit.well fits standard text.room roomy_still (line_given line) (ap (state_after r (open_at here)) (sym given) ∙ left) long_text
+    fills_still r here (line_state_of session relations watches) sound.is_accepted sound.fit.well fits (short_names relations old.watches.pairs line serves) text.room roomy_still (line_given line) (ap (state_after r (open_at here)) (sym given) ∙ left) long_text
 
 -- ---- `get`
 

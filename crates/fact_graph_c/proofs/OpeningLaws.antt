@@ -2,8 +2,7 @@
 use Rattle.std.proofs.Common.{Box, ◌≡◌, ℕ, true, false, List, [], Result, Ok, Err, IfErr, IfOk, refl, sym, ap, subst}
 use Rattle.std.specs.declared.alloc.Global.{Global}
 use Rattle.answers.specs.Answered.{Answered, start}
-use Rattle.dictionary.specs.Accepted.{Kept, names_of}
-use Rattle.dictionary.specs.Faults.{IsFault, Refuses}
+use Rattle.dictionary.specs.Accepted.{Kept}
 use Rattle.dictionary.specs.Fits.{AnswersFit}
 use Rattle.dictionary.specs.declared.fault.DictFault.TheVariants.{NoMemory}
 use Rattle.graph_session.specs.Rules.{Rules, rules, tree_of}
@@ -17,11 +16,11 @@ use Rattle.save_file.specs.declared.fault.LoadFault.{LoadFault}
 use Rattle.save_file.specs.declared.fault.LoadFault.TheVariants as loads
 use Rattle.fact_graph_c.specs.Answering.{said}
 use Rattle.fact_graph_c.specs.DroppedLines.{dropped_lines_text}
-use Rattle.fact_graph_c.specs.Openings.{Accepts, Brings, CarriesOver, IsBadText, IsBegun, IsFaultOfText, LoadsOver, NotBrought, NotOpened, NotResumed, Opens, OpensBuiltIn, RefusesOver, ResumesOver}
-use Rattle.session_lines.specs.Tables.{standard_checks, standard_relations}
+use Rattle.fact_graph_c.specs.Openings.{Brings, CarriesOver, IsBadText, IsBegun, IsFaultOfText, LoadsOver, NotBrought, OpensBuiltIn, RefusesOver, ResumesOver}
+use Rattle.session_lines.specs.Tables.{standard_relations}
 use Rattle.fact_graph_c.specs.declared.engine.Engine.{Engine}
 use Rattle.fact_graph_c.specs.declared.fault.NotBegun.{NotBegun}
-use Rattle.fact_graph_c.specs.declared.fault.NotBegun.TheVariants.{Dictionary, Saved, Unknown}
+use Rattle.fact_graph_c.specs.declared.fault.NotBegun.TheVariants.{Dictionary}
 
 -- ---- begun
 
@@ -49,11 +48,6 @@ begins r a front e (Err why) begun same = tt
 pub begins_with : (r : Rules) (a : Answered) (front text : List ℕ) (result : Result Boxed NotBegun) → front ≡ text → IfOk result (λ x. IsBegun r a front x.value) → IfOk result (λ x. IsBegun r a text x.value)
 begins_with r a front text result same begun = subst (λ (t : List ℕ). IfOk result (λ x. IsBegun r a t x.value)) same begun
 
-pub opens : (bytes : List ℕ) (r : Rules) (a : Answered) (result : Result Boxed NotBegun) → Accepts bytes r → a ≡ start → Begins r a [] result
-    → IfOk result (λ x. Opens bytes x.value) × IfErr result (NotOpened bytes)
-opens bytes r a (Ok x) accepts none begins = ((r, accepts, subst (λ (b : Answered). IsBegun r b [] x.value) none begins.0), tt)
-opens bytes r a (Err why) accepts none begins = (tt, subst (NotOpened bytes) (sym begins.1) tt)
-
 -- a text that is loaded
 pub loads_over : (IsText : List ℕ → Type 0) (r : Rules) (text : List ℕ) (a : Answered) (result : Result Boxed NotBegun) → AnswersFit (tree_of r) a × (text ≡ saved (tree_of r) a) → Begins r a [] result
     → IfOk result (λ x. LoadsOver r text x.value) × IfErr result (RefusesOver IsText text)
@@ -72,15 +66,6 @@ pub resumes_over : (r : Rules) (text : List ℕ) (a : Answered) (others : List D
 resumes_over r text a others front resume (Ok x) is begun = (a, (others, (resume, subst (λ (t : List ℕ). IsBegun r a t x.value) is begun)))
 resumes_over r text a others front resume (Err why) is begun = tt
 
--- over an accepted dictionary
-pub resumes : (Over : Rules → List ℕ → Engine → Type 0) (IsText : Rules → List ℕ → Type 0) (bytes text : List ℕ) (r : Rules) (result : Result Boxed NotBegun) → Accepts bytes r
-    → IfOk result (λ x. Over r text x.value) × IfErr result (RefusesOver (IsText r) text)
-    → IfOk result (λ x. (s : Rules) × Accepts bytes s × Over s text x.value) × IfErr result (NotResumed IsText bytes text)
-resumes Over IsText bytes text r (Ok x) accepts is = ((r, accepts, is.0), tt)
-resumes Over IsText bytes text r (Err (Dictionary fault)) accepts is = (tt, subst (Refuses (IsFault bytes (names_of standard_checks))) (sym is.1) tt)
-resumes Over IsText bytes text r (Err (Saved line)) accepts is = (tt, (r, accepts, is.1))
-resumes Over IsText bytes text r (Err Unknown) accepts is = (tt, is.1)
-
 -- ---- or not
 
 -- a fault of a saved text
@@ -92,12 +77,6 @@ refuses_over IsText text loads.NoMemory why bad is = subst (RefusesOver IsText t
 pub memory_refuses : {X : Type 0} (IsText : List ℕ → Type 0) (text : List ℕ) (result : Result X NotBegun) → IfErr result (λ why. why ≡ Dictionary NoMemory) → IfErr result (RefusesOver IsText text)
 memory_refuses IsText text (Ok x) memory = tt
 memory_refuses IsText text (Err why) memory = subst (RefusesOver IsText text) (sym memory) refl
-
--- a dictionary that isn't accepted
-pub not_resumed : (IsText : Rules → List ℕ → Type 0) (bytes text : List ℕ) (why : NotBegun) → NotOpened bytes why → NotResumed IsText bytes text why
-not_resumed IsText bytes text (Dictionary fault) refused = refused
-not_resumed IsText bytes text (Saved line) refused = absurd refused
-not_resumed IsText bytes text Unknown refused = absurd refused
 
 -- ---- over what comes with the library
 

@@ -33,7 +33,8 @@ use Rattle.session_lines.proofs.PrintLaws.{stands_with}
 use Rattle.fact_graph_c.specs.Room.{room_for}
 use Rattle.session_lines.specs.Tables.{standard_relations}
 
-standard_short : (place : ℕ) → length (name_at standard_relations place) ≤ 9
+-- the names of the standard relations are short
+pub standard_short : (place : ℕ) → length (name_at standard_relations place) ≤ 9
 standard_short zero = omega arith
 standard_short (suc zero) = omega arith
 standard_short (suc (suc zero)) = omega arith
@@ -42,7 +43,7 @@ standard_short (suc (suc (suc (suc place)))) = omega arith
 
 -- what the session goes by, and where it stands before a step and behind it
 module _ (r : Rules) (s now : LineState) (is_accepted : IsAccepted (names_of r.checks) r.accepted) (well : WellFormed s.session_state.timeline.now) (fit : AnswersFit (tree_of r) now.session_state.timeline.now)
-    (standard : s.relations ≡ standard_relations) (room : ℕ) (roomy : room_for (length s.watched) ≤ room) where
+    (named_short : (place : ℕ) → length (name_at s.relations place) ≤ 9) (room : ℕ) (roomy : room_for (length s.watched) ≤ room) where
   -- ---- the lines of the watches
 
   abbrev results : Results
@@ -53,9 +54,6 @@ module _ (r : Rules) (s now : LineState) (is_accepted : IsAccepted (names_of r.c
 
   abbrev says : Pair → Bool
   says p = slot_says (code_at (λ (n : Named). n.1) s.relations p.0) (results p.1) (results_now p.1)
-
-  named_short : (place : ℕ) → length (name_at s.relations place) ≤ 9
-  named_short place = subst (λ (ns : List Named). length (name_at ns place) ≤ 9) (sym standard) (standard_short place)
 
   -- a slot that has a result stands, and its path is short
   slot_said : (p : Pair) → says p ≡ true → length (slot_text (tree_of r) p.1) ≤ 140

@@ -2,6 +2,7 @@ pub mod Answering
 pub mod Asking
 pub mod Calls
 pub mod Checks
+pub mod Consulting
 pub mod Faults
 pub mod Held
 pub mod Openings
@@ -12,4 +13,5 @@ pub mod Room
 pub mod Saving
 pub mod Saying
 pub mod Sound
+pub mod Starts
 pub mod DroppedLines

@@ -3,12 +3,15 @@ ghost use Rattle.std.specs.Prelude.{◌≡◌, ◌+◌, ◌*◌, ◌-◌, ◌<�
 ghost use Rattle.script_lines.specs.Lines.{ready_lines};
 ghost use Rattle.text_checks.specs.Tables.{named_checks};
 ghost use Rattle.fact_watch.specs.Tables.{named_relations};
-ghost use Rattle.fact_graph_c.specs.Answering.{Answers, line_given, said};
+ghost use Rattle.graph_session.specs.Refusals.{SameChecks};
+ghost use Rattle.fact_graph_c.specs.Answering.{Answers, line_given, rules_of, said};
+ghost use Rattle.fact_graph_c.specs.Consulting.{Serves};
 ghost use Rattle.fact_graph_c.specs.Room.{room_for};
 ghost use Rattle.fact_graph_c.specs.Sound.{IsSound};
 ghost use Rattle.session_lines.specs.Tables.{standard_checks, standard_relations};
 
 use crate::asking::{answer_get, asked_path};
+use crate::consulting::asks_no_relation;
 use crate::engine::Engine;
 use crate::outcome::Outcome;
 use fact_values::NoMemory;
@@ -65,10 +68,8 @@ fn answer_open<L: Ledger>(
     line: &[u8],
     steps: &mut Steps<L>,
 ) -> Outcome
-    requires checks { named_checks checks.now
-        ≡ standard_checks }
-    requires relations { named_relations relations.now
-        ≡ standard_relations }
+    requires checks { SameChecks (rules_of engine.old) (named_checks checks.now) }
+    requires relations { Serves (named_relations relations.now) engine.old.watches.pairs line.now }
     requires goes_on { engine.old.over ≡ false }
     requires empty { said engine.old ≡ [] }
     requires roomy { room_for (length engine.old.watches.pairs) ≤ engine.old.text.room }
@@ -118,10 +119,8 @@ fn answer_uncounted<L: Ledger>(
     requires name { blank.name ≡ L.name }
     requires parts { blank.parts ≡ L.parts }
     requires some { 0 < blank.parts }
-    requires checks { named_checks checks.now
-        ≡ standard_checks }
-    requires relations { named_relations relations.now
-        ≡ standard_relations }
+    requires checks { SameChecks (rules_of engine.old) (named_checks checks.now) }
+    requires relations { Serves (named_relations relations.now) engine.old.watches.pairs line.now }
     requires goes_on { engine.old.over ≡ false }
     requires empty { said engine.old ≡ [] }
     requires roomy { room_for (length engine.old.watches.pairs) ≤ engine.old.text.room }
@@ -141,10 +140,8 @@ fn answer_by(
     relations: &WatchTable,
     line: &[u8],
 ) -> Outcome
-    requires checks { named_checks checks.now
-        ≡ standard_checks }
-    requires relations { named_relations relations.now
-        ≡ standard_relations }
+    requires checks { SameChecks (rules_of engine.old) (named_checks checks.now) }
+    requires relations { Serves (named_relations relations.now) engine.old.watches.pairs line.now }
     ensures answered { Answers engine.old engine.new line.now result }
     ensures dict { engine.new.session.dict ≡ engine.old.session.dict }
 {
@@ -163,31 +160,36 @@ fn answer_by(
     }
 }
 
-// Makes the table of relations, and answers a line.
+// Answers a line by these checks, and by the relations that it asks.
 fn try_answer_by(
     alloc: Global,
     engine: &mut Engine,
     checks: &CheckTable,
     line: &[u8],
 ) -> Result<Outcome, AllocError>
-    requires { named_checks checks.now
-        ≡ standard_checks }
+    requires { SameChecks (rules_of engine.old) (named_checks checks.now) }
     ensures answered { IfOk result (Answers engine.old engine.new line.now) }
     ensures dict { engine.new.session.dict ≡ engine.old.session.dict }
     ensures unchanged { OnErr result (engine.new ≡ engine.old) }
 {
     let mut relations = WatchTable::new(alloc);
+    if asks_no_relation(&engine.watches, line) {
+        return Ok(answer_by(alloc, engine, checks, &relations, line));
+    }
     standard_relations!(alloc, relations);
     Ok(answer_by(alloc, engine, checks, &relations, line))
 }
 
-// Makes the table of checks, and answers a line.
+// Answers a line by the checks that the dictionary names, and by the relations that the line asks.
 fn try_answer(alloc: Global, engine: &mut Engine, line: &[u8]) -> Result<Outcome, AllocError>
     ensures answered { IfOk result (Answers engine.old engine.new line.now) }
     ensures dict { engine.new.session.dict ≡ engine.old.session.dict }
     ensures unchanged { OnErr result (engine.new ≡ engine.old) }
 {
     let mut checks = CheckTable::new(alloc);
+    if engine.session.dict().same_checks(&checks) {
+        return try_answer_by(alloc, engine, &checks, line);
+    }
     standard_checks!(alloc, checks);
     try_answer_by(alloc, engine, &checks, line)
 }

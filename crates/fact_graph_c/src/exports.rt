@@ -15,13 +15,13 @@ use crate::bringing::open_built_in;
 use crate::engine::Engine;
 use crate::fault::{Fault, NotBegun, fault_of, no_fault};
 use crate::handle::Handle;
-use crate::opening::{open, open_carried, open_loaded};
 use crate::outcome::{Outcome, number_of};
 use crate::printing::{say_dictionary, say_facts};
 use crate::reading::say_reads;
-use crate::resuming::open_resumed;
 use crate::saving::save_answers;
 use crate::session_slot::{SessionSlot, keep};
+use crate::start::Start;
+use crate::starting::open;
 use crate::text::Text;
 use std::alloc::Global;
 
@@ -77,7 +77,7 @@ pub extern "C" fn fact_graph_open(
     ensures begun { BeginsCall (Opens dictionary.now) (NotOpened dictionary.now) graph.old graph.new fault.new }
     ensures number { result ≡ fault.new.number }
 {
-    hand_out(open(alloc, dictionary), graph, fault);
+    hand_out(open(alloc, dictionary, Start::Fresh, &[]), graph, fault);
     fault.number
 }
 
@@ -109,7 +109,7 @@ pub extern "C" fn fact_graph_load(
         fault.new }
     ensures number { result ≡ fault.new.number }
 {
-    hand_out(open_loaded(alloc, dictionary, saved), graph, fault);
+    hand_out(open(alloc, dictionary, Start::Loaded, saved), graph, fault);
     fault.number
 }
 
@@ -127,7 +127,7 @@ pub extern "C" fn fact_graph_carry(
         (λ why. NotCarried dictionary.now saved.now why × (text_size.new ≡ 0)) graph.old graph.new fault.new }
     ensures number { result ≡ fault.new.number }
 {
-    let begun = open_carried(alloc, dictionary, saved);
+    let begun = open(alloc, dictionary, Start::Carried, saved);
     *text_size = size_of_text(&begun);
     hand_out(begun, graph, fault);
     fault.number
@@ -147,7 +147,7 @@ pub extern "C" fn fact_graph_resume(
         (λ why. NotCarried dictionary.now saved.now why × (text_size.new ≡ 0)) graph.old graph.new fault.new }
     ensures number { result ≡ fault.new.number }
 {
-    let begun = open_resumed(alloc, dictionary, saved);
+    let begun = open(alloc, dictionary, Start::Resumed, saved);
     *text_size = size_of_text(&begun);
     hand_out(begun, graph, fault);
     fault.number

@@ -13,7 +13,7 @@ ghost use Rattle.save_file.specs.Loading.{IsSavedText};
 ghost use Rattle.fact_watch.specs.Watching.{nothing_watched};
 ghost use Rattle.fact_graph_c.specs.Answering.{said};
 ghost use Rattle.fact_graph_c.specs.Checks.{HasStandardChecks};
-ghost use Rattle.fact_graph_c.specs.Openings.{Accepts, Carries, CarriesOver, IsBegun, IsFaultOfText, Loads, LoadsOver, NotCarried, NotLoaded, NotOpened, Opens, RefusesOver, saved_limit};
+ghost use Rattle.fact_graph_c.specs.Openings.{Accepts, CarriesOver, IsBegun, IsFaultOfText, LoadsOver, NotOpened, RefusesOver, saved_limit};
 ghost use Rattle.session_lines.specs.Tables.{standard_checks};
 ghost use Rattle.fact_graph_c.specs.declared.fault.NotBegun.TheVariants.{Dictionary as OfDictionary};
 
@@ -28,8 +28,7 @@ use fg_io::Failed;
 use graph_session::Session;
 use recalc::Recalc;
 use save_file::{Carried, LoadFault, carry, load, put_dropped};
-use session_lines::standard_checks;
-use std::alloc::{AllocError, Global};
+use std::alloc::Global;
 use text_checks::CheckTable;
 
 /// The most bytes of a saved text.
@@ -127,8 +126,8 @@ pub fn not_resumed(fault: LoadFault) -> NotBegun
     }
 }
 
-// A session over the dictionary from the answers of its own saved text.
-fn begin_loaded(alloc: Global, dict: Dictionary, saved: &[u8]) -> Result<Box<Engine>, NotBegun>
+/// A session over the dictionary from the answers of its own saved text.
+pub fn begin_loaded(alloc: Global, dict: Dictionary, saved: &[u8]) -> Result<Box<Engine>, NotBegun>
     requires { dict.checks ≡ standard_checks }
     ensures loaded { IfOk result (λ e. LoadsOver (rules dict) saved.now e.value) }
     ensures refused { IfErr result (RefusesOver (IsSavedText (tree_of (rules dict))) saved.now) }
@@ -174,8 +173,8 @@ fn begin_from(
     }
 }
 
-// A session over the dictionary from what may stand of a saved text.
-fn begin_carried(
+/// A session over the dictionary from what may stand of a saved text. It says which lines are dropped.
+pub fn begin_carried(
     alloc: Global,
     dict: Dictionary,
     checks: &CheckTable,
@@ -193,119 +192,5 @@ fn begin_carried(
     match carry(alloc, &dict, checks, saved) {
         Ok(carried) => begin_from(alloc, dict, saved, carried),
         Err(fault) => Err(not_resumed(fault)),
-    }
-}
-
-fn open_by(alloc: Global, checks: &CheckTable, bytes: &[u8]) -> Result<Box<Engine>, NotBegun>
-    requires { named_checks checks.now
-        ≡ standard_checks }
-    ensures opened { IfOk result (λ e. Opens bytes.now e.value) }
-    ensures refused { IfErr result (NotOpened bytes.now) }
-{
-    match accepted_dictionary(alloc, checks, bytes) {
-        Ok(dict) => begin_silent(alloc, dict, Answers::new(alloc)),
-        Err(why) => Err(why),
-    }
-}
-
-fn load_by(
-    alloc: Global,
-    checks: &CheckTable,
-    bytes: &[u8],
-    saved: &[u8],
-) -> Result<Box<Engine>, NotBegun>
-    requires { named_checks checks.now
-        ≡ standard_checks }
-    ensures loaded { IfOk result (λ e. Loads bytes.now saved.now e.value) }
-    ensures refused { IfErr result (NotLoaded bytes.now saved.now) }
-{
-    match accepted_dictionary(alloc, checks, bytes) {
-        Ok(dict) => begin_loaded(alloc, dict, saved),
-        Err(why) => Err(why),
-    }
-}
-
-fn carry_by(
-    alloc: Global,
-    checks: &CheckTable,
-    bytes: &[u8],
-    saved: &[u8],
-) -> Result<Box<Engine>, NotBegun>
-    requires { named_checks checks.now
-        ≡ standard_checks }
-    ensures carried { IfOk result (λ e. Carries bytes.now saved.now e.value) }
-    ensures refused { IfErr result (NotCarried bytes.now saved.now) }
-{
-    match accepted_dictionary(alloc, checks, bytes) {
-        Ok(dict) => begin_carried(alloc, dict, checks, saved),
-        Err(why) => Err(why),
-    }
-}
-
-fn try_open(alloc: Global, bytes: &[u8]) -> Result<Result<Box<Engine>, NotBegun>, AllocError>
-    ensures opened { IfOk result (λ r. IfOk r (λ e. Opens bytes.now e.value)) }
-    ensures refused { IfOk result (λ r. IfErr r (NotOpened bytes.now)) }
-{
-    let mut checks = CheckTable::new(alloc);
-    standard_checks!(alloc, checks);
-    Ok(open_by(alloc, &checks, bytes))
-}
-
-fn try_load(
-    alloc: Global,
-    bytes: &[u8],
-    saved: &[u8],
-) -> Result<Result<Box<Engine>, NotBegun>, AllocError>
-    ensures loaded { IfOk result (λ r. IfOk r (λ e. Loads bytes.now saved.now e.value)) }
-    ensures refused { IfOk result (λ r. IfErr r (NotLoaded bytes.now saved.now)) }
-{
-    let mut checks = CheckTable::new(alloc);
-    standard_checks!(alloc, checks);
-    Ok(load_by(alloc, &checks, bytes, saved))
-}
-
-fn try_carry(
-    alloc: Global,
-    bytes: &[u8],
-    saved: &[u8],
-) -> Result<Result<Box<Engine>, NotBegun>, AllocError>
-    ensures carried { IfOk result (λ r. IfOk r (λ e. Carries bytes.now saved.now e.value)) }
-    ensures refused { IfOk result (λ r. IfErr r (NotCarried bytes.now saved.now)) }
-{
-    let mut checks = CheckTable::new(alloc);
-    standard_checks!(alloc, checks);
-    Ok(carry_by(alloc, &checks, bytes, saved))
-}
-
-/// A session over the dictionary that the bytes spell, with no answers, or why there is none.
-pub fn open(alloc: Global, bytes: &[u8]) -> Result<Box<Engine>, NotBegun>
-    ensures opened { IfOk result (λ e. Opens bytes.now e.value) }
-    ensures refused { IfErr result (NotOpened bytes.now) }
-{
-    match try_open(alloc, bytes) {
-        Ok(opened) => opened,
-        Err(_) => Err(wants_memory()),
-    }
-}
-
-/// The same with the answers of the dictionary's own saved text.
-pub fn open_loaded(alloc: Global, bytes: &[u8], saved: &[u8]) -> Result<Box<Engine>, NotBegun>
-    ensures loaded { IfOk result (λ e. Loads bytes.now saved.now e.value) }
-    ensures refused { IfErr result (NotLoaded bytes.now saved.now) }
-{
-    match try_load(alloc, bytes, saved) {
-        Ok(opened) => opened,
-        Err(_) => Err(wants_memory()),
-    }
-}
-
-/// The same with what may stand of a saved text of another dictionary. It says which lines are dropped.
-pub fn open_carried(alloc: Global, bytes: &[u8], saved: &[u8]) -> Result<Box<Engine>, NotBegun>
-    ensures carried { IfOk result (λ e. Carries bytes.now saved.now e.value) }
-    ensures refused { IfErr result (NotCarried bytes.now saved.now) }
-{
-    match try_carry(alloc, bytes, saved) {
-        Ok(opened) => opened,
-        Err(_) => Err(wants_memory()),
     }
 }

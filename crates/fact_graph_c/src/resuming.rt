@@ -7,18 +7,17 @@ ghost use Rattle.graph_session.specs.Rules.{rules};
 ghost use Rattle.save_file.specs.CarriedText.{IsCarriedText};
 ghost use Rattle.save_file.specs.Resuming.{IsResume, dropped_line};
 ghost use Rattle.session_lines.specs.Tables.{standard_checks};
-ghost use Rattle.fact_graph_c.specs.Openings.{NotCarried, RefusesOver, Resumes, ResumesOver};
+ghost use Rattle.fact_graph_c.specs.Openings.{RefusesOver, ResumesOver};
 ghost use Rattle.fact_graph_c.specs.declared.fault.NotBegun.TheVariants.{Dictionary as OfDictionary};
 
 use crate::dropped_lines::dropped_lines_text;
 use crate::engine::Engine;
 use crate::fault::NotBegun;
-use crate::opening::{SAVED_LIMIT, accepted_dictionary, begin, not_resumed, wants_memory};
+use crate::opening::{SAVED_LIMIT, begin, not_resumed, wants_memory};
 use dictionary::Dictionary;
 use fact_values::NoMemory;
 use save_file::{Resumed, resume};
-use session_lines::standard_checks;
-use std::alloc::{AllocError, Global};
+use std::alloc::Global;
 use text_checks::CheckTable;
 
 // A session over the dictionary from what was taken of the text, which says which lines aren't kept.
@@ -39,8 +38,8 @@ fn begin_from(
     }
 }
 
-// A session over the dictionary from what may be taken of the text.
-fn begin_resumed(
+/// A session over the dictionary from what may be taken of the text. It says which lines aren't kept, and why.
+pub fn begin_resumed(
     alloc: Global,
     dict: Dictionary,
     checks: &CheckTable,
@@ -57,46 +56,5 @@ fn begin_resumed(
     match resume(alloc, &dict, checks, saved) {
         Ok(resumed) => begin_from(alloc, dict, saved, resumed),
         Err(fault) => Err(not_resumed(fault)),
-    }
-}
-
-fn resume_by(
-    alloc: Global,
-    checks: &CheckTable,
-    bytes: &[u8],
-    saved: &[u8],
-) -> Result<Box<Engine>, NotBegun>
-    requires { named_checks checks.now ≡ standard_checks }
-    ensures resumed { IfOk result (λ e. Resumes bytes.now saved.now e.value) }
-    ensures refused { IfErr result (NotCarried bytes.now saved.now) }
-{
-    match accepted_dictionary(alloc, checks, bytes) {
-        Ok(dict) => begin_resumed(alloc, dict, checks, saved),
-        Err(why) => Err(why),
-    }
-}
-
-fn try_resume(
-    alloc: Global,
-    bytes: &[u8],
-    saved: &[u8],
-) -> Result<Result<Box<Engine>, NotBegun>, AllocError>
-    ensures resumed { IfOk result (λ r. IfOk r (λ e. Resumes bytes.now saved.now e.value)) }
-    ensures refused { IfOk result (λ r. IfErr r (NotCarried bytes.now saved.now)) }
-{
-    let mut checks = CheckTable::new(alloc);
-    standard_checks!(alloc, checks);
-    Ok(resume_by(alloc, &checks, bytes, saved))
-}
-
-/// A session over the dictionary that the bytes spell with what may be taken of a saved text that came from outside, or why there
-/// is none. It says which lines aren't kept, and why.
-pub fn open_resumed(alloc: Global, bytes: &[u8], saved: &[u8]) -> Result<Box<Engine>, NotBegun>
-    ensures resumed { IfOk result (λ e. Resumes bytes.now saved.now e.value) }
-    ensures refused { IfErr result (NotCarried bytes.now saved.now) }
-{
-    match try_resume(alloc, bytes, saved) {
-        Ok(opened) => opened,
-        Err(_) => Err(wants_memory()),
     }
 }

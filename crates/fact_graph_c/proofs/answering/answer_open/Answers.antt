@@ -1,9 +1,6 @@
 use Rattle.std.proofs.Common.{true, false, refl}
-use Rattle.fact_graph_c.proofs.AnsweringLaws.{same_checks, stays, stays_full, takes_step}
+use Rattle.fact_graph_c.proofs.AnsweringLaws.{stays, stays_full, takes_step}
 use Rattle.fact_graph_c.proofs.answering.answer_open.Goals as goal
-
-pub answer_ready-requires-clause-same_checks : goal.answer_ready-requires-clause-same_checks
-answer_ready-requires-clause-same_checks g c = same_checks c.args.engine.now.session.dict _ c.requires.checks c.args.engine.now.same
 
 pub returns-in-More : goal.returns-in-More
 returns-in-More g c = record {
@@ -19,13 +16,13 @@ returns-in-Over g c = record {
 
 pub returns-in-OutOfMemory : goal.returns-in-OutOfMemory
 returns-in-OutOfMemory g c = record {
-  answered = stays _ _ _ c.requires.relations c.clear.ensures c.in-OutOfMemory.ensures.kept refl;
+  answered = stays _ _ _ c.clear.ensures c.in-OutOfMemory.ensures.kept refl;
   dict = c.answer_ready.ensures.dict;
 }
 
 pub returns-in-Unwritten : goal.returns-in-Unwritten
 returns-in-Unwritten g c = record {
-  answered = stays _ _ _ c.requires.relations c.clear-in-Unwritten.ensures
+  answered = stays _ _ _ c.clear-in-Unwritten.ensures
       (stays_full c.args.engine.now c.args.line.now c.answer_ready.new.session c.answer_ready.new.watches c.answer_ready.new.out _ _ c.in-Unwritten.ensures.answered.1.0
       c.know.ensures c.requires.roomy c.know-in-Unwritten.ensures.fit c.answer_ready.ensures.dict c.requires.relations c.readied-ready.ensures.lines c.requires.empty c.in-Unwritten.ensures.answered.0 c.in-Unwritten.ensures.answered.1.1 c.in-Unwritten.ensures.kept)
       refl;

@@ -1,0 +1,22 @@
+-- Which relations serve a line.
+use Rattle.std.specs.Prelude.{◌≡◌, ◌⊎◌, ℕ, ◌==◌, ◌||◌, Bool, false, List, [], Option, Some, None, slice_get}
+use Rattle.dictionary.specs.Accepted.{Named}
+use Rattle.fact_watch.specs.Watching.{Pair}
+use Rattle.session_lines.specs.Tables.{standard_relations}
+
+-- the byte is a `w`
+abbrev pub is_w : Option ℕ → Bool
+is_w (Some b) = b == 119
+is_w None = false
+
+-- `watch` has a `w` first and `unwatch` one third, where no other command has one
+abbrev pub may_watch : List ℕ → Bool
+may_watch line = is_w (slice_get line 0) || is_w (slice_get line 2)
+
+-- nothing is watched, and the line puts no watch and takes none out
+abbrev pub AsksNoRelation : List Pair → List ℕ → Type 0
+AsksNoRelation pairs line = (pairs ≡ []) × (may_watch line ≡ false)
+
+-- they are the standard ones, or there are none and the line asks none
+abbrev pub Serves : List Named → List Pair → List ℕ → Type 0
+Serves relations pairs line = (relations ≡ standard_relations) ⊎ ((relations ≡ []) × AsksNoRelation pairs line)
