@@ -1,20 +1,22 @@
 #!/usr/bin/env python3
 """Tests the engine of pages and of Node, javascript/, over the module of the C library that tools/build_library.py keeps.
 
-    tests/test_javascript.py [--program PATH] [PART..]
+    tests/test_javascript.py [--program PATH] [--library PATH] [PART..]
 
 - steps: what each step of javascript/wasm meets and refuses, and the runtime in C under the sanitizers, by pytest
 - types: the package's types, those of the engine of a page that needs no server, and those of what bench/webassembly.py times, by tsc
+- names: each public name of the Python package stands in this one, or README.md says what stands in its place
 - comments: a script that such a page ships has the code that it was written with, and no comments
 - same: two builds have the same bytes; the first is the module of the parts below
 - node: the package's own tests, and those of the runtime as WebAssembly, where each allocation fails in turn, by node --test
 - cases: the stored cases that a library serves, in Node; and once more over the module as binaryen lowers it, without vectors
 - random: 100,000 random lines beside the program
+- trees: those of `why` and `missing` behind random lines, beside the Python package
 - chromium, firefox-esr: the stored cases on a page, of at most 64 KiB, and in a worker, all of them
 - package: the packed package, installed away from here, in a program of its own
 
-All parts are run where none is named. The exit status is 0 where all passed, 1 where one failed, and 2 where a tool, the program or the
-library's module is wanting.
+All parts are run where none is named. The exit status is 0 where all passed, 1 where one failed, and 2 where a tool, the program, the
+library or its module is wanting.
 """
 import json
 import os
@@ -27,10 +29,12 @@ from collections.abc import Iterator
 from functools import cached_property
 from pathlib import Path
 
-from harness import DICTIONARIES, EXAMPLES, TOP, Tally, add_program, run, tool, words_of
+from harness import DICTIONARIES, EXAMPLES, TOP, Tally, add_library, add_program, run, tool, words_of
 from javascript.browsers import BROWSERS, judge_in_browser
 from javascript.cases import Given, given, judge_in_node, stored
+from javascript.names import of_javascript, of_python, wanting
 from javascript.random_lines import Script
+from javascript.trees import RUNNER, tree_cases
 
 JAVASCRIPT = TOP / "javascript"
 WASM = JAVASCRIPT / "wasm"
@@ -41,12 +45,15 @@ NODE_PATH = "/usr/share/nodejs"
 sys.path.insert(0, str(WASM))
 sys.path.insert(0, str(TOP / "python"))
 # pylint: disable=wrong-import-position,wrong-import-order # found by the paths above
+from fact_graph import __all__ as EXPORTED  # noqa: E402
 from fact_graph.uncommented import uncommented  # noqa: E402
 
 from build_wasm import LOWERED_BY_BINARYEN, SHIPPED, TESTING, Builder, kept_module, words_of_module  # noqa: E402
 
 SMALL = 65_536
 SCRIPTS, LINES = 100, 1_000
+# What random lines are said over.
+FILES = sorted([*DICTIONARIES.glob("*.json"), *EXAMPLES.glob("*.json")])
 
 
 class Parts:
@@ -91,6 +98,14 @@ class Parts:
         self.ends_well("types of the page's engine", [tool("tsc"), *words, "page/browser_engine.js"], page)
         self.ends_well("types of what is timed", [tool("tsc"), *words, "bench/webassembly/page.js"], TOP)
 
+    def names(self) -> None:
+        """What the Python package exports, beside what this one declares."""
+        types = self.folder / "types"
+        self.ends_well("declarations", [tool("tsc"), "-p", ".", "--noEmit", "false", "--declaration", "--emitDeclarationOnly", "--outDir", types])
+        beside = (JAVASCRIPT / "README.md").read_text(encoding="utf-8").partition("\n## Beside the Python package\n")[2].partition("\n## ")[0]
+        unsaid = [name for name in wanting(of_python(TOP / "python" / "fact_graph", EXPORTED), of_javascript(types)) if f"`{name}`" not in beside]
+        self.tally.expect("names of the Python package that README.md doesn't speak of", unsaid, [])
+
     def comments(self) -> None:
         """The scripts of a page, as they are written and as they are shipped."""
         bare = self.folder / "bare"
@@ -132,14 +147,17 @@ class Parts:
 
     def random_cases(self) -> Iterator[Given]:
         """Scripts over the dictionaries of tests and examples, in turn."""
-        files = sorted([*DICTIONARIES.glob("*.json"), *EXAMPLES.glob("*.json")])
         for seed in range(SCRIPTS):
-            file = files[seed % len(files)]
+            file = FILES[seed % len(FILES)]
             dictionary = file.read_bytes()
             script = Script(seed, dictionary).lines(LINES)
             ended = run([self.program, "run", file], TOP, script)
             assert ended.status is not None, "the program ends"
             yield given(f"seed {seed} of {file.name}", "run", (dictionary, b"", script), ended.status, ended.text)
+
+    def trees(self) -> None:
+        """The trees of random answers, which the Python package has too."""
+        judge_in_node(self.tally, tool("node"), self.shipped, tree_cases(FILES), "node", RUNNER)
 
     def browser(self, name: str) -> None:
         """The stored cases in a browser."""
@@ -163,18 +181,20 @@ class Parts:
         self.tally.expect("the files of the package", json.dumps(names), json.dumps(due))
 
 
-PARTS = ("steps", "types", "comments", "same", "node", "cases", "random", *BROWSERS, "package")
+PARTS = ("steps", "types", "names", "comments", "same", "node", "cases", "random", "trees", *BROWSERS, "package")
 
 
 def main(argv: list[str]) -> int:
     """Runs the parts."""
     words = words_of(__doc__)
     add_program(words)
+    add_library(words)
     words.add_argument("parts", nargs="*", metavar="PART")
     asked = words.parse_args(argv)
     unknown = set(asked.parts) - set(PARTS)
     if unknown:
         words.error(f"no part is called {min(unknown)}")
+    os.environ["FACT_GRAPH_LIBRARY"] = str(asked.library)  # where the Python package looks for it
     tally = Tally()
     with tempfile.TemporaryDirectory(prefix="test_javascript.") as folder:
         parts = Parts(tally, asked.program, Path(folder))

@@ -68,11 +68,12 @@ class BrowserEngine {
   }
 
   /**
-   * Keeps what is to be said again. A first revision is the time, so that none is that of answers which were erased.
+   * Keeps what is to be said again. A first revision is the time, and a millisecond has more of them than changes, so that none is
+   * that of answers which were erased.
    * @param {Kept} kept
    */
   keep(kept) {
-    kept.revision = kept.revision ? kept.revision + 1 : Date.now();
+    kept.revision = kept.revision ? kept.revision + 1 : Date.now() * 1000;
     try {
       this.storage.setItem(this.name, JSON.stringify(kept));
     } catch (wrong) {

@@ -1,5 +1,6 @@
 // The engine, as those who choose where it comes from and how much memory it has see it.
 
+import { EngineMissing, OutOfMemory } from "./errors.js";
 import { Machine } from "./machine.js";
 
 /**
@@ -26,12 +27,12 @@ export class Engine {
 
   /**
    * Loads an engine: of the module beside this file, or of another URL, of bytes or of a compiled module. With `maxMemory` its memory is never
-   * more than so many bytes, and what wants more throws OutOfMemory.
+   * more than so many bytes, and what wants more throws OutOfMemory. Throws EngineMissing where there is no such module.
    * @param {WebAssembly.Module | BufferSource | URL | string} [source]
    * @param {{ maxMemory?: number }} [options]
    */
   static async load(source = new URL("fact_graph.wasm", import.meta.url), options = {}) {
-    const machine = new Machine(await WebAssembly.instantiate(await compiled(source), {}));
+    const machine = await machineFrom(source);
     if (options.maxMemory !== undefined) machine.keepBelow(options.maxMemory);
     return new Engine(machine);
   }
@@ -44,6 +45,20 @@ export class Engine {
   /** Whether the engine stopped, so that it can't be used again. */
   get hasStopped() {
     return this.#machine.hasStopped;
+  }
+}
+
+/**
+ * A machine of a module.
+ * @param {WebAssembly.Module | BufferSource | URL | string} source
+ */
+async function machineFrom(source) {
+  try {
+    return new Machine(await WebAssembly.instantiate(await compiled(source), {}));
+  } catch (cause) {
+    if (cause instanceof OutOfMemory) throw cause;
+    const place = source instanceof URL || typeof source === "string" ? ` at ${source}` : "";
+    throw new EngineMissing(`no engine${place}: ${cause}`, { cause });
   }
 }
 

@@ -18,8 +18,9 @@ export class FactGraphError extends Error {
 }
 
 /**
- * The dictionary has a fault. `number` and `code` say which, as 12 and `IllTyped`; `fact` is the number of the fact that has it, from 1;
- * `node` is the node of that fact, and `what` the list that is too long, each where the fault has one and else null.
+ * The dictionary has a fault. `number` and `code` say which, as 12 and `IllTyped`, and of a newer engine's fault the code is `UnknownFault`;
+ * `fact` is the number of the fact that has it, from 1; `node` is the node of that fact, and `what` the list that is too long, each where the
+ * fault has one and else null.
  */
 export class DictionaryRefused extends FactGraphError {
   /**
@@ -29,7 +30,7 @@ export class DictionaryRefused extends FactGraphError {
    * @param {number | null} what
    */
   constructor(number, fact, node, what) {
-    const code = /** @type {string} */ (FAULTS[number - 1]);
+    const code = FAULTS[number - 1] ?? "UnknownFault";
     const places = Object.entries({ fact, node, what }).filter(([, place]) => place !== null);
     super(`dictionary refused ${number} ${code}${places.map(([word, place]) => ` ${word} ${place}`).join("")}`);
     this.number = number;
@@ -88,6 +89,9 @@ export class OutOfMemory extends FactGraphError {}
 
 /** The session was closed, or a line `quit` ended it. */
 export class SessionClosed extends FactGraphError {}
+
+/** The engine's module isn't where it is looked for, or isn't one of this package; `cause` says more. */
+export class EngineMissing extends FactGraphError {}
 
 /**
  * The engine stopped, as where the browser's own stack was too small for a deep dictionary. None of its sessions can be used again; a

@@ -2,7 +2,10 @@
 
 export { Dictionary } from "./dictionary.js";
 export { Engine } from "./engine.js";
-export { DictionaryRefused, EngineStopped, FactGraphError, OutOfMemory, Refused, SavedRefused, SessionClosed, UnknownDictionary, UnknownSlot } from "./errors.js";
+export {
+  DictionaryRefused, EngineMissing, EngineStopped, FactGraphError, OutOfMemory, Refused, SavedRefused, SessionClosed, UnknownDictionary, UnknownSlot,
+} from "./errors.js";
+export { Explanation, Missing } from "./explanation.js";
 export { Session } from "./session.js";
 export { Rational, amountText, centsOf } from "./values.js";
 

@@ -3,6 +3,7 @@
 import { Dictionary, listedFact, pathOf } from "./dictionary.js";
 import { Engine, machineOf } from "./engine.js";
 import { Refused, SessionClosed } from "./errors.js";
+import { Missing, Walk } from "./explanation.js";
 import { bytesOf, textOfBytes } from "./machine.js";
 import { READERS, textOf } from "./values.js";
 
@@ -151,8 +152,7 @@ export class Session {
   }
 
   /**
-   * A session without answers over a dictionary that comes with the engine: `year 2023`, `year 2024`, `income 2023` or `income 2024`. Throws
-   * UnknownDictionary for other words.
+   * A session without answers over a dictionary that comes with the engine, as `year 2023`. Throws UnknownDictionary for other words.
    * @param {string} words
    * @param {Options} [options]
    */
@@ -311,16 +311,31 @@ export class Session {
   }
 
   /**
-   * The slots whose answers a result still wants, in the order of the dictionary.
+   * The slots whose answers a result still wants, in the order of the dictionary, and the tree of what leads to them.
    * @param {string} slot
    */
   missing(slot) {
+    const slots = this.#missing(slot);
+    return new Missing(slots, new Walk(this, slot, slots).leading());
+  }
+
+  /**
+   * A result with all that it was worked out from, as a tree: down to answers, or so many levels and no further.
+   * @param {string} slot
+   * @param {{ depth?: number }} options
+   */
+  why(slot, { depth = Infinity } = {}) {
+    return new Walk(this, slot, this.#missing(slot)).why(depth);
+  }
+
+  /** @param {string} slot */
+  #missing(slot) {
     return this.#ask(`missing ${slot}`).split("\n").slice(1, -1);
   }
 
   /**
-   * The slots that a result is worked out from, each once, in the order in which they are first read: why it is what it is. A slot with an
-   * answer of its own, or with an override, reads none; one that has none reads what its placeholder does.
+   * The slots that a result itself is worked out from, each once, in the order in which they are first read; `why` goes on from each of them. A
+   * slot with an answer of its own, or with an override, reads none; one that has none reads what its placeholder does.
    * @param {string} slot
    */
   reads(slot) {
@@ -357,7 +372,12 @@ export class Session {
 
   /** What the dictionary's text says of its facts: placeholders, limits, options and descriptions, too. */
   get dictionary() {
-    return (this.#dictionary ??= new Dictionary(this.#source ?? this.#printed()));
+    return (this.#dictionary ??= new Dictionary(this.source));
+  }
+
+  /** The dictionary's text as it was given, or as the engine says that of one that comes with it. */
+  get source() {
+    return (this.#source ??= this.#printed());
   }
 
   // the text of a dictionary that comes with the engine

@@ -79,6 +79,25 @@ export function textOf(value) {
   throw new TypeError(`no fact has a value like ${Object.prototype.toString.call(value)}`);
 }
 
+/**
+ * A result as a session says it, by the name of its type: `complete 1240.50`.
+ * @param {Result} result
+ * @param {string} type
+ */
+export function said({ kind, value, fault }, type) {
+  const text = value === null ? fault : saidValue(value, type);
+  return text === null ? kind : `${kind} ${text}`;
+}
+
+/**
+ * @param {Value} value
+ * @param {string} type
+ */
+function saidValue(value, type) {
+  if (Array.isArray(value)) return `[${value.map((member) => `#${member}`).join(" ")}]`;
+  return type === "Item" ? `#${value}` : textOf(value);
+}
+
 /** @param {string} text */
 const same = (text) => text;
 /** @param {string} text */

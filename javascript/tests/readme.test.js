@@ -1,4 +1,4 @@
-// The examples of README.md: each value behind `//` is what the expression before it gives.
+// The examples of README.md: each value behind `//` is what the expression before it gives, and a text behind an example is what that prints.
 
 import assert from "node:assert/strict";
 import { readFileSync } from "node:fs";
@@ -6,7 +6,7 @@ import { test } from "node:test";
 
 const README = readFileSync(new URL("../README.md", import.meta.url), "utf8");
 const SOURCE = new URL("../src/index.js", import.meta.url).href;
-const examples = [...README.matchAll(/^```js\n(.*?)^```/gms)].map(([, code]) => code);
+const examples = [...README.matchAll(/^```js\n(.*?)^```(?:\n\n```text\n(.*?)^```)?/gms)];
 const AsyncFunction = (async () => {}).constructor;
 
 /** An example as the body of a function: what it imports is a parameter, and each shown value is compared. */
@@ -18,14 +18,16 @@ function bodyOf(code) {
 
 test("README has examples", () => assert.ok(examples.length >= 3));
 
-examples.forEach((code, number) => {
+examples.forEach(([, code, printed = ""], number) => {
   test(`example ${number + 1} of README`, async () => {
-    let compared = 0;
+    let compared = 0, said = "";
     const same = (came, due) => {
       compared++;
       assert.deepEqual(came, due);
     };
-    await new AsyncFunction("library", "same", bodyOf(code))(await import(SOURCE), same);
+    const console = { log: (text) => (said += `${text}\n`) };
+    await new AsyncFunction("library", "same", "console", bodyOf(code))(await import(SOURCE), same, console);
     assert.ok(compared > 0);
+    assert.equal(said, printed);
   });
 });

@@ -5,7 +5,7 @@ import { readFileSync } from "node:fs";
 import { createServer } from "node:http";
 import { test } from "node:test";
 import {
-  DictionaryRefused, Engine, FactGraphError, OutOfMemory, Rational, Refused, SavedRefused, Session, SessionClosed, UnknownDictionary, UnknownSlot,
+  DictionaryRefused, Engine, EngineMissing, FactGraphError, OutOfMemory, Rational, Refused, SavedRefused, Session, SessionClosed, UnknownDictionary, UnknownSlot,
   amountText, centsOf,
 } from "../src/index.js";
 
@@ -168,12 +168,12 @@ test("slots and members are those that stand", async () => {
 
 test("what is missing, and what a change touched", async () => {
   const session = await opened();
-  assert.deepEqual(session.missing("/each"), ["/rent", "/heating"]);
+  assert.deepEqual([...session.missing("/each")], ["/rent", "/heating"]);
   assert.equal(session.touched(), 0);
   session.set("/rent", 5n);
   assert.equal(session.touched(), 3);
   assert.equal(session.stamp("/housing"), 1);
-  assert.deepEqual(session.missing("/rent"), []);
+  assert.deepEqual([...session.missing("/rent")], []);
 });
 
 test("watches that fire stand in fired", async () => {
@@ -241,7 +241,9 @@ test("the engine lists the facts", async () => {
 });
 
 test("the dictionary tells its facts", async () => {
-  const { dictionary } = await opened();
+  const { dictionary, source } = await opened();
+  assert.equal(source, DICTIONARY);
+  assert.equal((await Session.open(new TextEncoder().encode(DICTIONARY))).source, DICTIONARY);
   assert.equal(dictionary.description, "a household");
   assert.deepEqual(dictionary.options.get("tenure"), ["rents", "owns"]);
   assert.deepEqual(dictionary.factAt("/rent"), {
@@ -318,7 +320,11 @@ test("an engine is loaded of a compiled module, of bytes and of a file", async (
     const session = await Session.open(DICTIONARY, { engine: await Engine.load(source) });
     assert.equal(session.get("/rent").kind, "incomplete");
   }
-  await assert.rejects(Engine.load(new Uint8Array(8)), WebAssembly.CompileError);
+  const isMissing = (wrong) => wrong instanceof EngineMissing && wrong instanceof FactGraphError;
+  await assert.rejects(Engine.load(new Uint8Array(8)), (wrong) => isMissing(wrong) && wrong.cause instanceof WebAssembly.CompileError);
+  await assert.rejects(Engine.load(new URL("nowhere.wasm", file)), (wrong) => isMissing(wrong) && wrong.cause.code === "ENOENT" && /nowhere\.wasm/.test(wrong.message));
+  // a module of another package: one without anything
+  await assert.rejects(Engine.load(new Uint8Array([0, 97, 115, 109, 1, 0, 0, 0])), isMissing);
 });
 
 test("an engine is loaded from a host, whatever type it gives", async () => {
@@ -334,7 +340,7 @@ test("an engine is loaded from a host, whatever type it gives", async () => {
       const session = await Session.open(DICTIONARY, { engine: await Engine.load(address + path) });
       assert.equal(session.get("/rent").kind, "incomplete");
     }
-    await assert.rejects(Engine.load(`${address}/nowhere`), /404/);
+    await assert.rejects(Engine.load(`${address}/nowhere`), (wrong) => wrong instanceof EngineMissing && /404/.test(wrong.message));
   } finally {
     host.close();
     host.closeAllConnections();
@@ -412,6 +418,7 @@ test("a dictionary comes with the engine", async () => {
   }
   const year = await Session.builtIn("year 2024");
   assert.equal(year.dictionary.facts.size, 45);
+  assert.equal((await Session.open(year.source)).dictionary.facts.size, 45);
   year.close();
   assert.equal(year.dictionary.facts.size, 45);
   await assert.rejects(Session.builtIn("year 2022"), UnknownDictionary);

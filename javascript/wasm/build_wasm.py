@@ -43,6 +43,9 @@ X86, WASM = TARGET["target triple"]
 FEATURES = ["-mcpu=mvp", "-mbulk-memory", "-msign-ext"]
 TO_OPTIMIZE = ["--enable-bulk-memory", "--enable-sign-ext"]
 
+# The engine's lists are short: vectors that LLVM makes of loops, and unrolled loops, make the module larger and no line faster.
+AS_WRITTEN = ["-fno-vectorize", "-fno-slp-vectorize", "-fno-unroll-loops"]
+
 OF_C = ["-std=c11", "-O2", "-ffreestanding", "-fno-builtin", "-Wall", "-Wextra", "-Wpedantic", "-Wconversion"]
 
 # The words with which rattle has clang compile the module: those that stay, and those that say nothing on WebAssembly (which traps behind
@@ -93,7 +96,8 @@ class Builder:
         if lowering:
             run("wasm-opt", *TO_OPTIMIZE, *lowering, small, "-o", small)
         to.parent.mkdir(parents=True, exist_ok=True)
-        run("wasm-opt", "-O3", *TO_OPTIMIZE, *vectors, small, "-o", to)
+        # LLVM has inlined what makes a line fast; what -O3 inlines beyond that makes the module larger and no line faster
+        run("wasm-opt", "-Os", *TO_OPTIMIZE, *vectors, small, "-o", to)
 
     def linked(self, variant: Variant) -> Path:
         """The engine and the runtime in one module, with addresses of 64 bits."""
@@ -117,7 +121,7 @@ class Builder:
             run(CLANG, "--no-default-config", f"--target={X86}", *as_text, "-x", "ir", self.module, "-o", text)
             changed = made.with_suffix(".ll")
             changed.write_text(retargeted(text.read_text(), has_vectors))
-            self.compile([*self.words, "-x", "ir", changed], has_vectors, made)
+            self.compile([*self.words, *AS_WRITTEN, "-x", "ir", changed], has_vectors, made)
         return made
 
     def runtime(self, has_vectors: bool) -> list[Path]:

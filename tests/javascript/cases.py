@@ -10,7 +10,7 @@ from typing import NamedTuple
 from harness import TOP, Tally
 from stored_cases import Served, all_cases, also, served
 
-HOST = TOP / "javascript" / "tests" / "cases" / "host.js"
+RUNNERS = TOP / "javascript" / "tests" / "cases"
 HEAD, ANSWER = struct.Struct("<4I"), struct.Struct("<2I")
 
 
@@ -61,9 +61,9 @@ def difference(due: bytes, text: bytes) -> str:
     return f"{len(text)} bytes, and {len(due)} are due"
 
 
-def judge_in_node(tally: Tally, node: str, module: Path, cases: Iterator[Given], name: str) -> None:
-    """Runs cases in Node over a module."""
-    with Popen([node, HOST, module], stdin=PIPE, stdout=PIPE) as host:
+def judge_in_node(tally: Tally, node: str, module: Path, cases: Iterator[Given], name: str, runner: str = "host.js") -> None:
+    """Runs cases in Node over a module, by a runner of theirs."""
+    with Popen([node, RUNNERS / runner, module], stdin=PIPE, stdout=PIPE) as host:
         assert host.stdin is not None and host.stdout is not None
         for case in cases:
             host.stdin.write(case.sent)

@@ -1,6 +1,6 @@
 // The same in TypeScript: what has no such type isn't compiled.
 
-import { DictionaryRefused, Engine, Refused, Result, Session, Value, amountText } from "fact-graph";
+import { DictionaryRefused, Engine, Explanation, Missing, Refused, Result, Session, Value, amountText } from "fact-graph";
 
 export async function yearly(dictionary: string, rent: bigint): Promise<string | null> {
   const engine: Engine = await Engine.load(undefined, { maxMemory: 1 << 26 });
@@ -13,6 +13,14 @@ export async function yearly(dictionary: string, rent: bigint): Promise<string |
   // @ts-expect-error sessions are made by open, load and carry
   new Session();
   return typeof value === "bigint" ? amountText(value) : null;
+}
+
+export function wantedBy(session: Session, slot: string): string[] {
+  const missing: Missing = session.missing(slot);
+  const why: Explanation = session.why(slot, { depth: 2 });
+  // @ts-expect-error a tree is of one moment
+  why.result = missing.tree.result;
+  return missing.length > 0 ? [...missing] : why.children.map((it: Explanation) => `${it.slot} ${it.type.name} ${it.said}`);
 }
 
 export function placeOf(wrong: unknown): number | null {
