@@ -1,34 +1,40 @@
 #!/usr/bin/python3
 """Loads the interview service: wrk, nginx, two workers and a PostgreSQL of its own, on this machine.
 
-    bench/load_service.py [--library PATH] [--visitors N] [--rate N] [--seconds N]
+    bench/load_service.py [--library PATH] [--visitors N] [--cache N] [--rate N] [--seconds N]
 
-Each request is a change with the page's questions behind it. `--rate` is how many a second are aimed at, 200 where none is given; 0
-makes them without a pause. It prints the changes made, the times until they were answered, and the processor time of each part. Nothing
-is judged: the exit status is 0, and 2 where the library or a tool is wanting.
+Each request is a change with the page's questions behind it. `--rate` is how many a second are due, at times that stand fast, 200 where
+none is given; 0 makes them without a pause. It prints the changes made, within which times from when they were due they were answered, the
+processor time of each process for a change, and that of each part of a worker behind HTTP, and how busy the machine was: what other
+processes took of it. Nothing is judged: the exit status is 0, and 2 where the library or a tool is wanting.
 """
 
 from __future__ import annotations
 
+import argparse
 import json
 import os
 import re
 import secrets
-import shutil
 import subprocess
 import sys
 import tempfile
 import time
 import urllib.request
+from collections.abc import Iterator, Sequence
+from contextlib import closing, contextmanager
 from pathlib import Path
 
 TOP = Path(__file__).resolve().parent.parent
 sys.path[:0] = [str(TOP / folder) for folder in ("tests", "python", "service", "service/tests")]
 sys.dont_write_bytecode = True
 
-from harness import add_library, tool, words_of  # noqa: E402  # pylint: disable=wrong-import-position # found by the path above
+# pylint: disable=wrong-import-position # found by the path above
+from harness import add_library, tool, words_of  # noqa: E402
+from service_parts import DICTIONARY, parts_of_a_change, questions  # noqa: E402
 
-THREADS = 8
+# pylint: enable=wrong-import-position
+THREADS = 16
 NGINX = """
 daemon off; error_log {folder}/error.log; pid {folder}/pid; worker_processes 1;
 events {{ worker_connections 1024; }}
@@ -38,7 +44,10 @@ http {{
   upstream interview {{ {servers} keepalive 32; }}
   server {{
     listen 127.0.0.1:{port};
-    location / {{ proxy_pass http://interview; proxy_http_version 1.1; proxy_set_header Connection ""; proxy_set_header Host $http_host; }}
+    location / {{
+      proxy_pass http://interview; proxy_http_version 1.1; proxy_set_header Connection ""; proxy_set_header Host $http_host;
+      proxy_next_upstream error timeout non_idempotent;
+    }}
   }}
 }}
 """
@@ -68,65 +77,79 @@ def visitor(address: str) -> str:
         return f"{cookie} {token[1].decode()}\n"
 
 
-def questions() -> list[str]:
-    """What the page asks behind a change of the screener."""
-    page = json.loads((TOP / "examples" / "screener.page").read_text(encoding="utf-8"))
-    asked = [f"{verb} {figure}" for figure in page["figures"] for verb in ("get", "final", "missing")]
-    return asked + [f"get {slot}" for slot in ("/people", "/caseNumber", "/tenure", "/bill", "/savings")]
+def busy() -> float:
+    """The processor seconds that all processes of the machine took."""
+    user, nice, system, _, _, *interrupts = Path("/proc/stat").read_text(encoding="ascii").split("\n", 1)[0].split()[1:]
+    return sum(map(int, (user, nice, system, *interrupts[:2]))) / os.sysconf("SC_CLK_TCK")
 
 
-def shown(name: str, before: float, pids: list[int], changes: int) -> float:
-    """Prints the processor time of a part, by change."""
-    spent = sum(seconds_of(pid) for pid in pids) - before
-    print(f"{name:12} {spent:7.2f} s of processor, {1000 * spent / max(1, changes):.2f} ms a change")
-    return spent
+@contextmanager
+def nginx(folder: Path, port: int, workers: Sequence[int]) -> Iterator[int]:
+    """nginx before the workers at these ports: the number of its process."""
+    servers = " ".join(f"server 127.0.0.1:{worker};" for worker in workers)
+    (folder / "nginx.conf").write_text(NGINX.format(folder=folder, port=port, servers=servers), encoding="ascii")
+    with subprocess.Popen([tool("nginx", "nginx-light"), "-p", folder, "-c", folder / "nginx.conf"], stderr=subprocess.DEVNULL) as front:
+        time.sleep(2)
+        yield front.pid
+        front.terminate()
+
+
+def press(address: str, folder: Path, visitors: int, rate: int, seconds: int) -> None:
+    """Has wrk make the changes, and prints what it says."""
+    (folder / "visitors").write_text("".join(visitor(address) for _ in range(visitors)), encoding="ascii")
+    pause = 1000 * THREADS / rate if rate else 0
+    own = [str(folder / "visitors"), str(pause), str(THREADS), json.dumps(questions()), address]
+    words = [tool("wrk"), f"-t{THREADS}", f"-c{THREADS}", f"-d{seconds}s", "-s", str(TOP / "bench" / "service.lua"), address, "--", *own]
+    print(subprocess.run(words, check=True, capture_output=True, text=True).stdout)
+
+
+def given_by(argv: list[str]) -> argparse.Namespace:
+    """What the command line says."""
+    words = words_of(__doc__)
+    add_library(words)
+    for name, default in (("--visitors", 400), ("--cache", 500), ("--rate", 200), ("--seconds", 20)):
+        words.add_argument(name, type=int, default=default, metavar="N")
+    return words.parse_args(argv)
+
+
+def spent_by(processes: dict[str, list[int]]) -> dict[str, float]:
+    """The processor seconds of each part."""
+    return {name: sum(map(seconds_of, pids)) for name, pids in processes.items()}
 
 
 def main(argv: list[str]) -> int:  # pylint: disable=too-many-locals  # what the load is made of
     """Runs the load once."""
-    words = words_of(__doc__)
-    add_library(words)
-    words.add_argument("--visitors", type=int, default=400)
-    words.add_argument("--rate", type=int, default=200)
-    words.add_argument("--seconds", type=int, default=20)
-    given = words.parse_args(argv)
+    given = given_by(argv)
     os.environ["FACT_GRAPH_LIBRARY"] = str(given.library)
     # pylint: disable=import-outside-toplevel # the package finds its library when it is imported
     from databases import Postgres
     from fact_graph_service.settings import Settings
     from servers import Worker, held_ports
 
-    folder, database = Path(tempfile.mkdtemp(prefix="load_service.")), Postgres()
-    with held_ports(3) as (port, *worker_ports):
-        address = f"http://127.0.0.1:{port}"
-        settings = Settings(TOP / "examples" / "screener.json", database.place, secrets.token_bytes(32), origins=(address,), rate=1_000_000)
-        workers = [Worker(settings, worker_port) for worker_port in worker_ports]
+    with tempfile.TemporaryDirectory(prefix="load_service.") as made, closing(Postgres()) as database, held_ports(3) as (port, *ports):
+        folder, address = Path(made), f"http://127.0.0.1:{port}"
+        settings = Settings(DICTIONARY, database.place, secrets.token_bytes(32), origins=(address,), cache=given.cache, rate=1_000_000)
+        workers = [Worker(settings, it) for it in ports]
         for worker in workers:
             worker.begin()
-        servers = " ".join(f"server 127.0.0.1:{worker.port};" for worker in workers)
-        (folder / "nginx.conf").write_text(NGINX.format(folder=folder, port=port, servers=servers), encoding="ascii")
-        with subprocess.Popen([tool("nginx", "nginx-light"), "-p", folder, "-c", folder / "nginx.conf"], stderr=subprocess.DEVNULL) as front:
-            time.sleep(2)
-            (folder / "visitors").write_text("".join(visitor(address) for _ in range(given.visitors)), encoding="ascii")
-            parts = {"nginx": tree(front.pid), "workers": [worker.pid for worker in workers], "PostgreSQL": database.pids()}
-            before = {name: sum(seconds_of(pid) for pid in pids) for name, pids in parts.items()}
-            pause = 1000 * THREADS // given.rate if given.rate else 0
-            script = ["-s", str(TOP / "bench" / "service.lua"), address, "--"]
-            own = [str(folder / "visitors"), str(pause), str(THREADS), json.dumps(questions()), address]
-            command = [tool("wrk"), f"-t{THREADS}", f"-c{THREADS}", f"-d{given.seconds}s", "--latency", *script, *own]
-            ran = subprocess.run(command, check=True, capture_output=True, text=True)
-            print(ran.stdout)
+        with nginx(folder, port, ports) as front:
+            began, before = time.monotonic(), busy()
+            parts = {"the two workers": [it.pid for it in workers], "PostgreSQL": database.pids(), "nginx": tree(front)}
+            earlier = spent_by(parts)
+            press(address, folder, given.visitors, given.rate, given.seconds)
             parts["PostgreSQL"] = database.pids()
-            changes = database.count("changes")
-            print(f"{changes} changes in the store, {changes / given.seconds:.0f} a second")
-            for name, pids in parts.items():
-                shown(name, before[name], pids, changes)
-            print("memory of the workers:", ", ".join(f"{worker.megabytes():.0f} MB" for worker in workers))
-            front.terminate()
+            took = {name: seconds - earlier[name] for name, seconds in spent_by(parts).items()}
+            others = (busy() - before - sum(took.values())) / (time.monotonic() - began)
+        changes = max(1, database.count("changes"))
+        print(f"{changes} changes in the store, {changes / given.seconds:.0f} a second")
+        for name, seconds in took.items():
+            print(f"{name:28} {1000 * seconds / changes:.2f} ms of processor for a change")
+        for name, milliseconds in parts_of_a_change(database.place).items():
+            print(f"  {name:26} {milliseconds:.2f} ms")
+        print("memory of the workers:", ", ".join(f"{worker.megabytes():.0f} MB" for worker in workers))
+        print(f"{others:.1f} of {os.cpu_count()} processors were taken by wrk and other processes")
         for worker in workers:
             worker.end()
-    database.close()
-    shutil.rmtree(folder)
     return 0
 
 

@@ -135,8 +135,10 @@ const panel = it.closest(".asked, .follows, .review, dialog, header") ?? documen
 const box = shown.getBoundingClientRect();
 const from = panel.getBoundingClientRect();
 const style = getComputedStyle(shown);
+const { width, height } = visualViewport;
+const isInView = box.left > -1 && box.top > -1 && box.right < width + 1 && box.bottom < height + 1;
 const middleOf = (start, end, most) => (Math.max(start, 0) + Math.min(end, most)) / 2;
-const middle = document.elementFromPoint(middleOf(box.left, box.right, innerWidth), middleOf(box.top, box.bottom, innerHeight));
+const middle = document.elementFromPoint(middleOf(box.left, box.right, width), middleOf(box.top, box.bottom, height));
 return {
   name: it.outerHTML.slice(0, 100),
   key: it.id || `${it.textContent} ${it.closest("[data-slot]")?.dataset.slot ?? ""}`,
@@ -145,10 +147,10 @@ return {
   top: box.top - from.top + panel.scrollTop,
   height: box.height,
   isOutlined: style.outlineStyle !== "none" && parseFloat(style.outlineWidth) >= 2 && contrast(style.outlineColor, groundOf(shown.parentElement)) >= 3,
-  isSeen: middle !== null && (shown.contains(middle) || middle.contains(shown) || Boolean(middle.closest("label"))),
+  isSeen: (isInView || it === panel) && middle !== null && (shown.contains(middle) || middle.contains(shown) || Boolean(middle.closest("label"))),
 };
 """
-"""What has the focus: where it is, and whether it is seen."""
+"""What has the focus: where it is, and whether all of it is in view and nothing lies over it; of a panel that scrolls, which Firefox stops at, a part."""
 
 STOPS = """
 const controls = [...document.querySelectorAll("button, input, select, summary, a[href]")].filter((it) => it.checkVisibility() && !it.disabled);

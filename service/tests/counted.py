@@ -57,12 +57,13 @@ def sums(rows: Iterable[Row]) -> str:
 
 
 def table(rows: list[Row]) -> Iterator[str]:
-    """The lines of a table of runs, one for each kind and store, in the order in which they first come."""
-    yield "| Fault | Store | Runs | Changes acknowledged | Requests repeated | Lost | Others | Wrong | Made |"
-    yield "|---|---|---|---|---|---|---|---|---|"
-    for kind, store in dict.fromkeys((row.kind, row.store) for row in rows):
-        runs = [row for row in rows if (row.kind, row.store) == (kind, store)]
+    """The lines of a table of runs, one for each kind, store and number of visitors, in the order in which they first come."""
+    yield "| Fault | Store | Visitors | Runs | Changes acknowledged | Requests repeated | Lost | Others | Wrong | Seconds a run | Made |"
+    yield "|---|---|---|---|---|---|---|---|---|---|---|"
+    for kind, store, visitors in dict.fromkeys((row.kind, row.store, row.visitors) for row in rows):
+        runs = [row for row in rows if (row.kind, row.store, row.visitors) == (kind, store, visitors)]
         counts = [sum(getattr(row, name) for row in runs) for name in ("acknowledged", "repeated", "lost", "others", "wrong")]
+        seconds = round(sum(row.seconds for row in runs) / len(runs))
         days = sorted({row.day for row in runs})
-        cells = [f"`{kind}`", store, len(runs), *counts, days[0] if len(days) == 1 else f"{days[0]} to {days[-1]}"]
+        cells = [f"`{kind}`", store, visitors, len(runs), *counts, seconds, days[0] if len(days) == 1 else f"{days[0]} to {days[-1]}"]
         yield f"| {' | '.join(map(str, cells))} |"

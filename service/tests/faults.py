@@ -70,6 +70,8 @@ AGAIN = (408, 429, 503)
 """The statuses at which a page makes its request again."""
 DISK_BYTES = 250_000_000
 LOG_BYTES = 4_000
+MOST_FAULTS = 20
+"""More than so many faults a run doesn't have."""
 PIECE = 5
 """So many runs of a kind over a store are made over the same workers, before the other kinds have their turn."""
 
@@ -344,19 +346,26 @@ KINDS = {
 
 
 async def change_all(kind: Kind, place: Any, workers: list[Worker], visitors: list[Visitor], changes: int, pick: random.Random) -> None:
-    """All visitors make their changes, and the fault is made until they are done. The last one is ended too. Between two of them a
-    change is answered, so that all are at last, however slow the machine is."""
+    """All visitors make their changes, and the fault is made until they are done. The last one is ended too. Between two of them a share
+    of the changes is answered, so that all are at last, however slow the machine is."""
+    answered, wanted, share = 0, 0, max(1, changes * len(visitors) // MOST_FAULTS)
+    is_over, is_answered = asyncio.Event(), asyncio.Event()
 
     async def work(visitor: Visitor, window: Window) -> None:
+        nonlocal answered
         for _ in range(changes // kind.windows):
             await visitor.change(window, visitor.line(), kind.tear)
-            is_answered.set()
+            answered += 1
+            if answered >= wanted:
+                is_answered.set()
 
     async def disturb() -> None:
+        nonlocal wanted
         while not is_over.is_set():
             await asyncio.sleep(pick.uniform(0.2, 1.5))
             await kind.fault(place, workers, pick)
             if not is_over.is_set():
+                wanted = answered + share
                 is_answered.clear()
                 await is_answered.wait()
 
@@ -367,9 +376,7 @@ async def change_all(kind: Kind, place: Any, workers: list[Worker], visitors: li
             is_over.set()
             is_answered.set()
 
-    is_over, is_answered = asyncio.Event(), asyncio.Event()
-    for visitor in visitors:
-        await visitor.begin()
+    await asyncio.gather(*(visitor.begin() for visitor in visitors))
     await asyncio.gather(work_all(), disturb())
 
 
@@ -415,8 +422,7 @@ async def judge(store: Store, vault: Vault, visitor: Visitor, tally: Tally) -> N
 
 async def judge_all(settings: Settings, visitors: list[Visitor], tally: Tally) -> None:
     store = answering(settings.store)
-    for visitor in visitors:
-        await judge(store, Vault(settings.key), visitor, tally)
+    await asyncio.gather(*(judge(store, Vault(settings.key), visitor, tally) for visitor in visitors))
     store.close()
 
 
