@@ -5,9 +5,11 @@
 
 - docs/ARCHITECTURE.md has a row for each crate, in the order of crates.txt; what a crate stands on is written there from crates.txt.
 - docs/crates.svg is drawn of these rows: the words up to the colon are those in the crate's box.
-- docs/PROVED.md has rows for each crate with code, in the same order.
+- docs/PROVED.md has rows for each crate with code, in the same order. Each name that a row has for its clause stands in the sources of
+  the crate, or of one that the row names, as `recalc's`; and each field of the headline in its record.
 - README.md has a line for each of these crates, its first row there: the main claim, and the clause that carries it.
-- README.md and docs/PROVING.md have the minutes of docs/GATE.md, of the last run from nothing that dev/gate_times.py wrote there.
+- README.md and docs/PROVING.md have the minutes of docs/GATE.md, of the last run from nothing that dev/gate_times.py wrote there; and
+  README.md what a session holds, of docs/LIBRARY.md.
 - docs/TAX_YEARS.md has a row for each fact that the tax years ask for, with its source as the page in a browser has it; and the example
   of the next year clears what these rows say is of the year.
 - A block of code below `<!-- from PATH -->` stands so in that file.
@@ -19,6 +21,7 @@ import argparse
 import re
 import sys
 from collections.abc import Iterator
+from functools import cache
 from pathlib import Path
 
 from crates import TOP, Crate, crates
@@ -26,11 +29,16 @@ from draw_crates import draw
 from questions import wrong_questions
 
 DOCS = TOP / "docs"
-ARCHITECTURE, PROVED, GATE, PROVING = (DOCS / f"{name}.md" for name in ("ARCHITECTURE", "PROVED", "GATE", "PROVING"))
+ARCHITECTURE, PROVED, GATE, LIBRARY, PROVING = (DOCS / f"{name}.md" for name in ("ARCHITECTURE", "PROVED", "GATE", "LIBRARY", "PROVING"))
 README, PICTURE = TOP / "README.md", DOCS / "crates.svg"
 PROGRAM = "interview"
 ROW = re.compile(r"^\| \[`(\w+)`\]\(\.\./crates/\w+\) \| (.*) \| (.*?) ?\|$", re.MULTILINE)
 CLAIM = re.compile(r"^\| `(\w+)` \| (.*) \| (.*) \|$", re.MULTILINE)
+# A row of any claim: the crate, where the row is its first, and what carries the claim.
+CARRIED = re.compile(r"^\| (?:`(\w+)` )?\| .* \| (.*) \|$", re.MULTILINE)
+# A row of the headline: the fields of its record.
+FIELDS = re.compile(r"^\| (`\w+`(?:, `\w+`)*) \| .* \|$", re.MULTILINE)
+HEADLINE = TOP / "crates" / PROGRAM / "specs" / "Ends.antt"
 MADE = re.compile(r"(<!-- made by dev/check_pages\.py --write -->\n).*?(<!-- end -->)", re.DOTALL)
 CITED = re.compile(r"<!-- from (\S+) -->\n```\w*\n(.*?)```", re.DOTALL)
 # Without claims of their own.
@@ -39,9 +47,11 @@ LINK = re.compile(r"\[[^\]]*\]\(([^)\s]+)\)")
 # A crate's minutes in docs/GATE.md, and those of the run.
 TIMES = re.compile(r"^\| (\w+) \| ([\d.]+) \| ([\d.]+) \| ([\d.]+)(?: \(\d+\))? \| ([\d.]+) \|$", re.MULTILINE)
 RUN = re.compile(r"The run took (\d+) minutes on (\d+)\.")
-# The words with minutes, by page.
-TIMED = {
-    README: ["some {program} minutes of one processor", "it took {run} minutes on {processors} processors"],
+# The bytes of a session that was opened, in docs/LIBRARY.md.
+OPENED = re.compile(r"^\| opened \| ([\d,]+) \|$", re.MULTILINE)
+# The words with what was measured, by page.
+MEASURED = {
+    README: ["some {program} minutes of one processor", "it took {run} minutes on {processors} processors", "holds {kilobytes} KB"],
     PROVING: ["Of {all} minutes of one processor the proofs are {proofs}, the tests {tests}, and the wrong bodies {edits}"],
 }
 
@@ -87,25 +97,32 @@ def minutes(gate: str) -> dict[str, str]:
     return {what: f"{each:.0f}" for what, each in taken.items()} | {"run": run[1], "processors": run[2]}
 
 
-def with_any_minutes(words: str) -> str:
-    """The pattern of words with minutes."""
+def kilobytes(library: str) -> dict[str, str]:
+    """The kilobytes of a session, of the page on the library; none where it doesn't say."""
+    return {"kilobytes": f"{int(opened[1].replace(',', '')) / 1000:.0f}" for opened in OPENED.finditer(library)}
+
+
+def with_any_number(words: str) -> str:
+    """The pattern of words with what was measured."""
     return re.sub(r"\{\w+\}", r"\\d+", words)
 
 
-def timed(path: Path, page: str) -> str:
-    """The page, with the minutes of the page on the gate."""
-    taken = minutes(read(GATE))
-    for words in TIMED[path] if taken else ():
-        page = re.sub(with_any_minutes(words), words.format_map(taken), page)
+def measured(path: Path, page: str) -> str:
+    """The page, with what the pages on the gate and on the library have measured."""
+    taken = minutes(read(GATE)) | kilobytes(read(LIBRARY))
+    for words in MEASURED[path]:
+        page = re.sub(with_any_number(words), words.format_map(taken), page)
     return page
 
 
-def wrong_times() -> Iterator[str]:
-    """Where minutes are wanting."""
+def wrong_measures() -> Iterator[str]:
+    """Where what was measured is wanting."""
     if not minutes(read(GATE)):
         yield "docs/GATE.md has no run from nothing: run dev/gate_times.py docs/GATE.md --anew"
-    for path, said in TIMED.items():
-        yield from (f"{path.relative_to(TOP)} doesn't say: {words}" for words in said if not re.search(with_any_minutes(words), read(path)))
+    if not kilobytes(read(LIBRARY)):
+        yield "docs/LIBRARY.md has no row of a session that was opened"
+    for path, said in MEASURED.items():
+        yield from (f"{path.relative_to(TOP)} doesn't say: {words}" for words in said if not re.search(with_any_number(words), read(path)))
 
 
 def picture(page: str) -> str:
@@ -122,6 +139,28 @@ def wrong_order(names: list[str], due: list[str], page: Path) -> Iterator[str]:
     if sorted(names) == sorted(due) and names != due:
         name, wanted = [pair for pair in zip(names, due) if pair[0] != pair[1]][0]
         yield f"{page.name} has {name} where crates.txt has {wanted}"
+
+
+@cache
+def words_of(crate: str) -> set[str]:
+    """The words of a crate's code, definitions and proofs."""
+    files = [path for part in ("src", "specs", "proofs") for path in (TOP / "crates" / crate / part).rglob("*") if path.is_file()]
+    return {word for path in files for word in re.findall(r"\w+", read(path))}
+
+
+def wrong_clauses(proved: str) -> Iterator[str]:
+    """The clauses of the page on proofs that aren't where it says."""
+    headline, _, rows = proved.partition("## Crate by crate")
+    for fields in FIELDS.findall(headline):
+        yield from (f"{HEADLINE.name} has no {name}" for name in re.findall(r"\w+", fields) if not re.search(rf"\b{name} :", read(HEADLINE)))
+    crate, known = "", {it.name for it in crates()}
+    for first, carrier in CARRIED.findall(rows):
+        crate = first or crate
+        homes = [crate, *(known & set(re.findall(r"(\w+)'", carrier)))] if crate else []
+        for name in re.findall(r"`([^`]+)`", carrier) if crate else []:
+            stands = (TOP / name).is_file() if "/" in name else all(any(word in words_of(home) for home in homes) for word in re.findall(r"\w+", name))
+            if not stands:
+                yield f"{PROVED.name}: {crate} has no {name}"
 
 
 def anchors(page: str) -> set[str]:
@@ -166,15 +205,16 @@ def main(argv: list[str]) -> int:
     wrong = [*wrong_order([row[0] for row in ROW.findall(page)], [it.name for it in crates()], ARCHITECTURE)]
     with_code = [it.name for it in crates() if not it.is_of_tests and it.name not in WITHOUT_CODE]
     wrong += wrong_order([claim[0] for claim in CLAIM.findall(proved)], with_code, PROVED)
-    wrong += wrong_times()
-    texts = {ARCHITECTURE: page, README: timed(README, readme(read(README), proved)), PROVING: timed(PROVING, read(PROVING)), PICTURE: picture(page)}
-    made = {} if wrong else texts
+    wrong += wrong_measures()
+    made: dict[Path, str] = {}
+    if not wrong:
+        made = {ARCHITECTURE: page, PICTURE: picture(page), README: measured(README, readme(read(README), proved)), PROVING: measured(PROVING, read(PROVING))}
     for path, text in made.items():
         if is_writing:
             path.write_text(text, encoding="utf-8")
         elif not path.is_file() or read(path) != text:
             wrong.append(f"{path.relative_to(TOP)} isn't what dev/check_pages.py --write makes")
-    wrong += [*wrong_questions(), *wrong_citations(), *broken_links()]
+    wrong += [*wrong_clauses(proved), *wrong_questions(), *wrong_citations(), *broken_links()]
     print("\n".join([*wrong, f"check_pages: {len(wrong)} wrong"]))
     return 1 if wrong else 0
 

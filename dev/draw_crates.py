@@ -9,7 +9,7 @@ from crates import Crate, crates
 # Below all others stands what has no code: it makes no floor.
 LEMMAS = "common_lemmas"
 BOX, GAP, LEFT, FLOOR, TOP_EDGE = (146, 54), 8, 74, 74, 66
-LETTERS = 25  # of the words in a box, a line
+LETTERS = 21  # of the words in a box, a line
 LEGEND = 280  # from one way to the next
 
 

@@ -7,14 +7,13 @@
 from __future__ import annotations
 
 import json
+import re
 from pathlib import Path
 from typing import Any
 
-from .session import BUILT_IN_WORDS, Session
+from .session import BUILT_IN, BUILT_IN_WORDS, Session
 
 PAGES = Path(__file__).with_name("pages")
-GROSS_INCOMES = {2023: "$4,700", 2024: "$5,050"}
-"""What the gross income of a qualifying relative stays below, by year. All else that moves in a page is worked out of the year."""
 
 
 def is_built_in(name: str) -> bool:
@@ -39,15 +38,21 @@ def page_of(words: str, language: str = "") -> bytes | None:
     """
     kind, _, year = words.partition(" ")
     own, common = (PAGES / ".".join(filter(None, (part, language, "page"))) for part in (kind, "common"))
-    if int(year) not in GROSS_INCOMES or not own.is_file():
+    if words not in BUILT_IN or not own.is_file():
         return None
     whole = joined(*(json.loads(part.read_text(encoding="utf-8")) for part in (own, common)))
-    return json.dumps(with_numbers(whole, numbers_of(int(year))), ensure_ascii=False, indent=2).encode()
+    return json.dumps(with_numbers(whole, numbers_of(int(year), text_of(words))), ensure_ascii=False, indent=2).encode()
 
 
-def numbers_of(year: int) -> dict[str, object]:
-    """What the pages leave room for."""
-    return {"year": year, "before": year - 1, "two_before": year - 2, "birth_year": year - 64, "gross_income": GROSS_INCOMES[year]}
+def numbers_of(year: int, rules: bytes) -> dict[str, object]:
+    """What the pages leave room for: the gross income that a qualifying relative stays below, and what is worked out of the year.
+
+    >>> numbers_of(2024, text_of("year 2024"))
+    {'year': 2024, 'before': 2023, 'two_before': 2022, 'birth_year': 1960, 'gross_income': '$5,050'}
+    """
+    [relative] = [fact for fact in json.loads(rules)["facts"] if fact["path"] == "/dependents/*/qualifyingRelative"]
+    [limit] = [float(spelled) for spelled in re.findall(r'\["Dollar", "([^"]+)"\]', json.dumps(relative["is"]))]
+    return {"year": year, "before": year - 1, "two_before": year - 2, "birth_year": year - 64, "gross_income": f"${limit:,.0f}"}
 
 
 def joined(own: Any, common: Any) -> Any:
@@ -64,7 +69,7 @@ def joined(own: Any, common: Any) -> Any:
 def with_numbers(stated: Any, numbers: dict[str, object]) -> Any:
     """The same with its numbers.
 
-    >>> with_numbers({"a": ["of {year}"]}, numbers_of(2023))
+    >>> with_numbers({"a": ["of {year}"]}, {"year": 2023})
     {'a': ['of 2023']}
     """
     if isinstance(stated, dict):

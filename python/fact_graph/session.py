@@ -25,7 +25,8 @@ KEPT = 65_536
 STEPS = dict.fromkeys((b"set", b"clear", b"open", b"add", b"remove", b"override", b"release", b"redo"), 1)
 NOTHING_TO_UNDO = "refused 13 NothingToUndo\n"
 
-# The words of dictionaries that may come with the library.
+# The dictionaries that come with the library, by their words, and the words of any that may.
+BUILT_IN = tuple(f"{kind} {year}" for kind in ("year", "income") for year in (2023, 2024))
 BUILT_IN_WORDS = re.compile(r"(year|income) ([0-9]{4})")
 
 
@@ -119,7 +120,7 @@ class Session:  # pylint: disable=too-many-instance-attributes # what its calls 
 
     @classmethod
     def built_in(cls, words: str, *, undo: int | None = None) -> Session:
-        """A session without answers over a dictionary that comes with the library: `year 2023`, `year 2024`, `income 2023` or `income 2024`.
+        """A session without answers over a dictionary that comes with the library, one of `BUILT_IN`.
 
         Raises `UnknownDictionary` for other words.
 

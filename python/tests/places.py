@@ -8,7 +8,7 @@ TOP = Path(__file__).resolve().parent.parent.parent
 EXAMPLES = TOP / "examples"
 DICTIONARIES = TOP / "tests" / "dictionaries"
 
-# The dictionary of README.md.
+# An amount, one that is 0 until it is answered, and their sum.
 SUM = """{"version":"1","facts":[
   {"path":"/a","writable":"Dollar"},
   {"path":"/b","writable":"Dollar","placeholder":["Dollar","0"]},

@@ -16,13 +16,14 @@ from fact_graph import DictionaryRefused, Refused, Session, UnknownDictionary, U
 from fact_graph._library import library
 from fact_graph.built_in import page_of
 from fact_graph.page import misstated
-from fact_graph.session import KEPT
+from fact_graph.session import BUILT_IN, KEPT
 
 from .calls import replies
-from .places import EXAMPLES, SUM
+from .places import EXAMPLES, SUM, TOP
 
 HOUSEHOLDS = {"year 2023": EXAMPLES / "years" / "2023.script", "income 2023": EXAMPLES / "income" / "2023.script"}
-FACTS = {"year 2023": 45, "year 2024": 45, "income 2023": 69, "income 2024": 69}
+FACTS = {words: 45 if words.startswith("year") else 69 for words in BUILT_IN}
+YEARS = (TOP / "crates" / "tax_2023" / "src" / "years.rt").read_text(encoding="utf-8")
 
 
 @pytest.mark.parametrize(("words", "script"), HOUSEHOLDS.items())
@@ -44,6 +45,11 @@ def test_its_text_is_its_dictionary(words: str) -> None:
         assert len(session.facts()) == FACTS[words]
         assert list(session.facts()) == list(session.dictionary.facts)
         assert (of_text.dictionary, of_text.source) == (session.dictionary, session.source)
+
+
+def test_all_are_named() -> None:
+    years = re.findall(r'\("(\d+)", TaxYear::Year\d+\)', YEARS)
+    assert years and [f"{kind} {year}" for kind in ("year", "income") for year in years] == list(BUILT_IN)
 
 
 @pytest.mark.parametrize("words", ["", "year", "year 2022", "year 2023 ", "income 2022", "Year 2023"])

@@ -37,8 +37,8 @@ class Commands(click.Group):
 def commands() -> None:
     """Checks, runs and explains the rules of an interview.
 
-    FILE is a dictionary of facts, or - for standard input; or `year 2023`, `year 2024`, `income 2023` or `income 2024`, the rules of that tax
-    year. Each command has its own help: fact-graph COMMAND --help.
+    FILE is a dictionary of facts, or - for standard input; or, as `year 2023`, the rules of a tax year. Each command has its own help:
+    fact-graph COMMAND --help.
     """
 
 

@@ -14,7 +14,7 @@ from ..built_in import is_built_in, text_of
 from ..errors import DictionaryRefused, UnknownDictionary
 from ..faults import Examined, Source
 from ..page import Beside, page_beside
-from ..session import Session
+from ..session import BUILT_IN, Session
 from ..status import Status
 from ._failures import Failed
 from ._faults import misread, refused
@@ -73,7 +73,7 @@ def text_named(words: str) -> bytes:
     try:
         return text_of(words)
     except UnknownDictionary as unknown:
-        raise Failed(Status.USAGE, f"no rules {words} come with fact-graph, which has year 2023, year 2024, income 2023 and income 2024") from unknown
+        raise Failed(Status.USAGE, f"no rules {words} come with fact-graph, which has {', '.join(BUILT_IN[:-1])} and {BUILT_IN[-1]}") from unknown
 
 
 def is_written(name: str, text: bytes) -> bool:

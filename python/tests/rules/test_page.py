@@ -1,8 +1,7 @@
-"""docs/RULES.md says what is so, and README.md of rules as text."""
+"""docs/RULES.md says what is so."""
 
 from __future__ import annotations
 
-import json
 import re
 from pathlib import Path
 
@@ -35,13 +34,6 @@ def test_the_first_example_pays_by_its_outcome(library: Path, savings: str, outc
         session.open_list("/people")
         session["/savings"], session["/bill"] = savings, "840.50"
         assert (session["/outcome"], str(session.final("/help"))) == (outcome, due)
-
-
-def test_the_dictionary_of_the_first_page_is_one_in_both_forms() -> None:
-    """As people write it, and as the engine reads it."""
-    [(text, value)] = re.findall(r"```text\n(.*?)```\n\n```json\n(.*?)```", (TOP / "README.md").read_text(), re.DOTALL)
-    assert formatted(text) == text
-    assert parse(text).value == json.loads(value)
 
 
 @pytest.mark.parametrize("facts", [ANSWERED, FOLLOWING])
