@@ -9,11 +9,8 @@ use Rattle.fact_values.proofs.Days.{is_under, year_of-date}
 use Rattle.law_arithmetic.specs.declared.civil_date.CivilDate.{CivilDate}
 use Rattle.law_arithmetic.specs.Dates.{HasDate, last_month_begun, month_of, day_of, date_of}
 
-pub not_under : (a b : ℤ) → a ≤ℤ b → int_lt b a ≡ false
+not_under : (a b : ℤ) → a ≤ℤ b → int_lt b a ≡ false
 not_under a b h = grind (arith, ints)
-
-pub not_over : (a b : ℤ) → int_lt b a ≡ false → a ≤ℤ b
-not_over a b h = grind (arith, ints)
 
 -- the parts of a day's date
 pub civil : (n : ℤ) (date : CivilDate) → HasDate n date → IsCivilDate date.year date.month date.day
