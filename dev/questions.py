@@ -1,5 +1,5 @@
-"""Holds docs/TAX_YEARS.md to the questions of the tax years: to the rows of facts that are asked, to the places in the pages from which
-they come, and to the example of a session that goes on in the next year."""
+"""Holds docs/TAX_YEARS.md to the questions of the tax years: to the rows of facts that are asked, with the words of each, to the places in
+the pages from which they come, and to the example of a session that goes on in the next year."""
 import json
 import re
 from collections.abc import Iterator
@@ -13,7 +13,7 @@ OF_YEARS, OF_INCOME = (TOP / "crates" / name / "src" / "rows.rt" for name in ("t
 # Where the pages in a browser say that a question comes from.
 TEXTS = [TOP / "python" / "fact_graph" / "pages" / f"{name}.page" for name in ("common", "income")]
 EXAMPLE = TOP / "examples" / "next_year"
-ASKED = re.compile(r'\bAsked(?:From)?\(\s*"([^"]+)"')
+ASKED = re.compile(r'\bQuestion(?:From)?\(\s*"([^"]+)",\s*Kind::\w+,(?:\s*"0",)?\s*"([^"]+)",?\s*\)')
 HEADING = "## What is asked"
 ROW = re.compile(r"^\| `([/…][^`]*)` \| (.*) \| (.*) \| (.*) \|$", re.MULTILINE)
 OF_A_PERSON, SHORT = "/dependents/*/", "…/"
@@ -34,13 +34,21 @@ def questions(page: str) -> dict[str, Row]:
     return {path.replace(SHORT, OF_A_PERSON): Row(*cells) for path, *cells in ROW.findall(section)}
 
 
+def in_a_sentence(words: str) -> str:
+    """The words of a fact, as they stand behind those who are asked."""
+    return words[0].lower() + words[1:]
+
+
 def wrong_rows(rows: dict[str, Row]) -> Iterator[str]:
     """Where the rows aren't those of the facts that are asked, each with all its cells."""
-    of_years, of_income = (ASKED.findall(path.read_text(encoding="utf-8")) for path in (OF_YEARS, OF_INCOME))
-    yield from (f"no row asks for {path}" for path in (*of_years, *of_income) if path not in rows)
+    of_years, of_income = (dict(ASKED.findall(path.read_text(encoding="utf-8"))) for path in (OF_YEARS, OF_INCOME))
+    words = of_years | of_income
+    yield from (f"no row asks for {path}" for path in words if path not in rows)
     for path, row in rows.items():
-        if path not in (*of_years, *of_income):
+        if path not in words:
             yield f"there is a row for {path}, which no year asks for"
+        elif f": {in_a_sentence(words[path])}" not in f": {row.asked}":
+            yield f"the row for {path} doesn't ask: {words[path]}"
         if not all(row):
             yield f"the row for {path} has an empty cell"
         if (path in of_income) != row.asked.startswith(MARK_OF_INCOME):

@@ -84,6 +84,8 @@ fn one_name(op: OneOp) -> &'static str {
         OneOp::Not => "Not ",
         OneOp::Round => "Round ",
         OneOp::YearOf => "YearOf ",
+        OneOp::MonthOf => "MonthOf ",
+        OneOp::DayOf => "DayOf ",
     }
 }
 
@@ -98,6 +100,13 @@ fn two_name(op: TwoOp) -> &'static str {
         TwoOp::LessThan => "LessThan ",
         TwoOp::GreaterThanOrEqual => "GreaterThanOrEqual ",
         TwoOp::LessThanOrEqual => "LessThanOrEqual ",
+        TwoOp::AddMonths => "AddMonths ",
+        TwoOp::AddYears => "AddYears ",
+        TwoOp::DaysBetween => "DaysBetween ",
+        TwoOp::AgeOn => "AgeOn ",
+        TwoOp::RoundUp => "RoundUp ",
+        TwoOp::RoundDown => "RoundDown ",
+        TwoOp::RoundNearest => "RoundNearest ",
     }
 }
 

@@ -25,6 +25,7 @@ fact path stated main = record {
   main = main;
   conditional = None;
   placeholder = None;
+  description = None;
 }
 
 abbrev reads : ReadOp → UsePath → Source

@@ -13,7 +13,7 @@ use Rattle.dict_tree.specs.Facts.{Fact, Bound, least, option_within, conditional
 use Rattle.dict_tree.specs.Dictionary.{Dictionary, IsWithinLimits, number_from}
 use Rattle.dict_tree.specs.Json.{literal_json, json_of, json_of_trees, json_of_cases}
 use Rattle.dict_tree.specs.FactJson.{items_from, stated_text, limit_json, conditional_json}
-use Rattle.dict_tree.specs.DictJson.{version_text}
+use Rattle.dict_tree.specs.Versions.{version_text}
 use Rattle.dict_print.specs.DictionaryJson.{put_some, some_array, enum_json, fact_json, json_by_main, last_members, writable_members, derived_members, all_members, dictionary_json}
 
 -- ---- expressions
@@ -88,9 +88,15 @@ conditional_nests (Some c) h d e =
 weaker : (m n : ℕ) (o : Option Data) → m ≤ n → Nests m o → Nests n o
 weaker m n o le h d e = omega (arith, h d e)
 
+text_nests : (o : Option (List ℕ)) → Nests 0 (option_map string o)
+text_nests None d e = absurd cc
+text_nests (Some text) d e = subst (λ c. depth c ≤ 0) (same_Some (string text) d e) (omega arith)
+
 last_nest : (f : Fact) → option_within 48 f.placeholder ≡ true → members_depth (last_members f) ≤ 97
 last_nest f h =
-    put_some_nests (codes "placeholder") (option_map json_of f.placeholder) no_members 97 (weaker 96 97 (option_map json_of f.placeholder) (omega arith) (option_nests f.placeholder h)) (omega arith)
+    let words = put_some (codes "description") (option_map string f.description) no_members in
+    let words_nest : members_depth words ≤ 97 = put_some_nests (codes "description") (option_map string f.description) no_members 97 (weaker 0 97 (option_map string f.description) (omega arith) (text_nests f.description)) (omega arith) in
+    put_some_nests (codes "placeholder") (option_map json_of f.placeholder) words 97 (weaker 96 97 (option_map json_of f.placeholder) (omega arith) (option_nests f.placeholder h)) words_nest
 
 by_main : (f : Fact) (m : Option Source) → option_within 48 m ≡ true → conditional_within 48 f.conditional ≡ true → option_within 48 f.placeholder ≡ true → depth (json_by_main f m) ≤ 98
 by_main f None main conditional placeholder =
@@ -138,5 +144,5 @@ printed_nests d h =
     let array_nests : depth (array (items_from fact_json d.facts)) ≤ 99 = omega (arith, facts_nest 1 d.facts h.deep) in
     let facts = put (codes "facts") (array (items_from fact_json d.facts)) enums in
     let facts_are : members_depth facts ≤ 99 = put_nests (codes "facts") (array (items_from fact_json d.facts)) enums 99 array_nests enums_nest in
-    let all : members_depth (all_members d) ≤ 99 = put_nests (codes "version") (string (version_text true)) facts 99 (omega arith) facts_are in
+    let all : members_depth (all_members d) ≤ 99 = put_nests (codes "version") (string (version_text (printed_version d))) facts 99 (omega arith) facts_are in
     omega (arith, all)

@@ -1,9 +1,9 @@
 -- What is printed spells the dictionary.
-use Rattle.std.proofs.Common.{◌≡◌, inl, inr, ℕ, List, [], ◌∷◌, length, Bool, true, ◌&&◌, Option, Some, None, refl, sym, ap, subst}
+use Rattle.std.proofs.Common.{◌≡◌, ◌⊎◌, inl, inr, ℕ, List, [], ◌∷◌, length, Bool, true, false, IsTrue, ◌&&◌, Option, Some, None, refl, sym, ap, subst}
 use Rattle.std.specs.Prelude.{codes, nat_lt, option_map}
-use Rattle.std.specs.List.{All, list_all}
+use Rattle.std.specs.List.{All, list_all, list_any}
 use Rattle.std.proofs.lemmas.List.Elements.{All-head, All-tail}
-use Rattle.common_lemmas.proofs.Bools.{both}
+use Rattle.common_lemmas.proofs.Bools.{both, is_not, or_neither}
 use Rattle.serde_json.specs.Data.{Data, string, array, object, Items, no_members, put}
 use Rattle.serde_json.specs.Find.{get}
 use Rattle.fact_paths.specs.Names.{is_name}
@@ -16,9 +16,12 @@ use Rattle.dict_tree.specs.Dictionary.{Dictionary}
 use Rattle.dict_tree.specs.Json.{json_of}
 use Rattle.dict_tree.specs.FactParsing.{writable_keys, derived_keys}
 use Rattle.dict_tree.specs.FactJson.{IsObjectOf, IsOptionalText, IsNamed, items_from, stated_text, limit_json, conditional_json, SpellLimits, SpellsOptional, SpellsRequired, SpellsConditional, SpellsWritable, SpellsDerived, SpellsFact}
-use Rattle.dict_tree.specs.DictJson.{AreSpelled, SpellsEnum, SpellEnums, SpellsTop, SpellsDictionary, enum_keys, top_keys, version_text}
+use Rattle.dict_tree.specs.DictJson.{AreSpelled, SpellsEnum, SpellEnums, SpellsTop, SpellsDictionary, enum_keys, top_keys}
+use Rattle.dict_tree.specs.Profile.{fact_uses_law, has_operators}
+use Rattle.dict_tree.specs.Versions.{version_text}
+use Rattle.dict_tree.specs.declared.version.Version.TheVariants as versions
 use Rattle.dict_tree.proofs.EnumJsonLaws.{not_empty}
-use Rattle.dict_print.specs.DictionaryJson.{put_some, some_array, enum_json, fact_json, json_by_main, writable_json, derived_json, dictionary_json, IsPrintable}
+use Rattle.dict_print.specs.DictionaryJson.{put_some, some_array, enum_json, fact_json, json_by_main, writable_json, derived_json, dictionary_json, printed_version, version_for, IsPrintable}
 
 enum_spelled : (e : Listed) → is_listed e ≡ true → SpellsEnum (enum_json e) e
 enum_spelled e h =
@@ -51,46 +54,64 @@ conditional_spelled None h = tt
 conditional_spelled (Some c) h = (h.0, h.1, refl)
 
 -- an object whose members are those of a writable fact, each where it is found
-record WritableParts (d : Data) (text stated : List ℕ) (limits placeholder : Option Data) : Type 0 where
+record WritableParts (d : Data) (text stated : List ℕ) (limits placeholder description : Option Data) : Type 0 where
   keys : IsObjectOf writable_keys d
-  description : get (codes "description") d ≡ None
+  description_is : get (codes "description") d ≡ description
   path : get (codes "path") d ≡ Some (string text)
   stated_is : get (codes "writable") d ≡ Some (string stated)
   limits_are : get (codes "limits") d ≡ limits
   placeholder_is : get (codes "placeholder") d ≡ placeholder
 
-writable_parts : (text stated : List ℕ) (limits placeholder : Option Data)
-    → WritableParts (object (put (codes "path") (string text) (put (codes "writable") (string stated) (put_some (codes "limits") limits (put_some (codes "placeholder") placeholder no_members))))) text stated limits placeholder
-writable_parts text stated None None = record { keys = refl; description = refl; path = refl; stated_is = refl; limits_are = refl; placeholder_is = refl }
-writable_parts text stated None (Some p) = record { keys = refl; description = refl; path = refl; stated_is = refl; limits_are = refl; placeholder_is = refl }
-writable_parts text stated (Some l) None = record { keys = refl; description = refl; path = refl; stated_is = refl; limits_are = refl; placeholder_is = refl }
-writable_parts text stated (Some l) (Some p) = record { keys = refl; description = refl; path = refl; stated_is = refl; limits_are = refl; placeholder_is = refl }
+writable_parts : (text stated : List ℕ) (limits placeholder description : Option Data)
+    → WritableParts (object (put (codes "path") (string text) (put (codes "writable") (string stated) (put_some (codes "limits") limits (put_some (codes "placeholder") placeholder (put_some (codes "description") description no_members)))))) text stated limits placeholder description
+writable_parts text stated None None None = record { keys = refl; description_is = refl; path = refl; stated_is = refl; limits_are = refl; placeholder_is = refl }
+writable_parts text stated None None (Some t) = record { keys = refl; description_is = refl; path = refl; stated_is = refl; limits_are = refl; placeholder_is = refl }
+writable_parts text stated None (Some p) None = record { keys = refl; description_is = refl; path = refl; stated_is = refl; limits_are = refl; placeholder_is = refl }
+writable_parts text stated None (Some p) (Some t) = record { keys = refl; description_is = refl; path = refl; stated_is = refl; limits_are = refl; placeholder_is = refl }
+writable_parts text stated (Some l) None None = record { keys = refl; description_is = refl; path = refl; stated_is = refl; limits_are = refl; placeholder_is = refl }
+writable_parts text stated (Some l) None (Some t) = record { keys = refl; description_is = refl; path = refl; stated_is = refl; limits_are = refl; placeholder_is = refl }
+writable_parts text stated (Some l) (Some p) None = record { keys = refl; description_is = refl; path = refl; stated_is = refl; limits_are = refl; placeholder_is = refl }
+writable_parts text stated (Some l) (Some p) (Some t) = record { keys = refl; description_is = refl; path = refl; stated_is = refl; limits_are = refl; placeholder_is = refl }
 
 -- the same of a fact that follows from others
-record DerivedParts (d : Data) (text stated : List ℕ) (main : Data) (conditional placeholder : Option Data) : Type 0 where
-  keys : IsObjectOf (derived_keys true) d
-  description : get (codes "description") d ≡ None
+record DerivedParts (d : Data) (text stated : List ℕ) (main : Data) (conditional placeholder description : Option Data) : Type 0 where
+  keys : IsObjectOf (derived_keys versions.Second) d
+  description_is : get (codes "description") d ≡ description
   path : get (codes "path") d ≡ Some (string text)
   stated_is : get (codes "derived") d ≡ Some (string stated)
   main_is : get (codes "is") d ≡ Some main
   conditional_is : get (codes "conditional") d ≡ conditional
   placeholder_is : get (codes "placeholder") d ≡ placeholder
 
-derived_parts : (text stated : List ℕ) (main : Data) (conditional placeholder : Option Data)
-    → DerivedParts (object (put (codes "path") (string text) (put (codes "derived") (string stated) (put (codes "is") main (put_some (codes "conditional") conditional (put_some (codes "placeholder") placeholder no_members)))))) text stated main conditional placeholder
-derived_parts text stated main None None = record { keys = refl; description = refl; path = refl; stated_is = refl; main_is = refl; conditional_is = refl; placeholder_is = refl }
-derived_parts text stated main None (Some p) = record { keys = refl; description = refl; path = refl; stated_is = refl; main_is = refl; conditional_is = refl; placeholder_is = refl }
-derived_parts text stated main (Some c) None = record { keys = refl; description = refl; path = refl; stated_is = refl; main_is = refl; conditional_is = refl; placeholder_is = refl }
-derived_parts text stated main (Some c) (Some p) = record { keys = refl; description = refl; path = refl; stated_is = refl; main_is = refl; conditional_is = refl; placeholder_is = refl }
+derived_parts : (text stated : List ℕ) (main : Data) (conditional placeholder description : Option Data)
+    → DerivedParts (object (put (codes "path") (string text) (put (codes "derived") (string stated) (put (codes "is") main (put_some (codes "conditional") conditional (put_some (codes "placeholder") placeholder (put_some (codes "description") description no_members))))))) text stated main conditional placeholder description
+derived_parts text stated main None None None = record { keys = refl; description_is = refl; path = refl; stated_is = refl; main_is = refl; conditional_is = refl; placeholder_is = refl }
+derived_parts text stated main None None (Some t) = record { keys = refl; description_is = refl; path = refl; stated_is = refl; main_is = refl; conditional_is = refl; placeholder_is = refl }
+derived_parts text stated main None (Some p) None = record { keys = refl; description_is = refl; path = refl; stated_is = refl; main_is = refl; conditional_is = refl; placeholder_is = refl }
+derived_parts text stated main None (Some p) (Some t) = record { keys = refl; description_is = refl; path = refl; stated_is = refl; main_is = refl; conditional_is = refl; placeholder_is = refl }
+derived_parts text stated main (Some c) None None = record { keys = refl; description_is = refl; path = refl; stated_is = refl; main_is = refl; conditional_is = refl; placeholder_is = refl }
+derived_parts text stated main (Some c) None (Some t) = record { keys = refl; description_is = refl; path = refl; stated_is = refl; main_is = refl; conditional_is = refl; placeholder_is = refl }
+derived_parts text stated main (Some c) (Some p) None = record { keys = refl; description_is = refl; path = refl; stated_is = refl; main_is = refl; conditional_is = refl; placeholder_is = refl }
+derived_parts text stated main (Some c) (Some p) (Some t) = record { keys = refl; description_is = refl; path = refl; stated_is = refl; main_is = refl; conditional_is = refl; placeholder_is = refl }
+
+-- both versions that are printed have the keys of the second
+printed_keys : (law : Bool) → derived_keys (version_for law) ≡ derived_keys versions.Second
+printed_keys true = refl
+printed_keys false = refl
+
+-- each has the operators of the facts for which it is printed
+operators_printed : (law : Bool) (f : Fact) → (law ≡ false → fact_uses_law f ≡ false) → IsTrue (has_operators (version_for law) f)
+operators_printed true f none = refl
+operators_printed false f none = is_not (fact_uses_law f) (none refl)
 
 -- ---- facts
 
 writable_spelled : (f : Fact) → IsReadFrom SpellsFactPath f.path_text f.path → f.main ≡ None → HasKind f None → HasOptionForm f.placeholder → IsNamed f.stated → SpellsWritable (writable_json f) f
 writable_spelled f path main kind placeholder named =
-    let p = writable_parts f.path_text (stated_text f.stated) (some_array limit_json f.limits) (option_map json_of f.placeholder) in
+    let p = writable_parts f.path_text (stated_text f.stated) (some_array limit_json f.limits) (option_map json_of f.placeholder) (option_map string f.description) in
     record {
       keys = p.keys;
-      description = subst IsOptionalText (sym p.description) tt;
+      description = p.description_is;
       path = p.path;
       read_path = path;
       stated = p.stated_is;
@@ -104,12 +125,12 @@ writable_spelled f path main kind placeholder named =
 main_spelled : (o : Option Data) (m : Option Source) (t : Source) → o ≡ Some (json_of t) → m ≡ Some t → HasForm t → SpellsRequired o m
 main_spelled o m t e main form = rw (e, main) (form, refl)
 
-derived_spelled : (f : Fact) (t : Source) → IsReadFrom SpellsFactPath f.path_text f.path → f.main ≡ Some t → HasKind f (Some t) → HasConditionalForm f.conditional → HasOptionForm f.placeholder → IsNamed f.stated → SpellsDerived true (derived_json f t) f
-derived_spelled f t path main kind conditional placeholder named =
-    let p = derived_parts f.path_text (stated_text f.stated) (json_of t) (option_map conditional_json f.conditional) (option_map json_of f.placeholder) in
+derived_spelled : (law : Bool) (f : Fact) (t : Source) → IsReadFrom SpellsFactPath f.path_text f.path → f.main ≡ Some t → HasKind f (Some t) → HasConditionalForm f.conditional → HasOptionForm f.placeholder → IsNamed f.stated → SpellsDerived (version_for law) (derived_json f t) f
+derived_spelled law f t path main kind conditional placeholder named =
+    let p = derived_parts f.path_text (stated_text f.stated) (json_of t) (option_map conditional_json f.conditional) (option_map json_of f.placeholder) (option_map string f.description) in
     record {
-      keys = p.keys;
-      description = subst IsOptionalText (sym p.description) tt;
+      keys = subst (λ keys. IsObjectOf keys (derived_json f t)) (sym (printed_keys law)) p.keys;
+      description = p.description_is;
       path = p.path;
       read_path = path;
       stated = p.stated_is;
@@ -120,39 +141,45 @@ derived_spelled f t path main kind conditional placeholder named =
       placeholder = subst (λ o. SpellsOptional o f.placeholder) (sym p.placeholder_is) (optional_spelled f.placeholder placeholder);
     }
 
-by_main : (f : Fact) (m : Option Source) → f.main ≡ m → HasKind f m → IsReadFrom SpellsFactPath f.path_text f.path → HasConditionalForm f.conditional → HasOptionForm f.placeholder → IsNamed f.stated → SpellsFact true (json_by_main f m) f
-by_main f None main kind path conditional placeholder named = inl (writable_spelled f path main kind placeholder named)
-by_main f (Some t) main kind path conditional placeholder named = inr (derived_spelled f t path main kind conditional placeholder named)
+by_main : (law : Bool) (f : Fact) (m : Option Source) → f.main ≡ m → HasKind f m → IsReadFrom SpellsFactPath f.path_text f.path → HasConditionalForm f.conditional → HasOptionForm f.placeholder → IsNamed f.stated → SpellsWritable (json_by_main f m) f ⊎ SpellsDerived (version_for law) (json_by_main f m) f
+by_main law f None main kind path conditional placeholder named = inl (writable_spelled f path main kind placeholder named)
+by_main law f (Some t) main kind path conditional placeholder named = inr (derived_spelled law f t path main kind conditional placeholder named)
 
-fact_spelled : (f : Fact) → IsWellFormed f → IsNamed f.stated → SpellsFact true (fact_json f) f
-fact_spelled f h named = by_main f f.main refl h.kind h.path h.conditional h.placeholder named
+fact_spelled : (law : Bool) (f : Fact) → IsWellFormed f → IsNamed f.stated → (law ≡ false → fact_uses_law f ≡ false) → SpellsFact (version_for law) (fact_json f) f
+fact_spelled law f h named none = record {
+  form = by_main law f f.main refl h.kind h.path h.conditional h.placeholder named;
+  operators = operators_printed law f none;
+}
 
-facts_spelled : (fs : List Fact) → All IsWellFormed fs → All (λ f. IsNamed f.stated) fs → AreSpelled (SpellsFact true) (items_from fact_json fs) fs
-facts_spelled [] h named = tt
-facts_spelled (f ∷ fs) h named =
-    (fact_spelled f (All-head IsWellFormed f fs h) (All-head (λ g. IsNamed g.stated) f fs named), facts_spelled fs (All-tail IsWellFormed f fs h) (All-tail (λ g. IsNamed g.stated) f fs named))
+facts_spelled : (law : Bool) (fs : List Fact) → All IsWellFormed fs → All (λ f. IsNamed f.stated) fs → (law ≡ false → list_any fact_uses_law fs ≡ false) → AreSpelled (SpellsFact (version_for law)) (items_from fact_json fs) fs
+facts_spelled law [] h named none = tt
+facts_spelled law (f ∷ fs) h named none =
+    let apart : law ≡ false → (fact_uses_law f ≡ false) × (list_any fact_uses_law fs ≡ false) = λ e. or_neither (fact_uses_law f) (list_any fact_uses_law fs) (none e) in (
+      fact_spelled law f (All-head IsWellFormed f fs h) (All-head (λ g. IsNamed g.stated) f fs named) (λ e. (apart e).0),
+      facts_spelled law fs (All-tail IsWellFormed f fs h) (All-tail (λ g. IsNamed g.stated) f fs named) (λ e. (apart e).1),
+    )
 
 -- ---- the whole
 
-record TopParts (d facts : Data) (enums : Option Data) : Type 0 where
+record TopParts (version : List ℕ) (d facts : Data) (enums : Option Data) : Type 0 where
   keys : IsObjectOf top_keys d
   description : get (codes "description") d ≡ None
-  version : get (codes "version") d ≡ Some (string (version_text true))
+  version_is : get (codes "version") d ≡ Some (string version)
   enums_are : get (codes "enums") d ≡ enums
   facts_are : get (codes "facts") d ≡ Some facts
 
-top_parts : (facts : Data) (enums : Option Data) → TopParts (object (put (codes "version") (string (version_text true)) (put (codes "facts") facts (put_some (codes "enums") enums no_members)))) facts enums
-top_parts facts None = record { keys = refl; description = refl; version = refl; enums_are = refl; facts_are = refl }
-top_parts facts (Some e) = record { keys = refl; description = refl; version = refl; enums_are = refl; facts_are = refl }
+top_parts : (version : List ℕ) (facts : Data) (enums : Option Data) → TopParts version (object (put (codes "version") (string version) (put (codes "facts") facts (put_some (codes "enums") enums no_members)))) facts enums
+top_parts version facts None = record { keys = refl; description = refl; version_is = refl; enums_are = refl; facts_are = refl }
+top_parts version facts (Some e) = record { keys = refl; description = refl; version_is = refl; enums_are = refl; facts_are = refl }
 
 pub printed_spells : (d : Dictionary) → IsPrintable d → SpellsDictionary (dictionary_json d) d
 printed_spells d h =
-    let p = top_parts (array (items_from fact_json d.facts)) (some_array enum_json d.enums) in
-    let top : SpellsTop (dictionary_json d) true d.enums (items_from fact_json d.facts) = record {
+    let p = top_parts (version_text (printed_version d)) (array (items_from fact_json d.facts)) (some_array enum_json d.enums) in
+    let top : SpellsTop (dictionary_json d) (printed_version d) d.enums (items_from fact_json d.facts) = record {
       keys = p.keys;
       description = subst IsOptionalText (sym p.description) tt;
-      version = p.version;
+      version = p.version_is;
       enums = subst (λ o. SpellEnums o d.enums) (sym p.enums_are) (lists_spelled d.enums h.lists);
       facts = p.facts_are;
     } in
-    record { later = true; items = items_from fact_json d.facts; top = top; facts = facts_spelled d.facts h.valid.well_formed h.named }
+    record { version = printed_version d; items = items_from fact_json d.facts; top = top; facts = facts_spelled (list_any fact_uses_law d.facts) d.facts h.valid.well_formed h.named (λ e. e) }

@@ -1,6 +1,6 @@
 -- The JSON form in which a dictionary is printed.
-use Rattle.std.specs.Prelude.{◌≡◌, ℕ, List, [], ◌∷◌, map, codes, true, Option, Some, None, option_map}
-use Rattle.std.specs.List.{All}
+use Rattle.std.specs.Prelude.{◌≡◌, ℕ, List, [], ◌∷◌, map, codes, Bool, true, false, Option, Some, None, option_map}
+use Rattle.std.specs.List.{All, list_any}
 use Rattle.serde_json.specs.Data.{Data, string, array, object, no_items, item, Members, no_members, put}
 use Rattle.value_text.specs.Enums.{Listed, AreLists}
 use Rattle.dict_tree.specs.Tree.{Source, SourceCase}
@@ -8,7 +8,10 @@ use Rattle.dict_tree.specs.Facts.{Fact}
 use Rattle.dict_tree.specs.Dictionary.{Dictionary, IsValid}
 use Rattle.dict_tree.specs.Json.{node_json, json_of}
 use Rattle.dict_tree.specs.FactJson.{items_from, stated_text, limit_json, conditional_json, IsNamed}
-use Rattle.dict_tree.specs.DictJson.{version_text}
+use Rattle.dict_tree.specs.Profile.{fact_uses_law}
+use Rattle.dict_tree.specs.Versions.{version_text}
+use Rattle.dict_tree.specs.declared.version.Version.{Version}
+use Rattle.dict_tree.specs.declared.version.Version.TheVariants as versions
 
 -- ---- members of an object
 
@@ -35,7 +38,7 @@ enum_json e = object (put (codes "name") (string e.name) (put (codes "options") 
 -- ---- facts
 
 abbrev pub last_members : Fact → Members
-last_members f = put_some (codes "placeholder") (option_map json_of f.placeholder) no_members
+last_members f = put_some (codes "placeholder") (option_map json_of f.placeholder) (put_some (codes "description") (option_map string f.description) no_members)
 
 abbrev pub writable_members : Fact → Members
 writable_members f = put (codes "path") (string f.path_text) (put (codes "writable") (string (stated_text f.stated)) (put_some (codes "limits") (some_array limit_json f.limits) (last_members f)))
@@ -60,10 +63,18 @@ fact_json f = json_by_main f f.main
 
 -- ---- the whole
 
-abbrev pub all_members : Dictionary → Members
-all_members d = put (codes "version") (string (version_text true)) (put (codes "facts") (array (items_from fact_json d.facts)) (put_some (codes "enums") (some_array enum_json d.enums) no_members))
+-- the law profile where a fact has one of its operators
+abbrev pub version_for : Bool → Version
+version_for true = versions.Law
+version_for false = versions.Second
 
--- in version 2, with no member for enums where there are none
+abbrev pub printed_version : Dictionary → Version
+printed_version d = version_for (list_any fact_uses_law d.facts)
+
+abbrev pub all_members : Dictionary → Members
+all_members d = put (codes "version") (string (version_text (printed_version d))) (put (codes "facts") (array (items_from fact_json d.facts)) (put_some (codes "enums") (some_array enum_json d.enums) no_members))
+
+-- in version 2 or the law profile, with no member for enums where there are none
 abbrev pub dictionary_json : Dictionary → Data
 dictionary_json d = object (all_members d)
 

@@ -77,6 +77,21 @@ fn put_placeholder(
     }
 }
 
+// Adds a member for what the fact is in words, where it says so.
+fn put_description(
+    members: &mut Map<String, Value>,
+    alloc: Global,
+    description: &Option<String>,
+) -> Result<(), NoMemory>
+    ensures { OnOk result (members_view members.new.entries ≡ put_some (codes "description")
+        (option_map string (option_map string_bytes description.now)) (members_view members.old.entries)) }
+{
+    match description {
+        None => Ok(()),
+        Some(text) => put_text(members, alloc, "description", text.as_str()),
+    }
+}
+
 // `[C,V]`
 fn conditional_value(alloc: Global, conditional: &Conditional) -> Result<Value, NoMemory>
     ensures { IfOk result (λ v. json v ≡ conditional_json (conditional_view conditional.now)) }
@@ -124,6 +139,7 @@ fn put_writable(
     ensures members { OnOk result (members_view members.new.entries ≡ writable_members (fact_view fact.now)) }
     ensures named { OnOk result (IsNamed (fact_view fact.now).stated) }
 {
+    put_description(members, alloc, &fact.description)?;
     put_placeholder(members, alloc, &fact.placeholder)?;
     put_limits(members, alloc, fact.limits.as_slice())?;
     put_stated(members, alloc, "writable", &fact.stated)?;
@@ -151,6 +167,7 @@ fn put_derived(
         (view main.now)) }
     ensures named { OnOk result (IsNamed (fact_view fact.now).stated) }
 {
+    put_description(members, alloc, &fact.description)?;
     put_placeholder(members, alloc, &fact.placeholder)?;
     put_conditional(members, alloc, &fact.conditional)?;
     put_expr(members, alloc, "is", main)?;

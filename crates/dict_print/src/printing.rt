@@ -5,14 +5,25 @@ ghost use Rattle.serde_json.specs.Read.{read};
 ghost use Rattle.serde_json.specs.View.{view as json, members_view};
 ghost use Rattle.dict_tree.specs.Dictionary.{dictionary_view};
 ghost use Rattle.dict_tree.specs.DictParsing.{BytesGive, max_bytes};
-ghost use Rattle.dict_print.specs.DictionaryJson.{IsPrintable, all_members, dictionary_json};
+ghost use Rattle.dict_print.specs.DictionaryJson.{IsPrintable, all_members, dictionary_json, printed_version};
 
 use crate::enum_value::put_enums;
 use crate::fact_value::{fact_values, put_text};
-use dict_tree::DictSource;
+use dict_tree::{DictSource, Version, some_uses_law, version_text};
 use fact_values::NoMemory;
 use serde_json::{Map, Value};
 use std::alloc::Global;
+
+// The version that has the dictionary's operators.
+fn version_of(source: &DictSource) -> Version
+    ensures { result ≡ printed_version (dictionary_view source.now) }
+{
+    if some_uses_law(source.facts()) {
+        Version::Law
+    } else {
+        Version::Second
+    }
+}
 
 // Adds the members of a dictionary to none.
 fn put_all(
@@ -27,7 +38,7 @@ fn put_all(
     put_enums(members, alloc, source.enums())?;
     let facts = fact_values(alloc, source.facts())?;
     serde_json::put(members, alloc, "facts", facts)?;
-    put_text(members, alloc, "version", "2")
+    put_text(members, alloc, "version", version_text(version_of(source)))
 }
 
 fn dictionary_value(alloc: Global, source: &DictSource) -> Result<Value, NoMemory>
@@ -39,7 +50,7 @@ fn dictionary_value(alloc: Global, source: &DictSource) -> Result<Value, NoMemor
     Ok(Value::Object(members))
 }
 
-/// The dictionary as JSON, of version 2, laid out over lines. It reads back as the same dictionary where it isn't longer than
+/// The dictionary as JSON, of version 2 or the law profile where it has one of its operators, laid out over lines. It reads back as the same dictionary where it isn't longer than
 /// what `dict_tree::read` takes, 8,388,608 bytes. Descriptions and the order of members aren't kept, since no tree has them.
 pub fn print(alloc: Global, source: &DictSource) -> Result<Vec<u8>, NoMemory>
     ensures json { IfOk result (λ b. read b.items ≡ Some (dictionary_json (dictionary_view source.now))) }

@@ -39,6 +39,8 @@ pub fn word_of_one(op: OneOp) -> &'static str
         OneOp::Not => "Not",
         OneOp::Round => "Round",
         OneOp::YearOf => "YearOf",
+        OneOp::MonthOf => "MonthOf",
+        OneOp::DayOf => "DayOf",
     }
 }
 
@@ -56,6 +58,13 @@ pub fn word_of_two(op: TwoOp) -> &'static str
         TwoOp::GreaterThanOrEqual => "GreaterThanOrEqual",
         TwoOp::LessThanOrEqual => "LessThanOrEqual",
         TwoOp::AddDays => "AddDays",
+        TwoOp::AddMonths => "AddMonths",
+        TwoOp::AddYears => "AddYears",
+        TwoOp::DaysBetween => "DaysBetween",
+        TwoOp::AgeOn => "AgeOn",
+        TwoOp::RoundUp => "RoundUp",
+        TwoOp::RoundDown => "RoundDown",
+        TwoOp::RoundNearest => "RoundNearest",
     }
 }
 

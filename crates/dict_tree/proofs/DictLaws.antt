@@ -11,7 +11,7 @@ use Rattle.dict_tree.proofs.DictJsonLaws.{read_given}
 use Rattle.dict_tree.proofs.FactLaws.{facts_are_well_formed}
 
 pub dictionary_is_valid : (d : Data) (dict : Dictionary) → ValueGives d (Ok dict) → IsValid dict
-dictionary_is_valid d dict h = record { well_formed = facts_are_well_formed h.0.later h.0.items dict.facts h.0.facts; limits = h.1 }
+dictionary_is_valid d dict h = record { well_formed = facts_are_well_formed h.0.version h.0.items dict.facts h.0.facts; limits = h.1 }
 
 -- ---- the exits of `read`
 

@@ -1,24 +1,27 @@
 -- A fact that is read is spelled, and a fact that is spelled is read.
-use Rattle.std.proofs.Common.{◌≡◌, inl, inr, ℕ, List, [], ◌∷◌, Bool, true, false, cond, Option, Some, None, option_and_then, refl, sym, ap, subst, ◌∙◌}
+use Rattle.std.proofs.Common.{◌≡◌, ◌⊎◌, inl, inr, ℕ, List, [], ◌∷◌, Bool, true, false, cond, Option, Some, None, option_and_then, refl, sym, ap, subst, ◌∙◌}
 use Rattle.std.specs.Prelude.{codes}
 use Rattle.std.proofs.lemmas.Option.{same_Some}
+use Rattle.common_lemmas.proofs.Bools.{chosen}
 use Rattle.common_lemmas.proofs.Options.{both_some, mapped}
 use Rattle.serde_json.specs.Data.{Data, string, array, object, Items, no_items, item, Members}
 use Rattle.serde_json.specs.Find.{as_str, as_array, as_object, get, get_member}
 use Rattle.fact_paths.specs.Parsing.{fact_path_of}
 use Rattle.dict_tree.specs.declared.limits_json.LimitName.{LimitName}
 use Rattle.dict_tree.specs.declared.limits_json.LimitName.TheVariants as names
+use Rattle.dict_tree.specs.declared.version.Version.{Version}
 use Rattle.dict_tree.specs.Tree.{Source, SourceCase}
+use Rattle.dict_tree.specs.Profile.{has_operators}
 use Rattle.dict_tree.specs.Facts.{Fact, Stated, Bound, least}
 use Rattle.dict_tree.specs.Forms.{IsWritableType, IsDerivedType}
 use Rattle.dict_tree.specs.Json.{text_json}
 use Rattle.dict_tree.specs.FactJson.{items_from, stated_text, limit_json, IsNamed, SpellLimits, SpellsOptional, SpellsRequired, SpellsConditional, SpellsWritable, SpellsDerived, SpellsFact}
 use Rattle.dict_tree.specs.Parsing.{two_texts, pair_tree, tree_of}
 use Rattle.dict_tree.specs.StatedParsing.{writable_stated, derived_stated}
-use Rattle.dict_tree.specs.FactParsing.{is_optional_text, has_no_other, limit_names, limit_name, bound_under, limit_of, limit_list, limits_in, main_in, tree_in, conditional_in, fact_from, writable_keys, derived_keys, writable_fact, derived_fact, fact_with, fact_of}
+use Rattle.dict_tree.specs.FactParsing.{has_no_other, limit_names, limit_name, bound_under, limit_of, limit_list, limits_in, main_in, tree_in, conditional_in, fact_from, writable_keys, derived_keys, writable_fact, derived_fact, fact_with, if_of_version, fact_of}
 use Rattle.dict_tree.proofs.ExprLaws.{two_texts_are, found, pair_found, again, spelled_again}
 use Rattle.dict_tree.proofs.NameLaws.{named_so}
-use Rattle.dict_tree.proofs.MemberLaws.{guarded, object_is, is_object, array_is, optional_text_found, optional_text_again, text_found, key_is_known}
+use Rattle.dict_tree.proofs.MemberLaws.{object_is, is_object, array_is, text_in_found, text_in_again, text_found, key_is_known}
 use Rattle.dict_tree.proofs.StatedLaws.{IsOf, writable_stated_found, derived_stated_found, writable_stated_again, derived_stated_again}
 use Rattle.dict_tree.proofs.UseLaws.{fact_path_from, fact_path_given}
 
@@ -104,7 +107,7 @@ conditional_in_again (Some d) None h = absurd h
 
 -- ---- a fact and its parts
 
-record HasParts (text : Option (List ℕ)) (limits : Option (List Bound)) (main : Option (Option Source)) (conditional : Option (Option SourceCase)) (placeholder : Option (Option Source)) (stated : Option Stated) (f : Fact) : Type 0 where
+record HasParts (text : Option (List ℕ)) (limits : Option (List Bound)) (main : Option (Option Source)) (conditional : Option (Option SourceCase)) (placeholder : Option (Option Source)) (stated : Option Stated) (description : Option (Option (List ℕ))) (f : Fact) : Type 0 where
   text_is : text ≡ Some f.path_text
   path_is : fact_path_of f.path_text ≡ f.path
   limits_are : limits ≡ Some f.limits
@@ -112,18 +115,19 @@ record HasParts (text : Option (List ℕ)) (limits : Option (List Bound)) (main 
   conditional_is : conditional ≡ Some f.conditional
   placeholder_is : placeholder ≡ Some f.placeholder
   stated_is : stated ≡ Some f.stated
+  description_is : description ≡ Some f.description
 
-parts_of : (text : Option (List ℕ)) (limits : Option (List Bound)) (main : Option (Option Source)) (conditional : Option (Option SourceCase)) (placeholder : Option (Option Source)) (stated : Option Stated) (f : Fact)
-    → fact_from text limits main conditional placeholder stated ≡ Some f → HasParts text limits main conditional placeholder stated f
-parts_of (Some text) (Some limits) (Some main) (Some conditional) (Some placeholder) (Some stated) f e =
-    subst (HasParts (Some text) (Some limits) (Some main) (Some conditional) (Some placeholder) (Some stated)) (same_Some _ f e)
-    (record { text_is = refl; path_is = refl; limits_are = refl; main_is = refl; conditional_is = refl; placeholder_is = refl; stated_is = refl })
-parts_of text limits main conditional placeholder stated f e = absurd cc
+parts_of : (text : Option (List ℕ)) (limits : Option (List Bound)) (main : Option (Option Source)) (conditional : Option (Option SourceCase)) (placeholder : Option (Option Source)) (stated : Option Stated) (description : Option (Option (List ℕ))) (f : Fact)
+    → fact_from text limits main conditional placeholder stated description ≡ Some f → HasParts text limits main conditional placeholder stated description f
+parts_of (Some text) (Some limits) (Some main) (Some conditional) (Some placeholder) (Some stated) (Some description) f e =
+    subst (HasParts (Some text) (Some limits) (Some main) (Some conditional) (Some placeholder) (Some stated) (Some description)) (same_Some _ f e)
+    (record { text_is = refl; path_is = refl; limits_are = refl; main_is = refl; conditional_is = refl; placeholder_is = refl; stated_is = refl; description_is = refl })
+parts_of text limits main conditional placeholder stated description f e = absurd cc
 
-from_its_parts : (text : Option (List ℕ)) (limits : Option (List Bound)) (main : Option (Option Source)) (conditional : Option (Option SourceCase)) (placeholder : Option (Option Source)) (stated : Option Stated) (f : Fact)
-    → HasParts text limits main conditional placeholder stated f → fact_from text limits main conditional placeholder stated ≡ Some f
-from_its_parts text limits main conditional placeholder stated f h =
-    rw (h.text_is, h.limits_are, h.main_is, h.conditional_is, h.placeholder_is, h.stated_is, h.path_is) refl
+from_its_parts : (text : Option (List ℕ)) (limits : Option (List Bound)) (main : Option (Option Source)) (conditional : Option (Option SourceCase)) (placeholder : Option (Option Source)) (stated : Option Stated) (description : Option (Option (List ℕ))) (f : Fact)
+    → HasParts text limits main conditional placeholder stated description f → fact_from text limits main conditional placeholder stated description ≡ Some f
+from_its_parts text limits main conditional placeholder stated description f h =
+    rw (h.text_is, h.limits_are, h.main_is, h.conditional_is, h.placeholder_is, h.stated_is, h.description_is, h.path_is) refl
 
 -- ---- the types that facts state
 
@@ -135,14 +139,14 @@ text_at_found P read law o s e =
 
 -- ---- facts that are read
 
-writable_found : (d : Data) (ms : Members) (f : Fact) → as_object d ≡ Some ms → is_optional_text (get (codes "description") d) ≡ true → has_no_other writable_keys ms ≡ true → writable_fact d ≡ Some f → SpellsWritable d f
+writable_found : (d : Data) (ms : Members) (f : Fact) → as_object d ≡ Some ms → has_no_other writable_keys ms ≡ true → writable_fact d ≡ Some f → SpellsWritable d f
 unfolding writable_fact
-writable_found d ms f is text keys e =
-    let p = parts_of _ _ _ _ _ _ f e in
+writable_found d ms f is keys e =
+    let p = parts_of _ _ _ _ _ _ _ f e in
     let s = text_at_found IsWritableType writable_stated writable_stated_found (get (codes "writable") d) f.stated p.stated_is in
     record {
       keys = object_is writable_keys d ms is keys;
-      description = optional_text_found (get (codes "description") d) text;
+      description = text_in_found (get (codes "description") d) f.description p.description_is;
       path = text_found (get (codes "path") d) f.path_text p.text_is;
       read_path = fact_path_from f.path_text f.path p.path_is;
       stated = s.0;
@@ -153,14 +157,14 @@ writable_found d ms f is text keys e =
       placeholder = tree_in_found (get (codes "placeholder") d) f.placeholder p.placeholder_is;
     }
 
-derived_found : (later : Bool) (d : Data) (ms : Members) (f : Fact) → as_object d ≡ Some ms → is_optional_text (get (codes "description") d) ≡ true → has_no_other (derived_keys later) ms ≡ true → derived_fact d ≡ Some f → SpellsDerived later d f
+derived_found : (version : Version) (d : Data) (ms : Members) (f : Fact) → as_object d ≡ Some ms → has_no_other (derived_keys version) ms ≡ true → derived_fact d ≡ Some f → SpellsDerived version d f
 unfolding derived_fact
-derived_found later d ms f is text keys e =
-    let p = parts_of _ _ _ _ _ _ f e in
+derived_found version d ms f is keys e =
+    let p = parts_of _ _ _ _ _ _ _ f e in
     let s = text_at_found IsDerivedType derived_stated derived_stated_found (get (codes "derived") d) f.stated p.stated_is in
     record {
-      keys = object_is (derived_keys later) d ms is keys;
-      description = optional_text_found (get (codes "description") d) text;
+      keys = object_is (derived_keys version) d ms is keys;
+      description = text_in_found (get (codes "description") d) f.description p.description_is;
       path = text_found (get (codes "path") d) f.path_text p.text_is;
       read_path = fact_path_from f.path_text f.path p.path_is;
       stated = s.0;
@@ -171,23 +175,28 @@ derived_found later d ms f is text keys e =
       placeholder = tree_in_found (get (codes "placeholder") d) f.placeholder p.placeholder_is;
     }
 
-kind_found : (later w k : Bool) (d : Data) (ms : Members) (f : Fact) → as_object d ≡ Some ms → is_optional_text (get (codes "description") d) ≡ true
-    → has_no_other writable_keys ms ≡ w → has_no_other (derived_keys later) ms ≡ k → cond w (writable_fact d) (cond k (derived_fact d) None) ≡ Some f → SpellsFact later d f
-kind_found later true k d ms f is text we ke e = inl (writable_found d ms f is text we e)
-kind_found later false true d ms f is text we ke e = inr (derived_found later d ms f is text ke e)
-kind_found later false false d ms f is text we ke e = absurd cc
+kind_found : (version : Version) (w k : Bool) (d : Data) (ms : Members) (f : Fact) → as_object d ≡ Some ms
+    → has_no_other writable_keys ms ≡ w → has_no_other (derived_keys version) ms ≡ k → cond w (writable_fact d) (cond k (derived_fact d) None) ≡ Some f → SpellsWritable d f ⊎ SpellsDerived version d f
+kind_found version true k d ms f is we ke e = inl (writable_found d ms f is we e)
+kind_found version false true d ms f is we ke e = inr (derived_found version d ms f is ke e)
+kind_found version false false d ms f is we ke e = absurd cc
 
-pub fact_found : (later : Bool) (d : Data) (f : Fact) → fact_of later d ≡ Some f → SpellsFact later d f
-fact_found later d f e =
-    let a = both_some (fact_with later d) (as_object d) f e in
-    let g = guarded (is_optional_text (get (codes "description") d)) _ f a.2 in
-    kind_found later (has_no_other writable_keys a.0) (has_no_other (derived_keys later) a.0) d a.0 f a.1 g.0 refl refl g.1
+form_found : (version : Version) (d : Data) (f : Fact) → option_and_then (fact_with version d) (as_object d) ≡ Some f → SpellsWritable d f ⊎ SpellsDerived version d f
+form_found version d f e =
+    let a = both_some (fact_with version d) (as_object d) f e in
+    kind_found version (has_no_other writable_keys a.0) (has_no_other (derived_keys version) a.0) d a.0 f a.1 refl refl a.2
+
+pub fact_found : (version : Version) (d : Data) (f : Fact) → fact_of version d ≡ Some f → SpellsFact version d f
+fact_found version d f e =
+    let a = both_some (if_of_version version) (option_and_then (fact_with version d) (as_object d)) f e in
+    let g = chosen (has_operators version a.0) a.0 f a.2 in
+    subst (SpellsFact version d) g.1 (record { form = form_found version d a.0 a.1; operators = g.0 })
 
 -- ---- facts that are spelled
 
 writable_again : (d : Data) (f : Fact) → SpellsWritable d f → writable_fact d ≡ Some f
 unfolding writable_fact
-writable_again d f h = from_its_parts _ _ _ _ _ _ f (record {
+writable_again d f h = from_its_parts _ _ _ _ _ _ _ f (record {
   text_is = ap (option_and_then as_str) h.path;
   path_is = fact_path_given f.path_text f.path h.read_path;
   limits_are = limits_in_again (get (codes "limits") d) f.limits h.limits;
@@ -195,11 +204,12 @@ writable_again d f h = from_its_parts _ _ _ _ _ _ f (record {
   conditional_is = ap Some (sym h.conditional);
   placeholder_is = tree_in_again (get (codes "placeholder") d) f.placeholder h.placeholder;
   stated_is = ap (λ (o : Option Data). option_and_then writable_stated (option_and_then as_str o)) h.stated ∙ writable_stated_again f.stated h.kind.0 h.kind.1;
+  description_is = text_in_again (get (codes "description") d) f.description h.description;
 })
 
-derived_again : (later : Bool) (d : Data) (f : Fact) → SpellsDerived later d f → derived_fact d ≡ Some f
+derived_again : (version : Version) (d : Data) (f : Fact) → SpellsDerived version d f → derived_fact d ≡ Some f
 unfolding derived_fact
-derived_again later d f h = from_its_parts _ _ _ _ _ _ f (record {
+derived_again version d f h = from_its_parts _ _ _ _ _ _ _ f (record {
   text_is = ap (option_and_then as_str) h.path;
   path_is = fact_path_given f.path_text f.path h.read_path;
   limits_are = ap Some (sym h.limits);
@@ -207,6 +217,7 @@ derived_again later d f h = from_its_parts _ _ _ _ _ _ f (record {
   conditional_is = conditional_in_again (get (codes "conditional") d) f.conditional h.conditional;
   placeholder_is = tree_in_again (get (codes "placeholder") d) f.placeholder h.placeholder;
   stated_is = ap (λ (o : Option Data). option_and_then derived_stated (option_and_then as_str o)) h.stated ∙ derived_stated_again f.stated h.kind.0 h.kind.1;
+  description_is = text_in_again (get (codes "description") d) f.description h.description;
 })
 
 -- a fact that states a derived type isn't writable
@@ -217,11 +228,14 @@ not_writable true d ms v is e h =
     let known : false ≡ true = key_is_known writable_keys (codes "derived") ms v there h in
     absurd cc
 
-pub fact_again : (later : Bool) (d : Data) (f : Fact) → SpellsFact later d f → fact_of later d ≡ Some f
-fact_again later d f (inl h) =
+form_again : (version : Version) (d : Data) (f : Fact) → SpellsWritable d f ⊎ SpellsDerived version d f → option_and_then (fact_with version d) (as_object d) ≡ Some f
+form_again version d f (inl h) =
     let o = is_object writable_keys d h.keys in
-    ap (λ (x : Data). option_and_then (fact_with later d) (as_object x)) o.1 ∙ rw (optional_text_again (get (codes "description") d) h.description, o.2) (writable_again d f h)
-fact_again later d f (inr h) =
-    let o = is_object (derived_keys later) d h.keys in
+    ap (λ (x : Data). option_and_then (fact_with version d) (as_object x)) o.1 ∙ rw o.2 (writable_again d f h)
+form_again version d f (inr h) =
+    let o = is_object (derived_keys version) d h.keys in
     let w : has_no_other writable_keys o.0 ≡ false = not_writable (has_no_other writable_keys o.0) d o.0 (string (stated_text f.stated)) o.1 h.stated refl in
-    ap (λ (x : Data). option_and_then (fact_with later d) (as_object x)) o.1 ∙ rw (optional_text_again (get (codes "description") d) h.description, w, o.2) (derived_again later d f h)
+    ap (λ (x : Data). option_and_then (fact_with version d) (as_object x)) o.1 ∙ rw (w, o.2) (derived_again version d f h)
+
+pub fact_again : (version : Version) (d : Data) (f : Fact) → SpellsFact version d f → fact_of version d ≡ Some f
+fact_again version d f h = ap (option_and_then (if_of_version version)) (form_again version d f h.form) ∙ rw h.operators refl

@@ -1,12 +1,13 @@
 -- A fact that is spelled is well formed.
-use Rattle.std.proofs.Common.{◌≡◌, inl, inr, Bool, Option, Some, None, List, [], ◌∷◌, sym, subst}
+use Rattle.std.proofs.Common.{◌≡◌, ◌⊎◌, inl, inr, Option, Some, None, List, [], ◌∷◌, sym, subst}
 use Rattle.std.specs.List.{All}
 use Rattle.std.proofs.lemmas.List.Elements.{All-nil, All-cons}
 use Rattle.serde_json.specs.Data.{Data, Items, no_items, item}
+use Rattle.dict_tree.specs.declared.version.Version.{Version}
 use Rattle.dict_tree.specs.Tree.{Source, SourceCase}
 use Rattle.dict_tree.specs.Facts.{Fact}
 use Rattle.dict_tree.specs.Forms.{HasKind, HasOptionForm, HasConditionalForm, IsDerivedType, IsWellFormed}
-use Rattle.dict_tree.specs.FactJson.{SpellsOptional, SpellsRequired, SpellsConditional, SpellsFact}
+use Rattle.dict_tree.specs.FactJson.{SpellsOptional, SpellsRequired, SpellsConditional, SpellsWritable, SpellsDerived, SpellsFact}
 use Rattle.dict_tree.specs.DictJson.{AreSpelled}
 
 optional_form : (o : Option Data) (t : Option Source) → SpellsOptional o t → HasOptionForm t
@@ -24,21 +25,24 @@ derived_kind f (Some d) (Some t) kind limits h = (kind, h.0, limits)
 derived_kind f (Some d) None kind limits h = absurd h
 derived_kind f None t kind limits h = absurd h
 
-pub fact_is_well_formed : (later : Bool) (d : Data) (f : Fact) → SpellsFact later d f → IsWellFormed f
-fact_is_well_formed later d f (inl h) = record {
+form_is_well_formed : (version : Version) (d : Data) (f : Fact) → SpellsWritable d f ⊎ SpellsDerived version d f → IsWellFormed f
+form_is_well_formed version d f (inl h) = record {
   path = h.read_path;
   kind = subst (HasKind f) (sym h.main) (h.kind.0, h.conditional);
   conditional = subst HasConditionalForm (sym h.conditional) tt;
   placeholder = optional_form _ f.placeholder h.placeholder;
 }
-fact_is_well_formed later d f (inr h) = record {
+form_is_well_formed version d f (inr h) = record {
   path = h.read_path;
   kind = derived_kind f _ f.main h.kind.0 h.limits h.main;
   conditional = conditional_form _ f.conditional h.conditional;
   placeholder = optional_form _ f.placeholder h.placeholder;
 }
 
-pub facts_are_well_formed : (later : Bool) (ds : Items) (fs : List Fact) → AreSpelled (SpellsFact later) ds fs → All IsWellFormed fs
-facts_are_well_formed later no_items [] h = All-nil IsWellFormed
-facts_are_well_formed later (item d ds) (f ∷ fs) h = All-cons IsWellFormed f fs (fact_is_well_formed later d f h.0) (facts_are_well_formed later ds fs h.1)
-facts_are_well_formed later ds fs h = absurd h
+pub fact_is_well_formed : (version : Version) (d : Data) (f : Fact) → SpellsFact version d f → IsWellFormed f
+fact_is_well_formed version d f h = form_is_well_formed version d f h.form
+
+pub facts_are_well_formed : (version : Version) (ds : Items) (fs : List Fact) → AreSpelled (SpellsFact version) ds fs → All IsWellFormed fs
+facts_are_well_formed version no_items [] h = All-nil IsWellFormed
+facts_are_well_formed version (item d ds) (f ∷ fs) h = All-cons IsWellFormed f fs (fact_is_well_formed version d f h.0) (facts_are_well_formed version ds fs h.1)
+facts_are_well_formed version ds fs h = absurd h

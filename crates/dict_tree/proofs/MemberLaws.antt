@@ -1,6 +1,6 @@
 -- Members of an object.
 use Rattle.std.proofs.Common.{◌≡◌, ℕ, List, Bool, true, false, cond, Option, Some, None, option_and_then, refl, sym, ap, subst, ◌∙◌}
-use Rattle.std.specs.Prelude.{is_some}
+use Rattle.std.specs.Prelude.{is_some, option_map}
 use Rattle.std.specs.Str.{bytes_eq}
 use Rattle.std.specs.List.{list_any}
 use Rattle.std.specs.Ordering.{is_eq, nat_cmp, match_ordering}
@@ -11,11 +11,11 @@ use Rattle.std.proofs.lemmas.Map.Text.{is_eq-slice_cmp}
 use Rattle.std.proofs.lemmas.Option.{same_Some}
 use Rattle.common_lemmas.proofs.Bools.{both}
 use Rattle.common_lemmas.proofs.Bytes.{same_bytes}
-use Rattle.common_lemmas.proofs.Options.{both_some}
+use Rattle.common_lemmas.proofs.Options.{both_some, mapped}
 use Rattle.serde_json.specs.Data.{Data, string, array, object, Items, Members, no_members, member}
 use Rattle.serde_json.specs.Find.{as_str, as_array, as_object, get_member}
 use Rattle.dict_tree.specs.FactJson.{IsObjectOf, IsOptionalText}
-use Rattle.dict_tree.specs.FactParsing.{has_no_other, is_optional_text}
+use Rattle.dict_tree.specs.FactParsing.{has_no_other, is_optional_text, text_in}
 use Rattle.dict_tree.proofs.ExprLaws.{text_is}
 
 -- what is there under a test
@@ -45,6 +45,14 @@ optional_text_found (Some d) h = absurd cc
 pub optional_text_again : (o : Option Data) → IsOptionalText o → is_optional_text o ≡ true
 optional_text_again None h = refl
 optional_text_again (Some d) h = ap (λ (x : Data). is_some (as_str x)) h.1
+
+pub text_in_found : (o : Option Data) (s : Option (List ℕ)) → text_in o ≡ Some s → o ≡ option_map string s
+text_in_found None s e = ap (option_map string) (same_Some None s e)
+text_in_found (Some d) s e = let a = mapped _ (as_str d) s e in rw a.2 (ap Some (text_is d a.0 a.1))
+
+pub text_in_again : (o : Option Data) (s : Option (List ℕ)) → o ≡ option_map string s → text_in o ≡ Some s
+text_in_again o None h = ap text_in h
+text_in_again o (Some s) h = ap text_in h
 
 pub text_found : (o : Option Data) (s : List ℕ) → option_and_then as_str o ≡ Some s → o ≡ Some (string s)
 text_found o s e = let a = both_some as_str o s e in a.1 ∙ ap Some (text_is a.0 s a.2)

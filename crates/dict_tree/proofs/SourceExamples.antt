@@ -25,7 +25,7 @@ abbrev used : UsePath → Use
 used path = record { text = use_path_text path; path = Some path }
 
 abbrev written : FactPath → Stated → Fact
-written path stated = record { path_text = fact_path_text path; path = Some path; stated = stated; limits = []; main = None; conditional = None; placeholder = None }
+written path stated = record { path_text = fact_path_text path; path = Some path; stated = stated; limits = []; main = None; conditional = None; placeholder = None; description = None }
 
 abbrev derived : FactPath → Stated → Source → Fact
 derived path stated main = record (written path stated) { main = Some main }

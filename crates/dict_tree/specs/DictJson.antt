@@ -1,5 +1,5 @@
 -- The JSON form of a dictionary, and which part of a value isn't of the form.
-use Rattle.std.specs.Prelude.{◌≡◌, ◌≢◌, ◌⊎◌, ℕ, ◌+◌, Bool, true, false, IsTrue, List, [], ◌∷◌, codes, Option, Some, None, Result, Ok, Err}
+use Rattle.std.specs.Prelude.{◌≡◌, ◌≢◌, ◌⊎◌, ℕ, ◌+◌, IsTrue, List, [], ◌∷◌, codes, Option, Some, None, Result, Ok, Err}
 use Rattle.std.specs.List.{list_all}
 use Rattle.serde_json.specs.Data.{Data, string, array, Items, no_items, item}
 use Rattle.serde_json.specs.Find.{get}
@@ -8,8 +8,10 @@ use Rattle.value_text.specs.Enums.{Listed, are_distinct, names_of}
 use Rattle.dict_tree.specs.Facts.{Fact}
 use Rattle.dict_tree.specs.FactJson.{IsObjectOf, IsOptionalText, items_from, SpellsFact}
 use Rattle.dict_tree.specs.Dictionary.{Dictionary, IsWithinLimits, too_many, too_deep}
+use Rattle.dict_tree.specs.Versions.{version_text}
 use Rattle.dict_tree.specs.declared.fault.TreeFault.{TreeFault}
 use Rattle.dict_tree.specs.declared.fault.TreeFault.TheVariants as faults
+use Rattle.dict_tree.specs.declared.version.Version.{Version}
 
 -- ---- enums
 
@@ -43,46 +45,42 @@ SpellEnums (Some d) es = (items : Items) × (d ≡ array items) × AreSpelled Sp
 abbrev pub top_keys : List (List ℕ)
 top_keys = codes "version" ∷ codes "facts" ∷ codes "enums" ∷ codes "description" ∷ []
 
-abbrev pub version_text : Bool → List ℕ
-version_text false = codes "1"
-version_text true = codes "2"
-
--- what lies outside the facts; later says that the version is 2
-pub record SpellsTop (d : Data) (later : Bool) (lists : List Listed) (items : Items) : Type 0 where
+-- what lies outside the facts, of this version
+pub record SpellsTop (d : Data) (stated : Version) (lists : List Listed) (items : Items) : Type 0 where
   pub keys : IsObjectOf top_keys d
   pub description : IsOptionalText (get (codes "description") d)
-  pub version : get (codes "version") d ≡ Some (string (version_text later))
+  pub version : get (codes "version") d ≡ Some (string (version_text stated))
   pub enums : SpellEnums (get (codes "enums") d) lists
   pub facts : get (codes "facts") d ≡ Some (array items)
 
 -- the value spells the dictionary
 pub record SpellsDictionary (d : Data) (dict : Dictionary) : Type 0 where
-  pub later : Bool
+  pub version : Version
   pub items : Items
-  pub top : SpellsTop d later dict.enums items
-  pub facts : AreSpelled (SpellsFact later) items dict.facts
+  pub top : SpellsTop d version dict.enums items
+  pub facts : AreSpelled (SpellsFact version) items dict.facts
 
 -- ---- what isn't of the form
 
 -- nothing that lies outside the facts is spelled
 abbrev pub IsTopWrong : Data → Type 0
-IsTopWrong d = (later : Bool) (enums : List Listed) (items : Items) → ¬ (SpellsTop d later enums items)
+IsTopWrong d = (version : Version) (enums : List Listed) (items : Items) → ¬ (SpellsTop d version enums items)
 
 -- no fact is spelled
-abbrev pub IsFactWrong : Bool → Data → Type 0
-IsFactWrong later d = (f : Fact) → ¬ (SpellsFact later d f)
+abbrev pub IsFactWrong : Version → Data → Type 0
+IsFactWrong version d = (f : Fact) → ¬ (SpellsFact version d f)
 
 -- the number of the first that spells no fact, where they are counted from n
-abbrev pub IsFirstWrong : Bool → ℕ → Items → ℕ → Type 0
-IsFirstWrong later n no_items m = ⊥
-IsFirstWrong later n (item d ds) m = (IsFactWrong later d × (m ≡ n)) ⊎ ((f : Fact) × SpellsFact later d f × IsFirstWrong later (n + 1) ds m)
+abbrev pub IsFirstWrong : Version → ℕ → Items → ℕ → Type 0
+IsFirstWrong version n no_items m = ⊥
+IsFirstWrong version n (item d ds) m = (IsFactWrong version d × (m ≡ n)) ⊎ ((f : Fact) × SpellsFact version d f × IsFirstWrong version (n + 1) ds m)
 
 pub record IsWrongFact (d : Data) (number : ℕ) : Type 0 where
-  pub later : Bool
+  pub version : Version
   pub enums : List Listed
   pub items : Items
-  pub top : SpellsTop d later enums items
-  pub first : IsFirstWrong later 1 items number
+  pub top : SpellsTop d version enums items
+  pub first : IsFirstWrong version 1 items number
 
 -- The part that isn't of the form: 0 where it lies outside the facts, and else the first fact.
 abbrev pub IsWrongAt : Data → ℕ → Type 0

@@ -9,12 +9,13 @@ use Rattle.value_text.specs.Enums.{Listed, are_distinct, names_of}
 use Rattle.dict_tree.specs.Facts.{Fact, fact_view}
 use Rattle.dict_tree.specs.FactParsing.{has_no_other, text_at, is_optional_text, fact_of}
 use Rattle.dict_tree.specs.Dictionary.{Dictionary, too_many, too_deep}
-use Rattle.dict_tree.specs.Names.{under_name}
+use Rattle.dict_tree.specs.Versions.{version_of}
 use Rattle.dict_tree.specs.DictJson.{enum_keys, top_keys, ValueGives}
 use Rattle.dict_tree.specs.declared.dict_json.Found.{Found}
 use Rattle.dict_tree.specs.declared.enums_json.EnumSource.{EnumSource}
 use Rattle.dict_tree.specs.declared.fault.TreeFault.{TreeFault}
 use Rattle.dict_tree.specs.declared.fault.TreeFault.TheVariants as faults
+use Rattle.dict_tree.specs.declared.version.Version.{Version}
 
 -- ---- enums
 
@@ -73,24 +74,17 @@ facts_step n None rest = Err (faults.Shape n)
 facts_step n (Some f) (Ok fs) = Ok (f ∷ fs)
 facts_step n (Some f) (Err e) = Err e
 
-abbrev pub facts_of : Bool → ℕ → Items → Result (List Fact) TreeFault
-facts_of later n no_items = Ok []
-facts_of later n (item d ds) = facts_step n (fact_of later d) (facts_of later (n + 1) ds)
+abbrev pub facts_of : Version → ℕ → Items → Result (List Fact) TreeFault
+facts_of version n no_items = Ok []
+facts_of version n (item d ds) = facts_step n (fact_of version d) (facts_of version (n + 1) ds)
 
 -- ---- the whole
 
-abbrev pub version_names : List (List ℕ × Bool)
-version_names = (codes "1", false) ∷ (codes "2", true) ∷ []
-
--- whether it is version 2, and not 1
-abbrev pub version_of : List ℕ → Option Bool
-version_of text = under_name text version_names
-
-abbrev pub version_with : Data → Members → Option Bool
+abbrev pub version_with : Data → Members → Option Version
 version_with d members =
     if has_no_other top_keys members && is_optional_text (get (codes "description") d) then option_and_then version_of (text_at (codes "version") d) else None
 
-abbrev pub version_in : Data → Option Bool
+abbrev pub version_in : Data → Option Version
 version_in d = option_and_then (version_with d) (as_object d)
 
 abbrev pub shallow : Dictionary → Option ℕ → Result Dictionary TreeFault
@@ -109,9 +103,9 @@ with_facts enums (Ok facts) = few (dictionary_with enums facts) (too_many (dicti
 with_facts enums (Err e) = Err e
 
 -- of the version, the lists and the facts, where each is there
-abbrev pub from_parts : Option Bool → Option (List Listed) → Option Items → Result Dictionary TreeFault
-from_parts (Some later) (Some enums) (Some items) = with_facts enums (facts_of later 1 items)
-from_parts later enums items = Err (faults.Shape 0)
+abbrev pub from_parts : Option Version → Option (List Listed) → Option Items → Result Dictionary TreeFault
+from_parts (Some version) (Some enums) (Some items) = with_facts enums (facts_of version 1 items)
+from_parts version enums items = Err (faults.Shape 0)
 
 -- the dictionary that the value spells, or the first fault: the shape of all before the limits, and fact 0 first
 unfoldable pub dictionary_of : Data → Result Dictionary TreeFault

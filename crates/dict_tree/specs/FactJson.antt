@@ -1,5 +1,5 @@
 -- The JSON form of a fact.
-use Rattle.std.specs.Prelude.{◌≡◌, ◌⊎◌, ℕ, Bool, IsTrue, List, [], ◌∷◌, ◌++◌, codes, Option, Some, None}
+use Rattle.std.specs.Prelude.{◌≡◌, ◌⊎◌, ℕ, IsTrue, List, [], ◌∷◌, ◌++◌, codes, Option, Some, None, option_map}
 use Rattle.serde_json.specs.Data.{Data, null, boolean, number, string, array, object, Items, no_items, item}
 use Rattle.serde_json.specs.Find.{get}
 use Rattle.fact_paths.specs.Names.{is_name}
@@ -11,6 +11,8 @@ use Rattle.dict_tree.specs.Facts.{Fact, Stated, scalar, enum_of, writable_list, 
 use Rattle.dict_tree.specs.Forms.{IsReadFrom, HasForm, IsWritableType, IsDerivedType}
 use Rattle.dict_tree.specs.Json.{text_json, json_of, Spells}
 use Rattle.dict_tree.specs.FactParsing.{has_no_other, writable_keys, derived_keys}
+use Rattle.dict_tree.specs.Profile.{has_operators}
+use Rattle.dict_tree.specs.declared.version.Version.{Version}
 
 -- ---- members of an object
 
@@ -104,7 +106,7 @@ SpellsConditional (Some d) None = ⊥
 -- the value spells the writable fact
 pub record SpellsWritable (d : Data) (f : Fact) : Type 0 where
   pub keys : IsObjectOf writable_keys d
-  pub description : IsOptionalText (get (codes "description") d)
+  pub description : get (codes "description") d ≡ option_map string f.description
   pub path : get (codes "path") d ≡ Some (string f.path_text)
   pub read_path : IsReadFrom SpellsFactPath f.path_text f.path
   pub stated : get (codes "writable") d ≡ Some (string (stated_text f.stated))
@@ -114,10 +116,10 @@ pub record SpellsWritable (d : Data) (f : Fact) : Type 0 where
   pub conditional : f.conditional ≡ None
   pub placeholder : SpellsOptional (get (codes "placeholder") d) f.placeholder
 
--- the value spells the derived fact; later says that the version is 2
-pub record SpellsDerived (later : Bool) (d : Data) (f : Fact) : Type 0 where
-  pub keys : IsObjectOf (derived_keys later) d
-  pub description : IsOptionalText (get (codes "description") d)
+-- the value spells the derived fact
+pub record SpellsDerived (version : Version) (d : Data) (f : Fact) : Type 0 where
+  pub keys : IsObjectOf (derived_keys version) d
+  pub description : get (codes "description") d ≡ option_map string f.description
   pub path : get (codes "path") d ≡ Some (string f.path_text)
   pub read_path : IsReadFrom SpellsFactPath f.path_text f.path
   pub stated : get (codes "derived") d ≡ Some (string (stated_text f.stated))
@@ -127,5 +129,7 @@ pub record SpellsDerived (later : Bool) (d : Data) (f : Fact) : Type 0 where
   pub conditional : SpellsConditional (get (codes "conditional") d) f.conditional
   pub placeholder : SpellsOptional (get (codes "placeholder") d) f.placeholder
 
-abbrev pub SpellsFact : Bool → Data → Fact → Type 0
-SpellsFact later d f = SpellsWritable d f ⊎ SpellsDerived later d f
+-- the value spells the fact, whose operators the version has
+pub record SpellsFact (version : Version) (d : Data) (f : Fact) : Type 0 where
+  pub form : SpellsWritable d f ⊎ SpellsDerived version d f
+  pub operators : IsTrue (has_operators version f)

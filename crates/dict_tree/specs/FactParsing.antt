@@ -11,6 +11,9 @@ use Rattle.dict_tree.specs.Facts.{Fact, Stated, Bound, least, greatest, max_leng
 use Rattle.dict_tree.specs.Names.{under_name}
 use Rattle.dict_tree.specs.Parsing.{two_texts, pair_tree, tree_of}
 use Rattle.dict_tree.specs.StatedParsing.{writable_stated, derived_stated}
+use Rattle.dict_tree.specs.Profile.{has_operators}
+use Rattle.dict_tree.specs.declared.version.Version.{Version}
+use Rattle.dict_tree.specs.declared.version.Version.TheVariants as versions
 
 -- ---- members of an object
 
@@ -27,6 +30,11 @@ text_at key d = option_and_then as_str (get key d)
 abbrev pub is_optional_text : Option Data → Bool
 is_optional_text None = true
 is_optional_text (Some d) = is_some (as_str d)
+
+-- the text, where there is such a member
+abbrev pub text_in : Option Data → Option (Option (List ℕ))
+text_in None = Some None
+text_in (Some d) = option_map (λ t. Some t) (as_str d)
 
 -- ---- limits
 
@@ -77,28 +85,30 @@ abbrev pub writable_keys : List (List ℕ)
 writable_keys = codes "path" ∷ codes "writable" ∷ codes "limits" ∷ codes "placeholder" ∷ codes "description" ∷ []
 
 -- only from version 2 on a fact may have a conditional
-abbrev pub derived_keys : Bool → List (List ℕ)
-derived_keys false = codes "path" ∷ codes "derived" ∷ codes "is" ∷ codes "placeholder" ∷ codes "description" ∷ []
-derived_keys true = codes "path" ∷ codes "derived" ∷ codes "is" ∷ codes "placeholder" ∷ codes "description" ∷ codes "conditional" ∷ []
+abbrev pub derived_keys : Version → List (List ℕ)
+derived_keys versions.First = codes "path" ∷ codes "derived" ∷ codes "is" ∷ codes "placeholder" ∷ codes "description" ∷ []
+derived_keys _ = codes "path" ∷ codes "derived" ∷ codes "is" ∷ codes "placeholder" ∷ codes "description" ∷ codes "conditional" ∷ []
 
 -- the fact of these parts, where each is there
-abbrev pub fact_from : Option (List ℕ) → Option (List Bound) → Option (Option Source) → Option (Option SourceCase) → Option (Option Source) → Option Stated → Option Fact
-fact_from (Some text) (Some limits) (Some main) (Some conditional) (Some placeholder) (Some stated) =
-    Some (record { path_text = text; path = fact_path_of text; stated = stated; limits = limits; main = main; conditional = conditional; placeholder = placeholder })
-fact_from text limits main conditional placeholder stated = None
+abbrev pub fact_from : Option (List ℕ) → Option (List Bound) → Option (Option Source) → Option (Option SourceCase) → Option (Option Source) → Option Stated → Option (Option (List ℕ)) → Option Fact
+fact_from (Some text) (Some limits) (Some main) (Some conditional) (Some placeholder) (Some stated) (Some description) =
+    Some (record { path_text = text; path = fact_path_of text; stated = stated; limits = limits; main = main; conditional = conditional; placeholder = placeholder; description = description })
+fact_from text limits main conditional placeholder stated description = None
 
 unfoldable pub writable_fact : Data → Option Fact
-writable_fact d = fact_from (text_at (codes "path") d) (limits_in (get (codes "limits") d)) (Some None) (Some None) (tree_in (get (codes "placeholder") d)) (option_and_then writable_stated (text_at (codes "writable") d))
+writable_fact d = fact_from (text_at (codes "path") d) (limits_in (get (codes "limits") d)) (Some None) (Some None) (tree_in (get (codes "placeholder") d)) (option_and_then writable_stated (text_at (codes "writable") d)) (text_in (get (codes "description") d))
 
 unfoldable pub derived_fact : Data → Option Fact
-derived_fact d = fact_from (text_at (codes "path") d) (Some []) (main_in (get (codes "is") d)) (conditional_in (get (codes "conditional") d)) (tree_in (get (codes "placeholder") d)) (option_and_then derived_stated (text_at (codes "derived") d))
+derived_fact d = fact_from (text_at (codes "path") d) (Some []) (main_in (get (codes "is") d)) (conditional_in (get (codes "conditional") d)) (tree_in (get (codes "placeholder") d)) (option_and_then derived_stated (text_at (codes "derived") d)) (text_in (get (codes "description") d))
 
-abbrev pub fact_with : Bool → Data → Members → Option Fact
-fact_with later d members =
-    if is_optional_text (get (codes "description") d)
-    then (if has_no_other writable_keys members then writable_fact d else (if has_no_other (derived_keys later) members then derived_fact d else None))
-    else None
+abbrev pub fact_with : Version → Data → Members → Option Fact
+fact_with version d members =
+    if has_no_other writable_keys members then writable_fact d else (if has_no_other (derived_keys version) members then derived_fact d else None)
 
--- the fact that the value spells; later says that the version is 2
-abbrev pub fact_of : Bool → Data → Option Fact
-fact_of later d = option_and_then (fact_with later d) (as_object d)
+-- the fact, where the version has its operators
+abbrev pub if_of_version : Version → Fact → Option Fact
+if_of_version version f = if has_operators version f then Some f else None
+
+-- the fact that the value spells in a dictionary of this version
+abbrev pub fact_of : Version → Data → Option Fact
+fact_of version d = option_and_then (if_of_version version) (option_and_then (fact_with version d) (as_object d))

@@ -35,6 +35,8 @@ pub record Fact : Type 0 where
   pub main : Option Source
   pub conditional : Option SourceCase
   pub placeholder : Option Source
+  -- what it is, in words for people
+  pub description : Option (List ℕ)
 
 -- ---- views
 
@@ -63,6 +65,7 @@ fact_view f = record {
   main = option_map view f.main;
   conditional = option_map conditional_view f.conditional;
   placeholder = option_map view f.placeholder;
+  description = option_map string_bytes f.description;
 }
 
 -- ---- nodes

@@ -1,5 +1,5 @@
 -- Laws of reading and spelling.
-use Rattle.std.specs.Prelude.{◌≡◌, Bool, Some, Result}
+use Rattle.std.specs.Prelude.{◌≡◌, Some, Result}
 use Rattle.serde_json.specs.Data.{Data}
 use Rattle.value_text.specs.Enums.{Listed}
 use Rattle.dict_tree.specs.Tree.{Source}
@@ -13,6 +13,7 @@ use Rattle.dict_tree.specs.FactParsing.{fact_of}
 use Rattle.dict_tree.specs.Dictionary.{Dictionary}
 use Rattle.dict_tree.specs.DictParsing.{enum_of, dictionary_of}
 use Rattle.dict_tree.specs.declared.fault.TreeFault.{TreeFault}
+use Rattle.dict_tree.specs.declared.version.Version.{Version}
 
 -- ---- expressions
 
@@ -28,15 +29,15 @@ SpelledIsRead = (d : Data) (t : Source) → Spells d t → tree_of d ≡ Some t
 
 -- a fact that is read is well formed
 abbrev pub ReadIsWellFormed : Type 0
-ReadIsWellFormed = (later : Bool) (d : Data) (f : Fact) → fact_of later d ≡ Some f → IsWellFormed f
+ReadIsWellFormed = (version : Version) (d : Data) (f : Fact) → fact_of version d ≡ Some f → IsWellFormed f
 
 -- a fact that is read is spelled
 abbrev pub ReadFactIsSpelled : Type 0
-ReadFactIsSpelled = (later : Bool) (d : Data) (f : Fact) → fact_of later d ≡ Some f → SpellsFact later d f
+ReadFactIsSpelled = (version : Version) (d : Data) (f : Fact) → fact_of version d ≡ Some f → SpellsFact version d f
 
 -- a fact that is spelled is read
 abbrev pub SpelledFactIsRead : Type 0
-SpelledFactIsRead = (later : Bool) (d : Data) (f : Fact) → SpellsFact later d f → fact_of later d ≡ Some f
+SpelledFactIsRead = (version : Version) (d : Data) (f : Fact) → SpellsFact version d f → fact_of version d ≡ Some f
 
 -- a list of options that is read is spelled
 abbrev pub ReadEnumIsSpelled : Type 0

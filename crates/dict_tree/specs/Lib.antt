@@ -16,9 +16,11 @@ pub mod OperandTypes
 pub mod PathIndex
 pub mod PathLaws
 pub mod Parsing
+pub mod Profile
 pub mod StatedParsing
 pub mod Sources
 pub mod Targets
 pub mod Tree
 pub mod Typing
+pub mod Versions
 pub mod View

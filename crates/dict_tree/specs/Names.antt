@@ -44,6 +44,8 @@ abbrev pub one_name : OneOp → List ℕ
 one_name ones.Not = codes "Not"
 one_name ones.Round = codes "Round"
 one_name ones.YearOf = codes "YearOf"
+one_name ones.MonthOf = codes "MonthOf"
+one_name ones.DayOf = codes "DayOf"
 
 abbrev pub two_name : TwoOp → List ℕ
 two_name twos.Multiply = codes "Multiply"
@@ -55,6 +57,13 @@ two_name twos.LessThan = codes "LessThan"
 two_name twos.GreaterThanOrEqual = codes "GreaterThanOrEqual"
 two_name twos.LessThanOrEqual = codes "LessThanOrEqual"
 two_name twos.AddDays = codes "AddDays"
+two_name twos.AddMonths = codes "AddMonths"
+two_name twos.AddYears = codes "AddYears"
+two_name twos.DaysBetween = codes "DaysBetween"
+two_name twos.AgeOn = codes "AgeOn"
+two_name twos.RoundUp = codes "RoundUp"
+two_name twos.RoundDown = codes "RoundDown"
+two_name twos.RoundNearest = codes "RoundNearest"
 
 abbrev pub pick_name : PickOp → List ℕ
 pick_name picks.Filter = codes "Filter"
@@ -112,6 +121,15 @@ node_names =
     ∷ (codes "AddDays", names.Two twos.AddDays)
     ∷ (codes "Filter", names.Pick picks.Filter)
     ∷ (codes "Find", names.Pick picks.Find)
+    ∷ (codes "MonthOf", names.One ones.MonthOf)
+    ∷ (codes "DayOf", names.One ones.DayOf)
+    ∷ (codes "AddMonths", names.Two twos.AddMonths)
+    ∷ (codes "AddYears", names.Two twos.AddYears)
+    ∷ (codes "DaysBetween", names.Two twos.DaysBetween)
+    ∷ (codes "AgeOn", names.Two twos.AgeOn)
+    ∷ (codes "RoundUp", names.Two twos.RoundUp)
+    ∷ (codes "RoundDown", names.Two twos.RoundDown)
+    ∷ (codes "RoundNearest", names.Two twos.RoundNearest)
     ∷ []
 
 -- the node of a name

@@ -70,6 +70,8 @@ abbrev pub one_type : OneOp → FactType → Option FactType
 one_type one_op.Not Boolean = Some Boolean
 one_type one_op.Round Dollar = Some Dollar
 one_type one_op.YearOf Day = Some Int
+one_type one_op.MonthOf Day = Some Int
+one_type one_op.DayOf Day = Some Int
 one_type _ _ = None
 
 -- ---- two operands
@@ -97,6 +99,17 @@ abbrev pub later_day_type : FactType → FactType → Option FactType
 later_day_type Day Int = Some Day
 later_day_type _ _ = None
 
+-- from one day to another
+abbrev pub between_type : FactType → FactType → Option FactType
+between_type Day Day = Some Int
+between_type _ _ = None
+
+-- an amount, or a fraction of dollars, to the multiples of an amount
+abbrev pub multiple_type : FactType → FactType → Option FactType
+multiple_type Dollar Dollar = Some Dollar
+multiple_type Rational Dollar = Some Dollar
+multiple_type _ _ = None
+
 abbrev pub equality_type : FactType → FactType → Option FactType
 equality_type a b = if is_compared a && same_type a b then Some Boolean else None
 
@@ -113,6 +126,13 @@ two_type two_op.GreaterThan a b = order_type a b
 two_type two_op.LessThan a b = order_type a b
 two_type two_op.GreaterThanOrEqual a b = order_type a b
 two_type two_op.LessThanOrEqual a b = order_type a b
+two_type two_op.AddMonths a b = later_day_type a b
+two_type two_op.AddYears a b = later_day_type a b
+two_type two_op.DaysBetween a b = between_type a b
+two_type two_op.AgeOn a b = between_type a b
+two_type two_op.RoundUp a b = multiple_type a b
+two_type two_op.RoundDown a b = multiple_type a b
+two_type two_op.RoundNearest a b = multiple_type a b
 
 -- ---- members of a collection
 

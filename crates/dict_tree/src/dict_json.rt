@@ -7,7 +7,7 @@ ghost use Rattle.dict_tree.specs.Counting.{HasFewFacts};
 ghost use Rattle.dict_tree.specs.Facts.{fact_view};
 ghost use Rattle.dict_tree.specs.Dictionary.{IsValid, dictionary_view};
 ghost use Rattle.dict_tree.specs.declared.fault.TreeFault.TheVariants.{NoMemory};
-ghost use Rattle.dict_tree.specs.DictParsing.{BytesAre, BytesGive, IsOfShape, listed_view, seen, Yields, dictionary_of, facts_of, read_view, version_in, version_of, version_with};
+ghost use Rattle.dict_tree.specs.DictParsing.{BytesAre, BytesGive, IsOfShape, listed_view, seen, Yields, dictionary_of, facts_of, read_view, version_in, version_with};
 ghost use Rattle.dict_tree.specs.Listing.{may_follow, may_all_follow};
 
 use crate::dict_source::DictSource;
@@ -17,6 +17,7 @@ use crate::fact_source::FactSource;
 use crate::fault::{ReadFault, TreeFault};
 use crate::limits::{first_deep, first_passed};
 use crate::members::{has_no_other, may_be_text, text_under};
+use crate::version::{Version, version_named};
 use serde_json::{Map, Value};
 use std::alloc::Global;
 use value_text::{EnumLists, ListFault};
@@ -30,17 +31,7 @@ pub struct Found {
     pub facts: Vec<FactSource>,
 }
 
-fn version_named(text: &str) -> Option<bool>
-    ensures { result ≡ version_of text.now }
-{
-    match text {
-        "1" => Some(false),
-        "2" => Some(true),
-        _ => None,
-    }
-}
-
-fn version_among(value: &Value, members: &Map<String, Value>) -> Option<bool>
+fn version_among(value: &Value, members: &Map<String, Value>) -> Option<Version>
     ensures { result ≡ version_with (json value.now) (members_view members.now.entries) }
 {
     if !has_no_other(
@@ -55,8 +46,8 @@ fn version_among(value: &Value, members: &Map<String, Value>) -> Option<bool>
     version_named(text_under(value, "version")?)
 }
 
-// Whether the version is 2, and not 1, of an object that has the keys of a dictionary.
-fn version_of_value(value: &Value) -> Option<bool>
+// The version of an object that has the keys of a dictionary.
+fn version_of_value(value: &Value) -> Option<Version>
     ensures { result ≡ version_in (json value.now) }
 {
     version_among(value, value.as_object()?)
@@ -70,16 +61,20 @@ fn items_under_facts(value: &Value) -> Option<&Vec<Value>>
 }
 
 // The facts in their order, or the number of the first that isn't of the form.
-fn read_facts(alloc: Global, later: bool, items: &[Value]) -> Result<Vec<FactSource>, TreeFault>
+fn read_facts(
+    alloc: Global,
+    version: Version,
+    items: &[Value],
+) -> Result<Vec<FactSource>, TreeFault>
     requires { length items.now < 2 ^ 32 }
-    ensures exact { Yields (λ v. map fact_view v.items) result (facts_of later 1 (items_view items.now)) }
+    ensures exact { Yields (λ v. map fact_view v.items) result (facts_of version 1 (items_view items.now)) }
     ensures kind { IfErr result IsOfShape }
 {
     let mut facts = Vec::new(alloc);
     let mut number = 0u32;
     for item in items {
         number += 1;
-        match read_fact(alloc, later, item) {
+        match read_fact(alloc, version, item) {
             Ok(fact) => facts.push(fact)?,
             Err(ReadFault::Shape) => return Err(TreeFault::Shape(number)),
             Err(ReadFault::NoMemory) => return Err(TreeFault::NoMemory),
@@ -94,7 +89,7 @@ fn read_value(alloc: Global, value: &Value) -> Result<Found, TreeFault>
     ensures exact { Yields read_view result (dictionary_of (json value.now)) }
     ensures kind { IfErr result IsOfShape }
 {
-    let Some(later) = version_of_value(value) else {
+    let Some(version) = version_of_value(value) else {
         return Err(TreeFault::Shape(0));
     };
     let enums = match read_enums(alloc, value.get("enums")) {
@@ -105,7 +100,7 @@ fn read_value(alloc: Global, value: &Value) -> Result<Found, TreeFault>
     let Some(items) = items_under_facts(value) else {
         return Err(TreeFault::Shape(0));
     };
-    let facts = read_facts(alloc, later, items.as_slice())?;
+    let facts = read_facts(alloc, version, items.as_slice())?;
     if let Some(what) = first_passed(enums.as_slice(), facts.as_slice()) {
         return Err(TreeFault::TooMany(what));
     }

@@ -7,15 +7,17 @@ ghost use Rattle.dict_tree.specs.View.{view, box_view, pair_view};
 ghost use Rattle.dict_tree.specs.Facts.{fact_view, stated_view, conditional_view};
 ghost use Rattle.dict_tree.specs.Parsing.{Gives, pair_tree, tree_of};
 ghost use Rattle.dict_tree.specs.StatedParsing.{writable_stated, derived_stated};
-ghost use Rattle.dict_tree.specs.FactParsing.{conditional_in, derived_keys as keys_of_derived, fact_of, fact_with, has_no_other as only, text_at, tree_in, writable_fact, derived_fact, writable_keys};
+ghost use Rattle.dict_tree.specs.FactParsing.{conditional_in, derived_keys as keys_of_derived, fact_of, fact_with, has_no_other as only, if_of_version, text_at, text_in, tree_in, writable_fact, derived_fact, writable_keys};
 
 use crate::expr::Expr;
 use crate::expr_json::read_boxed;
 use crate::fact_source::{Conditional, FactSource, TypeText};
 use crate::fault::ReadFault;
 use crate::limits_json::read_limits;
-use crate::members::{has_no_other, may_be_text, read_text_under, text_under};
+use crate::members::{has_no_other, read_text_in, read_text_under, text_under};
+use crate::profile::has_operators;
 use crate::stated_json::{read_derived_type, read_writable_type};
+use crate::version::Version;
 use fact_paths::{FactPath, PathFault, read_fact_path};
 use serde_json::{Map, Value};
 use std::alloc::Global;
@@ -135,6 +137,7 @@ fn read_writable(alloc: Global, value: &Value) -> Result<FactSource, ReadFault>
     let placeholder = read_optional(alloc, value.get("placeholder"))?;
     let path = read_path(alloc, path_text.as_str())?;
     let stated = read_writable_stated(alloc, value)?;
+    let description = read_text_in(alloc, value.get("description"))?;
     Ok(FactSource {
         path_text,
         path,
@@ -143,6 +146,7 @@ fn read_writable(alloc: Global, value: &Value) -> Result<FactSource, ReadFault>
         main: None,
         conditional: None,
         placeholder: unboxed(placeholder),
+        description,
     })
 }
 
@@ -156,6 +160,7 @@ fn read_derived(alloc: Global, value: &Value) -> Result<FactSource, ReadFault>
     let placeholder = read_optional(alloc, value.get("placeholder"))?;
     let path = read_path(alloc, path_text.as_str())?;
     let stated = read_derived_stated(alloc, value)?;
+    let description = read_text_in(alloc, value.get("description"))?;
     Ok(FactSource {
         path_text,
         path,
@@ -164,6 +169,7 @@ fn read_derived(alloc: Global, value: &Value) -> Result<FactSource, ReadFault>
         main: Some(Box::into_inner(main)),
         conditional: conditional_of(conditional),
         placeholder: unboxed(placeholder),
+        description,
     })
 }
 
@@ -176,11 +182,15 @@ fn has_writable_keys(members: &Map<String, Value>) -> bool
     )
 }
 
-fn has_derived_keys(later: bool, members: &Map<String, Value>) -> bool
-    ensures { result ≡ only (keys_of_derived later) (members_view members.now.entries) }
+fn has_derived_keys(version: Version, members: &Map<String, Value>) -> bool
+    ensures { result ≡ only (keys_of_derived version) (members_view members.now.entries) }
 {
-    if later {
-        return has_no_other(
+    match version {
+        Version::First => has_no_other(
+            members,
+            ["path", "derived", "is", "placeholder", "description"].as_slice(),
+        ),
+        Version::Second | Version::Law => has_no_other(
             members,
             [
                 "path",
@@ -191,40 +201,45 @@ fn has_derived_keys(later: bool, members: &Map<String, Value>) -> bool
                 "conditional",
             ]
             .as_slice(),
-        );
+        ),
     }
-    has_no_other(
-        members,
-        ["path", "derived", "is", "placeholder", "description"].as_slice(),
-    )
 }
 
 fn read_fact_with(
     alloc: Global,
-    later: bool,
+    version: Version,
     value: &Value,
     members: &Map<String, Value>,
 ) -> Result<FactSource, ReadFault>
-    ensures { Gives fact_view result (fact_with later (json value.now) (members_view members.now.entries)) }
+    ensures { Gives fact_view result (fact_with version (json value.now) (members_view members.now.entries)) }
 {
-    if !may_be_text(value.get("description")) {
-        return Err(ReadFault::Shape);
-    }
     if has_writable_keys(members) {
         return read_writable(alloc, value);
     }
-    if has_derived_keys(later, members) {
+    if has_derived_keys(version, members) {
         return read_derived(alloc, value);
     }
     Err(ReadFault::Shape)
 }
 
-/// The fact that the value spells; `later` says that the version is 2.
-pub fn read_fact(alloc: Global, later: bool, value: &Value) -> Result<FactSource, ReadFault>
-    ensures { Gives fact_view result (fact_of later (json value.now)) }
+// The fact, where the version has its operators.
+fn if_of_version(version: Version, fact: FactSource) -> Result<FactSource, ReadFault>
+    ensures { Gives fact_view result (if_of_version version (fact_view fact)) }
+{
+    if has_operators(version, &fact) {
+        return Ok(fact);
+    }
+    drop(fact);
+    Err(ReadFault::Shape)
+}
+
+/// The fact that the value spells in a dictionary of this version.
+pub fn read_fact(alloc: Global, version: Version, value: &Value) -> Result<FactSource, ReadFault>
+    ensures { Gives fact_view result (fact_of version (json value.now)) }
 {
     let Some(members) = value.as_object() else {
         return Err(ReadFault::Shape);
     };
-    read_fact_with(alloc, later, value, members)
+    let fact = read_fact_with(alloc, version, value, members)?;
+    if_of_version(version, fact)
 }

@@ -52,4 +52,6 @@ pub struct FactSource {
     pub conditional: Option<Conditional>,
     /// What stands for an incomplete result.
     pub placeholder: Option<Expr>,
+    /// What the fact is, in words for people.
+    pub description: Option<String>,
 }

@@ -21,8 +21,10 @@ mod operators;
 mod path_index;
 mod path_laws;
 mod path_use;
+mod profile;
 mod stated_json;
 mod targets;
+mod version;
 
 pub use constant::Constant;
 pub use dict_json::read;
@@ -38,4 +40,6 @@ pub use mentions::Mention;
 pub use operators::{ManyOp, OneOp, PickOp, ReadOp, TwoOp};
 pub use path_laws::{targets_are_none_elsewhere, targets_go_by_the_form, the_first_is_found};
 pub use path_use::{PathUse, read_use};
+pub use profile::some_uses_law;
 pub use targets::Targets;
+pub use version::{Version, version_text};

@@ -4,7 +4,7 @@ ghost use Rattle.std.specs.List.{list_any};
 ghost use Rattle.std.specs.Str.{bytes_eq};
 ghost use Rattle.serde_json.specs.View.{view as json, items_view, members_view};
 ghost use Rattle.dict_tree.specs.Parsing.{Gives, two_texts};
-ghost use Rattle.dict_tree.specs.FactParsing.{has_no_other as only, is_optional_text, text_at};
+ghost use Rattle.dict_tree.specs.FactParsing.{has_no_other as only, is_optional_text, text_at, text_in};
 
 use crate::fault::ReadFault;
 use serde_json::{Map, Value};
@@ -48,6 +48,19 @@ pub fn read_text_under(alloc: Global, value: &Value, key: &str) -> Result<String
         return Err(ReadFault::Shape);
     };
     Ok(String::from_str(alloc, text)?)
+}
+
+/// A copy of the text, where there is such a member.
+pub fn read_text_in(alloc: Global, value: Option<&Value>) -> Result<Option<String>, ReadFault>
+    ensures { Gives (option_map string_bytes) result (text_in (option_map (λ v. json v.now) value.entry)) }
+{
+    let Some(value) = value else {
+        return Ok(None);
+    };
+    let Some(text) = value.as_str() else {
+        return Err(ReadFault::Shape);
+    };
+    Ok(Some(String::from_str(alloc, text)?))
 }
 
 /// Is there nothing, or a text?

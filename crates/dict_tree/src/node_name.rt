@@ -29,6 +29,24 @@ pub enum NodeName {
     Pick(PickOp),
 }
 
+// The node of this name, among those of the law profile.
+fn name_of_law(name: &str) -> Option<NodeName>
+    ensures { result ≡ under_name name.now (drop 34 node_names) }
+{
+    match name {
+        "MonthOf" => Some(NodeName::One(OneOp::MonthOf)),
+        "DayOf" => Some(NodeName::One(OneOp::DayOf)),
+        "AddMonths" => Some(NodeName::Two(TwoOp::AddMonths)),
+        "AddYears" => Some(NodeName::Two(TwoOp::AddYears)),
+        "DaysBetween" => Some(NodeName::Two(TwoOp::DaysBetween)),
+        "AgeOn" => Some(NodeName::Two(TwoOp::AgeOn)),
+        "RoundUp" => Some(NodeName::Two(TwoOp::RoundUp)),
+        "RoundDown" => Some(NodeName::Two(TwoOp::RoundDown)),
+        "RoundNearest" => Some(NodeName::Two(TwoOp::RoundNearest)),
+        _ => None,
+    }
+}
+
 // The node of this name, among comparisons and those behind them.
 fn name_of_comparison(name: &str) -> Option<NodeName>
     ensures { result ≡ under_name name.now (drop 23 node_names) }
@@ -45,7 +63,7 @@ fn name_of_comparison(name: &str) -> Option<NodeName>
         "AddDays" => Some(NodeName::Two(TwoOp::AddDays)),
         "Filter" => Some(NodeName::Pick(PickOp::Filter)),
         "Find" => Some(NodeName::Pick(PickOp::Find)),
-        _ => None,
+        _ => name_of_law(name),
     }
 }
 

@@ -33,6 +33,10 @@ pub enum OneOp {
     /// To whole dollars.
     Round,
     YearOf,
+    /// From 1 to 12; of the law profile.
+    MonthOf,
+    /// The day of the month; of the law profile.
+    DayOf,
 }
 
 /// A node with two operands, the left one first.
@@ -47,6 +51,22 @@ pub enum TwoOp {
     LessThan,
     GreaterThanOrEqual,
     LessThanOrEqual,
+    // ---- of the law profile
+    /// The same day of the month so many months later, or the month's last.
+    AddMonths,
+    /// The same day of the year so many years later, or 28 February for a 29th that the year lacks.
+    AddYears,
+    /// The days from the first day to the second.
+    DaysBetween,
+    /// The whole years that one born on the first day has completed on the second.
+    AgeOn,
+    /// The least multiple of an amount that is at least the number. Where the amount isn't positive there is none, and
+    /// the result is the fault of a division by 0; so too for `RoundDown` and `RoundNearest`.
+    RoundUp,
+    /// The greatest multiple that is at most the number.
+    RoundDown,
+    /// The nearest multiple, at a tie the one farther from zero.
+    RoundNearest,
 }
 
 /// A node that judges the members of a collection one by one.

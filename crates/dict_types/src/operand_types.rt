@@ -93,7 +93,7 @@ pub fn one_type(op: OneOp, of: FactType) -> Option<FactType>
     match (op, of) {
         (OneOp::Not, FactType::Boolean) => Some(FactType::Boolean),
         (OneOp::Round, FactType::Dollar) => Some(FactType::Dollar),
-        (OneOp::YearOf, FactType::Day) => Some(FactType::Int),
+        (OneOp::YearOf | OneOp::MonthOf | OneOp::DayOf, FactType::Day) => Some(FactType::Int),
         _ => None,
     }
 }
@@ -135,6 +135,24 @@ fn later_day_type(left: FactType, right: FactType) -> Option<FactType>
     }
 }
 
+fn between_type(left: FactType, right: FactType) -> Option<FactType>
+    ensures { result ≡ table.between_type left right }
+{
+    match (left, right) {
+        (FactType::Day, FactType::Day) => Some(FactType::Int),
+        _ => None,
+    }
+}
+
+fn multiple_type(left: FactType, right: FactType) -> Option<FactType>
+    ensures { result ≡ table.multiple_type left right }
+{
+    match (left, right) {
+        (FactType::Dollar | FactType::Rational, FactType::Dollar) => Some(FactType::Dollar),
+        _ => None,
+    }
+}
+
 fn boolean_where(holds: bool) -> Option<FactType>
     ensures { result ≡ (if holds then Some types.Boolean else None) }
 {
@@ -148,7 +166,9 @@ pub fn two_type(op: TwoOp, left: FactType, right: FactType) -> Option<FactType>
     match op {
         TwoOp::Multiply => product_type(left, right),
         TwoOp::Divide => quotient_type(left, right),
-        TwoOp::AddDays => later_day_type(left, right),
+        TwoOp::AddDays | TwoOp::AddMonths | TwoOp::AddYears => later_day_type(left, right),
+        TwoOp::DaysBetween | TwoOp::AgeOn => between_type(left, right),
+        TwoOp::RoundUp | TwoOp::RoundDown | TwoOp::RoundNearest => multiple_type(left, right),
         TwoOp::Equal | TwoOp::NotEqual => boolean_where(is_compared(left) && is_same(left, right)),
         TwoOp::GreaterThan | TwoOp::LessThan | TwoOp::GreaterThanOrEqual | TwoOp::LessThanOrEqual =>
             boolean_where(is_ordered(left) && is_same(left, right)),

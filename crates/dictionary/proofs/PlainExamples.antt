@@ -38,6 +38,7 @@ written name t = record {
   main = None;
   conditional = None;
   placeholder = None;
+  description = None;
 }
 
 abbrev derived : List ℕ → FactType → Source → Fact

@@ -42,6 +42,18 @@ fn a_fraction_divides_nothing() -> bool {
     gives_fault(TwoOp::Divide, &one, &half, ValueFault::ZeroDivide)
 }
 
+// Of an amount that isn't positive there are no multiples.
+fn nothing_has_no_multiple() -> bool {
+    let cents = amount(1001);
+    let nothing = amount(0);
+    gives_fault(TwoOp::RoundUp, &cents, &nothing, ValueFault::ZeroDivide)
+}
+
+#[test]
+fn amounts_without_multiples(rt: HostRuntime) {
+    assert!(rt; nothing_has_no_multiple());
+}
+
 #[test]
 fn pairs_without_a_product_or_a_quotient(rt: HostRuntime) {
     assert!(rt; amounts_have_no_product());

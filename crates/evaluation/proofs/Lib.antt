@@ -1,5 +1,6 @@
 pub mod Coincide
 pub mod CompletesLaws
+pub mod LawRanges
 pub mod MemberLaws
 pub mod Mentions
 pub mod OrderLaws

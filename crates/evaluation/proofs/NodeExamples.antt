@@ -11,7 +11,7 @@ use Rattle.dict_tree.specs.Tree.{Tree, Trees, literal, read, switch, many, one, 
 use Rattle.dict_tree.specs.declared.operators.ManyOp.TheVariants.{All, Any, Add, Subtract, GreaterOf, LesserOf}
 use Rattle.dict_tree.specs.declared.operators.OneOp.TheVariants.{Not, Round, YearOf}
 use Rattle.dict_tree.specs.declared.operators.TwoOp.{TwoOp}
-use Rattle.dict_tree.specs.declared.operators.TwoOp.TheVariants.{Multiply, Divide, AddDays, Equal, NotEqual, GreaterThan, LessThan, GreaterThanOrEqual, LessThanOrEqual}
+use Rattle.dict_tree.specs.declared.operators.TwoOp.TheVariants.{Multiply, Divide, AddDays, DaysBetween, RoundUp, RoundDown, RoundNearest, Equal, NotEqual, GreaterThan, LessThan, GreaterThanOrEqual, LessThanOrEqual}
 use Rattle.dict_tree.specs.declared.operators.PickOp.TheVariants.{Filter, Find}
 use Rattle.three_state.specs.declared.res.Res.{Res}
 use Rattle.three_state.specs.declared.res.Res.TheVariants.{Complete, Placeholder, Incomplete, Fault}
@@ -161,6 +161,18 @@ strict_nodes : AreGiven (
     ∷ (one Round (dollar (negsuc 149)), Complete (Dollar (negsuc 199)))
     ∷ (two AddDays (day (pos 0)) (int (pos 1)), Complete (Day (pos 1)))
     ∷ (two AddDays (day last_day) (int (pos 1)), Fault Overflow)
+    ∷ (two DaysBetween (day (pos 3)) (day (pos 1)), Complete (Int (negsuc 1)))
+    -- 30 percent of 10.01 and of 10.00, up to the dollar
+    ∷ (two RoundUp (two Multiply (two Divide (dollar (pos 1001)) (dollar (pos 100))) (rational (pos 3) 10)) (dollar (pos 100)), Complete (Dollar (pos 400)))
+    ∷ (two RoundUp (two Multiply (two Divide (dollar (pos 1000)) (dollar (pos 100))) (rational (pos 3) 10)) (dollar (pos 100)), Complete (Dollar (pos 300)))
+    ∷ (two RoundDown (dollar (negsuc 0)) (dollar (pos 100)), Complete (Dollar (negsuc 99)))
+    -- 12.50 and -12.50 to fives: half away from zero
+    ∷ (two RoundNearest (dollar (pos 1250)) (dollar (pos 500)), Complete (Dollar (pos 1500)))
+    ∷ (two RoundNearest (dollar (negsuc 1249)) (dollar (pos 500)), Complete (Dollar (negsuc 1499)))
+    -- there is no multiple of such an amount
+    ∷ (two RoundUp (dollar (pos 1001)) (dollar (pos 0)), Fault ZeroDivide)
+    ∷ (two RoundNearest (dollar (pos 1001)) (dollar (negsuc 99)), Fault ZeroDivide)
+    ∷ (two RoundUp (dollar (pos 999999999999999)) (dollar (pos 100)), Fault Overflow)
     ∷ []
     )
 unfolding gcd

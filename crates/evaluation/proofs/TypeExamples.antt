@@ -7,8 +7,8 @@ use Rattle.dict_tree.specs.Tree.{Tree, Trees, literal, read, switch, many, one, 
 use Rattle.dict_tree.specs.Typing.{HasType, HaveTypes, ReadType, Types}
 use Rattle.dict_tree.specs.declared.operators.ReadOp.TheVariants as read_op
 use Rattle.dict_tree.specs.declared.operators.ManyOp.TheVariants.{All, Add, Subtract, GreaterOf}
-use Rattle.dict_tree.specs.declared.operators.OneOp.TheVariants.{Not, Round, YearOf}
-use Rattle.dict_tree.specs.declared.operators.TwoOp.TheVariants.{Multiply, Divide, AddDays, Equal, LessThan}
+use Rattle.dict_tree.specs.declared.operators.OneOp.TheVariants.{Not, Round, YearOf, MonthOf, DayOf}
+use Rattle.dict_tree.specs.declared.operators.TwoOp.TheVariants.{Multiply, Divide, AddDays, AddMonths, AddYears, AgeOn, DaysBetween, RoundUp, RoundDown, Equal, LessThan}
 use Rattle.dict_tree.specs.declared.operators.PickOp.TheVariants.{Filter, Find}
 
 -- ---- expressions whose constants and reads are types themselves, and whose collections are bases
@@ -118,6 +118,30 @@ a_quotient = (Int, Int, refl, refl, refl)
 
 a_later_day : Has (two AddDays (a Day) (a Int)) Day
 a_later_day = (Day, Int, refl, refl, refl)
+
+a_month : Has (one MonthOf (a Day)) Int
+a_month = (Day, refl, refl)
+
+a_day_of_the_month : Has (one DayOf (a Day)) Int
+a_day_of_the_month = (Day, refl, refl)
+
+a_later_month : Has (two AddMonths (a Day) (a Int)) Day
+a_later_month = (Day, Int, refl, refl, refl)
+
+a_later_year : Has (two AddYears (a Day) (a Int)) Day
+a_later_year = (Day, Int, refl, refl, refl)
+
+a_difference_of_days : Has (two DaysBetween (a Day) (a Day)) Int
+a_difference_of_days = (Day, Day, refl, refl, refl)
+
+an_age : Has (two AgeOn (a Day) (a Day)) Int
+an_age = (Day, Day, refl, refl, refl)
+
+a_multiple_above : Has (two RoundUp (a Rational) (a Dollar)) Dollar
+a_multiple_above = (Rational, Dollar, refl, refl, refl)
+
+a_multiple_below : Has (two RoundDown (a Dollar) (a Dollar)) Dollar
+a_multiple_below = (Dollar, Dollar, refl, refl, refl)
 
 an_equality : Has (two Equal (a (Enum 1)) (a (Enum 1))) Boolean
 an_equality = (Enum 1, Enum 1, refl, refl, refl)

@@ -125,7 +125,7 @@ many-type d LesserOf rs us t m h = strict_of-type d (many_value LesserOf) rs us 
 
 one_by : (d : Domains) (op : OneOp) (u t : FactType) → one_type op u ≡ Some t → (vs : List Value) → AreOfTypes d vs (u ∷ []) → GivesType d (on_one (one_value op) vs) t
 one_by d op u t m [] h = absurd h
-one_by d op u t m (v ∷ vs) h = one-gives d op v u t m
+one_by d op u t m (v ∷ vs) h = one-gives d op v u t m h.0
 
 one-type : (d : Domains) (op : OneOp) (r : Res) (u t : FactType) → one_type op u ≡ Some t → IsResOfType d r u → IsResOfType d (one_of op r) t
 one-type d op r u t m h = strict_of-type d (on_one (one_value op)) (r ∷ []) (u ∷ []) t (h, tt) (one_by d op u t m)

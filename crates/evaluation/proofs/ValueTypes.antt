@@ -7,7 +7,7 @@ use Rattle.common_lemmas.proofs.Options.{both_some}
 use Rattle.std.specs.List.{list_all}
 use Rattle.std.specs.Ordering.{is_gt, is_lt}
 use Rattle.std.proofs.Math.Nat.{mul-pos}
-use Rattle.fact_values.specs.Days.{day_after}
+use Rattle.fact_values.specs.Days.{IsDay, day_after}
 use Rattle.fact_values.specs.declared.fact_type.FactType.{FactType}
 use Rattle.fact_values.specs.declared.fact_type.FactType.TheVariants as types
 use Rattle.fact_values.specs.declared.fault.ValueFault.{ValueFault}
@@ -17,22 +17,26 @@ use Rattle.fact_values.specs.declared.value.Value.{Value}
 use Rattle.fact_values.specs.declared.value.Value.TheVariants.{Boolean, Int, Dollar, Rational, Day, Members, Item}
 use Rattle.fact_values.specs.Members.{IsMemberList}
 use Rattle.fact_values.specs.Numbers.{as_rational, checked_dollar, checked_int, checked_rational, product, quotient, rounded_quotient}
-use Rattle.fact_values.specs.Range.{is_in_range}
+use Rattle.fact_values.specs.Range.{IsInRange, is_in_range}
 use Rattle.fact_values.specs.Rationals.{IsRational, Ratio, checked_lowest, checked_ratio, difference_of_ratios, sum_of_ratios}
 use Rattle.fact_values.specs.Rounding.{rounded}
 use Rattle.fact_values.specs.Totals.{checked}
 use Rattle.fact_values.specs.Values.{order_of}
+use Rattle.law_arithmetic.specs.Ages.{age_on}
+use Rattle.law_arithmetic.specs.Months.{months_after, years_after}
+use Rattle.law_arithmetic.specs.Multiples.{cents_of, multiple_above, multiple_below, multiple_near, rounded_down, rounded_nearest, rounded_up}
 use Rattle.dict_tree.specs.declared.operators.ManyOp.{ManyOp}
 use Rattle.dict_tree.specs.declared.operators.ManyOp.TheVariants as many_op
 use Rattle.dict_tree.specs.declared.operators.OneOp.{OneOp}
 use Rattle.dict_tree.specs.declared.operators.OneOp.TheVariants as one_op
 use Rattle.dict_tree.specs.declared.operators.TwoOp.{TwoOp}
 use Rattle.dict_tree.specs.declared.operators.TwoOp.TheVariants as two_op
-use Rattle.dict_tree.specs.OperandTypes.{common_type, is_compared, is_ordered, many_type, one_type, product_type, quotient_type, same_type, two_type, type_of_many}
+use Rattle.dict_tree.specs.OperandTypes.{between_type, common_type, is_compared, is_ordered, later_day_type, many_type, multiple_type, one_type, product_type, quotient_type, same_type, two_type, type_of_many}
 use Rattle.dict_tree.proofs.TypeLaws.{same_is}
 use Rattle.evaluation.specs.Extremes.{AreOfType}
-use Rattle.evaluation.specs.Operations.{day_in, difference_of, dollar_in, greater, greatest, greatest_of, int_in, least, least_of, lesser, many_value, number_in, number_value, one_value, sum_of, total, two_value, value_as}
+use Rattle.evaluation.specs.Operations.{day_in, difference_of, dollar_in, greater, greatest, greatest_of, increment_of, int_in, least, least_of, lesser, many_value, number_in, number_value, one_value, rounded_by, sum_of, to_multiple, total, two_value, value_as}
 use Rattle.evaluation.specs.Typed.{Domains, IsOfType}
+use Rattle.evaluation.proofs.LawRanges.{age-in-range, day-in-range, days_between-in-range, month-in-range, months_after-is-day, years_after-is-day}
 use Rattle.evaluation.proofs.RangeLaws.{checked-in-range, checked_lowest-is-rational, checked_ratio-is-rational, day_after-is-day, difference-is-rational, sum-is-rational, year-in-range}
 
 -- values, one by one, of these types
@@ -54,6 +58,10 @@ dollar_value d _ h = absurd h
 pub day_value : (d : Domains) (v : Value) → IsOfType d v types.Day → (n : ℤ) × (v ≡ Day n)
 day_value d (Day n) h = (n, refl)
 day_value d _ h = absurd h
+
+day_is : (d : Domains) (v : Value) → IsOfType d v types.Day → IsDay (day_in v)
+day_is d (Day n) h = h
+day_is d _ h = absurd h
 
 pub rational_value : (d : Domains) (v : Value) → IsOfType d v types.Rational → (q : Ratio) × (v ≡ Rational q) × IsRational q
 rational_value d (Rational q) h = (q, refl, h)
@@ -222,13 +230,16 @@ all_is us t m = junction_row many_op.All (length us) (common_type us) t (all_row
 pub any_is : (us : List FactType) (t : FactType) → many_type many_op.Any us ≡ Some t → t ≡ types.Boolean
 any_is us t m = junction_row many_op.Any (length us) (common_type us) t (any_row (length us)) m
 
--- ---- Not, Round and YearOf
+-- ---- one operand
 
-pub one-gives : (d : Domains) (op : OneOp) (v : Value) (u t : FactType) → one_type op u ≡ Some t → GivesType d (one_value op v) t
-one-gives d one_op.Not v types.Boolean t m = rw (row_is types.Boolean t m) (gives_ok d _ types.Boolean tt)
-one-gives d one_op.Round v types.Dollar t m = rw (row_is types.Dollar t m) (dollars_give d (rounded (dollar_in v) 100 *ℤ pos 100))
-one-gives d one_op.YearOf v types.Day t m = rw (row_is types.Int t m) (gives_ok d _ types.Int (year-in-range _))
-one-gives d _ v _ t m = absurd cc
+pub one-gives : (d : Domains) (op : OneOp) (v : Value) (u t : FactType) → one_type op u ≡ Some t → IsOfType d v u → GivesType d (one_value op v) t
+one-gives d one_op.Not v types.Boolean t m h = rw (row_is types.Boolean t m) (gives_ok d _ types.Boolean tt)
+one-gives d one_op.Round v types.Dollar t m h = rw (row_is types.Dollar t m) (dollars_give d (rounded (dollar_in v) 100 *ℤ pos 100))
+one-gives d one_op.YearOf v types.Day t m h = rw (row_is types.Int t m) (gives_ok d _ types.Int (year-in-range _))
+one-gives d one_op.MonthOf v types.Day t m h = rw (row_is types.Int t m) (gives_ok d _ types.Int (month-in-range _))
+one-gives d one_op.DayOf v types.Day t m h =
+    rw (row_is types.Int t m) (gives_ok d _ types.Int (day-in-range _ (day_is d v h)))
+one-gives d _ v _ t m h = absurd cc
 
 -- ---- Multiply and Divide
 
@@ -302,12 +313,38 @@ quotient-gives d v w _ _ t m h k = absurd cc
 compared-gives : (d : Domains) (b holds : Bool) (t : FactType) → (if b then row types.Boolean else None) ≡ Some t → GivesType d (Ok (Boolean holds)) t
 compared-gives d b holds t m = rw (row_where b types.Boolean t m) (gives_ok d (Boolean holds) types.Boolean tt)
 
+-- ---- days and multiples
+
+later_day-gives : (d : Domains) (r : Result ℤ ValueFault) (a b t : FactType) → later_day_type a b ≡ Some t → ((x : ℤ) → r ≡ Ok x → IsDay x) → GivesType d (value_as Day r) t
+later_day-gives d r types.Day types.Int t m k = rw (row_is types.Day t m) (gives_as d Day r types.Day k)
+later_day-gives d r _ _ t m k = absurd cc
+
+between-gives : (d : Domains) (v w : Value) (n : ℤ) (a b t : FactType) → between_type a b ≡ Some t → IsOfType d v a → IsOfType d w b → (IsDay (day_in v) → IsDay (day_in w) → IsInRange n) → GivesType d (Ok (Int n)) t
+between-gives d v w n types.Day types.Day t m h k range = rw (row_is types.Int t m) (gives_ok d (Int n) types.Int (range (day_is d v h) (day_is d w k)))
+between-gives d v w n _ _ t m h k range = absurd cc
+
+-- an amount that is checked, of any increment
+multiple_by : (d : Domains) (round : ℕ → Num → Result ℤ ValueFault) (n : Num) (r : Result ℕ ValueFault) → ((unit : ℕ) → GivesType d (value_as Dollar (round unit n)) types.Dollar) → GivesType d (value_as Dollar (rounded_by round n r)) types.Dollar
+multiple_by d round n (Ok unit) k = k unit
+multiple_by d round n (Err fault) k = λ w e. absurd cc
+
+multiple-gives : (d : Domains) (round : ℕ → Num → Result ℤ ValueFault) (n : Num) (unit : ℤ) (a b t : FactType) → multiple_type a b ≡ Some t
+    → ((u : ℕ) → GivesType d (value_as Dollar (round u n)) types.Dollar) → GivesType d (value_as Dollar (to_multiple round n unit)) t
+multiple-gives d round n unit types.Dollar types.Dollar t m k = rw (row_is types.Dollar t m) (multiple_by d round n (increment_of unit) k)
+multiple-gives d round n unit types.Rational types.Dollar t m k = rw (row_is types.Dollar t m) (multiple_by d round n (increment_of unit) k)
+multiple-gives d round n unit _ _ t m k = absurd cc
+
 pub two-gives : (d : Domains) (op : TwoOp) (v w : Value) (a b t : FactType) → two_type op a b ≡ Some t → IsOfType d v a → IsOfType d w b → GivesType d (two_value op v w) t
 two-gives d two_op.Multiply v w a b t m h k = product-gives d v w a b t m h k
 two-gives d two_op.Divide v w a b t m h k = quotient-gives d v w a b t m h k
-two-gives d two_op.AddDays v w types.Day types.Int t m h k =
-    rw (row_is types.Day t m) (gives_as d Day (day_after (day_in v) (int_in w)) types.Day (λ x e. day_after-is-day (day_in v) (int_in w) x e))
-two-gives d two_op.AddDays v w _ _ t m h k = absurd cc
+two-gives d two_op.AddDays v w a b t m h k = later_day-gives d (day_after (day_in v) (int_in w)) a b t m (day_after-is-day (day_in v) (int_in w))
+two-gives d two_op.AddMonths v w a b t m h k = later_day-gives d (months_after (day_in v) (int_in w)) a b t m (months_after-is-day (day_in v) (int_in w))
+two-gives d two_op.AddYears v w a b t m h k = later_day-gives d (years_after (day_in v) (int_in w)) a b t m (years_after-is-day (day_in v) (int_in w))
+two-gives d two_op.DaysBetween v w a b t m h k = between-gives d v w (day_in w -ℤ day_in v) a b t m h k (days_between-in-range (day_in v) (day_in w))
+two-gives d two_op.AgeOn v w a b t m h k = between-gives d v w (age_on (day_in v) (day_in w)) a b t m h k (λ x y. age-in-range (day_in v) (day_in w))
+two-gives d two_op.RoundUp v w a b t m h k = multiple-gives d rounded_up (number_in v) (dollar_in w) a b t m (λ u. dollars_give d (multiple_above u (cents_of (number_in v))))
+two-gives d two_op.RoundDown v w a b t m h k = multiple-gives d rounded_down (number_in v) (dollar_in w) a b t m (λ u. dollars_give d (multiple_below u (cents_of (number_in v))))
+two-gives d two_op.RoundNearest v w a b t m h k = multiple-gives d rounded_nearest (number_in v) (dollar_in w) a b t m (λ u. dollars_give d (multiple_near u (cents_of (number_in v))))
 two-gives d two_op.Equal v w a b t m h k = compared-gives d (is_compared a && same_type a b) _ t m
 two-gives d two_op.NotEqual v w a b t m h k = compared-gives d (is_compared a && same_type a b) _ t m
 two-gives d two_op.GreaterThan v w a b t m h k = compared-gives d (is_ordered a && same_type a b) _ t m

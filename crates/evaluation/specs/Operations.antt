@@ -1,9 +1,10 @@
 -- What the nodes do with values.
 -- The operations are total: an operand of another type than the node takes counts as 0, as false, or as a list of no members.
-use Rattle.std.specs.Prelude.{ℤ, pos, ◌+ℤ◌, ◌-ℤ◌, Bool, true, false, not, ◌&&◌, ◌||◌, if◌then◌else◌, List, [], ◌∷◌, length, Result, Ok, Err}
+use Rattle.std.specs.Prelude.{ℕ, ℤ, pos, unsigned_abs, int_lt, ◌+ℤ◌, ◌-ℤ◌, Bool, true, false, not, ◌&&◌, ◌||◌, if◌then◌else◌, List, [], ◌∷◌, length, Result, Ok, Err}
 use Rattle.std.specs.Ordering.{is_gt, is_lt}
 use Rattle.fact_values.specs.Days.{day_after, year_of}
 use Rattle.fact_values.specs.declared.fault.ValueFault.{ValueFault}
+use Rattle.fact_values.specs.declared.fault.ValueFault.TheVariants.{ZeroDivide}
 use Rattle.fact_values.specs.declared.num.Num.{Num}
 use Rattle.fact_values.specs.declared.num.Num.TheVariants as num
 use Rattle.fact_values.specs.declared.value.Value.{Value}
@@ -13,6 +14,10 @@ use Rattle.fact_values.specs.Rationals.{Ratio, sum_of_ratios, difference_of_rati
 use Rattle.fact_values.specs.Rounding.{rounded_dollar}
 use Rattle.fact_values.specs.Totals.{checked}
 use Rattle.fact_values.specs.Values.{order_of}
+use Rattle.law_arithmetic.specs.Ages.{age_on}
+use Rattle.law_arithmetic.specs.Dates.{day_of, month_of}
+use Rattle.law_arithmetic.specs.Months.{months_after, years_after}
+use Rattle.law_arithmetic.specs.Multiples.{rounded_down, rounded_nearest, rounded_up}
 use Rattle.dict_tree.specs.declared.operators.ManyOp.{ManyOp}
 use Rattle.dict_tree.specs.declared.operators.ManyOp.TheVariants as many_op
 use Rattle.dict_tree.specs.declared.operators.OneOp.{OneOp}
@@ -147,6 +152,20 @@ abbrev pub one_value : OneOp → Value → Result Value ValueFault
 one_value one_op.Not v = Ok (Boolean (not (truth v)))
 one_value one_op.Round v = value_as Dollar (rounded_dollar (dollar_in v))
 one_value one_op.YearOf v = Ok (Int (year_of (day_in v)))
+one_value one_op.MonthOf v = Ok (Int (pos (month_of (day_in v))))
+one_value one_op.DayOf v = Ok (Int (pos (day_of (day_in v))))
+
+-- an amount that isn't positive has no multiples to round to, as nothing is divided by 0
+abbrev pub increment_of : ℤ → Result ℕ ValueFault
+increment_of unit = if int_lt unit (pos 1) then Err ZeroDivide else Ok (unsigned_abs unit)
+
+-- the multiple of an amount
+abbrev pub rounded_by : (ℕ → Num → Result ℤ ValueFault) → Num → Result ℕ ValueFault → Result ℤ ValueFault
+rounded_by round n (Ok increment) = round increment n
+rounded_by round n (Err fault) = Err fault
+
+abbrev pub to_multiple : (ℕ → Num → Result ℤ ValueFault) → Num → ℤ → Result ℤ ValueFault
+to_multiple round n unit = rounded_by round n (increment_of unit)
 
 abbrev pub two_value : TwoOp → Value → Value → Result Value ValueFault
 two_value two_op.Multiply a b = value_as number_value (product (number_in a) (number_in b))
@@ -158,6 +177,13 @@ two_value two_op.GreaterThan a b = Ok (Boolean (is_gt (order_of a b)))
 two_value two_op.LessThan a b = Ok (Boolean (is_lt (order_of a b)))
 two_value two_op.GreaterThanOrEqual a b = Ok (Boolean (not (is_lt (order_of a b))))
 two_value two_op.LessThanOrEqual a b = Ok (Boolean (not (is_gt (order_of a b))))
+two_value two_op.AddMonths a b = value_as Day (months_after (day_in a) (int_in b))
+two_value two_op.AddYears a b = value_as Day (years_after (day_in a) (int_in b))
+two_value two_op.DaysBetween a b = Ok (Int (day_in b -ℤ day_in a))
+two_value two_op.AgeOn a b = Ok (Int (age_on (day_in a) (day_in b)))
+two_value two_op.RoundUp a b = value_as Dollar (to_multiple rounded_up (number_in a) (dollar_in b))
+two_value two_op.RoundDown a b = value_as Dollar (to_multiple rounded_down (number_in a) (dollar_in b))
+two_value two_op.RoundNearest a b = value_as Dollar (to_multiple rounded_nearest (number_in a) (dollar_in b))
 
 -- CollectionSize: the number of members
 abbrev pub size_value : Value → Result Value ValueFault

@@ -1,6 +1,6 @@
 -- What a shelf over a folder knows of itself.
 use Rattle.std.specs.Prelude.{ℕ, List}
-use Rattle.fg_io.specs.Outside.{Files, hidden}
+use Rattle.fg_io.specs.Outside.{ByFetch, FetchCause, Files, hidden}
 
 pub record FolderState : Type 0 where
   -- how many fetches failed
@@ -11,3 +11,7 @@ pub record FolderState : Type 0 where
 -- it shows nothing of what a name holds
 abbrev pub files_hidden : FolderState → Files
 files_hidden folder = record { contents = λ name. hidden; faults = folder.faults; failed_name = folder.failed_name }
+
+-- a fetch moves its count and the failed name alone
+abbrev pub folder_fetched : ByFetch FolderState
+folder_fetched folder name at_most answer folder_now = FetchCause name (files_hidden folder) (files_hidden folder_now) answer

@@ -61,3 +61,10 @@ pub record FetchCause {T : Type 0} (name : List ℕ) (files files_now : Files) (
   pub later : files.faults ≤ files_now.faults
   pub failed : IsErrOf result Failed → Rose files.faults files_now.faults × (files_now.failed_name ≡ name)
   pub others : (IsErrOf result Failed → ⊥) → (files_now.faults ≡ files.faults) × (files_now.failed_name ≡ files.failed_name)
+
+-- ---- what a call makes of a device
+
+-- A shelf before a fetch, the name, the most bytes, the answer, and the shelf after it. Whoever calls shelves of any kind, and
+-- says that one came to this, has made the fetch, and no other.
+abbrev pub ByFetch : Type 0 → Type 1
+ByFetch S = S → List ℕ → ℕ → Result (Vec ℕ Global) FetchFault → S → Type 0

@@ -85,9 +85,11 @@ fn read_file<R: Files>(
 }
 
 impl<R: Files + Drop> Shelf for FolderShelf<R> {
-    ghost use Rattle.fg_io.specs.FolderState.{files_hidden};
+    ghost use Rattle.fg_io.specs.FolderState.{files_hidden, folder_fetched};
 
     ghost files = { files_hidden };
+
+    ghost fetched = { folder_fetched };
 
     fn fetch(&mut self, name: &str, at_most: u64) -> Result<Vec<u8>, FetchFault>
         ensures content { Fetches hidden at_most result }

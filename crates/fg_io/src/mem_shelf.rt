@@ -96,9 +96,11 @@ impl MemShelf {
 }
 
 impl Shelf for MemShelf {
-    ghost use Rattle.fg_io.specs.ShelfState.{files_shown};
+    ghost use Rattle.fg_io.specs.ShelfState.{files_shown, FetchEnds};
 
     ghost files = { files_shown };
+
+    ghost fetched = { λ old name at_most answer new. FetchEnds old new name answer };
 
     fn fetch(&mut self, name: &str, at_most: u64) -> Result<Vec<u8>, FetchFault>
         ensures content { Fetches (contents_in self.old name.now) at_most result }

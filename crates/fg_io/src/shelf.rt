@@ -1,6 +1,6 @@
 // Shelves: files that are fetched by name.
 ghost use Rattle.std.specs.Prelude.{◌≡◌};
-ghost use Rattle.fg_io.specs.Outside.{FetchCause, Fetches, Files};
+ghost use Rattle.fg_io.specs.Outside.{ByFetch, FetchCause, Fetches, Files};
 
 use crate::FetchFault;
 
@@ -10,9 +10,13 @@ pub trait Shelf {
     /// The count stands still at the end of a `u64`.
     ghost files: { Self → Files };
 
+    /// What a fetch of a name, with at most so many bytes and with this answer, makes of it.
+    ghost fetched: { ByFetch Self };
+
     /// The contents of a name, where they have at most `at_most` bytes.
     fn fetch(&mut self, name: &str, at_most: u64) -> Result<Vec<u8>, FetchFault>
         ensures content { Fetches ((files self.old).contents name.now) at_most result }
         ensures kept { (files self.new).contents ≡ (files self.old).contents }
-        ensures cause { FetchCause name.now (files self.old) (files self.new) result };
+        ensures cause { FetchCause name.now (files self.old) (files self.new) result }
+        ensures call { fetched self.old name.now at_most result self.new };
 }

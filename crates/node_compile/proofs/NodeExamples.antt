@@ -29,6 +29,7 @@ fact path stated main conditional = record {
   main = main;
   conditional = conditional;
   placeholder = None;
+  description = None;
 }
 
 abbrev used : UsePath → Use

@@ -8,6 +8,7 @@ ghost use Rattle.fact_values.specs.Rounding.{rounded_dollar};
 use crate::values::{day_in, dollar_in};
 use dict_tree::OneOp;
 use fact_values::{Value, ValueFault, Whole, round_dollar};
+use law_arithmetic::{day_of, month_of};
 use three_state::{Res, finish, truth};
 
 /// The result of a node with one operand.
@@ -29,6 +30,8 @@ fn one_value(op: OneOp, value: &Value) -> Result<Value, ValueFault>
         OneOp::Not => Ok(Value::Boolean(!truth(value))),
         OneOp::Round => round(value),
         OneOp::YearOf => Ok(Value::Int(year(value))),
+        OneOp::MonthOf => Ok(Value::Int(month_of(day_in(value)))),
+        OneOp::DayOf => Ok(Value::Int(day_of(day_in(value)))),
     }
 }
 

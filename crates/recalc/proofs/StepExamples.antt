@@ -36,6 +36,7 @@ written path t = record {
   main = None;
   conditional = None;
   placeholder = None;
+  description = None;
 }
 
 abbrev global : List ℕ → FactPath

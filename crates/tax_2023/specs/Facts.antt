@@ -13,7 +13,7 @@ use Rattle.dict_tree.specs.Parsing.{use_of}
 use Rattle.dict_tree.specs.Facts.{Fact, Stated, enum_of, item_of, list_of, scalar, writable_list}
 use Rattle.dict_tree.specs.Dictionary.{Dictionary}
 use Rattle.written_facts.specs.Figures.{Named, text_under}
-use Rattle.written_facts.specs.Rows.{asked, asked_from, derived}
+use Rattle.written_facts.specs.Rows.{derived, question, question_from}
 use Rattle.written_facts.specs.Taking.{with_facts}
 
 -- ---- words
@@ -172,22 +172,22 @@ first_dependent = pick Find persons_path they_depend
 -- what is asked of the filer and the spouse
 abbrev pub filer : List Fact
 filer =
-    asked (codes "/dateOfBirth") date
-    ∷ asked (codes "/blind") boolean
-    ∷ asked (codes "/spouseDateOfBirth") date
-    ∷ asked (codes "/spouseBlind") boolean
-    ∷ asked (codes "/married") boolean
-    ∷ asked (codes "/consideredUnmarried") boolean
-    ∷ asked (codes "/fileJointly") boolean
-    ∷ asked (codes "/spouseDied") boolean
-    ∷ asked (codes "/remarried") boolean
-    ∷ asked (codes "/childInHome") boolean
-    ∷ asked (codes "/paidHalfOfHome") boolean
-    ∷ asked (codes "/qualifyingPerson") boolean
-    ∷ asked (codes "/spouseItemizes") boolean
-    ∷ asked (codes "/canBeClaimed") boolean
-    ∷ asked_from (codes "/earnedIncome") dollar (codes "0")
-    ∷ asked (codes "/otherIncome") dollar
+    question (codes "/dateOfBirth") date (codes "When were you born?")
+    ∷ question (codes "/blind") boolean (codes "Are you blind on the last day of the year?")
+    ∷ question (codes "/spouseDateOfBirth") date (codes "When was your spouse born?")
+    ∷ question (codes "/spouseBlind") boolean (codes "Is your spouse blind on the last day of the year?")
+    ∷ question (codes "/married") boolean (codes "Are you married on the last day of the year?")
+    ∷ question (codes "/consideredUnmarried") boolean (codes "Did you live apart, and keep up a home for your child, so that you are considered unmarried?")
+    ∷ question (codes "/fileJointly") boolean (codes "Do you and your spouse both choose a joint return?")
+    ∷ question (codes "/spouseDied") boolean (codes "Did your spouse die in one of the two years before?")
+    ∷ question (codes "/remarried") boolean (codes "Have you remarried since your spouse died, by the end of the year?")
+    ∷ question (codes "/childInHome") boolean (codes "Did your child or stepchild, and no foster child, whom you can claim as a dependent, live in your home all year?")
+    ∷ question (codes "/paidHalfOfHome") boolean (codes "Did you pay more than half of the cost of keeping up your home?")
+    ∷ question (codes "/qualifyingPerson") boolean (codes "Is there a qualifying person for head of household?")
+    ∷ question (codes "/spouseItemizes") boolean (codes "Does your spouse itemize deductions on a separate return?")
+    ∷ question (codes "/canBeClaimed") boolean (codes "Can somebody else claim you as a dependent, or your spouse on a joint return, whether they do or not?")
+    ∷ question_from (codes "/earnedIncome") dollar (codes "0") (codes "How much are your wages, tips and other pay for work, 0 or more?")
+    ∷ question (codes "/otherIncome") dollar (codes "How much else belongs to your total income, with a minus before a loss?")
     ∷ []
 
 -- what follows of the return
@@ -207,17 +207,17 @@ filed fs =
 -- the dependents, and what is asked of each
 abbrev pub persons : List Fact
 persons =
-    asked (codes "/dependents") writable_list
-    ∷ asked (codes "/dependents/*/dateOfBirth") date
-    ∷ asked (codes "/dependents/*/childRelationship") boolean
-    ∷ asked (codes "/dependents/*/student") boolean
-    ∷ asked (codes "/dependents/*/disabled") boolean
-    ∷ asked (codes "/dependents/*/livedWithFiler") boolean
-    ∷ asked (codes "/dependents/*/selfSupported") boolean
-    ∷ asked (codes "/dependents/*/jointReturn") boolean
-    ∷ asked (codes "/dependents/*/relatedOrMember") boolean
-    ∷ asked_from (codes "/dependents/*/grossIncome") dollar (codes "0")
-    ∷ asked (codes "/dependents/*/supportedByFiler") boolean
+    question (codes "/dependents") writable_list (codes "Whom do you support or live with, other than your spouse?")
+    ∷ question (codes "/dependents/*/dateOfBirth") date (codes "When were they born?")
+    ∷ question (codes "/dependents/*/childRelationship") boolean (codes "Are they your child, stepchild or foster child, your brother or sister (by half or by step too), or a descendant of one of these?")
+    ∷ question (codes "/dependents/*/student") boolean (codes "Were they a full-time student in some part of five months?")
+    ∷ question (codes "/dependents/*/disabled") boolean (codes "Were they permanently and totally disabled at any time?")
+    ∷ question (codes "/dependents/*/livedWithFiler") boolean (codes "Did they live with you for more than half of the year?")
+    ∷ question (codes "/dependents/*/selfSupported") boolean (codes "Did they pay for more than half of their own support?")
+    ∷ question (codes "/dependents/*/jointReturn") boolean (codes "Do they file a joint return, other than only to claim a refund?")
+    ∷ question (codes "/dependents/*/relatedOrMember") boolean (codes "Are they your relative in one of the ways that Publication 501 lists, or did they live with you all year as a member of your household?")
+    ∷ question_from (codes "/dependents/*/grossIncome") dollar (codes "0") (codes "How much was their gross income, 0 or more?")
+    ∷ question (codes "/dependents/*/supportedByFiler") boolean (codes "Did you pay for more than half of their support?")
     ∷ []
 
 -- what follows of each dependent

@@ -6,7 +6,7 @@ use dict_tree::PickOp::{Filter, Find};
 use dict_tree::ReadOp::Count;
 use dict_tree::TwoOp::{Equal, GreaterThan, LessThan, Multiply};
 use written_facts::Form::{Many, One, Pick, Read, Switch, Two};
-use written_facts::Row::{Asked, AskedFrom, Derived};
+use written_facts::Row::{Derived, Question, QuestionFrom};
 use written_facts::{Kind, Row, When};
 
 /// The names of the filing statuses.
@@ -20,32 +20,83 @@ pub const FILING_STATUSES: [&str; 5] = [
 
 /// What is asked of the filer and the spouse.
 pub const FILER: &'static [Row<'static>] = &[
-    Asked("/dateOfBirth", Kind::Day),
-    Asked("/blind", Kind::Boolean),
-    Asked("/spouseDateOfBirth", Kind::Day),
-    Asked("/spouseBlind", Kind::Boolean),
-    // at the end of the year
-    Asked("/married", Kind::Boolean),
-    Asked("/consideredUnmarried", Kind::Boolean),
-    // a joint return is chosen
-    Asked("/fileJointly", Kind::Boolean),
-    // in one of the two years before
-    Asked("/spouseDied", Kind::Boolean),
-    // since the spouse died
-    Asked("/remarried", Kind::Boolean),
-    // a dependent child lived in the home, as a surviving spouse needs it
-    Asked("/childInHome", Kind::Boolean),
-    // more than half of the cost of the home
-    Asked("/paidHalfOfHome", Kind::Boolean),
-    // for head of household
-    Asked("/qualifyingPerson", Kind::Boolean),
-    // the filer files separately, and the spouse itemizes
-    Asked("/spouseItemizes", Kind::Boolean),
-    // somebody can claim the filer, or the spouse on a joint return
-    Asked("/canBeClaimed", Kind::Boolean),
-    // of the return
-    AskedFrom("/earnedIncome", Kind::Dollar, "0"),
-    Asked("/otherIncome", Kind::Dollar),
+    Question("/dateOfBirth", Kind::Day, "When were you born?"),
+    Question(
+        "/blind",
+        Kind::Boolean,
+        "Are you blind on the last day of the year?",
+    ),
+    Question(
+        "/spouseDateOfBirth",
+        Kind::Day,
+        "When was your spouse born?",
+    ),
+    Question(
+        "/spouseBlind",
+        Kind::Boolean,
+        "Is your spouse blind on the last day of the year?",
+    ),
+    Question(
+        "/married",
+        Kind::Boolean,
+        "Are you married on the last day of the year?",
+    ),
+    Question(
+        "/consideredUnmarried",
+        Kind::Boolean,
+        "Did you live apart, and keep up a home for your child, so that you are considered unmarried?",
+    ),
+    Question(
+        "/fileJointly",
+        Kind::Boolean,
+        "Do you and your spouse both choose a joint return?",
+    ),
+    Question(
+        "/spouseDied",
+        Kind::Boolean,
+        "Did your spouse die in one of the two years before?",
+    ),
+    Question(
+        "/remarried",
+        Kind::Boolean,
+        "Have you remarried since your spouse died, by the end of the year?",
+    ),
+    Question(
+        "/childInHome",
+        Kind::Boolean,
+        "Did your child or stepchild, and no foster child, whom you can claim as a dependent, live in your home all year?",
+    ),
+    Question(
+        "/paidHalfOfHome",
+        Kind::Boolean,
+        "Did you pay more than half of the cost of keeping up your home?",
+    ),
+    Question(
+        "/qualifyingPerson",
+        Kind::Boolean,
+        "Is there a qualifying person for head of household?",
+    ),
+    Question(
+        "/spouseItemizes",
+        Kind::Boolean,
+        "Does your spouse itemize deductions on a separate return?",
+    ),
+    Question(
+        "/canBeClaimed",
+        Kind::Boolean,
+        "Can somebody else claim you as a dependent, or your spouse on a joint return, whether they do or not?",
+    ),
+    QuestionFrom(
+        "/earnedIncome",
+        Kind::Dollar,
+        "0",
+        "How much are your wages, tips and other pay for work, 0 or more?",
+    ),
+    Question(
+        "/otherIncome",
+        Kind::Dollar,
+        "How much else belongs to your total income, with a minus before a loss?",
+    ),
 ];
 
 /// What follows of the return.
@@ -204,26 +255,62 @@ pub const RETURN: &'static [Row<'static>] = &[
 
 /// The dependents, and what is asked of each.
 pub const DEPENDENTS: &'static [Row<'static>] = &[
-    Asked("/dependents", Kind::Collection),
-    Asked("/dependents/*/dateOfBirth", Kind::Day),
-    // that of a qualifying child
-    Asked("/dependents/*/childRelationship", Kind::Boolean),
-    // full-time, in the year
-    Asked("/dependents/*/student", Kind::Boolean),
-    // permanently and totally
-    Asked("/dependents/*/disabled", Kind::Boolean),
-    // for more than half of the year
-    Asked("/dependents/*/livedWithFiler", Kind::Boolean),
-    // more than half of the own support
-    Asked("/dependents/*/selfSupported", Kind::Boolean),
-    // other than only to claim a refund
-    Asked("/dependents/*/jointReturn", Kind::Boolean),
-    // or a member of the household all year
-    Asked("/dependents/*/relatedOrMember", Kind::Boolean),
-    // of the year
-    AskedFrom("/dependents/*/grossIncome", Kind::Dollar, "0"),
-    // more than half of the support
-    Asked("/dependents/*/supportedByFiler", Kind::Boolean),
+    Question(
+        "/dependents",
+        Kind::Collection,
+        "Whom do you support or live with, other than your spouse?",
+    ),
+    Question(
+        "/dependents/*/dateOfBirth",
+        Kind::Day,
+        "When were they born?",
+    ),
+    Question(
+        "/dependents/*/childRelationship",
+        Kind::Boolean,
+        "Are they your child, stepchild or foster child, your brother or sister (by half or by step too), or a descendant of one of these?",
+    ),
+    Question(
+        "/dependents/*/student",
+        Kind::Boolean,
+        "Were they a full-time student in some part of five months?",
+    ),
+    Question(
+        "/dependents/*/disabled",
+        Kind::Boolean,
+        "Were they permanently and totally disabled at any time?",
+    ),
+    Question(
+        "/dependents/*/livedWithFiler",
+        Kind::Boolean,
+        "Did they live with you for more than half of the year?",
+    ),
+    Question(
+        "/dependents/*/selfSupported",
+        Kind::Boolean,
+        "Did they pay for more than half of their own support?",
+    ),
+    Question(
+        "/dependents/*/jointReturn",
+        Kind::Boolean,
+        "Do they file a joint return, other than only to claim a refund?",
+    ),
+    Question(
+        "/dependents/*/relatedOrMember",
+        Kind::Boolean,
+        "Are they your relative in one of the ways that Publication 501 lists, or did they live with you all year as a member of your household?",
+    ),
+    QuestionFrom(
+        "/dependents/*/grossIncome",
+        Kind::Dollar,
+        "0",
+        "How much was their gross income, 0 or more?",
+    ),
+    Question(
+        "/dependents/*/supportedByFiler",
+        Kind::Boolean,
+        "Did you pay for more than half of their support?",
+    ),
 ];
 
 /// What follows of each dependent.

@@ -10,7 +10,7 @@ use Rattle.dict_tree.specs.Parsing.{use_of}
 use Rattle.dict_tree.specs.Facts.{Fact}
 use Rattle.dict_tree.specs.Dictionary.{Dictionary}
 use Rattle.written_facts.specs.Figures.{Named}
-use Rattle.written_facts.specs.Rows.{asked, derived}
+use Rattle.written_facts.specs.Rows.{derived, question}
 use Rattle.written_facts.specs.Taking.{with_facts}
 use Rattle.tax_2023.specs.Figures.{figures}
 use Rattle.tax_income.specs.Figures.{income_figures}
@@ -133,7 +133,7 @@ taxes =
 -- for whom there is a credit
 abbrev pub children : List Named → List Fact
 children gs =
-    asked (codes "/dependents/*/hasNumber") boolean
+    question (codes "/dependents/*/hasNumber") boolean (codes "Do they have the social security number that the child tax credit asks for?")
     ∷ derived (codes "/dependents/*/creditChild") boolean (credit_child gs)
     ∷ derived (codes "/dependents/*/otherDependent") boolean other_dependent
     ∷ []

@@ -6,7 +6,7 @@ use dict_tree::ReadOp::Count;
 use dict_tree::TwoOp::{Divide, GreaterThan, Multiply};
 use written_facts::Fixed::DollarOf;
 use written_facts::Form::{Const, Many, One, Read, Switch, Two};
-use written_facts::Row::{Asked, Derived};
+use written_facts::Row::{Derived, Question};
 use written_facts::{Form, Kind, Row, When};
 
 /// The upper ends of the bands.
@@ -198,8 +198,11 @@ pub const TAXES: &'static [Row<'static>] = &[
 
 /// For whom there is a credit.
 pub const CHILDREN: &'static [Row<'static>] = &[
-    // as the credit needs it
-    Asked("/dependents/*/hasNumber", Kind::Boolean),
+    Question(
+        "/dependents/*/hasNumber",
+        Kind::Boolean,
+        "Do they have the social security number that the child tax credit asks for?",
+    ),
     Derived(
         "/dependents/*/creditChild",
         Kind::Boolean,

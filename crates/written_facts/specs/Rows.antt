@@ -35,6 +35,7 @@ fact_with text path stated limits main = record {
   main = main;
   conditional = None;
   placeholder = None;
+  description = None;
 }
 
 -- a fact with this path
@@ -49,13 +50,21 @@ asked path stated = fact path stated [] None
 abbrev pub asked_from : List ℕ → Stated → List ℕ → Fact
 asked_from path stated text = fact path stated (least text ∷ []) None
 
+-- the fact, with these words for people, where there are any
+abbrev pub with_words : Option (List ℕ) → Fact → Fact
+with_words words f = record f { description = words }
+
+abbrev pub described : List ℕ → Fact → Fact
+described words f = with_words (Some words) f
+
 -- it follows from others
 abbrev pub derived : List ℕ → Stated → Source → Fact
 derived path stated main = fact path stated [] (Some main)
 
 abbrev pub row_view : List Named → Row → Fact
 row_view fs (rows.Asked path kind) = asked path.now (kind_view kind)
-row_view fs (rows.AskedFrom path kind text) = asked_from path.now (kind_view kind) text.now
+row_view fs (rows.Question path kind words) = described words.now (asked path.now (kind_view kind))
+row_view fs (rows.QuestionFrom path kind text words) = described words.now (asked_from path.now (kind_view kind) text.now)
 row_view fs (rows.Derived path kind form) = derived path.now (kind_view kind) (form_view fs form)
 
 abbrev pub rows_view : List Named → List Row → List Fact

@@ -25,8 +25,10 @@ pub enum Kind<'a> {
 pub enum Row<'a> {
     /// A person answers it.
     Asked(&'a str, Kind<'a>),
-    /// A person answers it with this value or a greater one.
-    AskedFrom(&'a str, Kind<'a>, &'a str),
+    /// A person answers it, and the words say what is asked.
+    Question(&'a str, Kind<'a>, &'a str),
+    /// A person answers it with this value or a greater one, and the words say what is asked.
+    QuestionFrom(&'a str, Kind<'a>, &'a str, &'a str),
     /// It follows from others.
     Derived(&'a str, Kind<'a>, Form<'a>),
 }

@@ -5,7 +5,7 @@ ghost use Rattle.dict_tree.specs.Facts.{fact_view, least, limit_view, stated_vie
 ghost use Rattle.dict_tree.specs.View.{view};
 ghost use Rattle.written_facts.specs.Figures.{figures_view};
 ghost use Rattle.written_facts.specs.Forms.{form_view};
-ghost use Rattle.written_facts.specs.Rows.{asked_from as from, derived as follows, fact_with, kind_view, row_view};
+ghost use Rattle.written_facts.specs.Rows.{asked, asked_from, derived as follows, described, fact_with, kind_view, row_view, with_words};
 ghost use Rattle.written_facts.specs.Taking.{is_named};
 
 use crate::building::build;
@@ -80,9 +80,15 @@ fn start(alloc: Global, path: &str, kind: &Kind<'_>) -> Result<Head, NoMemory>
     })
 }
 
-fn fact(head: Head, limits: Vec<LimitText>, main: Option<Expr>) -> FactSource
-    ensures { fact_view result ≡ fact_with (string_bytes head.path_text) head.path (stated_view head.stated)
-        (map limit_view limits.items) (option_map view main) }
+fn fact(
+    head: Head,
+    limits: Vec<LimitText>,
+    main: Option<Expr>,
+    description: Option<String>,
+) -> FactSource
+    ensures { fact_view result ≡ with_words (option_map string_bytes description) (fact_with
+        (string_bytes head.path_text) head.path (stated_view head.stated) (map limit_view limits.items)
+        (option_map view main)) }
 {
     FactSource {
         path_text: head.path_text,
@@ -92,21 +98,33 @@ fn fact(head: Head, limits: Vec<LimitText>, main: Option<Expr>) -> FactSource
         main,
         conditional: None,
         placeholder: None,
+        description,
     }
 }
 
-fn asked_from(
+fn question(alloc: Global, path: &str, kind: &Kind<'_>, words: &str) -> Result<FactSource, NoMemory>
+    requires { IsTrue (is_named (kind_view kind.now)) }
+    ensures { IfOk result (λ f. fact_view f ≡ described words.now (asked path.now (kind_view kind.now))) }
+{
+    let words = String::from_str(alloc, words)?;
+    let head = start(alloc, path, kind)?;
+    Ok(fact(head, Vec::new(alloc), None, Some(words)))
+}
+
+fn question_from(
     alloc: Global,
     path: &str,
     kind: &Kind<'_>,
     text: &str,
+    words: &str,
 ) -> Result<FactSource, NoMemory>
     requires { IsTrue (is_named (kind_view kind.now)) }
-    ensures { IfOk result (λ f. fact_view f ≡ from path.now (kind_view kind.now) text.now) }
+    ensures { IfOk result (λ f. fact_view f ≡ described words.now (asked_from path.now (kind_view kind.now) text.now)) }
 {
     let limits = at_least(alloc, text)?;
+    let words = String::from_str(alloc, words)?;
     let head = start(alloc, path, kind)?;
-    Ok(fact(head, limits, None))
+    Ok(fact(head, limits, None, Some(words)))
 }
 
 fn derived(
@@ -122,7 +140,7 @@ fn derived(
 {
     let main = build(alloc, figures, form)?;
     match start(alloc, path, kind) {
-        Ok(head) => Ok(fact(head, Vec::new(alloc), Some(main))),
+        Ok(head) => Ok(fact(head, Vec::new(alloc), Some(main), None)),
         Err(NoMemory) => {
             drop(main);
             Err(NoMemory)
@@ -136,8 +154,11 @@ pub fn fact_of(alloc: Global, figures: &[Figure<'_>], row: &Row<'_>) -> Result<F
     ensures { IfOk result (λ f. fact_view f ≡ row_view (figures_view figures.now) row.now) }
 {
     match row {
-        Row::Asked(path, kind) => Ok(fact(start(alloc, path, kind)?, Vec::new(alloc), None)),
-        Row::AskedFrom(path, kind, text) => asked_from(alloc, path, kind, text),
+        Row::Asked(path, kind) => Ok(fact(start(alloc, path, kind)?, Vec::new(alloc), None, None)),
+        Row::Question(path, kind, words) => question(alloc, path, kind, words),
+        Row::QuestionFrom(path, kind, text, words) => {
+            question_from(alloc, path, kind, text, words)
+        }
         Row::Derived(path, kind, form) => derived(alloc, figures, path, kind, form),
     }
 }

@@ -3,4 +3,4 @@ use Rattle.dict_tree.proofs.FactLaws.{fact_is_well_formed}
 use Rattle.dict_tree.proofs.laws.facts_are_well_formed.Goals as goal
 
 pub returns : goal.returns
-returns c = λ later d f e. fact_is_well_formed later d f (fact_found later d f e)
+returns c = λ version d f e. fact_is_well_formed version d f (fact_found version d f e)
