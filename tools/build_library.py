@@ -3,14 +3,14 @@
 
     tools/build_library.py [--static PATH] [--out FOLDER]
 
-The crate fact_graph_c is checked over the libraries below it as they stand: those that `rt ci` left, or that build_libraries.py
-built. The LLVM module that it is compiled from is kept beside the static library, for javascript/wasm/build_wasm.py. In the folder, out/
-where none is given, stand then the shared library and the archive that linking.py describes. With --static they are linked from the
-static library there, and nothing is proved. Both need the C library alone and have the functions of
+The crate fact_graph_c is checked over the libraries below it, which `rt ci` leaves; where one is wanting, they are built first as
+build_program.py does it. The LLVM module that it is compiled from is kept beside the static library, for javascript/wasm/build_wasm.py.
+In the folder, out/ where none is given, stand then the shared library and the archive that linking.py describes. With --static they are
+linked from the static library there, and nothing is proved. Both need the C library alone and have the functions of
 crates/fact_graph_c/fact_graph.h. CC names another compiler than cc.
 
-The exit status is 0 where it was linked, 1 where the crate isn't proved or the linker failed, and 2 where a library below or the
-static library is wanting.
+The exit status is 0 where it was linked, 1 where a crate isn't proved or the linker failed, 2 where the static library is wanting, and
+130 where the libraries below were being built and that was interrupted.
 """
 import argparse
 import os
@@ -19,6 +19,7 @@ import sys
 from pathlib import Path
 from typing import Any
 
+from build_program import build, known_crates, libraries
 from keep_module import keeping
 from kit import TOP, load_rt
 from linking import link
@@ -38,11 +39,10 @@ def compile_static() -> Path | int:
     """Proves the crate and compiles it. Returns the static library, or the exit status."""
     rt = load_rt()
     rt.guarded()
-    crate = next(it for it in rt.crates_below(str(TOP)) if it.name == CRATE.name)
-    wanting = [it.name for it in crate.below() if is_wanting(it)]
-    if wanting:
-        print(f"build_library.py: run tools/build_libraries.py {' '.join(wanting)}", file=sys.stderr)
-        return 2
+    crate = known_crates()[CRATE.name]
+    status = build(libraries([CRATE.name])) if any(map(is_wanting, crate.below())) else 0
+    if status:
+        return status
     ARCHIVE.parent.mkdir(exist_ok=True)
     with keeping(MODULE) as toolchain:
         words = [*crate.words(["--jobs", str(os.cpu_count())]), "--toolchain", str(toolchain), "--backend", "llvm", *rt.KEPT, "-o", str(ARCHIVE)]
