@@ -640,11 +640,34 @@ enum Operator {
     Round,
     YearOf,
     AddDays,
+    LaterMonth,
+    Between,
+    PartOfDate,
+    Multiple,
+}
+
+/// The versions, each with all that those before it have: the second has conditionals, the last the operators of laws.
+#[derive(Clone, Copy, PartialEq, Eq, PartialOrd, Ord)]
+enum Version {
+    First,
+    Second,
+    Law,
 }
 
 impl Operator {
-    /// The operator of this name, None where there is none that takes so many operands.
-    fn named(name: &str, count: usize) -> Option<Operator> {
+    /// The operator of this name, None where the version has none that takes so many operands.
+    fn named(version: Version, name: &str, count: usize) -> Option<Operator> {
+        match (name, count) {
+            _ if version < Version::Law => Operator::of_all_versions(name, count),
+            ("AddMonths" | "AddYears", 2) => Some(Operator::LaterMonth),
+            ("DaysBetween" | "AgeOn", 2) => Some(Operator::Between),
+            ("MonthOf" | "DayOf", 1) => Some(Operator::PartOfDate),
+            ("RoundUp" | "RoundDown" | "RoundNearest", 2) => Some(Operator::Multiple),
+            _ => Operator::of_all_versions(name, count),
+        }
+    }
+
+    fn of_all_versions(name: &str, count: usize) -> Option<Operator> {
         match (name, count) {
             ("All", 1..) => Some(Operator::All),
             ("Any", 1..) => Some(Operator::Any),
@@ -702,8 +725,13 @@ impl Operator {
                 (are_equal && first.is_ordered()).then_some(Type::Boolean)
             }
             Operator::Round => (first == Type::Dollar).then_some(Type::Dollar),
-            Operator::YearOf => (first == Type::Day).then_some(Type::Int),
-            Operator::AddDays => (operands == [Type::Day, Type::Int]).then_some(Type::Day),
+            Operator::YearOf | Operator::PartOfDate => (first == Type::Day).then_some(Type::Int),
+            Operator::AddDays | Operator::LaterMonth => (operands == [Type::Day, Type::Int]).then_some(Type::Day),
+            Operator::Between => (operands == [Type::Day, Type::Day]).then_some(Type::Int),
+            Operator::Multiple => {
+                let is_amount = matches!(first, Type::Dollar | Type::Rational);
+                (is_amount && operands[1] == Type::Dollar).then_some(Type::Dollar)
+            }
         }
     }
 }
@@ -785,7 +813,7 @@ fn bounds_of<'a>(fact: &Fact<'a>) -> Option<Vec<Bound<'a>>> {
 /// Reads the parts of a dictionary, and keeps what is counted of them.
 struct Reader<'a> {
     enums: Enums<'a>,
-    allows_conditional: bool,
+    version: Version,
     /// Of the fact that is read.
     number: usize,
     nodes: usize,
@@ -837,9 +865,10 @@ fn read_dictionary(json: &Value) -> Result<Dictionary<'_>, Fault> {
 fn read_top(json: &Value) -> Result<(Reader<'_>, &[Value]), BadShape> {
     let top = json.object()?;
     ensure_keys(top, &["version", "facts", "enums", "description"])?;
-    let allows_conditional = match member(top, "version")?.text()? {
-        "1" => false,
-        "2" => true,
+    let version = match member(top, "version")?.text()? {
+        "1" => Version::First,
+        "2" => Version::Second,
+        "law-1" => Version::Law,
         _ => return Err(BadShape),
     };
     top.get("description").map(Value::text).transpose()?;
@@ -849,7 +878,7 @@ fn read_top(json: &Value) -> Result<(Reader<'_>, &[Value]), BadShape> {
         ensure(enums.insert(name, options).is_none())?;
     }
     let facts = member(top, "facts")?.array()?;
-    Ok((Reader { enums, allows_conditional, number: 0, nodes: 0, too_deep: None }, facts))
+    Ok((Reader { enums, version, number: 0, nodes: 0, too_deep: None }, facts))
 }
 
 fn read_enum(json: &Value) -> Result<(&str, HashMap<&str, usize>), BadShape> {
@@ -889,7 +918,7 @@ impl<'a> Reader<'a> {
 
     fn conditional(&mut self, json: &'a Value) -> Result<(Expr<'a>, Expr<'a>), BadShape> {
         match json.array()? {
-            [test, value] if self.allows_conditional => Ok((self.expr(test, 1)?, self.expr(value, 1)?)),
+            [test, value] if self.version >= Version::Second => Ok((self.expr(test, 1)?, self.expr(value, 1)?)),
             _ => Err(BadShape),
         }
     }
@@ -921,7 +950,7 @@ impl<'a> Reader<'a> {
                 Ok(Expr::Switch(cases))
             }
             (name, _) => {
-                let operator = Operator::named(name, operands.len()).ok_or(BadShape)?;
+                let operator = Operator::named(self.version, name, operands.len()).ok_or(BadShape)?;
                 let operands = operands.iter().map(|json| self.expr(json, depth + 1)).collect::<Result<_, _>>()?;
                 Ok(Expr::Apply(operator, operands))
             }

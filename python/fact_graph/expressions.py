@@ -51,8 +51,9 @@ def _forms() -> Iterator[tuple[str, Form]]:
         ("Switch", Form(("case",), True)),
         ("All Any Add GreaterOf LesserOf", Form((operand,), True)),
         ("Subtract", Form((operand, operand), True)),
-        ("Not Round YearOf", Form((operand,))),
-        ("Multiply Divide AddDays", Form((operand, operand))),
+        ("Not Round YearOf MonthOf DayOf", Form((operand,))),
+        ("Multiply Divide AddDays AddMonths AddYears DaysBetween AgeOn", Form((operand, operand))),
+        ("RoundUp RoundDown RoundNearest", Form((operand, operand))),
         ("Equal NotEqual LessThan LessThanOrEqual GreaterThan GreaterThanOrEqual", Form((operand, operand))),
         ("Filter Find", Form((path, operand))),
     ):
@@ -62,6 +63,12 @@ def _forms() -> Iterator[tuple[str, Form]]:
 
 NODES = dict(_forms())
 """Each node by its name."""
+
+LAW = "law-1"
+VERSIONS = ("1", "2", LAW)
+"""The versions of dictionaries. Each has what those before it have."""
+OF_LAW = frozenset("AddMonths AddYears DaysBetween AgeOn MonthOf DayOf RoundUp RoundDown RoundNearest".split())
+"""The nodes that the last version alone has."""
 
 
 class Node(NamedTuple):

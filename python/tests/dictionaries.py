@@ -11,6 +11,8 @@ from typing import Any, NamedTuple
 
 from hypothesis import strategies as st
 
+from fact_graph.expressions import LAW, OF_LAW
+
 Expression = list[Any]
 
 OPTIONS = {"color": ["red", "green", "blue"], "size": ["small", "large"]}
@@ -48,6 +50,12 @@ QUOTIENTS = {
     "Dollar": [("Dollar", "Int"), ("Dollar", "Rational")],
     "Rational": [("Int", "Int"), ("Rational", "Rational"), ("Dollar", "Dollar")],
 }
+TO_MULTIPLES = ("RoundUp", "RoundDown", "RoundNearest")
+MULTIPLES = [("Dollar", "Dollar"), ("Rational", "Dollar")]
+PARTS = ("YearOf", "MonthOf", "DayOf")
+BETWEEN = ("DaysBetween", "AgeOn")
+DAYS = [("Day", "Day")]
+LATER = ("AddDays", "AddMonths", "AddYears")
 
 
 class Made(NamedTuple):
@@ -185,11 +193,11 @@ class Maker:
         if wanted in ORDERED:
             makers.append(lambda: [self.one_of(("GreaterOf", "LesserOf")), *self.several(wanted, scope, depth, 1)])
         if wanted == "Dollar":
-            makers.append(lambda: ["Round", self.sure("Dollar", scope, depth)])
+            makers += [lambda: ["Round", self.sure("Dollar", scope, depth)], lambda: self.pair(self.one_of(TO_MULTIPLES), MULTIPLES, scope, depth)]
         if wanted == "Int":
-            makers.append(lambda: ["YearOf", self.sure("Day", scope, depth)])
+            makers += [lambda: [self.one_of(PARTS), self.sure("Day", scope, depth)], lambda: self.pair(self.one_of(BETWEEN), DAYS, scope, depth)]
         if wanted == "Day":
-            makers.append(lambda: ["AddDays", self.sure("Day", scope, depth), self.sure("Int", scope, depth)])
+            makers.append(lambda: self.pair(self.one_of(LATER), [("Day", "Int")], scope, depth))
         return makers
 
     def several(self, wanted: str, scope: Scope, depth: int, least: int) -> list[Expression]:
@@ -273,4 +281,6 @@ def dictionaries(draw: Callable[..., Any]) -> str:
             made.append(added[0])
             stated.append(added[1])
     enums = [{"name": name, "options": options} for name, options in OPTIONS.items()]
-    return json.dumps({"version": "2", "enums": enums, "facts": draw(st.permutations(stated))})
+    facts = draw(st.permutations(stated))
+    is_of_law = any(f'"{name}"' in json.dumps(facts) for name in OF_LAW)
+    return json.dumps({"version": LAW if is_of_law else "2", "enums": enums, "facts": facts})

@@ -14,7 +14,7 @@ from hypothesis import HealthCheck, given, settings
 from fact_graph import Value
 from fact_graph.cases import Case, Entry
 from fact_graph.checks import NotAllowed, findings, read_allowances
-from fact_graph.checks.ranges import NOTHING, Anything, Options, Range
+from fact_graph.checks.ranges import NOTHING, Anything, Options, Range, Span
 from fact_graph.checks.reasoning import Reasoning
 from fact_graph.commands import command_line
 from fact_graph.coverage.measuring import At, Reading
@@ -30,6 +30,10 @@ FACTS: dict[str, dict[str, Any]] = {
     "e": {"path": "/e", "writable": "Enum(e)"},
     "n": {"path": "/n", "writable": "Int", "limits": [["Min", "0"], ["Max", "10"]]},
     "m": {"path": "/m", "writable": "Int", "limits": [["Min", "0"]], "placeholder": ["Int", "1"]},
+}
+OF_LAW: dict[str, dict[str, Any]] = {
+    "d": {"path": "/d", "writable": "Day", "limits": [["Min", "2024-02-10"], ["Max", "2024-03-31"]]},
+    "u": {"path": "/u", "writable": "Dollar", "limits": [["Min", "0"], ["Max", "5"]]},
 }
 IS_B, N, M = ["Dependency", "/b"], ["Dependency", "/n"], ["Dependency", "/m"]
 LESS, MORE = ["LessThan", N, ["Int", "5"]], ["GreaterThanOrEqual", N, ["Int", "5"]]
@@ -84,6 +88,35 @@ FOUND: tuple[tuple[str, dict[str, Any], list[str]], ...] = (
 def rules(*facts: dict[str, Any]) -> bytes:
     """A dictionary of these facts."""
     return json.dumps({"version": "2", "enums": [{"name": "e", "options": ["x", "y"]}], "facts": [*FACTS.values(), *facts]}).encode()
+
+
+D, U, BORN = ["Dependency", "/d"], ["Dependency", "/u"], ["Day", "2006-03-01"]
+RANGES: tuple[tuple[list[Any], str, tuple[int, int], tuple[str, ...]], ...] = (
+    (["AgeOn", BORN, D], "Int", (17, 18), ()),
+    (["AgeOn", D, BORN], "Int", (-19, -18), ()),
+    (["DaysBetween", BORN, D], "Int", (6555, 6605), ()),
+    (["MonthOf", D], "Int", (2, 3), ()),
+    (["DayOf", D], "Int", (1, 31), ()),
+    (["DayOf", BORN], "Int", (1, 1), ()),
+    (["YearOf", ["AddMonths", D, ["Int", "10"]]], "Int", (2024, 2025), ()),
+    (["AddYears", D, ["Int", "-300"]], "Day", (0, -1), ("overflow",)),
+    (["RoundUp", U, ["Dollar", "2"]], "Dollar", (0, 600), ()),
+    (["RoundDown", U, ["Dollar", "2"]], "Dollar", (0, 400), ()),
+    (["RoundNearest", ["Rational", "1/3"], ["Dollar", "0.05"]], "Dollar", (35, 35), ()),
+    (["RoundUp", ["Dollar", "7"], U], "Dollar", (700, 1200), ("zero-divide",)),
+    (["RoundDown", ["Dollar", "7"], U], "Dollar", (200, 700), ("zero-divide",)),
+    (["RoundUp", U, ["Dollar", "0"]], "Dollar", (0, -1), ("zero-divide",)),
+)
+
+
+@pytest.mark.parametrize("node, kind, ends, faults", RANGES, ids=[str(row[0]) for row in RANGES])
+def test_what_words_of_laws_come_to(node: list[Any], kind: str, ends: tuple[int, int], faults: tuple[str, ...]) -> None:
+    """The least and the greatest, by the limits of the answers, and the faults. Where the least is more there is no result."""
+    text = json.dumps({"version": "law-1", "facts": [*OF_LAW.values(), {"path": "/s", "derived": kind, "is": node}]}).encode()
+    reasoning = Reasoning(Rulebook(text))
+    found = reasoning.fact("/s")
+    assert (found == NOTHING) if ends[0] > ends[1] else (isinstance(found, Span) and (found.low, found.high) == ends)
+    assert reasoning.faults[("/s", 1)] == set(faults)
 
 
 def told(text: bytes, *figures: str) -> list[str]:

@@ -12,6 +12,7 @@ from oracle.session import Session as Plain
 from oracle.values import FIRST_DAY, LAST_DAY, MOST, MOST_OF_RATIONAL, Content, Value
 
 from fact_graph import Session
+from fact_graph.expressions import LAW
 
 TYPES = ("Int", "Dollar", "Rational", "Day")
 ORDERS = ("Equal", "NotEqual", "LessThan", "LessThanOrEqual", "GreaterThan", "GreaterThanOrEqual")
@@ -26,13 +27,15 @@ NODES = [
     *(("Divide", (one, other), kind) for one, other, kind in (("Int", "Int", "Rational"), ("Dollar", "Int", "Dollar"), ("Dollar", "Rational", "Dollar"))),
     *(("Divide", (kind, kind), "Rational") for kind in ("Rational", "Dollar")),
     ("Round", ("Dollar",), "Dollar"),
-    ("YearOf", ("Day",), "Int"),
-    ("AddDays", ("Day", "Int"), "Day"),
+    *((node, (kind, "Dollar"), "Dollar") for node in ("RoundUp", "RoundDown", "RoundNearest") for kind in ("Dollar", "Rational")),
+    *((node, ("Day",), "Int") for node in ("YearOf", "MonthOf", "DayOf")),
+    *((node, ("Day", "Day"), "Int") for node in ("DaysBetween", "AgeOn")),
+    *((node, ("Day", "Int"), "Day") for node in ("AddDays", "AddMonths", "AddYears")),
 ]
 SLOTS = [f"/{name}{kind}" for kind in TYPES for name in ("a", "b")]
 DICTIONARY = json.dumps(
     {
-        "version": "1",
+        "version": LAW,
         "facts": [
             *({"path": path, "writable": path[2:]} for path in SLOTS),
             *(
@@ -58,6 +61,8 @@ OPERANDS = st.tuples(WHOLE, WHOLE, WHOLE, WHOLE, RATIOS, RATIOS, DAYS, DAYS)
 @given(OPERANDS)
 @example((3, 2, 1, -1, Fraction(1, 2), Fraction(-1, 2), date(2000, 2, 29), date(2000, 2, 29)))
 @example((-3, 0, -350, 250, Fraction(0), Fraction(1, 3), LAST_DAY, FIRST_DAY))
+@example((12, 1, 1250, 500, Fraction(25, 2), Fraction(1, 2), date(2000, 2, 29), date(2018, 2, 28)))
+@example((1, 18, -1250, 500, Fraction(-25, 2), Fraction(1, 2), date(2024, 1, 31), date(2000, 2, 29)))
 def test_the_engine_and_exact_arithmetic_agree(operands: tuple[Content, ...]) -> None:
     plain = Plain(DICTIONARY)
     with Session(DICTIONARY) as session:

@@ -6,7 +6,7 @@ import re
 from collections.abc import Callable, Sequence
 from datetime import date, timedelta
 from fractions import Fraction
-from math import floor
+from math import ceil, floor
 from typing import NamedTuple, Union
 
 Content = Union[bool, int, Fraction, date, str, tuple[int, ...]]
@@ -201,6 +201,68 @@ def add_days(operands: Sequence[Value]) -> Value:
     return Value("Day", day)
 
 
+def month_of(operands: Sequence[Value]) -> Value:
+    """The month of a day, from 1 to 12."""
+    return Value("Int", operands[0].day.month)
+
+
+def day_of(operands: Sequence[Value]) -> Value:
+    """The place of a day in its month, from 1."""
+    return Value("Int", operands[0].day.day)
+
+
+def add_months(operands: Sequence[Value]) -> Value:
+    """The day with the same number so many months later, or the last of that month where it has no such day."""
+    return in_month(operands[0].day, operands[0].day.month + int(operands[1].number))
+
+
+def add_years(operands: Sequence[Value]) -> Value:
+    """The same so many years later."""
+    return in_month(operands[0].day, operands[0].day.month + 12 * int(operands[1].number))
+
+
+def in_month(day: date, month: int) -> Value:
+    """A day's number in a month that is counted from January of the day's year, or the last of that month."""
+    year = day.year + (month - 1) // 12
+    if not FIRST_DAY.year <= year <= LAST_DAY.year:
+        raise Faulty("overflow")
+    first = date(year, (month - 1) % 12 + 1, 1)
+    days = (first + timedelta(days=at) for at in range(31))
+    return Value("Day", [it for it in days if it.month == first.month and it.day <= day.day][-1])
+
+
+def days_between(operands: Sequence[Value]) -> Value:
+    """The days from the first to the second."""
+    return Value("Int", (operands[1].day - operands[0].day).days)
+
+
+def age_on(operands: Sequence[Value]) -> Value:
+    """The last birthday that has come by the second day: at birth it is 0, and those before birth are counted down."""
+    born, day = (operand.day for operand in operands)
+    return Value("Int", max(years for years in range(-400, 401) if has_come(born, years, day)))
+
+
+def has_come(born: date, years: int, day: date) -> bool:
+    """Whether the birthday of so many years has come by a day. Where its year has no 29 February it is on 1 March."""
+    try:
+        return born.replace(year=born.year + years) <= day
+    except ValueError:
+        return date(born.year + years, 3, 1) <= day
+
+
+def to_multiple(times: Callable[[Fraction], int]) -> Callable[[Sequence[Value]], Value]:
+    """Rounding to a multiple of an amount: how many times it is taken is a whole number made of the exact one."""
+
+    def rounded_to(operands: Sequence[Value]) -> Value:
+        number, unit = operands
+        if unit.number <= 0:
+            raise Faulty("zero-divide")
+        cents = number.number * 100 if number.kind == "Rational" else number.number
+        return within("Dollar", times(cents / unit.number) * unit.number)
+
+    return rounded_to
+
+
 def boolean(is_so: bool) -> Value:
     """A Boolean."""
     return TRUE if is_so else FALSE
@@ -214,7 +276,16 @@ STRICT: dict[str, Callable[[Sequence[Value]], Value]] = {
     "Divide": divide,
     "Round": round_amount,
     "YearOf": year_of,
+    "MonthOf": month_of,
+    "DayOf": day_of,
     "AddDays": add_days,
+    "AddMonths": add_months,
+    "AddYears": add_years,
+    "DaysBetween": days_between,
+    "AgeOn": age_on,
+    "RoundUp": to_multiple(ceil),
+    "RoundDown": to_multiple(floor),
+    "RoundNearest": to_multiple(rounded),
     "Equal": lambda them: boolean(them[0] == them[1]),
     "NotEqual": lambda them: boolean(them[0] != them[1]),
     "LessThan": lambda them: boolean(them[0].order < them[1].order),  # type: ignore[operator]  # of one type

@@ -1,4 +1,5 @@
-"""Each operation over each type of its operands: which have a type, and which are refused at their node."""
+"""Each operation over each type of its operands: which have a type, and which are refused at their node. Those of version law-1 are
+refused in the versions before it."""
 from collections.abc import Iterable, Iterator
 
 from stored_cases import Made
@@ -14,6 +15,10 @@ OPERANDS = {
     "Enum(m)": '["Enum","m","a"]',
 }
 ORDERED = ("Int", "Dollar", "Rational", "Day")
+
+
+Pairs = dict[str, dict[tuple[str, str], str]]
+Singles = dict[str, dict[str, str]]
 
 
 def same(types: Iterable[str], of: str | None = None) -> dict[tuple[str, str], str]:
@@ -57,6 +62,20 @@ PAIRS = {
     "Any": TESTS,
 }
 
+# those that version law-1 alone has
+LATER, BETWEEN = {("Day", "Int"): "Day"}, {("Day", "Day"): "Int"}
+MULTIPLES = {("Dollar", "Dollar"): "Dollar", ("Rational", "Dollar"): "Dollar"}
+LAW_PAIRS = {
+    "AddMonths": LATER,
+    "AddYears": LATER,
+    "DaysBetween": BETWEEN,
+    "AgeOn": BETWEEN,
+    "RoundUp": MULTIPLES,
+    "RoundDown": MULTIPLES,
+    "RoundNearest": MULTIPLES,
+}
+LAW_SINGLES = {"MonthOf": {"Day": "Int"}, "DayOf": {"Day": "Int"}}
+
 # of one
 EXTREME = {kind: kind for kind in ORDERED}
 SINGLES = {
@@ -78,24 +97,50 @@ CONDITIONS = {
 }
 
 
-def case(name: str, kind: str | None, nodes: int, expression: str) -> Made:
+def written(expression: str, kind: str, version: str) -> bytes:
+    """A dictionary with the expression."""
+    return (
+        '{"version":"%s","enums":[{"name":"n","options":["a"]},{"name":"m","options":["a"]}],"facts":'
+        '[{"path":"/c","writable":"Collection"},{"path":"/a","derived":"%s","is":%s}]}' % (version, kind, expression)
+    ).encode()
+
+
+def case(name: str, kind: str | None, nodes: int, expression: str, version: str = "1") -> Made:  # pylint: disable=too-many-arguments
     """An expression that has this type, or none."""
-    dictionary = (
-        '{"version":"1","enums":[{"name":"n","options":["a"]},{"name":"m","options":["a"]}],"facts":'
-        '[{"path":"/c","writable":"Collection"},{"path":"/a","derived":"%s","is":%s}]}' % (kind or "Boolean", expression)
-    )
     text = b"dictionary accepted 2 facts %d nodes\n" % nodes if kind else b"dictionary refused 12 IllTyped fact 2 node 1\n"
-    return name, "check d", dictionary.encode(), b"", text, 0 if kind else 1
+    return name, "check d", written(expression, kind or "Boolean", version), b"", text, 0 if kind else 1
+
+
+def misformed(name: str, expression: str, version: str) -> Made:
+    """An expression that has no form in this version."""
+    return name, "check d", written(expression, "Int", version), b"", b"dictionary refused 3 Shape fact 2\n", 1
+
+
+def of_one_and_two(pairs: Pairs, singles: Singles, version: str) -> Iterator[Made]:
+    """Operations over all types of operands."""
+    for name, types in pairs.items():
+        for a, first in OPERANDS.items():
+            for b, second in OPERANDS.items():
+                yield case(f"{name} of {a} and {b}", types.get((a, b)), 3, '["%s",%s,%s]' % (name, first, second), version)
+    for name, gives in singles.items():
+        for a, first in OPERANDS.items():
+            yield case(f"{name} of {a}", gives.get(a), 2, '["%s",%s]' % (name, first), version)
+
+
+def of_law() -> Iterator[Made]:
+    """Operations of version law-1 in the versions before it, and over too few operands and too many."""
+    counts = {**{name: 2 for name in LAW_PAIRS}, **{name: 1 for name in LAW_SINGLES}}
+    for name, count in counts.items():
+        for operands in range(4):
+            expression = '["%s"%s]' % (name, "".join(f",{OPERANDS['Day']}" for _ in range(operands)))
+            for version in ("1", "2") if operands == count else ("law-1",):
+                yield misformed(f"{name} of {operands} operands in version {version}", expression, version)
 
 
 def cases() -> Iterator[Made]:
-    for name, types in PAIRS.items():
-        for a, first in OPERANDS.items():
-            for b, second in OPERANDS.items():
-                yield case(f"{name} of {a} and {b}", types.get((a, b)), 3, '["%s",%s,%s]' % (name, first, second))
-    for name, gives in SINGLES.items():
-        for a, first in OPERANDS.items():
-            yield case(f"{name} of {a}", gives.get(a), 2, '["%s",%s]' % (name, first))
+    yield from of_one_and_two(PAIRS, SINGLES, "1")
+    yield from of_one_and_two(LAW_PAIRS, LAW_SINGLES, "law-1")
+    yield from of_law()
     for form, (kind, nodes) in CONDITIONS.items():
         for a, first in OPERANDS.items():
             yield case(form % a, kind if a == "Boolean" else None, nodes, form % first)

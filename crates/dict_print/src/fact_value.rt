@@ -77,6 +77,17 @@ fn put_placeholder(
     }
 }
 
+fn put_words(
+    members: &mut Map<String, Value>,
+    alloc: Global,
+    words: &String,
+) -> Result<(), NoMemory>
+    ensures { OnOk result (members_view members.new.entries ≡ put (codes "description")
+        (string (string_bytes words.now)) (members_view members.old.entries)) }
+{
+    put_text(members, alloc, "description", words.as_str())
+}
+
 // Adds a member for what the fact is in words, where it says so.
 fn put_description(
     members: &mut Map<String, Value>,
@@ -88,7 +99,7 @@ fn put_description(
 {
     match description {
         None => Ok(()),
-        Some(text) => put_text(members, alloc, "description", text.as_str()),
+        Some(words) => put_words(members, alloc, words),
     }
 }
 

@@ -8,6 +8,7 @@ from typing import NamedTuple
 from ..expressions import FactTree, Node
 from ..rulebook import Rulebook, cases_of
 from ..uses import WITH_CONDITION, home_of
+from .arithmetic import TO_MULTIPLES
 from .ranges import FALSE, TRUE
 from .reasoning import Reasoning
 
@@ -19,7 +20,7 @@ CHECKS = {
     "unused-answer": "an answer is asked for, and no figure rests on it",
     "hidden-answer": "a placeholder stands in for answers that have none of their own, so that a figure looks known before they are given",
     "overflow": "an amount can be out of its type's range, and is a fault then",
-    "zero-divide": "a divisor can be zero, and the result is a fault then",
+    "zero-divide": "a divisor can be zero, or the unit of a rounding zero or less, and the result is a fault then",
 }
 """Each check, and what it finds."""
 
@@ -126,7 +127,8 @@ def _of_arithmetic(rulebook: Rulebook, reasoning: Reasoning, tree: FactTree) -> 
     for node in tree.nodes():
         for fault in sorted(reasoning.faults.get((tree.path, node.number), ())):
             if fault == "zero-divide":
-                yield Finding(fault, tree.path, node.number, f"the divisor {rulebook.shown(tree, node.operands[1])} can be 0")
+                what, least = ("unit", "0 or less") if node.name in TO_MULTIPLES else ("divisor", "0")
+                yield Finding(fault, tree.path, node.number, f"the {what} {rulebook.shown(tree, node.operands[1])} can be {least}")
             else:
                 yield Finding(fault, tree.path, node.number, f"{node.name} can go beyond the range of its type{_unlimited(rulebook, tree, node)}")
 

@@ -6,7 +6,7 @@ import re
 from collections.abc import Iterator
 from typing import Any
 
-from ..expressions import NODES, FactTree, Node
+from ..expressions import LAW, NODES, OF_LAW, VERSIONS, FactTree, Node
 from ..located import Pointer
 from .finding import Finding, listed, nearest, shown
 
@@ -24,6 +24,7 @@ LIMITS = ("Min", "Max", "MaxLength", "Check")
 OTHER_NAMES = {
     "and": "All", "or": "Any", "if": "Switch", "when": "Switch", "plus": "Add", "sum": "Add", "minus": "Subtract", "times": "Multiply",
     "max": "GreaterOf", "maximum": "GreaterOf", "min": "LesserOf", "minimum": "LesserOf", "ref": "Dependency", "year": "YearOf",
+    "month": "MonthOf", "age": "AgeOn", "ceil": "RoundUp", "ceiling": "RoundUp", "floor": "RoundDown",
     "size": "CollectionSize", "greater": "GreaterThan", "less": "LessThan", "boolean": "True", "money": "Dollar", "amount": "Dollar",
     "currency": "Dollar", "integer": "Int", "number": "Int", "decimal": "Rational", "float": "Rational", "fraction": "Rational",
     "date": "Day", "string": "Text", "bool": "Boolean", "choice": "Enum", "option": "Enum", "list": "Collection",
@@ -46,9 +47,10 @@ def misforms(value: Any) -> Iterator[Finding]:
     """What of a dictionary has no form: first what stands outside the facts, then each fact."""
     yield from (it._replace(fact=0) for it in _top(value))
     facts = value.get("facts") if isinstance(value, dict) else None
-    is_later = isinstance(value, dict) and value.get("version") == "2"
+    stated = value.get("version") if isinstance(value, dict) else None
+    version = stated if isinstance(stated, str) else ""
     for at, fact in enumerate(facts if isinstance(facts, list) else []):
-        yield from (it._replace(fact=at + 1) for it in _fact(fact, ("facts", at), is_later))
+        yield from (it._replace(fact=at + 1) for it in _fact(fact, ("facts", at), version))
 
 
 def _misform(pointer: Pointer, reason: str, hint: str = "", *, is_key: bool = False, related: tuple[Pointer, ...] = ()) -> Finding:
@@ -89,8 +91,9 @@ def _top(value: Any) -> Iterator[Finding]:
         yield _misform((), f"a dictionary is an object in braces, and this is {_kind(value)}", '{"version":"1","facts":[ .. ]}')
         return
     yield from _keys(value, (), TOP_KEYS, ("version", "facts"), "a dictionary")
-    if value.get("version", "1") not in ("1", "2"):
-        yield _misform(("version",), f"there is no version {shown(value['version'])}", 'write "1", or "2" for `conditional`')
+    if value.get("version", "1") not in VERSIONS:
+        hint = f'write "1", "2" for `conditional`, or "{LAW}" for ages, months and rounding'
+        yield _misform(("version",), f"there is no version {shown(value['version'])}", hint)
     yield from _text(value.get("description", ""), ("description",), "a description")
     if not isinstance(value.get("facts", []), list):
         yield _misform(("facts",), f"the facts are a list, and this is {_kind(value['facts'])}")
@@ -135,12 +138,12 @@ def _name(value: Any, pointer: Pointer, what: str) -> Iterator[Finding]:
 # ---- a fact
 
 
-def _fact(fact: Any, pointer: Pointer, is_later: bool) -> Iterator[Finding]:
+def _fact(fact: Any, pointer: Pointer, version: str) -> Iterator[Finding]:
     if not isinstance(fact, dict):
         yield _misform(pointer, f"a fact is an object in braces, and this is {_kind(fact)}", '{"path":"/rent","writable":"Dollar"}')
         return
     is_writable = "writable" in fact and ("derived" not in fact or "is" not in fact)
-    yield from _keys_of_fact(fact, pointer, is_writable, is_later)
+    yield from _keys_of_fact(fact, pointer, is_writable, version)
     for key, what in (("path", "a path"), ("description", "a description")):
         yield from _text(fact.get(key, ""), (*pointer, key), what)
     for key in ("writable", "derived"):
@@ -149,14 +152,14 @@ def _fact(fact: Any, pointer: Pointer, is_later: bool) -> Iterator[Finding]:
     if is_writable:
         yield from _limits(fact.get("limits", []), (*pointer, "limits"))
     elif "is" in fact:
-        yield from _expression(fact["is"], (*pointer, "is"))
+        yield from _expression(fact["is"], (*pointer, "is"), version)
     if "conditional" in fact and not is_writable:
-        yield from _conditional(fact["conditional"], (*pointer, "conditional"))
+        yield from _conditional(fact["conditional"], (*pointer, "conditional"), version)
     if "placeholder" in fact:
-        yield from _expression(fact["placeholder"], (*pointer, "placeholder"))
+        yield from _expression(fact["placeholder"], (*pointer, "placeholder"), version)
 
 
-def _keys_of_fact(fact: dict[str, Any], pointer: Pointer, is_writable: bool, is_later: bool) -> Iterator[Finding]:
+def _keys_of_fact(fact: dict[str, Any], pointer: Pointer, is_writable: bool, version: str) -> Iterator[Finding]:
     if "writable" not in fact and "derived" not in fact:
         like = nearest("writable", fact) or nearest("derived", fact)
         if not like:
@@ -170,7 +173,7 @@ def _keys_of_fact(fact: dict[str, Any], pointer: Pointer, is_writable: bool, is_
     if "derived" not in fact and "writable" not in fact:
         known, whose = FACT_KEYS, "a fact"
     yield from _keys(fact, pointer, known, needed, whose)
-    if "conditional" in fact and not is_writable and not is_later:
+    if "conditional" in fact and not is_writable and version not in VERSIONS[1:]:
         yield _misform((*pointer, "conditional"), "`conditional` is of version 2", 'write "version":"2"', is_key=True, related=(("version",),))
 
 
@@ -210,18 +213,18 @@ def _limits(limits: Any, pointer: Pointer) -> Iterator[Finding]:
         yield from _text(limit[1], (*here, 1), "the bound of a limit")
 
 
-def _conditional(value: Any, pointer: Pointer) -> Iterator[Finding]:
+def _conditional(value: Any, pointer: Pointer, version: str) -> Iterator[Finding]:
     if not isinstance(value, list) or len(value) != 2:
         yield _misform(pointer, f"a conditional is a list of a test and a value, and this is {shown(value)}", '[["Dependency","/isExempt"],["Dollar","0"]]')
         return
     for at, part in enumerate(value):
-        yield from _expression(part, (*pointer, at))
+        yield from _expression(part, (*pointer, at), version)
 
 
 # ---- an expression
 
 
-def _expression(value: Any, pointer: Pointer) -> Iterator[Finding]:
+def _expression(value: Any, pointer: Pointer, version: str) -> Iterator[Finding]:
     if not isinstance(value, list):
         yield _misform(pointer, f"an expression is a list that begins with the name of a node, and this is {_kind(value)}", _as_node(value))
         return
@@ -232,6 +235,8 @@ def _expression(value: Any, pointer: Pointer) -> Iterator[Finding]:
     if name not in NODES:
         yield _misform((*pointer, 0), f"there is no node `{name}`", _node_like(name))
         return
+    if name in OF_LAW and version != LAW:
+        yield _misform((*pointer, 0), f"`{name}` is of version {LAW}", f'write "version":"{LAW}"', related=(("version",),))
     form = NODES[name]
     parts = value[1:]
     if len(parts) < len(form.parts) or (len(parts) > len(form.parts) and not form.more):
@@ -242,9 +247,9 @@ def _expression(value: Any, pointer: Pointer) -> Iterator[Finding]:
         if what in ("path", "text"):
             yield from _text(part, here, "a path" if what == "path" else "the text of a constant" if name != "Enum" else "the name of a list or an option")
         elif what == "case":
-            yield from _case(part, here)
+            yield from _case(part, here, version)
         elif what == "operand":
-            yield from _expression(part, here)
+            yield from _expression(part, here, version)
 
 
 def _as_node(value: Any) -> str:
@@ -273,12 +278,12 @@ def _instead(name: str, count: int) -> str:
     return ""
 
 
-def _case(value: Any, pointer: Pointer) -> Iterator[Finding]:
+def _case(value: Any, pointer: Pointer, version: str) -> Iterator[Finding]:
     if not isinstance(value, list) or len(value) != 3 or value[0] != "Case":
         yield _misform(pointer, f"in a Switch stand cases of a test and a value, and this is {shown(value)}", '["Case",["True"],["Int","1"]]')
         return
     for side in (1, 2):
-        yield from _expression(value[side], (*pointer, side))
+        yield from _expression(value[side], (*pointer, side), version)
 
 
 # ---- how much there is

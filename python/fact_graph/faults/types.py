@@ -12,6 +12,9 @@ from .finding import Finding, listed, nearest
 
 ORDERED = ("Int", "Dollar", "Rational", "Day")
 COMPARED = ("LessThan", "LessThanOrEqual", "GreaterThan", "GreaterThanOrEqual")
+LATER = ("AddDays", "AddMonths", "AddYears")
+BETWEEN = ("DaysBetween", "AgeOn")
+TO_MULTIPLES = ("RoundUp", "RoundDown", "RoundNearest")
 
 TAKES = {
     "All": "takes Booleans", "Any": "takes Booleans", "Not": "takes a Boolean",
@@ -24,7 +27,10 @@ TAKES = {
     "Equal": "takes two of one type, but no Collection and no Item",
     "NotEqual": "takes two of one type, but no Collection and no Item",
     **{name: "takes two Ints, Dollars, Rationals or Days, both of one type" for name in COMPARED},
-    "Round": "takes a Dollar", "YearOf": "takes a Day", "AddDays": "takes a Day and an Int",
+    "Round": "takes a Dollar", "YearOf": "takes a Day", "MonthOf": "takes a Day", "DayOf": "takes a Day",
+    **{name: "takes a Day and an Int" for name in LATER},
+    **{name: "takes two Days" for name in BETWEEN},
+    **{name: "takes a Dollar or a Rational, and a Dollar to whose multiple it is rounded" for name in TO_MULTIPLES},
     "CollectionSum": "takes a fact that is an Int or a Dollar", "Count": "takes a fact that is a Boolean",
     "Filter": "takes a condition that is a Boolean", "Find": "takes a condition that is a Boolean",
     "Switch": "takes tests that are Booleans, and values all of one type",
@@ -225,7 +231,7 @@ class _Typing:
         """What would be right in place of operands that don't go together."""
         if node.name in ("Add", "Subtract") and set(types) == {"Rational"} and len(types) > 2:
             return "add two, and the third to their sum"
-        if set(types) == {"Int", "Dollar"} and node.name not in ("AddDays", "All", "Any"):
+        if set(types) == {"Int", "Dollar"} and node.name not in (*LATER, *BETWEEN, "All", "Any"):
             return "make the Int an amount: `[\"Multiply\",[\"Dollar\",\"1\"],..]` of it, or `[\"Dollar\",..]` in place of a constant"
         if node.name == "Divide" and types == ["Int", "Dollar"]:
             return "the Dollar stands first"
@@ -279,6 +285,10 @@ def _equality(types: list[str]) -> str | None:
     return "Boolean" if len(set(types)) == 1 and is_plain else None
 
 
+def _multiple(types: list[str]) -> str | None:
+    return "Dollar" if types in (["Dollar", "Dollar"], ["Rational", "Dollar"]) else None
+
+
 def _fixed(given: list[str], gives: str) -> Result:
     return lambda types: gives if types == given else None
 
@@ -292,7 +302,9 @@ RESULTS: dict[str, Result] = {
     **dict.fromkeys(("Equal", "NotEqual"), _equality),
     **dict.fromkeys(COMPARED, _order),
     "Round": _fixed(["Dollar"], "Dollar"),
-    "YearOf": _fixed(["Day"], "Int"),
-    "AddDays": _fixed(["Day", "Int"], "Day"),
+    **dict.fromkeys(("YearOf", "MonthOf", "DayOf"), _fixed(["Day"], "Int")),
+    **dict.fromkeys(LATER, _fixed(["Day", "Int"], "Day")),
+    **dict.fromkeys(BETWEEN, _fixed(["Day", "Day"], "Int")),
+    **dict.fromkeys(TO_MULTIPLES, _multiple),
 }
 """By the name of an operation the type of its result, of the types of its operands."""

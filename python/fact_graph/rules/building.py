@@ -10,13 +10,16 @@ from lark.visitors import Transformer_NonRecursive
 
 from .drafts import Conditional, Definition, Draft, EnumDraft, FactDraft, Limit, Misread, Placeholder, Span, StatedType, Text, VersionDraft
 from .literals import TYPES, read, unquoted
+from .phrases import LATER, OF_ONE, OF_TWO
 
 Part = Any
 """A token, or what another rule made."""
 
 COMPARISONS = {"is": "Equal", "is not": "NotEqual", "<": "LessThan", "<=": "LessThanOrEqual", ">": "GreaterThan", ">=": "GreaterThanOrEqual"}
 ARITHMETIC = {"+": "Add", "-": "Subtract", "*": "Multiply", "/": "Divide"}
-OF_ONE = {"year of": "YearOf", "round": "Round"}
+LATER_BY = {f"{unit.upper()}S": name for name, unit in LATER.items()}
+OF_ONE_WORD = {**{words: name for name, words in OF_ONE.items()}, "round": "Round"}
+OF_TWO_WORDS = {words: name for name, (words, _) in OF_TWO.items()}
 OF_MANY = {"greater of": "GreaterOf", "lesser of": "LesserOf", "All": "All", "Any": "Any", "Add": "Add"}
 OVER = {"sum of": "CollectionSum", "number of": "CollectionSize", "count of": "Count"}
 
@@ -202,14 +205,14 @@ class Builder(Transformer_NonRecursive):
         return node if words(parts[1]) == "is complete" else self.node("Not", parts, node)
 
     def sum(self, parts: list[Part]) -> Draft:
-        """`a + b - c + 5 days`, from the left; what is added in a row is one node, and what is subtracted in a row"""
+        """`a + b - c + 5 days + 2 months`, from the left; what is added in a row is one node, and what is subtracted in a row"""
         left: Draft = parts[0]
         at = 1
         while at < len(parts):
             mark, right = parts[at], parts[at + 1]
             at += 2
-            if at < len(parts) and isinstance(parts[at], Token) and parts[at].type == "DAYS":
-                left = self.node("AddDays", [left, parts[at]], left, right)
+            if at < len(parts) and parts[at].type in LATER_BY:
+                left = self.node(LATER_BY[parts[at].type], [left, parts[at]], left, right)
                 at += 1
             elif left.name == ARITHMETIC[mark] and not left.brackets:
                 left = self.node(left.name, [left, right], *left.operands, right)
@@ -269,7 +272,11 @@ class Builder(Transformer_NonRecursive):
 
     def one(self, parts: list[Part]) -> Draft:
         """`year of /a`, `round(/a)`"""
-        return self.node(OF_ONE[words(parts[0])], parts, parts[1] if isinstance(parts[1], Draft) else parts[2])
+        return self.node(OF_ONE_WORD[words(parts[0])], parts, parts[1] if isinstance(parts[1], Draft) else parts[2])
+
+    def two(self, parts: list[Part]) -> Draft:
+        """`age of /a on /b`, `round up /a to $1`"""
+        return self.node(OF_TWO_WORDS[words(parts[0])], parts, parts[1], parts[3])
 
     def many(self, parts: list[Part]) -> Draft:
         """`greater of (/a, /b)`"""

@@ -7,10 +7,10 @@ import re
 from lark import UnexpectedInput, UnexpectedToken
 
 VALUES = frozenset(
-    "PATH QUOTED_PATH WORD OPTION INT DOLLAR FRACTION PERCENT DAY STRING TRUE FALSE CONSTANT CHOICE LPAR NOT IF YEAR_OF ROUND "
-    "GREATER_OF LESSER_OF MANY SUM_OF NUMBER_OF COUNT_OF FIRST_OF".split()
+    "PATH QUOTED_PATH WORD OPTION INT DOLLAR FRACTION PERCENT DAY STRING TRUE FALSE CONSTANT CHOICE LPAR NOT IF YEAR_OF MONTH_OF DAY_OF "
+    "AGE_OF DAYS_FROM ROUND_TO ROUND GREATER_OF LESSER_OF MANY SUM_OF NUMBER_OF COUNT_OF FIRST_OF".split()
 )
-OPERATORS = frozenset("PLUS MINUS STAR SLASH IS IS_NOT IS_COMPLETE IS_NOT_COMPLETE ORDER AND OR DAYS".split())
+OPERATORS = frozenset("PLUS MINUS STAR SLASH IS IS_NOT IS_COMPLETE IS_NOT_COMPLETE ORDER AND OR DAYS MONTHS YEARS".split())
 GROUPS = (
     ("WORD", VALUES, "a value"),
     ("PLUS", OPERATORS, "an operator"),
@@ -44,8 +44,13 @@ HINTS = (
 )
 """What stands there, and what to write in its place."""
 CALLED = {"max": "greater of (.., ..)", "maximum": "greater of (.., ..)", "min": "lesser of (.., ..)", "minimum": "lesser of (.., ..)",
-          "sum": "sum of /people/*/wages", "count": "count of /people/*/adult", "year": "year of /born", "not": "not (..)"}  # fmt: skip
+          "sum": "sum of /people/*/wages", "count": "count of /people/*/adult", "not": "not (..)", "year": "year of /born",
+          "month": "month of /born", "day": "day of /born", "age": "age of /born on /day", "ceil": "round up .. to $1",
+          "ceiling": "round up .. to $1", "floor": "round down .. to $1"}  # fmt: skip
 """What to write in place of words that other languages call with brackets."""
+WITHIN = ({"ON"}, {"TO"})
+"""What belongs behind the first operand of a phrase."""
+BRACKETS = "what is more than one value stands in brackets"
 FOUND = re.compile(r'"[^"\n]*"?|`[^`\n]*`?|[A-Za-z0-9_$][\w$%-]*|[./]+[\w./*-]*|[<>=!&|]+|.')
 
 
@@ -57,7 +62,7 @@ def told(wrong: UnexpectedInput, text: str) -> tuple[int, str]:
     if isinstance(wrong, UnexpectedToken) and wrong.token.type == "$END" or at >= end:
         return end, f"{_listed(wanted)} belongs here, and nothing follows"
     found = FOUND.match(text, at)
-    hint = _hint(text, at)
+    hint = BRACKETS if wanted in WITHIN and text[at] in "+-*/" else _hint(text, at)
     return at, f"{_listed(wanted)} belongs here, and {_shown(found[0] if found else '')} stands here{hint and f'; {hint}'}"
 
 

@@ -11,6 +11,7 @@ from .comments import Notes
 from .declared import Declared
 from .layout import EDGE, HARD, SPACE, Doc, Remark, group, nest, row
 from .literals import NAME, PATH, RESERVED, quoted, written
+from .phrases import LATER, OF_ONE, OF_TWO
 from .units import CHAINS, LISTS, VALUE_SIDES
 
 Node = list[Any]
@@ -20,13 +21,13 @@ PRODUCTS = {"Multiply": "*", "Divide": "/"}
 OVER = {"CollectionSum": "sum of", "CollectionSize": "number of", "Count": "count of"}
 
 # how closely a node binds
-LOOSE, EITHER, BOTH, NEGATION, COMPARISON, SUM, PRODUCT, CLOSED = range(8)
+LOOSE, EITHER, BOTH, NEGATION, COMPARISON, PHRASE, SUM, PRODUCT, CLOSED = range(9)
 LEVELS = {
     "Switch": LOOSE, "Filter": LOOSE, "Find": LOOSE, "Any": EITHER, "All": BOTH, "Not": NEGATION,
-    **dict.fromkeys(COMPARISONS, COMPARISON), "IsComplete": COMPARISON, "Add": SUM, "Subtract": SUM, "AddDays": SUM,
-    **dict.fromkeys(PRODUCTS, PRODUCT),
+    **dict.fromkeys(COMPARISONS, COMPARISON), "IsComplete": COMPARISON, **dict.fromkeys(OF_TWO, PHRASE),
+    "Add": SUM, "Subtract": SUM, **dict.fromkeys(LATER, SUM), **dict.fromkeys(PRODUCTS, PRODUCT),
 }  # fmt: skip
-SUMS = frozenset(("Add", "Subtract", "AddDays"))
+SUMS = frozenset(("Add", "Subtract", *LATER))
 
 
 def level(node: Node) -> int:
@@ -58,8 +59,9 @@ class Printer:
         self.notes = notes
         self._writers: dict[str, Callable[[Node, Spot], Doc]] = {
             **dict.fromkeys(CHAINS, self._chain), **dict.fromkeys(LISTS, self._list), **dict.fromkeys(COMPARISONS, self._comparison),
-            **dict.fromkeys(PRODUCTS, self._product), "Switch": self._switch, "AddDays": self._later_day, "Filter": self._choice,
-            "Find": self._choice, "Not": self._not, "Round": self._round, "YearOf": self._year,
+            **dict.fromkeys(PRODUCTS, self._product), **dict.fromkeys(LATER, self._later_day), **dict.fromkeys(OF_ONE, self._of_one),
+            **dict.fromkeys(OF_TWO, self._of_two), "Switch": self._switch, "Filter": self._choice, "Find": self._choice, "Not": self._not,
+            "Round": self._round,
         }  # fmt: skip
 
     def root(self, node: Node, pointer: Pointer, scope: Scope, enum: str | None) -> Doc:
@@ -104,7 +106,7 @@ class Printer:
         """An operand of a chain. The first may be another sum: what is added or subtracted goes from the left."""
         if node[0] not in SUMS:
             return self._inside(node[at], spot.part(at), NEGATION)
-        is_sum = at == 1 and node[1][0] in SUMS and (node[1][0] != node[0] or node[0] == "AddDays")
+        is_sum = at == 1 and node[1][0] in SUMS and (node[1][0] != node[0] or node[0] in LATER)
         return self._inside(node[at], spot.part(at), SUM if is_sum else PRODUCT)
 
     def _list(self, node: Node, spot: Spot) -> Doc:
@@ -136,15 +138,16 @@ class Printer:
     def _comparison(self, node: Node, spot: Spot) -> Doc:
         name, left, right = node
         enum = self.declared.enum_of(left[1], spot.scope) if name in VALUE_SIDES and left[0] == "Dependency" else None
-        right_doc = self._inside(right, spot.part(2, enum=enum), SUM)
-        return group(self._inside(left, spot.part(1), SUM), nest(SPACE, f"{COMPARISONS[name]} ", right_doc))
+        right_doc = self._inside(right, spot.part(2, enum=enum), PHRASE)
+        return group(self._inside(left, spot.part(1), PHRASE), nest(SPACE, f"{COMPARISONS[name]} ", right_doc))
 
     def _product(self, node: Node, spot: Spot) -> Doc:
         left, right = self._inside(node[1], spot.part(1), PRODUCT), self._inside(node[2], spot.part(2), CLOSED)
         return group(left, nest(SPACE, f"{PRODUCTS[node[0]]} ", right))
 
     def _later_day(self, node: Node, spot: Spot) -> Doc:
-        return group(self._addend(node, 1, spot), nest(SPACE, "+ ", self._inside(node[2], spot.part(2), CLOSED), " days"))
+        unit = LATER[node[0]] if node[2] == ["Int", "1"] else f"{LATER[node[0]]}s"
+        return group(self._addend(node, 1, spot), nest(SPACE, "+ ", self._inside(node[2], spot.part(2), CLOSED), f" {unit}"))
 
     def _choice(self, node: Node, spot: Spot) -> Doc:
         name, path, test = node
@@ -160,8 +163,13 @@ class Printer:
     def _round(self, node: Node, spot: Spot) -> Doc:
         return group("round(", nest(EDGE, self._node(node[1], spot.part(1))), EDGE, ")")
 
-    def _year(self, node: Node, spot: Spot) -> Doc:
-        return row("year of ", self._inside(node[1], spot.part(1), CLOSED))
+    def _of_one(self, node: Node, spot: Spot) -> Doc:
+        return row(f"{OF_ONE[node[0]]} ", self._inside(node[1], spot.part(1), CLOSED))
+
+    def _of_two(self, node: Node, spot: Spot) -> Doc:
+        first, second = OF_TWO[node[0]]
+        second_doc = nest(SPACE, f"{second} ", self._inside(node[2], spot.part(2), CLOSED))
+        return group(f"{first} ", self._inside(node[1], spot.part(1), CLOSED), second_doc)
 
     def _leaf(self, node: Node, spot: Spot) -> str:
         name, *texts = node

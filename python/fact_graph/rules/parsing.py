@@ -102,7 +102,7 @@ class _Parser:
         tried = [self._tried(partial(self._draft, found, item)) for item in found.items]
         drafts = [draft for draft in tried if draft]
         self._order(drafts)
-        reader = Reader(self._declared(drafts), is_later=any(isinstance(it, VersionDraft) and it.version.text == "2" for it in drafts))
+        reader = Reader(self._declared(drafts), next((it.version.text for it in drafts if isinstance(it, VersionDraft)), ""))
         self.document.value = self._value(drafts, reader)
         if self.faults:
             raise NotRules([(self.document.place_at(span[0]), reason) for span, reason in sorted(self.faults)])

@@ -5,10 +5,12 @@ from __future__ import annotations
 from collections.abc import Iterable, Iterator
 from typing import Any
 
+from ..expressions import LAW, OF_LAW, VERSIONS
 from ..located import Pointer
 from ..uses import Scope
 from .declared import Declared, enum_of, scope_of
 from .drafts import Draft, EnumDraft, FactDraft, Misread, Span, StatedType, Text, VersionDraft
+from .phrases import phrase
 from .units import OPEN, VALUE_SIDES
 
 SCALARS = ("Boolean", "Int", "Dollar", "Rational", "Day", "Text")
@@ -23,11 +25,11 @@ CONSTANTS = {
 
 
 class Reader:
-    """Makes the JSON of items, of version 2 or 1. `spans` has where each part stands, and `units` where comments can be kept."""
+    """Makes the JSON of items, of this version. `spans` has where each part stands, and `units` where comments can be kept."""
 
-    def __init__(self, declared: Declared, is_later: bool) -> None:
+    def __init__(self, declared: Declared, version: str) -> None:
         self.declared = declared
-        self.is_later = is_later
+        self.stated_version = version
         self.spans: dict[Pointer, Span] = {}
         self.units: dict[Pointer, Span] = {}
 
@@ -40,8 +42,8 @@ class Reader:
 
     def version(self, draft: VersionDraft) -> dict[str, Any]:
         """The version and the description of the dictionary."""
-        if draft.version.text not in ("1", "2"):
-            raise Misread(draft.version.span, "the versions are 1 and 2")
+        if draft.version.text not in VERSIONS:
+            raise Misread(draft.version.span, "the versions are 1, 2 and law-1")
         stated = {"version": self.note(draft.version, ("version",))}
         self.units[("version",)] = (draft.span[0], draft.version.span[1])
         if draft.description:
@@ -114,7 +116,7 @@ class Reader:
         members: dict[str, Any] = {"derived": stated, "is": self._root(definition.main, (*pointer, "is"), draft)}
         self._open(definition.main, (*pointer, "is"))
         conditional, placeholder = definition.conditional, definition.placeholder
-        if conditional and not self.is_later:
+        if conditional and self.stated_version not in VERSIONS[1:]:
             raise Misread(conditional.span, "`except if` belongs to version 2")
         if conditional:
             at = (*pointer, "conditional")
@@ -144,6 +146,8 @@ class Reader:
     def _json(self, draft: Draft, pointer: Pointer, scope: Scope, enum: str | None = None) -> list[Any]:
         """The JSON of a node; enum is the list of options that belongs there, where that is plain."""
         self.spans[pointer] = draft.span
+        if draft.name in OF_LAW and self.stated_version != LAW:
+            raise Misread(draft.span, f"`{phrase(draft.name)}` belongs to version {LAW}")
         if draft.name == "Word":
             return self._word(draft, scope, enum)
         if draft.name == "Switch":

@@ -32,6 +32,7 @@ CASES = [
     # the form of what stands outside the facts
     ("¦[]", "3 Shape fact 0", "a dictionary is an object in braces", '{"version"'),
     ('{"version":¦1,"facts":[]}', "3 Shape fact 0", "there is no version 1", 'write "1"'),
+    ('{"version":¦"law-2","facts":[]}', "3 Shape fact 0", 'there is no version "law-2"', '"law-1" for ages, months and rounding'),
     ('{"version":"1","facts":[],¦"fact":[]}', "3 Shape fact 0", "a dictionary has no key `fact`", "`version`, `description`, `enums` and `facts`"),
     ('¦{"version":"1"}', "3 Shape fact 0", "needs the key `facts`", ""),
     (of("", '"enums":[{"name":¦"my size","options":["small"]}],'), "3 Shape fact 0", "is a name, and \"my size\" is none", '"my-size" is one'),
@@ -46,6 +47,9 @@ CASES = [
     (of('{"path":"/a","writable":"Int","limits":[["Min",¦0]]}'), "3 Shape fact 1", "the bound of a limit is a text, and this is the number 0", 'write "0"'),
     (of('{"path":"/a","writable":"Int","limits":[[¦"Least","0"]]}'), "3 Shape fact 1", 'there is no limit "Least"', "`Min`, `Max`, `MaxLength` and `Check`"),
     (of('{"path":"/a","derived":"Int","is":["Int","1"],¦"conditional":[["True"],["Int","2"]]}'), "3 Shape fact 1", "of version 2", 'write "version":"2"'),
+    (of('{"path":"/a","derived":"Int","is":["Add",[¦"MonthOf",["Day","2024-02-29"]]]}', "", "2"), "3 Shape fact 1", "`MonthOf` is of version law-1", 'write "version":"law-1"'),
+    (of('{"path":"/a","derived":"Day","is":[¦"AddMonth",["Day","2024-02-29"],["Int","1"]]}', "", "law-1"), "3 Shape fact 1", "there is no node `AddMonth`", "`AddMonths` is like it"),
+    (of('{"path":"/a","derived":"Int","is":¦["AgeOn",["Day","2024-02-29"]]}', "", "law-1"), "3 Shape fact 1", "`AgeOn` takes two operands, and has 1", ""),
     (of('{"path":"/a","derived":"Int","is":[¦"Sum",["Int","1"]]}'), "3 Shape fact 1", "there is no node `Sum`", "`Add` is like it"),
     (of('{"path":"/a","derived":"Boolean","is":¦["Not",["True"],["True"]]}'), "3 Shape fact 1", "`Not` takes one operand, and has 2", "an Any or an All"),
     (of('{"path":"/a","derived":"Int","is":["Add",¦5]}'), "3 Shape fact 1", "and this is the number 5", '["Int","5"]'),
@@ -87,6 +91,8 @@ CASES = [
     (of('{"path":"/a","derived":"Int","is":["Switch",["Case",["True"],["Int","1"]],["Case",["True"],¦["Dollar","1"]]]}'), "12 IllTyped fact 1 node 1", "the value of case 2 is a Dollar, and that of case 1 is an Int", ""),
     (of(f'{MEMBERS},{{"path":"/a","derived":"Int","is":¦["Count","/c/*/v"]}}'), "12 IllTyped fact 4 node 1", "Count takes a fact that is a Boolean, and `/c/*/v` is an Int", ""),
     (of(f'{MEMBERS},{{"path":"/a","derived":"Item(/c)","is":¦["Find","/c",["Dependency","v"]]}}'), "12 IllTyped fact 4 node 1", "the condition of a Find is a Boolean, and this is an Int", ""),
+    (of('{"path":"/a","derived":"Int","is":¦["AgeOn",["Day","2000-02-29"],["Int","18"]]}', "", "law-1"), "12 IllTyped fact 1 node 1", "AgeOn takes two Days, and operand 1 is a Day, operand 2 an Int", ""),
+    (of('{"path":"/a","derived":"Dollar","is":¦["RoundUp",["Dollar","1.50"],["Int","1"]]}', "", "law-1"), "12 IllTyped fact 1 node 1", "a Dollar to whose multiple it is rounded", "make the Int an amount"),
     # limits
     (of('{"path":"/a","writable":"Text","limits":[¦["Min","1"]]}'), "13 BadLimit fact 1", "the fact is Text", ""),
     (of('{"path":"/a","writable":"Int","limits":[["Max",¦"1.5"]]}'), "13 BadLimit fact 1", "`1.5` is no Int", ""),

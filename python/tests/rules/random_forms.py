@@ -6,28 +6,33 @@ from collections.abc import Callable
 from random import Random
 from typing import Any
 
+from fact_graph.expressions import LAW, OF_LAW, VERSIONS
+
 Node = list[Any]
 
 ENUMS = {"tenure": ["rents", "owns", "none"], "outcome": ["full", "none", "away", "complete"], "if": ["then", "table"]}
 FACTS = {
     "/a": "Int", "/b": "Dollar", "/tenure": "Enum(tenure)", "/outcome": "Enum(outcome)", "/people": "Collection", "/people/*/born": "Day",
-    "/people/*/away": "Boolean", "/people/*/status": "Enum(outcome)", "/people/*/where": "Enum(tenure)",
+    "/people/*/away": "Boolean", "/people/*/status": "Enum(outcome)", "/people/*/where": "Enum(tenure)", "/people/*/age": "Int",
 }  # fmt: skip
 """Facts that most paths name."""
 PATHS = [
     *FACTS, "/adults", "/eldest", "../born", "../status", "../partner/status", "/eldest/status", "/adults/*/wages", "born", "status", "away", "full",
-    "none", "where", "if", "complete", "Int", "/1", "//", "", "/a/b/c", "../a/*/b", "a b", "..", "/people/*", "`", "#", "\u202e", '"', "\\", "\n",
+    "none", "where", "if", "complete", "age", "months", "on", "Int", "/1", "//", "", "/a/b/c", "../a/*/b", "a b", "..", "/people/*",
+    "`", "#", "\u202e", '"', "\\", "\n",
 ]  # fmt: skip
 TYPES = ["Boolean", "Int", "Dollar", "Rational", "Day", "Text", "Enum(tenure)", "Enum(outcome)", "Enum(if)", "Enum(gone)"]
 WRITABLE = [*TYPES, "Collection"]
 DERIVED = [*TYPES, "Collection(/people)", "Item(/people)", "Item(people)", "Collection()", "Item(a) (b)"]
 TEXTS = [
     "0", "1", "-5", "007", "1.50", "-0", "18000", "-1234567.89", "2024-02-29", "1/2", "12/100", "007/100", "-3/4", "2", "5.5", "", "+1", "a b", "#",
-    '"', "\\n", "\n", "\t", "é", "\u202e", "\U0001f600", "\x00", "from", "to", "limit", "placeholder", "nine-digits", "digits",
+    '"', "\\n", "\n", "\t", "é", "\u202e", "\U0001f600", "\x00", "from", "to", "on", "limit", "placeholder", "nine-digits", "digits",
 ]  # fmt: skip
 CONSTANTS = ["Int", "Dollar", "Rational", "Day", "Text"]
 OVER = ["Dependency", "Dependency", "Dependency", "IsComplete", "CollectionSize", "CollectionSum", "Count"]
 COMPARISONS = ["Equal", "NotEqual", "LessThan", "LessThanOrEqual", "GreaterThan", "GreaterThanOrEqual"]
+LATER = ["AddDays", "AddMonths", "AddYears"]
+PHRASES = ["DaysBetween", "AgeOn", "RoundUp", "RoundDown", "RoundNearest"]
 MOST_NODES = 24
 
 
@@ -37,21 +42,22 @@ class Forms:
     def __init__(self, random: Random) -> None:
         self.random = random
         self.left = 0
+        self.version = "1"
 
     def dictionary(self) -> dict[str, Any]:
         """A dictionary of a few facts, mostly behind those that paths name."""
-        version = self.random.choice(["1", "2"])
-        dictionary: dict[str, Any] = {"version": version}
+        self.version = self.random.choice(VERSIONS)
+        dictionary: dict[str, Any] = {"version": self.version}
         if self.random.random() < 0.5:
             dictionary["description"] = self.random.choice(TEXTS)
         if self.random.random() < 0.7:
             dictionary["enums"] = [{"name": name, "options": options} for name, options in ENUMS.items()]
         named = [{"path": path, "writable": stated} for path, stated in FACTS.items()] if self.random.random() < 0.7 else []
-        dictionary["facts"] = [*named, *(self.fact(version) for _ in range(self.random.randint(0, 3)))]
+        dictionary["facts"] = [*named, *(self.fact() for _ in range(self.random.randint(0, 3)))]
         self.random.shuffle(dictionary["facts"])
         return dictionary
 
-    def fact(self, version: str) -> dict[str, Any]:
+    def fact(self) -> dict[str, Any]:
         """A fact, which a person answers or which follows."""
         fact: dict[str, Any] = {"path": self.random.choice(PATHS)}
         if self.random.random() < 0.3:
@@ -61,7 +67,7 @@ class Forms:
                 fact["limits"] = [[kind, self.random.choice(TEXTS)] for kind in kinds]
         else:
             fact |= {"derived": self.random.choice(DERIVED), "is": self.expression()}
-            if version == "2" and self.random.random() < 0.4:
+            if self.version != "1" and self.random.random() < 0.4:
                 fact["conditional"] = [self.expression(), self.expression()]
         if self.random.random() < 0.3:
             fact["placeholder"] = self.expression()
@@ -108,11 +114,16 @@ class Forms:
 
     def one(self) -> Node:
         """A node of one operand."""
-        return [self.random.choice(["Not", "Round", "YearOf"]), self.node()]
+        return [self.random.choice(self.known(["Not", "Round", "YearOf", "MonthOf", "DayOf"])), self.node()]
 
     def two(self) -> Node:
         """A node of two operands."""
-        return [self.random.choice(["Multiply", "Divide", "AddDays", *COMPARISONS]), self.node(), self.node()]
+        name = self.random.choice(self.known(["Multiply", "Divide", *COMPARISONS, *LATER, *PHRASES]))
+        return [name, self.node(), ["Int", "1"] if name in LATER and self.random.random() < 0.3 else self.node()]
+
+    def known(self, names: list[str]) -> list[str]:
+        """Those of these nodes that the version has."""
+        return [name for name in names if self.version == LAW or name not in OF_LAW]
 
     def compared(self) -> Node:
         """A fact that is compared with a leaf, often with an option of its list."""

@@ -13,7 +13,7 @@ from .textmate import TextMate
 
 GRAMMAR = TOP / "editors" / "vscode" / "facts.tmLanguage.json"
 TEXTS = sorted((TOP / "examples").rglob("*.facts"))
-ALL_KINDS = r"""version 2
+ALL_KINDS = r"""version law-1
   "each kind of word"
 enum if: then, otherwise
 /t: Text, at most 5 bytes, digits, limit Check "to", placeholder "a \" b # c"
@@ -22,6 +22,8 @@ enum if: then, otherwise
 /x: Int = (if true or false and not /a is complete then 1 otherwise Int "007") + All(/b is not complete) * $1,000.50 / 2 - -1/2
   except if /a is not "x" and 3 <= 4 then 2024-02-29 + 5 days
   placeholder greater of (1, lesser of (2, 3)) + round(year of ../born) + Enum "a" "b"
+/z: Int = age of ../born on (/d + 3 months + 1 year) - (days  from /d to /e) + month of /d + day of /d
+/w: Dollar = round up /a to $1 + (round  off /b to $5) - (round down /c to $0.05)
 /y: Item(/people) = first of /people where sum of /a/*/b < number of /a and count of `/b` > adult and /t is rents
 """
 SCOPES = {
@@ -30,8 +32,9 @@ SCOPES = {
     "DOLLAR": "constant.numeric.amount", "FRACTION": "constant.numeric.fraction", "PERCENT": "constant.numeric.fraction",
     "DAY": "constant.numeric.day", "TRUE": "constant.language", "FALSE": "constant.language", "CONSTANT": "support.type", "CHOICE": "support.type",
     **dict.fromkeys(("IF", "THEN", "OTHERWISE", "EXCEPT", "PLACEHOLDER", "WHERE"), "keyword.control"),
-    **dict.fromkeys(("OR", "AND", "NOT", "IS", "IS_NOT", "IS_COMPLETE", "IS_NOT_COMPLETE", "DAYS"), "keyword.operator.word"),
-    **dict.fromkeys(("YEAR_OF", "ROUND", "GREATER_OF", "LESSER_OF", "MANY", "SUM_OF", "NUMBER_OF", "COUNT_OF", "FIRST_OF"), "support.function"),
+    **dict.fromkeys(("OR", "AND", "NOT", "IS", "IS_NOT", "IS_COMPLETE", "IS_NOT_COMPLETE", "DAYS", "MONTHS", "YEARS"), "keyword.operator.word"),
+    **dict.fromkeys(("YEAR_OF", "MONTH_OF", "DAY_OF", "AGE_OF", "DAYS_FROM", "ON", "ROUND_TO", "ROUND"), "support.function"),
+    **dict.fromkeys(("GREATER_OF", "LESSER_OF", "MANY", "SUM_OF", "NUMBER_OF", "COUNT_OF", "FIRST_OF"), "support.function"),
     **dict.fromkeys(("FROM", "TO", "AT_MOST", "BYTES", "LIMIT"), "keyword.other.limit"),
     **dict.fromkeys(("ORDER", "EQUAL", "PLUS", "MINUS", "STAR", "SLASH"), "keyword.operator"),
     **dict.fromkeys(("COMMA", "COLON"), "punctuation.separator"), **dict.fromkeys(("LPAR", "RPAR"), "punctuation.section"),

@@ -43,9 +43,23 @@ PLACED = {
     '/x: Text, limit Least "1"': "11: the limits are Min, Max, MaxLength and Check",
     "/x: Boolean = /a + /b is complete": "15: only a fact is complete or not: a path belongs before `is complete`",
     '/x: Text = "a\\qb"': "12: a backslash stands before what it can't stand before here: write \\\\ for one backslash",
+    "/x: Day = /a + 3 months": "11: `.. + .. months` belongs to version law-1",
+    "/x: Int = 1 + (age of /a on /b)": "16: `age of .. on ..` belongs to version law-1",
     "/x: Boolean = " + "not " * 120 + "/a": "15: more than 120 operations stand in each other here: give a part a fact of its own",
 }
 """By a line behind `version 2`, what is said of it, and at which column."""
+
+
+OF_LAW = {
+    "/x: Int = age of /a to /b": "21: `on` belongs here, and `to` stands here",
+    "/x: Int = age(/a)": "14: an operator, `except`, `placeholder` or the end of the rule belongs here, and `(` stands here; "
+    "write `age of /born on /day`",
+    "/x: Int = days from /a": "23: `to` belongs here, and nothing follows",
+    "/x: Dollar = round up /a * 2 to $1": "26: `to` belongs here, and `*` stands here; what is more than one value stands in brackets",
+    "/x: Dollar = ceil(/a)": "18: an operator, `except`, `placeholder` or the end of the rule belongs here, and `(` stands here; "
+    "write `round up .. to $1`",
+}
+"""The same behind `version law-1`."""
 
 
 def short(line: str) -> str:
@@ -53,12 +67,19 @@ def short(line: str) -> str:
     return line[:30]
 
 
-@pytest.mark.parametrize("line", PLACED, ids=short)
-def test_what_is_said(line: str) -> None:
+@pytest.mark.parametrize(("version", "line", "told"), [*(("2", *it) for it in PLACED.items()), *(("law-1", *it) for it in OF_LAW.items())], ids=short)
+def test_what_is_said(version: str, line: str, told: str) -> None:
     """The place and the words for each slip."""
     with pytest.raises(NotRules) as raised:
-        parse(f"version 2\n{line}\n")
-    assert str(raised.value) == f"line {line.count(chr(10)) + 2}, column {PLACED[line]}"
+        parse(f"version {version}\n{line}\n")
+    assert str(raised.value) == f"line {line.count(chr(10)) + 2}, column {told}"
+
+
+@pytest.mark.parametrize("version", ["0", "3", "law", "law-2"])
+def test_there_is_no_other_version(version: str) -> None:
+    """A version that isn't known is told as such."""
+    with pytest.raises(NotRules, match="line 1, column 9: the versions are 1, 2 and law-1"):
+        parse(f"version {version}\n")
 
 
 def test_each_fact_is_told_for_itself() -> None:

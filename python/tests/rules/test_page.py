@@ -15,7 +15,7 @@ from fact_graph.status import Status
 from ..places import TOP
 
 PAGE = (TOP / "docs" / "RULES.md").read_text()
-WHOLE, ANSWERED, FOLLOWING, TOLD = re.findall(r"```text\n(.*?)```", PAGE, re.DOTALL)
+WHOLE, ANSWERED, FOLLOWING, OF_LAW, TOLD = re.findall(r"```text\n(.*?)```", PAGE, re.DOTALL)
 
 
 def test_the_first_example_is_a_dictionary(library: Path) -> None:
@@ -41,6 +41,17 @@ def test_the_other_examples_have_their_form(facts: str) -> None:
     """They do so among others."""
     text = f"version 2\n\nenum tenure: rents, owns\n\n{facts}"
     assert formatted(text) == text
+
+
+def test_the_words_of_laws_are_a_dictionary(library: Path) -> None:
+    """They have their form, and give what they say."""
+    assert library
+    assert formatted(OF_LAW) == OF_LAW
+    with Session(parse(OF_LAW).json) as session:
+        person = session.add("/people")
+        session[f"/people/#{person}/born"], session["/appliedOn"], session["/monthlyWages"] = "2000-02-29", "2018-02-28", "10.01"
+        shown = [session.line(f"get {path}") for path in (f"/people/#{person}/age", "/contribution", "/decideBy", "/daysLeft")]
+    assert shown == ["complete 17\n", "complete 4.00\n", "complete 2018-03-28\n", "complete 28\n"]
 
 
 def test_what_is_told_of_slips(monkeypatch: pytest.MonkeyPatch, tmp_path: Path, capsys: pytest.CaptureFixture[str]) -> None:
