@@ -1,71 +1,25 @@
 -- The answers of the kept lines of a carried text.
 use Rattle.std.proofs.Common.{Bool, Contains, Err, IsSome, List, None, Ok, Option, Result, Some, [], ap, append_assoc, arith, bytes_eq, cond, drop, false, get_or, if◌then◌else◌, inl, inr, is_none, is_some, length, length-append, map, nat_eq, not, refl, string_bytes, subst, suc, sym, true, zero, ℕ, ◌&&◌, ◌++◌, ◌+◌, ◌<◌, ◌||◌, ◌∙◌, ◌∷◌, ◌≡◌, ◌≤◌, ◌⊎◌}
-use Rattle.std.proofs.lemmas.Bool.Decides.{nat_tests}
-use Rattle.std.proofs.lemmas.List.Elements.{All-cons, All-from_recursion, All-get_or, All-head, All-nil, All-tail, All-weaker, Contains-append_cases, Contains-append_left, Contains-append_right, Contains-push, Contains-push_cases}
-use Rattle.std.proofs.lemmas.List.{append-nil, drop_more, length-map}
-use Rattle.std.proofs.lemmas.Option.{none-some, same_Some}
 use Rattle.std.specs.FinMap as map
-use Rattle.std.specs.List.{All, AllByRecursion, find, flat_map, list_any}
-use Rattle.std.specs.Map.{lookup}
-use Rattle.std.specs.Prelude.{IfErr, IfOk, IsTrue, codes, option_map, unwrap_or, ◌↔◌}
-use Rattle.answers.proofs.StandLaws.{entry_stands}
-use Rattle.answers.specs.Answered.{Answered, entry as entry_at, value_of}
-use Rattle.answers.specs.Change.{Stands, applied, sets}
-use Rattle.answers.specs.Finite.{Numbered}
-use Rattle.answers.specs.GivenLists.{AreApart, AreBelow, FactsRise, IsAfter, IsBelow, IsOfLists, IsWithout}
-use Rattle.answers.specs.Lists.{IsIn, IsNotIn}
-use Rattle.answers.specs.Meaning.{answered}
-use Rattle.answers.specs.WellFormed.{FromOne, WellFormed}
-use Rattle.answers.specs.declared.edit.Side.TheVariants.{Answer, Override}
-use Rattle.answers.specs.declared.edit.Side.{Side}
-use Rattle.common_lemmas.proofs.Bools.{and_intro, both, chosen}
-use Rattle.common_lemmas.proofs.Bytes.{same_bytes}
-use Rattle.common_lemmas.proofs.Numbers.{equal_number, same_number}
+use Rattle.std.specs.List.{All}
+use Rattle.std.specs.Prelude.{IsTrue, unwrap_or}
+use Rattle.save_file.proofs.Common.{All-cons, All-from_recursion, All-get_or, All-head, All-nil, All-tail, All-weaker, AllByRecursion, Answer, Answered, AnswersFit, AreApart, AreBelow, CarriedLine, CarriedRead, Contains-append_cases, Contains-append_left, Contains-append_right, Contains-push, Contains-push_cases, EntryLine, Fact, FactPath, FactsRise, FromOne, Global, HasPath, IfErr, IfOk, IsAccepted, IsAfter, IsBelow, IsBelowNext, IsCarried, IsCarry, IsCarryOf, IsGivenBy, IsIn, IsNotIn, IsOfLists, IsOpenedBy, IsWithout, ListLine, LoadFault, Member, NamesOther, NoMember, Numbered, Override, Pairs, Refusal, RefusesCarried, Rules, SharesNone, Side, Slot, SlotPath, Stands, Tree, UnknownFact, Value, WellFormed, and_intro, answered, append-nil, applied, both, carried, carried_lines, chosen, codes, collection, counted, decided, drop_more, dropped_numbers, end_line, entry_at, entry_stands, equal_number, fact_at, fact_of, find, first_of, flat_map, given_fit, given_value, has_its_member, home, home_is_collection, is_list, is_member, joined, keeps, kept_collection, kept_value, key_text, lacks_member, length-map, line_of_entry, line_of_list, line_text, list_any, lists_member, lookup, member_of, named_fact, nat_tests, none-some, numbers_failing, opens_of, option_map, path_of, same_Some, same_bytes, same_number, sets, slot, slot_found, slot_of, slot_same, slot_same-equal, slot_same-itself, stands, takes, text_of, tree_of, value_of, value_refusals, value_spelled, when, ◌↔◌}
 use Rattle.dict_tree.proofs.FindingLaws.{find_path-first}
-use Rattle.dict_tree.specs.Dictionary.{Dictionary as Tree}
-use Rattle.dict_tree.specs.Facts.{Fact}
-use Rattle.dict_tree.specs.Finding.{HasPath, fact_at}
 use Rattle.dict_tree.specs.Targets.{find_global}
 use Rattle.dict_types.specs.NoCollection.{is_written_list}
 use Rattle.dictionary.proofs.FitChangeLaws.{allowed_changes_fit}
-use Rattle.dictionary.proofs.FitStart.{given_fit, given_value}
-use Rattle.dictionary.proofs.HomeLaws.{home_is_collection}
 use Rattle.dictionary.proofs.SetLaws.{is_side, same_side, set_has, set_is}
-use Rattle.dictionary.proofs.SlotLaws.{slot_same-equal, slot_same-itself}
-use Rattle.dictionary.specs.Accepted.{IsAccepted}
-use Rattle.dictionary.specs.Fits.{AnswersFit, is_list, opens_of, takes}
-use Rattle.dictionary.specs.Homes.{home}
-use Rattle.dictionary.specs.Dependencies.{slot}
-use Rattle.dictionary.specs.Slots.{is_member, slot_same, stands}
 use Rattle.fact_paths.specs.declared.fact_path.FactPath.TheVariants as facts_by
-use Rattle.fact_paths.specs.declared.fact_path.FactPath.{FactPath}
-use Rattle.fact_paths.specs.declared.slot_path.SlotPath.TheVariants.{Global, Member}
-use Rattle.fact_paths.specs.declared.slot_path.SlotPath.{SlotPath}
-use Rattle.fact_values.specs.declared.slot.Slot.{Slot}
-use Rattle.fact_values.specs.declared.value.Value.{Value}
 use Rattle.graph_session.proofs.NamingLaws.{fact_found, named_stands}
-use Rattle.graph_session.specs.Kinds.{value_spelled}
-use Rattle.graph_session.specs.Naming.{fact_of, lacks_member, member_of, named_fact, path_of, slot_of}
-use Rattle.graph_session.specs.Refusals.{decided, first_of, slot_found, value_refusals, when}
-use Rattle.graph_session.specs.Rules.{Rules, tree_of}
-use Rattle.graph_session.specs.declared.reply.Refusal.TheVariants.{NoMember, UnknownFact}
-use Rattle.graph_session.specs.declared.reply.Refusal.{Refusal}
 use Rattle.save_file.proofs.EntriesFollow.{side_itself, spelled_fits}
 use Rattle.save_file.proofs.Lines.{all_of, at_first, either_first, find_some, find_there, found_in_all, later_too, mapped_from, mapped_there, one_of_all}
 use Rattle.save_file.proofs.ListsFollow.{given_is, list_within}
-use Rattle.save_file.proofs.TextLaws.{next_one}
-use Rattle.save_file.specs.CarriedParsing.{line_of_entry, line_of_list, text_of}
-use Rattle.save_file.specs.CarriedText.{CarriedLine, IsBelowNext, IsCarried, NamesOther, Pairs, SharesNone, carried, carried_lines, collection, entry, has_its_member, key_text, line_text, lists_member}
-use Rattle.save_file.specs.Carrying.{IsCarry, IsCarryOf, IsGivenBy, IsOpenedBy, RefusesCarried, dropped_numbers, keeps, kept_collection, kept_value, numbers_failing}
+use Rattle.save_file.specs.CarriedText.{entry}
 use Rattle.save_file.specs.Keeping.{ArePlaced, IsPlaced, entered, is_number, noted, opened, opened_at, opened_by, opens_fact, with_worth, worth_of}
-use Rattle.save_file.specs.SavedText.{counted, end_line}
-use Rattle.save_file.specs.declared.carried_line.EntryLine.{EntryLine}
-use Rattle.save_file.specs.declared.carried_line.ListLine.{ListLine}
-use Rattle.save_file.specs.declared.carried_read.CarriedRead.{CarriedRead}
 use Rattle.save_file.specs.declared.carrying.Carried.{Carried}
 use Rattle.save_file.specs.declared.fault.LoadFault.TheVariants.{NoMemory}
-use Rattle.save_file.specs.declared.fault.LoadFault.{LoadFault}
-use Rattle.script_lines.specs.Joined.{joined}
+use Rattle.save_file.proofs.CarriedLines.{pairs_before}
+use Rattle.save_file.proofs.MemberParsing.{in_each}
 
 -- ==== the collections of the kept lists
 
@@ -218,17 +172,9 @@ module _ (d : Tree) (next : ℕ) (ls : List ListLine) (es : List EntryLine) (is 
   pub opened_below : AreBelow next (opened d ls)
   opened_below = All-weaker (IsFrom d ls) (IsBelow next) below (opened d ls) (all_from d ls 1 (length d.facts))
     where
-      each_below : (ms : List ℕ) → AllByRecursion (λ m. m < next) ms → (m : ℕ) → IsIn m ms → m < next
-      each_below [] all m i = absurd cc
-      each_below (k ∷ ms) all m i = at (nat_eq m k) refl i (each_below ms all.1 m)
-        where
-          at : (b : Bool) → nat_eq m k ≡ b → (b || list_any (nat_eq m) ms) ≡ true → (IsIn m ms → m < next) → m < next
-          at true e i rest = let same : m ≡ k = same_number m k e in let low : k < next = all.0 in omega arith
-          at false e i rest = rest i
-
       below : (e : ℕ × List ℕ) → IsFrom d ls e → IsBelow next e
       below e from m i =
-          each_below from.0.members (one_of_all (IsBelowNext next) (map line_of_list ls ++ map line_of_entry es) (line_of_list from.0) is.below (list_there from.0 from.1)) m
+          in_each (λ m. m < next) from.0.members (one_of_all (IsBelowNext next) (map line_of_list ls ++ map line_of_entry es) (line_of_list from.0) is.below (list_there from.0 from.1)) m
           (subst (λ (xs : List ℕ). IsIn m xs) (sym from.3) i)
 
   pub opened_lists : All (λ (e : ℕ × List ℕ). IsTrue (is_list d e.0)) (opened d ls)
@@ -451,15 +397,11 @@ module _ (names : List (List ℕ)) (r : Rules) (is : IsAccepted names r.accepted
   all_placed a b same [] all = tt
   all_placed a b same (e ∷ es) all = (placed_by (tree_of r) a b e.path same all.0, all_placed a b same es all.1)
 
-  before_it : (lines : List CarriedLine) (y : CarriedLine) (ys : List CarriedLine) → Pairs NamesOther (lines ++ y ∷ ys) → AllByRecursion (λ x. NamesOther x y) lines
-  before_it [] y ys pairs = tt
-  before_it (x ∷ lines) y ys pairs = (next_one (NamesOther x) lines y ys pairs.0, before_it lines y ys pairs.1)
-
   pub all_entered : (es : List EntryLine) (lines : List CarriedLine) (a : Answered) → AreSoFar r lines a → AllByRecursion (λ (e : EntryLine). IsPlaced (tree_of r) a e.path) es → Pairs NamesOther (lines ++ map line_of_entry es)
       → AreSoFar r (lines ++ map line_of_entry es) (entered r a es) × ((entered r a es).lists ≡ a.lists) × ((entered r a es).next ≡ a.next)
   all_entered [] lines a so_far placed once = (subst (λ (ls : List CarriedLine). AreSoFar r ls a) (sym (append-nil lines)) so_far, refl, refl)
   all_entered (e ∷ es) lines a so_far placed once =
-      let one = one_more names r is lines e a so_far placed.0 (before_it lines (line_of_entry e) (map line_of_entry es) once) in
+      let one = one_more names r is lines e a so_far placed.0 (pairs_before NamesOther lines (line_of_entry e) (map line_of_entry es) once) in
       let new = with_worth r e (worth_of r e) a in
       let whole = append_assoc lines (line_of_entry e ∷ []) (map line_of_entry es) in
       let rest = all_entered es (lines ++ line_of_entry e ∷ []) new one.0 (all_placed a new (sym one.1) es placed.1) (subst (Pairs NamesOther) (sym whole) once) in

@@ -1,25 +1,12 @@
 -- How the lines of a carried text end: with a line that is refused, or behind the last.
 use Rattle.std.proofs.Common.{◌≡◌, ℕ, suc, ◌+◌, Bool, true, false, List, [], ◌∷◌, ◌++◌, length, map, Result, Ok, Err, refl, sym, ap, subst, ◌∙◌, arith}
-use Rattle.std.specs.Prelude.{◌↔◌, IsTrue, codes, decimal}
-use Rattle.std.specs.List.{AllByRecursion}
-use Rattle.std.proofs.lemmas.List.{append-nil}
-use Rattle.fact_paths.specs.Paths.{slot_path_text}
-use Rattle.answers.specs.declared.edit.Side.{Side}
-use Rattle.answers.specs.declared.edit.Side.TheVariants.{Answer, Override}
-use Rattle.script_lines.specs.declared.fault.LineFault.TheVariants.{BadLine}
-use Rattle.script_lines.specs.Joined.{joined}
+use Rattle.std.specs.Prelude.{IsTrue}
+use Rattle.save_file.proofs.Common.{AllByRecursion, Answer, BadLine, BadSaved, CarriedLine, CarriedRead, CarriedText, EndsCarried, EndsNone, GivesLines, HasItsForm, IsCarried, IsCarriedStage, IsCarriedText, IsRefusedAt, JudgesCarried, LoadFault, Override, ReadsCarried, RefusesCarried, Side, append-nil, carried, carried_lines, codes, collection, decimal, end_line, joined, line_text, next_line, opening_line, printed_rest, read_lines, side_word, slot_path_text, text_of, texts_of, ◌↔◌}
 use Rattle.script_lines.specs.Lines.{lines_of}
-use Rattle.value_text.specs.MemberTexts.{printed_rest}
-use Rattle.save_file.specs.CarriedParsing.{EndsCarried, EndsNone, GivesLines, IsCarriedStage, JudgesCarried, ReadsCarried, lines_of as read_lines, text_of, texts_of}
-use Rattle.save_file.specs.CarriedText.{CarriedLine, CarriedText, HasItsForm, IsCarried, IsCarriedText, carried, carried_lines, collection, entry, line_text}
-use Rattle.save_file.specs.Carrying.{RefusesCarried}
-use Rattle.save_file.specs.Loading.{IsRefusedAt}
-use Rattle.save_file.specs.SavedText.{end_line, next_line, opening_line, side_word}
-use Rattle.save_file.specs.declared.carried_read.CarriedRead.{CarriedRead}
+use Rattle.save_file.specs.CarriedText.{entry}
 use Rattle.save_file.specs.declared.carried_stage.CarriedStage.{CarriedStage}
 use Rattle.save_file.specs.declared.carried_stage.CarriedStage.TheVariants.{Opening, Number, Lines, Whole}
-use Rattle.save_file.specs.declared.fault.LoadFault.{LoadFault}
-use Rattle.save_file.specs.declared.fault.LoadFault.TheVariants.{BadSaved, NoMemory}
+use Rattle.save_file.specs.declared.fault.LoadFault.TheVariants.{NoMemory}
 use Rattle.save_file.proofs.CarriedLines.{no_whole}
 use Rattle.save_file.proofs.CarriedSteps.{behind_first, behind_next, no_lines}
 use Rattle.save_file.proofs.LineTexts.{IsLine, decimal_line, line-append, name_line, plain_line, rest_line, slot_line}

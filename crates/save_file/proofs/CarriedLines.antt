@@ -1,37 +1,16 @@
 -- The lines of a carried text, each by itself and behind others.
 use Rattle.std.proofs.Common.{Bool, Err, List, None, Ok, Some, [], ap, append_assoc, arith, false, filter, inl, inr, length, length-append, map, refl, subst, sym, ℕ, ◌++◌, ◌+◌, ◌<◌, ◌||◌, ◌∙◌, ◌∷◌, ◌≡◌, ◌≢◌, ◌≤◌, ◌⊎◌}
-use Rattle.std.proofs.lemmas.List.Elements.{All-tail, filter-append}
-use Rattle.std.proofs.lemmas.List.Folds.{list_any-append}
-use Rattle.std.proofs.lemmas.Option.{none-some}
-use Rattle.std.specs.List.{AllByRecursion, list_any}
-use Rattle.std.specs.Prelude.{IsTrue, codes, string_bytes}
+use Rattle.std.specs.Prelude.{IsTrue, string_bytes}
 use Rattle.std.specs.Str.{IsUtf8}
-use Rattle.answers.specs.declared.edit.Side.TheVariants.{Answer, Override}
-use Rattle.answers.specs.declared.edit.Side.{Side}
-use Rattle.common_lemmas.proofs.Bools.{or_left}
-use Rattle.fact_paths.proofs.CutLaws.{cut-append, cut_some, front_lacks}
+use Rattle.save_file.proofs.Common.{All-tail, AllByRecursion, Answer, BadLine, CarriedLine, EntryLine, Global, HasItsForm, HasNoNewline, IsBelowNext, IsCarried, IsInOrder, IsMemberList, IsMemberNumber, IsName, IsShort, IsSlotPath, Lacks, LineFault, MayFollow, Member, NamesOther, Override, Pairs, ReadsLine, ReadsMembers, ReadsName, ReadsPath, SharesNone, Side, SlotPath, SpellsSlotPath, codes, collection, cut, cut-append, cut_some, end_line, filter-append, front_lacks, has_its_member, is_collection, key_text, line_of_entry, line_of_list, line_text, list_any, list_any-append, lists_member, none-some, or_left, printed_rest, rank, side_word, slot_lacks_blank, slot_path_reading, slot_path_text}
 use Rattle.fact_paths.proofs.ParsingLaws.{one_path_from}
-use Rattle.fact_paths.proofs.SlotPathLaws.{slot_lacks_blank, slot_path_reading}
-use Rattle.fact_paths.specs.Cuts.{Lacks, cut}
-use Rattle.fact_paths.specs.Names.{IsName}
-use Rattle.fact_paths.specs.Paths.{IsMemberNumber, IsSlotPath, SpellsSlotPath, slot_path_text}
 use Rattle.fact_paths.specs.Parsing.{slot_path_of}
-use Rattle.fact_paths.specs.declared.slot_path.SlotPath.TheVariants.{Global, Member}
-use Rattle.fact_paths.specs.declared.slot_path.SlotPath.{SlotPath}
-use Rattle.fact_values.specs.Members.{IsMemberList}
 use Rattle.save_file.proofs.Lines.{cons_parts, first, never_empty}
 use Rattle.save_file.proofs.SlotTexts.{Tail, members_numbered, numbers_of, same_behind, same_members, same_parts, tail_of}
 use Rattle.save_file.proofs.TextLaws.{all-append, next_one}
-use Rattle.save_file.specs.CarriedParsing.{MayFollow, ReadsLine, ReadsName, ReadsPath, line_of_entry, line_of_list}
-use Rattle.save_file.specs.CarriedText.{CarriedLine, HasItsForm, IsBelowNext, IsCarried, IsInOrder, IsShort, NamesOther, Pairs, SharesNone, collection, entry, has_its_member, key_text, is_collection, line_text, lists_member, rank}
-use Rattle.save_file.specs.Parsing.{ReadsMembers}
-use Rattle.save_file.specs.SavedText.{end_line, side_word}
-use Rattle.save_file.specs.declared.carried_line.EntryLine.{EntryLine}
+use Rattle.save_file.specs.CarriedText.{entry}
 use Rattle.script_lines.proofs.PartLaws.{name_lacks_blank}
-use Rattle.script_lines.specs.Lines.{HasNoNewline}
-use Rattle.script_lines.specs.declared.fault.LineFault.TheVariants.{BadLine, NoMemory}
-use Rattle.script_lines.specs.declared.fault.LineFault.{LineFault}
-use Rattle.value_text.specs.MemberTexts.{printed_rest}
+use Rattle.script_lines.specs.declared.fault.LineFault.TheVariants.{NoMemory}
 
 -- ==== lines of different kinds of a carried text
 
@@ -251,7 +230,7 @@ pub pairs-push : {X : Type 0} (R : X → X → Type 0) (xs : List X) (y : X) →
 pairs-push R [] y pairs all = (tt, tt)
 pairs-push R (x ∷ xs) y pairs all = (all-append (R x) xs (y ∷ []) pairs.0 (all.0, tt), pairs-push R xs y pairs.1 all.1)
 
-pairs_before : {X : Type 0} (R : X → X → Type 0) (xs : List X) (y : X) (ys : List X) → Pairs R (xs ++ y ∷ ys) → AllByRecursion (λ x. R x y) xs
+pub pairs_before : {X : Type 0} (R : X → X → Type 0) (xs : List X) (y : X) (ys : List X) → Pairs R (xs ++ y ∷ ys) → AllByRecursion (λ x. R x y) xs
 pairs_before R [] y ys pairs = tt
 pairs_before R (x ∷ xs) y ys pairs = (next_one (R x) xs y ys pairs.0, pairs_before R xs y ys pairs.1)
 

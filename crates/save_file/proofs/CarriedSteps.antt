@@ -1,40 +1,17 @@
 -- What one line does to what was read of a carried text.
 use Rattle.std.proofs.Common.{Bool, Err, List, None, Ok, Result, Some, [], ap, append_assoc, arith, bytes_eq, false, filter, inl, inr, length, length-append, map, nat_eq, not, refl, string_bytes, subst, suc, sym, true, ℕ, ◌&&◌, ◌++◌, ◌+◌, ◌<◌, ◌||◌, ◌∙◌, ◌∷◌, ◌≡◌, ◌≢◌, ◌≤◌, ◌⊎◌}
-use Rattle.std.proofs.lemmas.Bool.Decides.{nat_tests}
-use Rattle.std.proofs.lemmas.List.Elements.{filter-append}
-use Rattle.std.proofs.lemmas.List.Folds.{list_any-append}
-use Rattle.std.proofs.lemmas.List.{append-nil, map-append}
-use Rattle.std.proofs.lemmas.Option.{none-some, same_Some}
-use Rattle.std.specs.List.{AllByRecursion, list_all, list_any}
-use Rattle.std.specs.Prelude.{IfErr, OnOk, codes, decimal, nat_lt}
-use Rattle.answers.specs.declared.edit.Side.TheVariants.{Answer, Override}
-use Rattle.answers.specs.declared.edit.Side.{Side}
-use Rattle.common_lemmas.proofs.Bools.{and_intro, both, is_not, neither_or, not_true, or_false, or_neither}
-use Rattle.common_lemmas.proofs.Bytes.{equal_bytes, same_bytes}
-use Rattle.fact_paths.proofs.CutLaws.{after-append, after_some}
-use Rattle.fact_paths.specs.Cuts.{after}
-use Rattle.fact_paths.specs.Paths.{slot_path_text}
-use Rattle.fact_paths.specs.declared.slot_path.SlotPath.TheVariants.{Global, Member}
-use Rattle.fact_paths.specs.declared.slot_path.SlotPath.{SlotPath}
+use Rattle.save_file.proofs.Common.{AllByRecursion, Answer, BadLine, BeginsOther, CarriedLine, CarriedRead, CarriedText, EndsNone, EntryLine, Global, HasItsForm, IfErr, IsCarried, IsInOrder, IsNextNumber, IsShort, IsWithEntry, IsWithList, JudgesCarried, LineFault, ListLine, MayFollow, Member, NamesOther, OnOk, Override, ReadsLine, SharesNone, Side, SlotPath, Takes, TakesText, after, after-append, after_some, and_intro, append-nil, are_below, are_others, both, carried_lines, codes, collection, decimal, end_line, equal_bytes, filter-append, is_collection, is_empty, is_not, is_other_list, is_override, key_of, key_text, line_of_entry, line_of_list, line_text, list_all, list_any, list_any-append, lists_member, lists_member_of, map-append, may_enter, may_list, nat_lt, nat_tests, neither_or, new_or_fault, next_line, none-some, not_true, opening_line, or_false, or_neither, printed_rest, rank, same_Some, same_bytes, side_word, slot_path_text, text_of, texts_of}
 use Rattle.save_file.proofs.CarriedLines.{entry_up, goes_on, no_end, same_line, stands_there, with_line}
 use Rattle.save_file.proofs.Lines.{cons_not_nil, cons_parts, first}
-use Rattle.save_file.proofs.MemberParsing.{decimals_one, none_there, there_none}
+use Rattle.save_file.proofs.MemberParsing.{below_from, decimals_one, from_below, none_there, there_none}
 use Rattle.save_file.proofs.SlotTexts.{same_behind}
 use Rattle.save_file.proofs.TextLaws.{all-append, all_behind, in_front, next_one}
-use Rattle.save_file.specs.CarriedParsing.{EndsNone, IsRead, IsWithEntry, IsWithList, JudgesCarried, MayFollow, ReadsLine, Takes, TakesText, key_of, is_empty, is_other_list, is_override, line_of_entry, line_of_list, lines_of, may_enter, may_list, new_or_fault, text_of, texts_of}
-use Rattle.save_file.specs.CarriedText.{CarriedLine, CarriedText, HasItsForm, IsCarried, IsInOrder, IsShort, NamesOther, SharesNone, carried_lines, collection, entry, key_text, is_collection, line_text, lists_member, lists_member_of, rank}
-use Rattle.save_file.specs.Following.{BeginsOther}
+use Rattle.save_file.specs.CarriedParsing.{IsRead, lines_of}
+use Rattle.save_file.specs.CarriedText.{entry}
 use Rattle.save_file.specs.EntryKeys.{has}
-use Rattle.save_file.specs.Parsing.{IsNextNumber, are_below, are_others}
-use Rattle.save_file.specs.SavedText.{end_line, next_line, opening_line, side_word}
-use Rattle.save_file.specs.declared.carried_line.EntryLine.{EntryLine}
-use Rattle.save_file.specs.declared.carried_line.ListLine.{ListLine}
-use Rattle.save_file.specs.declared.carried_read.CarriedRead.{CarriedRead}
 use Rattle.save_file.specs.declared.carried_stage.CarriedStage.TheVariants.{Lines, Number, Opening, Whole}
 use Rattle.save_file.specs.declared.entry_keys.EntryKeys.{EntryKeys}
-use Rattle.script_lines.specs.declared.fault.LineFault.TheVariants.{BadLine, NoMemory}
-use Rattle.script_lines.specs.declared.fault.LineFault.{LineFault}
-use Rattle.value_text.specs.MemberTexts.{printed_rest}
+use Rattle.script_lines.specs.declared.fault.LineFault.TheVariants.{NoMemory}
 
 -- ==== tests tell whether a list or an entry may stand behind the lines of a carried text that were read
 
@@ -59,18 +36,6 @@ count ls es tail =
         ap length (filter-append is_collection (map line_of_list ls) (map line_of_entry es)
         ∙ ap (λ (xs : List CarriedLine). filter is_collection (map line_of_list ls) ++ xs) (no_lists es)
         ∙ append-nil (filter is_collection (map line_of_list ls)))
-
--- ---- members below a number
-
-below_from : (next : ℕ) (ms : List ℕ) → AllByRecursion (λ m. m < next) ms → are_below next ms ≡ true
-below_from next [] all = refl
-below_from next (m ∷ ms) all = and_intro (nat_lt m next) (are_below next ms) (let low : m < next = all.0 in let test : nat_lt m next ≡ true = grind (arith, nat_tests) in test) (below_from next ms all.1)
-
-from_below : (next : ℕ) (ms : List ℕ) → are_below next ms ≡ true → AllByRecursion (λ m. m < next) ms
-from_below next [] all = tt
-from_below next (m ∷ ms) all =
-    let tests_passed = both (nat_lt m next) (are_below next ms) all in
-    (let test : nat_lt m next ≡ true = tests_passed.0 in let low : m < next = grind (arith, nat_tests) in low, from_below next ms tests_passed.1)
 
 -- ---- names
 

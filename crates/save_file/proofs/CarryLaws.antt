@@ -1,22 +1,10 @@
 -- A carried text tells its lines, each line is kept or listed, and carrying gives one result.
 use Rattle.std.proofs.Common.{◌≡◌, ℕ, zero, suc, ◌+◌, ◌<◌, Bool, true, false, not, ◌||◌, nat_eq, cond, List, [], ◌∷◌, ◌++◌, map, Option, Some, None, Contains, slice_get, is_some, refl, sym, ap, subst, ◌∙◌, arith}
-use Rattle.std.specs.Prelude.{IsTrue, decimal, codes, if◌then◌else◌}
-use Rattle.std.specs.List.{list_any}
+use Rattle.std.specs.Prelude.{IsTrue, if◌then◌else◌}
 use Rattle.std.specs.FinMap as map
-use Rattle.std.proofs.lemmas.Bool.Decides.{nat_tests}
-use Rattle.std.proofs.lemmas.Option.{same_Some}
-use Rattle.common_lemmas.proofs.Numbers.{equal_number}
-use Rattle.common_lemmas.proofs.Options.{something}
-use Rattle.fact_paths.specs.declared.slot_path.SlotPath.TheVariants.{Global}
+use Rattle.save_file.proofs.Common.{Answered, AreOfKept, CarriedLine, CarriedText, CarriedTextsTellLines, CarryingGivesOne, EachLineIsKeptOrListed, Global, IsCarried, IsCarryOf, IsKept, Rules, carried, carried_lines, codes, collection, decimal, end_line, equal_number, fact_of, is_list, keeps, kept_value, line_text, list_any, nat_tests, next_line, numbers_failing, opening_line, same, same_Some, slot_of, something, tree_of, value_of}
 use Rattle.script_lines.specs.Lines.{lines_of}
-use Rattle.answers.specs.Answered.{Answered, value_of}
-use Rattle.answers.proofs.FiniteLaws.{same}
-use Rattle.dictionary.specs.Fits.{is_list}
-use Rattle.graph_session.specs.Naming.{fact_of, slot_of}
-use Rattle.graph_session.specs.Rules.{Rules, tree_of}
-use Rattle.save_file.specs.CarriedText.{CarriedLine, CarriedText, CarriedTextsTellLines, IsCarried, carried, carried_lines, collection, entry, line_text}
-use Rattle.save_file.specs.Carrying.{AreOfKept, CarryingGivesOne, EachLineIsKeptOrListed, IsCarryOf, IsKept, keeps, kept_value, numbers_failing}
-use Rattle.save_file.specs.SavedText.{end_line, next_line, opening_line}
+use Rattle.save_file.specs.CarriedText.{entry}
 use Rattle.save_file.proofs.CarriedEnds.{are_lines}
 use Rattle.save_file.proofs.CarriedLines.{same_lines}
 use Rattle.save_file.proofs.CarriedSteps.{behind_next}

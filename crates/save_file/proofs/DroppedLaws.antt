@@ -1,37 +1,22 @@
 -- What is written, and what is said of the lines that carrying drops.
-use Rattle.std.proofs.Common.{All, Bool, Err, List, Ok, Option, Result, [], ap, append_assoc, arith, drop, false, filter, inl, inr, length, length-drop, map, nat_eq, not, refl, subst, suc, sym, take, true, ℕ, ◌++◌, ◌+◌, ◌-◌, ◌<◌, ◌∙◌, ◌∷◌, ◌≡◌, ◌≢◌, ◌≤◌}
-use Rattle.std.proofs.lemmas.Bool.Decides.{nat_tests}
-use Rattle.std.proofs.lemmas.List.Elements.{All-head, All-tail}
+use Rattle.std.proofs.Common.{All, Bool, Err, List, Ok, Option, Result, [], ap, append_assoc, arith, drop, false, filter, inl, inr, length, length-drop, map, not, refl, subst, suc, sym, take, true, ℕ, ◌++◌, ◌+◌, ◌-◌, ◌<◌, ◌∙◌, ◌∷◌, ◌≡◌, ◌≢◌, ◌≤◌}
 use Rattle.std.proofs.lemmas.Result.{err_from_is_err_and}
-use Rattle.std.proofs.lemmas.List.{append-nil, drop_more, take-append-drop, take_all}
-use Rattle.std.specs.List.{AllByRecursion, flat_map}
-use Rattle.std.specs.Prelude.{codes, if◌then◌else◌}
+use Rattle.std.specs.Prelude.{if◌then◌else◌}
 use Rattle.std.specs.Result.{IsErrAnd}
-use Rattle.answers.specs.Answered.{Answered}
-use Rattle.answers.specs.declared.edit.Side.TheVariants.{Answer, Override}
-use Rattle.dict_tree.specs.Dictionary.{Dictionary as Tree}
-use Rattle.fact_paths.proofs.SlotPathLaws.{slot_lacks_blank}
-use Rattle.fact_paths.specs.Cuts.{IsFirstAt, Lacks}
-use Rattle.fact_paths.specs.Paths.{slot_path_text}
+use Rattle.save_file.proofs.Common.{All-head, All-tail, AllByRecursion, Answer, Answered, CarriedLine, CarriedText, HasItsForm, IsCarried, IsCarry, IsFirstAt, Lacks, Override, Rules, Tree, append-nil, at_byte, at_other, carried_lines, codes, collection, drop_more, dropped_numbers, end_line, entries, equal_number, flat_map, joined, keeps, line_text, lists, nat_tests, next_line, numbers_failing, opening_line, printed_rest, saved, slot_lacks_blank, slot_path_text, take-append-drop, take_all}
 use Rattle.fg_io.proofs.SentLaws.{sent_none, sent_piece}
 use Rattle.fg_io.proofs.WritingLaws.{failed_within}
 use Rattle.fg_io.specs.Outside.{HasCause, Output}
 use Rattle.fg_io.specs.Sent.{Sent}
 use Rattle.fg_io.specs.Writing.{Wrote, WroteAll, WrotePart}
-use Rattle.graph_session.specs.Rules.{Rules}
 use Rattle.save_file.proofs.CarriedEnds.{are_lines}
 use Rattle.save_file.proofs.SlotTexts.{Tail, tail_of}
 use Rattle.save_file.proofs.TextLaws.{empty_is, whole_lines}
-use Rattle.save_file.specs.CarriedText.{CarriedLine, CarriedText, HasItsForm, IsCarried, carried_lines, collection, entry, line_text}
-use Rattle.save_file.specs.Carrying.{IsCarry, dropped_numbers, keeps, numbers_failing}
+use Rattle.save_file.specs.CarriedText.{entry}
 use Rattle.save_file.specs.Dropped.{IsDroppedText, behind_word, dropped_key, dropped_keys, dropped_text, is_next, past, said, said_at, said_if, said_of, word_of}
-use Rattle.save_file.specs.SavedText.{end_line, entries, lists, next_line, opening_line, saved}
-use Rattle.script_lines.proofs.Bytes.{at_byte, at_other}
 use Rattle.script_lines.proofs.JoinedLaws.{joined-append}
 use Rattle.script_lines.proofs.PartLaws.{name_lacks_blank}
-use Rattle.script_lines.specs.Joined.{joined}
 use Rattle.script_lines.specs.Lines.{lines_of}
-use Rattle.value_text.specs.MemberTexts.{printed_rest}
 
 -- ==== a text that is written piece by piece
 
@@ -219,12 +204,9 @@ module _ {X : Type 0} (test : X → Bool) where
       ap (λ (b : Bool). said_if b line ++ said_at (suc k) (past k (numbers_failing test n xs)) lines) none
       ∙ ap (λ (ns : List ℕ). said_at (suc k) ns lines) (past_none k (numbers_failing test n xs) none)
 
-  itself : (n : ℕ) → nat_eq n n ≡ true
-  itself n = grind (arith, nat_tests)
-
   -- a line that has the first number
   said_here : (n : ℕ) (ns : List ℕ) (line : List ℕ) (lines : List (List ℕ)) → said_at n (n ∷ ns) (line ∷ lines) ≡ said_of line ∷ said_at (suc n) ns lines
-  said_here n ns line lines = ap (λ (b : Bool). said_if b line ++ said_at (suc n) (if b then ns else n ∷ ns) lines) (itself n)
+  said_here n ns line lines = ap (λ (b : Bool). said_if b line ++ said_at (suc n) (if b then ns else n ∷ ns) lines) (equal_number n)
 
   -- of those that fail
   pub said_failing : (text : X → List ℕ) (n : ℕ) (xs : List X) (last : List ℕ) → said_at n (numbers_failing test n xs) (map text xs ++ last ∷ []) ≡ map (λ x. said_of (text x)) (filter (λ x. not (test x)) xs)

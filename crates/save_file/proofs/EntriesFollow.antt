@@ -1,43 +1,18 @@
 -- What follows of the lines of answers and overrides.
 use Rattle.std.proofs.Common.{Bool, IsTrue, List, None, Option, Some, [], ap, false, if◌then◌else◌, refl, subst, sym, true, ℕ, ◌&&◌, ◌++◌, ◌||◌, ◌∙◌, ◌∷◌, ◌≡◌, ◌≢◌}
-use Rattle.std.proofs.lemmas.List.Folds.{list_any-append}
-use Rattle.std.proofs.lemmas.Option.{some_pair_parts}
-use Rattle.std.specs.List.{AllByRecursion, flat_map, list_any}
-use Rattle.std.specs.Prelude.{IsSome, codes}
-use Rattle.answers.proofs.StandLaws.{entry_stands}
-use Rattle.answers.specs.Answered.{Answered, entry, value_of}
-use Rattle.answers.specs.Change.{applied, sets}
-use Rattle.answers.specs.declared.edit.Side.TheVariants.{Answer, Override}
-use Rattle.answers.specs.declared.edit.Side.{Side}
-use Rattle.common_lemmas.proofs.Bools.{and_intro, neither_or, or_left, or_neither, or_right}
-use Rattle.common_lemmas.proofs.Options.{both_some}
-use Rattle.dict_tree.specs.Dictionary.{Dictionary as Tree}
+use Rattle.std.specs.Prelude.{IsSome}
+use Rattle.save_file.proofs.Common.{Accepted, AllByRecursion, Answer, Answered, AnswersFit, AreLists, AreSlots, BeginsOther, FactType, FollowsEntries, IsAccepted, IsBuilt, IsOfFact, IsPast, IsSlot, IsToCome, Override, Side, Slot, Tree, Value, and_intro, applied, behind_side, both_some, codes, cut, cut-append, cut_some, end_line, entries, entry_line, entry_lines, entry_lines_of, entry_stands, flat_map, list_any, list_any-append, neither_or, or_left, or_neither, or_right, printed, sets, side_word, slot_same, slot_same-comm, slot_same-equal, slot_same-itself, slot_text, slots, some_pair_parts, standing_slot, stands, takes, value_at, value_of, value_spelled}
+use Rattle.answers.specs.Answered.{entry}
 use Rattle.dict_types.specs.StatedTypes.{type_at}
 use Rattle.dictionary.proofs.FitChangeLaws.{allowed_changes_fit}
 use Rattle.dictionary.proofs.SetLaws.{is_side, same_side, set_is}
-use Rattle.dictionary.proofs.SlotLaws.{slot_same-comm, slot_same-equal, slot_same-itself}
-use Rattle.dictionary.proofs.SlotTextLaws.{standing_slot}
-use Rattle.dictionary.specs.Accepted.{Accepted, IsAccepted}
-use Rattle.dictionary.specs.Fits.{AnswersFit, IsOfFact, takes}
-use Rattle.dictionary.specs.SlotText.{IsSlot, slot_text}
-use Rattle.dictionary.specs.Slots.{slot_same, stands}
-use Rattle.fact_paths.proofs.CutLaws.{cut-append, cut_some}
-use Rattle.fact_paths.specs.Cuts.{cut}
-use Rattle.fact_values.specs.declared.fact_type.FactType.{FactType}
-use Rattle.fact_values.specs.declared.slot.Slot.{Slot}
-use Rattle.fact_values.specs.declared.value.Value.{Value}
 use Rattle.graph_session.proofs.AllowedLaws.{slot_stands}
 use Rattle.graph_session.proofs.TypeLaws.{value_typed}
-use Rattle.graph_session.specs.Kinds.{value_spelled}
 use Rattle.save_file.proofs.Lines.{HasNone, HasOther, behind_keys, cons_parts, end_only, entry_shown, everywhere, first, no_entry, none_added, none_behind, one_entry, other_entry, skip}
 use Rattle.save_file.proofs.SlotTexts.{entry_slot, one_slot, printed_read, same_behind, text_lacks_blank}
 use Rattle.save_file.proofs.SlotsLeft.{all_slots, behind_skipped, in_front, none_outside, same_answers, same_slots}
-use Rattle.save_file.specs.Following.{AreSlots, BeginsOther, FollowsEntries, IsBuilt, IsPast, IsToCome, behind_side}
-use Rattle.save_file.specs.SavedText.{end_line, entries, entry_line, entry_lines, entry_lines_of, side_word, slots}
 use Rattle.value_text.proofs.ParsingLaws.{value_again}
 use Rattle.value_text.proofs.TypeLaws.{of_type}
-use Rattle.value_text.specs.Enums.{AreLists}
-use Rattle.value_text.specs.Values.{printed, value_at}
 
 -- ==== what follows of one line of an answer or an override
 
@@ -124,14 +99,10 @@ pub side_first : (side : Side) (text : List ℕ) → first (side_word side ++ te
 side_first Answer text = refl
 side_first Override text = refl
 
--- one of the slots stands
-stands_one : (d : Tree) (b : Answered) (ks : List Slot) → AreSlots d b ks → (u : Slot) → list_any (slot_same u) ks ≡ true → IsTrue (stands d b u)
-stands_one d b [] all u there = absurd cc
-stands_one d b (k ∷ ks) all u there = at (slot_same u k) refl there (stands_one d b ks all.2 u)
-  where
-    at : (same : Bool) → slot_same u k ≡ same → (same || list_any (slot_same u) ks) ≡ true → (list_any (slot_same u) ks ≡ true → IsTrue (stands d b u)) → IsTrue (stands d b u)
-    at true e there rest = subst (λ (t : Slot). IsTrue (stands d b t)) (sym (slot_same-equal u k e)) all.0
-    at false e there rest = rest there
+-- each of the slots stands
+all_stand : (d : Tree) (b : Answered) (ks : List Slot) → AreSlots d b ks → AllByRecursion (λ (s : Slot). IsTrue (stands d b s)) ks
+all_stand d b [] all = tt
+all_stand d b (k ∷ ks) all = (all.0, all_stand d b ks all.2)
 
 -- the same slots stand where the lists are the same
 slots_kept : (d : Tree) (a b : Answered) → ((u : Slot) → stands d a u ≡ stands d b u) → (ks : List Slot) → AreSlots d a ks → AreSlots d b ks
@@ -161,7 +132,7 @@ module _ (names : List (List ℕ)) (d : Accepted) (is : IsAccepted names d) (enu
   later_other : AllByRecursion (λ (k : Slot). slot_text d.tree k ≢ path) now
   later_other = each (λ (k : Slot). slot_text d.tree k ≢ path) now
       (λ u there e.
-      let slot_u = standing_slot d.tree b built.fit.well built.fit.from_one u (stands_one d.tree b now its_slots.2 u there) in
+      let slot_u = standing_slot d.tree b built.fit.well built.fit.from_one u (at_one (λ (t : Slot). IsTrue (stands d.tree b t)) now u (all_stand d.tree b now its_slots.2) there) in
       let same : s ≡ u = one_slot names d is s u slot_is slot_u (here ∙ sym e) in
       let out : list_any (slot_same u) now ≡ false = subst (λ (t : Slot). list_any (slot_same t) now ≡ false) same its_slots.1 in
       cc)

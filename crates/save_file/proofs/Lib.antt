@@ -3,6 +3,7 @@ pub mod CarriedEnds
 pub mod CarriedLines
 pub mod CarriedSteps
 pub mod CarryLaws
+mod Common
 pub mod DroppedLaws
 pub mod EntriesFollow
 pub mod Lines

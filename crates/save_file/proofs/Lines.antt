@@ -1,30 +1,10 @@
 -- Lists of lines: of keys, by their first words, and which are there.
 use Rattle.std.proofs.Common.{Bool, Contains, List, None, Option, Some, [], ap, append_assoc, arith, cond, false, get_or, inl, inr, length, map, nat_eq, refl, slice_get, subst, suc, sym, true, zero, ℕ, ◌++◌, ◌+◌, ◌<◌, ◌∙◌, ◌∷◌, ◌≡◌, ◌≢◌, ◌≤◌, ◌⊎◌}
-use Rattle.std.proofs.lemmas.Bool.Decides.{nat_tests}
-use Rattle.std.proofs.lemmas.List.Elements.{All-head, All-tail, Contains-append_cases, Contains-append_left, Contains-append_right, Contains-push, Contains-push_cases}
 use Rattle.std.proofs.lemmas.List.Sums.{sum_by-cons}
-use Rattle.std.proofs.lemmas.Option.{none-some, same_Some}
 use Rattle.std.specs.FinMap as map
-use Rattle.std.specs.List.{All, AllByRecursion, find, flat_map, list_any}
-use Rattle.std.specs.Map.{lookup}
-use Rattle.std.specs.Prelude.{codes, count_by}
-use Rattle.answers.specs.Answered.{Answered, value_of}
-use Rattle.answers.specs.declared.edit.Side.TheVariants.{Answer, Override}
-use Rattle.answers.specs.declared.edit.Side.{Side}
-use Rattle.common_lemmas.proofs.Bools.{or_left, or_right}
-use Rattle.common_lemmas.proofs.Numbers.{same_number}
-use Rattle.dict_tree.specs.Dictionary.{Dictionary as Tree}
-use Rattle.dictionary.specs.Dependencies.{slot}
-use Rattle.dictionary.specs.SlotText.{slot_text}
-use Rattle.fact_paths.proofs.CutLaws.{after-append}
-use Rattle.fact_paths.specs.Cuts.{after}
-use Rattle.fact_values.specs.declared.slot.Slot.{Slot}
-use Rattle.fact_values.specs.declared.value.Value.{Value}
-use Rattle.save_file.specs.CarriedText.{Pairs}
-use Rattle.save_file.specs.Following.{BeginsOther, behind_lists, behind_side}
-use Rattle.save_file.specs.SavedText.{counted, end_line, entries, entry_line, entry_lines, entry_lines_of, list_line, list_lines, list_lines_of, side_word, slots}
-use Rattle.value_text.specs.MemberTexts.{printed_rest}
-use Rattle.value_text.specs.Values.{printed}
+use Rattle.std.specs.List.{All}
+use Rattle.save_file.proofs.Common.{All-head, All-tail, AllByRecursion, Answer, Answered, BeginsOther, Contains-append_cases, Contains-append_left, Contains-append_right, Contains-push, Contains-push_cases, Override, Pairs, Side, Slot, Tree, Value, after, after-append, behind_lists, behind_side, codes, count_by, counted, end_line, entries, entry_line, entry_lines, entry_lines_of, find, flat_map, list_any, list_line, list_lines, list_lines_of, lookup, nat_tests, none-some, or_left, or_right, printed, printed_rest, same_Some, same_number, side_word, slot, slot_text, slots, value_of}
+use Rattle.save_file.proofs.TextLaws.{all-append}
 
 -- ==== lines of keys, one after another, of which each has one line at most
 
@@ -207,10 +187,6 @@ each_shown {K = K} {X = X} o P (k ∷ ks) all = at (o k) refl all (each_shown o 
     at None e all rest = (λ x g. absurd (none-some x (sym e ∙ g)), rest all)
     at (Some y) e all rest = (λ x g. subst P (same_Some y x (sym e ∙ g)) all.0, rest all.1)
 
-pub any_keys : {K : Type 0} (ks : List K) → AllByRecursion (λ (k : K). Unit {0}) ks
-any_keys [] = tt
-any_keys (k ∷ ks) = (tt, any_keys ks)
-
 -- of each two
 pub pairs_shown : {K X : Type 0} (o : K → Option X) (D : K → K → Type 0) (R : X → X → Type 0) → ((k j : K) (x y : X) → D k j → o k ≡ Some x → o j ≡ Some y → R x y) → (ks : List K) → Pairs D ks → Pairs R (shown o ks)
 pairs_shown o D R each [] pairs = tt
@@ -222,11 +198,7 @@ pairs_shown {X = X} o D R each (k ∷ ks) pairs = at (o k) refl (pairs_shown o D
 
 pub pairs-append : {X : Type 0} (R : X → X → Type 0) (xs ys : List X) → Pairs R xs → Pairs R ys → AllByRecursion (λ x. AllByRecursion (R x) ys) xs → Pairs R (xs ++ ys)
 pairs-append R [] ys left right across = right
-pairs-append {X = X} R (x ∷ xs) ys left right across = (joined xs ys left.0 across.0, pairs-append R xs ys left.1 right across.1)
-  where
-    joined : (us vs : List X) → AllByRecursion (R x) us → AllByRecursion (R x) vs → AllByRecursion (R x) (us ++ vs)
-    joined [] vs first then = then
-    joined (u ∷ us) vs first then = (first.0, joined us vs first.1 then)
+pairs-append R (x ∷ xs) ys left right across = (all-append (R x) xs ys left.0 across.0, pairs-append R xs ys left.1 right across.1)
 
 pub across : {X : Type 0} (R : X → X → Type 0) (P Q : X → Type 0) → ((x y : X) → P x → Q y → R x y) → (xs ys : List X) → AllByRecursion P xs → AllByRecursion Q ys → AllByRecursion (λ x. AllByRecursion (R x) ys) xs
 across R P Q each [] ys left right = tt

@@ -1,44 +1,16 @@
 -- What follows of the lines of open collections.
 use Rattle.std.proofs.Common.{Bool, IsTrue, List, None, Option, Some, [], ap, arith, cond, false, if◌then◌else◌, inl, inr, is_some, length, nat_eq, refl, subst, suc, sym, true, unwrap_or, zero, ℕ, ◌++◌, ◌+◌, ◌-◌, ◌<◌, ◌∙◌, ◌∷◌, ◌≡◌, ◌≢◌, ◌≤◌}
-use Rattle.std.proofs.lemmas.Bool.Decides.{nat_tests}
-use Rattle.std.proofs.lemmas.Bool.{cases_lt}
-use Rattle.std.proofs.lemmas.List.Elements.{All-cons, All-head, All-nil, All-push, All-tail, All-weaker}
 use Rattle.std.specs.FinMap as map
-use Rattle.std.specs.List.{All, AllByRecursion, flat_map, list_any}
-use Rattle.std.specs.Map.{lookup}
+use Rattle.std.specs.List.{All}
 use Rattle.std.specs.Ordering.{nat_cmp}
-use Rattle.std.specs.Prelude.{codes, decimal}
-use Rattle.answers.proofs.FiniteLaws.{get_map_of, same}
+use Rattle.save_file.proofs.Common.{Accepted, All-cons, All-head, All-nil, All-push, All-tail, All-weaker, AllByRecursion, Answer, Answered, AnswersFit, AreApart, AreRead, BeginsOther, FactsRise, FollowsEntries, FollowsLists, FromOne, IsAccepted, IsAfter, IsBelow, IsBuilt, IsIn, IsLaterList, IsListFound, IsMemberList, IsNextNumber, IsNotIn, IsOfLists, IsPast, IsWithout, Numbered, Override, Side, Slot, Tree, WellFormed, and_then, behind_lists, behind_opening, behind_side, cases_lt, codes, counted, decimal, end_line, entry_lines, equal_number, fact_within, flat_map, get_map_of, given_fit, given_value, is_list, list_any, list_line, list_lines, list_lines_of, list_of, lists_lines, lookup, map_of, member_below, nat_tests, next_line, printed_rest, same, same_number, slot, slot_same, slot_text, slots, start_at, value_of}
 use Rattle.answers.proofs.OpenedListsLaws.{given_well, of_lists}
-use Rattle.answers.specs.Answered.{Answered, list_of, start_at, value_of}
-use Rattle.answers.specs.Finite.{Numbered, and_then, map_of}
-use Rattle.answers.specs.GivenLists.{AreApart, FactsRise, IsAfter, IsBelow, IsOfLists, IsWithout}
-use Rattle.answers.specs.Lists.{IsIn, IsNotIn}
 use Rattle.answers.specs.OpenedLists.{with_all}
-use Rattle.answers.specs.WellFormed.{FromOne, WellFormed}
-use Rattle.answers.specs.declared.edit.Side.TheVariants.{Answer, Override}
-use Rattle.answers.specs.declared.edit.Side.{Side}
-use Rattle.common_lemmas.proofs.Numbers.{same_number}
-use Rattle.dict_tree.specs.Dictionary.{Dictionary as Tree}
-use Rattle.dictionary.proofs.FitStart.{given_fit, given_value}
-use Rattle.dictionary.proofs.NumberLaws.{fact_within}
-use Rattle.dictionary.proofs.SlotTextLaws.{member_below}
-use Rattle.dictionary.specs.Accepted.{Accepted, IsAccepted}
-use Rattle.dictionary.specs.Fits.{AnswersFit, is_list}
-use Rattle.dictionary.specs.Dependencies.{slot}
-use Rattle.dictionary.specs.SlotText.{slot_text}
-use Rattle.dictionary.specs.Slots.{slot_same}
-use Rattle.fact_values.specs.Members.{IsMemberList}
-use Rattle.fact_values.specs.declared.slot.Slot.{Slot}
 use Rattle.save_file.proofs.EntriesFollow.{end_back, turn_back, turned}
 use Rattle.save_file.proofs.Lines.{HasNone, HasOther, behind_keys, cons_parts, everywhere, first, list_shown, no_list, no_list_behind, none_added, one_list, other_list, skip}
 use Rattle.save_file.proofs.MemberParsing.{decimals_one}
 use Rattle.save_file.proofs.SlotTexts.{list_slot, list_there, members_numbered, numbers_of, one_slot, open_list_members, same_behind, same_members, same_parts, tail_of, text_lacks_blank}
 use Rattle.save_file.proofs.SlotsLeft.{all_slots, counted_all, none_outside, same_slots}
-use Rattle.save_file.specs.Following.{AreRead, BeginsOther, FollowsEntries, FollowsLists, IsBuilt, IsPast, behind_lists, behind_opening, behind_side}
-use Rattle.save_file.specs.Parsing.{IsLaterList, IsListFound, IsNextNumber}
-use Rattle.save_file.specs.SavedText.{counted, end_line, entry_lines, list_line, list_lines, list_lines_of, lists as lists_lines, next_line, slots}
-use Rattle.value_text.specs.MemberTexts.{printed_rest}
 
 -- ==== lists whose facts rise, with one more at their end
 
@@ -113,11 +85,8 @@ rises e (f ∷ fs) q xs less found = at (nat_eq q f.0) refl found (rises e fs q 
 pub each_given : (P : ℕ × List ℕ → Type 0) (es : List (ℕ × List ℕ)) → FactsRise es → ((q : ℕ) (xs : List ℕ) → lookup (nat_eq q) es ≡ Some xs → P (q, xs)) → All P es
 each_given P [] rise all = All-nil P
 each_given P (e ∷ es) rise all =
-    All-cons P e es (all e.0 e.1 (ap (λ (b : Bool). cond b (Some e.1) (lookup (nat_eq e.0) es)) (itself e.0)))
+    All-cons P e es (all e.0 e.1 (ap (λ (b : Bool). cond b (Some e.1) (lookup (nat_eq e.0) es)) (equal_number e.0)))
     (each_given P es rise.1 (λ q xs found. all q xs (ap (λ (b : Bool). cond b (Some e.1) (lookup (nat_eq q) es)) (let low : e.0 < q = rises e es q xs rise.0 found in let other : nat_eq q e.0 ≡ false = grind (arith, nat_tests) in other) ∙ found)))
-  where
-    itself : (n : ℕ) → nat_eq n n ≡ true
-    itself n = grind (arith, nat_tests)
 
 -- ==== what follows of one line of an open collection, and where the lists are at their end
 

@@ -1,18 +1,8 @@
 -- What is known of bytes from their lines that were read.
 use Rattle.std.proofs.Common.{Bool, Err, List, Result, [], ap, append_assoc, arith, false, inl, inr, length, refl, subst, suc, sym, true, ℕ, ◌++◌, ◌+◌, ◌∙◌, ◌∷◌, ◌≡◌}
-use Rattle.std.proofs.lemmas.List.{append-nil}
-use Rattle.std.specs.List.{flat_map}
-use Rattle.std.specs.Prelude.{IsTrue, ◌↔◌}
-use Rattle.answers.specs.Answered.{Answered, start}
-use Rattle.answers.specs.Meaning.{answered}
-use Rattle.answers.specs.declared.edit.Side.TheVariants.{Answer, Override}
-use Rattle.answers.specs.declared.edit.Side.{Side}
+use Rattle.std.specs.Prelude.{IsTrue}
+use Rattle.save_file.proofs.Common.{Accepted, Answer, Answered, AnswersFit, AreLists, BadSaved, Ends, Follows, FollowsEntries, HasRead, IsAccepted, IsBuilt, IsLoad, IsRefusedAt, IsSavedText, IsStage, LoadFault, Override, ReadsOn, RefusesText, Side, Slot, TakesLine, Tree, answered, append-nil, behind_lists, behind_opening, behind_side, end_line, entries, entry_lines, flat_map, joined, list_lines, lists, next_line, opening_line, saved, saved_lines, slots, slots_left, start, start_fits, ◌↔◌}
 use Rattle.answers.specs.declared.parts.Parts.{Parts}
-use Rattle.dict_tree.specs.Dictionary.{Dictionary as Tree}
-use Rattle.dictionary.proofs.FitStart.{start_fits}
-use Rattle.dictionary.specs.Accepted.{Accepted, IsAccepted}
-use Rattle.dictionary.specs.Fits.{AnswersFit}
-use Rattle.fact_values.specs.declared.slot.Slot.{Slot}
 use Rattle.save_file.proofs.EntriesFollow.{end_back, turn_back, turned}
 use Rattle.save_file.proofs.LineTexts.{IsLine}
 use Rattle.save_file.proofs.Lines.{cons_not_nil, never_empty}
@@ -20,17 +10,10 @@ use Rattle.save_file.proofs.ListsFollow.{lists_go_on}
 use Rattle.save_file.proofs.SameTexts.{all_lines}
 use Rattle.save_file.proofs.TextLaws as texts
 use Rattle.save_file.proofs.TextLaws.{ended_joined, joined_ended}
-use Rattle.save_file.specs.Cursors.{slots_left}
-use Rattle.save_file.specs.Following.{Ends, Follows, FollowsEntries, HasRead, IsBuilt, IsStage, ReadsOn, TakesLine, behind_lists, behind_opening, behind_side}
-use Rattle.save_file.specs.Loading.{IsLoad, IsRefusedAt, IsSavedText, RefusesText}
-use Rattle.save_file.specs.SavedText.{end_line, entries, entry_lines, list_lines, lists, next_line, opening_line, saved, saved_lines, slots}
-use Rattle.save_file.specs.declared.fault.LoadFault.TheVariants.{BadSaved, NoMemory}
-use Rattle.save_file.specs.declared.fault.LoadFault.{LoadFault}
+use Rattle.save_file.specs.declared.fault.LoadFault.TheVariants.{NoMemory}
 use Rattle.save_file.specs.declared.stage.Stage.TheVariants.{Entries, Lists, Number, Opening, Whole}
 use Rattle.save_file.specs.declared.stage.Stage.{Stage}
-use Rattle.script_lines.specs.Joined.{joined}
 use Rattle.script_lines.specs.Lines.{lines_of}
-use Rattle.value_text.specs.Enums.{AreLists}
 
 -- ==== some answers go on from what was read, and none without a line to come but where the text is whole
 

@@ -1,54 +1,20 @@
 -- What one line does to what was read of a saved text.
 use Rattle.std.proofs.Common.{Err, IsTrue, List, None, Ok, Option, Result, Some, [], ap, arith, false, inl, inr, is_some, length, refl, subst, sym, true, ℕ, ◌++◌, ◌+◌, ◌∙◌, ◌∷◌, ◌≡◌, ◌≢◌, ◌≤◌}
-use Rattle.std.proofs.lemmas.Bool.{cases_lt}
-use Rattle.std.proofs.lemmas.List.{append-nil}
-use Rattle.std.proofs.lemmas.Option.{none-some}
-use Rattle.std.specs.List.{AllByRecursion, list_all}
-use Rattle.std.specs.Prelude.{◌↔◌, codes, decimal, IfErr, OnOk}
-use Rattle.answers.specs.Answered.{Answered, start, value_of}
-use Rattle.answers.specs.Change.{Stands, applied, sets}
-use Rattle.answers.specs.GivenLists.{IsOfLists}
-use Rattle.answers.specs.Meaning.{answered}
-use Rattle.answers.specs.declared.edit.Side.TheVariants.{Answer, Override}
-use Rattle.answers.specs.declared.edit.Side.{Side}
+use Rattle.save_file.proofs.Common.{Accepted, AllByRecursion, Answer, Answered, AnswersFit, AreLists, AreRead, BadLine, BeginsOther, Enters, FindsList, FindsSlot, FollowsEntries, FollowsLists, GoesOn, IfErr, IsAccepted, IsBuilt, IsLaterList, IsListFound, IsMemberList, IsMemberNumber, IsNextNumber, IsNumber, IsOfLists, IsPrinted, IsStage, Judges, Lacks, LineFault, OnOk, Override, ReadsList, ReadsMembers, ReadsPrinted, ReadsValue, Side, Slot, Stands, Tree, Value, after, after_some, answered, append-nil, applied, are_below, are_others, behind_lists, behind_opening, behind_side, both, cases_lt, codes, cut, cut_some, decimal, end_line, entry_lines, front_lacks, is_list, list_all, list_line, lists, next_line, none-some, opening_line, printed, printed_rest, sets, side_word, slot, slot_text, slots, slots_left, standing_slot, stands, start, takes, value_of, value_spelled, ◌↔◌}
 use Rattle.answers.specs.declared.parts.Parts.{Parts}
-use Rattle.common_lemmas.proofs.Bools.{both}
-use Rattle.dict_tree.specs.Dictionary.{Dictionary as Tree}
-use Rattle.dict_tree.specs.Finding.{IsNumber}
 use Rattle.dictionary.proofs.PrintedLaws.{value_printed}
-use Rattle.dictionary.proofs.SlotTextLaws.{standing_slot}
-use Rattle.dictionary.specs.Accepted.{Accepted, IsAccepted}
-use Rattle.dictionary.specs.Fits.{AnswersFit, is_list, takes}
-use Rattle.dictionary.specs.Dependencies.{slot}
-use Rattle.dictionary.specs.SlotText.{slot_text}
-use Rattle.dictionary.specs.Slots.{stands}
-use Rattle.fact_paths.proofs.CutLaws.{after_some, cut_some, front_lacks}
-use Rattle.fact_paths.specs.Cuts.{Lacks, after, cut}
-use Rattle.fact_paths.specs.Paths.{IsMemberNumber}
-use Rattle.fact_values.specs.Members.{IsMemberList}
-use Rattle.fact_values.specs.declared.slot.Slot.{Slot}
-use Rattle.fact_values.specs.declared.value.Value.{Value}
 use Rattle.graph_session.proofs.AllowedLaws.{slot_stands}
-use Rattle.graph_session.specs.Kinds.{value_spelled}
 use Rattle.save_file.proofs.EntriesFollow.{built_after, ended, entry_cut, entry_given_back, entry_taken, not_ended, others_by_path, refused_value, side_first, spelled_fits, turn, turn_back, turned}
 use Rattle.save_file.proofs.Lines.{HasOther, cons_not_nil, cons_parts, entry_shown, everywhere, none_behind, not_behind, one_entry, skip}
 use Rattle.save_file.proofs.ListsFollow.{are_new, given, list_given_back, list_taken, list_within, no_number, none_found, nothing_read, numbered, numbered_back, open_back, opened, opens, read_after}
 use Rattle.save_file.proofs.MemberParsing.{apart_by, below_by, by_apart, by_below}
 use Rattle.save_file.proofs.SlotTexts.{Tail, entry_slot, list_slot, members_numbered, numbers_of, printed_read, same_behind, same_members, same_parts, tail_of, text_lacks_blank}
 use Rattle.save_file.proofs.SlotsLeft.{behind_skipped, left_same}
-use Rattle.save_file.specs.Cursors.{slots_left}
-use Rattle.save_file.specs.Following.{AreRead, BeginsOther, Enters, FollowsEntries, FollowsLists, GoesOn, IsBuilt, IsStage, Judges, behind_lists, behind_opening, behind_side}
-use Rattle.save_file.specs.Parsing.{FindsList, FindsSlot, IsLaterList, IsListFound, IsNextNumber, ReadsList, ReadsMembers, ReadsPrinted, ReadsValue, are_below, are_others}
-use Rattle.save_file.specs.SavedText.{end_line, entry_lines, list_line, lists, next_line, opening_line, side_word, slots}
 use Rattle.save_file.specs.declared.stage.EntriesRead.{EntriesRead}
 use Rattle.save_file.specs.declared.stage.ListsRead.{ListsRead}
 use Rattle.save_file.specs.declared.stage.Stage.TheVariants.{Entries, Lists, Number, Opening, Whole}
 use Rattle.save_file.specs.declared.stage.Stage.{Stage}
-use Rattle.script_lines.specs.declared.fault.LineFault.TheVariants.{BadLine, NoMemory}
-use Rattle.script_lines.specs.declared.fault.LineFault.{LineFault}
-use Rattle.value_text.specs.Enums.{AreLists}
-use Rattle.value_text.specs.MemberTexts.{printed_rest}
-use Rattle.value_text.specs.Values.{IsPrinted, printed}
+use Rattle.script_lines.specs.declared.fault.LineFault.TheVariants.{NoMemory}
 
 -- what is true of three things is true of what they are
 moved : {A B C : Type 0} (P : A → B → C → Type 0) (a a' : A) (b b' : B) (c c' : C) → a ≡ a' → b ≡ b' → c ≡ c' → P a b c → P a' b' c'

@@ -1,27 +1,13 @@
 -- Members: how they are read, and tests of them.
 use Rattle.std.proofs.Common.{◌≤◌, Bool, Err, List, None, Ok, Option, Some, [], ap, append_assoc, arith, false, inl, inr, length, length-append, nat_eq, refl, subst, sym, true, ℕ, ◌++◌, ◌<◌, ◌||◌, ◌∙◌, ◌∷◌, ◌≡◌, ◌≢◌}
-use Rattle.std.proofs.lemmas.Bool.Decides.{nat_tests}
-use Rattle.std.proofs.lemmas.Bool.{cases_lt}
 use Rattle.std.proofs.lemmas.Fmt.{decimal-digits_value, digits_value-decimal}
-use Rattle.std.proofs.lemmas.List.Elements.{All-cons, All-head, All-nil, All-tail}
-use Rattle.std.proofs.lemmas.List.{append-nil}
-use Rattle.std.specs.List.{All, AllByRecursion, list_all, list_any}
-use Rattle.std.specs.Prelude.{MatchOption, codes, decimal, nat_lt}
+use Rattle.std.specs.List.{All}
 use Rattle.std.specs.Str.Parse.{digits_value}
-use Rattle.answers.specs.GivenLists.{IsBelow, IsWithout}
-use Rattle.answers.specs.Lists.{IsIn, IsNotIn}
-use Rattle.common_lemmas.proofs.Bools.{and_intro, both, is_not, neither_or, not_true, or_left, or_neither, or_right}
-use Rattle.common_lemmas.proofs.Numbers.{equal_number, same_number}
-use Rattle.fact_paths.proofs.CutLaws.{cut_some, front_lacks, uncut_lacks}
-use Rattle.fact_paths.specs.Cuts.{Lacks, cut}
-use Rattle.fact_paths.specs.Paths.{IsMemberNumber, SpellsMemberNumber}
+use Rattle.save_file.proofs.Common.{All-cons, All-head, All-nil, All-tail, AllByRecursion, BadLine, IsBelow, IsIn, IsMemberNumber, IsNextNumber, IsNotIn, IsWithout, Lacks, LineFault, MatchOption, ReadsMember, ReadsMembers, SpellsMemberNumber, and_intro, append-nil, are_below, are_others, both, cases_lt, codes, cut, cut_some, decimal, equal_number, front_lacks, is_not, list_all, list_any, nat_lt, nat_tests, neither_or, not_true, or_left, or_neither, or_right, printed_item, printed_rest, same_number, uncut_lacks}
 use Rattle.save_file.proofs.Lines.{cons_not_nil, cons_parts}
 use Rattle.save_file.proofs.SlotTexts.{item_lacks, same_parts, tail_of}
-use Rattle.save_file.specs.Parsing.{IsNextNumber, ReadsMember, ReadsMembers, are_below, are_others}
-use Rattle.script_lines.specs.declared.fault.LineFault.TheVariants.{BadLine, NoMemory}
-use Rattle.script_lines.specs.declared.fault.LineFault.{LineFault}
+use Rattle.script_lines.specs.declared.fault.LineFault.TheVariants.{NoMemory}
 use Rattle.value_text.proofs.DigitLemmas.{own}
-use Rattle.value_text.specs.MemberTexts.{printed_item, printed_rest}
 
 -- ==== members that are read word by word, and the number of the next
 
@@ -137,18 +123,31 @@ last_read digits e = ((omega arith, omega arith), e ∙ sym last_next)
 
 -- ==== tests of members tell whether they are new
 
+-- ---- each of them
+
+pub each_in : (P : ℕ → Type 0) (ms : List ℕ) → ((m : ℕ) → IsIn m ms → P m) → AllByRecursion P ms
+each_in P [] all = tt
+each_in P (m ∷ ms) all = (
+  all m (or_left (nat_eq m m) (list_any (nat_eq m) ms) (equal_number m)),
+  each_in P ms (λ k i. all k (or_right (nat_eq k m) (list_any (nat_eq k) ms) i)),
+)
+
+pub in_each : (P : ℕ → Type 0) (ms : List ℕ) → AllByRecursion P ms → (m : ℕ) → IsIn m ms → P m
+in_each P [] all m i = absurd cc
+in_each P (k ∷ ms) all m i = at (nat_eq m k) refl i (in_each P ms all.1 m)
+  where
+    at : (b : Bool) → nat_eq m k ≡ b → (b || list_any (nat_eq m) ms) ≡ true → (IsIn m ms → P m) → P m
+    at true e i rest = subst P (sym (same_number m k e)) all.0
+    at false e i rest = rest i
+
 -- ---- apart
 
-pub none_there : (others ms : List ℕ) → list_any (λ m. list_any (nat_eq m) others) ms ≡ false → (m : ℕ) → IsIn m ms → IsNotIn m others
-none_there others [] out m i = absurd cc
-none_there others (k ∷ ms) out m i = at (nat_eq m k) refl i (none_there others ms parts.1 m)
-  where
-    parts : (list_any (nat_eq k) others ≡ false) × (list_any (λ n. list_any (nat_eq n) others) ms ≡ false)
-    parts = or_neither (list_any (nat_eq k) others) (list_any (λ n. list_any (nat_eq n) others) ms) out
+pub none_same : {X : Type 0} (p : X → Bool) (xs : List X) → list_any p xs ≡ false → AllByRecursion (λ x. p x ≡ false) xs
+none_same p [] out = tt
+none_same p (x ∷ xs) out = let parts = or_neither (p x) (list_any p xs) out in (parts.0, none_same p xs parts.1)
 
-    at : (b : Bool) → nat_eq m k ≡ b → (b || list_any (nat_eq m) ms) ≡ true → (IsIn m ms → IsNotIn m others) → IsNotIn m others
-    at true e i rest = ap (λ (n : ℕ). list_any (nat_eq n) others) (same_number m k e) ∙ parts.0
-    at false e i rest = rest i
+pub none_there : (others ms : List ℕ) → list_any (λ m. list_any (nat_eq m) others) ms ≡ false → (m : ℕ) → IsIn m ms → IsNotIn m others
+none_there others ms out = in_each (λ m. IsNotIn m others) ms (none_same (λ m. list_any (nat_eq m) others) ms out)
 
 pub there_none : (others ms : List ℕ) → ((m : ℕ) → IsIn m ms → IsNotIn m others) → list_any (λ m. list_any (nat_eq m) others) ms ≡ false
 there_none others [] all = refl
@@ -172,20 +171,18 @@ by_apart ms c (e ∷ es) all =
 
 -- ---- below
 
-pub below_by : (next c : ℕ) (ms : List ℕ) → are_below next ms ≡ true → IsBelow next (c, ms)
-below_by next c [] all m i = absurd cc
-below_by next c (k ∷ ms) all m i = at (nat_eq m k) refl i (below_by next c ms parts.1 m)
-  where
-    parts : (nat_lt k next ≡ true) × (are_below next ms ≡ true)
-    parts = both (nat_lt k next) (are_below next ms) all
+pub below_from : (next : ℕ) (ms : List ℕ) → AllByRecursion (λ m. m < next) ms → are_below next ms ≡ true
+below_from next [] all = refl
+below_from next (m ∷ ms) all = and_intro (nat_lt m next) (are_below next ms) (let low : m < next = all.0 in let test : nat_lt m next ≡ true = grind (arith, nat_tests) in test) (below_from next ms all.1)
 
-    at : (b : Bool) → nat_eq m k ≡ b → (b || list_any (nat_eq m) ms) ≡ true → (IsIn m ms → m < next) → m < next
-    at true e i rest = let same : m ≡ k = same_number m k e in let low : nat_lt k next ≡ true = parts.0 in grind (arith, nat_tests)
-    at false e i rest = rest i
+pub from_below : (next : ℕ) (ms : List ℕ) → are_below next ms ≡ true → AllByRecursion (λ m. m < next) ms
+from_below next [] all = tt
+from_below next (m ∷ ms) all =
+    let tests_passed = both (nat_lt m next) (are_below next ms) all in
+    (let test : nat_lt m next ≡ true = tests_passed.0 in let low : m < next = grind (arith, nat_tests) in low, from_below next ms tests_passed.1)
+
+pub below_by : (next c : ℕ) (ms : List ℕ) → are_below next ms ≡ true → IsBelow next (c, ms)
+below_by next c ms all = in_each (λ m. m < next) ms (from_below next ms all)
 
 pub by_below : (next c : ℕ) (ms : List ℕ) → IsBelow next (c, ms) → are_below next ms ≡ true
-by_below next c [] all = refl
-by_below next c (k ∷ ms) all =
-    and_intro (nat_lt k next) (are_below next ms)
-    (let low : k < next = all k (or_left (nat_eq k k) (list_any (nat_eq k) ms) (equal_number k)) in let test : nat_lt k next ≡ true = grind (arith, nat_tests) in test)
-    (by_below next c ms (λ m i. all m (or_right (nat_eq m k) (list_any (nat_eq m) ms) i)))
+by_below next c ms all = below_from next ms (each_in (λ m. m < next) ms all)

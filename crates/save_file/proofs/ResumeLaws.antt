@@ -1,37 +1,16 @@
 -- What is taken of a text that came from outside, and which lines are dropped.
 use Rattle.std.proofs.Common.{Bool, Contains, List, None, Option, Some, [], ap, append_assoc, arith, drop, false, filter, get_or, length, map, not, refl, subst, suc, sym, true, ℕ, ◌&&◌, ◌++◌, ◌+◌, ◌<◌, ◌||◌, ◌∙◌, ◌∷◌, ◌≡◌, ◌≤◌}
 use Rattle.std.proofs.lemmas.List.Filters.{length-filter_both}
-use Rattle.std.proofs.lemmas.List.{drop_more, length-map}
-use Rattle.std.specs.List.{AllByRecursion, list_any}
 use Rattle.std.specs.FinMap as map
-use Rattle.std.specs.Prelude.{Err, IsTrue, Ok, OnOk, Result, if◌then◌else◌, is_none, is_some, option_map, string_bytes, unwrap_or}
-use Rattle.answers.specs.Answered.{Answered, value_of}
-use Rattle.answers.specs.declared.edit.Side.TheVariants.{Answer, Override}
-use Rattle.answers.specs.declared.edit.Side.{Side}
-use Rattle.common_lemmas.proofs.Bools.{both}
-use Rattle.dictionary.specs.Accepted.{names_of}
-use Rattle.dictionary.specs.Fits.{is_answered_by}
-use Rattle.dict_tree.specs.Dictionary.{Dictionary as Tree}
-use Rattle.fact_paths.specs.declared.slot_path.SlotPath.TheVariants.{Global, Member}
-use Rattle.fact_paths.specs.declared.slot_path.SlotPath.{SlotPath}
-use Rattle.fact_values.specs.declared.value.Value.{Value}
-use Rattle.graph_session.specs.Kinds.{value_spelled}
-use Rattle.graph_session.specs.Naming.{fact_of, lacks_member, named_fact}
-use Rattle.graph_session.specs.Refusals.{first_of, limit_refusals, set_refusals, value_refusals, when}
-use Rattle.graph_session.specs.Rules.{Rules, tree_of}
-use Rattle.graph_session.specs.declared.reply.Refusal.TheVariants.{BadValue, NoMember, UnknownFact, WrongKind}
-use Rattle.graph_session.specs.declared.reply.Refusal.{Refusal}
+use Rattle.std.specs.Prelude.{Err, IsTrue, Ok, Result, if◌then◌else◌, is_none, is_some, string_bytes, unwrap_or}
+use Rattle.save_file.proofs.Common.{AllByRecursion, Answer, Answered, AreOfKept, BadValue, CarriedLine, CarriedRead, CarriedText, EntryLine, Global, HasItsForm, IsBelowNext, IsCarried, IsCarryOf, IsInOrder, IsShort, ListLine, Member, NamesOther, NoMember, OnOk, Override, Pairs, Refusal, Rules, SharesNone, Side, SlotPath, Tree, UnknownFact, Value, WrongKind, both, carried, collection, drop_more, fact_of, first_of, has_its_member, is_answered_by, is_collection, is_override, kept_collection, kept_value, lacks_member, length-map, limit_refusals, line_of_entry, line_of_list, list_any, lists_member, named_fact, names_of, option_map, set_refusals, text_of, tree_of, value_of, value_refusals, value_spelled, when}
 use Rattle.save_file.proofs.CarriedAnswers.{chosen_by, placed_where}
 use Rattle.save_file.proofs.CarryLaws.{of_one, one_text}
 use Rattle.save_file.proofs.Lines.{one_of_all}
-use Rattle.save_file.specs.CarriedParsing.{is_override, line_of_entry, line_of_list, lines_of, text_of}
-use Rattle.save_file.specs.CarriedText.{CarriedLine, CarriedText, HasItsForm, IsBelowNext, IsCarried, IsInOrder, IsShort, NamesOther, Pairs, SharesNone, carried, collection, entry, has_its_member, is_collection, lists_member}
-use Rattle.save_file.specs.Carrying.{AreOfKept, IsCarryOf, kept_collection, kept_value}
+use Rattle.save_file.specs.CarriedParsing.{lines_of}
+use Rattle.save_file.specs.CarriedText.{entry}
 use Rattle.save_file.specs.Keeping.{IsPlaced}
 use Rattle.save_file.specs.Resuming.{CarryingGivesTheSame, IsResumeOf, LimitsAllowWhatStands, NoOverrideStands, SetSaysTheReason, DroppedLine, DroppedWhereNotKept, all_dropped, fact_refusals, overrides, reason_of, dropped_from, dropped_where, without_overrides}
-use Rattle.save_file.specs.declared.carried_line.EntryLine.{EntryLine}
-use Rattle.save_file.specs.declared.carried_line.ListLine.{ListLine}
-use Rattle.save_file.specs.declared.carried_read.CarriedRead.{CarriedRead}
 use Rattle.save_file.specs.declared.reason.Reason.TheVariants.{NoCollection, Refused as RefusedBy}
 use Rattle.save_file.specs.declared.reason.Reason.{Reason}
 

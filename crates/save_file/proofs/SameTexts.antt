@@ -1,72 +1,28 @@
 -- The saved text of answers that fit an accepted dictionary: it is a carried text, it tells its answers, and its own dictionary keeps its lines, but for answers that are refused now.
 use Rattle.save_file.specs.SavedLines.{EachAnswerIsKeptOrListed, HasALineEach, IsOnlyAt, IsSaid, KeepsOrListsAll, SavedTextsHaveALineEach}
-use Rattle.std.proofs.lemmas.Option.{none-some, same_Some}
 use Rattle.std.proofs.Common.{Bool, Contains, IsSome, List, None, Option, Some, [], ap, append_assoc, arith, bytes_eq, cond, false, if◌then◌else◌, inl, inr, is_none, is_some, length, map, nat_eq, refl, slice_get, subst, suc, sym, true, unwrap_or, zero, ℕ, ◌&&◌, ◌++◌, ◌+◌, ◌<◌, ◌∙◌, ◌∷◌, ◌≡◌, ◌≤◌, ◌⊎◌}
-use Rattle.std.proofs.lemmas.Bool.{false_from_ne_true, ltb-false}
-use Rattle.std.proofs.lemmas.List.Folds.{list_any-append}
-use Rattle.std.proofs.lemmas.List.{map-append}
 use Rattle.std.specs.FinMap as map
-use Rattle.std.specs.List.{AllByRecursion, list_any}
-use Rattle.std.specs.Prelude.{IsTrue, codes, count_by, nat_lt, option_map, sum_by}
-use Rattle.answers.proofs.FiniteLaws.{same}
-use Rattle.answers.specs.Answered.{Answered, list_of, value_of}
-use Rattle.answers.specs.Lists.{IsIn}
-use Rattle.answers.specs.declared.edit.Side.TheVariants.{Answer, Override}
-use Rattle.answers.specs.declared.edit.Side.{Side}
-use Rattle.common_lemmas.proofs.Bools.{and_intro, both, or_left, or_neither, or_right}
-use Rattle.common_lemmas.proofs.Bytes.{equal_bytes}
-use Rattle.common_lemmas.proofs.Numbers.{equal_number, same_number}
-use Rattle.common_lemmas.proofs.Options.{mapped}
-use Rattle.dict_tree.specs.Dictionary.{Dictionary as Tree, is_collection as is_collection_type, too_many}
-use Rattle.dict_tree.specs.Facts.{Fact, fact_size}
-use Rattle.dict_tree.specs.Finding.{HasPath, fact_at}
-use Rattle.dictionary.proofs.HomeLaws.{home_is_collection, text_spells}
-use Rattle.dictionary.proofs.SlotLaws.{fact_of_standing, slot_same-itself}
-use Rattle.dictionary.proofs.SlotTextLaws.{member_below, slot_short}
-use Rattle.dictionary.specs.Accepted.{Accepted, IsAccepted, names_of}
-use Rattle.dictionary.specs.Fits.{AnswersFit, is_list, opens_of, takes}
-use Rattle.dictionary.specs.Homes.{home}
-use Rattle.dictionary.specs.Dependencies.{slot}
-use Rattle.dictionary.specs.SlotText.{IsSlot, slot_path, slot_path_of, slot_text}
-use Rattle.dictionary.specs.Slots.{is_member, slot_same, stands}
+use Rattle.std.specs.Prelude.{IsTrue}
+use Rattle.save_file.proofs.Common.{Accepted, AllByRecursion, Answer, Answered, AnswersFit, AreLists, AreSlots, BadValue, CarriedLine, CarriedText, Fact, FactPath, Global, HasItsForm, HasPath, IsAccepted, IsBelowNext, IsCarried, IsCarry, IsCarryOf, IsIn, IsInOrder, IsKeptOrListed, IsName, IsRefusedAnswer, IsShort, IsSlot, IsSlotPath, NamesOther, Override, OwnLinesAreKept, Pairs, Refusal, Rules, SavedTextsAreCarried, SavedTextsTellAnswers, SharesNone, Side, Slot, SlotPath, Tree, Value, and_intro, both, carried, carried_lines, codes, collection, count_by, end_line, entries, entry_line, entry_lines, entry_lines_of, equal_bytes, fact_at, fact_of, fact_of_standing, fact_size, facts, false_from_ne_true, first_of, has_its_member, home, home_is_collection, is_collection_type, is_list, is_member, joined, keeps, key_text, limit_refusals, line_text, list_any, list_any-append, list_line, list_lines, list_lines_of, list_of, lists, lists_member, lists_member_of, ltb-false, map-append, mapped, member_below, named_fact, names_of, nat_lt, next_line, none-some, opening_line, opens_of, option_map, or_left, path_of, printed, printed_rest, rank, same, same_Some, same_number, saved, saved_lines, side_word, slot, slot_path, slot_path_text, slot_same, slot_same-itself, slot_short, slot_text, slots, stands, sum_by, takes, text_spells, too_many, tree_of, value_of, value_refusals, value_spelled, when}
+use Rattle.dictionary.specs.SlotText.{slot_path_of}
 use Rattle.evaluation.proofs.MemberLaws.{member_list-length}
-use Rattle.fact_paths.specs.Names.{IsName}
-use Rattle.fact_paths.specs.Paths.{IsSlotPath, slot_path_text}
 use Rattle.fact_paths.specs.declared.fact_path.FactPath.TheVariants as facts_by
-use Rattle.fact_paths.specs.declared.fact_path.FactPath.{FactPath}
 use Rattle.fact_paths.specs.declared.slot_path.SlotPath.TheVariants as paths
-use Rattle.fact_paths.specs.declared.slot_path.SlotPath.TheVariants.{Global}
-use Rattle.fact_paths.specs.declared.slot_path.SlotPath.{SlotPath}
-use Rattle.fact_values.specs.declared.slot.Slot.{Slot}
-use Rattle.fact_values.specs.declared.value.Value.{Value}
-use Rattle.graph_session.specs.Kinds.{value_spelled}
-use Rattle.graph_session.specs.Naming.{fact_of, named_fact, path_of}
-use Rattle.graph_session.specs.Refusals.{first_of, limit_refusals, value_refusals, when}
-use Rattle.graph_session.specs.Rules.{Rules, tree_of}
-use Rattle.graph_session.specs.declared.reply.Refusal.TheVariants.{BadValue}
-use Rattle.graph_session.specs.declared.reply.Refusal.{Refusal}
 use Rattle.save_file.proofs.CarriedAnswers.{named_kept}
 use Rattle.save_file.proofs.CarriedEnds.{are_lines}
 use Rattle.save_file.proofs.CarriedLines.{entry_pieces, few_lists, higher, in_order, names_other, shares_none}
 use Rattle.save_file.proofs.CarryLaws.{kept_or_listed, one_text, same_options, there_at}
 use Rattle.save_file.proofs.EntriesFollow.{at_one}
 use Rattle.save_file.proofs.LineTexts.{IsLine, entry_short, list_short, rest_short, value_short}
-use Rattle.save_file.proofs.Lines.{across, all_of, all_shown, any_counted, any_keys, counted_rise, each_shown, few_shown, first_or, map_shown, mapped_at, none_there, one_of_all, onto, pairs-append, pairs_shown, shown}
+use Rattle.save_file.proofs.Lines.{across, all_of, all_shown, any_counted, counted_rise, each_shown, everywhere, few_shown, first_or, map_shown, mapped_at, none_there, one_of_all, onto, pairs-append, pairs_shown, shown}
 use Rattle.save_file.proofs.ListsFollow.{at_counted, list_within}
 use Rattle.save_file.proofs.SlotTexts.{entry_slot, found_at, list_slot, members_numbered, numbers_of, of_type, one_slot, open_list, open_list_members, path_parts, printed_line, printed_read, same_behind}
 use Rattle.save_file.proofs.SlotsLeft.{all_slots, none_outside, same_answers}
 use Rattle.save_file.proofs.TextLaws.{all-append, all_behind, in_front}
-use Rattle.save_file.specs.CarriedText.{CarriedLine, CarriedText, HasItsForm, IsBelowNext, IsCarried, IsInOrder, IsShort, NamesOther, Pairs, SharesNone, carried, carried_lines, collection, entry, has_its_member, key_text, line_text, lists_member, lists_member_of, rank}
-use Rattle.save_file.specs.Carrying.{IsCarry, IsCarryOf, IsKeptOrListed, IsRefusedAnswer, OwnLinesAreKept, SavedTextsAreCarried, keeps}
-use Rattle.save_file.specs.Following.{AreSlots}
-use Rattle.save_file.specs.Loading.{SavedTextsTellAnswers}
-use Rattle.save_file.specs.SavedText.{end_line, entries, entry_line, entry_lines, entry_lines_of, facts, list_line, list_lines, list_lines_of, lists, next_line, opening_line, saved, saved_lines, side_word, slots}
-use Rattle.script_lines.specs.Joined.{joined}
+use Rattle.save_file.specs.CarriedText.{entry}
 use Rattle.value_text.proofs.EnumLemmas.{name_short}
 use Rattle.value_text.proofs.PrintedTexts.{value_spelled as printed_spelled}
-use Rattle.value_text.specs.Enums.{AreLists}
-use Rattle.value_text.specs.MemberTexts.{printed_rest}
-use Rattle.value_text.specs.Values.{printed}
+use Rattle.save_file.proofs.MemberParsing.{each_in, none_same}
 
 -- ==== the saved text of answers that fit an accepted dictionary is a carried text
 
@@ -101,17 +57,6 @@ opened None h = absurd cc
 opened (Some f) h = (f, refl, h)
 
 -- ---- members
-
-each_in : (P : ℕ → Type 0) (ms : List ℕ) → ((m : ℕ) → IsIn m ms → P m) → AllByRecursion P ms
-each_in P [] all = tt
-each_in P (m ∷ ms) all = (
-  all m (or_left (nat_eq m m) (list_any (nat_eq m) ms) (equal_number m)),
-  each_in P ms (λ k i. all k (or_right (nat_eq k m) (list_any (nat_eq k) ms) i)),
-)
-
-none_same : {X : Type 0} (p : X → Bool) (xs : List X) → list_any p xs ≡ false → AllByRecursion (λ x. p x ≡ false) xs
-none_same p [] out = tt
-none_same p (x ∷ xs) out = let parts = or_neither (p x) (list_any p xs) out in (parts.0, none_same p xs parts.1)
 
 apart_slots : (d : Tree) (a : Answered) (ss : List Slot) → AreSlots d a ss → Pairs (λ (s t : Slot). slot_same s t ≡ false) ss
 apart_slots d a [] all = tt
@@ -186,7 +131,7 @@ module _ (names : List (List ℕ)) (d : Accepted) (is : IsAccepted names d) (enu
   of_lists P each =
       all_shown (list_at d.tree a) (λ (c : ℕ). Unit {0}) P
       (λ c x all e. let parts = mapped (collection (name_of d.tree c)) (map.get a.lists c) x e in subst P (sym parts.2) (each c parts.0 parts.1))
-      (facts d.tree) (any_keys (facts d.tree))
+      (facts d.tree) (everywhere (λ (c : ℕ). Unit {0}) (λ c. tt) (facts d.tree))
 
   list_members : (c : ℕ) (ms : List ℕ) → map.get a.lists c ≡ Some ms → (m : ℕ) → IsIn m ms → IsIn m (list_of a c)
   list_members c ms has m i = subst (IsIn m) (sym (ap (λ (o : Option (List ℕ)). unwrap_or o []) has)) i
@@ -205,7 +150,7 @@ module _ (names : List (List ℕ)) (d : Accepted) (is : IsAccepted names d) (enu
   of_side P side each =
       all_shown (entry_at d.tree a side) (λ (s : Slot). Unit {0}) P
       (λ s x all e. let parts = mapped (λ (v : Value). entry side (path_at d.tree s) (printed d.tree.enums v)) (value_of side a s) x e in subst P (sym parts.2) (each s parts.0 parts.1))
-      (slots d.tree a) (any_keys (slots d.tree a))
+      (slots d.tree a) (everywhere (λ (s : Slot). Unit {0}) (λ s. tt) (slots d.tree a))
 
   pub of_all : (P : CarriedLine → Type 0) → ((c : ℕ) (ms : List ℕ) → map.get a.lists c ≡ Some ms → P (collection (name_of d.tree c) ms))
       → ((side : Side) (s : Slot) (v : Value) → value_of side a s ≡ Some v → P (entry side (path_at d.tree s) (printed d.tree.enums v))) → AllByRecursion P (all_parts d.tree a)

@@ -1,61 +1,28 @@
 -- The texts of slots, of lists and of values.
 use Rattle.std.proofs.Common.{Bool, IsSome, IsTrue, List, None, Option, Some, [], ap, arith, false, inl, inr, is_some, length, length-append, nat_le, refl, subst, sym, true, ℕ, ◌&&◌, ◌++◌, ◌+◌, ◌∙◌, ◌∷◌, ◌≡◌, ◌≤◌, ◌⊎◌}
-use Rattle.std.proofs.lemmas.Bool.Decides.{nat_tests}
-use Rattle.std.proofs.lemmas.Bool.{cases_lt, leb-true}
-use Rattle.std.proofs.lemmas.List.{append-nil}
-use Rattle.std.proofs.lemmas.Option.{none-some, same_Some, some_pair_parts}
 use Rattle.std.specs.FinMap as map
-use Rattle.std.specs.List.{AllByRecursion, list_all}
-use Rattle.std.specs.Prelude.{decimal, nat_lt, option_and_then}
-use Rattle.answers.specs.Answered.{Answered, value_of}
-use Rattle.answers.specs.declared.edit.Side.TheVariants.{Answer, Override}
-use Rattle.answers.specs.declared.edit.Side.{Side}
-use Rattle.common_lemmas.proofs.Bools.{both, both_left, both_right, or_left, or_right}
-use Rattle.common_lemmas.proofs.Options.{both_some, mapped}
+use Rattle.save_file.proofs.Common.{Accepted, AllByRecursion, Answer, Answered, AnswersFit, AreLists, Fact, FactPath, FactType, HasPath, IsAccepted, IsMemberList, IsMemberNumber, IsPrinted, IsSlot, Lacks, Override, Side, Slot, SlotPath, SpellsSlotPath, Tree, Value, after, after-append, append-nil, both, both_left, both_right, both_some, cases_lt, cut, cut-append, cut-lacks, decimal, domains, fact_at, fact_within, find_path, global_has_none, is_answered_by, is_given, is_list, is_overridden_by, leb-true, list_all, mapped, nat_lt, nat_tests, none-some, opens_of, option_and_then, option_at, or_left, or_right, printed, printed_item, printed_rest, same_Some, slot, slot_lacks_blank, slot_path, slot_path_reading, slot_text, some_pair_parts, standing_slot, stands, takes, text_spells, value_at, value_of, value_spelled}
 use Rattle.dict_tree.proofs.FindingLaws.{find_path-first, find_path-none}
-use Rattle.dict_tree.specs.Dictionary.{Dictionary as Tree}
-use Rattle.dict_tree.specs.Facts.{Fact}
-use Rattle.dict_tree.specs.Finding.{HasPath, fact_at, find_path}
 use Rattle.dict_types.specs.DuplicatePath.{is_before, is_taken}
 use Rattle.dict_types.specs.StatedTypes.{type_at}
 use Rattle.dictionary.proofs.ExtensionLaws.{is_placed, list_home}
-use Rattle.dictionary.proofs.HomeLaws.{global_has_none, text_spells}
 use Rattle.dictionary.proofs.ListTypes.{open_members}
-use Rattle.dictionary.proofs.NumberLaws.{fact_within}
 use Rattle.dictionary.proofs.PrintedLaws.{value_printed}
-use Rattle.dictionary.proofs.SlotTextLaws.{standing_slot}
-use Rattle.dictionary.specs.Accepted.{Accepted, IsAccepted}
-use Rattle.dictionary.specs.Fits.{AnswersFit, domains, is_answered_by, is_list, is_overridden_by, opens_of, takes}
-use Rattle.dictionary.specs.Dependencies.{slot}
-use Rattle.dictionary.specs.SlotText.{IsSlot, slot_path, slot_path_of, slot_text}
-use Rattle.dictionary.specs.Slots.{stands}
+use Rattle.dictionary.specs.SlotText.{slot_path_of}
 use Rattle.evaluation.specs.Typed.{IsOfType}
-use Rattle.fact_paths.proofs.CutLaws.{after-append, cut-append, cut-lacks}
 use Rattle.fact_paths.proofs.MemberNumbers.{decimal_lacks, member_number-decimal}
 use Rattle.fact_paths.proofs.ParsingLaws.{one_path_from}
-use Rattle.fact_paths.proofs.SlotPathLaws.{slot_lacks_blank, slot_path_reading}
-use Rattle.fact_paths.specs.Cuts.{Lacks, after, cut}
-use Rattle.fact_paths.specs.Paths.{IsMemberNumber, SpellsSlotPath}
 use Rattle.fact_paths.specs.Parsing.{member_number_of, slot_path_of as read_slot_path}
 use Rattle.fact_paths.specs.declared.fact_path.FactPath.TheVariants as facts
-use Rattle.fact_paths.specs.declared.fact_path.FactPath.{FactPath}
-use Rattle.fact_paths.specs.declared.slot_path.SlotPath.{SlotPath}
 use Rattle.fact_values.specs.Members as numbers
-use Rattle.fact_values.specs.Members.{IsMemberList}
 use Rattle.fact_values.specs.declared.fact_type.FactType.TheVariants as types
-use Rattle.fact_values.specs.declared.fact_type.FactType.{FactType}
-use Rattle.fact_values.specs.declared.slot.Slot.{Slot}
 use Rattle.fact_values.specs.declared.value.Value.TheVariants as values
-use Rattle.fact_values.specs.declared.value.Value.{Value}
 use Rattle.graph_session.proofs.TypeLaws.{given_read}
-use Rattle.graph_session.specs.Kinds.{is_given, value_spelled}
 use Rattle.save_file.proofs.LineTexts.{IsLine, slot_line, value_line}
 use Rattle.value_text.proofs.PrintedTexts.{value_spelled as printed_spelled}
 use Rattle.value_text.proofs.TypeLaws.{read_printed}
-use Rattle.value_text.specs.Enums.{AreLists, option_at}
-use Rattle.value_text.specs.MemberTexts.{printed_item, printed_rest}
 use Rattle.value_text.specs.ValueLaws.{IsValueOf}
-use Rattle.value_text.specs.Values.{IsPrinted, IsRead, printed, value_at}
+use Rattle.value_text.specs.Values.{IsRead}
 
 -- ==== the text of a slot has no blank, and no other slot has it
 

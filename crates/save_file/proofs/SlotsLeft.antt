@@ -1,37 +1,11 @@
 -- The slots that stand, each once, and answers that have the same.
 use Rattle.std.proofs.Common.{Bool, IsSome, IsTrue, List, None, Option, Some, [], ap, arith, drop, false, get_or, if◌then◌else◌, is_some, length, map, nat_eq, refl, subst, suc, sym, true, unwrap_or, zero, ℕ, ◌&&◌, ◌++◌, ◌+◌, ◌-◌, ◌<◌, ◌||◌, ◌∙◌, ◌∷◌, ◌≡◌, ◌≤◌}
-use Rattle.std.proofs.lemmas.Bool.Decides.{nat_tests}
-use Rattle.std.proofs.lemmas.Bool.{eqb-true}
 use Rattle.std.proofs.lemmas.List.Concat.{flat_map-append}
-use Rattle.std.proofs.lemmas.List.Folds.{list_any-append}
-use Rattle.std.proofs.lemmas.List.{append-nil}
 use Rattle.std.specs.FinMap as map
-use Rattle.std.specs.List.{flat_map, list_any}
+use Rattle.dictionary.specs.Slots.{standing}
+use Rattle.save_file.proofs.Common.{Answer, Answered, AnswersFit, AreSlots, Entry, FromOne, IsIn, IsListed, Numbered, Once, Override, Side, Slot, Tree, Value, WellFormed, and_then, append-nil, both, counted, eqb-true, equal_number, fact_there, facts, flat_map, home, is_member, list_any, list_any-append, list_of, listed_stand, members_of_home, nat_tests, neither_or, none_some, of_side, or_left, or_neither, or_right, same, same_number, slot, slot_same, slot_same-equal, slot_same-itself, slots, slots_from, slots_left, slots_of, slots_up_to, stands, stands_where, takes, value_of}
 use Rattle.answers.proofs.ChangeLaws.{answered_same}
-use Rattle.answers.proofs.FiniteLaws.{same}
 use Rattle.answers.proofs.SideLaws.{entry_same}
-use Rattle.answers.proofs.StandLaws.{none_some}
-use Rattle.answers.specs.Answered.{Answered, Entry, list_of, of_side, value_of}
-use Rattle.answers.specs.Change.{IsListed}
-use Rattle.answers.specs.Finite.{Numbered, and_then}
-use Rattle.answers.specs.Lists.{IsIn, Once}
-use Rattle.answers.specs.WellFormed.{FromOne, WellFormed}
-use Rattle.answers.specs.declared.edit.Side.TheVariants.{Answer, Override}
-use Rattle.answers.specs.declared.edit.Side.{Side}
-use Rattle.common_lemmas.proofs.Bools.{both, neither_or, or_left, or_neither, or_right}
-use Rattle.common_lemmas.proofs.Numbers.{same_number}
-use Rattle.dict_tree.specs.Dictionary.{Dictionary as Tree}
-use Rattle.dictionary.proofs.NumberLaws.{fact_there}
-use Rattle.dictionary.proofs.SlotLaws.{listed_stand, slot_same-equal, slot_same-itself, stands_where}
-use Rattle.dictionary.specs.Fits.{AnswersFit, takes}
-use Rattle.dictionary.specs.Homes.{home}
-use Rattle.dictionary.specs.Dependencies.{slot}
-use Rattle.dictionary.specs.Slots.{is_member, members_of_home, slot_same, slots_of, slots_up_to, standing, stands}
-use Rattle.fact_values.specs.declared.slot.Slot.{Slot}
-use Rattle.fact_values.specs.declared.value.Value.{Value}
-use Rattle.save_file.specs.Cursors.{slots_from, slots_left}
-use Rattle.save_file.specs.Following.{AreSlots}
-use Rattle.save_file.specs.SavedText.{counted, facts, slots}
 use Rattle.save_file.specs.declared.cursor.Cursor.{Cursor}
 
 -- ==== how a cursor goes through the slots that stand
@@ -105,26 +79,17 @@ other_fact : (s : Slot) (f : ℕ) (ms : List ℕ) → nat_eq s.fact f ≡ false 
 other_fact s f [] other = refl
 other_fact s f (m ∷ ms) other = neither_or (nat_eq s.fact f && nat_eq s.member m) (list_any (slot_same s) (map (slot f) ms)) (ap (λ (b : Bool). b && nat_eq s.member m) other) (other_fact s f ms other)
 
-own_fact : (f m : ℕ) (ms : List ℕ) → list_any (nat_eq m) ms ≡ false → list_any (slot_same (slot f m)) (map (slot f) ms) ≡ false
-own_fact f m [] out = refl
-own_fact f m (k ∷ ms) out =
-    let parts = or_neither (nat_eq m k) (list_any (nat_eq m) ms) out in
-    neither_or (nat_eq f f && nat_eq m k) (list_any (slot_same (slot f m)) (map (slot f) ms)) (not_both (nat_eq f f) (nat_eq m k) parts.0) (own_fact f m ms parts.1)
-  where
-    not_both : (a b : Bool) → b ≡ false → (a && b) ≡ false
-    not_both true b e = e
-    not_both false b e = refl
+member_in : (f m : ℕ) (ms : List ℕ) → list_any (slot_same (slot f m)) (map (slot f) ms) ≡ list_any (nat_eq m) ms
+member_in f m [] = refl
+member_in f m (k ∷ ms) = rw (equal_number f, member_in f m ms) refl
 
 of_members : (d : Tree) (b : Answered) (f : ℕ) (ms : List ℕ) → Once ms → ((m : ℕ) → list_any (nat_eq m) ms ≡ true → IsTrue (stands d b (slot f m))) → AreSlots d b (map (slot f) ms)
 of_members d b f [] once all = tt
 of_members d b f (m ∷ ms) once all = (
-  all m (or_left (nat_eq m m) (list_any (nat_eq m) ms) (itself m)),
-  own_fact f m ms once.0,
+  all m (or_left (nat_eq m m) (list_any (nat_eq m) ms) (equal_number m)),
+  member_in f m ms ∙ once.0,
   of_members d b f ms once.1 (λ k i. all k (or_right (nat_eq k m) (list_any (nat_eq k) ms) i)),
 )
-  where
-    itself : (m : ℕ) → nat_eq m m ≡ true
-    itself m = grind (arith, nat_tests)
 
 of_home : (d : Tree) (b : Answered) → WellFormed b → (f h : ℕ) (once : Bool) → ((m : ℕ) → IsTrue (if once then nat_eq m 0 else is_member b h m) → IsTrue (stands d b (slot f m))) → AreSlots d b (map (slot f) (if once then 0 ∷ [] else list_of b h))
 of_home d b well f h true all = (all 0 refl, refl, tt)

@@ -1,19 +1,10 @@
 -- Bytes and their lines.
 use Rattle.std.proofs.Common.{Bool, List, None, Some, [], ap, append_assoc, arith, false, length, length-append, nat_eq, refl, slice_get, subst, suc, sym, take, true, zero, ℕ, ◌++◌, ◌-◌, ◌<◌, ◌∙◌, ◌∷◌, ◌≡◌, ◌≢◌, ◌≤◌}
-use Rattle.std.proofs.lemmas.Bool.Decides.{nat_tests}
-use Rattle.std.proofs.lemmas.Bool.{eqb-true}
-use Rattle.std.proofs.lemmas.List.Elements.{All-cons, All-nil}
-use Rattle.std.proofs.lemmas.List.{append-nil}
-use Rattle.std.proofs.lemmas.Option.{none-some, same_Some}
-use Rattle.std.specs.List.{AllByRecursion}
-use Rattle.std.specs.Prelude.{if◌then◌else◌, ◌==◌, ◌↔◌}
-use Rattle.common_lemmas.proofs.Numbers.{same_number}
+use Rattle.std.specs.Prelude.{if◌then◌else◌}
+use Rattle.save_file.proofs.Common.{All-cons, All-nil, AllByRecursion, Begins, HasNoNewline, IsRefusedAt, append-nil, eqb-true, first_lines, joined, lines_of-newline, nat_tests, none-some, onto_first, same_Some, same_number, ◌==◌, ◌↔◌}
 use Rattle.save_file.proofs.LineTexts.{IsLine}
-use Rattle.save_file.specs.Loading.{Begins, IsRefusedAt, first_lines}
-use Rattle.script_lines.proofs.Bytes.{lines_of-newline}
 use Rattle.script_lines.proofs.JoinedLaws.{joined-append}
-use Rattle.script_lines.specs.Joined.{joined}
-use Rattle.script_lines.specs.Lines.{HasNoNewline, lines_of, onto_first}
+use Rattle.script_lines.specs.Lines.{lines_of}
 
 -- ==== bytes and their lines
 
