@@ -29,7 +29,7 @@ use Rattle.recalc.specs.Replacing.{entries, slots_of}
 use Rattle.recalc.specs.Running.{AreCells, AreRanked, AreWaiting, propagation_visits, propagation_weight, HasRun, IsPropagation, IsRunning, is_that, live_results, Setting, slots_done, stamped_cell, waits_in}
 use Rattle.recalc.specs.Spread.{is_in, Spread}
 use Rattle.recalc.specs.EngineInvariant.{results_of, setting_from, stamp_in, start_setting, without_gone}
-use Rattle.recalc.specs.Waiting.{DirtySlots}
+use Rattle.dirty_slots.specs.Waiting.{DirtySlots}
 use Rattle.recalc.specs.declared.engine_state.EngineState.{EngineState}
 use Rattle.recalc.specs.declared.log.Replaced.{Replaced}
 use Rattle.recalc.proofs.BetweenLaws.{all_is_done, are_between, edit_marks, start_passes, start_touches_all, touched_weigh, undone_passes}

@@ -1,10 +1,8 @@
 pub mod BetweenLaws
-pub mod DirtyLaws
 pub mod EngineLaws
 pub mod EvaluatingLaws
 pub mod ForgettingLaws
 pub mod MarkingLaws
-pub mod NotedLaws
 pub mod Outcomes
 pub mod TransitionLaws
 pub mod ReaderLaws

@@ -18,8 +18,8 @@ use Rattle.dep_index.specs.Laws.{reads}
 use Rattle.dep_index.specs.declared.row.ReaderOf.{ReaderOf}
 use Rattle.dep_index.proofs.FeedLaws.{feeds_by_readers}
 use Rattle.recalc.specs.Readers.{dirty_of, marks, marks_at, marks_of, MarksFeed, reads_at}
-use Rattle.recalc.specs.Waiting.{dirty_same}
-use Rattle.recalc.specs.declared.dirty_queue.DirtySlot.{DirtySlot}
+use Rattle.dirty_slots.specs.Waiting.{dirty_same}
+use Rattle.dirty_slots.specs.declared.dirty_slot.DirtySlot.{DirtySlot}
 use Rattle.recalc.proofs.SlotLists.{either}
 use Rattle.dictionary.proofs.BodyLaws.{swapped}
 

@@ -27,11 +27,11 @@ use Rattle.recalc.specs.Readers.{dirty_of, marks}
 use Rattle.recalc.specs.Replacing.{entries, slots_of}
 use Rattle.recalc.specs.Running.{AreCells, propagation_visits, propagation_weight, HasTurned, IsPropagation, IsPopped, IsRunning, is_that, marks_now, live_results_in, Setting, slot_of, slots_done, stamped_cell, waits_in}
 use Rattle.recalc.specs.Spread.{is_in, Spread}
-use Rattle.recalc.specs.Waiting.{dirty_same, DirtySlots, waits}
+use Rattle.dirty_slots.specs.Waiting.{dirty_same, DirtySlots, waits}
 use Rattle.recalc.specs.declared.log.Replaced.{Replaced}
-use Rattle.recalc.specs.declared.dirty_queue.DirtySlot.{DirtySlot}
+use Rattle.dirty_slots.specs.declared.dirty_slot.DirtySlot.{DirtySlot}
 use Rattle.recalc.specs.declared.engine_state.EngineState.{EngineState}
-use Rattle.recalc.proofs.DirtyLaws.{dirty_turn}
+use Rattle.dirty_slots.proofs.DirtyLaws.{dirty_turn}
 use Rattle.recalc.proofs.MarkingLaws.{turn_marks}
 use Rattle.recalc.proofs.TransitionLaws.{all_new, feeds_now, new_below, number_of_standing, turn_keeps_results}
 use Rattle.recalc.proofs.ReaderLaws.{marks_feed, marks_rank}

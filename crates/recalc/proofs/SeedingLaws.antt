@@ -37,9 +37,9 @@ use Rattle.dictionary.proofs.SlotLaws.{fact_of_standing, slot_same-equal, slot_s
 use Rattle.recalc.specs.Readers.{dirty_of}
 use Rattle.recalc.specs.Running.{AreWaiting}
 use Rattle.recalc.specs.Seeding.{came_by, field_at, is_anywhere, is_at, is_came, is_field, is_own, is_slot}
-use Rattle.recalc.specs.Waiting.{dirty_same, DirtySlots, waits}
+use Rattle.dirty_slots.specs.Waiting.{dirty_same, DirtySlots, waits}
 use Rattle.recalc.specs.declared.undone.Came.{Came}
-use Rattle.recalc.specs.declared.dirty_queue.DirtySlot.{DirtySlot}
+use Rattle.dirty_slots.specs.declared.dirty_slot.DirtySlot.{DirtySlot}
 use Rattle.recalc.proofs.RunningLaws.{same_tests}
 use Rattle.recalc.proofs.ReaderLaws.{home_has}
 use Rattle.recalc.proofs.SlotLists.{either}

@@ -11,8 +11,8 @@ use Rattle.dictionary.specs.Plain.{plain}
 use Rattle.recalc.specs.Replacing.{entries}
 use Rattle.recalc.specs.Running.{HasTurned, is_that, let_by_all, live_results, live_results_in, Setting, stamped_cell}
 use Rattle.recalc.specs.Transitions.{moves}
-use Rattle.recalc.specs.Waiting.{waits}
-use Rattle.recalc.specs.declared.dirty_queue.DirtySlot.{DirtySlot}
+use Rattle.dirty_slots.specs.Waiting.{waits}
+use Rattle.dirty_slots.specs.declared.dirty_slot.DirtySlot.{DirtySlot}
 use Rattle.recalc.specs.declared.engine_state.EngineState.{EngineState}
 
 -- a live slot moves where its cell had another result

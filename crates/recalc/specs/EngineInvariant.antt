@@ -16,9 +16,9 @@ use Rattle.dictionary.specs.Engines.{Marks}
 use Rattle.dictionary.specs.Undone.{is_extended}
 use Rattle.recalc.specs.Replacing.{entries}
 use Rattle.recalc.specs.Running.{Setting}
-use Rattle.recalc.specs.Waiting.{waits}
+use Rattle.dirty_slots.specs.Waiting.{waits}
 use Rattle.recalc.specs.declared.dependency_graph.DependencyGraph.{DependencyGraph}
-use Rattle.recalc.specs.declared.dirty_queue.DirtySlot.{DirtySlot}
+use Rattle.dirty_slots.specs.declared.dirty_slot.DirtySlot.{DirtySlot}
 use Rattle.recalc.specs.declared.engine_state.EngineState.{EngineState}
 
 abbrev pub results_of : Cells → Results

@@ -10,4 +10,3 @@ pub mod Seeding
 pub mod Spread
 pub mod Updates
 pub mod EngineInvariant
-pub mod Waiting

@@ -11,8 +11,8 @@ use Rattle.dictionary.specs.Dependencies.{slot}
 use Rattle.dictionary.specs.Slots.{members_of_home, stands}
 use Rattle.dep_index.specs.Readers.{AreReaders}
 use Rattle.dep_index.specs.declared.row.ReaderOf.{ReaderOf}
-use Rattle.recalc.specs.Waiting.{dirty_same}
-use Rattle.recalc.specs.declared.dirty_queue.DirtySlot.{DirtySlot}
+use Rattle.dirty_slots.specs.Waiting.{dirty_same}
+use Rattle.dirty_slots.specs.declared.dirty_slot.DirtySlot.{DirtySlot}
 
 -- a slot with the rank of its fact
 abbrev pub dirty_of : Accepted → Slot → DirtySlot

@@ -20,8 +20,8 @@ use Rattle.recalc.specs.Marking.{IsMarked}
 use Rattle.recalc.specs.Transitions.{IsTransition, is_shielded, moves}
 use Rattle.recalc.specs.Readers.{dirty_of, marks, marks_of}
 use Rattle.recalc.specs.Replacing.{entries, slots_of}
-use Rattle.recalc.specs.Waiting.{DirtySlots, dirty_same, waits}
-use Rattle.recalc.specs.declared.dirty_queue.DirtySlot.{DirtySlot}
+use Rattle.dirty_slots.specs.Waiting.{DirtySlots, dirty_same, waits}
+use Rattle.dirty_slots.specs.declared.dirty_slot.DirtySlot.{DirtySlot}
 use Rattle.recalc.specs.declared.engine_state.EngineState.{EngineState}
 
 -- ---- what waits, as slots

@@ -10,9 +10,9 @@ use Rattle.dictionary.specs.Homes.{home}
 use Rattle.dictionary.specs.Plain.{rank}
 use Rattle.dictionary.specs.Slots.{members_of_home, slot_same}
 use Rattle.recalc.specs.Readers.{dirty_of}
-use Rattle.recalc.specs.Waiting.{dirty_same}
+use Rattle.dirty_slots.specs.Waiting.{dirty_same}
 use Rattle.recalc.specs.declared.undone.Came.{Came}
-use Rattle.recalc.specs.declared.dirty_queue.DirtySlot.{DirtySlot}
+use Rattle.dirty_slots.specs.declared.dirty_slot.DirtySlot.{DirtySlot}
 
 abbrev pub is_slot : Option Slot → Slot → Bool
 is_slot None s = false

@@ -1,12 +1,14 @@
 // What the engine works with.
-ghost use Rattle.std.specs.Prelude.{◌≡◌, ◌<◌, ◌^◌, IfOk};
+ghost use Rattle.std.specs.Prelude.{◌≡◌, IfOk};
 ghost use Rattle.cell_store.specs.Contents.{no_cells};
 ghost use Rattle.recalc.specs.EngineInvariant.{IsIdle};
 ghost use Rattle.recalc.specs.Replacing.{before, CanPutBack, entries};
 
-use crate::dirty_queue::DirtyQueue;
+use crate::global_places::global_places;
 use crate::log::Log;
 use cell_store::Store;
+use dictionary::Dictionary;
+use dirty_slots::DirtyQueue;
 use fact_values::NoMemory;
 use std::alloc::Global;
 
@@ -19,14 +21,15 @@ pub struct EngineState {
 }
 
 impl EngineState {
-    /// No cells. So many facts, by their numbers from 1, have a place.
-    pub fn new(alloc: Global, facts: usize) -> Result<EngineState, NoMemory>
-        requires { facts < 2 ^ 63 }
+    /// No cells. Each fact of the dictionary has a place.
+    pub fn new(alloc: Global, dict: &Dictionary) -> Result<EngineState, NoMemory>
         ensures cells { IfOk result (λ state. state.store.cells ≡ no_cells) }
         ensures idle { IfOk result (λ state. IsIdle state) }
     {
+        let facts = dict.source().facts().len();
         let store = Store::with_facts(alloc, facts)?;
-        let queue = DirtyQueue::new(alloc, facts)?;
+        let places = global_places(alloc, dict)?;
+        let queue = DirtyQueue::new(alloc, facts, places)?;
         let log = Log::new(alloc);
         Ok(EngineState { store, queue, log })
     }

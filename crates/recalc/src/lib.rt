@@ -3,10 +3,10 @@
 
 mod changing;
 mod dependency_graph;
-mod dirty_queue;
 mod engine_state;
 mod evaluating;
 mod forgetting;
+mod global_places;
 pub mod laws;
 mod live_cells;
 mod log;

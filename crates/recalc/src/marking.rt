@@ -12,14 +12,14 @@ ghost use Rattle.recalc.specs.Propagations.{setting_of};
 ghost use Rattle.recalc.specs.Transitions.{is_shielded};
 ghost use Rattle.recalc.specs.Readers.{marks_at, reads_at};
 ghost use Rattle.recalc.specs.Running.{let_by, let_by_all, live_results, shielded_in};
-ghost use Rattle.recalc.specs.Waiting.{waits};
-ghost use Rattle.recalc.specs.declared.dirty_queue.DirtySlot.{DirtySlot};
+ghost use Rattle.dirty_slots.specs.Waiting.{waits};
+ghost use Rattle.dirty_slots.specs.declared.dirty_slot.DirtySlot.{DirtySlot};
 
-use crate::dirty_queue::{DirtyQueue, DirtySlot};
 use crate::live_cells::LiveCells;
 use crate::propagation::Propagation;
 use cell_store::Store;
 use dep_index::ReaderOf;
+use dirty_slots::{DirtyQueue, DirtySlot};
 use fact_values::{NoMemory, Slot};
 use node_eval::Cells;
 use three_state::Res;

@@ -55,8 +55,7 @@ impl FactEngine for Recalc {
         ensures fresh { IfOk result (λ e. IsTrue true → AreFresh (marks_by e.changes e.state.store.cells e.touched)) }
     {
         let graph = DependencyGraph::new(alloc, dict)?;
-        let facts = dict.source().facts().len();
-        let mut state = EngineState::new(alloc, facts)?;
+        let mut state = EngineState::new(alloc, dict)?;
         start_uncounted::<Brand>(alloc, &graph, dict, answers, &mut state, Blank::new(1))?;
         state.log.clear();
         Ok(Recalc {

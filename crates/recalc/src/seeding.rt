@@ -9,13 +9,13 @@ ghost use Rattle.dictionary.specs.Slots.{members_of_home, stands};
 ghost use Rattle.dictionary.specs.Undone.{differs, is_touched_first, IsUndone};
 ghost use Rattle.recalc.specs.Running.{AreWaiting};
 ghost use Rattle.recalc.specs.Seeding.{field_at, is_anywhere, is_at, is_came, is_field, is_own, is_slot};
-ghost use Rattle.recalc.specs.Waiting.{waits};
-ghost use Rattle.recalc.specs.declared.dirty_queue.DirtySlot.{DirtySlot};
+ghost use Rattle.dirty_slots.specs.Waiting.{waits};
+ghost use Rattle.dirty_slots.specs.declared.dirty_slot.DirtySlot.{DirtySlot};
 
-use crate::dirty_queue::{DirtyQueue, DirtySlot};
 use crate::undone::{Came, newcomer};
 use answers::{Answers, Edit};
 use dictionary::Dictionary;
+use dirty_slots::{DirtyQueue, DirtySlot};
 use fact_values::{NoMemory, Slot};
 
 // Lets the slots of a fact at these members wait.

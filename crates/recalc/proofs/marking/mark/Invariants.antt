@@ -1,8 +1,8 @@
 use Rattle.std.proofs.Common.{◌≡◌, ◌||◌, drop}
 use Rattle.recalc.specs.Propagations.{setting_of}
 use Rattle.recalc.specs.Running.{let_by_all}
-use Rattle.recalc.specs.Waiting.{waits}
-use Rattle.recalc.specs.declared.dirty_queue.DirtySlot.{DirtySlot}
+use Rattle.dirty_slots.specs.Waiting.{waits}
+use Rattle.dirty_slots.specs.declared.dirty_slot.DirtySlot.{DirtySlot}
 use Rattle.recalc.proofs.marking.mark.Given as goal
 
 abbrev pub invariant-loop-reader : goal.invariant-loop-reader

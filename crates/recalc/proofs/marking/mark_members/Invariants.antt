@@ -3,8 +3,8 @@ use Rattle.std.specs.List.{list_any}
 use Rattle.recalc.specs.Propagations.{setting_of}
 use Rattle.recalc.specs.Readers.{marks_at}
 use Rattle.recalc.specs.Running.{shielded_in}
-use Rattle.recalc.specs.Waiting.{waits}
-use Rattle.recalc.specs.declared.dirty_queue.DirtySlot.{DirtySlot}
+use Rattle.dirty_slots.specs.Waiting.{waits}
+use Rattle.dirty_slots.specs.declared.dirty_slot.DirtySlot.{DirtySlot}
 use Rattle.recalc.proofs.marking.mark_members.Given as goal
 
 abbrev pub invariant-loop-member : goal.invariant-loop-member

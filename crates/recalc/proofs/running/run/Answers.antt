@@ -5,8 +5,8 @@ use Rattle.dictionary.specs.Weights.{slot_weight}
 use Rattle.visit_counts.specs.SlotVisits.{slot_visits}
 use Rattle.recalc.specs.Propagations.{setting_of, spread_of}
 use Rattle.recalc.specs.Running.{IsPopped, IsRunning, slot_of}
-use Rattle.recalc.specs.Waiting.{DirtySlots, waits}
-use Rattle.recalc.specs.declared.dirty_queue.DirtySlot.{DirtySlot}
+use Rattle.dirty_slots.specs.Waiting.{DirtySlots, waits}
+use Rattle.dirty_slots.specs.declared.dirty_slot.DirtySlot.{DirtySlot}
 use Rattle.recalc.specs.declared.engine_state.EngineState.{EngineState}
 use Rattle.recalc.proofs.RunningLaws.{ended_new, fewer, popped_below, popped_new, popped_number, popped_stands, done_more, steps_ended, steps_within, still_running, visits_ended}
 use Rattle.recalc.proofs.running.run.Goals as goal

@@ -7,7 +7,7 @@ use Rattle.dep_index.specs.declared.row.ReaderOf.{ReaderOf}
 use Rattle.dep_index.proofs.ReaderNumbers.{readers_are_facts}
 use Rattle.recalc.specs.Propagations.{setting_of}
 use Rattle.recalc.specs.Running.{let_by_all}
-use Rattle.recalc.specs.Waiting.{waits}
+use Rattle.dirty_slots.specs.Waiting.{waits}
 use Rattle.recalc.proofs.Outcomes.{on_ok_then}
 use Rattle.recalc.proofs.TransitionLaws.{number_of_standing}
 use Rattle.recalc.proofs.TurnLaws.{has_turned}

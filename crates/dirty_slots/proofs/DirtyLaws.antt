@@ -1,5 +1,5 @@
 -- The order of what waits.
-use Rattle.std.proofs.Common.{◌≡◌, ℕ, ◌≤◌, Bool, true, false, not, cond, ◌&&◌, ◌||◌, nat_eq, [], ◌∷◌, refl, sym, ap, ◌∙◌, arith}
+use Rattle.std.proofs.Common.{◌≡◌, ℕ, ◌<◌, ◌≤◌, Bool, true, false, not, cond, ◌&&◌, ◌||◌, nat_eq, [], ◌∷◌, refl, sym, ap, ◌∙◌, arith}
 use Rattle.std.specs.List.{list_any}
 use Rattle.std.specs.Ordering.{nat_cmp, is_eq, is_gt, ordering_then}
 use Rattle.std.specs.declared.cmp.Ordering.{Ordering}
@@ -7,8 +7,8 @@ use Rattle.std.specs.declared.cmp.Ordering.TheVariants.{Less, Equal, Greater}
 use Rattle.std.proofs.lemmas.Bool.Decides.{nat_tests}
 use Rattle.common_lemmas.proofs.Numbers.{nat_eq-comm}
 use Rattle.common_lemmas.proofs.Bools.{cond_or}
-use Rattle.recalc.specs.Waiting.{dirty_same, waits, DirtySlots}
-use Rattle.recalc.specs.declared.dirty_queue.DirtySlot.{DirtySlot}
+use Rattle.dirty_slots.specs.Waiting.{dirty_same, DirtySlots, waits}
+use Rattle.dirty_slots.specs.declared.dirty_slot.DirtySlot.{DirtySlot}
 
 abbrev pub dirty_cmp : DirtySlot → DirtySlot → Ordering
 dirty_cmp p q = ordering_then (nat_cmp p.rank q.rank) (ordering_then (nat_cmp p.fact q.fact) (nat_cmp p.member q.member))
@@ -59,3 +59,8 @@ added old new dirty q h = waits_cmp new q ∙ h ∙ cond_or (is_eq (dirty_cmp di
 
 pub lowest : (ds : DirtySlots) (dirty : DirtySlot) → ((q : DirtySlot) → list_any (λ k. is_eq (dirty_cmp q k)) ds ≡ true → is_gt (dirty_cmp dirty q) ≡ false) → (q : DirtySlot) → waits ds q ≡ true → dirty.rank ≤ q.rank
 lowest ds dirty h q i = rank_le dirty q (h q (sym (waits_cmp ds q) ∙ i))
+
+-- the first one waits, so what is of the lowest rank is below what it is below
+pub first_below : (ds : DirtySlots) (first : DirtySlot) (rank : ℕ) → list_any (λ k. is_eq (dirty_cmp first k)) ds ≡ true → first.rank < rank
+    → (dirty : DirtySlot) → ((q : DirtySlot) → waits ds q ≡ true → dirty.rank ≤ q.rank) → dirty.rank < rank
+first_below ds first rank there below dirty least = let le = least first (waits_cmp ds first ∙ there) in omega arith

@@ -1,5 +1,5 @@
-use Rattle.recalc.proofs.DirtyLaws.{lowest, taken}
-use Rattle.recalc.proofs.dirty_queue.DirtyQueue.pop.Goals as goal
+use Rattle.dirty_slots.proofs.DirtyLaws.{lowest, taken}
+use Rattle.dirty_slots.proofs.unplaced.UnplacedSlots.pop.Goals as goal
 
 pub returns-clause-rest : goal.returns-clause-rest
 returns-clause-rest c = rw (← c.self.view_is) (λ q. taken c.self.inside.dirty.keys c.pop_first.new.self.keys c.in_ok-dirty.dirty q (c.in_ok-dirty.ensures.updates.0 q))

@@ -1,6 +1,6 @@
-use Rattle.recalc.proofs.DirtyLaws.{added}
-use Rattle.recalc.proofs.NotedLaws.{noted_added}
-use Rattle.recalc.proofs.dirty_queue.DirtyQueue.insert.Goals as goal
+use Rattle.dirty_slots.proofs.DirtyLaws.{added}
+use Rattle.dirty_slots.proofs.NotedLaws.{noted_added}
+use Rattle.dirty_slots.proofs.unplaced.UnplacedSlots.insert.Goals as goal
 
 pub invariant_of-self-2 : goal.invariant_of-self-2
 invariant_of-self-2 c = rw c.note.ensures (noted_added c.self.inside.dirty.keys c.insert.new.self.keys c.self.inside.last.items c.args.dirty c.self.invariant

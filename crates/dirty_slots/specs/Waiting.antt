@@ -1,7 +1,7 @@
 -- Which slots wait, and which are noted.
 use Rattle.std.specs.Prelude.{Bool, false, ◌&&◌, IsTrue, nat_eq, List, Option, Some, None, slice_index_or}
 use Rattle.std.specs.List.{list_any}
-use Rattle.recalc.specs.declared.dirty_queue.DirtySlot.{DirtySlot}
+use Rattle.dirty_slots.specs.declared.dirty_slot.DirtySlot.{DirtySlot}
 
 abbrev pub DirtySlots : Type 0
 DirtySlots = List DirtySlot

@@ -1,31 +1,24 @@
-// The slots that wait, those of the lowest rank first.
+// The slots that wait and have no place, those of the lowest rank first.
 ghost use Rattle.std.specs.Prelude.{◌≡◌, ◌↔◌, ◌≤◌, ◌||◌, ◌&&◌, not, true, false, IfSome, IfNone, IsTrue, IfOk, OnOk, OnErr, ◌<◌, ◌^◌, slice_set};
-ghost use Rattle.recalc.specs.Waiting.{dirty_same, is_noted, waits};
-ghost use Rattle.recalc.specs.declared.dirty_queue.DirtySlot.{DirtySlot};
+ghost use Rattle.dirty_slots.specs.Waiting.{dirty_same, is_noted, waits};
+ghost use Rattle.dirty_slots.specs.declared.dirty_slot.DirtySlot.{DirtySlot as OneSlot};
 
+use crate::dirty_slot::DirtySlot;
 use fact_values::NoMemory;
 use std::alloc::Global;
 use std::collections::BTreeSet;
 use std::marker::Model;
 
-/// A slot that waits to be evaluated, with the rank of its fact.
-#[derive(Clone, Copy, PartialEq, Eq, PartialOrd, Ord)]
-pub struct DirtySlot {
-    pub rank: u32,
-    pub fact: u32,
-    pub member: u32,
-}
-
-/// The slots that wait. Contracts see a list, and ask it by `waits` alone.
+/// Slots that wait. Contracts see a list, and ask it by `waits` alone.
 #[derive(Drop)]
-pub struct DirtyQueue {
+pub struct UnplacedSlots {
     dirty: BTreeSet<DirtySlot>,
     /// For each fact, by its number, the slot of it that was let wait last, if it still waits.
     last: Vec<Option<DirtySlot>>,
 }
 
-impl Model for DirtyQueue {
-    ghost use Rattle.recalc.specs.Waiting.{DirtySlots, NotedWait};
+impl Model for UnplacedSlots {
+    ghost use Rattle.dirty_slots.specs.Waiting.{DirtySlots, NotedWait};
 
     ghost Value = { DirtySlots };
 
@@ -34,14 +27,14 @@ impl Model for DirtyQueue {
     ghost invariant = { λ queue. NotedWait queue.dirty.keys queue.last.items };
 }
 
-impl DirtyQueue {
+impl UnplacedSlots {
     /// Nothing waits. So many facts, by their numbers from 1, have a place for a slot to be noted.
-    pub fn new(alloc: Global, facts: usize) -> Result<DirtyQueue, NoMemory>
+    pub fn new(alloc: Global, facts: usize) -> Result<UnplacedSlots, NoMemory>
         requires { facts < 2 ^ 63 }
-        ensures { IfOk result (λ queue. (q : DirtySlot) → waits queue q ≡ false) }
+        ensures { IfOk result (λ queue. (q : OneSlot) → waits queue q ≡ false) }
     {
         let last = vec![in alloc; None; facts + 1]?;
-        Ok(DirtyQueue {
+        Ok(UnplacedSlots {
             dirty: BTreeSet::new(alloc),
             last,
         })
@@ -49,7 +42,7 @@ impl DirtyQueue {
 
     /// Nothing waits any more. It takes no memory.
     pub fn clear(&mut self)
-        ensures { (q : DirtySlot) → waits self.new q ≡ false }
+        ensures { (q : OneSlot) → waits self.new q ≡ false }
     {
         self.dirty.clear();
         self.last.fill(None);
@@ -58,8 +51,8 @@ impl DirtyQueue {
     /// Lets one more wait, which may wait already.
     #[inline(always)]
     pub fn add(&mut self, dirty: DirtySlot) -> Result<(), NoMemory>
-        ensures ok { OnOk result ((q : DirtySlot) → waits self.new q ≡ (dirty_same q dirty || waits self.old q)) }
-        ensures err { OnErr result ((q : DirtySlot) → waits self.new q ≡ waits self.old q) }
+        ensures ok { OnOk result ((q : OneSlot) → waits self.new q ≡ (dirty_same q dirty || waits self.old q)) }
+        ensures err { OnErr result ((q : OneSlot) → waits self.new q ≡ waits self.old q) }
     {
         if is_noted(&self.last, dirty) {
             return Ok(());
@@ -71,8 +64,8 @@ impl DirtyQueue {
     // room for all that its function may do.
     #[inline(never)]
     fn insert(&mut self, dirty: DirtySlot) -> Result<(), NoMemory>
-        ensures ok { OnOk result ((q : DirtySlot) → waits self.new q ≡ (dirty_same q dirty || waits self.old q)) }
-        ensures err { OnErr result ((q : DirtySlot) → waits self.new q ≡ waits self.old q) }
+        ensures ok { OnOk result ((q : OneSlot) → waits self.new q ≡ (dirty_same q dirty || waits self.old q)) }
+        ensures err { OnErr result ((q : OneSlot) → waits self.new q ≡ waits self.old q) }
     {
         self.dirty.insert(dirty)?;
         note(&mut self.last, dirty.fact, Some(dirty));
@@ -81,17 +74,40 @@ impl DirtyQueue {
 
     /// Takes out one of the lowest rank.
     pub fn pop(&mut self) -> Option<DirtySlot>
-        ensures none { IfNone result ((q : DirtySlot) → waits self.old q ≡ false) }
+        ensures none { IfNone result ((q : OneSlot) → waits self.old q ≡ false) }
         ensures unchanged { IfNone result (self.new ≡ self.old) }
         ensures some { IfSome result (λ dirty. IsTrue (waits self.old dirty)) }
-        ensures rest { IfSome result (λ dirty. (q : DirtySlot)
+        ensures rest { IfSome result (λ dirty. (q : OneSlot)
             → waits self.new q ≡ (waits self.old q && not (dirty_same q dirty))) }
-        ensures least { IfSome result (λ dirty. (q : DirtySlot)
+        ensures least { IfSome result (λ dirty. (q : OneSlot)
             → IsTrue (waits self.old q) → dirty.rank ≤ q.rank) }
     {
         let dirty = self.dirty.pop_first()?;
         forget(&mut self.last, dirty);
         Some(dirty)
+    }
+
+    /// Takes out this one, if it waits. It takes no memory.
+    pub fn remove(&mut self, dirty: DirtySlot)
+        ensures { (q : OneSlot) → waits self.new q ≡ (waits self.old q && not (dirty_same q dirty)) }
+    {
+        let _ = self.dirty.remove(&dirty);
+        forget(&mut self.last, dirty);
+    }
+
+    /// Takes out one of the lowest rank, if that is below this one.
+    pub fn pop_below(&mut self, rank: u32) -> Option<DirtySlot>
+        ensures none { IfNone result ((q : OneSlot) → IsTrue (waits self.old q) → rank ≤ q.rank) }
+        ensures unchanged { IfNone result (self.new ≡ self.old) }
+        ensures below { IfSome result (λ dirty. dirty.rank < rank) }
+        ensures some { IfSome result (λ dirty. IsTrue (waits self.old dirty)) }
+        ensures rest { IfSome result (λ dirty. (q : OneSlot)
+            → waits self.new q ≡ (waits self.old q && not (dirty_same q dirty))) }
+        ensures least { IfSome result (λ dirty. (q : OneSlot)
+            → IsTrue (waits self.old q) → dirty.rank ≤ q.rank) }
+    {
+        let first = self.dirty.first()?;
+        if first.rank < rank { self.pop() } else { None }
     }
 }
 
@@ -117,7 +133,7 @@ fn note(last: &mut Vec<Option<DirtySlot>>, fact: u32, dirty: Option<DirtySlot>)
 
 // Notes this slot no more.
 fn forget(last: &mut Vec<Option<DirtySlot>>, dirty: DirtySlot)
-    ensures { (q : DirtySlot) → is_noted last.new.items q
+    ensures { (q : OneSlot) → is_noted last.new.items q
         ≡ (is_noted last.old.items q && not (dirty_same q dirty)) }
 {
     if is_noted(last, dirty) {

@@ -1,0 +1,4 @@
+pub mod BitLaws
+pub mod DirtyLaws
+pub mod MarkLaws
+pub mod NotedLaws

@@ -1,0 +1,7 @@
+use Rattle.std.proofs.Common.{◌∙◌}
+use Rattle.dirty_slots.specs.PlaceBits.{has_place}
+use Rattle.dirty_slots.proofs.MarkLaws.{none_placed}
+use Rattle.dirty_slots.proofs.dirty_queue.DirtyQueue.clear.Goals as goal
+
+pub returns : goal.returns
+returns c = λ q. none_placed (has_place c.clear.new.self) c.self.inside.places c.clear-2.new.self (λ i l. c.clear.ensures.none i) q ∙ c.clear-2.ensures q

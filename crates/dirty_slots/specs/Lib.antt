@@ -1,0 +1,4 @@
+pub mod DirtyQueue
+pub mod PlaceBits
+pub mod Places
+pub mod Waiting

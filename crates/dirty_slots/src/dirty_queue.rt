@@ -1,0 +1,98 @@
+// The slots that wait, those of the lowest rank first.
+ghost use Rattle.std.specs.Prelude.{◌≡◌, ◌≤◌, ◌<◌, ◌^◌, ◌&&◌, ◌||◌, not, false, IfNone, IfOk, IfSome, IsTrue, OnErr, OnOk};
+ghost use Rattle.dirty_slots.specs.Waiting.{dirty_same, waits};
+ghost use Rattle.dirty_slots.specs.declared.dirty_slot.DirtySlot.{DirtySlot as OneSlot};
+
+use crate::dirty_slot::DirtySlot;
+use crate::place_bits::PlaceBits;
+use crate::places::Places;
+use crate::unplaced::UnplacedSlots;
+use fact_values::NoMemory;
+use std::alloc::Global;
+use std::marker::Model;
+
+/// The slots that wait: of those that have a place a bit for each, and the others in a set. Contracts see which, by `waits`.
+#[derive(Drop)]
+pub struct DirtyQueue {
+    places: Places,
+    placed: PlaceBits,
+    unplaced: UnplacedSlots,
+}
+
+impl Model for DirtyQueue {
+    ghost use Rattle.dirty_slots.specs.Waiting.{DirtySlots};
+
+    ghost Value = { DirtySlots };
+
+    ghost use Rattle.dirty_slots.specs.DirtyQueue.{all_waiting};
+
+    ghost view = { λ queue. all_waiting queue.placed queue.places queue.unplaced };
+
+    ghost use Rattle.std.specs.Prelude.{◌*◌, ◌≤◌, length};
+
+    // Each place has a bit.
+    ghost invariant = { λ queue. length queue.places ≤ length queue.placed * 64 };
+}
+
+impl DirtyQueue {
+    /// Nothing waits. Of so many facts, by their numbers from 1, the last slot that was let wait is noted.
+    pub fn new(alloc: Global, facts: usize, places: Places) -> Result<DirtyQueue, NoMemory>
+        requires { facts < 2 ^ 63 }
+        ensures { IfOk result (λ queue. (q : OneSlot) → waits queue q ≡ false) }
+    {
+        let placed = PlaceBits::new(alloc, places.len())?;
+        let unplaced = UnplacedSlots::new(alloc, facts)?;
+        Ok(DirtyQueue {
+            places,
+            placed,
+            unplaced,
+        })
+    }
+
+    /// Nothing waits any more. It takes no memory.
+    pub fn clear(&mut self)
+        ensures { (q : OneSlot) → waits self.new q ≡ false }
+    {
+        self.placed.clear();
+        self.unplaced.clear();
+    }
+
+    /// Lets one more wait, which may wait already.
+    #[inline(always)]
+    pub fn add(&mut self, dirty: DirtySlot) -> Result<(), NoMemory>
+        ensures ok { OnOk result ((q : OneSlot) → waits self.new q ≡ (dirty_same q dirty || waits self.old q)) }
+        ensures err { OnErr result ((q : OneSlot) → waits self.new q ≡ waits self.old q) }
+    {
+        match self.places.place(dirty) {
+            Some(place) => {
+                self.placed.insert(place);
+                Ok(())
+            }
+            None => self.unplaced.add(dirty),
+        }
+    }
+
+    /// Takes out one of the lowest rank.
+    pub fn pop(&mut self) -> Option<DirtySlot>
+        ensures none { IfNone result ((q : OneSlot) → waits self.old q ≡ false) }
+        ensures unchanged { IfNone result (self.new ≡ self.old) }
+        ensures some { IfSome result (λ dirty. IsTrue (waits self.old dirty)) }
+        ensures rest { IfSome result (λ dirty. (q : OneSlot)
+            → waits self.new q ≡ (waits self.old q && not (dirty_same q dirty))) }
+        ensures least { IfSome result (λ dirty. (q : OneSlot)
+            → IsTrue (waits self.old q) → dirty.rank ≤ q.rank) }
+    {
+        let place = self.placed.first();
+        match self.places.slot(place) {
+            None => self.unplaced.pop(),
+            Some(dirty) => match self.unplaced.pop_below(dirty.rank) {
+                Some(lower) => Some(lower),
+                None => {
+                    self.placed.remove(place);
+                    self.unplaced.remove(dirty);
+                    Some(dirty)
+                }
+            },
+        }
+    }
+}
