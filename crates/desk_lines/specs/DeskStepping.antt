@@ -1,8 +1,11 @@
 -- What a line of a party answers, and what it leaves.
 use Rattle.std.specs.Prelude.{ℕ, Bool, true, false, List, [], ◌∷◌, ◌++◌, codes, Result, Ok, Err, if◌then◌else◌}
+use Rattle.script_lines.specs.Kinds.{kind_of}
 use Rattle.script_lines.specs.Lines.{ScriptLine, whole, long}
 use Rattle.script_lines.specs.declared.command.Command.{Command}
 use Rattle.script_lines.specs.declared.command.Command.TheVariants as commands
+use Rattle.script_lines.specs.declared.kind.Kind.{Kind}
+use Rattle.script_lines.specs.declared.kind.Kind.TheVariants as kinds
 use Rattle.answers.specs.Answered.{Answered}
 use Rattle.graph_session.specs.Refusals.{slot_found}
 use Rattle.graph_session.specs.Rules.{Rules}
@@ -57,10 +60,15 @@ step_decided r d p (Ok answer) = record { text = marked_lines p (reply_text r an
 step_decided r d p (Err refusal) = step_telling d p (desk_refusal_text refusal ∷ [])
 
 -- the desk itself answers it
+abbrev pub is_session_kind : Kind → Bool
+is_session_kind kinds.Change = true
+is_session_kind kinds.Question = true
+is_session_kind kinds.Missing = false
+is_session_kind kinds.Watch = true
+is_session_kind kinds.Quit = false
+
 abbrev pub is_session_command : Command → Bool
-is_session_command (commands.Missing path) = false
-is_session_command commands.Quit = false
-is_session_command _ = true
+is_session_command asked = is_session_kind (kind_of asked)
 
 abbrev pub step_asked : Rules → Desk → ℕ → Command → DeskStep
 step_asked r d p commands.Quit = record { text = []; state = desk_quit d }

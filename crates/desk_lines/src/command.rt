@@ -12,7 +12,7 @@ ghost use Rattle.desk_lines.specs.DeskStepping.{is_session_command as known, ste
 use crate::writing::write_refusal;
 use dictionary::FactEngine;
 use fg_io::Sink;
-use script_lines::Command;
+use script_lines::{Command, Kind};
 use session_lines::{Mark, Progress, answer_missing, write_reply};
 use shared_desk::Desk;
 use std::alloc::Global;
@@ -24,23 +24,9 @@ use text_checks::CheckTable;
 fn is_session_command(command: &Command) -> bool
     ensures { result ≡ known command.now }
 {
-    match command {
-        Command::Missing(_) | Command::Quit => false,
-        Command::Set(..)
-        | Command::Clear(_)
-        | Command::OpenList(_)
-        | Command::Add(_)
-        | Command::Remove(..)
-        | Command::Override(..)
-        | Command::Release(_)
-        | Command::Undo
-        | Command::Redo
-        | Command::Get(_)
-        | Command::Final(_)
-        | Command::Stamp(_)
-        | Command::Touched
-        | Command::Watch(..)
-        | Command::Unwatch(..) => true,
+    match command.kind() {
+        Kind::Change | Kind::Question | Kind::Watch => true,
+        Kind::Missing | Kind::Quit => false,
     }
 }
 

@@ -14,7 +14,7 @@ use Rattle.dict_tree.specs.Dictionary.{Dictionary, IsWithinLimits, number_from}
 use Rattle.dict_tree.specs.Json.{literal_json, json_of, json_of_trees, json_of_cases}
 use Rattle.dict_tree.specs.FactJson.{items_from, stated_text, limit_json, conditional_json}
 use Rattle.dict_tree.specs.Versions.{version_text}
-use Rattle.dict_print.specs.DictionaryJson.{put_some, some_array, enum_json, fact_json, json_by_main, last_members, writable_members, derived_members, all_members, dictionary_json}
+use Rattle.dict_print.specs.DictionaryJson.{put_some, some_array, enum_json, fact_json, json_by_main, last_members, writable_members, derived_members, all_members, dictionary_json, printed_version}
 
 -- ---- expressions
 

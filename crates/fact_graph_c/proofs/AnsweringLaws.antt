@@ -5,23 +5,15 @@ use Rattle.std.proofs.lemmas.List.{append-nil}
 use Rattle.fg_io.specs.Outside.{Rose}
 use Rattle.fg_io.specs.Sent.{Sent}
 use Rattle.script_lines.specs.Lines.{ScriptLine, whole, long}
-use Rattle.script_lines.specs.Parsing.{command, heard_in}
-use Rattle.script_lines.specs.declared.command.Command.TheVariants.{Get}
-use Rattle.fact_paths.specs.declared.slot_path.SlotPath.{SlotPath}
-use Rattle.graph_session.specs.Naming.{slot_of}
-use Rattle.graph_session.specs.Refusals.{SameChecks, decided, first_of, slot_refusals}
-use Rattle.graph_session.specs.Rules.{Rules, rules, tree_of}
-use Rattle.graph_session.specs.declared.reply.Refusal.{Refusal}
-use Rattle.graph_session.specs.declared.reply.Reply.TheVariants.{Answer}
-use Rattle.session_lines.specs.Replies.{line_with}
-use Rattle.fact_graph_c.specs.Asking.{text_of_found, text_of_get}
+use Rattle.graph_session.specs.Refusals.{SameChecks}
+use Rattle.graph_session.specs.Rules.{rules}
 use Rattle.dictionary.specs.Accepted.{Kept, Named, accepted}
 use Rattle.dictionary.specs.Checks.{has_check}
 use Rattle.dictionary.specs.Fits.{AnswersFit}
 use Rattle.graph_session.specs.SessionView.{SessionState, SessionView, session_state}
 use Rattle.fact_watch.specs.Watching.{Watching}
 use Rattle.session_lines.specs.Answering.{line_state_of}
-use Rattle.session_lines.specs.Stepping.{LineState, State, Step, open_at, replies, state_after, step, step_answered, step_command, step_heard}
+use Rattle.session_lines.specs.Stepping.{LineState, State, Step, open_at, replies, state_after, step}
 use Rattle.fact_graph_c.specs.Answering.{Stays, TakesStep, line_given, rules_of, said, state_of}
 use Rattle.fact_graph_c.specs.Checks.{HasStandardChecks}
 use Rattle.fact_graph_c.specs.Consulting.{Serves}
@@ -137,27 +129,3 @@ stays_full old line session watches text relations lines rest sound roomy fit sa
     let roomy_still : room_for (length old.watches.pairs) ≤ text.room = subst (λ (n : ℕ). room_for (length old.watches.pairs) ≤ n) (sym (room_stays _ _ _ _ _ rest sent)) roomy in
     let long_text : text.room ≤ length made.text = omega (arith, filled, ap length (put_behind _ _ _ _ _ rest sent), length-append (said old) sent.front, ap length empty, ap length sent.split, length-append sent.front rest, ap length whole_text) in
     fills_still r here (line_state_of session relations watches) sound.is_accepted sound.fit.well fits (short_names relations old.watches.pairs line serves) text.room roomy_still (line_given line) (ap (state_after r (open_at here)) (sym given) ∙ left) long_text
-
--- ---- `get`
-
--- it says the result of the slot, or why there is none, and changes nothing
-step_get : (r : Rules) (s : LineState) (path : SlotPath) → step_command r s (Get path) ≡ record { text = line_with (text_of_get r s.session_state path); state = open_at s }
-step_get r s path = by (first_of (slot_refusals r s.session_state.timeline.now path))
-  where
-    by : (o : Option Refusal) → step_answered r s (Get path) (decided o (Answer (slot_of (tree_of r) path), s.session_state)) ≡ record { text = line_with (text_of_found r s.session_state (decided o (slot_of (tree_of r) path))); state = open_at s }
-    by None = refl
-    by (Some refusal) = refl
-
-pub takes_get : (old new : Engine) (line : List ℕ) (path : SlotPath) → old.over ≡ false → length line ≤ 4096 → heard_in line ≡ command (Get path)
-    → new.session ≡ old.session → new.watches ≡ old.watches → new.over ≡ old.over → said new ≡ line_with (text_of_get (rules_of old) (session_state old.session) path) → TakesStep old new line false
-takes_get old new line path goes_on short heard session watches over text =
-    let r = rules_of old in
-    let here : LineState = line_state_of old.session standard_relations old.watches in
-    let made : step r (state_of old) (line_given line) ≡ record { text = line_with (text_of_get r (session_state old.session) path); state = open_at here } =
-    (λ i. step r (record { standing = here; over = goes_on i }) (given_whole line short i)) ∙ ap (step_heard r here) heard ∙ step_get r here path in
-    let now : state_of new ≡ open_at here = λ i. record { standing = line_state_of (session i) standard_relations (watches i); over = (over ∙ goes_on) i } in
-    record {
-      text = text ∙ sym (ap (λ (s : Step). s.text) made);
-      state = now ∙ sym (ap (λ (s : Step). s.state) made);
-      ends = over ∙ goes_on;
-    }

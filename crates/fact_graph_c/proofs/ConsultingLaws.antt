@@ -1,5 +1,5 @@
--- A line that asks no relation is answered alike by the standard ones and by none.
-use Rattle.std.proofs.Common.{◌≡◌, ℕ, zero, suc, ◌-◌, ◌==◌, ◌||◌, Bool, true, false, nat_le, if◌then◌else◌, ◌≤◌, List, [], ◌∷◌, length, take, slice_get, slice_index, Option, Some, None, Result, Ok, Err, inl, inr, refl, sym, ap, subst, ◌∙◌, arith}
+-- A line that sets no answer asks no check. One that asks no relation is answered alike by the standard ones and by none.
+use Rattle.std.proofs.Common.{◌≡◌, ℕ, zero, suc, ◌-◌, ◌==◌, ◌&&◌, ◌||◌, Bool, true, false, not, IsTrue, nat_le, if◌then◌else◌, ◌≤◌, List, [], ◌∷◌, length, take, slice_get, slice_index, Option, Some, None, Result, Ok, Err, inl, inr, refl, sym, ap, subst, ◌∙◌, arith}
 use Rattle.script_lines.specs.Commands.{SpellsCommand, command_text, without_return}
 use Rattle.script_lines.specs.Lines.{ScriptLine, whole, long}
 use Rattle.script_lines.specs.Parsing.{Heard, SaysExactly, nothing, bad_line, command, heard_in}
@@ -8,6 +8,7 @@ use Rattle.script_lines.specs.declared.command.Command.{Command}
 use Rattle.script_lines.specs.declared.command.Command.TheVariants as commands
 use Rattle.dictionary.specs.Accepted.{Named}
 use Rattle.fact_watch.specs.Watching.{Pair}
+use Rattle.graph_session.specs.Refusals.{asks_checks}
 use Rattle.graph_session.specs.Rules.{Rules}
 use Rattle.graph_session.specs.SessionView.{SessionState}
 use Rattle.graph_session.specs.Step as session
@@ -15,9 +16,9 @@ use Rattle.graph_session.specs.declared.reply.Refusal.{Refusal}
 use Rattle.graph_session.specs.declared.reply.Reply.{Reply}
 use Rattle.session_lines.specs.Firing.{name_at}
 use Rattle.session_lines.specs.Stepping.{LineState, State, Step, open_at, step, step_answered, step_command, step_heard}
-use Rattle.session_lines.specs.Tables.{standard_relations}
+use Rattle.session_lines.specs.Tables.{heard_asks_checks, standard_relations}
 use Rattle.fact_graph_c.specs.Answering.{line_given}
-use Rattle.fact_graph_c.specs.Consulting.{Serves, is_w, may_watch}
+use Rattle.fact_graph_c.specs.Consulting.{Serves, is_byte, may_set, may_watch}
 use Rattle.fact_graph_c.proofs.RoomLaws.{standard_short}
 
 -- ---- lines that put no watch and take none out
@@ -34,13 +35,17 @@ in_front (suc n) [] k x e = absurd cc
 in_front (suc n) (y ∷ ys) zero x e = e
 in_front (suc n) (y ∷ ys) (suc k) x e = in_front n ys k x e
 
--- a `w` of what a line says stands in the line, too
-w_stands : (line : List ℕ) (k : ℕ) → slice_get (without_return line) k ≡ Some 119 → is_w (slice_get line k) ≡ true
-w_stands line k there = ap is_w (by (slice_index line (length line - 1) == 13) there)
+-- a byte of what a line says stands in the line, too
+byte_stands : (line : List ℕ) (k x : ℕ) → slice_get (without_return line) k ≡ Some x → slice_get line k ≡ Some x
+byte_stands line k x there = by (slice_index line (length line - 1) == 13) there
   where
-    by : (b : Bool) → slice_get (if b then take (length line - 1) line else line) k ≡ Some 119 → slice_get line k ≡ Some 119
-    by true e = in_front (length line - 1) line k 119 e
+    by : (b : Bool) → slice_get (if b then take (length line - 1) line else line) k ≡ Some x → slice_get line k ≡ Some x
+    by true e = in_front (length line - 1) line k x e
     by false e = e
+
+-- so does a `w`
+w_stands : (line : List ℕ) (k : ℕ) → slice_get (without_return line) k ≡ Some 119 → is_byte 119 (slice_get line k) ≡ true
+w_stands line k there = ap (is_byte 119) (byte_stands line k 119 there)
 
 first_true : (a b : Bool) → a ≡ true → a || b ≡ false → ⊥
 first_true true b e none = absurd cc
@@ -58,9 +63,31 @@ pub leaves_watches : (line : List ℕ) → may_watch line ≡ false → (asked :
 leaves_watches line none asked heard = by asked (subst (SaysExactly line) heard (heard_exactly line))
   where
     by : (c : Command) → SpellsCommand line c → LeavesWatches c
-    by (commands.Watch name path) spelled = first_true (is_w (slice_get line 0)) (is_w (slice_get line 2)) (w_stands line 0 (ap (λ (t : List ℕ). slice_get t 0) spelled.text)) none
-    by (commands.Unwatch name path) spelled = second_true (is_w (slice_get line 0)) (is_w (slice_get line 2)) (w_stands line 2 (ap (λ (t : List ℕ). slice_get t 2) spelled.text)) none
+    by (commands.Watch name path) spelled = first_true (is_byte 119 (slice_get line 0)) (is_byte 119 (slice_get line 2)) (w_stands line 0 (ap (λ (t : List ℕ). slice_get t 0) spelled.text)) none
+    by (commands.Unwatch name path) spelled = second_true (is_byte 119 (slice_get line 0)) (is_byte 119 (slice_get line 2)) (w_stands line 2 (ap (λ (t : List ℕ). slice_get t 2) spelled.text)) none
     by _ spelled = tt
+
+-- ---- lines that ask no check
+
+sets : (line : List ℕ) → may_set line ≡ false → (asked : Command) → SpellsCommand line asked → asks_checks asked ≡ false
+sets line none (commands.Set path text) spelled =
+    let s : slice_get line 0 ≡ Some 115 = byte_stands line 0 115 (ap (λ (t : List ℕ). slice_get t 0) spelled.text) in
+    let e : slice_get line 1 ≡ Some 101 = byte_stands line 1 101 (ap (λ (t : List ℕ). slice_get t 1) spelled.text) in
+    let may : may_set line ≡ true = λ i. is_byte 115 (s i) && is_byte 101 (e i) in
+    absurd (let no : true ≡ false = sym may ∙ none in cc)
+sets line none _ spelled = refl
+
+not_so : (b : Bool) → IsTrue (not b) → b ≡ false
+not_so true none = absurd (let no : false ≡ true = none in cc)
+not_so false none = refl
+
+pub asks_no_check : (line : List ℕ) → IsTrue (not (may_set line)) → heard_asks_checks (heard_in line) ≡ false
+asks_no_check line none = by (heard_in line) (heard_exactly line)
+  where
+    by : (h : Heard) → SaysExactly line h → heard_asks_checks h ≡ false
+    by nothing says = refl
+    by bad_line says = refl
+    by (command asked) says = sets line (not_so (may_set line) none) asked says
 
 -- ---- their steps, where nothing is watched
 

@@ -1,17 +1,20 @@
--- Which relations serve a line.
-use Rattle.std.specs.Prelude.{◌≡◌, ◌⊎◌, ℕ, ◌==◌, ◌||◌, Bool, false, List, [], Option, Some, None, slice_get}
+-- Which checks and relations a line asks.
+use Rattle.std.specs.Prelude.{◌≡◌, ◌⊎◌, ℕ, ◌==◌, ◌&&◌, ◌||◌, Bool, false, List, [], Option, Some, None, slice_get}
 use Rattle.dictionary.specs.Accepted.{Named}
 use Rattle.fact_watch.specs.Watching.{Pair}
 use Rattle.session_lines.specs.Tables.{standard_relations}
 
--- the byte is a `w`
-abbrev pub is_w : Option ℕ → Bool
-is_w (Some b) = b == 119
-is_w None = false
+abbrev pub is_byte : ℕ → Option ℕ → Bool
+is_byte byte (Some b) = b == byte
+is_byte byte None = false
+
+-- `set` alone begins with `se`
+abbrev pub may_set : List ℕ → Bool
+may_set line = is_byte 115 (slice_get line 0) && is_byte 101 (slice_get line 1)
 
 -- `watch` has a `w` first and `unwatch` one third, where no other command has one
 abbrev pub may_watch : List ℕ → Bool
-may_watch line = is_w (slice_get line 0) || is_w (slice_get line 2)
+may_watch line = is_byte 119 (slice_get line 0) || is_byte 119 (slice_get line 2)
 
 -- nothing is watched, and the line puts no watch and takes none out
 abbrev pub AsksNoRelation : List Pair → List ℕ → Type 0

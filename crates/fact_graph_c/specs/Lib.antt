@@ -1,5 +1,4 @@
 pub mod Answering
-pub mod Asking
 pub mod Calls
 pub mod Checks
 pub mod Consulting

@@ -1,6 +1,7 @@
 // Answers lines.
-ghost use Rattle.std.specs.Prelude.{◌≡◌, ◌+◌, ◌*◌, ◌-◌, ◌<◌, ◌≤◌, ◌^◌, ◌∷◌, [], ◌++◌, false, IfOk, OnErr, length};
+ghost use Rattle.std.specs.Prelude.{◌≡◌, ◌+◌, ◌*◌, ◌-◌, ◌<◌, ◌≤◌, ◌^◌, ◌∷◌, [], ◌++◌, false, IfOk, IsTrue, OnErr, length};
 ghost use Rattle.script_lines.specs.Lines.{ready_lines};
+ghost use Rattle.script_lines.specs.Parsing.{heard_in};
 ghost use Rattle.text_checks.specs.Tables.{named_checks};
 ghost use Rattle.fact_watch.specs.Tables.{named_relations};
 ghost use Rattle.graph_session.specs.Refusals.{SameChecks};
@@ -8,10 +9,9 @@ ghost use Rattle.fact_graph_c.specs.Answering.{Answers, line_given, rules_of, sa
 ghost use Rattle.fact_graph_c.specs.Consulting.{Serves};
 ghost use Rattle.fact_graph_c.specs.Room.{room_for};
 ghost use Rattle.fact_graph_c.specs.Sound.{IsSound};
-ghost use Rattle.session_lines.specs.Tables.{standard_checks, standard_relations};
+ghost use Rattle.session_lines.specs.Tables.{heard_asks_checks, line_asks_checks, standard_checks, standard_relations};
 
-use crate::asking::{answer_get, asked_path};
-use crate::consulting::asks_no_relation;
+use crate::consulting::{asks_no_check, asks_no_relation};
 use crate::engine::Engine;
 use crate::outcome::Outcome;
 use fact_values::NoMemory;
@@ -34,6 +34,7 @@ const MOST_CHANGES: u64 = 1 << 62;
 fn readied(line: &[u8]) -> (Ready, &[u8])
     ensures lines { ready_lines result.0 result.1.now ≡ line_given line.now ∷ [] }
     ensures short { length result.1.now ≤ 4096 }
+    ensures checks { IsTrue (line_asks_checks result.0 result.1.now) → IsTrue (heard_asks_checks (heard_in line.now)) }
 {
     if line.len() > LINE {
         (Ready::Long, &[])
@@ -68,7 +69,8 @@ fn answer_open<L: Ledger>(
     line: &[u8],
     steps: &mut Steps<L>,
 ) -> Outcome
-    requires checks { SameChecks (rules_of engine.old) (named_checks checks.now) }
+    requires checks { IsTrue (heard_asks_checks (heard_in line.now)) → SameChecks (rules_of engine.old)
+        (named_checks checks.now) }
     requires relations { Serves (named_relations relations.now) engine.old.watches.pairs line.now }
     requires goes_on { engine.old.over ≡ false }
     requires empty { said engine.old ≡ [] }
@@ -119,7 +121,8 @@ fn answer_uncounted<L: Ledger>(
     requires name { blank.name ≡ L.name }
     requires parts { blank.parts ≡ L.parts }
     requires some { 0 < blank.parts }
-    requires checks { SameChecks (rules_of engine.old) (named_checks checks.now) }
+    requires checks { IsTrue (heard_asks_checks (heard_in line.now)) → SameChecks (rules_of engine.old)
+        (named_checks checks.now) }
     requires relations { Serves (named_relations relations.now) engine.old.watches.pairs line.now }
     requires goes_on { engine.old.over ≡ false }
     requires empty { said engine.old ≡ [] }
@@ -140,7 +143,8 @@ fn answer_by(
     relations: &WatchTable,
     line: &[u8],
 ) -> Outcome
-    requires checks { SameChecks (rules_of engine.old) (named_checks checks.now) }
+    requires checks { IsTrue (heard_asks_checks (heard_in line.now)) → SameChecks (rules_of engine.old)
+        (named_checks checks.now) }
     requires relations { Serves (named_relations relations.now) engine.old.watches.pairs line.now }
     ensures answered { Answers engine.old engine.new line.now result }
     ensures dict { engine.new.session.dict ≡ engine.old.session.dict }
@@ -167,7 +171,8 @@ fn try_answer_by(
     checks: &CheckTable,
     line: &[u8],
 ) -> Result<Outcome, AllocError>
-    requires { SameChecks (rules_of engine.old) (named_checks checks.now) }
+    requires { IsTrue (heard_asks_checks (heard_in line.now)) → SameChecks (rules_of engine.old)
+        (named_checks checks.now) }
     ensures answered { IfOk result (Answers engine.old engine.new line.now) }
     ensures dict { engine.new.session.dict ≡ engine.old.session.dict }
     ensures unchanged { OnErr result (engine.new ≡ engine.old) }
@@ -180,13 +185,16 @@ fn try_answer_by(
     Ok(answer_by(alloc, engine, checks, &relations, line))
 }
 
-// Answers a line by the checks that the dictionary names, and by the relations that the line asks.
+// Answers a line by the checks and the relations that it asks.
 fn try_answer(alloc: Global, engine: &mut Engine, line: &[u8]) -> Result<Outcome, AllocError>
     ensures answered { IfOk result (Answers engine.old engine.new line.now) }
     ensures dict { engine.new.session.dict ≡ engine.old.session.dict }
     ensures unchanged { OnErr result (engine.new ≡ engine.old) }
 {
     let mut checks = CheckTable::new(alloc);
+    if asks_no_check(line) {
+        return try_answer_by(alloc, engine, &checks, line);
+    }
     if engine.session.dict().same_checks(&checks) {
         return try_answer_by(alloc, engine, &checks, line);
     }
@@ -194,8 +202,8 @@ fn try_answer(alloc: Global, engine: &mut Engine, line: &[u8]) -> Result<Outcome
     try_answer_by(alloc, engine, &checks, line)
 }
 
-// Answers a line by the tables.
-fn answer_by_tables(alloc: Global, engine: &mut Engine, line: &[u8]) -> Outcome
+/// Answers a line, which has no newline.
+pub fn answer(alloc: Global, engine: &mut Engine, line: &[u8]) -> Outcome
     ensures answered { Answers engine.old engine.new line.now result }
     ensures dict { engine.new.session.dict ≡ engine.old.session.dict }
 {
@@ -205,16 +213,5 @@ fn answer_by_tables(alloc: Global, engine: &mut Engine, line: &[u8]) -> Outcome
             engine.text.clear();
             Outcome::NoMemory
         }
-    }
-}
-
-/// Answers a line, which has no newline.
-pub fn answer(alloc: Global, engine: &mut Engine, line: &[u8]) -> Outcome
-    ensures answered { Answers engine.old engine.new line.now result }
-    ensures dict { engine.new.session.dict ≡ engine.old.session.dict }
-{
-    match asked_path(alloc, engine.over, line) {
-        Some(path) => answer_get(engine, path),
-        None => answer_by_tables(alloc, engine, line),
     }
 }

@@ -4,7 +4,6 @@
 ghost use Rattle.std.specs.Prelude.{◌≡◌};
 
 mod answering;
-mod asking;
 mod bringing;
 mod consulting;
 mod dropped_lines;

@@ -1,12 +1,12 @@
 // Says which slots a slot reads.
 ghost use Rattle.std.specs.Prelude.{◌≡◌, ◌≤◌, [], IfOk, IsTrue, length};
+ghost use Rattle.script_lines.specs.Parsing.{command as heard};
 ghost use Rattle.session_lines.specs.declared.progress.Progress.TheVariants.{More};
 ghost use Rattle.graph_session.specs.Rules.{rules};
 ghost use Rattle.graph_session.specs.SessionView.{session_state};
-ghost use Rattle.fact_graph_c.specs.Reading.{IsReads, path_of, reads_of_path};
+ghost use Rattle.fact_graph_c.specs.Reading.{IsReads, path_heard, path_of, reads_of_path};
 ghost use Rattle.fact_graph_c.specs.Saying.{Says};
 
-use crate::asking::path_of_get;
 use crate::engine::Engine;
 use crate::outcome::Outcome;
 use crate::text::Text;
@@ -14,13 +14,23 @@ use fact_paths::SlotPath;
 use fact_values::NoMemory;
 use graph_session::Session;
 use recalc::Recalc;
-use script_lines::{LineFault, command_of};
+use script_lines::{Command, LineFault, command_of};
 use session_lines::{Progress, answer_reads, write_text};
 use std::alloc::Global;
 use value_text::Line;
 
 /// The most bytes of a slot's path. No path has as many.
 const PATH: usize = 1_000;
+
+// The path of `get`, and none of another command.
+fn path_of_get(command: Command) -> Option<SlotPath>
+    ensures { result ≡ path_heard (heard command) }
+{
+    match command {
+        Command::Get(path) => Some(path),
+        _ => None,
+    }
+}
 
 // The path that the text is.
 fn read_path(alloc: Global, text: &[u8]) -> Result<Option<SlotPath>, NoMemory>

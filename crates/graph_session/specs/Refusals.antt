@@ -2,6 +2,8 @@
 use Rattle.std.specs.Prelude.{◌≡◌, ◌⊎◌, ℕ, ◌&&◌, Bool, true, false, not, List, [], ◌∷◌, ◌++◌, Option, Some, None, is_none, is_some, option_map, if◌then◌else◌, Result, Ok, Err}
 use Rattle.std.specs.FinMap as map
 use Rattle.fact_paths.specs.declared.slot_path.SlotPath.{SlotPath}
+use Rattle.script_lines.specs.declared.command.Command.{Command}
+use Rattle.script_lines.specs.declared.command.Command.TheVariants.{Set}
 use Rattle.fact_values.specs.declared.slot.Slot.{Slot}
 use Rattle.fact_values.specs.declared.value.Value.{Value}
 use Rattle.answers.specs.Answered.{Answered, value_of}
@@ -56,6 +58,11 @@ decided (Some r) x = Err r
 -- the checks of a table are those with which the dictionary was accepted, or no fact has a check
 abbrev pub SameChecks : Rules → List Named → Type 0
 SameChecks r table = (r.checks ≡ table) ⊎ (has_check r.accepted.tree ≡ false)
+
+-- the command asks checks: `set` alone judges a value by them
+abbrev pub asks_checks : Command → Bool
+asks_checks (Set path text) = true
+asks_checks _ = false
 
 -- of one that names a slot, before the others
 abbrev pub slot_refusals : Rules → Answered → SlotPath → List (Option Refusal)

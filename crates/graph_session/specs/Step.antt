@@ -1,5 +1,7 @@
 -- One step of a session: the first refusal that holds, or what comes of the command.
-use Rattle.std.specs.Prelude.{ℕ, Bool, true, false, List, [], ◌∷◌, Option, Some, None, is_none, is_some, option_map, if◌then◌else◌, Result}
+use Rattle.std.specs.Prelude.{ℕ, Bool, List, [], ◌∷◌, Option, Some, None, is_none, is_some, option_map, if◌then◌else◌, Result}
+use Rattle.script_lines.specs.Kinds as kinds
+use Rattle.script_lines.specs.Kinds.{kind_of}
 use Rattle.script_lines.specs.declared.command.Command.{Command}
 use Rattle.script_lines.specs.declared.command.Command.TheVariants as commands
 use Rattle.dict_tree.specs.Dictionary.{Dictionary as Tree}
@@ -19,16 +21,7 @@ use Rattle.graph_session.specs.declared.reply.Reply.TheVariants as replies
 
 -- the command makes a change where it isn't refused; every other one asks, or ends the script
 abbrev pub is_change : Command → Bool
-is_change (commands.Set path text) = true
-is_change (commands.Clear path) = true
-is_change (commands.OpenList path) = true
-is_change (commands.Add path) = true
-is_change (commands.Remove path member) = true
-is_change (commands.Override path text) = true
-is_change (commands.Release path) = true
-is_change commands.Undo = true
-is_change commands.Redo = true
-is_change _ = false
+is_change c = kinds.is_change (kind_of c)
 
 -- ---- refusals
 

@@ -1,10 +1,10 @@
 // The edit that a command makes.
-ghost use Rattle.std.specs.Prelude.{◌≡◌, None, Some, IfErr, IfOk, IsSome};
+ghost use Rattle.std.specs.Prelude.{◌≡◌, None, Some, IfErr, IfOk, IsSome, IsTrue};
 ghost use Rattle.script_lines.specs.declared.command.Command.TheVariants.{Add, Clear, OpenList, Override, Release, Remove, Set};
 ghost use Rattle.answers.specs.Meaning.{answered, change};
 ghost use Rattle.text_checks.specs.Tables.{named_checks};
 ghost use Rattle.graph_session.specs.Changes.{change_of, change_refusals, change_reply as reply_of};
-ghost use Rattle.graph_session.specs.Refusals.{Refused, SameChecks, first_of};
+ghost use Rattle.graph_session.specs.Refusals.{Refused, SameChecks, asks_checks, first_of};
 ghost use Rattle.graph_session.specs.Rules.{rules, tree_of};
 
 use crate::permits::{
@@ -140,7 +140,7 @@ pub fn edit_of(
     command: &Command,
 ) -> Result<Edit, Refusal>
     requires makes_one { IsSome (change_of (tree_of (rules dict.now)) command.now) }
-    requires same_checks { SameChecks (rules dict.now) (named_checks checks.now) }
+    requires same_checks { IsTrue (asks_checks command.now) → SameChecks (rules dict.now) (named_checks checks.now) }
     ensures change { IfOk result (λ e. change_of (tree_of (rules dict.now)) command.now ≡ Some (change e)) }
     ensures allowed { IfOk result (λ _. first_of (change_refusals (rules dict.now) (answered answers.now) command.now)
         ≡ None) }

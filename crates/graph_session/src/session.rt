@@ -14,7 +14,7 @@ ghost use Rattle.graph_session.specs.Changes.{CanBeMade, change_of};
 ghost use Rattle.graph_session.specs.Counts.{stamp_of, stamp_offered, touched_of};
 ghost use Rattle.graph_session.specs.Moves.{step_command};
 ghost use Rattle.graph_session.specs.Naming.{slot_of as slot_named};
-ghost use Rattle.graph_session.specs.Refusals.{Refused, SameChecks, decided, first_of, slot_found, stamp_refusals, when};
+ghost use Rattle.graph_session.specs.Refusals.{Refused, SameChecks, asks_checks, decided, first_of, slot_found, stamp_refusals, when};
 ghost use Rattle.graph_session.specs.Rules.{rules, tree_of};
 ghost use Rattle.graph_session.specs.SessionView.{bounded_to, session_state, moved_to, start_at};
 ghost use Rattle.graph_session.specs.Step.{most_steps, refusal, reply, step, timeline_by, with_change};
@@ -194,7 +194,8 @@ impl<E: FactEngine> Session<E> {
         steps: &mut Steps<L>,
     ) -> Result<Reply, Refusal>
         requires makes_one { IsSome (change_of (tree_of (rules self.old.dict)) command.now) }
-        requires same_checks { SameChecks (rules self.old.dict) (named_checks checks.now) }
+        requires same_checks { IsTrue (asks_checks command.now) → SameChecks (rules self.old.dict)
+            (named_checks checks.now) }
         requires few { self.old.changes < 2 ^ 63 }
         ensures ok { IfOk result (λ r. step (rules self.old.dict) (session_state self.old) command.now
             ≡ Ok (r, session_state self.new)) }
@@ -311,14 +312,16 @@ impl<E: FactEngine> Session<E> {
     }
 
     /// Carries out a command: the reply, or the first refusal that holds. After a refusal, want of memory included, nothing
-    /// has changed. The table has the checks with which the dictionary was accepted, or no fact of it has a check.
+    /// has changed. For `set`, which alone asks checks, the table has those with which the dictionary was accepted, or no fact of it
+    /// has a check.
     pub fn command<L: Ledger>(
         &mut self,
         command: &Command,
         checks: &CheckTable,
         steps: &mut Steps<L>,
     ) -> Result<Reply, Refusal>
-        requires same_checks { SameChecks (rules self.old.dict) (named_checks checks.now) }
+        requires same_checks { IsTrue (asks_checks command.now) → SameChecks (rules self.old.dict)
+            (named_checks checks.now) }
         requires few { self.old.changes < 2 ^ 63 }
         ensures ok { IfOk result (λ r. step (rules self.old.dict) (session_state self.old) command.now
             ≡ Ok (r, session_state self.new)) }

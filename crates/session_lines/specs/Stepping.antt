@@ -4,10 +4,13 @@ use Rattle.fact_paths.specs.declared.slot_path.SlotPath.{SlotPath}
 use Rattle.fact_values.specs.declared.slot.Slot.{Slot}
 use Rattle.text_checks.specs.Places.{place_of}
 use Rattle.script_lines.specs.Joined.{joined}
+use Rattle.script_lines.specs.Kinds.{kind_of}
 use Rattle.script_lines.specs.Lines.{ScriptLine, whole, long}
 use Rattle.script_lines.specs.Parsing.{Heard, nothing, bad_line, command, heard_in}
 use Rattle.script_lines.specs.declared.command.Command.{Command}
 use Rattle.script_lines.specs.declared.command.Command.TheVariants as commands
+use Rattle.script_lines.specs.declared.kind.Kind.{Kind}
+use Rattle.script_lines.specs.declared.kind.Kind.TheVariants as kinds
 use Rattle.answers.specs.Answered.{Answered}
 use Rattle.dictionary.specs.Accepted.{Named}
 use Rattle.dictionary.specs.Plain.{plain}
@@ -107,12 +110,15 @@ cut_watch s name (Err refusal) = step_writing s (refusal_text refusal)
 -- ---- one command
 
 -- the session itself answers it
+abbrev pub is_session_kind : Kind → Bool
+is_session_kind kinds.Change = true
+is_session_kind kinds.Question = true
+is_session_kind kinds.Missing = false
+is_session_kind kinds.Watch = false
+is_session_kind kinds.Quit = false
+
 abbrev pub is_session_command : Command → Bool
-is_session_command (commands.Missing path) = false
-is_session_command (commands.Watch name path) = false
-is_session_command (commands.Unwatch name path) = false
-is_session_command commands.Quit = false
-is_session_command _ = true
+is_session_command asked = is_session_kind (kind_of asked)
 
 abbrev pub step_command : Rules → LineState → Command → Step
 step_command r s commands.Quit = record { text = []; state = quit_at s }

@@ -1,12 +1,14 @@
 // Answers a line of a script.
-ghost use Rattle.std.specs.Prelude.{◌≡◌, ◌+◌, ◌<◌, ◌≤◌, ◌^◌, ◌∷◌, [], length};
+ghost use Rattle.std.specs.Prelude.{◌≡◌, ◌+◌, ◌<◌, ◌≤◌, ◌^◌, ◌∷◌, [], length, IsTrue};
 ghost use Rattle.text_checks.specs.Tables.{named_checks};
 ghost use Rattle.script_lines.specs.Lines.{ready_lines, whole};
+ghost use Rattle.script_lines.specs.Parsing.{heard_in};
 ghost use Rattle.graph_session.specs.Refusals.{SameChecks};
 ghost use Rattle.graph_session.specs.Rules.{rules};
 ghost use Rattle.session_lines.specs.Answering.{AnsweredAs, KeptAs, state_by};
 ghost use Rattle.session_lines.specs.Stepping.{open_at, state_after};
 ghost use Rattle.session_lines.specs.Steps.{steps_of_line, steps_of_lines};
+ghost use Rattle.session_lines.specs.Tables.{heard_asks_checks, line_asks_checks};
 
 use crate::command::answer_command;
 use crate::progress::Progress;
@@ -32,7 +34,8 @@ fn answer_line<E: FactEngine, L: Ledger, K: Sink>(
     steps: &mut Steps<L>,
 ) -> Progress
     requires short { length line.now ≤ 4096 }
-    requires same_checks { SameChecks (rules session.old.dict) (named_checks tables.now.checks.now) }
+    requires same_checks { IsTrue (heard_asks_checks (heard_in line.now)) → SameChecks (rules session.old.dict)
+        (named_checks tables.now.checks.now) }
     requires few { session.old.changes < 2 ^ 63 }
     ensures answered { AnsweredAs (rules session.old.dict) (K.output out.old) (K.output out.new)
         (state_by session.old tables.now.relations.now watches.old) (state_by session.new tables.now.relations.now watches.new) (whole line.now ∷ []) result }
@@ -69,7 +72,8 @@ pub fn answer_ready<E: FactEngine, L: Ledger, K: Sink>(
     steps: &mut Steps<L>,
 ) -> Progress
     requires short { length line.now ≤ 4096 }
-    requires same_checks { SameChecks (rules session.old.dict) (named_checks tables.now.checks.now) }
+    requires same_checks { IsTrue (line_asks_checks ready line.now) → SameChecks (rules session.old.dict)
+        (named_checks tables.now.checks.now) }
     requires few { session.old.changes < 2 ^ 63 }
     ensures answered { AnsweredAs (rules session.old.dict) (K.output out.old) (K.output out.new)
         (state_by session.old tables.now.relations.now watches.old) (state_by session.new tables.now.relations.now watches.new) (ready_lines ready line.now) result }

@@ -1,12 +1,12 @@
 // Answers the commands of the session, and tells the watches that fire behind a change.
-ghost use Rattle.std.specs.Prelude.{◌≡◌, ◌≤◌, ◌<◌, ◌+◌, ◌^◌, true, if◌then◌else◌};
+ghost use Rattle.std.specs.Prelude.{◌≡◌, ◌≤◌, ◌<◌, ◌+◌, ◌^◌, true, if◌then◌else◌, IsTrue};
 ghost use Rattle.text_checks.specs.Tables.{named_checks};
 ghost use Rattle.dictionary.specs.Accepted.{accepted};
 ghost use Rattle.dictionary.specs.Plain.{plain};
 ghost use Rattle.dictionary.specs.Dependencies.{Results};
 ghost use Rattle.fact_watch.specs.Tables.{named_relations};
 ghost use Rattle.fact_watch.specs.Watching.{noted};
-ghost use Rattle.graph_session.specs.Refusals.{SameChecks};
+ghost use Rattle.graph_session.specs.Refusals.{SameChecks, asks_checks};
 ghost use Rattle.graph_session.specs.Rules.{rules};
 ghost use Rattle.graph_session.specs.Step.{is_change as changes};
 ghost use Rattle.session_lines.specs.Answering.{KeptAs, SteppedAs, WrittenAs, replied, replied_and_fired, state_by};
@@ -22,7 +22,7 @@ use fact_values::NoMemory;
 use fact_watch::{WatchTable, Watches};
 use fg_io::Sink;
 use graph_session::{Reply, Session};
-use script_lines::Command;
+use script_lines::{Command, Kind};
 use std::sync::ledger::Ledger;
 use steps::Steps;
 use text_checks::CheckTable;
@@ -30,24 +30,9 @@ use text_checks::CheckTable;
 fn is_change(command: &Command) -> bool
     ensures { result ≡ changes command.now }
 {
-    match command {
-        Command::Set(..)
-        | Command::Clear(_)
-        | Command::OpenList(_)
-        | Command::Add(_)
-        | Command::Remove(..)
-        | Command::Override(..)
-        | Command::Release(_)
-        | Command::Undo
-        | Command::Redo => true,
-        Command::Get(_)
-        | Command::Final(_)
-        | Command::Stamp(_)
-        | Command::Touched
-        | Command::Missing(_)
-        | Command::Watch(..)
-        | Command::Unwatch(..)
-        | Command::Quit => false,
+    match command.kind() {
+        Kind::Change => true,
+        Kind::Question | Kind::Missing | Kind::Watch | Kind::Quit => false,
     }
 }
 
@@ -107,7 +92,7 @@ fn answer_noted<E: FactEngine, L: Ledger, K: Sink>(
 ) -> Progress
     requires noted { changes command.now ≡ true → watches.now ≡ noted watches.now.pairs
         (plain (accepted session.old.dict) session.old.timeline.now) }
-    requires same_checks { SameChecks (rules session.old.dict) (named_checks checks.now) }
+    requires same_checks { IsTrue (asks_checks command.now) → SameChecks (rules session.old.dict) (named_checks checks.now) }
     requires few { session.old.changes < 2 ^ 63 }
     ensures stepped { SteppedAs (K.output out.old) (K.output out.new) (step_session_command (rules session.old.dict)
         (state_by session.old table.now watches.now) command.now) (state_by session.new table.now watches.now) result }
@@ -137,7 +122,7 @@ fn answer_change<E: FactEngine, L: Ledger, K: Sink>(
     steps: &mut Steps<L>,
 ) -> Progress
     requires is_change { changes command.now ≡ true }
-    requires same_checks { SameChecks (rules session.old.dict) (named_checks checks.now) }
+    requires same_checks { IsTrue (asks_checks command.now) → SameChecks (rules session.old.dict) (named_checks checks.now) }
     requires few { session.old.changes < 2 ^ 63 }
     ensures stepped { SteppedAs (K.output out.old) (K.output out.new) (step_session_command (rules session.old.dict)
         (state_by session.old table.now watches.old) command.now) (state_by session.new table.now watches.new) result }
@@ -166,7 +151,7 @@ pub fn answer_session_command<E: FactEngine, L: Ledger, K: Sink>(
     out: &mut K,
     steps: &mut Steps<L>,
 ) -> Progress
-    requires same_checks { SameChecks (rules session.old.dict) (named_checks checks.now) }
+    requires same_checks { IsTrue (asks_checks command.now) → SameChecks (rules session.old.dict) (named_checks checks.now) }
     requires few { session.old.changes < 2 ^ 63 }
     ensures stepped { SteppedAs (K.output out.old) (K.output out.new) (step_session_command (rules session.old.dict)
         (state_by session.old table.now watches.old) command.now) (state_by session.new table.now watches.new) result }

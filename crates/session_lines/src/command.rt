@@ -1,7 +1,7 @@
 // Answers a command.
-ghost use Rattle.std.specs.Prelude.{◌≡◌, ◌≤◌, ◌<◌, ◌+◌, ◌^◌, false};
+ghost use Rattle.std.specs.Prelude.{◌≡◌, ◌≤◌, ◌<◌, ◌+◌, ◌^◌, false, IsTrue};
 ghost use Rattle.text_checks.specs.Tables.{named_checks};
-ghost use Rattle.graph_session.specs.Refusals.{SameChecks};
+ghost use Rattle.graph_session.specs.Refusals.{SameChecks, asks_checks};
 ghost use Rattle.graph_session.specs.Rules.{rules};
 ghost use Rattle.session_lines.specs.Answering.{KeptAs, SteppedAs, state_by};
 ghost use Rattle.session_lines.specs.Stepping.{is_session_command as known, step_command};
@@ -17,7 +17,7 @@ use dictionary::FactEngine;
 use fact_watch::{WatchTable, Watches};
 use fg_io::Sink;
 use graph_session::Session;
-use script_lines::Command;
+use script_lines::{Command, Kind};
 use std::alloc::Global;
 use std::sync::ledger::Ledger;
 use steps::Steps;
@@ -26,21 +26,9 @@ use steps::Steps;
 fn is_session_command(command: &Command) -> bool
     ensures { result ≡ known command.now }
 {
-    match command {
-        Command::Missing(_) | Command::Watch(..) | Command::Unwatch(..) | Command::Quit => false,
-        Command::Set(..)
-        | Command::Clear(_)
-        | Command::OpenList(_)
-        | Command::Add(_)
-        | Command::Remove(..)
-        | Command::Override(..)
-        | Command::Release(_)
-        | Command::Undo
-        | Command::Redo
-        | Command::Get(_)
-        | Command::Final(_)
-        | Command::Stamp(_)
-        | Command::Touched => true,
+    match command.kind() {
+        Kind::Change | Kind::Question => true,
+        Kind::Missing | Kind::Watch | Kind::Quit => false,
     }
 }
 
@@ -80,7 +68,8 @@ pub fn answer_command<E: FactEngine, L: Ledger, K: Sink>(
     out: &mut K,
     steps: &mut Steps<L>,
 ) -> Progress
-    requires same_checks { SameChecks (rules session.old.dict) (named_checks tables.now.checks.now) }
+    requires same_checks { IsTrue (asks_checks command.now) → SameChecks (rules session.old.dict)
+        (named_checks tables.now.checks.now) }
     requires few { session.old.changes < 2 ^ 63 }
     ensures stepped { SteppedAs (K.output out.old) (K.output out.new)
         (step_command (rules session.old.dict) (state_by session.old tables.now.relations.now watches.old) command.now)

@@ -22,7 +22,7 @@ use Rattle.shared_desk.specs.declared.refusal.DeskRefusal.TheVariants.{Session}
 use Rattle.shared_desk.proofs.AfterLaws.{after_by, after_change, after_question}
 use Rattle.shared_desk.proofs.LastSeenLaws.{and_false, kept_asked, kept_changed, looked_low}
 use Rattle.shared_desk.proofs.OrderLaws.{order_stays, touch_at}
-use Rattle.shared_desk.proofs.StepLaws.{late_refusal, late_step}
+use Rattle.shared_desk.proofs.StepLaws.{early_refusal, late_refusal, late_step, refused_self}
 
 -- ---- the same refusals
 
@@ -51,6 +51,10 @@ module _ (v : DeskView) (d : Desk) (p : ℕ) (f : StandsFor v d) where
 
   pub early_same : (c : Command) → early (rules_of v) (kept_desk v) p c ≡ early (rules_of v) d p c
   early_same c = λ i. first_early (absent_refusals (rules_of v) (f.session_state i).timeline.now c) (stale_named_same (edited c) i) (owner_same c i)
+
+  -- what is refused early is refused
+  pub early_refuses : (c : Command) (q : DeskRefusal) → Some q ≡ early (rules_of v) (kept_desk v) p c → Refused q (desk_refusal (rules_of v) d p c)
+  early_refuses c q is = refused_self q _ (early_refusal (rules_of v) d p c q (sym (is ∙ early_same c)))
 
 -- ---- after an accepted line
 

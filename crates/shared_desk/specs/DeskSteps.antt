@@ -1,7 +1,7 @@
 -- What is owed where a command that isn't refused early is carried out for a party, and what that leaves.
-use Rattle.std.specs.Prelude.{◌≡◌, ℕ, ◌<◌, ◌^◌, List, option_map, Result, Ok, IfErr, IfOk, OnErr, OnOk}
+use Rattle.std.specs.Prelude.{◌≡◌, ℕ, ◌<◌, ◌^◌, List, option_map, IsTrue, Result, Ok, IfErr, IfOk, OnErr, OnOk}
 use Rattle.script_lines.specs.declared.command.Command.{Command}
-use Rattle.graph_session.specs.Refusals.{SameChecks}
+use Rattle.graph_session.specs.Refusals.{SameChecks, asks_checks}
 use Rattle.graph_session.specs.SessionView.{session_state}
 use Rattle.graph_session.specs.Step.{refusal, step}
 use Rattle.graph_session.specs.declared.reply.Reply.{Reply}
@@ -10,9 +10,9 @@ use Rattle.shared_desk.specs.Refusals.{Refused}
 use Rattle.shared_desk.specs.declared.refusal.DeskRefusal.{DeskRefusal}
 use Rattle.shared_desk.specs.declared.refusal.DeskRefusal.TheVariants.{Session}
 
--- a table has the checks of the dictionary, and one more change can be numbered
-pub record CanStep (v : DeskView) (table : List (List ℕ × ℕ)) : Type 0 where
-  pub same_checks : SameChecks (rules_of v) table
+-- where the command asks checks, a table has those of the dictionary, and one more change can be numbered
+pub record CanStep (v : DeskView) (table : List (List ℕ × ℕ)) (c : Command) : Type 0 where
+  pub same_checks : IsTrue (asks_checks c) → SameChecks (rules_of v) table
   pub few : v.session.changes < 2 ^ 63
 
 -- the session's step, and what the desk keeps of it; or the session's refusal, which leaves all as it was

@@ -7,7 +7,7 @@ ghost use Rattle.dictionary.specs.Slots.{is_member, stands};
 ghost use Rattle.answers.specs.Answered.{start};
 ghost use Rattle.answers.specs.Meaning.{answered};
 ghost use Rattle.graph_session.specs.Counts.{stamp_of};
-ghost use Rattle.graph_session.specs.Refusals.{SameChecks, slot_refusals};
+ghost use Rattle.graph_session.specs.Refusals.{SameChecks, asks_checks, slot_refusals};
 ghost use Rattle.graph_session.specs.Rules.{rules, tree_of};
 ghost use Rattle.graph_session.specs.SessionView.{session_state};
 ghost use Rattle.graph_session.specs.Step.{is_change, most_steps, step};
@@ -199,7 +199,7 @@ impl<E: FactEngine> Desk<E> {
         steps: &mut Steps<L>,
     ) -> Result<Reply, DeskRefusal>
         requires appends { appends command.now ≡ true }
-        requires ready { CanStep self.old (named_checks checks.now) }
+        requires ready { CanStep self.old (named_checks checks.now) command.now }
         ensures stepped { HasStepped self.old party command.now result self.new }
         ensures steps { steps.new ≤ steps.old + most_steps (E.most (accepted self.old.session.dict)) (rules_of self.old)
             (session_state self.old.session) command.now }
@@ -226,7 +226,7 @@ impl<E: FactEngine> Desk<E> {
         steps: &mut Steps<L>,
     ) -> Result<Reply, DeskRefusal>
         requires undo { command.now ≡ Undo }
-        requires ready { CanStep self.old (named_checks checks.now) }
+        requires ready { CanStep self.old (named_checks checks.now) command.now }
         ensures stepped { HasStepped self.old party command.now result self.new }
         ensures steps { steps.new ≤ steps.old + most_steps (E.most (accepted self.old.session.dict)) (rules_of self.old)
             (session_state self.old.session) command.now }
@@ -251,7 +251,7 @@ impl<E: FactEngine> Desk<E> {
         steps: &mut Steps<L>,
     ) -> Result<Reply, DeskRefusal>
         requires redo { command.now ≡ Redo }
-        requires ready { CanStep self.old (named_checks checks.now) }
+        requires ready { CanStep self.old (named_checks checks.now) command.now }
         ensures stepped { HasStepped self.old party command.now result self.new }
         ensures steps { steps.new ≤ steps.old + most_steps (E.most (accepted self.old.session.dict)) (rules_of self.old)
             (session_state self.old.session) command.now }
@@ -277,7 +277,7 @@ impl<E: FactEngine> Desk<E> {
         steps: &mut Steps<L>,
     ) -> Result<Reply, DeskRefusal>
         requires shown { shown command.now ≡ Some path.now }
-        requires ready { CanStep self.old (named_checks checks.now) }
+        requires ready { CanStep self.old (named_checks checks.now) command.now }
         ensures stepped { HasStepped self.old party command.now result self.new }
         ensures steps { steps.new ≤ steps.old + most_steps (E.most (accepted self.old.session.dict)) (rules_of self.old)
             (session_state self.old.session) command.now }
@@ -305,7 +305,7 @@ impl<E: FactEngine> Desk<E> {
     ) -> Result<Reply, DeskRefusal>
         requires asks { is_change command.now ≡ false }
         requires shows { shown command.now ≡ None }
-        requires ready { CanStep self.old (named_checks checks.now) }
+        requires ready { CanStep self.old (named_checks checks.now) command.now }
         ensures stepped { HasStepped self.old party command.now result self.new }
         ensures steps { steps.new ≤ steps.old + most_steps (E.most (accepted self.old.session.dict)) (rules_of self.old)
             (session_state self.old.session) command.now }
@@ -324,7 +324,7 @@ impl<E: FactEngine> Desk<E> {
         checks: &CheckTable,
         steps: &mut Steps<L>,
     ) -> Result<Reply, DeskRefusal>
-        requires ready { CanStep self.old (named_checks checks.now) }
+        requires ready { CanStep self.old (named_checks checks.now) command.now }
         ensures stepped { HasStepped self.old party command.now result self.new }
         ensures steps { steps.new ≤ steps.old + most_steps (E.most (accepted self.old.session.dict)) (rules_of self.old)
             (session_state self.old.session) command.now }
@@ -351,8 +351,8 @@ impl<E: FactEngine> Desk<E> {
     }
 
     /// Carries out a command of a party: the reply, or the first refusal that holds. After a refusal, want of memory included,
-    /// nothing has changed. Watches aren't a desk's: `watch` and `unwatch` are answered as the session does, and put none. The table
-    /// has the checks with which the dictionary was accepted, or no fact of it has a check.
+    /// nothing has changed. Watches aren't a desk's: `watch` and `unwatch` are answered as the session does, and put none. For
+    /// `set` the table has the checks with which the dictionary was accepted, or no fact of it has a check.
     pub fn line<L: Ledger>(
         &mut self,
         party: u32,
@@ -360,7 +360,8 @@ impl<E: FactEngine> Desk<E> {
         checks: &CheckTable,
         steps: &mut Steps<L>,
     ) -> Result<Reply, DeskRefusal>
-        requires same_checks { SameChecks (rules_of self.old) (named_checks checks.now) }
+        requires same_checks { IsTrue (asks_checks command.now) → SameChecks (rules_of self.old)
+            (named_checks checks.now) }
         requires few { self.old.session.changes < 2 ^ 63 }
         ensures reply { (d : Defined) → StandsFor self.old d
             → IfOk result (λ r. desk_step (rules_of self.old) d party command.now

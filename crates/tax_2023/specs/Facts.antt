@@ -13,7 +13,7 @@ use Rattle.dict_tree.specs.Parsing.{use_of}
 use Rattle.dict_tree.specs.Facts.{Fact, Stated, enum_of, item_of, list_of, scalar, writable_list}
 use Rattle.dict_tree.specs.Dictionary.{Dictionary}
 use Rattle.written_facts.specs.Figures.{Named, text_under}
-use Rattle.written_facts.specs.Rows.{derived, question, question_from}
+use Rattle.written_facts.specs.Rows.{asked, asked_from, derived, described}
 use Rattle.written_facts.specs.Taking.{with_facts}
 
 -- ---- words
@@ -168,6 +168,14 @@ abbrev pub first_dependent : Source
 first_dependent = pick Find persons_path they_depend
 
 -- ---- facts
+
+-- a person answers it, and the words say what is asked
+abbrev pub question : List ℕ → Stated → List ℕ → Fact
+question path stated words = described words (asked path stated)
+
+-- the same, with this value or a greater one
+abbrev pub question_from : List ℕ → Stated → List ℕ → List ℕ → Fact
+question_from path stated text words = described words (asked_from path stated text)
 
 -- what is asked of the filer and the spouse
 abbrev pub filer : List Fact

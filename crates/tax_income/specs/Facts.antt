@@ -10,12 +10,12 @@ use Rattle.dict_tree.specs.Parsing.{use_of}
 use Rattle.dict_tree.specs.Facts.{Fact}
 use Rattle.dict_tree.specs.Dictionary.{Dictionary}
 use Rattle.written_facts.specs.Figures.{Named}
-use Rattle.written_facts.specs.Rows.{derived, question}
+use Rattle.written_facts.specs.Rows.{derived}
 use Rattle.written_facts.specs.Taking.{with_facts}
 use Rattle.tax_2023.specs.Figures.{figures}
 use Rattle.tax_income.specs.Figures.{income_figures}
 use Rattle.tax_income.specs.Years.{IncomeYear}
-use Rattle.tax_2023.specs.Facts.{all, amount, any, boolean, cases, choice, day, dictionary, dollar, int, isnt, no_dollars, otherwise, sum, value, whole}
+use Rattle.tax_2023.specs.Facts.{all, amount, any, boolean, cases, choice, day, dictionary, dollar, int, isnt, no_dollars, otherwise, question, sum, value, whole}
 
 -- ---- words
 

@@ -1,10 +1,15 @@
-use Rattle.std.proofs.Common.{ap}
+use Rattle.std.proofs.Common.{ap, subst}
+use Rattle.std.specs.Prelude.{IsTrue}
+use Rattle.text_checks.specs.Tables.{named_checks}
+use Rattle.script_lines.specs.Parsing.{Heard}
+use Rattle.graph_session.specs.Refusals.{SameChecks}
 use Rattle.fact_watch.specs.Tables.{named_relations}
 use Rattle.script_lines.specs.Lines.{whole}
 use Rattle.graph_session.specs.Rules.{rules}
 use Rattle.session_lines.specs.Answering.{line_state_of}
 use Rattle.session_lines.specs.Replies.{bad_line_text, line_with}
 use Rattle.session_lines.specs.Stepping.{step_heard}
+use Rattle.session_lines.specs.Tables.{heard_asks_checks}
 use Rattle.session_lines.proofs.AnsweringLaws.{answers_line, keeps_line, keeps_still, text_step}
 use Rattle.session_lines.proofs.answering.answer_line.Goals as goal
 
@@ -36,3 +41,8 @@ returns-in-Err-BadLine-clause-kept g c =
     let here = line_state_of c.args.session.now (named_relations c.args.tables.now.relations.now) c.args.watches.now in
     let says = rw c.in-Err-BadLine.field-0-is at c.in-Err-BadLine.ensures.heard in
     keeps_line r here here (whole c.args.line.now) _ c.write_text.result (ap (step_heard r here) says) (keeps_still here c.write_text.result)
+
+pub answer_command-progress-requires-clause-same_checks : goal.answer_command-progress-requires-clause-same_checks
+answer_command-progress-requires-clause-same_checks g c =
+    let says = rw c.in-Ok-Some.field-0-is at c.in-Ok-Some.ensures.heard in
+    subst (λ (h : Heard). IsTrue (heard_asks_checks h) → SameChecks (rules c.args.session.now.dict) (named_checks c.args.tables.now.checks.now)) says c.requires.same_checks
