@@ -34,7 +34,7 @@ Json = Any
 Key = str | int
 
 NAMES = """All Any Not Add Subtract Multiply Divide GreaterOf LesserOf Equal NotEqual GreaterThan LessThan GreaterThanOrEqual
-LessThanOrEqual Round YearOf AddDays AddMonths AddYears DaysBetween AgeOn MonthOf DayOf RoundUp RoundDown RoundNearest Filter Find
+LessThanOrEqual Round YearOf AddDays AddMonths AddYears DaysBetween AgeOn MonthOf DayOf RoundUp RoundDown RoundNearest Lookup Filter Find
 Dependency IsComplete CollectionSize CollectionSum Count Switch Case True False
 Int Dollar Rational Day Text Enum""".split()
 TYPES = """Int Dollar Rational Day Text Boolean Collection Enum(color) Enum(x) Collection(/c) Item(/c) Collection(/l) Item(/p)
@@ -42,8 +42,11 @@ Nothing""".split()
 TEXTS = """0 1 -1 007 1.50 1.5 2024-02-29 2023-02-29 1799-12-31 2199-12-31 1/2 2/4 1/0 red green digits trimmed 999999999999999
 1000000000000000 9999999999999.99 law-1 2""".split() + ["", "a b", "x" * 1_001]
 PATHS = "/nope ../nope nope /c/*/nope /c/nope ../c/nope // /a/* /1".split()
-KEYS = "path writable derived is placeholder conditional limits description name options other".split()
-PARTS: list[Json] = [[], "Int", ["True"], ["Int", "1"], [["Dependency", "/a"], ["Int", "2"]], [["Min", "1"]], [["Check", "digits"]], None, 1, True, {}]
+KEYS = "path writable derived is placeholder conditional limits description name options tables from to rows else other".split()
+PARTS: list[Json] = [
+    [], "Int", ["True"], ["Int", "1"], [["Dependency", "/a"], ["Int", "2"]], [["Min", "1"]], [["Check", "digits"]], [["1", "2"]],
+    None, 1, True, {},
+]
 
 
 def written_cases() -> Iterator[Case]:
@@ -92,7 +95,7 @@ class Changer:
 
     def text(self, key: Key, text: str, uses: list[str]) -> str:
         """Another text."""
-        if key in ("writable", "derived"):
+        if key in ("writable", "derived", "from", "to"):
             return self.choice.choice(TYPES)
         if text in NAMES:
             return self.choice.choice(NAMES)

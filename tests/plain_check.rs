@@ -29,6 +29,8 @@ const MOST_COLLECTIONS: usize = 32;
 const MOST_ENUMS: usize = 200;
 const MOST_OPTIONS: usize = 100;
 const MOST_LIMITS: usize = 8;
+const MOST_TABLES: usize = 100;
+const MOST_ROWS: usize = 1_000;
 const MOST_DEPTH: usize = 48;
 const MOST_TEXT: usize = 1_000;
 
@@ -566,6 +568,16 @@ struct Dictionary<'a> {
 /// Each enum by its name, with the place of each option.
 type Enums<'a> = HashMap<&'a str, HashMap<&'a str, usize>>;
 
+/// Each table by its name.
+type Tables<'a> = HashMap<&'a str, Table<'a>>;
+
+/// What types a table has: of its keys, and of its values.
+#[derive(Clone, Copy)]
+struct Table<'a> {
+    from: Type<'a>,
+    to: Type<'a>,
+}
+
 /// What is said of a fact besides its expressions.
 struct Fact<'a> {
     /// None where the text is no path of a fact.
@@ -599,6 +611,7 @@ enum Expr<'a> {
     Filter(Use<'a>, Box<Expr<'a>>),
     Find(Use<'a>, Box<Expr<'a>>),
     Switch(Vec<(Expr<'a>, Expr<'a>)>),
+    Lookup(Table<'a>, Box<Expr<'a>>),
     Apply(Operator, Vec<Expr<'a>>),
 }
 
@@ -813,6 +826,7 @@ fn bounds_of<'a>(fact: &Fact<'a>) -> Option<Vec<Bound<'a>>> {
 /// Reads the parts of a dictionary, and keeps what is counted of them.
 struct Reader<'a> {
     enums: Enums<'a>,
+    tables: Tables<'a>,
     version: Version,
     /// Of the fact that is read.
     number: usize,
@@ -864,7 +878,7 @@ fn read_dictionary(json: &Value) -> Result<Dictionary<'_>, Fault> {
 /// All but the facts, which come as they stand.
 fn read_top(json: &Value) -> Result<(Reader<'_>, &[Value]), BadShape> {
     let top = json.object()?;
-    ensure_keys(top, &["version", "facts", "enums", "description"])?;
+    ensure_keys(top, &["version", "facts", "enums", "tables", "description"])?;
     let version = match member(top, "version")?.text()? {
         "1" => Version::First,
         "2" => Version::Second,
@@ -877,8 +891,60 @@ fn read_top(json: &Value) -> Result<(Reader<'_>, &[Value]), BadShape> {
         let (name, options) = read_enum(json)?;
         ensure(enums.insert(name, options).is_none())?;
     }
+    let tables = match top.get("tables") {
+        Some(json) if version == Version::Law => read_tables(json, &enums)?,
+        Some(_) => return Err(BadShape),
+        None => Tables::new(),
+    };
     let facts = member(top, "facts")?.array()?;
-    Ok((Reader { enums, version, number: 0, nodes: 0, too_deep: None }, facts))
+    Ok((Reader { enums, tables, version, number: 0, nodes: 0, too_deep: None }, facts))
+}
+
+fn read_tables<'a>(json: &'a Value, enums: &Enums<'a>) -> Result<Tables<'a>, BadShape> {
+    let mut tables = Tables::new();
+    for json in json.array()? {
+        let (name, table) = read_table(json, enums)?;
+        ensure(tables.insert(name, table).is_none())?;
+    }
+    ensure(tables.len() <= MOST_TABLES)?;
+    Ok(tables)
+}
+
+fn read_table<'a>(json: &'a Value, enums: &Enums<'a>) -> Result<(&'a str, Table<'a>), BadShape> {
+    let object = json.object()?;
+    ensure_keys(object, &["name", "from", "to", "rows", "else", "description"])?;
+    object.get("description").map(Value::text).transpose()?;
+    let name = name_in(member(object, "name")?.text()?).ok_or(BadShape)?;
+    let from = Type::parse_scalar(member(object, "from")?.text()?)?;
+    ensure(matches!(from, Type::Int | Type::Dollar | Type::Day))?;
+    let to = Type::parse_scalar(member(object, "to")?.text()?)?;
+    read_entry(to, member(object, "else")?, enums)?;
+    let rows = member(object, "rows")?.array()?;
+    ensure(rows.len() <= MOST_ROWS)?;
+    let mut below = None;
+    for row in rows {
+        let [key, value] = row.array()? else {
+            return Err(BadShape);
+        };
+        let key = match Constant::parse(from, key.text()?) {
+            Some(Constant::Int(number) | Constant::Dollar(number) | Constant::Day(number)) => number,
+            _ => return Err(BadShape),
+        };
+        ensure(below.map_or(true, |below| below < key))?;
+        below = Some(key);
+        read_entry(to, value, enums)?;
+    }
+    Ok((name, Table { from, to }))
+}
+
+/// A value of a table.
+fn read_entry(to: Type, json: &Value, enums: &Enums) -> Result<(), BadShape> {
+    let text = json.text()?;
+    ensure(match to {
+        Type::Boolean => text == "true" || text == "false",
+        Type::Enum(list) => enums.get(list).is_some_and(|options| options.contains_key(text)),
+        _ => Constant::parse(to, text).is_some(),
+    })
 }
 
 fn read_enum(json: &Value) -> Result<(&str, HashMap<&str, usize>), BadShape> {
@@ -948,6 +1014,10 @@ impl<'a> Reader<'a> {
             ("Switch", [_, ..]) => {
                 let cases = operands.iter().map(|json| self.case(json, depth + 1)).collect::<Result<_, _>>()?;
                 Ok(Expr::Switch(cases))
+            }
+            ("Lookup", [name, operand]) if self.version == Version::Law => {
+                let table = *self.tables.get(name.text()?).ok_or(BadShape)?;
+                Ok(Expr::Lookup(table, Box::new(self.expr(operand, depth + 1)?)))
             }
             (name, _) => {
                 let operator = Operator::named(self.version, name, operands.len()).ok_or(BadShape)?;
@@ -1086,6 +1156,7 @@ impl<'a> Resolver<'_, 'a> {
                     self.expr(value, condition);
                 }
             }
+            Expr::Lookup(_, operand) => self.expr(operand, condition),
             Expr::Apply(_, operands) => {
                 for operand in operands {
                     self.expr(operand, condition);
@@ -1197,6 +1268,7 @@ impl<'a> TypeChecker<'_, 'a> {
                 }
                 common.filter(|_| is_typed)
             }
+            Expr::Lookup(table, operand) => (self.expr(operand)? == table.from).then_some(table.to),
             Expr::Apply(operator, operands) => {
                 let types = operands.iter().map(|operand| self.expr(operand)).collect::<Result<Vec<_>, _>>()?;
                 operator.result_type(&types)

@@ -16,8 +16,9 @@ from harness import DICTIONARIES, EXAMPLES, TOP, Tally, words_of
 from stored_cases import Case, cases_of, files_of_cases
 
 REFUSED = "dictionary refused"
-# What no schema says: that two lists of options have one name.
-UNSAID = "one name"
+# What no schema says, in the words of the cases: of two parts that they are alike or in order, of a name that it is one of others, of a
+# text that it has a meaning beyond its form.
+UNSAID = ("one name", "isn't there", "no such option", "don't rise", "no day", "beyond the range", "bytes")
 
 
 def dictionaries_of_cases() -> Iterator[tuple[str, bytes, str]]:
@@ -40,7 +41,7 @@ def try_schema(tally: Tally) -> None:
             continue
         if not due.startswith(REFUSED):
             tally.expect(f"the schema on {what}", form.is_valid(value), True)
-        elif due.startswith(f"{REFUSED} 3 ") and UNSAID not in what:
+        elif due.startswith(f"{REFUSED} 3 ") and not any(words in what for words in UNSAID):
             tally.expect(f"the schema on {what}", form.is_valid(value), False)
 
 

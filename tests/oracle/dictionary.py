@@ -5,7 +5,11 @@ from __future__ import annotations
 import json
 import re
 from collections.abc import Iterator
+from datetime import date
+from fractions import Fraction
 from typing import Any, NamedTuple
+
+from .values import Value, read
 
 # An expression, as ["Add", ["Int", "1"], ["Dependency", "/a"]].
 Expression = list[Any]
@@ -53,13 +57,28 @@ class Fact(NamedTuple):
         return self.is_writable and self.kind == "Collection"
 
 
+class Table(NamedTuple):
+    """A table: its rows, each with what its key is ordered by and its value, and the value below them all."""
+
+    rows: list[tuple[Fraction | date, Value]]
+    otherwise: Value
+
+
 class Dictionary:
-    """The facts of an accepted dictionary by their paths, in its order, and its lists of options."""
+    """The facts of an accepted dictionary by their paths, in its order, its lists of options, and its tables."""
 
     def __init__(self, text: str | bytes) -> None:
         stated = json.loads(text)
         self.options: dict[str, list[str]] = {enum["name"]: enum["options"] for enum in stated.get("enums", [])}
+        self.tables: dict[str, Table] = {table["name"]: self.table_of(table) for table in stated.get("tables", [])}
         self.facts: dict[str, Fact] = {fact["path"]: fact_of(fact) for fact in stated["facts"]}
+
+    def table_of(self, stated: dict[str, Any]) -> Table:
+        """A table of its object."""
+        kind, _, of = stated["to"].partition("(")
+        options = self.options[of[:-1]] if kind == "Enum" else []
+        rows = [(sure(stated["from"], [], key).order, sure(kind, options, value)) for key, value in stated["rows"]]
+        return Table(rows, sure(kind, options, stated["else"]))
 
     def options_of(self, fact: Fact) -> list[str]:
         """The options of an Enum; none of another type."""
@@ -103,7 +122,7 @@ class Dictionary:
             fact = self.facts[ahead.pop()]
             if fact.path not in seen and fact.body:
                 seen.add(fact.path)
-                if '"IsComplete"' in json.dumps(fact.body):
+                if any(name == "IsComplete" for name in names_in(fact.body)):
                     return False
                 ahead += [mention.path for mention in self.used(fact.body, fact.collection or "", "")]
         return True
@@ -117,6 +136,21 @@ class Dictionary:
         if not member:
             return Slot(f"/{name}")
         return Slot(f"/{name}/*/{field}", int(member)) if int(member) <= MOST_MEMBERS_NUMBERED else None
+
+
+def sure(kind: str, options: list[str], text: str) -> Value:
+    """The value that a text of the dictionary spells."""
+    value = read(kind, options, text)
+    assert value, f"no {kind} {text}"
+    return value
+
+
+def names_in(expression: Expression) -> Iterator[str]:
+    """The names of the nodes of an expression, and of the cases of its Switches."""
+    yield expression[0]
+    for operand in expression[1:]:
+        if isinstance(operand, list):
+            yield from names_in(operand)
 
 
 def fact_of(stated: dict[str, Any]) -> Fact:

@@ -6,8 +6,8 @@ from collections.abc import Callable, Iterator, Mapping, Sequence
 from functools import partial
 from typing import NamedTuple
 
-from .dictionary import Dictionary, Expression, Fact, Slot
-from .values import FALSE, STRICT, TRUE, Faulty, Value, add, boolean, read
+from .dictionary import Dictionary, Expression, Fact, Slot, sure
+from .values import FALSE, STRICT, TRUE, Faulty, Value, add, boolean
 
 
 class Answers(NamedTuple):
@@ -158,9 +158,7 @@ class Place:
         if name in ("True", "False"):
             return boolean(name == "True")
         options = self.evaluation.dictionary.options[texts[0]] if name == "Enum" else []
-        value = read(name, options, texts[-1])
-        assert value, f"no constant {name} {texts}"
-        return value
+        return sure(name, options, texts[-1])
 
     def strict(self, name: str, operands: list[Expression]) -> Result:
         """Of an operation that waits for all its operands."""
@@ -172,6 +170,18 @@ class Place:
             return known(STRICT[name]([result.value for result in results if result.value]), results)
         except Faulty as faulty:
             return Result("fault", None, str(faulty))
+
+    def lookup(self, name: str, operand: Expression) -> Result:
+        """Of the last row of a table whose key is at most the operand; below them all it is the table's else."""
+        result = self.of(operand)
+        if not result.value:
+            return result
+        table, asked = self.evaluation.dictionary.tables[name], result.value.order
+        value = table.otherwise
+        for key, own in table.rows:
+            if key <= asked:  # type: ignore[operator]  # both of one type
+                value = own
+        return known(value, [result])
 
     def junction(self, *operands: Expression, deciding: Value) -> Result:
         """Of All, which a false decides, or of Any, which a true does."""
@@ -288,6 +298,7 @@ NODES: dict[str, Callable[..., Result]] = {
     "CollectionSize": Place.size,
     "CollectionSum": partial(Place.over_members, is_count=False),
     "Count": partial(Place.over_members, is_count=True),
+    "Lookup": Place.lookup,
     "Filter": Place.filtered,
     "Find": Place.found,
 }

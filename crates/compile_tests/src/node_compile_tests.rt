@@ -86,6 +86,15 @@ const KINDS: &str =
 {"path":"/operations","derived":"Boolean","is":["Any",["Not",["True"]],["GreaterThan",["Round",["Dollar","1.50"]],["Dollar","1"]]]}
 ]}"#;
 
+const LOOKUPS: &str = r#"{"version":"law-1","tables":[
+{"name":"least","from":"Int","to":"Dollar","rows":[["1","24"]],"else":"0"},
+{"name":"most","from":"Int","to":"Dollar","rows":[["1","291"],["2","535"]],"else":"0"}
+],"facts":[
+{"path":"/size","writable":"Int"},
+{"path":"/most","derived":"Dollar","is":["Lookup","most",["Dependency","/size"]]},
+{"path":"/least","derived":"Dollar","is":["Lookup","least",["Dependency","/size"]]}
+]}"#;
+
 // Each form of use path, outside of conditions and under one, in a fact of a member too.
 const PATHS: &str = r#"{"version":"2","facts":[
 {"path":"/n","writable":"Int","placeholder":["Int","3"]},
@@ -173,10 +182,15 @@ const NODES_OF_KINDS: &str = "1 day 1
 4 Any [Not [true]] [GreaterThan [Round [150c]] [100c]]
 ";
 
+const NODES_OF_LOOKUPS: &str = "2 Lookup most [Dependency /1]
+3 Lookup least [Dependency /1]
+";
+
 #[test]
 fn constants_are_read_and_operations_kept(rt: HostRuntime) {
     assert!(rt; has_nodes(rt.alloc(), AMOUNTS, NODES_OF_AMOUNTS));
     assert!(rt; has_nodes(rt.alloc(), KINDS, NODES_OF_KINDS));
+    assert!(rt; has_nodes(rt.alloc(), LOOKUPS, NODES_OF_LOOKUPS));
 }
 
 #[test]

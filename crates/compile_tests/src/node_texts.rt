@@ -79,13 +79,18 @@ fn many_name(op: ManyOp) -> &'static str {
     }
 }
 
-fn one_name(op: OneOp) -> &'static str {
+fn write_one(text: &mut String, op: &OneOp) -> Result<(), NoMemory> {
     match op {
-        OneOp::Not => "Not ",
-        OneOp::Round => "Round ",
-        OneOp::YearOf => "YearOf ",
-        OneOp::MonthOf => "MonthOf ",
-        OneOp::DayOf => "DayOf ",
+        OneOp::Not => put(text, "Not "),
+        OneOp::Round => put(text, "Round "),
+        OneOp::YearOf => put(text, "YearOf "),
+        OneOp::MonthOf => put(text, "MonthOf "),
+        OneOp::DayOf => put(text, "DayOf "),
+        OneOp::Lookup(table) => {
+            put(text, "Lookup ")?;
+            put(text, table.name().as_str())?;
+            put(text, " ")
+        }
     }
 }
 
@@ -132,7 +137,7 @@ pub fn write_node(text: &mut String, node: &Node) -> Result<(), NoMemory> {
             write_operands(text, operands.as_slice())
         }
         Node::One(op, operand) => {
-            put(text, one_name(*op))?;
+            write_one(text, op)?;
             write_operand(text, operand)
         }
         Node::Two(op, left, right) => {

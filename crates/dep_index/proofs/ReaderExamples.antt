@@ -36,6 +36,7 @@ reads op path = read (op, record { text = use_path_text path; path = Some path }
 abbrev dictionary : Tree
 dictionary = record {
   enums = [];
+  tables = [];
   facts =
       fact (facts.Global (codes "c")) writable_list None
       ∷ fact (facts.Member (codes "c") (codes "n")) (scalar types.Int) None

@@ -109,16 +109,16 @@ within n few = rw (none_many n few, none_deep n) refl
 -- ---- the start
 
 abbrev empty : Written
-empty = record { enums = []; facts = [] }
+empty = record { enums = []; tables = []; facts = [] }
 
-begun : (w : Written) (enums : List Listed) → w ≡ record { enums = enums; facts = [] } → enums ≡ [] → w ≡ empty
-begun w enums h e = h ∙ ap (λ (es : List Listed). record { enums = es; facts = [] }) e
+begun : (w : Written) (enums : List Listed) → w ≡ record { enums = enums; tables = []; facts = [] } → enums ≡ [] → w ≡ empty
+begun w enums h e = h ∙ ap (λ (es : List Listed). record { enums = es; tables = []; facts = [] }) e
 
-pub start_taken : (w : Written) (enums : List Listed) (fs : List Fact) → w ≡ record { enums = enums; facts = [] } → enums ≡ [] → fs ≡ member_facts → IsTrue (takes_all (dictionary_view w) fs)
+pub start_taken : (w : Written) (enums : List Listed) (fs : List Fact) → w ≡ record { enums = enums; tables = []; facts = [] } → enums ≡ [] → fs ≡ member_facts → IsTrue (takes_all (dictionary_view w) fs)
 start_taken w enums fs h e f =
     subst (λ x. IsTrue (takes_all (dictionary_view x) fs)) (sym (begun w enums h e)) (subst (λ x. IsTrue (takes_all (dictionary_view empty) x)) (sym f) refl)
 
-pub started : (w : Written) (enums : List Listed) (fs : List Fact) (new : Dictionary) → w ≡ record { enums = enums; facts = [] } → enums ≡ [] → fs ≡ member_facts → new ≡ with_facts (dictionary_view w) fs → new ≡ chain 0
+pub started : (w : Written) (enums : List Listed) (fs : List Fact) (new : Dictionary) → w ≡ record { enums = enums; tables = []; facts = [] } → enums ≡ [] → fs ≡ member_facts → new ≡ with_facts (dictionary_view w) fs → new ≡ chain 0
 started w enums fs new h e f is = is ∙ ap (λ x. with_facts (dictionary_view x) fs) (begun w enums h e) ∙ ap (with_facts (dictionary_view empty)) f
 
 -- ---- sums

@@ -42,4 +42,4 @@ chain_facts (suc k) = chain_facts k ++ sum_fact k ∷ []
 
 -- the dictionary with so many sums
 abbrev pub chain : ℕ → Dictionary
-chain n = record { enums = []; facts = chain_facts n }
+chain n = record { enums = []; tables = []; facts = chain_facts n }

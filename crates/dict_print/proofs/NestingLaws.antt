@@ -1,26 +1,35 @@
 -- How deep the printed form nests: what is within the limits is no deeper than 100.
-use Rattle.std.proofs.Common.{◌≡◌, ℕ, suc, ◌+◌, ◌*◌, ◌≤◌, max, List, [], ◌∷◌, Bool, true, false, not, ◌&&◌, cond, Option, Some, None, Ordering, Less, Equal, Greater, refl, subst, arith}
+use Rattle.std.proofs.Common.{◌≡◌, ℕ, suc, ◌+◌, ◌*◌, ◌≤◌, List, [], ◌∷◌, Bool, true, false, not, ◌&&◌, cond, Option, Some, None, Ordering, Less, Equal, Greater, refl, subst, arith}
 use Rattle.std.specs.Prelude.{codes, nat_le, option_map}
 use Rattle.std.specs.Ordering.{match_ordering}
 use Rattle.std.proofs.lemmas.Bool.{leb-true}
 use Rattle.std.proofs.lemmas.Option.{same_Some}
 use Rattle.common_lemmas.proofs.Bools.{both}
-use Rattle.serde_json.specs.Data.{Data, string, array, object, Items, Members, no_members, member, put, depth, items_depth, members_depth}
+use Rattle.serde_json.specs.Data.{Data, string, array, Members, no_members, member, put, depth, items_depth, members_depth}
 use Rattle.serde_json.specs.Read.{max_depth}
+use Rattle.fact_values.specs.declared.fact_type.FactType.{FactType}
+use Rattle.law_arithmetic.specs.declared.table.Row.{Row}
 use Rattle.value_text.specs.Enums.{Listed}
 use Rattle.dict_tree.specs.Tree.{Literal, literal_true, Source, Sources, SourceCase, SourceCases, literal, read, switch, many, one, two, pick, no_trees, tree, no_cases, a_case, depth as tree_depth, depth_of_trees, depth_of_cases}
+use Rattle.dict_tree.specs.declared.operators.OneOp.{OneOp}
+use Rattle.dict_tree.specs.declared.operators.OneOp.TheVariants as ones
+use Rattle.dict_tree.specs.Tables.{LookupTable}
 use Rattle.dict_tree.specs.Facts.{Fact, Bound, least, option_within, conditional_within, fact_within}
 use Rattle.dict_tree.specs.Dictionary.{Dictionary, IsWithinLimits, number_from}
-use Rattle.dict_tree.specs.Json.{literal_json, json_of, json_of_trees, json_of_cases}
+use Rattle.dict_tree.specs.Json.{literal_json, one_json, json_of, json_of_trees, json_of_cases}
 use Rattle.dict_tree.specs.FactJson.{items_from, stated_text, limit_json, conditional_json}
 use Rattle.dict_tree.specs.Versions.{version_text}
-use Rattle.dict_print.specs.DictionaryJson.{put_some, some_array, enum_json, fact_json, json_by_main, last_members, writable_members, derived_members, all_members, dictionary_json, printed_version}
+use Rattle.dict_print.specs.DictionaryJson.{put_some, some_array, enum_json, row_json, table_json, fact_json, json_by_main, last_members, writable_members, derived_members, all_members, dictionary_json, printed_version}
 
 -- ---- expressions
 
 literal_nests : (c : Literal) → depth (literal_json c) ≤ 2
 literal_nests literal_true = omega arith
 literal_nests c = omega arith
+
+operation_nests : (op : OneOp) (d : Data) → depth (one_json op d) ≤ suc (depth d)
+operation_nests (ones.Lookup t) d = omega arith
+operation_nests op d = omega arith
 
 mutual
   -- a case of a switch is an array in an array, and any other node one array
@@ -29,7 +38,7 @@ mutual
   expr_nests (read r) = omega arith
   expr_nests (switch cs) = omega (arith, cases_nest cs)
   expr_nests (many op ts) = omega (arith, trees_nest ts)
-  expr_nests (one op t) = omega (arith, expr_nests t)
+  expr_nests (one op t) = omega (arith, operation_nests op (json_of t), expr_nests t)
   expr_nests (two op a b) = omega (arith, expr_nests a, expr_nests b)
   expr_nests (pick op p t) = omega (arith, expr_nests t)
 
@@ -137,12 +146,20 @@ facts_nest n (f ∷ fs) h =
 enum_nests : (e : Listed) → depth (enum_json e) ≤ 2
 enum_nests e = omega (arith, items_nest string 0 (λ s. omega arith) e.options)
 
+row_nests : (enums : List Listed) (from : FactType) (row : Row) → depth (row_json enums from row) ≤ 1
+row_nests enums from row = omega arith
+
+table_nests : (enums : List Listed) (t : LookupTable) → depth (table_json enums t) ≤ 3
+table_nests enums t = omega (arith, items_nest (row_json enums t.from) 1 (row_nests enums t.from) t.rows)
+
 pub printed_nests : (d : Dictionary) → IsWithinLimits d → depth (dictionary_json d) ≤ max_depth
 printed_nests d h =
     let enums = put_some (codes "enums") (some_array enum_json d.enums) no_members in
     let enums_nest : members_depth enums ≤ 99 = put_some_nests (codes "enums") (some_array enum_json d.enums) no_members 99 (weaker 3 99 (some_array enum_json d.enums) (omega arith) (some_array_nests enum_json 2 enum_nests d.enums)) (omega arith) in
+    let tables = put_some (codes "tables") (some_array (table_json d.enums) d.tables) enums in
+    let tables_nest : members_depth tables ≤ 99 = put_some_nests (codes "tables") (some_array (table_json d.enums) d.tables) enums 99 (weaker 4 99 (some_array (table_json d.enums) d.tables) (omega arith) (some_array_nests (table_json d.enums) 3 (table_nests d.enums) d.tables)) enums_nest in
     let array_nests : depth (array (items_from fact_json d.facts)) ≤ 99 = omega (arith, facts_nest 1 d.facts h.deep) in
-    let facts = put (codes "facts") (array (items_from fact_json d.facts)) enums in
-    let facts_are : members_depth facts ≤ 99 = put_nests (codes "facts") (array (items_from fact_json d.facts)) enums 99 array_nests enums_nest in
+    let facts = put (codes "facts") (array (items_from fact_json d.facts)) tables in
+    let facts_are : members_depth facts ≤ 99 = put_nests (codes "facts") (array (items_from fact_json d.facts)) tables 99 array_nests tables_nest in
     let all : members_depth (all_members d) ≤ 99 = put_nests (codes "version") (string (version_text (printed_version d))) facts 99 (omega arith) facts_are in
     omega (arith, all)

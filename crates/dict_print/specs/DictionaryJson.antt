@@ -1,13 +1,19 @@
 -- The JSON form in which a dictionary is printed.
-use Rattle.std.specs.Prelude.{◌≡◌, ℕ, List, [], ◌∷◌, map, codes, Bool, true, false, Option, Some, None, option_map}
+use Rattle.std.specs.Prelude.{ℕ, ◌==◌, List, [], ◌∷◌, length, codes, Bool, true, false, not, ◌||◌, Option, Some, None, option_map, unwrap_or}
 use Rattle.std.specs.List.{All, list_any}
 use Rattle.serde_json.specs.Data.{Data, string, array, object, no_items, item, Members, no_members, put}
-use Rattle.value_text.specs.Enums.{Listed, AreLists}
+use Rattle.fact_paths.specs.Names.{IsName}
+use Rattle.fact_values.specs.declared.fact_type.FactType.{FactType}
+use Rattle.fact_values.specs.declared.fact_type.FactType.TheVariants as types
+use Rattle.law_arithmetic.specs.declared.table.Row.{Row}
+use Rattle.value_text.specs.Enums.{Listed, AreLists, name_at}
+use Rattle.value_text.specs.Values.{printed}
 use Rattle.dict_tree.specs.Tree.{Source, SourceCase}
-use Rattle.dict_tree.specs.Facts.{Fact}
+use Rattle.dict_tree.specs.Tables.{LookupTable, IsLookupTable, key_value}
+use Rattle.dict_tree.specs.Facts.{Fact, Stated, scalar, enum_of}
 use Rattle.dict_tree.specs.Dictionary.{Dictionary, IsValid}
 use Rattle.dict_tree.specs.Json.{node_json, json_of}
-use Rattle.dict_tree.specs.FactJson.{items_from, stated_text, limit_json, conditional_json, IsNamed}
+use Rattle.dict_tree.specs.FactJson.{items_from, scalar_text, stated_text, limit_json, conditional_json, IsNamed}
 use Rattle.dict_tree.specs.Profile.{fact_uses_law}
 use Rattle.dict_tree.specs.Versions.{version_text}
 use Rattle.dict_tree.specs.declared.version.Version.{Version}
@@ -34,6 +40,25 @@ case_json c = node_json (codes "Case") (item (json_of c.0) (item (json_of c.1) n
 
 abbrev pub enum_json : Listed → Data
 enum_json e = object (put (codes "name") (string e.name) (put (codes "options") (array (items_from string e.options)) no_members))
+
+-- ---- tables
+
+-- the type of a table's values, as it is stated: an Enum by the name of its list
+abbrev pub stated_type : List Listed → FactType → Stated
+stated_type enums (types.Enum list) = enum_of (unwrap_or (name_at enums list) [])
+stated_type enums t = scalar t
+
+-- `[K,V]`
+abbrev pub row_json : List Listed → FactType → Row → Data
+row_json enums from row = array (item (string (printed [] (key_value from row.key))) (item (string (printed enums row.value)) no_items))
+
+abbrev pub table_members : List Listed → LookupTable → Members
+table_members enums t =
+    put (codes "name") (string t.name) (put (codes "from") (string (scalar_text t.from)) (put (codes "to") (string (stated_text (stated_type enums t.to))) (put (codes "rows") (array (items_from (row_json enums t.from) t.rows)) (put (codes "else") (string (printed enums t.below)) no_members))))
+
+-- over these lists of options
+abbrev pub table_json : List Listed → LookupTable → Data
+table_json enums t = object (table_members enums t)
 
 -- ---- facts
 
@@ -63,25 +88,36 @@ fact_json f = json_by_main f f.main
 
 -- ---- the whole
 
--- the law profile where a fact has one of its operators
+-- it has what only the law profile has: tables, or one of its operators
+abbrev pub needs_law : Dictionary → Bool
+needs_law d = not (length d.tables == 0) || list_any fact_uses_law d.facts
+
+-- the law profile where it is needed
 abbrev pub version_for : Bool → Version
 version_for true = versions.Law
 version_for false = versions.Second
 
 abbrev pub printed_version : Dictionary → Version
-printed_version d = version_for (list_any fact_uses_law d.facts)
+printed_version d = version_for (needs_law d)
 
 abbrev pub all_members : Dictionary → Members
-all_members d = put (codes "version") (string (version_text (printed_version d))) (put (codes "facts") (array (items_from fact_json d.facts)) (put_some (codes "enums") (some_array enum_json d.enums) no_members))
+all_members d =
+    put (codes "version") (string (version_text (printed_version d))) (put (codes "facts") (array (items_from fact_json d.facts)) (put_some (codes "tables") (some_array (table_json d.enums) d.tables) (put_some (codes "enums") (some_array enum_json d.enums) no_members)))
 
--- in version 2 or the law profile, with no member for enums where there are none
+-- in version 2 or the law profile, with no member for enums or tables where there are none
 abbrev pub dictionary_json : Dictionary → Data
 dictionary_json d = object (all_members d)
 
 -- ---- which dictionaries have this form
 
+-- what every table in memory keeps: its name, and its rules
+pub record IsSound (t : LookupTable) : Type 0 where
+  pub named : IsName t.name
+  pub table : IsLookupTable t
+
 -- the rules of every source: the limits, and names where names are due
 pub record IsPrintable (d : Dictionary) : Type 0 where
   pub valid : IsValid d
   pub lists : AreLists d.enums
+  pub tables : All IsSound d.tables
   pub named : All (λ f. IsNamed f.stated) d.facts

@@ -3,7 +3,7 @@ ghost use Rattle.std.specs.Prelude.{◌≡◌, codes, IfOk};
 ghost use Rattle.serde_json.specs.Data.{item, no_items, string};
 ghost use Rattle.serde_json.specs.View.{view as json};
 ghost use Rattle.dict_tree.specs.View.{view, case_view, cases_view, literal_of, trees_view};
-ghost use Rattle.dict_tree.specs.Json.{json_of, json_of_cases, json_of_trees, literal_json, node_json};
+ghost use Rattle.dict_tree.specs.Json.{json_of, json_of_cases, json_of_trees, literal_json, node_json, one_json};
 ghost use Rattle.dict_print.specs.DictionaryJson.{case_json};
 
 use crate::node_value::{
@@ -11,7 +11,7 @@ use crate::node_value::{
     texts_node,
 };
 use crate::word::{word_of_many, word_of_one, word_of_pick, word_of_read, word_of_two};
-use dict_tree::{Case, Constant, Expr};
+use dict_tree::{Case, Constant, Expr, OneOp};
 use fact_values::NoMemory;
 use serde_json::Value;
 use std::alloc::Global;
@@ -33,6 +33,18 @@ fn constant_value(alloc: Global, constant: &Constant) -> Result<Value, NoMemory>
     }
 }
 
+// The node of an operation, which has the name of its table before the operand.
+fn node_of_op(alloc: Global, op: &OneOp, operand: Value) -> Result<Value, NoMemory>
+    ensures { IfOk result (λ v. json v ≡ one_json op.now (json operand)) }
+{
+    match op {
+        OneOp::Lookup(table) => node_of_pick(alloc, "Lookup", table.name().as_str(), operand),
+        OneOp::Not | OneOp::Round | OneOp::YearOf | OneOp::MonthOf | OneOp::DayOf => {
+            node_of_one(alloc, word_of_one(op), operand)
+        }
+    }
+}
+
 /// The value that spells the expression.
 #[tactic(auto, using(dict_tree::proofs::Views::views))]
 #[cycle(expr)]
@@ -44,7 +56,7 @@ pub fn expr_value(alloc: Global, expr: &Expr) -> Result<Value, NoMemory>
         Expr::Read(op, path) => text_node(alloc, word_of_read(*op), path.text.as_str()),
         Expr::Switch(cases) => switch_value(alloc, cases),
         Expr::Many(op, operands) => many_value(alloc, word_of_many(*op), operands),
-        Expr::One(op, operand) => one_value(alloc, word_of_one(*op), operand),
+        Expr::One(op, operand) => one_value(alloc, op, operand),
         Expr::Two(op, first, second) => {
             let first = expr_value(alloc, first)?;
             let second = expr_value(alloc, second)?;
@@ -57,11 +69,11 @@ pub fn expr_value(alloc: Global, expr: &Expr) -> Result<Value, NoMemory>
 }
 
 #[cycle(expr)]
-fn one_value(alloc: Global, name: &str, operand: &Expr) -> Result<Value, NoMemory>
-    ensures { IfOk result (λ v. json v ≡ node_json name.now (item (json_of (view operand.now)) no_items)) }
+fn one_value(alloc: Global, op: &OneOp, operand: &Expr) -> Result<Value, NoMemory>
+    ensures { IfOk result (λ v. json v ≡ one_json op.now (json_of (view operand.now))) }
 {
     let operand = expr_value(alloc, operand)?;
-    node_of_one(alloc, name, operand)
+    node_of_op(alloc, op, operand)
 }
 
 #[cycle(expr)]

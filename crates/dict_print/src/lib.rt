@@ -10,6 +10,7 @@ mod limit_value;
 mod node_value;
 mod printing;
 mod stated;
+mod table_value;
 mod word;
 
 pub use fact_lines::print_facts;

@@ -9,16 +9,17 @@ ghost use Rattle.dict_print.specs.DictionaryJson.{IsPrintable, all_members, dict
 
 use crate::enum_value::put_enums;
 use crate::fact_value::{fact_values, put_text};
+use crate::table_value::put_tables;
 use dict_tree::{DictSource, Version, some_uses_law, version_text};
 use fact_values::NoMemory;
 use serde_json::{Map, Value};
 use std::alloc::Global;
 
-// The version that has the dictionary's operators.
+// The version that has the dictionary's tables and operators.
 fn version_of(source: &DictSource) -> Version
     ensures { result ≡ printed_version (dictionary_view source.now) }
 {
-    if some_uses_law(source.facts()) {
+    if !source.tables().is_empty() || some_uses_law(source.facts()) {
         Version::Law
     } else {
         Version::Second
@@ -35,8 +36,10 @@ fn put_all(
     ensures members { OnOk result (members_view members.new.entries ≡ all_members (dictionary_view source.now)) }
     ensures printable { OnOk result (IsPrintable (dictionary_view source.now)) }
 {
+    let facts = source.facts();
     put_enums(members, alloc, source.enums())?;
-    let facts = fact_values(alloc, source.facts())?;
+    put_tables(members, alloc, source.enums(), source.tables())?;
+    let facts = fact_values(alloc, facts)?;
     serde_json::put(members, alloc, "facts", facts)?;
     put_text(members, alloc, "version", version_text(version_of(source)))
 }
@@ -50,8 +53,9 @@ fn dictionary_value(alloc: Global, source: &DictSource) -> Result<Value, NoMemor
     Ok(Value::Object(members))
 }
 
-/// The dictionary as JSON, of version 2 or the law profile where it has one of its operators, laid out over lines. It reads back as the same dictionary where it isn't longer than
-/// what `dict_tree::read` takes, 8,388,608 bytes. Descriptions and the order of members aren't kept, since no tree has them.
+/// The dictionary as JSON, of version 2, or of the law profile where it has tables or one of its operators, laid out over lines. It
+/// reads back as the same dictionary where it isn't longer than what `dict_tree::read` takes, 8,388,608 bytes. Descriptions of
+/// the whole and of tables and the order of members aren't kept, since no tree has them.
 pub fn print(alloc: Global, source: &DictSource) -> Result<Vec<u8>, NoMemory>
     ensures json { IfOk result (λ b. read b.items ≡ Some (dictionary_json (dictionary_view source.now))) }
     ensures reads_back { IfOk result (λ b. length b.items ≤ max_bytes

@@ -1,10 +1,14 @@
 // The text of a type as a fact states it.
-ghost use Rattle.std.specs.Prelude.{◌≡◌, ◌++◌, codes, string_bytes, OnOk};
+ghost use Rattle.std.specs.Prelude.{◌≡◌, ◌<◌, ◌++◌, codes, length, string_bytes, OnOk};
+ghost use Rattle.fact_values.specs.declared.fact_type.FactType.TheVariants as types;
+ghost use Rattle.value_text.specs.Values.{IsRead};
 ghost use Rattle.dict_tree.specs.Facts.{stated_view};
 ghost use Rattle.dict_tree.specs.FactJson.{IsNamed, scalar_text, stated_text};
+ghost use Rattle.dict_print.specs.DictionaryJson.{stated_type};
 
 use dict_tree::TypeText;
 use fact_values::{FactType, NoMemory};
+use value_text::EnumLists;
 
 /// Appends a text.
 pub fn push(out: &mut String, text: &str) -> Result<(), NoMemory>
@@ -14,8 +18,8 @@ pub fn push(out: &mut String, text: &str) -> Result<(), NoMemory>
     Ok(())
 }
 
-// The text of a type that needs no name.
-fn scalar_word(scalar: FactType) -> &'static str
+/// The text of a type that needs no name.
+pub fn scalar_word(scalar: FactType) -> &'static str
     ensures { result.now ≡ scalar_text scalar }
 {
     match scalar {
@@ -51,5 +55,28 @@ pub fn push_stated(out: &mut String, stated: &TypeText) -> Result<(), NoMemory>
         TypeText::WritableList => push(out, "Collection"),
         TypeText::ListOf(path) => push_enclosed(out, "Collection(", path.text.as_str()),
         TypeText::ItemOf(path) => push_enclosed(out, "Item(", path.text.as_str()),
+    }
+}
+
+// Appends the type of the options of the list at a place.
+fn push_enum(out: &mut String, enums: &EnumLists, list: u32) -> Result<(), NoMemory>
+    requires { list < length enums.now }
+    ensures { OnOk result (string_bytes out.new ≡ string_bytes out.old
+        ++ stated_text (stated_type enums.now (types.Enum list))) }
+{
+    let Some(name) = enums.name(list) else {
+        unreachable!()
+    };
+    push_enclosed(out, "Enum(", name)
+}
+
+/// Appends the text of the type of a table's values.
+pub fn push_type(out: &mut String, enums: &EnumLists, of: FactType) -> Result<(), NoMemory>
+    requires { IsRead enums.now of }
+    ensures { OnOk result (string_bytes out.new ≡ string_bytes out.old ++ stated_text (stated_type enums.now of)) }
+{
+    match of {
+        FactType::Enum(list) => push_enum(out, enums, list),
+        _ => push(out, scalar_word(of)),
     }
 }

@@ -32,8 +32,8 @@ pub fn word_of_many(op: ManyOp) -> &'static str
 }
 
 /// The name of a node with one operand.
-pub fn word_of_one(op: OneOp) -> &'static str
-    ensures { result.now ≡ one_name op }
+pub fn word_of_one(op: &OneOp) -> &'static str
+    ensures { result.now ≡ one_name op.now }
 {
     match op {
         OneOp::Not => "Not",
@@ -41,6 +41,7 @@ pub fn word_of_one(op: OneOp) -> &'static str
         OneOp::YearOf => "YearOf",
         OneOp::MonthOf => "MonthOf",
         OneOp::DayOf => "DayOf",
+        OneOp::Lookup(_) => "Lookup",
     }
 }
 

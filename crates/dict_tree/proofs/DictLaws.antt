@@ -1,7 +1,8 @@
 -- What `read` gives: a dictionary that the value spells is valid, and the exits of `read`.
 use Rattle.std.proofs.Common.{◌≡◌, ℕ, ◌≤◌, List, length, Result, Ok, Err}
-use Rattle.std.specs.Prelude.{IfOk, IfErr}
+use Rattle.std.specs.Prelude.{IfOk, IfErr, codes}
 use Rattle.serde_json.specs.Data.{Data}
+use Rattle.serde_json.specs.Find.{get}
 use Rattle.dict_tree.specs.Dictionary.{Dictionary, Written, IsValid, dictionary_view}
 use Rattle.dict_tree.specs.DictJson.{ValueGives}
 use Rattle.dict_tree.specs.DictParsing.{dictionary_of, Yields, IsJson, IsOfShape, BytesGive, max_bytes, seen}
@@ -9,9 +10,14 @@ use Rattle.dict_tree.specs.declared.fault.TreeFault.{TreeFault}
 use Rattle.dict_tree.specs.declared.fault.TreeFault.TheVariants as faults
 use Rattle.dict_tree.proofs.DictJsonLaws.{read_given}
 use Rattle.dict_tree.proofs.FactLaws.{facts_are_well_formed}
+use Rattle.dict_tree.proofs.TableJsonLaws.{tables_are_valid}
 
 pub dictionary_is_valid : (d : Data) (dict : Dictionary) → ValueGives d (Ok dict) → IsValid dict
-dictionary_is_valid d dict h = record { well_formed = facts_are_well_formed h.0.version h.0.items dict.facts h.0.facts; limits = h.1 }
+dictionary_is_valid d dict h = record {
+  well_formed = facts_are_well_formed dict.tables h.0.version h.0.items dict.facts h.0.facts;
+  tables = tables_are_valid dict.enums (get (codes "tables") d) dict.tables h.0.top.tables;
+  limits = h.1;
+}
 
 -- ---- the exits of `read`
 

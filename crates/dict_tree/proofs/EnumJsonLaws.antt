@@ -11,21 +11,21 @@ use Rattle.serde_json.specs.Find.{as_str, as_array, as_object, get}
 use Rattle.fact_paths.specs.Names.{is_name}
 use Rattle.fact_paths.specs.Parsing.{name_of}
 use Rattle.value_text.specs.Enums.{Listed, are_distinct, names_of}
-use Rattle.dict_tree.specs.FactJson.{items_from}
+use Rattle.dict_tree.specs.FactJson.{AreSpelled, items_from}
 use Rattle.dict_tree.specs.FactParsing.{has_no_other, text_at}
 use Rattle.dict_tree.specs.DictParsing.{name_list, if_sound, enum_fields, enum_with, enum_of, enum_list, if_apart, enums_in}
-use Rattle.dict_tree.specs.DictJson.{enum_keys, SpellsEnum, AreSpelled, SpellEnums}
+use Rattle.dict_tree.specs.DictJson.{enum_keys, SpellsEnum, SpellEnums}
 use Rattle.dict_tree.proofs.MemberLaws.{guarded, object_is, is_object, array_is, text_found, array_found}
 
 -- ---- names
 
-name_found : (o : Option Data) (n : List ℕ) → option_and_then name_of (option_and_then as_str o) ≡ Some n → (o ≡ Some (string n)) × (is_name n ≡ true)
+pub name_found : (o : Option Data) (n : List ℕ) → option_and_then name_of (option_and_then as_str o) ≡ Some n → (o ≡ Some (string n)) × (is_name n ≡ true)
 name_found o n e =
     let a = both_some name_of (option_and_then as_str o) n e in
     let g = chosen (is_name a.0) a.0 n a.2 in
     (text_found o n (a.1 ∙ ap Some g.1), subst (λ (x : List ℕ). is_name x ≡ true) g.1 g.0)
 
-name_again : (o : Option Data) (n : List ℕ) → o ≡ Some (string n) → is_name n ≡ true → option_and_then name_of (option_and_then as_str o) ≡ Some n
+pub name_again : (o : Option Data) (n : List ℕ) → o ≡ Some (string n) → is_name n ≡ true → option_and_then name_of (option_and_then as_str o) ≡ Some n
 name_again o n e h = rw (e, h) refl
 
 abbrev AreNames : Items → List (List ℕ) → Type 0

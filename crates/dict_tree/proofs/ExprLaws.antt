@@ -1,5 +1,5 @@
 -- What is read is spelled, and what is spelled is read.
-use Rattle.std.proofs.Common.{◌≡◌, ℕ, ◌≤◌, List, [], ◌∷◌, Bool, true, false, length, Option, Some, option_map, option_and_then, refl, ap, subst, ◌∙◌, arith, le-leb}
+use Rattle.std.proofs.Common.{◌≡◌, ℕ, ◌≤◌, List, [], ◌∷◌, Bool, true, false, length, Option, Some, option_map, option_and_then, refl, sym, ap, subst, ◌∙◌, arith, le-leb}
 use Rattle.std.specs.Prelude.{codes, nat_le}
 use Rattle.std.proofs.lemmas.Option.{same_Some}
 use Rattle.common_lemmas.proofs.Bools.{chosen}
@@ -13,14 +13,19 @@ use Rattle.dict_tree.specs.declared.operators.ManyOp.{ManyOp}
 use Rattle.dict_tree.specs.declared.operators.ManyOp.TheVariants.{Subtract}
 use Rattle.dict_tree.specs.declared.node_name.ConstantName.{ConstantName}
 use Rattle.dict_tree.specs.declared.node_name.ConstantName.TheVariants as constants
+use Rattle.dict_tree.specs.declared.node_name.OneName.{OneName}
+use Rattle.dict_tree.specs.declared.node_name.OneName.TheVariants as one_names
+use Rattle.dict_tree.specs.declared.operators.OneOp.TheVariants as ones
 use Rattle.dict_tree.specs.declared.node_name.NodeName.{NodeName}
 use Rattle.dict_tree.specs.declared.node_name.NodeName.TheVariants as names
-use Rattle.dict_tree.specs.Names.{node_name, node_named, constant_name, read_name, many_name, one_name, two_name, pick_name}
+use Rattle.dict_tree.specs.Names.{node_name, node_named, constant_name, read_name, many_name, one_name, op_of_name, two_name, pick_name}
 use Rattle.dict_tree.specs.Tree.{Literal, literal_true, literal_false, literal_int, literal_dollar, literal_rational, literal_day, literal_text, Use, Source, Sources, SourceCase, SourceCases, literal, read, switch, many, one, two, pick, no_trees, tree, no_cases, a_case}
 use Rattle.dict_tree.specs.View.{trees_of, cases_of}
-use Rattle.dict_tree.specs.Forms.{HasForm, HaveForms, HaveCaseForms, AreEnough, AreSome, AreCases, IsUse}
-use Rattle.dict_tree.specs.Json.{node_json, text_json, literal_json, json_of, json_of_trees, json_of_cases, Spells}
-use Rattle.dict_tree.specs.Parsing.{use_of, no_operand, one_text, two_texts, constant_of, fewest, at_least, case_if, is_text, node_of, tree_of, array_tree, only_tree, pair_tree, picked_tree, tree_list, case_of, case_list}
+use Rattle.dict_tree.specs.Forms.{HasForm, HasTable, HaveForms, HaveCaseForms, AreEnough, AreSome, AreCases, IsUse}
+use Rattle.dict_tree.specs.Json.{node_json, one_json, text_json, literal_json, json_of, json_of_trees, json_of_cases, Spells}
+use Rattle.dict_tree.specs.Parsing.{use_of, looked_of, no_operand, one_text, two_texts, constant_of, fewest, at_least, case_if, is_text, node_of, tree_of, array_tree, only_tree, pair_tree, picked_tree, tree_list, case_of, case_list}
+use Rattle.dict_tree.specs.Tables.{LookupTable, table_named}
+use Rattle.dict_tree.proofs.NamedTables.{table_has_name}
 use Rattle.dict_tree.proofs.NameLaws.{node_named-node_name, node_named_some}
 use Rattle.dict_tree.proofs.UseLaws.{use_path_given, use_path_from}
 
@@ -93,75 +98,18 @@ are_cases : (cs : List SourceCase) → nat_le 1 (length cs) ≡ true → AreCase
 are_cases [] h = absurd (let e : false ≡ true = h in cc)
 are_cases (c ∷ cs) h = tt
 
--- ---- what is read is spelled
-
-abbrev pub PairRead : Items → SourceCase → Type 0
-PairRead ds p = HasForm p.0 × HasForm p.1 × (ds ≡ two_items (json_of p.0) (json_of p.1))
-
-abbrev Picked : Type 0
-Picked = List ℕ × Source
-
-abbrev PickedRead : Items → Picked → Type 0
-PickedRead ds p = HasForm p.1 × (ds ≡ two_items (string p.0) (json_of p.1))
-
-abbrev ListRead : Items → List Source → Type 0
-ListRead ds ts = HaveForms (trees_of ts) × (ds ≡ json_of_trees (trees_of ts))
-
-abbrev CasesRead : Items → List SourceCase → Type 0
-CasesRead ds cs = HaveCaseForms (cases_of cs) × (ds ≡ json_of_cases (cases_of cs))
-
-record OperandsRead (ds : Items) : Type 0 where
-  only : (t : Source) → only_tree ds ≡ Some t → HasForm t × (ds ≡ item (json_of t) no_items)
-  pair : (p : SourceCase) → pair_tree ds ≡ Some p → PairRead ds p
-  picked : (p : Picked) → picked_tree ds ≡ Some p → PickedRead ds p
-  list : (ts : List Source) → tree_list ds ≡ Some ts → ListRead ds ts
-  cases : (cs : List SourceCase) → case_list ds ≡ Some cs → CasesRead ds cs
-
-abbrev Is : NodeName → Items → Source → Type 0
-Is name ds t = HasForm t × (node_json (node_name name) ds ≡ json_of t)
-
 pub is_use : (s : List ℕ) → IsUse (use_of s)
 is_use s = use_path_from s (use_path_of s) refl
 
-node_found : (name : NodeName) (ds : Items) (t : Source) → OperandsRead ds → node_of name ds (only_tree ds) (pair_tree ds) (picked_tree ds) (tree_list ds) (case_list ds) ≡ Some t → Is name ds t
-node_found (names.Constant kind) ds t r e =
-    let a = mapped _ (constant_of kind ds) t e in
-    rw a.2 (tt, constant_found kind ds a.0 a.1)
-node_found (names.Read op) ds t r e =
-    let a = mapped _ (one_text ds) t e in
-    rw a.2 (is_use a.0, ap (node_json (read_name op)) (one_text_is ds a.0 a.1))
-node_found names.Switch ds t r e =
-    let a = mapped _ (option_and_then (at_least 1) (case_list ds)) t e in
-    let b = both_some (at_least 1) (case_list ds) a.0 a.1 in
-    let f = at_least_some 1 b.0 a.0 b.2 in
-    let l = r.cases a.0 (b.1 ∙ ap Some f.1) in
-    rw a.2 ((are_cases a.0 f.0, l.0), ap (node_json (codes "Switch")) l.1)
-node_found (names.Many op) ds t r e =
-    let a = mapped _ (option_and_then (at_least (fewest op)) (tree_list ds)) t e in
-    let b = both_some (at_least (fewest op)) (tree_list ds) a.0 a.1 in
-    let f = at_least_some (fewest op) b.0 a.0 b.2 in
-    let l = r.list a.0 (b.1 ∙ ap Some f.1) in
-    rw a.2 ((are_enough op a.0 f.0, l.0), ap (node_json (many_name op)) l.1)
-node_found (names.One op) ds t r e =
-    let a = mapped _ (only_tree ds) t e in
-    let l = r.only a.0 a.1 in
-    rw a.2 (l.0, ap (node_json (one_name op)) l.1)
-node_found (names.Two op) ds t r e =
-    let a = mapped _ (pair_tree ds) t e in
-    let l = r.pair a.0 a.1 in
-    rw a.2 ((l.0, l.1), ap (node_json (two_name op)) l.2)
-node_found (names.Pick op) ds t r e =
-    let a = mapped _ (picked_tree ds) t e in
-    let l = r.picked a.0 a.1 in
-    rw a.2 ((is_use a.0.0, l.0), ap (node_json (pick_name op)) l.1)
+pub use_again : (u : Use) → IsUse u → use_of u.text ≡ u
+use_again u h = let made : Option UsePath → Use = λ p. record { text = u.text; path = p } in ap made (use_path_given u.text u.path h)
 
-array_found : (d : Data) (ds : Items) (t : Source) → OperandsRead ds → array_tree (item d ds) ≡ Some t → Spells (array (item d ds)) t
-array_found d ds t r e =
-    let a = both_some _ (option_and_then node_named (as_str d)) t e in
-    let b = both_some node_named (as_str d) a.0 a.1 in
-    let n = node_found a.0 ds t r a.2 in
-    let named : d ≡ string (node_name a.0) = text_is d b.0 b.1 ∙ ap string (node_named_some b.0 a.0 b.2) in
-    (n.0, ap (λ (x : Data). array (item x ds)) named ∙ n.1)
+named_json : (name : OneName) (d : Data) → one_json (op_of_name name) d ≡ node_json (one_name (op_of_name name)) (item d no_items)
+named_json one_names.Not d = refl
+named_json name d = refl
+
+abbrev pub case_json : SourceCase → Data
+case_json p = node_json (codes "Case") (two_items (json_of p.0) (json_of p.1))
 
 word_is : (word : List ℕ) (d : Data) → is_text word (as_str d) ≡ true → d ≡ string word
 word_is word (string text) h = ap string (same_bytes text word h)
@@ -171,61 +119,7 @@ case_guard : (b : Bool) (pair : Option SourceCase) (p : SourceCase) → case_if 
 case_guard true pair p e = (refl, e)
 case_guard false pair p e = absurd cc
 
-abbrev pub case_json : SourceCase → Data
-case_json p = node_json (codes "Case") (two_items (json_of p.0) (json_of p.1))
-
-mutual
-  pub found : (d : Data) (t : Source) → tree_of d ≡ Some t → Spells d t
-  found (array (item d ds)) t e = array_found d ds t (record { only = only_found ds; pair = pair_found ds; picked = picked_found ds; list = list_found ds; cases = cases_found ds }) e
-  found d t e = absurd cc
-
-  only_found : (ds : Items) (t : Source) → only_tree ds ≡ Some t → HasForm t × (ds ≡ item (json_of t) no_items)
-  only_found (item d no_items) t e = let h = found d t e in (h.0, ap (λ (x : Data). item x no_items) h.1)
-  only_found ds t e = absurd cc
-
-  pub pair_found : (ds : Items) (p : SourceCase) → pair_tree ds ≡ Some p → PairRead ds p
-  pair_found (item d (item f no_items)) p e =
-      let a = both_some _ (tree_of d) p e in
-      let b = mapped _ (tree_of f) p a.2 in
-      let h = found d a.0 a.1 in
-      let k = found f b.0 b.1 in
-      rw b.2 (h.0, k.0, ap (λ (x : Data). two_items x f) h.1 ∙ ap (two_items (json_of a.0)) k.1)
-  pair_found ds p e = absurd cc
-
-  picked_found : (ds : Items) (p : Picked) → picked_tree ds ≡ Some p → PickedRead ds p
-  picked_found (item d (item f no_items)) p e =
-      let a = both_some _ (as_str d) p e in
-      let b = mapped _ (tree_of f) p a.2 in
-      let k = found f b.0 b.1 in
-      rw b.2 (k.0, ap (λ (x : Data). two_items x f) (text_is d a.0 a.1) ∙ ap (two_items (string a.0)) k.1)
-  picked_found ds p e = absurd cc
-
-  list_found : (ds : Items) (ts : List Source) → tree_list ds ≡ Some ts → ListRead ds ts
-  list_found no_items ts e = subst (ListRead no_items) (same_Some [] ts e) (tt, refl)
-  list_found (item d ds) ts e =
-      let a = both_some _ (tree_of d) ts e in
-      let b = mapped _ (tree_list ds) ts a.2 in
-      let h = found d a.0 a.1 in
-      let l = list_found ds b.0 b.1 in
-      rw b.2 ((h.0, l.0), ap (λ (x : Data). item x ds) h.1 ∙ ap (item (json_of a.0)) l.1)
-
-  case_found : (d : Data) (p : SourceCase) → case_of d ≡ Some p → HasForm p.0 × HasForm p.1 × (d ≡ case_json p)
-  case_found (array (item d ds)) p e =
-      let g = case_guard (is_text (codes "Case") (as_str d)) (pair_tree ds) p e in
-      let h = pair_found ds p g.1 in
-      (h.0, h.1, ap (λ (x : Data). array (item x ds)) (word_is (codes "Case") d g.0) ∙ ap (node_json (codes "Case")) h.2)
-  case_found d p e = absurd cc
-
-  cases_found : (ds : Items) (cs : List SourceCase) → case_list ds ≡ Some cs → CasesRead ds cs
-  cases_found no_items cs e = subst (CasesRead no_items) (same_Some [] cs e) (tt, refl)
-  cases_found (item d ds) cs e =
-      let a = both_some _ (case_of d) cs e in
-      let b = mapped _ (case_list ds) cs a.2 in
-      let h = case_found d a.0 a.1 in
-      let l = cases_found ds b.0 b.1 in
-      rw b.2 ((h.0, h.1, l.0), ap (λ (x : Data). item x ds) h.2 ∙ ap (item (case_json a.0)) l.1)
-
--- ---- what is spelled is read
+-- ---- lists of trees
 
 abbrev list_from : Sources → List Source
 list_from no_trees = []
@@ -259,34 +153,169 @@ some_cases : (cs : SourceCases) → AreCases cs → at_least 1 (cases_from cs) �
 some_cases no_cases h = absurd h
 some_cases (a_case t o cs) h = at_least_is 1 ((t, o) ∷ cases_from cs) (omega arith)
 
--- a node's name leads to its operands
-named : (name : NodeName) (ds : Items) → array_tree (item (string (node_name name)) ds) ≡ node_of name ds (only_tree ds) (pair_tree ds) (picked_tree ds) (tree_list ds) (case_list ds)
-named name ds = rw (node_named-node_name name) refl
+module _ (tables : List LookupTable) where
+  -- ---- what is read is spelled
 
-pub use_again : (u : Use) → IsUse u → use_of u.text ≡ u
-use_again u h = let made : Option UsePath → Use = λ p. record { text = u.text; path = p } in ap made (use_path_given u.text u.path h)
+  abbrev pub PairRead : Items → SourceCase → Type 0
+  PairRead ds p = HasForm tables p.0 × HasForm tables p.1 × (ds ≡ two_items (json_of p.0) (json_of p.1))
 
-literal_again : (l : Literal) → tree_of (literal_json l) ≡ Some (literal l)
-literal_again literal_true = refl
-literal_again l = refl
+  abbrev Picked : Type 0
+  Picked = List ℕ × Source
 
-mutual
-  pub again : (t : Source) → HasForm t → tree_of (json_of t) ≡ Some t
-  again (literal l) h = literal_again l
-  again (read r) h = named (names.Read r.0) (item (string r.1.text) no_items) ∙ rw (use_again r.1 h) refl
-  again (switch cs) h = named names.Switch (json_of_cases cs) ∙ rw (cases_again cs h.1, some_cases cs h.0, from_cases cs) refl
-  again (many op ts) h = named (names.Many op) (json_of_trees ts) ∙ rw (list_again ts h.1, enough_list op ts h.0, from_list ts) refl
-  again (one op t) h = named (names.One op) (item (json_of t) no_items) ∙ rw (again t h) refl
-  again (two op a b) h = named (names.Two op) (item (json_of a) (item (json_of b) no_items)) ∙ rw (again a h.0, again b h.1) refl
-  again (pick op p t) h = named (names.Pick op) (item (string p.text) (item (json_of t) no_items)) ∙ rw (again t h.1, use_again p h.0) refl
+  abbrev PickedRead : Items → Picked → Type 0
+  PickedRead ds p = HasForm tables p.1 × (ds ≡ two_items (string p.0) (json_of p.1))
 
-  list_again : (ts : Sources) → HaveForms ts → tree_list (json_of_trees ts) ≡ Some (list_from ts)
-  list_again no_trees h = refl
-  list_again (tree t ts) h = rw (again t h.0, list_again ts h.1) refl
+  abbrev ListRead : Items → List Source → Type 0
+  ListRead ds ts = HaveForms tables (trees_of ts) × (ds ≡ json_of_trees (trees_of ts))
 
-  cases_again : (cs : SourceCases) → HaveCaseForms cs → case_list (json_of_cases cs) ≡ Some (cases_from cs)
-  cases_again no_cases h = refl
-  cases_again (a_case t o cs) h = rw (again t h.0, again o h.1, cases_again cs h.2) refl
+  abbrev CasesRead : Items → List SourceCase → Type 0
+  CasesRead ds cs = HaveCaseForms tables (cases_of cs) × (ds ≡ json_of_cases (cases_of cs))
 
-pub spelled_again : (d : Data) (t : Source) → Spells d t → tree_of d ≡ Some t
-spelled_again d t h = ap tree_of h.1 ∙ again t h.0
+  record OperandsRead (ds : Items) : Type 0 where
+    only : (t : Source) → only_tree tables ds ≡ Some t → HasForm tables t × (ds ≡ item (json_of t) no_items)
+    pair : (p : SourceCase) → pair_tree tables ds ≡ Some p → PairRead ds p
+    picked : (p : Picked) → picked_tree tables ds ≡ Some p → PickedRead ds p
+    list : (ts : List Source) → tree_list tables ds ≡ Some ts → ListRead ds ts
+    cases : (cs : List SourceCase) → case_list tables ds ≡ Some cs → CasesRead ds cs
+
+  abbrev Is : NodeName → Items → Source → Type 0
+  Is name ds t = HasForm tables t × (node_json (node_name name) ds ≡ json_of t)
+
+  has_no_table : (name : OneName) → HasTable tables (op_of_name name)
+  has_no_table one_names.Not = tt
+  has_no_table name = tt
+
+  node_found : (name : NodeName) (ds : Items) (t : Source) → OperandsRead ds → node_of tables name ds (only_tree tables ds) (pair_tree tables ds) (picked_tree tables ds) (tree_list tables ds) (case_list tables ds) ≡ Some t → Is name ds t
+  node_found (names.Constant kind) ds t r e =
+      let a = mapped _ (constant_of kind ds) t e in
+      rw a.2 (tt, constant_found kind ds a.0 a.1)
+  node_found (names.Read op) ds t r e =
+      let a = mapped _ (one_text ds) t e in
+      rw a.2 (is_use a.0, ap (node_json (read_name op)) (one_text_is ds a.0 a.1))
+  node_found names.Switch ds t r e =
+      let a = mapped _ (option_and_then (at_least 1) (case_list tables ds)) t e in
+      let b = both_some (at_least 1) (case_list tables ds) a.0 a.1 in
+      let f = at_least_some 1 b.0 a.0 b.2 in
+      let l = r.cases a.0 (b.1 ∙ ap Some f.1) in
+      rw a.2 ((are_cases a.0 f.0, l.0), ap (node_json (codes "Switch")) l.1)
+  node_found (names.Many op) ds t r e =
+      let a = mapped _ (option_and_then (at_least (fewest op)) (tree_list tables ds)) t e in
+      let b = both_some (at_least (fewest op)) (tree_list tables ds) a.0 a.1 in
+      let f = at_least_some (fewest op) b.0 a.0 b.2 in
+      let l = r.list a.0 (b.1 ∙ ap Some f.1) in
+      rw a.2 ((are_enough op a.0 f.0, l.0), ap (node_json (many_name op)) l.1)
+  node_found (names.One name) ds t r e =
+      let a = mapped _ (only_tree tables ds) t e in
+      let l = r.only a.0 a.1 in
+      rw a.2 ((has_no_table name, l.0), ap (node_json (one_name (op_of_name name))) l.1 ∙ sym (named_json name (json_of a.0)))
+  node_found (names.Two op) ds t r e =
+      let a = mapped _ (pair_tree tables ds) t e in
+      let l = r.pair a.0 a.1 in
+      rw a.2 ((l.0, l.1), ap (node_json (two_name op)) l.2)
+  node_found (names.Pick op) ds t r e =
+      let a = mapped _ (picked_tree tables ds) t e in
+      let l = r.picked a.0 a.1 in
+      rw a.2 ((is_use a.0.0, l.0), ap (node_json (pick_name op)) l.1)
+  node_found names.Lookup ds t r e =
+      let o = mapped _ (option_and_then (looked_of tables) (picked_tree tables ds)) t e in
+      let a = both_some (looked_of tables) (picked_tree tables ds) o.0 o.1 in
+      let b = mapped _ (table_named a.0.0 tables) o.0 a.2 in
+      let l = r.picked a.0 a.1 in
+      let same : a.0.0 ≡ b.0.name = table_has_name a.0.0 tables b.0 b.1 in
+      let json : List ℕ → Data = λ name. node_json (codes "Lookup") (two_items (string name) (json_of a.0.1)) in
+      rw (o.2, b.2) ((subst (λ (name : List ℕ). table_named name tables ≡ Some b.0) same b.1, l.0), ap (node_json (codes "Lookup")) l.1 ∙ ap json same)
+
+  array_found : (d : Data) (ds : Items) (t : Source) → OperandsRead ds → array_tree tables (item d ds) ≡ Some t → Spells tables (array (item d ds)) t
+  array_found d ds t r e =
+      let a = both_some _ (option_and_then node_named (as_str d)) t e in
+      let b = both_some node_named (as_str d) a.0 a.1 in
+      let n = node_found a.0 ds t r a.2 in
+      let named : d ≡ string (node_name a.0) = text_is d b.0 b.1 ∙ ap string (node_named_some b.0 a.0 b.2) in
+      (n.0, ap (λ (x : Data). array (item x ds)) named ∙ n.1)
+
+  mutual
+    pub found : (d : Data) (t : Source) → tree_of tables d ≡ Some t → Spells tables d t
+    found (array (item d ds)) t e = array_found d ds t (record { only = only_found ds; pair = pair_found ds; picked = picked_found ds; list = list_found ds; cases = cases_found ds }) e
+    found d t e = absurd cc
+
+    only_found : (ds : Items) (t : Source) → only_tree tables ds ≡ Some t → HasForm tables t × (ds ≡ item (json_of t) no_items)
+    only_found (item d no_items) t e = let h = found d t e in (h.0, ap (λ (x : Data). item x no_items) h.1)
+    only_found ds t e = absurd cc
+
+    pub pair_found : (ds : Items) (p : SourceCase) → pair_tree tables ds ≡ Some p → PairRead ds p
+    pair_found (item d (item f no_items)) p e =
+        let a = both_some _ (tree_of tables d) p e in
+        let b = mapped _ (tree_of tables f) p a.2 in
+        let h = found d a.0 a.1 in
+        let k = found f b.0 b.1 in
+        rw b.2 (h.0, k.0, ap (λ (x : Data). two_items x f) h.1 ∙ ap (two_items (json_of a.0)) k.1)
+    pair_found ds p e = absurd cc
+
+    picked_found : (ds : Items) (p : Picked) → picked_tree tables ds ≡ Some p → PickedRead ds p
+    picked_found (item d (item f no_items)) p e =
+        let a = both_some _ (as_str d) p e in
+        let b = mapped _ (tree_of tables f) p a.2 in
+        let k = found f b.0 b.1 in
+        rw b.2 (k.0, ap (λ (x : Data). two_items x f) (text_is d a.0 a.1) ∙ ap (two_items (string a.0)) k.1)
+    picked_found ds p e = absurd cc
+
+    list_found : (ds : Items) (ts : List Source) → tree_list tables ds ≡ Some ts → ListRead ds ts
+    list_found no_items ts e = subst (ListRead no_items) (same_Some [] ts e) (tt, refl)
+    list_found (item d ds) ts e =
+        let a = both_some _ (tree_of tables d) ts e in
+        let b = mapped _ (tree_list tables ds) ts a.2 in
+        let h = found d a.0 a.1 in
+        let l = list_found ds b.0 b.1 in
+        rw b.2 ((h.0, l.0), ap (λ (x : Data). item x ds) h.1 ∙ ap (item (json_of a.0)) l.1)
+
+    case_found : (d : Data) (p : SourceCase) → case_of tables d ≡ Some p → HasForm tables p.0 × HasForm tables p.1 × (d ≡ case_json p)
+    case_found (array (item d ds)) p e =
+        let g = case_guard (is_text (codes "Case") (as_str d)) (pair_tree tables ds) p e in
+        let h = pair_found ds p g.1 in
+        (h.0, h.1, ap (λ (x : Data). array (item x ds)) (word_is (codes "Case") d g.0) ∙ ap (node_json (codes "Case")) h.2)
+    case_found d p e = absurd cc
+
+    cases_found : (ds : Items) (cs : List SourceCase) → case_list tables ds ≡ Some cs → CasesRead ds cs
+    cases_found no_items cs e = subst (CasesRead no_items) (same_Some [] cs e) (tt, refl)
+    cases_found (item d ds) cs e =
+        let a = both_some _ (case_of tables d) cs e in
+        let b = mapped _ (case_list tables ds) cs a.2 in
+        let h = case_found d a.0 a.1 in
+        let l = cases_found ds b.0 b.1 in
+        rw b.2 ((h.0, h.1, l.0), ap (λ (x : Data). item x ds) h.2 ∙ ap (item (case_json a.0)) l.1)
+
+  -- ---- what is spelled is read
+
+  -- a node's name leads to its operands
+  named : (name : NodeName) (ds : Items) → array_tree tables (item (string (node_name name)) ds) ≡ node_of tables name ds (only_tree tables ds) (pair_tree tables ds) (picked_tree tables ds) (tree_list tables ds) (case_list tables ds)
+  named name ds = rw (node_named-node_name name) refl
+
+  literal_again : (l : Literal) → tree_of tables (literal_json l) ≡ Some (literal l)
+  literal_again literal_true = refl
+  literal_again l = refl
+
+  mutual
+    pub again : (t : Source) → HasForm tables t → tree_of tables (json_of t) ≡ Some t
+    again (literal l) h = literal_again l
+    again (read r) h = named (names.Read r.0) (item (string r.1.text) no_items) ∙ rw (use_again r.1 h) refl
+    again (switch cs) h = named names.Switch (json_of_cases cs) ∙ rw (cases_again cs h.1, some_cases cs h.0, from_cases cs) refl
+    again (many op ts) h = named (names.Many op) (json_of_trees ts) ∙ rw (list_again ts h.1, enough_list op ts h.0, from_list ts) refl
+    again (one ones.Not t) h = named (names.One one_names.Not) (item (json_of t) no_items) ∙ rw (again t h.1) refl
+    again (one ones.Round t) h = named (names.One one_names.Round) (item (json_of t) no_items) ∙ rw (again t h.1) refl
+    again (one ones.YearOf t) h = named (names.One one_names.YearOf) (item (json_of t) no_items) ∙ rw (again t h.1) refl
+    again (one ones.MonthOf t) h = named (names.One one_names.MonthOf) (item (json_of t) no_items) ∙ rw (again t h.1) refl
+    again (one ones.DayOf t) h = named (names.One one_names.DayOf) (item (json_of t) no_items) ∙ rw (again t h.1) refl
+    again (one (ones.Lookup table) t) h = named names.Lookup (two_items (string table.name) (json_of t)) ∙ rw (again t h.1, h.0) refl
+    again (two op a b) h = named (names.Two op) (item (json_of a) (item (json_of b) no_items)) ∙ rw (again a h.0, again b h.1) refl
+    again (pick op p t) h = named (names.Pick op) (item (string p.text) (item (json_of t) no_items)) ∙ rw (again t h.1, use_again p h.0) refl
+
+    list_again : (ts : Sources) → HaveForms tables ts → tree_list tables (json_of_trees ts) ≡ Some (list_from ts)
+    list_again no_trees h = refl
+    list_again (tree t ts) h = rw (again t h.0, list_again ts h.1) refl
+
+    cases_again : (cs : SourceCases) → HaveCaseForms tables cs → case_list tables (json_of_cases cs) ≡ Some (cases_from cs)
+    cases_again no_cases h = refl
+    cases_again (a_case t o cs) h = rw (again t h.0, again o h.1, cases_again cs h.2) refl
+
+  pub spelled_again : (d : Data) (t : Source) → Spells tables d t → tree_of tables d ≡ Some t
+  spelled_again d t h = ap (tree_of tables) h.1 ∙ again t h.0

@@ -15,6 +15,7 @@ use Rattle.fact_paths.specs.Parsing.{fact_path_of}
 use Rattle.fact_paths.proofs.FactPathLaws.{fact_path_reading}
 use Rattle.fact_paths.proofs.ParsingLaws.{one_path_from}
 use Rattle.dict_tree.specs.Dictionary.{number_from}
+use Rattle.dict_tree.specs.Tables.{LookupTable}
 use Rattle.dict_tree.specs.Facts.{Fact, fact_view}
 use Rattle.dict_tree.specs.declared.fact_source.FactSource.{FactSource}
 use Rattle.dict_tree.specs.Forms.{IsReadFrom, IsWellFormed}
@@ -58,17 +59,17 @@ text_path p good text (Some q) h =
     let one : p ≡ q = same_path-one p q e in
     (bytes_eq-Decides (fact_path_text p) text).1 (ap fact_path_text one ∙ sym h.1))
 
-number_from-same : (test other : Fact → Bool) (n : ℕ) (facts : List Fact) → ((f : Fact) → IsWellFormed f → test f ≡ other f) → All IsWellFormed facts → number_from test n facts ≡ number_from other n facts
-number_from-same test other n [] same good = refl
-number_from-same test other n (f ∷ facts) same good =
-    let here : test f ≡ other f = same f (All-head IsWellFormed f facts good) in
-    let rest : number_from test (suc n) facts ≡ number_from other (suc n) facts = number_from-same test other (suc n) facts same (All-tail IsWellFormed f facts good) in
+number_from-same : (tables : List LookupTable) (test other : Fact → Bool) (n : ℕ) (facts : List Fact) → ((f : Fact) → IsWellFormed tables f → test f ≡ other f) → All (IsWellFormed tables) facts → number_from test n facts ≡ number_from other n facts
+number_from-same tables test other n [] same good = refl
+number_from-same tables test other n (f ∷ facts) same good =
+    let here : test f ≡ other f = same f (All-head (IsWellFormed tables) f facts good) in
+    let rest : number_from test (suc n) facts ≡ number_from other (suc n) facts = number_from-same tables test other (suc n) facts same (All-tail (IsWellFormed tables) f facts good) in
     ap (λ (b : Bool). cond b (Some n) (number_from test (suc n) facts)) here ∙ ap (λ (o : Option ℕ). cond (other f) (Some n) o) rest
 
 -- among well-formed facts the first whose path the text spells is the first with the path
-pub spelled-find_path : (facts : List Fact) (p : FactPath) → All IsWellFormed facts → IsFactPath p → number_from (is_spelled (fact_path_text p)) 1 facts ≡ find_path facts p
-spelled-find_path facts p good path =
-    number_from-same (is_spelled (fact_path_text p)) (λ f. is_path p f.path) 1 facts (λ f well. text_path p path f.path_text f.path well.path) good
+pub spelled-find_path : (tables : List LookupTable) (facts : List Fact) (p : FactPath) → All (IsWellFormed tables) facts → IsFactPath p → number_from (is_spelled (fact_path_text p)) 1 facts ≡ find_path facts p
+spelled-find_path tables facts p good path =
+    number_from-same tables (is_spelled (fact_path_text p)) (λ f. is_path p f.path) 1 facts (λ f well. text_path p path f.path_text f.path well.path) good
 
 -- ---- the number that is found is that of the first
 

@@ -12,13 +12,16 @@ pub mod ListingLaws
 pub mod MemberLaws
 pub mod MentionLaws
 pub mod NameLaws
+pub mod NamedTables
 pub mod OperandLaws
 pub mod PathIndexLaws
+pub mod PlaceLaws
 pub mod ParsingLaws
 pub mod SourceExamples
 pub mod SourceLaws
 pub mod StatedLaws
 pub mod StatedParsingLaws
+pub mod TableJsonLaws
 pub mod TargetsLaws
 pub mod TreeExamples
 pub mod UseLaws

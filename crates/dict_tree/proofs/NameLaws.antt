@@ -8,7 +8,7 @@ use Rattle.common_lemmas.proofs.Bytes.{same_bytes}
 use Rattle.dict_tree.specs.Names.{node_name, node_named, node_names, under_name}
 use Rattle.dict_tree.specs.declared.operators.ReadOp.TheVariants as reads
 use Rattle.dict_tree.specs.declared.operators.ManyOp.TheVariants as manies
-use Rattle.dict_tree.specs.declared.operators.OneOp.TheVariants as ones
+use Rattle.dict_tree.specs.declared.node_name.OneName.TheVariants as one_names
 use Rattle.dict_tree.specs.declared.operators.TwoOp.TheVariants as twos
 use Rattle.dict_tree.specs.declared.operators.PickOp.TheVariants as picks
 use Rattle.dict_tree.specs.declared.node_name.ConstantName.TheVariants as constants
@@ -35,12 +35,13 @@ node_named-node_name (names.Read op) = refl
 node_named-node_name names.Switch = refl
 node_named-node_name (names.Many manies.All) = refl
 node_named-node_name (names.Many op) = refl
-node_named-node_name (names.One ones.Not) = refl
+node_named-node_name (names.One one_names.Not) = refl
 node_named-node_name (names.One op) = refl
 node_named-node_name (names.Two twos.Multiply) = refl
 node_named-node_name (names.Two op) = refl
 node_named-node_name (names.Pick picks.Filter) = refl
 node_named-node_name (names.Pick op) = refl
+node_named-node_name names.Lookup = refl
 
 -- a name of which a node is read is the node's name
 pub node_named_some : (name : List ℕ) (node : NodeName) → node_named name ≡ Some node → name ≡ node_name node

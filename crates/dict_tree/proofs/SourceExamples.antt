@@ -50,6 +50,7 @@ gap = many Subtract (tree (read (Dependency, used (uses.Sibling age))) (tree (re
 abbrev family : Dictionary
 family = record {
   enums = [];
+  tables = [];
   facts =
       written (facts.Global people) writable_list
       ∷ written (facts.Member people age) (scalar types.Int)

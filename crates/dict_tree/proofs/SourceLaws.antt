@@ -6,7 +6,8 @@ use Rattle.std.specs.List.{All, list_any}
 use Rattle.std.proofs.lemmas.List.{length-map, map-append}
 use Rattle.std.proofs.lemmas.List.Elements.{All-nil, All-push, All-head, All-tail}
 use Rattle.value_text.specs.Enums.{Listed}
-use Rattle.dict_tree.specs.Dictionary.{Written, dictionary_view, number_from, IsWithinLimits, with_fact}
+use Rattle.dict_tree.specs.Dictionary.{AreTables, Written, dictionary_view, number_from, IsWithinLimits, with_fact}
+use Rattle.dict_tree.specs.Tables.{LookupTable}
 use Rattle.dict_tree.specs.Facts.{Fact, fact_view}
 use Rattle.dict_tree.specs.Forms.{IsWellFormed}
 use Rattle.fact_paths.specs.Paths.{IsFactPath, fact_path_text}
@@ -27,10 +28,14 @@ none_over most (e ∷ enums) h =
     let here : nat_lt most (length e.options) ≡ false = not_over most (length e.options) (All-head (λ (e : Listed). length e.options ≤ most) e enums h) in
     rw (here, none_over most enums (All-tail (λ (e : Listed). length e.options ≤ most) e enums h)) refl
 
-none_kept : (enums : List Listed) → length enums ≤ 200 → All (λ (e : Listed). length e.options ≤ 100) enums → IsSource (record { enums = enums; facts = [] }) []
+no_tables : (enums : List Listed) → AreTables enums []
+no_tables enums = record { few = omega arith; distinct = refl; typed = All-nil _ }
+
+none_kept : (enums : List Listed) → length enums ≤ 200 → All (λ (e : Listed). length e.options ≤ 100) enums → IsSource (record { enums = enums; tables = []; facts = [] }) []
 none_kept enums few short = record {
   valid = record {
-    well_formed = All-nil IsWellFormed;
+    well_formed = All-nil (IsWellFormed []);
+    tables = no_tables enums;
     limits = record {
       many = ap (λ (b : Bool). number_from (λ (b : Bool). b) 4 (b ∷ list_any (λ (e : Listed). nat_lt 100 (length e.options)) enums ∷ false ∷ [])) (not_over 200 (length enums) few)
           ∙ ap (λ (b : Bool). number_from (λ (b : Bool). b) 5 (b ∷ false ∷ [])) (none_over 100 enums short);
@@ -41,22 +46,25 @@ none_kept enums few short = record {
 }
 
 -- without facts only the lists are counted
-pub IsSource-new : (enums : List Listed) (facts : List FactSource) (entries : List Entry) → length enums ≤ 200 → All (λ (e : Listed). length e.options ≤ 100) enums → facts ≡ [] → entries ≡ [] → IsSource (record { enums = enums; facts = facts }) entries
-IsSource-new enums facts entries few short e k =
-    subst (λ (fs : List FactSource). IsSource (record { enums = enums; facts = fs }) entries) (sym e)
-    (subst (λ (es : List Entry). IsSource (record { enums = enums; facts = [] }) es) (sym k) (none_kept enums few short))
+pub IsSource-new : (enums : List Listed) (tables : List LookupTable) (facts : List FactSource) (entries : List Entry) → length enums ≤ 200 → All (λ (e : Listed). length e.options ≤ 100) enums → tables ≡ [] → facts ≡ [] → entries ≡ [] → IsSource (record { enums = enums; tables = tables; facts = facts }) entries
+IsSource-new enums tables facts entries few short t e k =
+    subst (λ (ts : List LookupTable). IsSource (record { enums = enums; tables = ts; facts = facts }) entries) (sym t)
+    (subst (λ (fs : List FactSource). IsSource (record { enums = enums; tables = []; facts = fs }) entries) (sym e)
+    (subst (λ (es : List Entry). IsSource (record { enums = enums; tables = []; facts = [] }) es) (sym k) (none_kept enums few short)))
 
 -- with one fact more
-pub IsSource-last : (w now : Written) (f : FactSource) (facts : List FactSource) (entries later : List Entry) (n : ℕ) → w ≡ now → IsSource w entries → IsWellFormed (fact_view f) → IsWithinLimits (with_fact (dictionary_view now) (fact_view f)) → facts ≡ w.facts ++ f ∷ [] → later ≡ fact_noted entries (fact_view f) n → n ≡ suc (length w.facts) → IsSource (record { enums = w.enums; facts = facts }) later
+pub IsSource-last : (w now : Written) (f : FactSource) (facts : List FactSource) (entries later : List Entry) (n : ℕ) → w ≡ now → IsSource w entries → IsWellFormed now.tables (fact_view f) → IsWithinLimits (with_fact (dictionary_view now) (fact_view f)) → facts ≡ w.facts ++ f ∷ [] → later ≡ fact_noted entries (fact_view f) n → n ≡ suc (length w.facts) → IsSource (record { enums = w.enums; tables = w.tables; facts = facts }) later
 IsSource-last w now f facts entries later n opened h well limits e noted number =
     let views : map fact_view facts ≡ map fact_view w.facts ++ fact_view f ∷ [] = ap (map fact_view) e ∙ map-append fact_view w.facts (f ∷ []) in
     let counted : n ≡ suc (length (map fact_view w.facts)) = number ∙ ap suc (sym (length-map w.facts fact_view)) in
     let kept : IsWithinLimits (with_fact (dictionary_view w) (fact_view f)) = subst (λ (v : Written). IsWithinLimits (with_fact (dictionary_view v) (fact_view f))) (sym opened) limits in
     let index : IsIndex (map fact_view w.facts ++ fact_view f ∷ []) (fact_noted entries (fact_view f) (suc (length (map fact_view w.facts)))) = IsIndex-last (map fact_view w.facts) (fact_view f) entries h.index in
+    let fits : IsWellFormed w.tables (fact_view f) = subst (λ (v : Written). IsWellFormed v.tables (fact_view f)) (sym opened) well in
     record {
       valid = record {
-        well_formed = subst (All IsWellFormed) (sym views) (All-push IsWellFormed (map fact_view w.facts) (fact_view f) h.valid.well_formed well);
-        limits = subst (λ (fs : List Fact). IsWithinLimits (record { enums = w.enums; facts = fs })) (sym views) kept;
+        well_formed = subst (All (IsWellFormed w.tables)) (sym views) (All-push (IsWellFormed w.tables) (map fact_view w.facts) (fact_view f) h.valid.well_formed fits);
+        tables = h.valid.tables;
+        limits = subst (λ (fs : List Fact). IsWithinLimits (record { enums = w.enums; tables = w.tables; facts = fs })) (sym views) kept;
       };
       index = subst (λ (fs : List Fact). IsIndex fs later) (sym views) (subst (λ (es : List Entry). IsIndex (map fact_view w.facts ++ fact_view f ∷ []) es) (sym (noted ∙ ap (fact_noted entries (fact_view f)) counted)) index);
     }
@@ -67,7 +75,7 @@ found_by_text w now entries p line r opened h path text found =
     found
     ∙ ap (λ (t : List ℕ). place_of t entries) text
     ∙ h.index (fact_path_text p)
-    ∙ spelled-find_path (dictionary_view w).facts p h.valid.well_formed path
+    ∙ spelled-find_path w.tables (dictionary_view w).facts p h.valid.well_formed path
     ∙ ap (λ (v : Written). find_path (dictionary_view v).facts p) opened
 
 -- ---- what calls gave

@@ -5,13 +5,16 @@ use Rattle.serde_json.specs.Data.{Data, string, array, Items, no_items, item}
 use Rattle.serde_json.specs.Find.{get}
 use Rattle.fact_paths.specs.Names.{is_name}
 use Rattle.value_text.specs.Enums.{Listed, are_distinct, names_of}
+use Rattle.dict_tree.specs.Tables.{LookupTable}
+use Rattle.dict_tree.specs.TableJson.{SpellTables}
 use Rattle.dict_tree.specs.Facts.{Fact}
-use Rattle.dict_tree.specs.FactJson.{IsObjectOf, IsOptionalText, items_from, SpellsFact}
+use Rattle.dict_tree.specs.FactJson.{AreSpelled, IsObjectOf, IsOptionalText, items_from, SpellsFact}
 use Rattle.dict_tree.specs.Dictionary.{Dictionary, IsWithinLimits, too_many, too_deep}
 use Rattle.dict_tree.specs.Versions.{version_text}
 use Rattle.dict_tree.specs.declared.fault.TreeFault.{TreeFault}
 use Rattle.dict_tree.specs.declared.fault.TreeFault.TheVariants as faults
 use Rattle.dict_tree.specs.declared.version.Version.{Version}
+use Rattle.dict_tree.specs.declared.version.Version.TheVariants as versions
 
 -- ---- enums
 
@@ -28,13 +31,6 @@ pub record SpellsEnum (d : Data) (e : Listed) : Type 0 where
   pub some : e.options ≢ []
   pub distinct : IsTrue (are_distinct e.options)
 
--- the items spell these, one after the other
-abbrev pub AreSpelled : {X : Type 0} → (Data → X → Type 0) → Items → List X → Type 0
-AreSpelled spells no_items [] = Unit {0}
-AreSpelled spells (item d ds) (x ∷ xs) = spells d x × AreSpelled spells ds xs
-AreSpelled spells no_items (x ∷ xs) = ⊥
-AreSpelled spells (item d ds) [] = ⊥
-
 -- no lists where there is no such member, and each under a name of its own
 abbrev pub SpellEnums : Option Data → List Listed → Type 0
 SpellEnums None es = es ≡ []
@@ -42,45 +38,48 @@ SpellEnums (Some d) es = (items : Items) × (d ≡ array items) × AreSpelled Sp
 
 -- ---- dictionaries
 
-abbrev pub top_keys : List (List ℕ)
-top_keys = codes "version" ∷ codes "facts" ∷ codes "enums" ∷ codes "description" ∷ []
+abbrev pub top_keys : Version → List (List ℕ)
+top_keys versions.Law = codes "version" ∷ codes "facts" ∷ codes "enums" ∷ codes "tables" ∷ codes "description" ∷ []
+top_keys _ = codes "version" ∷ codes "facts" ∷ codes "enums" ∷ codes "description" ∷ []
 
 -- what lies outside the facts, of this version
-pub record SpellsTop (d : Data) (stated : Version) (lists : List Listed) (items : Items) : Type 0 where
-  pub keys : IsObjectOf top_keys d
+pub record SpellsTop (d : Data) (stated : Version) (lists : List Listed) (listed : List LookupTable) (items : Items) : Type 0 where
+  pub keys : IsObjectOf (top_keys stated) d
   pub description : IsOptionalText (get (codes "description") d)
   pub version : get (codes "version") d ≡ Some (string (version_text stated))
   pub enums : SpellEnums (get (codes "enums") d) lists
+  pub tables : SpellTables lists (get (codes "tables") d) listed
   pub facts : get (codes "facts") d ≡ Some (array items)
 
 -- the value spells the dictionary
 pub record SpellsDictionary (d : Data) (dict : Dictionary) : Type 0 where
   pub version : Version
   pub items : Items
-  pub top : SpellsTop d version dict.enums items
-  pub facts : AreSpelled (SpellsFact version) items dict.facts
+  pub top : SpellsTop d version dict.enums dict.tables items
+  pub facts : AreSpelled (SpellsFact version dict.tables) items dict.facts
 
 -- ---- what isn't of the form
 
 -- nothing that lies outside the facts is spelled
 abbrev pub IsTopWrong : Data → Type 0
-IsTopWrong d = (version : Version) (enums : List Listed) (items : Items) → ¬ (SpellsTop d version enums items)
+IsTopWrong d = (version : Version) (enums : List Listed) (tables : List LookupTable) (items : Items) → ¬ (SpellsTop d version enums tables items)
 
 -- no fact is spelled
-abbrev pub IsFactWrong : Version → Data → Type 0
-IsFactWrong version d = (f : Fact) → ¬ (SpellsFact version d f)
+abbrev pub IsFactWrong : Version → List LookupTable → Data → Type 0
+IsFactWrong version tables d = (f : Fact) → ¬ (SpellsFact version tables d f)
 
 -- the number of the first that spells no fact, where they are counted from n
-abbrev pub IsFirstWrong : Version → ℕ → Items → ℕ → Type 0
-IsFirstWrong version n no_items m = ⊥
-IsFirstWrong version n (item d ds) m = (IsFactWrong version d × (m ≡ n)) ⊎ ((f : Fact) × SpellsFact version d f × IsFirstWrong version (n + 1) ds m)
+abbrev pub IsFirstWrong : Version → List LookupTable → ℕ → Items → ℕ → Type 0
+IsFirstWrong version tables n no_items m = ⊥
+IsFirstWrong version tables n (item d ds) m = (IsFactWrong version tables d × (m ≡ n)) ⊎ ((f : Fact) × SpellsFact version tables d f × IsFirstWrong version tables (n + 1) ds m)
 
 pub record IsWrongFact (d : Data) (number : ℕ) : Type 0 where
   pub version : Version
   pub enums : List Listed
+  pub tables : List LookupTable
   pub items : Items
-  pub top : SpellsTop d version enums items
-  pub first : IsFirstWrong version 1 items number
+  pub top : SpellsTop d version enums tables items
+  pub first : IsFirstWrong version tables 1 items number
 
 -- The part that isn't of the form: 0 where it lies outside the facts, and else the first fact.
 abbrev pub IsWrongAt : Data → ℕ → Type 0

@@ -1,11 +1,13 @@
 -- Reading a dictionary of its JSON value, or the first fault.
-use Rattle.std.specs.Prelude.{◌≡◌, ℕ, ◌+◌, ◌≤◌, ◌<◌, Bool, true, false, ◌&&◌, List, [], ◌∷◌, length, map, nat_lt, codes, Option, Some, None, option_map, option_and_then, Result, Ok, Err, if◌then◌else◌}
+use Rattle.std.specs.Prelude.{◌≡◌, ℕ, ◌+◌, ◌≤◌, ◌<◌, ◌&&◌, List, [], ◌∷◌, length, map, nat_lt, codes, Option, Some, None, option_map, option_and_then, Result, Ok, Err, if◌then◌else◌}
 use Rattle.std.specs.Str.{IsUtf8}
 use Rattle.serde_json.specs.Data.{Data, Items, no_items, item, Members}
 use Rattle.serde_json.specs.Find.{as_str, as_array, as_object, get}
 use Rattle.serde_json.specs.Read.{read}
 use Rattle.fact_paths.specs.Parsing.{name_of}
 use Rattle.value_text.specs.Enums.{Listed, are_distinct, names_of}
+use Rattle.dict_tree.specs.Tables.{LookupTable}
+use Rattle.dict_tree.specs.TableParsing.{tables_in}
 use Rattle.dict_tree.specs.Facts.{Fact, fact_view}
 use Rattle.dict_tree.specs.FactParsing.{has_no_other, text_at, is_optional_text, fact_of}
 use Rattle.dict_tree.specs.Dictionary.{Dictionary, too_many, too_deep}
@@ -74,15 +76,18 @@ facts_step n None rest = Err (faults.Shape n)
 facts_step n (Some f) (Ok fs) = Ok (f ∷ fs)
 facts_step n (Some f) (Err e) = Err e
 
-abbrev pub facts_of : Version → ℕ → Items → Result (List Fact) TreeFault
-facts_of version n no_items = Ok []
-facts_of version n (item d ds) = facts_step n (fact_of version d) (facts_of version (n + 1) ds)
+abbrev pub facts_of : Version → List LookupTable → ℕ → Items → Result (List Fact) TreeFault
+facts_of version tables n no_items = Ok []
+facts_of version tables n (item d ds) = facts_step n (fact_of version tables d) (facts_of version tables (n + 1) ds)
 
 -- ---- the whole
 
+-- the version, where it has these keys
+abbrev pub if_top : Data → Members → Version → Option Version
+if_top d members version = if has_no_other (top_keys version) members && is_optional_text (get (codes "description") d) then Some version else None
+
 abbrev pub version_with : Data → Members → Option Version
-version_with d members =
-    if has_no_other top_keys members && is_optional_text (get (codes "description") d) then option_and_then version_of (text_at (codes "version") d) else None
+version_with d members = option_and_then (if_top d members) (option_and_then version_of (text_at (codes "version") d))
 
 abbrev pub version_in : Data → Option Version
 version_in d = option_and_then (version_with d) (as_object d)
@@ -95,21 +100,26 @@ abbrev pub few : Dictionary → Option ℕ → Result Dictionary TreeFault
 few d None = shallow d (too_deep d)
 few d (Some what) = Err (faults.TooMany what)
 
-abbrev pub dictionary_with : List Listed → List Fact → Dictionary
-dictionary_with enums facts = record { enums = enums; facts = facts }
+abbrev pub dictionary_with : List Listed → List LookupTable → List Fact → Dictionary
+dictionary_with enums tables facts = record { enums = enums; tables = tables; facts = facts }
 
-abbrev pub with_facts : List Listed → Result (List Fact) TreeFault → Result Dictionary TreeFault
-with_facts enums (Ok facts) = few (dictionary_with enums facts) (too_many (dictionary_with enums facts))
-with_facts enums (Err e) = Err e
+abbrev pub with_facts : List Listed → List LookupTable → Result (List Fact) TreeFault → Result Dictionary TreeFault
+with_facts enums tables (Ok facts) = few (dictionary_with enums tables facts) (too_many (dictionary_with enums tables facts))
+with_facts enums tables (Err e) = Err e
 
--- of the version, the lists and the facts, where each is there
-abbrev pub from_parts : Option Version → Option (List Listed) → Option Items → Result Dictionary TreeFault
-from_parts (Some version) (Some enums) (Some items) = with_facts enums (facts_of version 1 items)
-from_parts version enums items = Err (faults.Shape 0)
+-- of the version, the lists, the tables and the facts, where each is there
+abbrev pub from_parts : Option Version → Option (List Listed) → Option (List LookupTable) → Option Items → Result Dictionary TreeFault
+from_parts (Some version) (Some enums) (Some tables) (Some items) = with_facts enums tables (facts_of version tables 1 items)
+from_parts version enums tables items = Err (faults.Shape 0)
+
+-- the tables over the lists of options that the value has
+abbrev pub tables_over : Option (List Listed) → Data → Option (List LookupTable)
+tables_over enums d = option_and_then (λ lists. tables_in lists (get (codes "tables") d)) enums
 
 -- the dictionary that the value spells, or the first fault: the shape of all before the limits, and fact 0 first
 unfoldable pub dictionary_of : Data → Result Dictionary TreeFault
-dictionary_of d = from_parts (version_in d) (enums_in (get (codes "enums") d)) (option_and_then as_array (get (codes "facts") d))
+dictionary_of d =
+    from_parts (version_in d) (enums_in (get (codes "enums") d)) (tables_over (enums_in (get (codes "enums") d)) d) (option_and_then as_array (get (codes "facts") d))
 
 -- ---- bytes
 
@@ -159,4 +169,4 @@ IsOfShape faults.NoMemory = Unit {0}
 -- ---- what is read, before it is kept
 
 abbrev pub read_view : Found → Dictionary
-read_view r = record { enums = map listed_view r.enums.items; facts = map fact_view r.facts.items }
+read_view r = record { enums = map listed_view r.enums.items; tables = r.tables.items; facts = map fact_view r.facts.items }

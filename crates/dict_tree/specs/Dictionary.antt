@@ -1,23 +1,27 @@
 -- What a dictionary is, as it is written, and the limits that it keeps.
-use Rattle.std.specs.Prelude.{◌≡◌, ℕ, suc, Bool, true, false, not, nat_lt, List, [], ◌∷◌, ◌++◌, map, length, sum_by, count_by, Option, Some, None, if◌then◌else◌}
+use Rattle.std.specs.Prelude.{◌≡◌, ◌≤◌, ℕ, suc, IsTrue, Bool, true, false, not, nat_lt, List, [], ◌∷◌, ◌++◌, map, length, sum_by, count_by, Option, Some, None, if◌then◌else◌}
 use Rattle.std.specs.List.{list_any, All}
-use Rattle.value_text.specs.Enums.{Listed}
+use Rattle.value_text.specs.Enums.{Listed, are_distinct}
+use Rattle.value_text.specs.ValueLaws.{IsValueOf}
 use Rattle.dict_tree.specs.Facts.{Fact, Stated, scalar, enum_of, writable_list, list_of, item_of, fact_view, fact_size, fact_within}
+use Rattle.dict_tree.specs.Tables.{LookupTable, table_names, table_values}
 use Rattle.dict_tree.specs.Forms.{IsWellFormed}
 use Rattle.dict_tree.specs.declared.fact_source.FactSource.{FactSource}
 
--- the lists of options, and the facts in their order
+-- the lists of options, the tables, and the facts in their order
 pub record Dictionary : Type 0 where
   pub enums : List Listed
+  pub tables : List LookupTable
   pub facts : List Fact
 
 -- the same, with the facts as they lie in memory
 pub record Written : Type 0 where
   pub enums : List Listed
+  pub tables : List LookupTable
   pub facts : List FactSource
 
 abbrev pub dictionary_view : Written → Dictionary
-dictionary_view w = record { enums = w.enums; facts = map fact_view w.facts }
+dictionary_view w = record { enums = w.enums; tables = w.tables; facts = map fact_view w.facts }
 
 -- the number of the first that passes the test, where they are counted from n
 abbrev pub number_from : {X : Type 0} → (X → Bool) → ℕ → List X → Option ℕ
@@ -58,10 +62,17 @@ pub record IsWithinLimits (d : Dictionary) : Type 0 where
 
 -- ---- what every dictionary keeps
 
+-- at most a hundred tables, each under a name of its own, whose values are of its type over these lists of options
+pub record AreTables (enums : List Listed) (tables : List LookupTable) : Type 0 where
+  pub few : length tables ≤ 100
+  pub distinct : IsTrue (are_distinct (table_names tables))
+  pub typed : All (λ t. All (IsValueOf enums t.to) (table_values t)) tables
+
 pub record IsValid (d : Dictionary) : Type 0 where
-  pub well_formed : All IsWellFormed d.facts
+  pub well_formed : All (IsWellFormed d.tables) d.facts
+  pub tables : AreTables d.enums d.tables
   pub limits : IsWithinLimits d
 
 -- the dictionary with one fact more, at its end
 abbrev pub with_fact : Dictionary → Fact → Dictionary
-with_fact d f = record { enums = d.enums; facts = d.facts ++ f ∷ [] }
+with_fact d f = record { enums = d.enums; tables = d.tables; facts = d.facts ++ f ∷ [] }

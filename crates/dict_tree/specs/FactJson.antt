@@ -7,6 +7,7 @@ use Rattle.fact_paths.specs.Paths.{SpellsFactPath}
 use Rattle.fact_values.specs.declared.fact_type.FactType.{FactType}
 use Rattle.fact_values.specs.declared.fact_type.FactType.TheVariants as types
 use Rattle.dict_tree.specs.Tree.{Source, SourceCase}
+use Rattle.dict_tree.specs.Tables.{LookupTable}
 use Rattle.dict_tree.specs.Facts.{Fact, Stated, scalar, enum_of, writable_list, list_of, item_of, Bound, least, greatest, max_length, check}
 use Rattle.dict_tree.specs.Forms.{IsReadFrom, HasForm, IsWritableType, IsDerivedType}
 use Rattle.dict_tree.specs.Json.{text_json, json_of, Spells}
@@ -34,6 +35,13 @@ IsOptionalText (Some d) = (text : List ℕ) × (d ≡ string text)
 abbrev pub items_from : {X : Type 0} → (X → Data) → List X → Items
 items_from json [] = no_items
 items_from json (x ∷ xs) = item (json x) (items_from json xs)
+
+-- the items spell these, one after the other
+abbrev pub AreSpelled : {X : Type 0} → (Data → X → Type 0) → Items → List X → Type 0
+AreSpelled spells no_items [] = Unit {0}
+AreSpelled spells (item d ds) (x ∷ xs) = spells d x × AreSpelled spells ds xs
+AreSpelled spells no_items (x ∷ xs) = ⊥
+AreSpelled spells (item d ds) [] = ⊥
 
 -- ---- types
 
@@ -80,31 +88,31 @@ SpellLimits (Some d) limits = d ≡ array (items_from limit_json limits)
 -- ---- expressions of a fact
 
 -- an expression just where there is such a member
-abbrev pub SpellsOptional : Option Data → Option Source → Type 0
-SpellsOptional None None = Unit {0}
-SpellsOptional (Some d) (Some t) = Spells d t
-SpellsOptional None (Some t) = ⊥
-SpellsOptional (Some d) None = ⊥
+abbrev pub SpellsOptional : List LookupTable → Option Data → Option Source → Type 0
+SpellsOptional tables None None = Unit {0}
+SpellsOptional tables (Some d) (Some t) = Spells tables d t
+SpellsOptional tables None (Some t) = ⊥
+SpellsOptional tables (Some d) None = ⊥
 
-abbrev pub SpellsRequired : Option Data → Option Source → Type 0
-SpellsRequired (Some d) (Some t) = Spells d t
-SpellsRequired (Some d) None = ⊥
-SpellsRequired None t = ⊥
+abbrev pub SpellsRequired : List LookupTable → Option Data → Option Source → Type 0
+SpellsRequired tables (Some d) (Some t) = Spells tables d t
+SpellsRequired tables (Some d) None = ⊥
+SpellsRequired tables None t = ⊥
 
 -- `[C,V]`
 abbrev pub conditional_json : SourceCase → Data
 conditional_json c = array (item (json_of c.0) (item (json_of c.1) no_items))
 
-abbrev pub SpellsConditional : Option Data → Option SourceCase → Type 0
-SpellsConditional None None = Unit {0}
-SpellsConditional (Some d) (Some c) = HasForm c.0 × HasForm c.1 × (d ≡ conditional_json c)
-SpellsConditional None (Some c) = ⊥
-SpellsConditional (Some d) None = ⊥
+abbrev pub SpellsConditional : List LookupTable → Option Data → Option SourceCase → Type 0
+SpellsConditional tables None None = Unit {0}
+SpellsConditional tables (Some d) (Some c) = HasForm tables c.0 × HasForm tables c.1 × (d ≡ conditional_json c)
+SpellsConditional tables None (Some c) = ⊥
+SpellsConditional tables (Some d) None = ⊥
 
 -- ---- facts
 
 -- the value spells the writable fact
-pub record SpellsWritable (d : Data) (f : Fact) : Type 0 where
+pub record SpellsWritable (tables : List LookupTable) (d : Data) (f : Fact) : Type 0 where
   pub keys : IsObjectOf writable_keys d
   pub description : get (codes "description") d ≡ option_map string f.description
   pub path : get (codes "path") d ≡ Some (string f.path_text)
@@ -114,10 +122,10 @@ pub record SpellsWritable (d : Data) (f : Fact) : Type 0 where
   pub limits : SpellLimits (get (codes "limits") d) f.limits
   pub main : f.main ≡ None
   pub conditional : f.conditional ≡ None
-  pub placeholder : SpellsOptional (get (codes "placeholder") d) f.placeholder
+  pub placeholder : SpellsOptional tables (get (codes "placeholder") d) f.placeholder
 
 -- the value spells the derived fact
-pub record SpellsDerived (version : Version) (d : Data) (f : Fact) : Type 0 where
+pub record SpellsDerived (version : Version) (tables : List LookupTable) (d : Data) (f : Fact) : Type 0 where
   pub keys : IsObjectOf (derived_keys version) d
   pub description : get (codes "description") d ≡ option_map string f.description
   pub path : get (codes "path") d ≡ Some (string f.path_text)
@@ -125,11 +133,11 @@ pub record SpellsDerived (version : Version) (d : Data) (f : Fact) : Type 0 wher
   pub stated : get (codes "derived") d ≡ Some (string (stated_text f.stated))
   pub kind : IsDerivedType f.stated × IsNamed f.stated
   pub limits : f.limits ≡ []
-  pub main : SpellsRequired (get (codes "is") d) f.main
-  pub conditional : SpellsConditional (get (codes "conditional") d) f.conditional
-  pub placeholder : SpellsOptional (get (codes "placeholder") d) f.placeholder
+  pub main : SpellsRequired tables (get (codes "is") d) f.main
+  pub conditional : SpellsConditional tables (get (codes "conditional") d) f.conditional
+  pub placeholder : SpellsOptional tables (get (codes "placeholder") d) f.placeholder
 
 -- the value spells the fact, whose operators the version has
-pub record SpellsFact (version : Version) (d : Data) (f : Fact) : Type 0 where
-  pub form : SpellsWritable d f ⊎ SpellsDerived version d f
+pub record SpellsFact (version : Version) (tables : List LookupTable) (d : Data) (f : Fact) : Type 0 where
+  pub form : SpellsWritable tables d f ⊎ SpellsDerived version tables d f
   pub operators : IsTrue (has_operators version f)

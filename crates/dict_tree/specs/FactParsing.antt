@@ -1,5 +1,5 @@
 -- Reading a fact of its JSON value.
-use Rattle.std.specs.Prelude.{ℕ, Bool, true, false, ◌&&◌, List, [], ◌∷◌, codes, Option, Some, None, is_some, option_map, option_and_then, if◌then◌else◌, bytes_eq}
+use Rattle.std.specs.Prelude.{ℕ, Bool, true, ◌&&◌, List, [], ◌∷◌, codes, Option, Some, None, is_some, option_map, option_and_then, if◌then◌else◌, bytes_eq}
 use Rattle.std.specs.List.{list_any}
 use Rattle.serde_json.specs.Data.{Data, Items, no_items, item, Members, no_members, member}
 use Rattle.serde_json.specs.Find.{as_str, as_array, as_object, get}
@@ -7,6 +7,7 @@ use Rattle.fact_paths.specs.Parsing.{fact_path_of}
 use Rattle.dict_tree.specs.declared.limits_json.LimitName.{LimitName}
 use Rattle.dict_tree.specs.declared.limits_json.LimitName.TheVariants as names
 use Rattle.dict_tree.specs.Tree.{Source, SourceCase}
+use Rattle.dict_tree.specs.Tables.{LookupTable}
 use Rattle.dict_tree.specs.Facts.{Fact, Stated, Bound, least, greatest, max_length, check}
 use Rattle.dict_tree.specs.Names.{under_name}
 use Rattle.dict_tree.specs.Parsing.{two_texts, pair_tree, tree_of}
@@ -66,18 +67,18 @@ limits_in (Some d) = option_and_then limit_list (as_array d)
 -- ---- expressions of a fact
 
 -- an expression
-abbrev pub main_in : Option Data → Option (Option Source)
-main_in o = option_map (λ t. Some t) (option_and_then tree_of o)
+abbrev pub main_in : List LookupTable → Option Data → Option (Option Source)
+main_in tables o = option_map (λ t. Some t) (option_and_then (tree_of tables) o)
 
 -- an expression, where there is such a member
-abbrev pub tree_in : Option Data → Option (Option Source)
-tree_in None = Some None
-tree_in (Some d) = option_map (λ t. Some t) (tree_of d)
+abbrev pub tree_in : List LookupTable → Option Data → Option (Option Source)
+tree_in tables None = Some None
+tree_in tables (Some d) = option_map (λ t. Some t) (tree_of tables d)
 
 -- `[C,V]`, where there is such a member
-abbrev pub conditional_in : Option Data → Option (Option SourceCase)
-conditional_in None = Some None
-conditional_in (Some d) = option_map (λ c. Some c) (option_and_then pair_tree (as_array d))
+abbrev pub conditional_in : List LookupTable → Option Data → Option (Option SourceCase)
+conditional_in tables None = Some None
+conditional_in tables (Some d) = option_map (λ c. Some c) (option_and_then (pair_tree tables) (as_array d))
 
 -- ---- facts
 
@@ -95,20 +96,20 @@ fact_from (Some text) (Some limits) (Some main) (Some conditional) (Some placeho
     Some (record { path_text = text; path = fact_path_of text; stated = stated; limits = limits; main = main; conditional = conditional; placeholder = placeholder; description = description })
 fact_from text limits main conditional placeholder stated description = None
 
-unfoldable pub writable_fact : Data → Option Fact
-writable_fact d = fact_from (text_at (codes "path") d) (limits_in (get (codes "limits") d)) (Some None) (Some None) (tree_in (get (codes "placeholder") d)) (option_and_then writable_stated (text_at (codes "writable") d)) (text_in (get (codes "description") d))
+unfoldable pub writable_fact : List LookupTable → Data → Option Fact
+writable_fact tables d = fact_from (text_at (codes "path") d) (limits_in (get (codes "limits") d)) (Some None) (Some None) (tree_in tables (get (codes "placeholder") d)) (option_and_then writable_stated (text_at (codes "writable") d)) (text_in (get (codes "description") d))
 
-unfoldable pub derived_fact : Data → Option Fact
-derived_fact d = fact_from (text_at (codes "path") d) (Some []) (main_in (get (codes "is") d)) (conditional_in (get (codes "conditional") d)) (tree_in (get (codes "placeholder") d)) (option_and_then derived_stated (text_at (codes "derived") d)) (text_in (get (codes "description") d))
+unfoldable pub derived_fact : List LookupTable → Data → Option Fact
+derived_fact tables d = fact_from (text_at (codes "path") d) (Some []) (main_in tables (get (codes "is") d)) (conditional_in tables (get (codes "conditional") d)) (tree_in tables (get (codes "placeholder") d)) (option_and_then derived_stated (text_at (codes "derived") d)) (text_in (get (codes "description") d))
 
-abbrev pub fact_with : Version → Data → Members → Option Fact
-fact_with version d members =
-    if has_no_other writable_keys members then writable_fact d else (if has_no_other (derived_keys version) members then derived_fact d else None)
+abbrev pub fact_with : Version → List LookupTable → Data → Members → Option Fact
+fact_with version tables d members =
+    if has_no_other writable_keys members then writable_fact tables d else (if has_no_other (derived_keys version) members then derived_fact tables d else None)
 
 -- the fact, where the version has its operators
 abbrev pub if_of_version : Version → Fact → Option Fact
 if_of_version version f = if has_operators version f then Some f else None
 
 -- the fact that the value spells in a dictionary of this version
-abbrev pub fact_of : Version → Data → Option Fact
-fact_of version d = option_and_then (if_of_version version) (option_and_then (fact_with version d) (as_object d))
+abbrev pub fact_of : Version → List LookupTable → Data → Option Fact
+fact_of version tables d = option_and_then (if_of_version version) (option_and_then (fact_with version tables d) (as_object d))

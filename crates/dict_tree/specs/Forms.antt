@@ -5,7 +5,10 @@ use Rattle.fact_values.specs.declared.fact_type.FactType.{FactType}
 use Rattle.fact_values.specs.declared.fact_type.FactType.TheVariants as types
 use Rattle.dict_tree.specs.declared.operators.ManyOp.{ManyOp}
 use Rattle.dict_tree.specs.declared.operators.ManyOp.TheVariants.{All, Any, Add, Subtract, GreaterOf, LesserOf}
+use Rattle.dict_tree.specs.declared.operators.OneOp.{OneOp}
+use Rattle.dict_tree.specs.declared.operators.OneOp.TheVariants as ones
 use Rattle.dict_tree.specs.Tree.{Use, Source, Sources, SourceCase, SourceCases, literal, read, switch, many, one, two, pick, no_trees, tree, no_cases, a_case}
+use Rattle.dict_tree.specs.Tables.{LookupTable, table_named}
 use Rattle.dict_tree.specs.Facts.{Fact, Stated, scalar, enum_of, writable_list, list_of, item_of}
 
 -- what the grammar reads from the text, and None where it reads nothing
@@ -35,38 +38,43 @@ AreEnough Subtract ts = AreTwo ts
 AreEnough GreaterOf ts = AreSome ts
 AreEnough LesserOf ts = AreSome ts
 
+-- a table is one of these, the first of its name
+abbrev pub HasTable : List LookupTable → OneOp → Type 0
+HasTable tables (ones.Lookup t) = table_named t.name tables ≡ Some t
+HasTable tables op = Unit {0}
+
 -- one or more
 abbrev pub AreCases : SourceCases → Type 0
 AreCases no_cases = ⊥
 AreCases (a_case t o cs) = Unit {0}
 
--- each node has a number of operands that it may have, and each use is read from its text
+-- each node has a number of operands that it may have, each use is read from its text, and each table is one of these
 abbrev mutual
-  pub HasForm : Source → Type 0
-  HasForm (literal c) = Unit {0}
-  HasForm (read r) = IsUse r.1
-  HasForm (switch cs) = AreCases cs × HaveCaseForms cs
-  HasForm (many op ts) = AreEnough op ts × HaveForms ts
-  HasForm (one op t) = HasForm t
-  HasForm (two op a b) = HasForm a × HasForm b
-  HasForm (pick op p t) = IsUse p × HasForm t
+  pub HasForm : List LookupTable → Source → Type 0
+  HasForm tables (literal c) = Unit {0}
+  HasForm tables (read r) = IsUse r.1
+  HasForm tables (switch cs) = AreCases cs × HaveCaseForms tables cs
+  HasForm tables (many op ts) = AreEnough op ts × HaveForms tables ts
+  HasForm tables (one op t) = HasTable tables op × HasForm tables t
+  HasForm tables (two op a b) = HasForm tables a × HasForm tables b
+  HasForm tables (pick op p t) = IsUse p × HasForm tables t
 
-  pub HaveForms : Sources → Type 0
-  HaveForms no_trees = Unit {0}
-  HaveForms (tree t ts) = HasForm t × HaveForms ts
+  pub HaveForms : List LookupTable → Sources → Type 0
+  HaveForms tables no_trees = Unit {0}
+  HaveForms tables (tree t ts) = HasForm tables t × HaveForms tables ts
 
-  pub HaveCaseForms : SourceCases → Type 0
-  HaveCaseForms no_cases = Unit {0}
-  HaveCaseForms (a_case t o cs) = HasForm t × HasForm o × HaveCaseForms cs
+  pub HaveCaseForms : List LookupTable → SourceCases → Type 0
+  HaveCaseForms tables no_cases = Unit {0}
+  HaveCaseForms tables (a_case t o cs) = HasForm tables t × HasForm tables o × HaveCaseForms tables cs
 
 -- an expression that may be absent
-abbrev pub HasOptionForm : Option Source → Type 0
-HasOptionForm None = Unit {0}
-HasOptionForm (Some t) = HasForm t
+abbrev pub HasOptionForm : List LookupTable → Option Source → Type 0
+HasOptionForm tables None = Unit {0}
+HasOptionForm tables (Some t) = HasForm tables t
 
-abbrev pub HasConditionalForm : Option SourceCase → Type 0
-HasConditionalForm None = Unit {0}
-HasConditionalForm (Some c) = HasForm c.0 × HasForm c.1
+abbrev pub HasConditionalForm : List LookupTable → Option SourceCase → Type 0
+HasConditionalForm tables None = Unit {0}
+HasConditionalForm tables (Some c) = HasForm tables c.0 × HasForm tables c.1
 
 -- ---- types
 
@@ -101,12 +109,12 @@ IsDerivedType (item_of u) = IsUse u
 -- ---- facts
 
 -- without a main expression the fact is writable, with one it is derived
-abbrev pub HasKind : Fact → Option Source → Type 0
-HasKind f None = IsWritableType f.stated × (f.conditional ≡ None)
-HasKind f (Some t) = IsDerivedType f.stated × HasForm t × (f.limits ≡ [])
+abbrev pub HasKind : List LookupTable → Fact → Option Source → Type 0
+HasKind tables f None = IsWritableType f.stated × (f.conditional ≡ None)
+HasKind tables f (Some t) = IsDerivedType f.stated × HasForm tables t × (f.limits ≡ [])
 
-pub record IsWellFormed (f : Fact) : Type 0 where
+pub record IsWellFormed (tables : List LookupTable) (f : Fact) : Type 0 where
   pub path : IsReadFrom SpellsFactPath f.path_text f.path
-  pub kind : HasKind f f.main
-  pub conditional : HasConditionalForm f.conditional
-  pub placeholder : HasOptionForm f.placeholder
+  pub kind : HasKind tables f f.main
+  pub conditional : HasConditionalForm tables f.conditional
+  pub placeholder : HasOptionForm tables f.placeholder

@@ -1,5 +1,5 @@
 -- Laws of reading and spelling.
-use Rattle.std.specs.Prelude.{◌≡◌, Some, Result}
+use Rattle.std.specs.Prelude.{◌≡◌, List, Some, Result}
 use Rattle.serde_json.specs.Data.{Data}
 use Rattle.value_text.specs.Enums.{Listed}
 use Rattle.dict_tree.specs.Tree.{Source}
@@ -7,6 +7,9 @@ use Rattle.dict_tree.specs.Json.{Spells}
 use Rattle.dict_tree.specs.FactJson.{SpellsFact}
 use Rattle.dict_tree.specs.DictJson.{SpellsEnum, ValueGives}
 use Rattle.dict_tree.specs.Parsing.{tree_of}
+use Rattle.dict_tree.specs.Tables.{LookupTable}
+use Rattle.dict_tree.specs.TableJson.{SpellsTable}
+use Rattle.dict_tree.specs.TableParsing.{table_of}
 use Rattle.dict_tree.specs.Facts.{Fact}
 use Rattle.dict_tree.specs.Forms.{IsWellFormed}
 use Rattle.dict_tree.specs.FactParsing.{fact_of}
@@ -19,25 +22,25 @@ use Rattle.dict_tree.specs.declared.version.Version.{Version}
 
 -- an expression that is read is spelled
 abbrev pub ReadIsSpelled : Type 0
-ReadIsSpelled = (d : Data) (t : Source) → tree_of d ≡ Some t → Spells d t
+ReadIsSpelled = (tables : List LookupTable) (d : Data) (t : Source) → tree_of tables d ≡ Some t → Spells tables d t
 
 -- an expression that is spelled is read
 abbrev pub SpelledIsRead : Type 0
-SpelledIsRead = (d : Data) (t : Source) → Spells d t → tree_of d ≡ Some t
+SpelledIsRead = (tables : List LookupTable) (d : Data) (t : Source) → Spells tables d t → tree_of tables d ≡ Some t
 
 -- ---- facts and enums
 
 -- a fact that is read is well formed
 abbrev pub ReadIsWellFormed : Type 0
-ReadIsWellFormed = (version : Version) (d : Data) (f : Fact) → fact_of version d ≡ Some f → IsWellFormed f
+ReadIsWellFormed = (version : Version) (tables : List LookupTable) (d : Data) (f : Fact) → fact_of version tables d ≡ Some f → IsWellFormed tables f
 
 -- a fact that is read is spelled
 abbrev pub ReadFactIsSpelled : Type 0
-ReadFactIsSpelled = (version : Version) (d : Data) (f : Fact) → fact_of version d ≡ Some f → SpellsFact version d f
+ReadFactIsSpelled = (version : Version) (tables : List LookupTable) (d : Data) (f : Fact) → fact_of version tables d ≡ Some f → SpellsFact version tables d f
 
 -- a fact that is spelled is read
 abbrev pub SpelledFactIsRead : Type 0
-SpelledFactIsRead = (version : Version) (d : Data) (f : Fact) → SpellsFact version d f → fact_of version d ≡ Some f
+SpelledFactIsRead = (version : Version) (tables : List LookupTable) (d : Data) (f : Fact) → SpellsFact version tables d f → fact_of version tables d ≡ Some f
 
 -- a list of options that is read is spelled
 abbrev pub ReadEnumIsSpelled : Type 0
@@ -46,6 +49,14 @@ ReadEnumIsSpelled = (d : Data) (e : Listed) → enum_of d ≡ Some e → SpellsE
 -- a list of options that is spelled is read
 abbrev pub SpelledEnumIsRead : Type 0
 SpelledEnumIsRead = (d : Data) (e : Listed) → SpellsEnum d e → enum_of d ≡ Some e
+
+-- a table that is read is spelled
+abbrev pub ReadTableIsSpelled : Type 0
+ReadTableIsSpelled = (enums : List Listed) (d : Data) (t : LookupTable) → table_of enums d ≡ Some t → SpellsTable enums d t
+
+-- a table that is spelled is read
+abbrev pub SpelledTableIsRead : Type 0
+SpelledTableIsRead = (enums : List Listed) (d : Data) (t : LookupTable) → SpellsTable enums d t → table_of enums d ≡ Some t
 
 -- ---- dictionaries
 

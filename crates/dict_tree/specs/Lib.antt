@@ -19,6 +19,10 @@ pub mod Parsing
 pub mod Profile
 pub mod StatedParsing
 pub mod Sources
+pub mod TableJson
+pub mod TableParsing
+pub mod Tables
+pub mod TableView
 pub mod Targets
 pub mod Tree
 pub mod Typing

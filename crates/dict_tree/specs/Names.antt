@@ -12,6 +12,8 @@ use Rattle.dict_tree.specs.declared.operators.PickOp.{PickOp}
 use Rattle.dict_tree.specs.declared.operators.PickOp.TheVariants as picks
 use Rattle.dict_tree.specs.declared.node_name.ConstantName.{ConstantName}
 use Rattle.dict_tree.specs.declared.node_name.ConstantName.TheVariants as constants
+use Rattle.dict_tree.specs.declared.node_name.OneName.{OneName}
+use Rattle.dict_tree.specs.declared.node_name.OneName.TheVariants as one_names
 use Rattle.dict_tree.specs.declared.node_name.NodeName.{NodeName}
 use Rattle.dict_tree.specs.declared.node_name.NodeName.TheVariants as names
 
@@ -46,6 +48,7 @@ one_name ones.Round = codes "Round"
 one_name ones.YearOf = codes "YearOf"
 one_name ones.MonthOf = codes "MonthOf"
 one_name ones.DayOf = codes "DayOf"
+one_name (ones.Lookup t) = codes "Lookup"
 
 abbrev pub two_name : TwoOp → List ℕ
 two_name twos.Multiply = codes "Multiply"
@@ -69,15 +72,24 @@ abbrev pub pick_name : PickOp → List ℕ
 pick_name picks.Filter = codes "Filter"
 pick_name picks.Find = codes "Find"
 
+-- the operation that a name alone stands for
+abbrev pub op_of_name : OneName → OneOp
+op_of_name one_names.Not = ones.Not
+op_of_name one_names.Round = ones.Round
+op_of_name one_names.YearOf = ones.YearOf
+op_of_name one_names.MonthOf = ones.MonthOf
+op_of_name one_names.DayOf = ones.DayOf
+
 -- the name of a node
 abbrev pub node_name : NodeName → List ℕ
 node_name (names.Constant kind) = constant_name kind
 node_name (names.Read op) = read_name op
 node_name names.Switch = codes "Switch"
 node_name (names.Many op) = many_name op
-node_name (names.One op) = one_name op
+node_name (names.One name) = one_name (op_of_name name)
 node_name (names.Two op) = two_name op
 node_name (names.Pick op) = pick_name op
+node_name names.Lookup = codes "Lookup"
 
 -- what stands under the name
 abbrev pub under_name : {A : Type 0} → List ℕ → List (List ℕ × A) → Option A
@@ -103,7 +115,7 @@ node_names =
     ∷ (codes "Switch", names.Switch)
     ∷ (codes "All", names.Many manies.All)
     ∷ (codes "Any", names.Many manies.Any)
-    ∷ (codes "Not", names.One ones.Not)
+    ∷ (codes "Not", names.One one_names.Not)
     ∷ (codes "Add", names.Many manies.Add)
     ∷ (codes "Subtract", names.Many manies.Subtract)
     ∷ (codes "Multiply", names.Two twos.Multiply)
@@ -116,13 +128,13 @@ node_names =
     ∷ (codes "LessThan", names.Two twos.LessThan)
     ∷ (codes "GreaterThanOrEqual", names.Two twos.GreaterThanOrEqual)
     ∷ (codes "LessThanOrEqual", names.Two twos.LessThanOrEqual)
-    ∷ (codes "Round", names.One ones.Round)
-    ∷ (codes "YearOf", names.One ones.YearOf)
+    ∷ (codes "Round", names.One one_names.Round)
+    ∷ (codes "YearOf", names.One one_names.YearOf)
     ∷ (codes "AddDays", names.Two twos.AddDays)
     ∷ (codes "Filter", names.Pick picks.Filter)
     ∷ (codes "Find", names.Pick picks.Find)
-    ∷ (codes "MonthOf", names.One ones.MonthOf)
-    ∷ (codes "DayOf", names.One ones.DayOf)
+    ∷ (codes "MonthOf", names.One one_names.MonthOf)
+    ∷ (codes "DayOf", names.One one_names.DayOf)
     ∷ (codes "AddMonths", names.Two twos.AddMonths)
     ∷ (codes "AddYears", names.Two twos.AddYears)
     ∷ (codes "DaysBetween", names.Two twos.DaysBetween)
@@ -130,6 +142,7 @@ node_names =
     ∷ (codes "RoundUp", names.Two twos.RoundUp)
     ∷ (codes "RoundDown", names.Two twos.RoundDown)
     ∷ (codes "RoundNearest", names.Two twos.RoundNearest)
+    ∷ (codes "Lookup", names.Lookup)
     ∷ []
 
 -- the node of a name

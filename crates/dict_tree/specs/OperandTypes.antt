@@ -3,6 +3,7 @@ use Rattle.std.specs.Prelude.{ℕ, ◌==◌, Bool, true, false, ◌&&◌, nat_lt
 use Rattle.std.specs.List.{list_all}
 use Rattle.fact_values.specs.declared.fact_type.FactType.{FactType}
 use Rattle.fact_values.specs.declared.fact_type.FactType.TheVariants.{Boolean, Int, Dollar, Rational, Day, Text, Enum, Collection, Item}
+use Rattle.dict_tree.specs.Tables.{LookupTable}
 use Rattle.dict_tree.specs.declared.operators.ManyOp.{ManyOp}
 use Rattle.dict_tree.specs.declared.operators.ManyOp.TheVariants as many_op
 use Rattle.dict_tree.specs.declared.operators.OneOp.{OneOp}
@@ -66,13 +67,15 @@ many_type op us = option_and_then (type_of_many op (length us)) (common_type us)
 
 -- ---- one operand
 
-abbrev pub one_type : OneOp → FactType → Option FactType
-one_type one_op.Not Boolean = Some Boolean
-one_type one_op.Round Dollar = Some Dollar
-one_type one_op.YearOf Day = Some Int
-one_type one_op.MonthOf Day = Some Int
-one_type one_op.DayOf Day = Some Int
-one_type _ _ = None
+-- where it is known which tables fit
+abbrev pub one_type : (LookupTable → Bool) → OneOp → FactType → Option FactType
+one_type fits one_op.Not Boolean = Some Boolean
+one_type fits one_op.Round Dollar = Some Dollar
+one_type fits one_op.YearOf Day = Some Int
+one_type fits one_op.MonthOf Day = Some Int
+one_type fits one_op.DayOf Day = Some Int
+one_type fits (one_op.Lookup t) of = if fits t && same_type of t.from then Some t.to else None
+one_type fits _ _ = None
 
 -- ---- two operands
 

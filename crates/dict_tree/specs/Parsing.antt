@@ -7,11 +7,13 @@ use Rattle.dict_tree.specs.declared.fault.ReadFault.{ReadFault}
 use Rattle.dict_tree.specs.declared.fault.ReadFault.TheVariants.{Shape, NoMemory}
 use Rattle.dict_tree.specs.declared.operators.ManyOp.{ManyOp}
 use Rattle.dict_tree.specs.declared.operators.ManyOp.TheVariants.{All, Any, Add, Subtract, GreaterOf, LesserOf}
+use Rattle.dict_tree.specs.declared.operators.OneOp.TheVariants as ones
+use Rattle.dict_tree.specs.Tables.{LookupTable, table_named}
 use Rattle.dict_tree.specs.declared.node_name.ConstantName.{ConstantName}
 use Rattle.dict_tree.specs.declared.node_name.ConstantName.TheVariants as constants
 use Rattle.dict_tree.specs.declared.node_name.NodeName.{NodeName}
 use Rattle.dict_tree.specs.declared.node_name.NodeName.TheVariants as names
-use Rattle.dict_tree.specs.Names.{node_named}
+use Rattle.dict_tree.specs.Names.{node_named, op_of_name}
 use Rattle.dict_tree.specs.Tree.{Literal, literal_true, literal_false, literal_int, literal_dollar, literal_rational, literal_day, literal_text, literal_choice, Use, Source, SourceCase, literal, read, switch, many, one, two, pick}
 use Rattle.dict_tree.specs.View.{trees_of, cases_of}
 
@@ -77,65 +79,70 @@ is_text word (Some text) = bytes_eq text word
 abbrev pub picked_of : List ℕ × Source → Use × Source
 picked_of p = (use_of p.0, p.1)
 
--- the node with these operands: as texts, as its only one, as a pair, as a use and a condition, as a list, as cases
-abbrev pub node_of : NodeName → Items → Option Source → Option SourceCase → Option (List ℕ × Source) → Option (List Source) → Option (List SourceCase) → Option Source
-node_of (names.Constant kind) ds only pair picked list cases = option_map literal (constant_of kind ds)
-node_of (names.Read op) ds only pair picked list cases = option_map (λ s. read (op, use_of s)) (one_text ds)
-node_of names.Switch ds only pair picked list cases = option_map (λ cs. switch (cases_of cs)) (option_and_then (at_least 1) cases)
-node_of (names.Many op) ds only pair picked list cases = option_map (λ ts. many op (trees_of ts)) (option_and_then (at_least (fewest op)) list)
-node_of (names.One op) ds only pair picked list cases = option_map (one op) only
-node_of (names.Two op) ds only pair picked list cases = option_map (λ p. two op p.0 p.1) pair
-node_of (names.Pick op) ds only pair picked list cases = option_map (λ p. pick op (use_of p.0) p.1) picked
+-- the table of a name, and the operand
+abbrev pub looked_of : List LookupTable → List ℕ × Source → Option (LookupTable × Source)
+looked_of tables p = option_map (λ t. (t, p.1)) (table_named p.0 tables)
+
+-- the node with these operands: as texts, as its only one, as a pair, as a text and an expression, as a list, as cases
+abbrev pub node_of : List LookupTable → NodeName → Items → Option Source → Option SourceCase → Option (List ℕ × Source) → Option (List Source) → Option (List SourceCase) → Option Source
+node_of tables (names.Constant kind) ds only pair picked list cases = option_map literal (constant_of kind ds)
+node_of tables (names.Read op) ds only pair picked list cases = option_map (λ s. read (op, use_of s)) (one_text ds)
+node_of tables names.Switch ds only pair picked list cases = option_map (λ cs. switch (cases_of cs)) (option_and_then (at_least 1) cases)
+node_of tables (names.Many op) ds only pair picked list cases = option_map (λ ts. many op (trees_of ts)) (option_and_then (at_least (fewest op)) list)
+node_of tables (names.One name) ds only pair picked list cases = option_map (one (op_of_name name)) only
+node_of tables (names.Two op) ds only pair picked list cases = option_map (λ p. two op p.0 p.1) pair
+node_of tables (names.Pick op) ds only pair picked list cases = option_map (λ p. pick op (use_of p.0) p.1) picked
+node_of tables names.Lookup ds only pair picked list cases = option_map (λ p. one (ones.Lookup p.0) p.1) (option_and_then (looked_of tables) picked)
 
 abbrev mutual
   -- the expression that the value spells
-  pub tree_of : Data → Option Source
-  tree_of null = None
-  tree_of (boolean b) = None
-  tree_of (number n) = None
-  tree_of (string s) = None
-  tree_of (array ds) = array_tree ds
-  tree_of (object ms) = None
+  pub tree_of : List LookupTable → Data → Option Source
+  tree_of tables null = None
+  tree_of tables (boolean b) = None
+  tree_of tables (number n) = None
+  tree_of tables (string s) = None
+  tree_of tables (array ds) = array_tree tables ds
+  tree_of tables (object ms) = None
 
-  pub array_tree : Items → Option Source
-  array_tree no_items = None
-  array_tree (item d ds) =
-      option_and_then (λ name. node_of name ds (only_tree ds) (pair_tree ds) (picked_tree ds) (tree_list ds) (case_list ds)) (option_and_then node_named (as_str d))
+  pub array_tree : List LookupTable → Items → Option Source
+  array_tree tables no_items = None
+  array_tree tables (item d ds) =
+      option_and_then (λ name. node_of tables name ds (only_tree tables ds) (pair_tree tables ds) (picked_tree tables ds) (tree_list tables ds) (case_list tables ds)) (option_and_then node_named (as_str d))
 
-  pub only_tree : Items → Option Source
-  only_tree no_items = None
-  only_tree (item d no_items) = tree_of d
-  only_tree (item d (item e ds)) = None
+  pub only_tree : List LookupTable → Items → Option Source
+  only_tree tables no_items = None
+  only_tree tables (item d no_items) = tree_of tables d
+  only_tree tables (item d (item e ds)) = None
 
-  pub pair_tree : Items → Option SourceCase
-  pair_tree no_items = None
-  pair_tree (item d no_items) = None
-  pair_tree (item d (item e no_items)) = option_and_then (λ a. option_map (λ b. (a, b)) (tree_of e)) (tree_of d)
-  pair_tree (item d (item e (item f ds))) = None
+  pub pair_tree : List LookupTable → Items → Option SourceCase
+  pair_tree tables no_items = None
+  pair_tree tables (item d no_items) = None
+  pair_tree tables (item d (item e no_items)) = option_and_then (λ a. option_map (λ b. (a, b)) (tree_of tables e)) (tree_of tables d)
+  pair_tree tables (item d (item e (item f ds))) = None
 
-  pub picked_tree : Items → Option (List ℕ × Source)
-  picked_tree no_items = None
-  picked_tree (item d no_items) = None
-  picked_tree (item d (item e no_items)) = option_and_then (λ s. option_map (λ t. (s, t)) (tree_of e)) (as_str d)
-  picked_tree (item d (item e (item f ds))) = None
+  pub picked_tree : List LookupTable → Items → Option (List ℕ × Source)
+  picked_tree tables no_items = None
+  picked_tree tables (item d no_items) = None
+  picked_tree tables (item d (item e no_items)) = option_and_then (λ s. option_map (λ t. (s, t)) (tree_of tables e)) (as_str d)
+  picked_tree tables (item d (item e (item f ds))) = None
 
-  pub tree_list : Items → Option (List Source)
-  tree_list no_items = Some []
-  tree_list (item d ds) = option_and_then (λ t. option_map (λ ts. t ∷ ts) (tree_list ds)) (tree_of d)
+  pub tree_list : List LookupTable → Items → Option (List Source)
+  tree_list tables no_items = Some []
+  tree_list tables (item d ds) = option_and_then (λ t. option_map (λ ts. t ∷ ts) (tree_list tables ds)) (tree_of tables d)
 
   -- `["Case",E,E]`
-  pub case_of : Data → Option SourceCase
-  case_of null = None
-  case_of (boolean b) = None
-  case_of (number n) = None
-  case_of (string s) = None
-  case_of (array ds) = case_in ds
-  case_of (object ms) = None
+  pub case_of : List LookupTable → Data → Option SourceCase
+  case_of tables null = None
+  case_of tables (boolean b) = None
+  case_of tables (number n) = None
+  case_of tables (string s) = None
+  case_of tables (array ds) = case_in tables ds
+  case_of tables (object ms) = None
 
-  pub case_in : Items → Option SourceCase
-  case_in no_items = None
-  case_in (item d ds) = case_if (is_text (codes "Case") (as_str d)) (pair_tree ds)
+  pub case_in : List LookupTable → Items → Option SourceCase
+  case_in tables no_items = None
+  case_in tables (item d ds) = case_if (is_text (codes "Case") (as_str d)) (pair_tree tables ds)
 
-  pub case_list : Items → Option (List SourceCase)
-  case_list no_items = Some []
-  case_list (item d ds) = option_and_then (λ c. option_map (λ cs. c ∷ cs) (case_list ds)) (case_of d)
+  pub case_list : List LookupTable → Items → Option (List SourceCase)
+  case_list tables no_items = Some []
+  case_list tables (item d ds) = option_and_then (λ c. option_map (λ cs. c ∷ cs) (case_list tables ds)) (case_of tables d)

@@ -1,5 +1,5 @@
 -- The law profile: the operators that only its version has.
-use Rattle.std.specs.Prelude.{Bool, true, false, not, ◌||◌, IsTrue, Option, Some, None}
+use Rattle.std.specs.Prelude.{Bool, true, false, not, ◌||◌, Option, Some, None}
 use Rattle.dict_tree.specs.declared.operators.OneOp.{OneOp}
 use Rattle.dict_tree.specs.declared.operators.OneOp.TheVariants as ones
 use Rattle.dict_tree.specs.declared.operators.TwoOp.{TwoOp}
@@ -14,6 +14,7 @@ use Rattle.dict_tree.specs.Facts.{Fact}
 abbrev pub is_one_of_law : OneOp → Bool
 is_one_of_law ones.MonthOf = true
 is_one_of_law ones.DayOf = true
+is_one_of_law (ones.Lookup t) = true
 is_one_of_law ones.Not = false
 is_one_of_law ones.Round = false
 is_one_of_law ones.YearOf = false

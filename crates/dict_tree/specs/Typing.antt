@@ -1,10 +1,11 @@
 -- Which type an expression has: one rule for each kind of node.
-use Rattle.std.specs.Prelude.{◌≡◌, ℕ, IsTrue, List, [], ◌∷◌, Option, Some}
+use Rattle.std.specs.Prelude.{◌≡◌, ℕ, Bool, IsTrue, List, [], ◌∷◌, Option, Some}
 use Rattle.fact_values.specs.declared.fact_type.FactType.{FactType}
 use Rattle.fact_values.specs.declared.fact_type.FactType.TheVariants.{Boolean, Int, Dollar, Collection}
 use Rattle.dict_tree.specs.declared.operators.ReadOp.{ReadOp}
 use Rattle.dict_tree.specs.declared.operators.ReadOp.TheVariants as read_op
 use Rattle.dict_tree.specs.OperandTypes.{is_ordered, many_type, one_type, pick_type, two_type}
+use Rattle.dict_tree.specs.Tables.{LookupTable}
 use Rattle.dict_tree.specs.Tree.{Tree, literal, read, switch, many, one, two, pick, Trees, no_trees, tree, Cases, no_cases, a_case}
 
 -- ---- kinds of types
@@ -43,6 +44,8 @@ pub record Types (C R P : Type 0) : Type 0 where
   pub reads : ℕ → R → Option FactType
   -- the base of a collection, which itself stands under a base
   pub source : ℕ → P → Option ℕ
+  -- whether each value of a table is one of its type
+  pub fits : LookupTable → Bool
 
 abbrev pub IsSomeCase : {C R P : Type 0} → Cases C R P → Type 0
 IsSomeCase no_cases = ⊥
@@ -55,7 +58,7 @@ abbrev mutual
   HasType ty b (read r) t = ty.reads b r ≡ Some t
   HasType ty b (switch cs) t = IsSomeCase cs × HaveCaseTypes ty b cs t
   HasType ty b (many op ts) t = (us : List FactType) × HaveTypes ty b ts us × (many_type op us ≡ Some t)
-  HasType ty b (one op x) t = (u : FactType) × HasType ty b x u × (one_type op u ≡ Some t)
+  HasType ty b (one op x) t = (u : FactType) × HasType ty b x u × (one_type ty.fits op u ≡ Some t)
   HasType ty b (two op x y) t = (u v : FactType) × HasType ty b x u × HasType ty b y v × (two_type op u v ≡ Some t)
   HasType ty b (pick op p x) t = (c : ℕ) × (ty.source b p ≡ Some c) × HasType ty c x Boolean × (t ≡ pick_type op c)
 

@@ -2,6 +2,7 @@
 use Rattle.std.specs.Prelude.{Box, List, [], ◌∷◌, map, string_bytes}
 use Rattle.std.specs.declared.alloc.Global.{Global}
 use Rattle.dict_tree.specs.Tree.{Literal, literal_true, literal_false, literal_int, literal_dollar, literal_rational, literal_day, literal_text, literal_choice, Use, Source, Sources, SourceCase, SourceCases, literal, read, switch, many, one, two, pick, no_trees, tree, no_cases, a_case}
+use Rattle.dict_tree.specs.Tables.{LookupTable}
 use Rattle.dict_tree.specs.declared.constant.Constant.{Constant}
 use Rattle.dict_tree.specs.declared.constant.Constant.TheVariants as constants
 use Rattle.dict_tree.specs.declared.path_use.PathUse.{PathUse}
@@ -61,6 +62,9 @@ box_view b = view b.value
 
 abbrev pub pair_view : Box Expr Global × Box Expr Global → SourceCase
 pair_view p = (view p.0.value, view p.1.value)
+
+abbrev pub looked_view : LookupTable × Box Expr Global → LookupTable × Source
+looked_view p = (p.0, view p.1.value)
 
 abbrev pub picked_view : PathUse × Box Expr Global → Use × Source
 picked_view p = (use_view p.0, view p.1.value)

@@ -4,6 +4,8 @@ ghost use Rattle.serde_json.specs.Find.{as_array, get};
 ghost use Rattle.serde_json.specs.View.{view as json, items_view, members_view};
 ghost use Rattle.value_text.specs.declared.enum_lists.ListFault.TheVariants as list_faults;
 ghost use Rattle.dict_tree.specs.Counting.{HasFewFacts};
+ghost use Rattle.dict_tree.specs.DictJson.{top_keys as keys_of_top};
+ghost use Rattle.dict_tree.specs.FactParsing.{has_no_other as only};
 ghost use Rattle.dict_tree.specs.Facts.{fact_view};
 ghost use Rattle.dict_tree.specs.Dictionary.{IsValid, dictionary_view};
 ghost use Rattle.dict_tree.specs.declared.fault.TreeFault.TheVariants.{NoMemory};
@@ -16,7 +18,9 @@ use crate::fact_json::read_fact;
 use crate::fact_source::FactSource;
 use crate::fault::{ReadFault, TreeFault};
 use crate::limits::{first_deep, first_passed};
+use crate::lookup_table::LookupTable;
 use crate::members::{has_no_other, may_be_text, text_under};
+use crate::tables_json::read_tables;
 use crate::version::{Version, version_named};
 use serde_json::{Map, Value};
 use std::alloc::Global;
@@ -24,26 +28,40 @@ use value_text::{EnumLists, ListFault};
 
 const MOST_BYTES: usize = 8_388_608;
 
-/// The lists and the facts of a JSON value, before they are kept.
+/// The lists, the tables and the facts of a JSON value, before they are kept.
 #[derive(Drop)]
 pub struct Found {
     pub enums: Vec<EnumSource>,
+    pub tables: Vec<LookupTable>,
     pub facts: Vec<FactSource>,
+}
+
+fn has_top_keys(version: Version, members: &Map<String, Value>) -> bool
+    ensures { result ≡ only (keys_of_top version) (members_view members.now.entries) }
+{
+    match version {
+        Version::First | Version::Second => has_no_other(
+            members,
+            ["version", "facts", "enums", "description"].as_slice(),
+        ),
+        Version::Law => has_no_other(
+            members,
+            ["version", "facts", "enums", "tables", "description"].as_slice(),
+        ),
+    }
 }
 
 fn version_among(value: &Value, members: &Map<String, Value>) -> Option<Version>
     ensures { result ≡ version_with (json value.now) (members_view members.now.entries) }
 {
-    if !has_no_other(
-        members,
-        ["version", "facts", "enums", "description"].as_slice(),
-    ) {
+    let version = version_named(text_under(value, "version")?)?;
+    if !has_top_keys(version, members) {
         return None;
     }
     if !may_be_text(value.get("description")) {
         return None;
     }
-    version_named(text_under(value, "version")?)
+    Some(version)
 }
 
 // The version of an object that has the keys of a dictionary.
@@ -64,17 +82,18 @@ fn items_under_facts(value: &Value) -> Option<&Vec<Value>>
 fn read_facts(
     alloc: Global,
     version: Version,
+    tables: &[LookupTable],
     items: &[Value],
 ) -> Result<Vec<FactSource>, TreeFault>
     requires { length items.now < 2 ^ 32 }
-    ensures exact { Yields (λ v. map fact_view v.items) result (facts_of version 1 (items_view items.now)) }
+    ensures exact { Yields (λ v. map fact_view v.items) result (facts_of version tables.now 1 (items_view items.now)) }
     ensures kind { IfErr result IsOfShape }
 {
     let mut facts = Vec::new(alloc);
     let mut number = 0u32;
     for item in items {
         number += 1;
-        match read_fact(alloc, version, item) {
+        match read_fact(alloc, version, tables, item) {
             Ok(fact) => facts.push(fact)?,
             Err(ReadFault::Shape) => return Err(TreeFault::Shape(number)),
             Err(ReadFault::NoMemory) => return Err(TreeFault::NoMemory),
@@ -97,17 +116,26 @@ fn read_value(alloc: Global, value: &Value) -> Result<Found, TreeFault>
         Err(ReadFault::Shape) => return Err(TreeFault::Shape(0)),
         Err(ReadFault::NoMemory) => return Err(TreeFault::NoMemory),
     };
+    let tables = match read_tables(alloc, enums.as_slice(), value.get("tables")) {
+        Ok(tables) => tables,
+        Err(ReadFault::Shape) => return Err(TreeFault::Shape(0)),
+        Err(ReadFault::NoMemory) => return Err(TreeFault::NoMemory),
+    };
     let Some(items) = items_under_facts(value) else {
         return Err(TreeFault::Shape(0));
     };
-    let facts = read_facts(alloc, version, items.as_slice())?;
+    let facts = read_facts(alloc, version, tables.as_slice(), items.as_slice())?;
     if let Some(what) = first_passed(enums.as_slice(), facts.as_slice()) {
         return Err(TreeFault::TooMany(what));
     }
     if let Some(number) = first_deep(facts.as_slice()) {
         return Err(TreeFault::TooDeep(number));
     }
-    Ok(Found { enums, facts })
+    Ok(Found {
+        enums,
+        tables,
+        facts,
+    })
 }
 
 fn read_json(alloc: Global, bytes: &[u8]) -> Result<Value, TreeFault>
@@ -169,9 +197,13 @@ fn keep(alloc: Global, found: Found) -> Result<DictSource, TreeFault>
     ensures kept { IfOk result (λ source. dictionary_view source ≡ read_view found) }
     ensures memory { IfErr result (λ fault. fault ≡ NoMemory) }
 {
-    let Found { enums, facts } = found;
+    let Found {
+        enums,
+        tables,
+        facts,
+    } = found;
     let lists = lists_of(alloc, enums)?;
-    match DictSource::of_facts(alloc, lists, facts) {
+    match DictSource::of_facts(alloc, lists, tables, facts) {
         Ok(source) => Ok(source),
         Err(_) => Err(TreeFault::NoMemory),
     }

@@ -11,16 +11,18 @@ ghost use Rattle.dict_tree.specs.PathIndex.{IsIndex, fact_noted};
 
 use crate::fact_source::FactSource;
 use crate::finding::{global_text, member_text};
+use crate::lookup_table::LookupTable;
 use crate::path_index::PathIndex;
 use fact_paths::{FactPath, Name};
 use std::alloc::{AllocError, Global};
 use std::marker::Model;
 use value_text::EnumLists;
 
-/// A dictionary as it is written: lists of options, and facts, which are numbered from 1.
+/// A dictionary as it is written: lists of options, tables, and facts, which are numbered from 1.
 #[derive(Drop)]
 pub struct DictSource {
     enums: EnumLists,
+    tables: Vec<LookupTable>,
     facts: Vec<FactSource>,
     index: PathIndex,
 }
@@ -35,9 +37,9 @@ impl Model for DictSource {
 
     ghost coded = { Prim.hlevel (codes, fact.the_row.coded) };
 
-    ghost view = { λ source. record { enums = source.enums; facts = source.facts.items } };
+    ghost view = { λ source. record { enums = source.enums; tables = source.tables.items; facts = source.facts.items } };
 
-    ghost invariant = { λ source. IsSource (record { enums = source.enums; facts = source.facts.items }) source.index };
+    ghost invariant = { λ source. IsSource (record { enums = source.enums; tables = source.tables.items; facts = source.facts.items }) source.index };
 }
 
 /// No memory was left for a fact, which comes back.
@@ -76,14 +78,15 @@ fn item_at(facts: &[FactSource], index: usize) -> Option<&FactSource>
 }
 
 impl DictSource {
-    /// A dictionary without facts, of at most 200 lists of at most 100 options. It takes no memory.
+    /// A dictionary without tables and facts, of at most 200 lists of at most 100 options. It takes no memory.
     pub fn new(alloc: Global, enums: EnumLists) -> DictSource
         requires lists { length enums ≤ 200 }
         requires options { All (λ (e : Listed). length e.options ≤ 100) enums }
-        ensures { result ≡ record { enums = enums; facts = [] } }
+        ensures { result ≡ record { enums = enums; tables = []; facts = [] } }
     {
         DictSource {
             enums,
+            tables: Vec::new(alloc),
             facts: Vec::new(alloc),
             index: PathIndex::new(alloc),
         }
@@ -93,14 +96,16 @@ impl DictSource {
     pub(crate) fn of_facts(
         alloc: Global,
         enums: EnumLists,
+        tables: Vec<LookupTable>,
         facts: Vec<FactSource>,
     ) -> Result<DictSource, AllocError>
-        requires { IsValid (record { enums = enums; facts = map fact_view facts.items }) }
-        ensures { IfOk result (λ source. source ≡ record { enums = enums; facts = facts.items }) }
+        requires { IsValid (record { enums = enums; tables = tables.items; facts = map fact_view facts.items }) }
+        ensures { IfOk result (λ source. source ≡ record { enums = enums; tables = tables.items; facts = facts.items }) }
     {
         let index = index_of(alloc, facts.as_slice())?;
         Ok(DictSource {
             enums,
+            tables,
             facts,
             index,
         })
@@ -108,10 +113,11 @@ impl DictSource {
 
     /// Appends a well-formed fact, with which the limits are kept. It fails for want of memory alone.
     pub fn push(&mut self, fact: FactSource) -> Result<(), Unpushed>
-        requires well_formed { IsWellFormed (fact_view fact) }
+        requires well_formed { IsWellFormed self.old.tables (fact_view fact) }
         requires limits { IsWithinLimits (with_fact (dictionary_view self.old) (fact_view fact)) }
         ensures appended { OnOk result (self.new ≡ record {
           enums = self.old.enums;
+          tables = self.old.tables;
           facts = self.old.facts ++ fact ∷ [];
         }) }
         ensures kept { OnErr result (self.new ≡ self.old) }
@@ -141,6 +147,13 @@ impl DictSource {
         ensures { result.now ≡ self.now.enums }
     {
         &self.enums
+    }
+
+    /// The tables, in their order.
+    pub fn tables(&self) -> &[LookupTable]
+        ensures { result.now ≡ self.now.tables }
+    {
+        self.tables.as_slice()
     }
 
     /// The fact with this number.

@@ -32,7 +32,7 @@ fn is_new<'a>(seen: &mut IndexSet<&'a str>, text: &'a str) -> Result<bool, ReadF
 }
 
 // Does no text stand twice?
-fn are_distinct(alloc: Global, texts: &[&str]) -> Result<bool, ReadFault>
+pub(crate) fn are_distinct(alloc: Global, texts: &[&str]) -> Result<bool, ReadFault>
     ensures { Gives (λ b. b) result (Some (distinct (map (λ t. t.now) texts.now))) }
 {
     let mut seen = IndexSet::new(alloc);
@@ -63,7 +63,7 @@ fn read_name_in(alloc: Global, value: &Value) -> Result<Name, ReadFault>
     }
 }
 
-fn read_name_under(alloc: Global, value: &Value, key: &str) -> Result<Name, ReadFault>
+pub(crate) fn read_name_under(alloc: Global, value: &Value, key: &str) -> Result<Name, ReadFault>
     ensures { Gives (λ name. name) result (option_and_then name_of (text_at key.now (json value.now))) }
 {
     match text_under(value, key) {

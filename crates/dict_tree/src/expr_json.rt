@@ -2,15 +2,16 @@
 ghost use Rattle.std.specs.Prelude.{◌≡◌, ◌<◌, length, drop, map, string_bytes, codes, Some, option_map, option_and_then};
 ghost use Rattle.serde_json.specs.Find.{as_str};
 ghost use Rattle.serde_json.specs.View.{view as json, items_view};
-ghost use Rattle.dict_tree.specs.View.{view, box_view, pair_view, picked_view, case_view, literal_of, use_view};
+ghost use Rattle.dict_tree.specs.View.{view, box_view, looked_view, pair_view, picked_view, case_view, literal_of, use_view};
 ghost use Rattle.dict_tree.specs.Names.{node_named};
-ghost use Rattle.dict_tree.specs.Parsing.{Gives, use_of, one_text, two_texts, constant_of, fewest as fewest_of, at_least, is_text, no_operand, node_of, picked_of, tree_of, array_tree, only_tree, pair_tree, picked_tree, tree_list, case_of, case_in, case_list};
+ghost use Rattle.dict_tree.specs.Parsing.{Gives, use_of, one_text, two_texts, constant_of, fewest as fewest_of, at_least, is_text, no_operand, looked_of, node_of, picked_of, tree_of, array_tree, only_tree, pair_tree, picked_tree, tree_list, case_of, case_in, case_list};
 
 use crate::constant::Constant;
 use crate::expr::{Case, Expr};
 use crate::fault::ReadFault;
-use crate::node_name::{ConstantName, NodeName, name_of_node};
-use crate::operators::ManyOp;
+use crate::lookup_table::{LookupTable, named};
+use crate::node_name::{ConstantName, NodeName, name_of_node, op_of_name};
+use crate::operators::{ManyOp, OneOp};
 use crate::path_use::{PathUse, read_use};
 use fact_values::NoMemory;
 use serde_json::Value;
@@ -112,18 +113,18 @@ fn read_path(alloc: Global, items: &[Value]) -> Result<PathUse, ReadFault>
 
 /// The expression that the value spells.
 #[cycle(expr)]
-pub fn read_expr(alloc: Global, value: &Value) -> Result<Expr, ReadFault>
-    ensures { Gives view result (tree_of (json value.now)) }
+pub fn read_expr(alloc: Global, tables: &[LookupTable], value: &Value) -> Result<Expr, ReadFault>
+    ensures { Gives view result (tree_of tables.now (json value.now)) }
 {
     match value {
-        Value::Array(items) => read_array(alloc, items.as_slice()),
+        Value::Array(items) => read_array(alloc, tables, items.as_slice()),
         _ => Err(ReadFault::Shape),
     }
 }
 
 #[cycle(expr)]
-fn read_array(alloc: Global, items: &[Value]) -> Result<Expr, ReadFault>
-    ensures { Gives view result (array_tree (items_view items.now)) }
+fn read_array(alloc: Global, tables: &[LookupTable], items: &[Value]) -> Result<Expr, ReadFault>
+    ensures { Gives view result (array_tree tables.now (items_view items.now)) }
 {
     if items.is_empty() {
         return Err(ReadFault::Shape);
@@ -131,75 +132,96 @@ fn read_array(alloc: Global, items: &[Value]) -> Result<Expr, ReadFault>
     let Some(name) = name_of(&items[0]) else {
         return Err(ReadFault::Shape);
     };
-    read_node(alloc, name, items)
+    read_node(alloc, tables, name, items)
 }
 
 // The node with the operands behind its name.
 #[tactic(auto, using(crate::proofs::Views::views))]
 #[cycle(expr)]
-fn read_node(alloc: Global, name: NodeName, items: &[Value]) -> Result<Expr, ReadFault>
+fn read_node(
+    alloc: Global,
+    tables: &[LookupTable],
+    name: NodeName,
+    items: &[Value],
+) -> Result<Expr, ReadFault>
     requires { 0 < length items.now }
     ensures { let operands = items_view (drop 1 items.now) in
-        Gives view result (node_of name operands (only_tree operands) (pair_tree operands) (picked_tree operands)
-        (tree_list operands) (case_list operands)) }
+        Gives view result (node_of tables.now name operands (only_tree tables.now operands) (pair_tree tables.now operands) (picked_tree tables.now operands)
+        (tree_list tables.now operands) (case_list tables.now operands)) }
 {
     match name {
         NodeName::Constant(kind) => Ok(Expr::Const(read_constant(alloc, kind, items)?)),
         NodeName::Read(op) => Ok(Expr::Read(op, read_path(alloc, items)?)),
-        NodeName::Switch => Ok(Expr::Switch(read_cases(alloc, items)?)),
-        NodeName::Many(op) => Ok(Expr::Many(op, read_operands(alloc, op, items)?)),
-        NodeName::One(op) => Ok(Expr::One(op, read_only(alloc, items)?)),
+        NodeName::Switch => Ok(Expr::Switch(read_cases(alloc, tables, items)?)),
+        NodeName::Many(op) => Ok(Expr::Many(op, read_operands(alloc, tables, op, items)?)),
+        NodeName::One(name) => Ok(Expr::One(op_of_name(name), read_only(alloc, tables, items)?)),
         NodeName::Two(op) => {
-            let (left, right) = read_pair(alloc, items)?;
+            let (left, right) = read_pair(alloc, tables, items)?;
             Ok(Expr::Two(op, left, right))
         }
         NodeName::Pick(op) => {
-            let (path, condition) = read_picked(alloc, items)?;
+            let (path, condition) = read_picked(alloc, tables, items)?;
             Ok(Expr::Pick(op, path, condition))
+        }
+        NodeName::Lookup => {
+            let (table, operand) = read_looked(alloc, tables, items)?;
+            Ok(Expr::One(OneOp::Lookup(table), operand))
         }
     }
 }
 
 // The expression that the value spells, in a place of its own.
 #[cycle(expr)]
-pub(crate) fn read_boxed(alloc: Global, value: &Value) -> Result<Box<Expr>, ReadFault>
-    ensures { Gives box_view result (tree_of (json value.now)) }
+pub(crate) fn read_boxed(
+    alloc: Global,
+    tables: &[LookupTable],
+    value: &Value,
+) -> Result<Box<Expr>, ReadFault>
+    ensures { Gives box_view result (tree_of tables.now (json value.now)) }
 {
-    let expr = read_expr(alloc, value)?;
+    let expr = read_expr(alloc, tables, value)?;
     Ok(Box::new(alloc, expr)?)
 }
 
 // The only expression behind the name.
 #[cycle(expr)]
-fn read_only(alloc: Global, items: &[Value]) -> Result<Box<Expr>, ReadFault>
+fn read_only(alloc: Global, tables: &[LookupTable], items: &[Value]) -> Result<Box<Expr>, ReadFault>
     requires { 0 < length items.now }
-    ensures { Gives box_view result (only_tree (items_view (drop 1 items.now))) }
+    ensures { Gives box_view result (only_tree tables.now (items_view (drop 1 items.now))) }
 {
     if items.len() != 2 {
         return Err(ReadFault::Shape);
     }
-    read_boxed(alloc, &items[1])
+    read_boxed(alloc, tables, &items[1])
 }
 
 // The two expressions behind the name.
 #[cycle(expr)]
-fn read_pair(alloc: Global, items: &[Value]) -> Result<(Box<Expr>, Box<Expr>), ReadFault>
+fn read_pair(
+    alloc: Global,
+    tables: &[LookupTable],
+    items: &[Value],
+) -> Result<(Box<Expr>, Box<Expr>), ReadFault>
     requires { 0 < length items.now }
-    ensures { Gives pair_view result (pair_tree (items_view (drop 1 items.now))) }
+    ensures { Gives pair_view result (pair_tree tables.now (items_view (drop 1 items.now))) }
 {
     if items.len() != 3 {
         return Err(ReadFault::Shape);
     }
-    let left = read_boxed(alloc, &items[1])?;
-    let right = read_boxed(alloc, &items[2])?;
+    let left = read_boxed(alloc, tables, &items[1])?;
+    let right = read_boxed(alloc, tables, &items[2])?;
     Ok((left, right))
 }
 
 // The use and the condition behind the name.
 #[cycle(expr)]
-fn read_picked(alloc: Global, items: &[Value]) -> Result<(PathUse, Box<Expr>), ReadFault>
+fn read_picked(
+    alloc: Global,
+    tables: &[LookupTable],
+    items: &[Value],
+) -> Result<(PathUse, Box<Expr>), ReadFault>
     requires { 0 < length items.now }
-    ensures { Gives picked_view result (option_map picked_of (picked_tree (items_view (drop 1 items.now)))) }
+    ensures { Gives picked_view result (option_map picked_of (picked_tree tables.now (items_view (drop 1 items.now)))) }
 {
     if items.len() != 3 {
         return Err(ReadFault::Shape);
@@ -207,9 +229,35 @@ fn read_picked(alloc: Global, items: &[Value]) -> Result<(PathUse, Box<Expr>), R
     let Some(text) = items[1].as_str() else {
         return Err(ReadFault::Shape);
     };
-    let condition = read_boxed(alloc, &items[2])?;
+    let condition = read_boxed(alloc, tables, &items[2])?;
     let path = use_in(alloc, text)?;
     Ok((path, condition))
+}
+
+// The table of the name behind the node's, and the operand behind that.
+#[cycle(expr)]
+fn read_looked(
+    alloc: Global,
+    tables: &[LookupTable],
+    items: &[Value],
+) -> Result<(LookupTable, Box<Expr>), ReadFault>
+    requires { 0 < length items.now }
+    ensures { Gives looked_view result (option_and_then (looked_of tables.now) (picked_tree tables.now (items_view (drop 1 items.now)))) }
+{
+    if items.len() != 3 {
+        return Err(ReadFault::Shape);
+    }
+    let Some(text) = items[1].as_str() else {
+        return Err(ReadFault::Shape);
+    };
+    let operand = read_boxed(alloc, tables, &items[2])?;
+    let Some(table) = named(tables, text) else {
+        return Err(ReadFault::Shape);
+    };
+    match table.copy() {
+        Ok(table) => Ok((table, operand)),
+        Err(NoMemory) => Err(ReadFault::NoMemory),
+    }
 }
 
 fn fewest(op: ManyOp) -> usize
@@ -223,12 +271,17 @@ fn fewest(op: ManyOp) -> usize
 
 // The operands, where there are enough of them.
 #[cycle(expr)]
-fn read_operands(alloc: Global, op: ManyOp, items: &[Value]) -> Result<Vec<Expr>, ReadFault>
+fn read_operands(
+    alloc: Global,
+    tables: &[LookupTable],
+    op: ManyOp,
+    items: &[Value],
+) -> Result<Vec<Expr>, ReadFault>
     requires { 0 < length items.now }
     ensures { Gives (λ v. map view v.items) result (option_and_then (at_least (fewest_of op))
-        (tree_list (items_view (drop 1 items.now)))) }
+        (tree_list tables.now (items_view (drop 1 items.now)))) }
 {
-    let list = read_list(alloc, items)?;
+    let list = read_list(alloc, tables, items)?;
     if list.len() < fewest(op) {
         return Err(ReadFault::Shape);
     }
@@ -237,13 +290,13 @@ fn read_operands(alloc: Global, op: ManyOp, items: &[Value]) -> Result<Vec<Expr>
 
 // The expressions behind the name.
 #[cycle(expr)]
-fn read_list(alloc: Global, items: &[Value]) -> Result<Vec<Expr>, ReadFault>
+fn read_list(alloc: Global, tables: &[LookupTable], items: &[Value]) -> Result<Vec<Expr>, ReadFault>
     requires { 0 < length items.now }
-    ensures { Gives (λ v. map view v.items) result (tree_list (items_view (drop 1 items.now))) }
+    ensures { Gives (λ v. map view v.items) result (tree_list tables.now (items_view (drop 1 items.now))) }
 {
     let mut list = Vec::new(alloc);
     for i in 1..items.len() {
-        let expr = read_expr(alloc, &items[i])?;
+        let expr = read_expr(alloc, tables, &items[i])?;
         list.push(expr)?;
     }
     Ok(list)
@@ -251,14 +304,18 @@ fn read_list(alloc: Global, items: &[Value]) -> Result<Vec<Expr>, ReadFault>
 
 // The cases behind the name, one or more.
 #[cycle(expr)]
-fn read_cases(alloc: Global, items: &[Value]) -> Result<Vec<Case>, ReadFault>
+fn read_cases(
+    alloc: Global,
+    tables: &[LookupTable],
+    items: &[Value],
+) -> Result<Vec<Case>, ReadFault>
     requires { 0 < length items.now }
     ensures { Gives (λ v. map case_view v.items) result
-        (option_and_then (at_least 1) (case_list (items_view (drop 1 items.now)))) }
+        (option_and_then (at_least 1) (case_list tables.now (items_view (drop 1 items.now)))) }
 {
     let mut cases = Vec::new(alloc);
     for i in 1..items.len() {
-        let case = read_case(alloc, &items[i])?;
+        let case = read_case(alloc, tables, &items[i])?;
         cases.push(case)?;
     }
     if cases.is_empty() {
@@ -278,12 +335,12 @@ fn is_case(value: &Value) -> bool
 
 // `["Case",E,E]`
 #[cycle(expr)]
-fn read_case(alloc: Global, value: &Value) -> Result<Case, ReadFault>
-    ensures { Gives case_view result (case_of (json value.now)) }
+fn read_case(alloc: Global, tables: &[LookupTable], value: &Value) -> Result<Case, ReadFault>
+    ensures { Gives case_view result (case_of tables.now (json value.now)) }
 {
     match value {
         Value::Array(items) => {
-            let (test, outcome) = read_case_in(alloc, items.as_slice())?;
+            let (test, outcome) = read_case_in(alloc, tables, items.as_slice())?;
             Ok(Case {
                 test: Box::into_inner(test),
                 outcome: Box::into_inner(outcome),
@@ -294,8 +351,12 @@ fn read_case(alloc: Global, value: &Value) -> Result<Case, ReadFault>
 }
 
 #[cycle(expr)]
-fn read_case_in(alloc: Global, items: &[Value]) -> Result<(Box<Expr>, Box<Expr>), ReadFault>
-    ensures { Gives pair_view result (case_in (items_view items.now)) }
+fn read_case_in(
+    alloc: Global,
+    tables: &[LookupTable],
+    items: &[Value],
+) -> Result<(Box<Expr>, Box<Expr>), ReadFault>
+    ensures { Gives pair_view result (case_in tables.now (items_view items.now)) }
 {
     if items.is_empty() {
         return Err(ReadFault::Shape);
@@ -303,5 +364,5 @@ fn read_case_in(alloc: Global, items: &[Value]) -> Result<(Box<Expr>, Box<Expr>)
     if !is_case(&items[0]) {
         return Err(ReadFault::Shape);
     }
-    read_pair(alloc, items)
+    read_pair(alloc, tables, items)
 }

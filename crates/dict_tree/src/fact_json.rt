@@ -14,6 +14,7 @@ use crate::expr_json::read_boxed;
 use crate::fact_source::{Conditional, FactSource, TypeText};
 use crate::fault::ReadFault;
 use crate::limits_json::read_limits;
+use crate::lookup_table::LookupTable;
 use crate::members::{has_no_other, read_text_in, read_text_under, text_under};
 use crate::profile::has_operators;
 use crate::stated_json::{read_derived_type, read_writable_type};
@@ -34,47 +35,60 @@ fn read_path(alloc: Global, text: &str) -> Result<Option<FactPath>, ReadFault>
 }
 
 // The expression, where there is such a member.
-fn read_optional(alloc: Global, value: Option<&Value>) -> Result<Option<Box<Expr>>, ReadFault>
-    ensures { Gives (option_map box_view) result (tree_in (option_map (λ v. json v.now) value.entry)) }
+fn read_optional(
+    alloc: Global,
+    tables: &[LookupTable],
+    value: Option<&Value>,
+) -> Result<Option<Box<Expr>>, ReadFault>
+    ensures { Gives (option_map box_view) result (tree_in tables.now (option_map (λ v. json v.now) value.entry)) }
 {
     let Some(value) = value else {
         return Ok(None);
     };
-    Ok(Some(read_boxed(alloc, value)?))
+    Ok(Some(read_boxed(alloc, tables, value)?))
 }
 
 // `[C,V]`
-fn read_two(alloc: Global, items: &[Value]) -> Result<(Box<Expr>, Box<Expr>), ReadFault>
-    ensures { Gives pair_view result (pair_tree (items_view items.now)) }
+fn read_two(
+    alloc: Global,
+    tables: &[LookupTable],
+    items: &[Value],
+) -> Result<(Box<Expr>, Box<Expr>), ReadFault>
+    ensures { Gives pair_view result (pair_tree tables.now (items_view items.now)) }
 {
     if items.len() != 2 {
         return Err(ReadFault::Shape);
     }
-    let test = read_boxed(alloc, &items[0])?;
-    let value = read_boxed(alloc, &items[1])?;
+    let test = read_boxed(alloc, tables, &items[0])?;
+    let value = read_boxed(alloc, tables, &items[1])?;
     Ok((test, value))
 }
 
-fn read_pair_of(alloc: Global, value: &Value) -> Result<(Box<Expr>, Box<Expr>), ReadFault>
-    ensures { Gives pair_view result (option_and_then pair_tree (as_array (json value.now))) }
+fn read_pair_of(
+    alloc: Global,
+    tables: &[LookupTable],
+    value: &Value,
+) -> Result<(Box<Expr>, Box<Expr>), ReadFault>
+    ensures { Gives pair_view result (option_and_then (pair_tree tables.now) (as_array (json value.now))) }
 {
     let Some(items) = value.as_array() else {
         return Err(ReadFault::Shape);
     };
-    read_two(alloc, items.as_slice())
+    read_two(alloc, tables, items.as_slice())
 }
 
 // The conditional, where there is such a member.
 fn read_conditional(
     alloc: Global,
+    tables: &[LookupTable],
     value: Option<&Value>,
 ) -> Result<Option<(Box<Expr>, Box<Expr>)>, ReadFault>
-    ensures { Gives (option_map pair_view) result (conditional_in (option_map (λ v. json v.now) value.entry)) }
+    ensures { Gives (option_map pair_view) result (conditional_in tables.now (option_map (λ v. json v.now) value.entry)) }
 {
     let Some(value) = value else {
         return Ok(None);
     };
-    Ok(Some(read_pair_of(alloc, value)?))
+    Ok(Some(read_pair_of(alloc, tables, value)?))
 }
 
 fn unboxed(expr: Option<Box<Expr>>) -> Option<Expr>
@@ -119,22 +133,26 @@ fn read_derived_stated(alloc: Global, value: &Value) -> Result<TypeText, ReadFau
 }
 
 // How a derived fact follows from others.
-fn read_main(alloc: Global, value: &Value) -> Result<Box<Expr>, ReadFault>
-    ensures { Gives box_view result (option_and_then tree_of (get (codes "is") (json value.now))) }
+fn read_main(alloc: Global, tables: &[LookupTable], value: &Value) -> Result<Box<Expr>, ReadFault>
+    ensures { Gives box_view result (option_and_then (tree_of tables.now) (get (codes "is") (json value.now))) }
 {
     match value.get("is") {
         None => Err(ReadFault::Shape),
-        Some(form) => read_boxed(alloc, form),
+        Some(form) => read_boxed(alloc, tables, form),
     }
 }
 
 #[tactic(auto, unfolding(crate::specs::FactParsing::writable_fact))]
-fn read_writable(alloc: Global, value: &Value) -> Result<FactSource, ReadFault>
-    ensures { Gives fact_view result (writable_fact (json value.now)) }
+fn read_writable(
+    alloc: Global,
+    tables: &[LookupTable],
+    value: &Value,
+) -> Result<FactSource, ReadFault>
+    ensures { Gives fact_view result (writable_fact tables.now (json value.now)) }
 {
     let path_text = read_text_under(alloc, value, "path")?;
     let limits = read_limits(alloc, value.get("limits"))?;
-    let placeholder = read_optional(alloc, value.get("placeholder"))?;
+    let placeholder = read_optional(alloc, tables, value.get("placeholder"))?;
     let path = read_path(alloc, path_text.as_str())?;
     let stated = read_writable_stated(alloc, value)?;
     let description = read_text_in(alloc, value.get("description"))?;
@@ -151,13 +169,17 @@ fn read_writable(alloc: Global, value: &Value) -> Result<FactSource, ReadFault>
 }
 
 #[tactic(auto, unfolding(crate::specs::FactParsing::derived_fact))]
-fn read_derived(alloc: Global, value: &Value) -> Result<FactSource, ReadFault>
-    ensures { Gives fact_view result (derived_fact (json value.now)) }
+fn read_derived(
+    alloc: Global,
+    tables: &[LookupTable],
+    value: &Value,
+) -> Result<FactSource, ReadFault>
+    ensures { Gives fact_view result (derived_fact tables.now (json value.now)) }
 {
     let path_text = read_text_under(alloc, value, "path")?;
-    let main = read_main(alloc, value)?;
-    let conditional = read_conditional(alloc, value.get("conditional"))?;
-    let placeholder = read_optional(alloc, value.get("placeholder"))?;
+    let main = read_main(alloc, tables, value)?;
+    let conditional = read_conditional(alloc, tables, value.get("conditional"))?;
+    let placeholder = read_optional(alloc, tables, value.get("placeholder"))?;
     let path = read_path(alloc, path_text.as_str())?;
     let stated = read_derived_stated(alloc, value)?;
     let description = read_text_in(alloc, value.get("description"))?;
@@ -208,16 +230,17 @@ fn has_derived_keys(version: Version, members: &Map<String, Value>) -> bool
 fn read_fact_with(
     alloc: Global,
     version: Version,
+    tables: &[LookupTable],
     value: &Value,
     members: &Map<String, Value>,
 ) -> Result<FactSource, ReadFault>
-    ensures { Gives fact_view result (fact_with version (json value.now) (members_view members.now.entries)) }
+    ensures { Gives fact_view result (fact_with version tables.now (json value.now) (members_view members.now.entries)) }
 {
     if has_writable_keys(members) {
-        return read_writable(alloc, value);
+        return read_writable(alloc, tables, value);
     }
     if has_derived_keys(version, members) {
-        return read_derived(alloc, value);
+        return read_derived(alloc, tables, value);
     }
     Err(ReadFault::Shape)
 }
@@ -234,12 +257,17 @@ fn if_of_version(version: Version, fact: FactSource) -> Result<FactSource, ReadF
 }
 
 /// The fact that the value spells in a dictionary of this version.
-pub fn read_fact(alloc: Global, version: Version, value: &Value) -> Result<FactSource, ReadFault>
-    ensures { Gives fact_view result (fact_of version (json value.now)) }
+pub fn read_fact(
+    alloc: Global,
+    version: Version,
+    tables: &[LookupTable],
+    value: &Value,
+) -> Result<FactSource, ReadFault>
+    ensures { Gives fact_view result (fact_of version tables.now (json value.now)) }
 {
     let Some(members) = value.as_object() else {
         return Err(ReadFault::Shape);
     };
-    let fact = read_fact_with(alloc, version, value, members)?;
+    let fact = read_fact_with(alloc, version, tables, value, members)?;
     if_of_version(version, fact)
 }

@@ -1,5 +1,5 @@
 // Laws of reading and spelling. Each function's contract is its laws.
-ghost use Rattle.dict_tree.specs.Laws.{GivenIsRead, ReadEnumIsSpelled, ReadFactIsSpelled, ReadIsGiven, ReadIsSpelled, ReadIsWellFormed, SpelledEnumIsRead, SpelledFactIsRead, SpelledIsRead};
+ghost use Rattle.dict_tree.specs.Laws.{GivenIsRead, ReadEnumIsSpelled, ReadFactIsSpelled, ReadIsGiven, ReadIsSpelled, ReadIsWellFormed, ReadTableIsSpelled, SpelledEnumIsRead, SpelledFactIsRead, SpelledIsRead, SpelledTableIsRead};
 
 /// An expression is read of a JSON value exactly where the value spells it.
 pub fn expressions_are_spelled()
@@ -22,6 +22,12 @@ pub fn facts_are_well_formed()
 pub fn enums_are_spelled()
     ensures spelled { ReadEnumIsSpelled }
     ensures read { SpelledEnumIsRead }
+{}
+
+/// A table is read of a JSON value exactly where the value spells it.
+pub fn tables_are_spelled()
+    ensures spelled { ReadTableIsSpelled }
+    ensures read { SpelledTableIsRead }
 {}
 
 /// What is read of a JSON value is what the value gives: the dictionary that it spells, where that keeps the limits, or

@@ -14,6 +14,7 @@ mod finding;
 mod laws;
 mod limits;
 mod limits_json;
+mod lookup_table;
 mod members;
 mod mentions;
 mod node_name;
@@ -23,6 +24,7 @@ mod path_laws;
 mod path_use;
 mod profile;
 mod stated_json;
+mod tables_json;
 mod targets;
 mod version;
 
@@ -34,9 +36,11 @@ pub use fact_source::{Conditional, FactSource, LimitText, TypeText};
 pub use fault::TreeFault;
 pub use laws::{
     dictionaries_are_spelled, enums_are_spelled, expressions_are_spelled, facts_are_spelled,
-    facts_are_well_formed,
+    facts_are_well_formed, tables_are_spelled,
 };
+pub use lookup_table::LookupTable;
 pub use mentions::Mention;
+pub use node_name::{OneName, op_of_name};
 pub use operators::{ManyOp, OneOp, PickOp, ReadOp, TwoOp};
 pub use path_laws::{targets_are_none_elsewhere, targets_go_by_the_form, the_first_is_found};
 pub use path_use::{PathUse, read_use};

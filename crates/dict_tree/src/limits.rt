@@ -1,5 +1,5 @@
 // Whether a dictionary is within its limits.
-ghost use Rattle.std.specs.Prelude.{◌≡◌, ◌+◌, ◌<◌, ◌≤◌, ◌↔◌, nat_lt, not, length, map, sum_by, count_by, IsTrue, MatchOption, option_map, if◌then◌else◌};
+ghost use Rattle.std.specs.Prelude.{[], ◌≡◌, ◌+◌, ◌<◌, ◌≤◌, ◌↔◌, nat_lt, not, length, map, sum_by, count_by, IsTrue, MatchOption, option_map, if◌then◌else◌};
 ghost use Rattle.std.specs.List.{list_any};
 ghost use Rattle.dict_tree.specs.Tree.{size, size_of_trees, size_of_cases, depth as depth_of, depth_of_trees, depth_of_cases};
 ghost use Rattle.dict_tree.specs.View.{view, trees_view, cases_view};
@@ -260,7 +260,7 @@ fn has_many_limits(facts: &[FactSource]) -> bool
 
 /// The first of the limits of numbers that is passed: 1 facts, 2 nodes, 3 writable collections, 4 enums, 5 options, 6 limits.
 pub fn first_passed(enums: &[EnumSource], facts: &[FactSource]) -> Option<u32>
-    ensures { result ≡ too_many (dictionary_with (map listed_view enums.now) (map fact_view facts.now)) }
+    ensures { result ≡ too_many (dictionary_with (map listed_view enums.now) [] (map fact_view facts.now)) }
 {
     if facts.len() > MOST_FACTS {
         return Some(1);

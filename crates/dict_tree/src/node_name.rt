@@ -1,6 +1,6 @@
 // The names of nodes in JSON.
 ghost use Rattle.std.specs.Prelude.{◌≡◌, drop};
-ghost use Rattle.dict_tree.specs.Names.{node_named, node_names, under_name};
+ghost use Rattle.dict_tree.specs.Names.{node_named, node_names, op_of_name, under_name};
 
 use crate::operators::{ManyOp, OneOp, PickOp, ReadOp, TwoOp};
 
@@ -17,6 +17,29 @@ pub enum ConstantName {
     Enum,
 }
 
+/// The operations on one operand that a name alone stands for.
+#[derive(Clone, Copy, PartialEq, Eq)]
+pub enum OneName {
+    Not,
+    Round,
+    YearOf,
+    MonthOf,
+    DayOf,
+}
+
+/// The operation of this name.
+pub fn op_of_name(name: OneName) -> OneOp
+    ensures { result ≡ op_of_name name }
+{
+    match name {
+        OneName::Not => OneOp::Not,
+        OneName::Round => OneOp::Round,
+        OneName::YearOf => OneOp::YearOf,
+        OneName::MonthOf => OneOp::MonthOf,
+        OneName::DayOf => OneOp::DayOf,
+    }
+}
+
 /// The node that a name stands for.
 #[derive(Clone, Copy, PartialEq, Eq)]
 pub enum NodeName {
@@ -24,9 +47,11 @@ pub enum NodeName {
     Read(ReadOp),
     Switch,
     Many(ManyOp),
-    One(OneOp),
+    One(OneName),
     Two(TwoOp),
     Pick(PickOp),
+    /// Of a table.
+    Lookup,
 }
 
 // The node of this name, among those of the law profile.
@@ -34,8 +59,8 @@ fn name_of_law(name: &str) -> Option<NodeName>
     ensures { result ≡ under_name name.now (drop 34 node_names) }
 {
     match name {
-        "MonthOf" => Some(NodeName::One(OneOp::MonthOf)),
-        "DayOf" => Some(NodeName::One(OneOp::DayOf)),
+        "MonthOf" => Some(NodeName::One(OneName::MonthOf)),
+        "DayOf" => Some(NodeName::One(OneName::DayOf)),
         "AddMonths" => Some(NodeName::Two(TwoOp::AddMonths)),
         "AddYears" => Some(NodeName::Two(TwoOp::AddYears)),
         "DaysBetween" => Some(NodeName::Two(TwoOp::DaysBetween)),
@@ -43,6 +68,7 @@ fn name_of_law(name: &str) -> Option<NodeName>
         "RoundUp" => Some(NodeName::Two(TwoOp::RoundUp)),
         "RoundDown" => Some(NodeName::Two(TwoOp::RoundDown)),
         "RoundNearest" => Some(NodeName::Two(TwoOp::RoundNearest)),
+        "Lookup" => Some(NodeName::Lookup),
         _ => None,
     }
 }
@@ -58,8 +84,8 @@ fn name_of_comparison(name: &str) -> Option<NodeName>
         "LessThan" => Some(NodeName::Two(TwoOp::LessThan)),
         "GreaterThanOrEqual" => Some(NodeName::Two(TwoOp::GreaterThanOrEqual)),
         "LessThanOrEqual" => Some(NodeName::Two(TwoOp::LessThanOrEqual)),
-        "Round" => Some(NodeName::One(OneOp::Round)),
-        "YearOf" => Some(NodeName::One(OneOp::YearOf)),
+        "Round" => Some(NodeName::One(OneName::Round)),
+        "YearOf" => Some(NodeName::One(OneName::YearOf)),
         "AddDays" => Some(NodeName::Two(TwoOp::AddDays)),
         "Filter" => Some(NodeName::Pick(PickOp::Filter)),
         "Find" => Some(NodeName::Pick(PickOp::Find)),
@@ -74,7 +100,7 @@ fn name_of_operator(name: &str) -> Option<NodeName>
     match name {
         "All" => Some(NodeName::Many(ManyOp::All)),
         "Any" => Some(NodeName::Many(ManyOp::Any)),
-        "Not" => Some(NodeName::One(OneOp::Not)),
+        "Not" => Some(NodeName::One(OneName::Not)),
         "Add" => Some(NodeName::Many(ManyOp::Add)),
         "Subtract" => Some(NodeName::Many(ManyOp::Subtract)),
         "Multiply" => Some(NodeName::Two(TwoOp::Multiply)),

@@ -1,4 +1,9 @@
 // The operations of nodes.
+ghost use Rattle.std.specs.Prelude.{◌≡◌, IfOk};
+
+use crate::lookup_table::LookupTable;
+use fact_values::NoMemory;
+
 /// What a node that reads a path asks of the facts that the path names.
 #[derive(Clone, Copy, PartialEq, Eq)]
 pub enum ReadOp {
@@ -27,7 +32,7 @@ pub enum ManyOp {
 }
 
 /// A node with one operand.
-#[derive(Clone, Copy, PartialEq, Eq)]
+#[derive(Drop)]
 pub enum OneOp {
     Not,
     /// To whole dollars.
@@ -37,6 +42,24 @@ pub enum OneOp {
     MonthOf,
     /// The day of the month; of the law profile.
     DayOf,
+    /// The value that a table has for the operand; of the law profile.
+    Lookup(LookupTable),
+}
+
+impl OneOp {
+    /// The same operation. It fails where a table has too many copies.
+    pub fn copy(&self) -> Result<OneOp, NoMemory>
+        ensures { IfOk result (λ op. op ≡ self.now) }
+    {
+        Ok(match self {
+            OneOp::Not => OneOp::Not,
+            OneOp::Round => OneOp::Round,
+            OneOp::YearOf => OneOp::YearOf,
+            OneOp::MonthOf => OneOp::MonthOf,
+            OneOp::DayOf => OneOp::DayOf,
+            OneOp::Lookup(table) => OneOp::Lookup(table.copy()?),
+        })
+    }
 }
 
 /// A node with two operands, the left one first.

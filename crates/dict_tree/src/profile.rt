@@ -10,11 +10,11 @@ use crate::fact_source::{Conditional, FactSource};
 use crate::operators::{OneOp, TwoOp};
 use crate::version::Version;
 
-fn is_one_of_law(op: OneOp) -> bool
-    ensures { result ≡ is_one_of_law op }
+fn is_one_of_law(op: &OneOp) -> bool
+    ensures { result ≡ is_one_of_law op.now }
 {
     match op {
-        OneOp::MonthOf | OneOp::DayOf => true,
+        OneOp::MonthOf | OneOp::DayOf | OneOp::Lookup(_) => true,
         OneOp::Not | OneOp::Round | OneOp::YearOf => false,
     }
 }
@@ -52,7 +52,7 @@ fn uses_law(expr: &Expr) -> bool
         Expr::Read(_, _) => false,
         Expr::Switch(cases) => case_uses_law(cases),
         Expr::Many(_, operands) => one_uses_law(operands),
-        Expr::One(op, operand) => is_one_of_law(*op) || uses_law(operand),
+        Expr::One(op, operand) => is_one_of_law(op) || uses_law(operand),
         Expr::Two(op, first, second) => is_two_of_law(*op) || uses_law(first) || uses_law(second),
         Expr::Pick(_, _, condition) => uses_law(condition),
     }

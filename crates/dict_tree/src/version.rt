@@ -8,7 +8,7 @@ pub enum Version {
     First,
     /// A fact may have a conditional.
     Second,
-    /// The law profile: all of the second, and operators for ages, months and multiples.
+    /// The law profile: all of the second, operators for ages, months and multiples, and tables.
     Law,
 }
 

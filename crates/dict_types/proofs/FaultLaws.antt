@@ -133,10 +133,10 @@ module _ {C R P : Type 0} (ty : Types C R P) where
           | inr k ↦ (0, omega (arith, (or_err n m (many_type op k.0) k.2).0), (have_typed b ts k.0 (sounds ty (n + 1) b ts k.0 k.1), untyped n b (many op ts) m e))
         ]
     first_fault n b (one op t) m e =
-        elim (bind_err (type_of ty (n + 1) b t) (λ u. or_fault n (one_type op u)) m e) [
+        elim (bind_err (type_of ty (n + 1) b t) (λ u. or_fault n (one_type ty.fits op u)) m e) [
           | inl h ↦ let f = first_fault (n + 1) b t m h in
               (suc f.0, omega (arith, f.1), ((λ k. none_or_first (IsAtFault ty) (placed ty b t) f.0 (typed_none b t k.0.0 k.0.1) f.2), f.2))
-          | inr k ↦ (0, omega (arith, (or_err n m (one_type op k.0) k.2).0), ((k.0, sound ty (n + 1) b t k.0 k.1), untyped n b (one op t) m e))
+          | inr k ↦ (0, omega (arith, (or_err n m (one_type ty.fits op k.0) k.2).0), ((k.0, sound ty (n + 1) b t k.0 k.1), untyped n b (one op t) m e))
         ]
     first_fault n b (two op x y) m e =
         elim (bind_err (type_of ty (n + 1) b x) (λ u. type_of ty (n + 1 + size x) b y >>= λ w. or_fault n (two_type op u w)) m e) [

@@ -83,8 +83,8 @@ module _ {C R P : Type 0} (ty : Types C R P) where
         let p = bind_ok (types_of ty (n + 1) b ts) (λ us. or_fault n (many_type op us)) v e in
         (p.0, sounds (n + 1) b ts p.0 p.1, or_ok n (many_type op p.0) v p.2)
     sound n b (one op t) v e =
-        let p = bind_ok (type_of ty (n + 1) b t) (λ u. or_fault n (one_type op u)) v e in
-        (p.0, sound (n + 1) b t p.0 p.1, or_ok n (one_type op p.0) v p.2)
+        let p = bind_ok (type_of ty (n + 1) b t) (λ u. or_fault n (one_type ty.fits op u)) v e in
+        (p.0, sound (n + 1) b t p.0 p.1, or_ok n (one_type ty.fits op p.0) v p.2)
     sound n b (two op x y) v e =
         let p = bind_ok (type_of ty (n + 1) b x) (λ u. type_of ty (n + 1 + size x) b y >>= λ w. or_fault n (two_type op u w)) v e in
         let q = bind_ok (type_of ty (n + 1 + size x) b y) (λ w. or_fault n (two_type op p.0 w)) v p.2 in

@@ -1,6 +1,7 @@
 pub mod DictLaws
 pub mod FaultLaws
 pub mod FirstLaws
+pub mod FitLaws
 pub mod FoundLaws
 pub mod InferLaws
 pub mod InferenceLaws

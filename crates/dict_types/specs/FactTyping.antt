@@ -13,9 +13,11 @@ use Rattle.dict_tree.specs.Dictionary.{Dictionary}
 use Rattle.dict_tree.specs.Targets.{targets}
 use Rattle.dict_tree.specs.Mentions.{condition_base}
 use Rattle.dict_tree.specs.OperandTypes.{same_type}
+use Rattle.dict_tree.specs.Tables.{is_fit}
 use Rattle.dict_tree.specs.Typing.{ReadType, Types}
 use Rattle.dict_types.specs.Constants.{literal_type}
 use Rattle.dict_types.specs.Inferring.{◌>>=◌, type_of}
+use Rattle.dict_types.specs.ListSizes.{list_sizes}
 use Rattle.dict_types.specs.StatedTypes.{stated_type, type_at}
 
 -- ---- reads
@@ -79,12 +81,13 @@ ReadsAreByRule = (d : Dictionary) (fact base : ℕ) (op : ReadOp) (path : Option
 abbrev pub known : ℕ → Option ℕ
 known n = if n == 0 then None else Some n
 
--- the types of constants, of reads, and the bases of collections, in the fact with this number
+-- the types of constants, of reads, the bases of collections, and the tables that fit, in the fact with this number
 abbrev pub types_in : Dictionary → ℕ → Types Literal Reading Use
 types_in d fact = record {
   constant = literal_type d.enums;
   reads = λ base r. path_type d fact base r.0 r.1.path;
   source = λ base u. known (condition_base d fact base u.path);
+  fits = is_fit (list_sizes d.enums);
 }
 
 -- ---- the four expressions of a fact

@@ -33,7 +33,7 @@ abbrev mutual
   type_of ty n b (read r) = or_fault n (ty.reads b r)
   type_of ty n b (switch cs) = case_types ty (n + 1) b cs >>= λ us. or_fault n (switch_type us)
   type_of ty n b (many op ts) = types_of ty (n + 1) b ts >>= λ us. or_fault n (many_type op us)
-  type_of ty n b (one op t) = type_of ty (n + 1) b t >>= λ u. or_fault n (one_type op u)
+  type_of ty n b (one op t) = type_of ty (n + 1) b t >>= λ u. or_fault n (one_type ty.fits op u)
   type_of ty n b (two op x y) = type_of ty (n + 1) b x >>= λ u. type_of ty (n + 1 + size x) b y >>= λ v. or_fault n (two_type op u v)
   type_of ty n b (pick op p t) = type_of ty (n + 1) (unwrap_or (ty.source b p) 0) t >>= λ u. or_fault n (picked_type op (ty.source b p) u)
 

@@ -7,6 +7,7 @@ pub mod DuplicatePath
 pub mod FactTyping
 pub mod FirstFact
 pub mod Inferring
+pub mod ListSizes
 pub mod NoCollection
 pub mod NodeFaults
 pub mod RuleWords

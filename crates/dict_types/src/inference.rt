@@ -48,7 +48,7 @@ pub fn infer(
         }
         Expr::One(op, operand) => {
             let found = infer(alloc, source, fact, base, operand, next)?;
-            one_type(*op, found).ok_or(NodeFault::IllTyped(number))
+            one_type(source.enums(), op, found).ok_or(NodeFault::IllTyped(number))
         }
         Expr::Two(op, left, right) => {
             let left = infer(alloc, source, fact, base, left, next)?;

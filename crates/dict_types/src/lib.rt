@@ -18,6 +18,7 @@ mod read_types;
 mod reader;
 mod rules;
 mod stated_types;
+mod table_types;
 mod typed;
 mod unknown_check;
 mod unknown_path;

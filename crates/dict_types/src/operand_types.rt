@@ -3,10 +3,14 @@ ghost use Rattle.std.specs.Prelude.{◌≡◌, if◌then◌else◌, Some, None};
 ghost use Rattle.std.specs.List.{list_all};
 ghost use Rattle.fact_values.specs.declared.fact_type.FactType.TheVariants as types;
 ghost use Rattle.dict_tree.specs.OperandTypes as table;
+ghost use Rattle.dict_tree.specs.Tables.{is_fit};
 ghost use Rattle.dict_types.specs.CaseTypes.{fits as fitting, picked_type as type_picked, switch_type as type_of_switch};
+ghost use Rattle.dict_types.specs.ListSizes.{list_sizes};
 
+use crate::table_types::value_type;
 use dict_tree::{ManyOp, OneOp, PickOp, TwoOp};
 use fact_values::FactType;
+use value_text::EnumLists;
 
 /// The types of a case: of its test, and of its outcome.
 #[derive(Clone, Copy, PartialEq, Eq)]
@@ -87,13 +91,14 @@ pub fn many_type(op: ManyOp, operands: &[FactType]) -> Option<FactType>
 // ---- one operand
 
 /// From the type of the operand.
-pub fn one_type(op: OneOp, of: FactType) -> Option<FactType>
-    ensures { result ≡ table.one_type op of }
+pub fn one_type(enums: &EnumLists, op: &OneOp, of: FactType) -> Option<FactType>
+    ensures { result ≡ table.one_type (is_fit (list_sizes enums.now)) op.now of }
 {
     match (op, of) {
         (OneOp::Not, FactType::Boolean) => Some(FactType::Boolean),
         (OneOp::Round, FactType::Dollar) => Some(FactType::Dollar),
         (OneOp::YearOf | OneOp::MonthOf | OneOp::DayOf, FactType::Day) => Some(FactType::Int),
+        (OneOp::Lookup(table), _) => value_type(enums, table, of),
         _ => None,
     }
 }

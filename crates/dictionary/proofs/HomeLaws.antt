@@ -50,7 +50,7 @@ read_path text None path e h = absurd cc
 read_path text (Some p) path e h = let same : p ≡ path = cc in subst IsFactPath same h.0
 
 path_is_path : (names : List (List ℕ)) (d : Accepted) (fact : ℕ) (f : Fact) (path : FactPath) → IsAccepted names d → fact_at d.tree.facts fact ≡ Some f → f.path ≡ Some path → IsFactPath path
-path_is_path names d fact f path is e p = read_path f.path_text f.path path p (all_facts IsWellFormed d.tree.facts fact f is.valid.well_formed e).path
+path_is_path names d fact f path is e p = read_path f.path_text f.path path p (all_facts (IsWellFormed d.tree.tables) d.tree.facts fact f is.valid.well_formed e).path
 
 -- ---- homes
 

@@ -36,6 +36,7 @@ pub mod SettleLaws
 pub mod SlotLaws
 pub mod SlotTextLaws
 pub mod SteadyLaws
+pub mod TableTypes
 pub mod TargetAgreement
 pub mod TargetHomes
 pub mod TypedResultLaws

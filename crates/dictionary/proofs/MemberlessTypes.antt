@@ -10,6 +10,7 @@ use Rattle.fact_values.specs.declared.value.Value.TheVariants.{Members, Item}
 use Rattle.value_text.specs.Enums.{list_place}
 use Rattle.dict_tree.specs.Tree.{Source}
 use Rattle.dict_tree.specs.Facts.{Fact, Stated, scalar, enum_of, writable_list, list_of, item_of}
+use Rattle.dict_tree.specs.Tables.{LookupTable}
 use Rattle.dict_tree.specs.Forms.{HasKind, IsDerivedType, IsScalar, IsWellFormed, IsWritableType}
 use Rattle.dict_tree.specs.Dictionary.{Dictionary as Tree, is_collection}
 use Rattle.dict_tree.specs.Finding.{fact_at}
@@ -63,13 +64,13 @@ derived writable_list k h = absurd k
 derived (list_of u) k h = absurd (cc)
 derived (item_of u) k h = absurd (cc)
 
-pub answered : (f : Fact) (main : Option Source) → HasKind f main → IsTrue (is_none main && not (is_collection f.stated)) → IsMemberless f.stated
-answered f None k h = written f.stated k.0 h
-answered f (Some t) k h = absurd (cc)
+pub answered : (tables : List LookupTable) (f : Fact) (main : Option Source) → HasKind tables f main → IsTrue (is_none main && not (is_collection f.stated)) → IsMemberless f.stated
+answered tables f None k h = written f.stated k.0 h
+answered tables f (Some t) k h = absurd (cc)
 
-pub overridden : (f : Fact) (main : Option Source) → HasKind f main → IsTrue (not (is_none main) && not (names_members f.stated)) → IsMemberless f.stated
-overridden f None k h = absurd (cc)
-overridden f (Some t) k h = derived f.stated k.0 h
+pub overridden : (tables : List LookupTable) (f : Fact) (main : Option Source) → HasKind tables f main → IsTrue (not (is_none main) && not (names_members f.stated)) → IsMemberless f.stated
+overridden tables f None k h = absurd (cc)
+overridden tables f (Some t) k h = derived f.stated k.0 h
 
 enum_type : (o : Option ℕ) (t : FactType) → option_map (λ list. types.Enum list) o ≡ Some t → IsTrue (is_memberless t)
 enum_type None t e = absurd (cc)
@@ -84,17 +85,17 @@ memberless d path (item_of u) k t e = absurd k
 
 -- ---- the facts of an accepted dictionary
 
-taker : (side : Side) (d : Tree) (fact : ℕ) → All IsWellFormed d.facts → IsTrue (takes side d fact) → (t : FactType) → type_at d fact ≡ Some t → IsTrue (is_memberless t)
+taker : (side : Side) (d : Tree) (fact : ℕ) → All (IsWellFormed d.tables) d.facts → IsTrue (takes side d fact) → (t : FactType) → type_at d fact ≡ Some t → IsTrue (is_memberless t)
 taker Answer d fact all h t = at (fact_at d.facts fact) refl h
   where
     at : (o : Option Fact) → fact_at d.facts fact ≡ o → IsTrue (answers_of o) → option_and_then (stated_type d) o ≡ Some t → IsTrue (is_memberless t)
     at None e h k = absurd (cc)
-    at (Some f) e h k = memberless d f.path f.stated (answered f f.main (all_facts IsWellFormed d.facts fact f all e).kind h) t k
+    at (Some f) e h k = memberless d f.path f.stated (answered d.tables f f.main (all_facts (IsWellFormed d.tables) d.facts fact f all e).kind h) t k
 taker Override d fact all h t = at (fact_at d.facts fact) refl h
   where
     at : (o : Option Fact) → fact_at d.facts fact ≡ o → IsTrue (overrides_of o) → option_and_then (stated_type d) o ≡ Some t → IsTrue (is_memberless t)
     at None e h k = absurd (cc)
-    at (Some f) e h k = memberless d f.path f.stated (overridden f f.main (all_facts IsWellFormed d.facts fact f all e).kind h) t k
+    at (Some f) e h k = memberless d f.path f.stated (overridden d.tables f f.main (all_facts (IsWellFormed d.tables) d.facts fact f all e).kind h) t k
 
 -- a value of such a fact stays of its type
 pub still_of_fact : (names : List (List ℕ)) (d : Accepted) → IsAccepted names d → (a b : Answered) (side : Side) (fact : ℕ) (v : Value) → IsTrue (takes side d.tree fact) → IsOfFact d.tree a fact v → IsOfFact d.tree b fact v

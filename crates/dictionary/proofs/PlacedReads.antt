@@ -10,11 +10,13 @@ use Rattle.dict_tree.specs.declared.operators.ReadOp.TheVariants.{Dependency, Is
 use Rattle.dict_tree.specs.Tree.{Literal, Reading, Use, Source, Sources, SourceCases, literal, read, switch, many, one, two, pick, no_trees, tree, no_cases, a_case}
 use Rattle.dict_tree.specs.Dictionary.{Dictionary as Tree}
 use Rattle.dict_tree.specs.Mentions.{condition_base}
+use Rattle.dict_tree.specs.Tables.{is_fit}
 use Rattle.dict_tree.specs.Typing.{Types, HasType, HaveTypes, HaveCaseTypes}
 use Rattle.dict_types.specs.declared.reader.Reader.TheVariants.{Read, Pick}
 use Rattle.dict_types.specs.BadPath.{is_other_form}
 use Rattle.dict_types.specs.Constants.{literal_type}
 use Rattle.dict_types.specs.FactTyping.{known, path_type, types_in}
+use Rattle.dict_types.specs.ListSizes.{list_sizes}
 use Rattle.dict_types.specs.Uses.{Condition, cases_have_use, condition_under, goes_through_members, has_use, some_have_use}
 use Rattle.dict_types.specs.WrongPlace.{is_displaced, is_in_place, is_misplaced}
 use Rattle.common_lemmas.proofs.Bools.{or_neither}
@@ -44,6 +46,7 @@ placed_types d fact = record {
   constant = literal_type d.enums;
   reads = λ base r. suited r.0 r.1.path (path_type d fact base r.0 r.1.path);
   source = λ base u. known (condition_base d fact base u.path);
+  fits = is_fit (list_sizes d.enums);
 }
 
 -- ---- a path in its place suits

@@ -56,7 +56,7 @@ ints text = literal (literal_int text)
 -- ---- dictionaries
 
 abbrev dictionary : List Fact → List ℕ → Accepted
-dictionary fs ranks = record { tree = record { enums = []; facts = fs }; typed = record { facts = []; limits = [] }; ranks = ranks }
+dictionary fs ranks = record { tree = record { enums = []; tables = []; facts = fs }; typed = record { facts = []; limits = [] }; ranks = ranks }
 
 -- ---- answers
 

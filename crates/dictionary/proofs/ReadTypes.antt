@@ -29,6 +29,7 @@ use Rattle.dictionary.specs.Fits.{domains}
 use Rattle.dictionary.specs.Dependencies.{Results, EvalPosition, collection, dependency, read_by, read_result, result_at, slot, source_env, source_result}
 use Rattle.dictionary.proofs.ConstantTypes.{constant_typed}
 use Rattle.dictionary.proofs.PlacedReads.{placed_types, suited}
+use Rattle.dictionary.proofs.TableTypes.{tables_typed}
 
 -- each result is of its fact's type
 abbrev pub AreTypedResults : Tree → Answered → Results → Type 0
@@ -192,4 +193,5 @@ is_typed_at d a results h fact at = record {
   constant = constant_typed d a;
   reads = λ r t e. read_typed d a results h fact at r.0 r.1.path t e;
   source = λ u c e. source_typed d a results h fact at u.path c e;
+  tables = tables_typed (domains d a);
 }

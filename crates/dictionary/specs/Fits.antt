@@ -1,13 +1,13 @@
 -- When answers fit a dictionary.
-use Rattle.std.specs.Prelude.{◌≡◌, ℕ, Bool, true, false, not, ◌&&◌, IsSome, IsTrue, is_none, length, slice_get, Option, Some, None, option_map, unwrap_or}
+use Rattle.std.specs.Prelude.{◌≡◌, ℕ, Bool, true, false, not, ◌&&◌, IsSome, IsTrue, is_none, Option, Some, None}
 use Rattle.std.specs.FinMap as map
 use Rattle.fact_values.specs.declared.fact_type.FactType.{FactType}
 use Rattle.fact_values.specs.declared.slot.Slot.{Slot}
 use Rattle.fact_values.specs.declared.value.Value.{Value}
-use Rattle.value_text.specs.Enums.{Listed}
 use Rattle.dict_tree.specs.Facts.{Fact, Stated, scalar, enum_of, writable_list, list_of, item_of}
 use Rattle.dict_tree.specs.Dictionary.{Dictionary as Tree, is_collection}
 use Rattle.dict_tree.specs.Finding.{fact_at}
+use Rattle.dict_types.specs.ListSizes.{list_sizes}
 use Rattle.dict_types.specs.StatedTypes.{type_at}
 use Rattle.evaluation.specs.Typed.{Domains, IsOfType}
 use Rattle.answers.specs.Answered.{Answered, value_of}
@@ -63,7 +63,7 @@ takes Override d fact = is_overridden_by d fact
 -- the options of each list, and the members of each collection
 abbrev pub domains : Tree → Answered → Domains
 domains d a = record {
-  options = λ list. unwrap_or (option_map (λ (e : Listed). length e.options) (slice_get d.enums list)) 0;
+  options = list_sizes d.enums;
   has_member = is_member a;
 }
 

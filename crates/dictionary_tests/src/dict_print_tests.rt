@@ -106,6 +106,15 @@ fn law_profile_is_printed_as_such(rt: HostRuntime) -> Result<(), Fail> {
     Ok(())
 }
 
+const TABLES: &[u8] =
+    br#"{"enums":[{"name":"size","options":["small","large"]}],"facts":[{"path":"/n","writable":"Int"},{"derived":"Enum(size)","is":["Lookup","size",["Dependency","/n"]],"path":"/size"}],"tables":[{"else":"small","from":"Int","name":"size","rows":[["4","large"]],"to":"Enum(size)"},{"else":"0.00","from":"Day","name":"deduction","rows":[["2023-10-01","198.00"],["2024-10-01","204.00"]],"to":"Dollar"},{"else":"no","from":"Dollar","name":"word","rows":[["-1.50","yes"]],"to":"Text"},{"else":"1/2","from":"Int","name":"share","rows":[],"to":"Rational"}],"version":"law-1"}"#;
+
+#[test]
+fn tables_are_printed_as_they_were_read(rt: HostRuntime) -> Result<(), Fail> {
+    assert!(rt; prints(rt.alloc(), TABLES, TABLES));
+    Ok(())
+}
+
 const LAW_IN_VERSION_2: &[u8] =
     br#"{"version":"2","facts":[{"path":"/a","writable":"Day"},{"path":"/m","derived":"Int","is":["MonthOf",["Dependency","/a"]]}]}"#;
 

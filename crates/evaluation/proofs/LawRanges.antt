@@ -1,5 +1,5 @@
 -- What the operations of the law profile give is in the range of its type.
-use Rattle.std.proofs.Common.{◌≡◌, ℕ, zero, suc, ◌+◌, ◌≤◌, ◌<◌, min, ℤ, pos, negsuc, neg_ℤ, ◌+ℤ◌, ◌-ℤ◌, ◌≤ℤ◌, int_lt, unsigned_abs, Bool, true, false, not, if◌then◌else◌, Result, Ok, Err, refl, subst, arith}
+use Rattle.std.proofs.Common.{◌≡◌, ℕ, zero, suc, ◌+◌, ◌≤◌, ◌<◌, ℤ, pos, negsuc, ◌+ℤ◌, ◌-ℤ◌, int_lt, unsigned_abs, Bool, true, false, not, if◌then◌else◌, Ok, Err, refl, subst, arith}
 use Rattle.std.specs.Int.{int_div_euclid, int_rem_euclid}
 use Rattle.std.proofs.lemmas.Bool.{lt-ltb}
 use Rattle.jiff_core.specs.Calendar.{IsBetween, IsDate, days_from_civil, days_in_month}
@@ -7,9 +7,8 @@ use Rattle.jiff_core.proofs.CalendarLemmas.{days_in_month_bounds}
 use Rattle.jiff_core.proofs.SignedLemmas.{signed_arith, int_rem_euclid-parts}
 use Rattle.common_lemmas.proofs.Bools.{both, not_true}
 use Rattle.common_lemmas.proofs.Numbers.{not_below}
-use Rattle.fact_values.specs.Days.{IsDay, first_day, last_day, last_year_begun, number_of, year_of}
+use Rattle.fact_values.specs.Days.{IsDay, last_year_begun, number_of, year_of}
 use Rattle.fact_values.specs.Range.{IsInRange}
-use Rattle.fact_values.specs.declared.fault.ValueFault.{ValueFault}
 use Rattle.fact_values.specs.declared.fault.ValueFault.TheVariants.{Overflow}
 use Rattle.fact_values.proofs.Days.{IsDay-between, IsDay-years}
 use Rattle.law_arithmetic.specs.declared.civil_date.CivilDate.{CivilDate}

@@ -9,6 +9,7 @@ pub mod RangeLaws
 pub mod ReadsLaws
 pub mod ResolvingLaws
 pub mod Sureness
+pub mod TableLaws
 pub mod TypedLaws
 pub mod ValueTypes
 pub mod VisitLaws

@@ -1,4 +1,5 @@
 -- Each kind of node, by example. Amounts are in cents.
+use Rattle.std.specs.Prelude.{codes}
 use Rattle.std.proofs.Common.{◌≡◌, ℕ, ℤ, pos, negsuc, true, false, List, [], ◌∷◌, map, nat_eq, if◌then◌else◌, refl, ap, arith}
 use Rattle.std.proofs.lemmas.Int.{ints}
 use Rattle.fact_values.specs.Days.{IsDateInRange, last_day}
@@ -7,9 +8,11 @@ use Rattle.fact_values.specs.declared.fault.ValueFault.TheVariants.{Overflow, Ze
 use Rattle.fact_values.specs.declared.value.Value.{Value}
 use Rattle.fact_values.specs.declared.value.Value.TheVariants.{Boolean, Int, Dollar, Rational, Day, Text, Choice, Members, Item}
 use Rattle.fact_values.specs.Rationals.{Ratio, gcd}
+use Rattle.law_arithmetic.specs.declared.table.Row.{Row}
+use Rattle.dict_tree.specs.Tables.{LookupTable}
 use Rattle.dict_tree.specs.Tree.{Tree, Trees, literal, read, switch, many, one, two, pick, no_trees, tree, no_cases, a_case}
 use Rattle.dict_tree.specs.declared.operators.ManyOp.TheVariants.{All, Any, Add, Subtract, GreaterOf, LesserOf}
-use Rattle.dict_tree.specs.declared.operators.OneOp.TheVariants.{Not, Round, YearOf}
+use Rattle.dict_tree.specs.declared.operators.OneOp.TheVariants.{Not, Round, YearOf, Lookup}
 use Rattle.dict_tree.specs.declared.operators.TwoOp.{TwoOp}
 use Rattle.dict_tree.specs.declared.operators.TwoOp.TheVariants.{Multiply, Divide, AddDays, DaysBetween, RoundUp, RoundDown, RoundNearest, Equal, NotEqual, GreaterThan, LessThan, GreaterThanOrEqual, LessThanOrEqual}
 use Rattle.dict_tree.specs.declared.operators.PickOp.TheVariants.{Filter, Find}
@@ -196,6 +199,40 @@ year_of_last_day = ap (λ y. Complete (Int y)) (year_of-date last_day (pos 2199)
   where
     of_2199 : IsDateInRange (pos 2199) (pos 12) (pos 31)
     of_2199 = (((omega (arith, ints), omega (arith, ints)), (omega (arith, ints), omega (arith, ints)), (omega (arith, ints), omega (arith, ints))), (omega (arith, ints), omega (arith, ints)))
+
+-- ---- Lookup
+
+abbrev row : ℤ → ℤ → Row
+row size cents = record { key = size; value = Dollar cents }
+
+-- the most aid for a household of one, and for one of two or more
+abbrev most_aid : LookupTable
+most_aid = record {
+  name = codes "mostAid";
+  from = types.Int;
+  to = types.Dollar;
+  rows = row (pos 1) (pos 29100) ∷ row (pos 2) (pos 53500) ∷ [];
+  below = Dollar (pos 0);
+}
+
+abbrev aid_for : Example → Example
+aid_for size = one (Lookup most_aid) size
+
+lookups : AreGiven (
+    (aid_for (int (pos 1)), Complete (Dollar (pos 29100)))
+    ∷ (aid_for (int (pos 2)), Complete (Dollar (pos 53500)))
+    ∷ (aid_for (int (pos 0)), Complete (Dollar (pos 0)))
+    ∷ (aid_for (int (pos 7)), Complete (Dollar (pos 53500)))
+    ∷ (aid_for (dependency Incomplete), Incomplete)
+    ∷ (aid_for (dependency (Placeholder (Int (pos 1)))), Placeholder (Dollar (pos 29100)))
+    ∷ (aid_for (dependency (Fault Overflow)), Fault Overflow)
+    ∷ []
+    )
+lookups = refl
+
+-- the node, and its operand
+weight_of_lookup : weight example_env 0 (aid_for (int (pos 7))) ≡ 2
+weight_of_lookup = refl
 
 -- ---- Filter and Find
 

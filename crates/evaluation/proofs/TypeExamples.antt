@@ -1,17 +1,22 @@
 -- Which type each kind of node has, by example.
-use Rattle.std.proofs.Common.{◌≡◌, ℕ, List, [], ◌∷◌, Option, Some, refl}
+use Rattle.std.proofs.Common.{◌≡◌, ℕ, pos, List, [], ◌∷◌, Option, Some, refl}
+use Rattle.std.specs.Prelude.{codes}
 use Rattle.fact_values.specs.declared.fact_type.FactType.{FactType}
 use Rattle.fact_values.specs.declared.fact_type.FactType.TheVariants.{Boolean, Int, Dollar, Rational, Day, Text, Enum, Collection, Item}
-use Rattle.dict_tree.specs.OperandTypes.{many_type}
+use Rattle.fact_values.specs.declared.value.Value.{Value}
+use Rattle.fact_values.specs.declared.value.Value.TheVariants as values
+use Rattle.dict_tree.specs.OperandTypes.{many_type, one_type}
+use Rattle.dict_tree.specs.Tables.{LookupTable, is_fit}
 use Rattle.dict_tree.specs.Tree.{Tree, Trees, literal, read, switch, many, one, two, pick, no_trees, tree, no_cases, a_case}
 use Rattle.dict_tree.specs.Typing.{HasType, HaveTypes, ReadType, Types}
 use Rattle.dict_tree.specs.declared.operators.ReadOp.TheVariants as read_op
 use Rattle.dict_tree.specs.declared.operators.ManyOp.TheVariants.{All, Add, Subtract, GreaterOf}
-use Rattle.dict_tree.specs.declared.operators.OneOp.TheVariants.{Not, Round, YearOf, MonthOf, DayOf}
+use Rattle.dict_tree.specs.declared.operators.OneOp.TheVariants.{Not, Round, YearOf, MonthOf, DayOf, Lookup}
 use Rattle.dict_tree.specs.declared.operators.TwoOp.TheVariants.{Multiply, Divide, AddDays, AddMonths, AddYears, AgeOn, DaysBetween, RoundUp, RoundDown, Equal, LessThan}
 use Rattle.dict_tree.specs.declared.operators.PickOp.TheVariants.{Filter, Find}
 
--- ---- expressions whose constants and reads are types themselves, and whose collections are bases
+-- ---- expressions whose constants and reads are types themselves, and whose collections are bases.
+-- Each list has two options.
 
 abbrev OfTypes : Type 0
 OfTypes = Tree FactType FactType ℕ
@@ -21,6 +26,7 @@ example_types = record {
   constant = λ t. Some t;
   reads = λ b t. Some t;
   source = λ b c. Some c;
+  fits = is_fit (λ list. 2);
 }
 
 -- outside a condition
@@ -124,6 +130,32 @@ a_month = (Day, refl, refl)
 
 a_day_of_the_month : Has (one DayOf (a Day)) Int
 a_day_of_the_month = (Day, refl, refl)
+
+-- a table of no rows
+abbrev table : FactType → Value → LookupTable
+table to below = record { name = codes "t"; from = Int; to = to; rows = []; below = below }
+
+abbrev options : LookupTable
+options = table (Enum 3) (values.Choice 3 1)
+
+a_lookup : Has (one (Lookup options) (a Int)) (Enum 3)
+a_lookup = (Int, refl, refl)
+
+-- the keys are whole numbers
+no_lookup_by_a_day : Has (one (Lookup options) (a Day)) (Enum 3) → ⊥
+no_lookup_by_a_day (u, k, m) = of_day u k m
+  where
+    of_day : (u : FactType) → Some Day ≡ Some u → one_type (is_fit (λ list. 2)) (Lookup options) u ≡ Some (Enum 3) → ⊥
+    of_day Day e m = cc
+    of_day _ e m = cc
+
+-- the list has no such option
+no_lookup_of_an_option_beyond : Has (one (Lookup (table (Enum 3) (values.Choice 3 2))) (a Int)) (Enum 3) → ⊥
+no_lookup_of_an_option_beyond (u, k, m) = cc
+
+-- the value is of another type than the table says
+no_lookup_of_another_type : Has (one (Lookup (table Dollar (values.Int (pos 1)))) (a Int)) Dollar → ⊥
+no_lookup_of_another_type (u, k, m) = cc
 
 a_later_month : Has (two AddMonths (a Day) (a Int)) Day
 a_later_month = (Day, Int, refl, refl, refl)

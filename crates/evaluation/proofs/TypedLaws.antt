@@ -15,6 +15,7 @@ use Rattle.dict_tree.specs.declared.operators.OneOp.{OneOp}
 use Rattle.dict_tree.specs.declared.operators.TwoOp.{TwoOp}
 use Rattle.dict_tree.specs.declared.operators.PickOp.{PickOp}
 use Rattle.dict_tree.specs.declared.operators.PickOp.TheVariants.{Filter, Find}
+use Rattle.dict_tree.specs.Tables.{LookupTable}
 use Rattle.dict_tree.specs.OperandTypes.{many_type, one_type, pick_type, two_type}
 use Rattle.dict_tree.specs.Typing.{HasType, HaveTypes, HaveCaseTypes, IsSummed, Types}
 use Rattle.three_state.specs.declared.res.Res.{Res}
@@ -23,7 +24,7 @@ use Rattle.three_state.specs.Results.{count_of, down, fault_else, field_operands
 use Rattle.evaluation.specs.Operations.{many_value, on_one, on_two, one_value, size_value, sum_of_dollars, sum_of_ints, total, int_in, dollar_in, two_value}
 use Rattle.evaluation.specs.Over.{Env, over, over_all, over_cases, many_of, one_of, two_of, pick_of}
 use Rattle.evaluation.specs.Reads.{collection_size, complete_test, field_at, sum_over, through_item}
-use Rattle.evaluation.specs.Typed.{Domains, IsOfType, IsResOfType, IsTypedAt}
+use Rattle.evaluation.specs.Typed.{Domains, IsOfType, IsResOfType, IsTypedAt, TablesAreTyped}
 use Rattle.evaluation.proofs.MemberLaws.{filter-all, filter-member_list, member_list-length, member_list-members}
 use Rattle.evaluation.proofs.RangeLaws.{small-in-range}
 use Rattle.evaluation.proofs.ValueTypes.{AreOfTypes, GivesType, all_is, any_is, dollars_give, gives_ok, ints_give, item_value, many-gives, members_value, one-gives, two-gives}
@@ -123,12 +124,12 @@ many-type d Subtract rs us t m h = strict_of-type d (many_value Subtract) rs us 
 many-type d GreaterOf rs us t m h = strict_of-type d (many_value GreaterOf) rs us t h (λ vs k. many-gives d GreaterOf vs us t m k)
 many-type d LesserOf rs us t m h = strict_of-type d (many_value LesserOf) rs us t h (λ vs k. many-gives d LesserOf vs us t m k)
 
-one_by : (d : Domains) (op : OneOp) (u t : FactType) → one_type op u ≡ Some t → (vs : List Value) → AreOfTypes d vs (u ∷ []) → GivesType d (on_one (one_value op) vs) t
-one_by d op u t m [] h = absurd h
-one_by d op u t m (v ∷ vs) h = one-gives d op v u t m h.0
+one_by : (d : Domains) (fits : LookupTable → Bool) → TablesAreTyped d fits → (op : OneOp) (u t : FactType) → one_type fits op u ≡ Some t → (vs : List Value) → AreOfTypes d vs (u ∷ []) → GivesType d (on_one (one_value op) vs) t
+one_by d fits tables op u t m [] h = absurd h
+one_by d fits tables op u t m (v ∷ vs) h = one-gives d fits tables op v u t m h.0
 
-one-type : (d : Domains) (op : OneOp) (r : Res) (u t : FactType) → one_type op u ≡ Some t → IsResOfType d r u → IsResOfType d (one_of op r) t
-one-type d op r u t m h = strict_of-type d (on_one (one_value op)) (r ∷ []) (u ∷ []) t (h, tt) (one_by d op u t m)
+one-type : (d : Domains) (fits : LookupTable → Bool) → TablesAreTyped d fits → (op : OneOp) (r : Res) (u t : FactType) → one_type fits op u ≡ Some t → IsResOfType d r u → IsResOfType d (one_of op r) t
+one-type d fits tables op r u t m h = strict_of-type d (on_one (one_value op)) (r ∷ []) (u ∷ []) t (h, tt) (one_by d fits tables op u t m)
 
 two_by : (d : Domains) (op : TwoOp) (a b t : FactType) → two_type op a b ≡ Some t → (vs : List Value) → AreOfTypes d vs (a ∷ b ∷ []) → GivesType d (on_two (two_value op) vs) t
 two_by d op a b t m [] h = absurd h
@@ -171,7 +172,7 @@ mutual
   typed d ty e b at h (read r) u k = h.reads r u k
   typed d ty e b at h (switch cs) u k = typed_cases d ty e b at h cs u k.1
   typed d ty e b at h (many op ts) u k = many-type d op (over_all e at ts) k.0 u k.2 (typed_all d ty e b at h ts k.0 k.1)
-  typed d ty e b at h (one op t) u k = one-type d op (over e at t) k.0 u k.2 (typed d ty e b at h t k.0 k.1)
+  typed d ty e b at h (one op t) u k = one-type d ty.fits h.tables op (over e at t) k.0 u k.2 (typed d ty e b at h t k.0 k.1)
   typed d ty e b at h (two op x y) u k = two-type d op (over e at x) (over e at y) k.0 k.1 u k.4 (typed d ty e b at h x k.0 k.2) (typed d ty e b at h y k.1 k.3)
   typed d ty e b at h (pick op p t) u k = rw k.3 (pick-type d op (e.source at p) (λ m. over e (e.enter at p m) t) k.0 (h.source p k.0 k.1))
 

@@ -1,7 +1,7 @@
 -- Operations on values of the right types give values of the right type.
 use Rattle.std.proofs.Common.{◌≡◌, ℕ, zero, suc, ◌*◌, ◌<◌, ℤ, pos, negsuc, neg_ℤ, ◌-ℤ◌, ◌*ℤ◌, ◌+ℤ◌, Bool, true, false, IsTrue, ◌&&◌, if◌then◌else◌, List, [], ◌∷◌, length, Option, Some, None, Result, Ok, Err, refl, sym, ap, subst, ◌∙◌, arith}
 use Rattle.std.specs.Prelude.{◌==◌, nat_lt, option_and_then}
-use Rattle.common_lemmas.proofs.Bools.{both, chosen}
+use Rattle.common_lemmas.proofs.Bools.{both, both_left, chosen}
 use Rattle.common_lemmas.proofs.Numbers.{same_number}
 use Rattle.common_lemmas.proofs.Options.{both_some}
 use Rattle.std.specs.List.{list_all}
@@ -31,13 +31,15 @@ use Rattle.dict_tree.specs.declared.operators.OneOp.{OneOp}
 use Rattle.dict_tree.specs.declared.operators.OneOp.TheVariants as one_op
 use Rattle.dict_tree.specs.declared.operators.TwoOp.{TwoOp}
 use Rattle.dict_tree.specs.declared.operators.TwoOp.TheVariants as two_op
+use Rattle.dict_tree.specs.Tables.{LookupTable, value_for}
 use Rattle.dict_tree.specs.OperandTypes.{between_type, common_type, is_compared, is_ordered, later_day_type, many_type, multiple_type, one_type, product_type, quotient_type, same_type, two_type, type_of_many}
 use Rattle.dict_tree.proofs.TypeLaws.{same_is}
 use Rattle.evaluation.specs.Extremes.{AreOfType}
 use Rattle.evaluation.specs.Operations.{day_in, difference_of, dollar_in, greater, greatest, greatest_of, increment_of, int_in, least, least_of, lesser, many_value, number_in, number_value, one_value, rounded_by, sum_of, to_multiple, total, two_value, value_as}
-use Rattle.evaluation.specs.Typed.{Domains, IsOfType}
+use Rattle.evaluation.specs.Typed.{Domains, IsOfType, TablesAreTyped}
 use Rattle.evaluation.proofs.LawRanges.{age-in-range, day-in-range, days_between-in-range, month-in-range, months_after-is-day, years_after-is-day}
 use Rattle.evaluation.proofs.RangeLaws.{checked-in-range, checked_lowest-is-rational, checked_ratio-is-rational, day_after-is-day, difference-is-rational, sum-is-rational, year-in-range}
+use Rattle.evaluation.proofs.TableLaws.{value_for-among}
 
 -- values, one by one, of these types
 abbrev pub AreOfTypes : Domains → List Value → List FactType → Type 0
@@ -232,14 +234,18 @@ any_is us t m = junction_row many_op.Any (length us) (common_type us) t (any_row
 
 -- ---- one operand
 
-pub one-gives : (d : Domains) (op : OneOp) (v : Value) (u t : FactType) → one_type op u ≡ Some t → IsOfType d v u → GivesType d (one_value op v) t
-one-gives d one_op.Not v types.Boolean t m h = rw (row_is types.Boolean t m) (gives_ok d _ types.Boolean tt)
-one-gives d one_op.Round v types.Dollar t m h = rw (row_is types.Dollar t m) (dollars_give d (rounded (dollar_in v) 100 *ℤ pos 100))
-one-gives d one_op.YearOf v types.Day t m h = rw (row_is types.Int t m) (gives_ok d _ types.Int (year-in-range _))
-one-gives d one_op.MonthOf v types.Day t m h = rw (row_is types.Int t m) (gives_ok d _ types.Int (month-in-range _))
-one-gives d one_op.DayOf v types.Day t m h =
+pub one-gives : (d : Domains) (fits : LookupTable → Bool) → TablesAreTyped d fits → (op : OneOp) (v : Value) (u t : FactType) → one_type fits op u ≡ Some t → IsOfType d v u → GivesType d (one_value op v) t
+one-gives d fits tables one_op.Not v types.Boolean t m h = rw (row_is types.Boolean t m) (gives_ok d _ types.Boolean tt)
+one-gives d fits tables one_op.Round v types.Dollar t m h = rw (row_is types.Dollar t m) (dollars_give d (rounded (dollar_in v) 100 *ℤ pos 100))
+one-gives d fits tables one_op.YearOf v types.Day t m h = rw (row_is types.Int t m) (gives_ok d _ types.Int (year-in-range _))
+one-gives d fits tables one_op.MonthOf v types.Day t m h = rw (row_is types.Int t m) (gives_ok d _ types.Int (month-in-range _))
+one-gives d fits tables one_op.DayOf v types.Day t m h =
     rw (row_is types.Int t m) (gives_ok d _ types.Int (day-in-range _ (day_is d v h)))
-one-gives d _ v _ t m h = absurd cc
+one-gives d fits tables (one_op.Lookup table) v u t m h =
+    let p = chosen (fits table && same_type u table.from) table.to t m in
+    subst (GivesType d (Ok (value_for table v))) p.1
+    (gives_ok d (value_for table v) table.to (value_for-among (λ w. IsOfType d w table.to) table v (tables table (both_left (fits table) (same_type u table.from) p.0))))
+one-gives d fits tables _ v _ t m h = absurd cc
 
 -- ---- Multiply and Divide
 

@@ -1,8 +1,9 @@
 -- What the nodes do with values.
 -- The operations are total: an operand of another type than the node takes counts as 0, as false, or as a list of no members.
-use Rattle.std.specs.Prelude.{ℕ, ℤ, pos, unsigned_abs, int_lt, ◌+ℤ◌, ◌-ℤ◌, Bool, true, false, not, ◌&&◌, ◌||◌, if◌then◌else◌, List, [], ◌∷◌, length, Result, Ok, Err}
+use Rattle.std.specs.Prelude.{◌≡◌, ℕ, ℤ, pos, unsigned_abs, int_lt, ◌+ℤ◌, ◌-ℤ◌, Bool, true, false, not, ◌&&◌, ◌||◌, if◌then◌else◌, List, [], ◌∷◌, length, Result, Ok, Err}
 use Rattle.std.specs.Ordering.{is_gt, is_lt}
 use Rattle.fact_values.specs.Days.{day_after, year_of}
+use Rattle.fact_values.specs.declared.fact_type.FactType.TheVariants as types
 use Rattle.fact_values.specs.declared.fault.ValueFault.{ValueFault}
 use Rattle.fact_values.specs.declared.fault.ValueFault.TheVariants.{ZeroDivide}
 use Rattle.fact_values.specs.declared.num.Num.{Num}
@@ -24,6 +25,7 @@ use Rattle.dict_tree.specs.declared.operators.OneOp.{OneOp}
 use Rattle.dict_tree.specs.declared.operators.OneOp.TheVariants as one_op
 use Rattle.dict_tree.specs.declared.operators.TwoOp.{TwoOp}
 use Rattle.dict_tree.specs.declared.operators.TwoOp.TheVariants as two_op
+use Rattle.dict_tree.specs.Tables.{value_for}
 use Rattle.three_state.specs.Equality.{value_same}
 use Rattle.three_state.specs.Results.{members_in, truth}
 
@@ -154,6 +156,12 @@ one_value one_op.Round v = value_as Dollar (rounded_dollar (dollar_in v))
 one_value one_op.YearOf v = Ok (Int (year_of (day_in v)))
 one_value one_op.MonthOf v = Ok (Int (pos (month_of (day_in v))))
 one_value one_op.DayOf v = Ok (Int (pos (day_of (day_in v))))
+one_value (one_op.Lookup table) v = Ok (value_for table v)
+
+-- its value takes memory: a table of texts gives a copy of one
+abbrev pub GivesText : OneOp → Type 0
+GivesText (one_op.Lookup table) = table.to ≡ types.Text
+GivesText op = ⊥
 
 -- an amount that isn't positive has no multiples to round to, as nothing is divided by 0
 abbrev pub increment_of : ℤ → Result ℕ ValueFault

@@ -1,6 +1,6 @@
 -- When a value has a type, and laws on the types of results.
 use Rattle.std.specs.Prelude.{◌≡◌, ℕ, ◌<◌, Bool, IsTrue, Some}
-use Rattle.std.specs.List.{list_all}
+use Rattle.std.specs.List.{All, list_all}
 use Rattle.fact_values.specs.Days.{IsDay}
 use Rattle.fact_values.specs.declared.fact_type.FactType.{FactType}
 use Rattle.fact_values.specs.declared.fact_type.FactType.TheVariants as types
@@ -10,6 +10,7 @@ use Rattle.fact_values.specs.Members.{IsMemberList, is_member}
 use Rattle.fact_values.specs.Range.{IsInRange}
 use Rattle.fact_values.specs.Rationals.{IsRational}
 use Rattle.fact_values.specs.Texts.{IsPlainText}
+use Rattle.dict_tree.specs.Tables.{LookupTable, table_values}
 use Rattle.dict_tree.specs.Tree.{Tree}
 use Rattle.dict_tree.specs.Typing.{HasType, IsSummed, Types}
 use Rattle.three_state.specs.declared.res.Res.{Res}
@@ -45,11 +46,16 @@ IsResOfType d (Placeholder v) t = IsOfType d v t
 IsResOfType d Incomplete t = Unit {0}
 IsResOfType d (Fault fault) t = Unit {0}
 
+-- a table that fits has values of its type
+abbrev pub TablesAreTyped : Domains → (LookupTable → Bool) → Type 0
+TablesAreTyped d fits = (table : LookupTable) → IsTrue (fits table) → All (λ v. IsOfType d v table.to) (table_values table)
+
 -- under a base and at a place, what an expression is made of has the types said
 pub record IsTypedAt {C R P S : Type 0} (d : Domains) (ty : Types C R P) (e : Env C R P S) (b : ℕ) (at : S) : Type 0 where
   pub constant : (c : C) (t : FactType) → ty.constant c ≡ Some t → IsOfType d (e.constant c) t
   pub reads : (r : R) (t : FactType) → ty.reads b r ≡ Some t → IsResOfType d (e.reads at r) t
   pub source : (p : P) (c : ℕ) → ty.source b p ≡ Some c → IsResOfType d (e.source at p) (types.Collection c)
+  pub tables : TablesAreTyped d ty.fits
 
 -- ---- laws
 

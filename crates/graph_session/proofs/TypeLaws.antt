@@ -84,12 +84,12 @@ given_read names d is n t h e = at (fact_at d.tree.facts n) refl h e
     at None found h e = absurd cc
     at (Some f) found h e = stated_read d.tree f.path f.stated t (by (answers_of (Some f)) refl h) e
       where
-        kind : HasKind f f.main
-        kind = (all_facts IsWellFormed d.tree.facts n f is.valid.well_formed found).kind
+        kind : HasKind d.tree.tables f f.main
+        kind = (all_facts (IsWellFormed d.tree.tables) d.tree.facts n f is.valid.well_formed found).kind
 
         by : (b : Bool) → answers_of (Some f) ≡ b → (b || overrides_of (Some f)) ≡ true → IsMemberless f.stated
-        by true k h = answered f f.main kind k
-        by false k h = overridden f f.main kind h
+        by true k h = answered d.tree.tables f f.main kind k
+        by false k h = overridden d.tree.tables f f.main kind h
 
 -- ---- a value that a text spells is of the type
 

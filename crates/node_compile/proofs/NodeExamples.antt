@@ -46,6 +46,7 @@ either = fact (facts.Global (codes "either")) (scalar types.Int) (Some (by reads
 abbrev dictionary : Tree
 dictionary = record {
   enums = [];
+  tables = [];
   facts =
       fact (facts.Global (codes "c")) writable_list None None
       ∷ fact (facts.Member (codes "c") (codes "n")) (scalar types.Int) None None

@@ -1,14 +1,16 @@
 -- The node of a typed expression whose uses are in their places has the expression's type.
-use Rattle.std.proofs.Common.{◌≡◌, ℕ, Bool, true, false, ◌&&◌, ◌||◌, List, [], ◌∷◌, Option, Some, None, refl, sym, ap, subst, ◌∙◌}
+use Rattle.std.proofs.Common.{◌≡◌, ℕ, if◌then◌else◌, Bool, true, false, ◌&&◌, ◌||◌, List, [], ◌∷◌, Option, Some, None, refl, sym, ap, subst, ◌∙◌}
 use Rattle.std.specs.Prelude.{is_some, option_and_then, option_map, unwrap_or, IfSome}
 use Rattle.std.proofs.lemmas.Bool.{not-false}
 use Rattle.fact_paths.specs.declared.use_path.UsePath.{UsePath}
 use Rattle.fact_paths.specs.declared.use_path.UsePath.TheVariants.{Global, Sibling, Inner, Each, Through, SiblingThrough}
 use Rattle.fact_values.specs.declared.fact_type.FactType.{FactType}
-use Rattle.fact_values.specs.declared.fact_type.FactType.TheVariants.{Boolean, Int, Dollar, Collection, Item}
+use Rattle.fact_values.specs.declared.fact_type.FactType.TheVariants.{Boolean, Int, Dollar, Day, Collection, Item}
 use Rattle.fact_values.specs.declared.value.Value.{Value}
 use Rattle.fact_values.specs.declared.value.Value.TheVariants as values
 use Rattle.value_text.specs.Enums.{Listed}
+use Rattle.dict_tree.specs.declared.operators.OneOp.{OneOp}
+use Rattle.dict_tree.specs.declared.operators.OneOp.TheVariants.{Not, Round, YearOf, MonthOf, DayOf, Lookup}
 use Rattle.dict_tree.specs.declared.operators.PickOp.{PickOp}
 use Rattle.dict_tree.specs.declared.operators.ReadOp.{ReadOp}
 use Rattle.dict_tree.specs.declared.operators.ReadOp.TheVariants.{Dependency, IsComplete, CollectionSize, CollectionSum, Count}
@@ -16,6 +18,8 @@ use Rattle.dict_tree.specs.declared.targets.Targets.{Targets}
 use Rattle.dict_tree.specs.Dictionary.{Dictionary as Tree}
 use Rattle.dict_tree.specs.Finding.{IsNumber}
 use Rattle.dict_tree.specs.Mentions.{condition_base}
+use Rattle.dict_tree.specs.OperandTypes.{one_type, same_type}
+use Rattle.dict_tree.specs.Tables.{LookupTable}
 use Rattle.dict_tree.specs.Targets.{item_base_at, targets}
 use Rattle.dict_tree.specs.Tree.{Literal, Source, Sources, SourceCases, literal, read, switch, many, one, two, pick, no_trees, tree, no_cases, a_case}
 use Rattle.dict_tree.specs.Typing.{HasType, HaveTypes, HaveCaseTypes, IsSomeCase}
@@ -57,6 +61,22 @@ value_has (Some v) u e = value_types v ∙ e
 
 constant_has : (enums : List Listed) (c : Literal) (u : FactType) → literal_type enums c ≡ Some u → constant_type (constant_value enums c) ≡ Some u
 constant_has enums c u e = value_has (literal_value enums c) u e
+
+-- ---- operations
+
+-- the type is the same where every table fits
+any_fits : (fits : LookupTable → Bool) (op : OneOp) (u t : FactType) → one_type fits op u ≡ Some t → one_type (λ table. true) op u ≡ Some t
+any_fits fits (Lookup table) u t m = any_test (fits table) (same_type u table.from) table.to t m
+  where
+    any_test : (fit same : Bool) (to u : FactType) → (if fit && same then Some to else None) ≡ Some u → (if same then Some to else None) ≡ Some u
+    any_test true same to u e = e
+    any_test false same to u e = absurd cc
+any_fits fits Not Boolean t m = m
+any_fits fits Round Dollar t m = m
+any_fits fits YearOf Day t m = m
+any_fits fits MonthOf Day t m = m
+any_fits fits DayOf Day t m = m
+any_fits fits _ _ t m = absurd cc
 
 -- ---- leaves that read, from the types of their targets
 
@@ -229,7 +249,7 @@ module _ (d : Tree) (fact : ℕ) (has_types : HaveFactTypes d) where
         leaf_has d fact base has_types r.0 c r.1.path u place.1 (unsuited r.0 r.1.path (path_type d fact base r.0 r.1.path) u k)
     node_type (switch cs) base c u h k b = (some_case base cs k.0, case_types cs base c u h k.1 b)
     node_type (many op ts) base c u h k b = (k.0, all_types ts base c k.0 h k.1 b, k.2)
-    node_type (one op t) base c u h k b = (k.0, node_type t base c k.0 h k.1 b, k.2)
+    node_type (one op t) base c u h k b = (k.0, node_type t base c k.0 h k.1 b, any_fits (placed_types d fact).fits op k.0 u k.2)
     node_type (two op x y) base c u h k b =
         let parts = or_neither (misplaced c x) (misplaced c y) h in
         (k.0, k.1, node_type x base c k.0 parts.0 k.2 b, node_type y base c k.1 parts.1 k.3 b, k.4)

@@ -41,7 +41,7 @@ pub fn compile_expr(
         }
         Expr::One(op, operand) => {
             let operand = compile_expr(alloc, source, fact, base, operand)?;
-            one_node(alloc, *op, operand)
+            one_node(alloc, op, operand)
         }
         Expr::Two(op, left, right) => {
             let left = compile_expr(alloc, source, fact, base, left)?;
@@ -71,10 +71,11 @@ fn constant_node(alloc: Global, source: &DictSource, text: &Constant) -> Result<
 }
 
 #[tactic(auto, using(node_eval::proofs::Views::views))]
-fn one_node(alloc: Global, op: OneOp, operand: Node) -> Result<Node, NoMemory>
-    ensures { IfOk result (λ node. node_view node ≡ one op (node_view operand)) }
+fn one_node(alloc: Global, op: &OneOp, operand: Node) -> Result<Node, NoMemory>
+    ensures { IfOk result (λ node. node_view node ≡ one op.now (node_view operand)) }
 {
-    Ok(Node::One(op, Box::new(alloc, operand)?))
+    let operand = Box::new(alloc, operand)?;
+    Ok(Node::One(op.copy()?, operand))
 }
 
 #[tactic(auto, using(node_eval::proofs::Views::views))]

@@ -1,5 +1,5 @@
 -- An evaluation of a typed node takes memory only where some expression of it has a type whose values hold memory.
-use Rattle.std.proofs.Common.{◌≡◌, subst, ℕ, ℤ, pos, Bool, true, false, if◌then◌else◌, List, [], ◌∷◌, ◌++◌, count_by, flat_map, Option, Some, None, Ok, refl, sym, inl, inr}
+use Rattle.std.proofs.Common.{◌≡◌, ◌∙◌, subst, ◌&&◌, ℕ, ℤ, pos, Bool, true, false, if◌then◌else◌, List, [], ◌∷◌, ◌++◌, count_by, flat_map, Option, Some, None, Ok, refl, sym, inl, inr}
 use Rattle.std.specs.Prelude.{option_and_then, unwrap_or}
 use Rattle.fact_values.specs.declared.fact_type.FactType.{FactType}
 use Rattle.fact_values.specs.declared.fact_type.FactType.TheVariants as types
@@ -8,7 +8,11 @@ use Rattle.fact_values.specs.declared.value.Value.{Value}
 use Rattle.fact_values.specs.declared.value.Value.TheVariants.{Int, Text, Members, Item}
 use Rattle.fact_values.specs.Values.{HoldsMemory}
 use Rattle.dict_tree.specs.Tree.{literal, read, switch, many, one, two, pick, Trees, no_trees, tree, Cases, no_cases, a_case, nodes, nodes_of_cases, nodes_of_trees}
+use Rattle.dict_tree.specs.OperandTypes.{one_type, same_type}
+use Rattle.dict_tree.specs.Tables.{LookupTable}
 use Rattle.dict_tree.specs.Typing.{HasType, HaveCaseTypes, HaveTypes}
+use Rattle.dict_tree.specs.declared.operators.OneOp.{OneOp}
+use Rattle.dict_tree.specs.declared.operators.OneOp.TheVariants.{Lookup}
 use Rattle.dict_tree.specs.declared.operators.PickOp.TheVariants.{Filter, Find}
 use Rattle.three_state.specs.declared.res.Res.{Res}
 use Rattle.three_state.specs.declared.res.Res.TheVariants.{Complete, Placeholder, Incomplete, Fault}
@@ -16,10 +20,12 @@ use Rattle.three_state.specs.Results.{ValueHoldsMemory, after_verdict, field_ope
 use Rattle.three_state.specs.declared.strict.Verdict.{Verdict}
 use Rattle.three_state.specs.declared.strict.Verdict.TheVariants as verdict
 use Rattle.evaluation.specs.Mentioned.{AllOf}
+use Rattle.evaluation.specs.Operations.{GivesText}
 use Rattle.evaluation.specs.Over.{over}
 use Rattle.evaluation.specs.Reads.{collection_size, complete_test, sum_over, through_item}
 use Rattle.evaluation.specs.SlotsRead.{after_condition, item_read, slots_read_of_all, slots_read_of_cases, up_to_decider}
 use Rattle.evaluation.specs.Typed.{Domains, IsOfType, IsResOfType}
+use Rattle.common_lemmas.proofs.Bools.{chosen}
 use Rattle.evaluation.proofs.Mentions.{all-left, all-right}
 use Rattle.evaluation.proofs.TypedLaws.{down-type, sum-typed}
 use Rattle.node_eval.specs.Results.{Results, result_at, slot}
@@ -69,6 +75,12 @@ res-kept d (Fault fault) t h holds = absurd holds
 constant-kept : (v : Value) (t : FactType) → constant_type v ≡ Some t → HoldsMemory v → IsTextOrList t
 constant-kept (Text s) types.Text e holds = tt
 constant-kept _ _ e holds = absurd cc
+
+-- an operation that gives texts
+lookup-kept : (fits : LookupTable → Bool) (op : OneOp) (u t : FactType) → one_type fits op u ≡ Some t → GivesText op → IsTextOrList t
+lookup-kept fits (Lookup table) u t m text =
+    subst IsTextOrList (sym text ∙ (chosen (fits table && same_type u table.from) table.to t m).1) tt
+lookup-kept fits op u t m text = absurd text
 
 -- ---- what never holds memory
 
@@ -156,7 +168,8 @@ module _ (d : Domains) (facts : FactTypes) (results : Results) where
     kept at (read r) b u h all k = inl (b, (u, (h, read-kept at r.0 r.1 u h all k)))
     kept at (switch cs) b u h all k = inr (kept-cases at cs b u h.1 all k)
     kept at (many op ts) b u h all k = inr (kept-all at ts b h.0 h.1 all k)
-    kept at (one op x) b u h all k = inr (kept at x b h.0 h.1 all k)
+    kept at (one op x) b u h all (inl k) = inr (kept at x b h.0 h.1 all k)
+    kept at (one op x) b u h all (inr text) = inl (b, (u, (h, lookup-kept (node_types facts).fits op h.0 u h.2 text)))
     kept at (two op x y) b u h all (inl k) = inr (some-left (GivesTextOrList facts) (nodes x) (nodes y) (kept at x b h.0 h.2 (all-left Cell (slots_of results at x) (slots_of results at y) all) k))
     kept at (two op x y) b u h all (inr k) = inr (some-right (GivesTextOrList facts) (nodes x) (nodes y) (kept at y b h.1 h.3 (all-right Cell (slots_of results at x) (slots_of results at y) all) k))
     kept at (pick Filter r x) b u h all k = inl (b, (u, (h, subst IsTextOrList (sym h.3) tt)))

@@ -1,4 +1,5 @@
--- Where an evaluation takes memory: at a text or a list of members that a node gives, and at a Filter.
+-- Where an evaluation takes memory: at a text or a list of members that a node gives, at a look-up in a table of texts, and at a
+-- Filter.
 use Rattle.std.specs.Prelude.{ℕ, Bool, true, false, List, [], ◌∷◌, ◌⊎◌}
 use Rattle.fact_values.specs.Values.{HoldsMemory}
 use Rattle.dict_tree.specs.Tree.{Tree, literal, read, switch, many, one, two, pick, Trees, no_trees, tree, Cases, no_cases, a_case}
@@ -7,6 +8,7 @@ use Rattle.dict_tree.specs.declared.operators.PickOp.TheVariants as pick_op
 use Rattle.three_state.specs.Results.{ValueHoldsMemory, members_of, truth}
 use Rattle.three_state.specs.declared.res.Res.{Res}
 use Rattle.three_state.specs.declared.res.Res.TheVariants.{Complete, Placeholder, Incomplete, Fault}
+use Rattle.evaluation.specs.Operations.{GivesText}
 use Rattle.evaluation.specs.Over.{Env, over}
 use Rattle.evaluation.specs.SlotsRead.{up_to_decider}
 
@@ -38,7 +40,7 @@ abbrev mutual
   TakesMemory env at (read r) = ValueHoldsMemory (env.reads at r)
   TakesMemory env at (switch cs) = TakesInCases env at cs
   TakesMemory env at (many op ts) = TakesInAll env at ts
-  TakesMemory env at (one op t) = TakesMemory env at t
+  TakesMemory env at (one op t) = TakesMemory env at t ⊎ GivesText op
   TakesMemory env at (two op a b) = TakesMemory env at a ⊎ TakesMemory env at b
   TakesMemory env at (pick op p t) = PickTakes op (λ m. over env (env.enter at p m) t) (λ m. TakesMemory env (env.enter at p m) t) (members_of (env.source at p))
 

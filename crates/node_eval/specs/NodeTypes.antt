@@ -1,5 +1,5 @@
 -- Which type a compiled node has, from the types of the facts, and when the cells that it reads have these types.
-use Rattle.std.specs.Prelude.{◌≡◌, ℕ, Option, Some, None, option_and_then, option_map}
+use Rattle.std.specs.Prelude.{◌≡◌, ℕ, true, Option, Some, None, option_and_then, option_map}
 use Rattle.fact_values.specs.declared.fact_type.FactType.{FactType}
 use Rattle.fact_values.specs.declared.fact_type.FactType.TheVariants as types
 use Rattle.fact_values.specs.declared.slot.Slot.{Slot}
@@ -93,12 +93,14 @@ read_type facts node_read.SumInt r = option_and_then int_sum (field_type facts r
 read_type facts node_read.SumDollar r = option_and_then dollar_sum (field_type facts r)
 read_type facts node_read.Count r = option_and_then counted (field_type facts r)
 
--- a reader says itself under which condition it stands, so the types are those of every base
+-- A reader says itself under which condition it stands, so the types are those of every base. Every table fits: those of a
+-- dictionary were judged when it was read.
 abbrev pub node_types : FactTypes → Types Value Reading Reader
 node_types facts = record {
   constant = constant_type;
   reads = λ b r. read_type facts r.0 r.1;
   source = λ b r. source_base facts r;
+  fits = λ t. true;
 }
 
 -- ---- a node over cells

@@ -1,5 +1,6 @@
 // The result of a compiled node, visit by visit.
-ghost use Rattle.std.specs.Prelude.{◌≡◌, ℕ, ◌+◌, ◌<◌, ◌≤◌, ◌^◌, [], ◌∷◌, ◌++◌, sum_by, if◌then◌else◌, IfOk, IsErr, OnOk, Option};
+ghost use Rattle.std.specs.Prelude.{◌≡◌, ℕ, ◌+◌, ◌<◌, ◌≤◌, ◌^◌, [], ◌∷◌, ◌++◌, sum_by, if◌then◌else◌, IfOk, IsErr, OnOk, Option, ◌⊎◌};
+ghost use Rattle.evaluation.specs.Operations.{GivesText};
 ghost use Rattle.evaluation.specs.Over.{many_of, one_of, over, over_all, over_cases, pick_of, two_of, weight, weight_of_all, weight_of_cases};
 ghost use Rattle.fact_values.specs.Values.{HoldsMemory};
 ghost use Rattle.fact_values.specs.declared.fact_type.FactType.{FactType};
@@ -74,7 +75,7 @@ fn visit<C: Cells, L: Ledger>(
         Node::Read(op, reader) => read(alloc, cells, at, *op, *reader),
         Node::Switch(cases) => eval_cases(alloc, cells, at, cases.as_slice(), steps),
         Node::Many(op, operands) => eval_all(alloc, cells, at, *op, operands.as_slice(), steps),
-        Node::One(op, operand) => eval_one(alloc, cells, at, *op, operand, steps),
+        Node::One(op, operand) => eval_one(alloc, cells, at, op, operand, steps),
         Node::Two(op, left, right) => {
             let first = visit(alloc, cells, at, left, steps)?;
             eval_second(alloc, cells, at, *op, first, right, steps)
@@ -96,19 +97,19 @@ fn eval_one<C: Cells, L: Ledger>(
     alloc: Global,
     cells: &C,
     at: EvalPosition,
-    op: OneOp,
+    op: &OneOp,
     operand: &Node,
     steps: &mut Steps<L>,
 ) -> Result<Res, NoMemory>
-    ensures value { IfOk result (λ r. r ≡ one_of op (over (node_env (C.results cells.now)) at (view operand.now))) }
+    ensures value { IfOk result (λ r. r ≡ one_of op.now (over (node_env (C.results cells.now)) at (view operand.now))) }
     ensures visited { OnOk result (steps.new ≡ steps.old + visits (node_env (C.results cells.now)) at
         (view operand.now)) }
     ensures most { steps.new ≤ steps.old + weight (node_env (C.results cells.now)) at (view operand.now) }
     ensures least { steps.old ≤ steps.new }
-    ensures memory { IsErr result → TakesMemory (node_env (C.results cells.now)) at (view operand.now) }
+    ensures memory { IsErr result → TakesMemory (node_env (C.results cells.now)) at (view operand.now) ⊎ GivesText op.now }
 {
     let res = visit(alloc, cells, at, operand, steps)?;
-    Ok(one(op, res))
+    one(alloc, op, res)
 }
 
 // A node with two operands, from the result of the first.

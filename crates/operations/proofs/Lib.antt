@@ -1,6 +1,7 @@
 pub mod CaseLaws
 pub mod FieldLaws
 pub mod FilterLaws
+pub mod LookupLaws
 pub mod ManyLaws
 pub mod StepLaws
 pub mod SumLaws

@@ -1,4 +1,4 @@
-//! What each node does with the results of its operands. Only a copy of a borrowed result takes memory.
+//! What each node does with the results of its operands. Only a copy of a borrowed result, or of a table's text, takes memory.
 #![tactic(auto)]
 
 mod cases;

@@ -58,7 +58,7 @@ pub fn eval<G: EvalContext, N: Notes, L: Ledger>(
         ),
         Expr::One(op, operand) => {
             let res = eval(alloc, context, at, operand, notes, steps)?;
-            Ok(one(*op, res))
+            one(alloc, op, res)
         }
         Expr::Two(op, left, right) => {
             let first = eval(alloc, context, at, left, notes, steps)?;

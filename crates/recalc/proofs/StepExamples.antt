@@ -55,6 +55,7 @@ abbrev sums : Accepted
 sums = record {
   tree = record {
     enums = [];
+    tables = [];
     facts =
         written (global (codes "rate")) types.Int
         ∷ record (written (global (codes "c")) types.Int) { stated = writable_list }

@@ -251,12 +251,12 @@ abbrev pub facts : List Named → List Fact
 facts fs = filer ++ (filed fs ++ (persons ++ (tests fs ++ counts)))
 
 abbrev pub dictionary : List Named → Dictionary
-dictionary fs = record { enums = filing_statuses; facts = facts fs }
+dictionary fs = record { enums = filing_statuses; tables = []; facts = facts fs }
 
 -- ---- the dictionary group by group
 
 abbrev pub at_start : Dictionary
-at_start = record { enums = filing_statuses; facts = [] }
+at_start = record { enums = filing_statuses; tables = []; facts = [] }
 
 abbrev pub with_filer : Dictionary
 with_filer = with_facts at_start filer

@@ -1,7 +1,7 @@
 // The facts of the dictionary of a year.
 use crate::reads::*;
 use dict_tree::ManyOp::{Add, All, Any, GreaterOf, LesserOf, Subtract};
-use dict_tree::OneOp::Not;
+use dict_tree::OneName::Not;
 use dict_tree::PickOp::{Filter, Find};
 use dict_tree::ReadOp::Count;
 use dict_tree::TwoOp::{Equal, GreaterThan, LessThan, Multiply};

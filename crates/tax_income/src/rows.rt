@@ -1,7 +1,7 @@
 // The facts behind those of the year.
 use crate::reads::*;
 use dict_tree::ManyOp::{Add, All, GreaterOf, LesserOf, Subtract};
-use dict_tree::OneOp::{Not, Round};
+use dict_tree::OneName::{Not, Round};
 use dict_tree::ReadOp::Count;
 use dict_tree::TwoOp::{Divide, GreaterThan, Multiply};
 use written_facts::Fixed::DollarOf;

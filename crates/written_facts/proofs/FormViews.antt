@@ -4,7 +4,8 @@ use Rattle.dict_tree.specs.Tree.{literal, read, switch, many, one, two, pick}
 use Rattle.dict_tree.specs.Parsing.{use_of}
 use Rattle.dict_tree.specs.declared.operators.ReadOp.{ReadOp}
 use Rattle.dict_tree.specs.declared.operators.ManyOp.{ManyOp}
-use Rattle.dict_tree.specs.declared.operators.OneOp.{OneOp}
+use Rattle.dict_tree.specs.Names.{op_of_name}
+use Rattle.dict_tree.specs.declared.node_name.OneName.{OneName}
 use Rattle.dict_tree.specs.declared.operators.TwoOp.{TwoOp}
 use Rattle.dict_tree.specs.declared.operators.PickOp.{PickOp}
 use Rattle.dict_tree.proofs.Views.{views}
@@ -27,8 +28,8 @@ form_view-Switch fs v = search (rules, the_lemmas)
 pub form_view-Many : (fs : List Named) (op : ManyOp) (v : Bor (List Form)) → form_view fs (Many op v) ≡ many op (forms_view fs v.now)
 form_view-Many fs op v = search (rules, the_lemmas)
 
-pub form_view-One : (fs : List Named) (op : OneOp) (a : Bor Form) → form_view fs (One op a) ≡ one op (form_view fs a.now)
-form_view-One fs op a = search (rules, the_lemmas)
+pub form_view-One : (fs : List Named) (name : OneName) (a : Bor Form) → form_view fs (One name a) ≡ one (op_of_name name) (form_view fs a.now)
+form_view-One fs name a = search (rules, the_lemmas)
 
 pub form_view-Two : (fs : List Named) (op : TwoOp) (a b : Bor Form) → form_view fs (Two op a b) ≡ two op (form_view fs a.now) (form_view fs b.now)
 form_view-Two fs op a b = search (rules, the_lemmas)

@@ -17,12 +17,15 @@ use Rattle.dict_tree.specs.declared.operators.ManyOp.{ManyOp}
 use Rattle.dict_tree.specs.declared.operators.ManyOp.TheVariants.{All, Any, Add, Subtract, GreaterOf, LesserOf}
 use Rattle.dict_tree.specs.Tree.{Use, Source, Sources, SourceCases, literal, read, switch, many, one, two, pick, no_trees, tree, no_cases, a_case}
 use Rattle.dict_tree.specs.Facts.{Bound, Fact, Stated, enum_of, item_of, list_of, scalar, writable_list}
-use Rattle.dict_tree.specs.Forms.{AreCases, AreEnough, AreSome, AreTwo, HasConditionalForm, HasForm, HasKind, HasOptionForm, HaveCaseForms, HaveForms, IsDerivedType, IsScalar, IsUse, IsWellFormed, IsWritableType}
+use Rattle.dict_tree.specs.Tables.{LookupTable}
+use Rattle.dict_tree.specs.declared.operators.OneOp.{OneOp}
+use Rattle.dict_tree.specs.declared.operators.OneOp.TheVariants as ones
+use Rattle.dict_tree.specs.Forms.{AreCases, AreEnough, AreSome, AreTwo, HasConditionalForm, HasForm, HasKind, HasOptionForm, HasTable, HaveCaseForms, HaveForms, IsDerivedType, IsScalar, IsUse, IsWellFormed, IsWritableType}
 use Rattle.dict_tree.specs.Dictionary.{Dictionary, IsWithinLimits, too_deep, too_many, with_fact}
 use Rattle.dict_tree.proofs.ExprLaws.{is_use}
 use Rattle.dict_tree.proofs.FindingLaws.{is_path-is}
 use Rattle.dict_tree.proofs.UseLaws.{fact_path_from}
-use Rattle.written_facts.specs.Taking.{are_cases, are_enough, are_some, are_two, has_form, has_kind, has_none, has_path, have_case_forms, have_forms, is_derived_type, is_named, is_read_use, is_scalar, is_well_formed, is_within, is_writable_type, same_option, same_path_option, same_use, takes, takes_all, with_facts}
+use Rattle.written_facts.specs.Taking.{are_cases, are_enough, are_some, are_two, has_form, has_name, has_kind, has_none, has_path, have_case_forms, have_forms, is_derived_type, is_named, is_read_use, is_scalar, is_well_formed, is_within, is_writable_type, same_option, same_path_option, same_use, takes, takes_all, with_facts}
 
 -- ---- uses
 
@@ -74,26 +77,35 @@ cases : (cs : SourceCases) → IsTrue (are_cases cs) → AreCases cs
 cases no_cases h = absurd cc
 cases (a_case t o cs) h = tt
 
-mutual
-  formed : (t : Source) → IsTrue (has_form t) → HasForm t
-  formed (literal c) h = tt
-  formed (read r) h = read_use r.1 h
-  formed (switch cs) h = let p = both (are_cases cs) (have_case_forms cs) h in (cases cs p.0, formed_cases cs p.1)
-  formed (many op ts) h = let p = both (are_enough op ts) (have_forms ts) h in (enough op ts p.0, formed_all ts p.1)
-  formed (one op t) h = formed t h
-  formed (two op a b) h = let p = both (has_form a) (has_form b) h in (formed a p.0, formed b p.1)
-  formed (pick op u t) h = let p = both (is_read_use u) (has_form t) h in (read_use u p.0, formed t p.1)
+module _ (tables : List LookupTable) where
+  no_table : (op : OneOp) → IsTrue (has_name op) → HasTable tables op
+  no_table ones.Not h = tt
+  no_table ones.Round h = tt
+  no_table ones.YearOf h = tt
+  no_table ones.MonthOf h = tt
+  no_table ones.DayOf h = tt
+  no_table (ones.Lookup t) h = absurd cc
 
-  formed_all : (ts : Sources) → IsTrue (have_forms ts) → HaveForms ts
-  formed_all no_trees h = tt
-  formed_all (tree t ts) h = let p = both (has_form t) (have_forms ts) h in (formed t p.0, formed_all ts p.1)
+  mutual
+    formed : (t : Source) → IsTrue (has_form t) → HasForm tables t
+    formed (literal c) h = tt
+    formed (read r) h = read_use r.1 h
+    formed (switch cs) h = let p = both (are_cases cs) (have_case_forms cs) h in (cases cs p.0, formed_cases cs p.1)
+    formed (many op ts) h = let p = both (are_enough op ts) (have_forms ts) h in (enough op ts p.0, formed_all ts p.1)
+    formed (one op t) h = let p = both (has_name op) (has_form t) h in (no_table op p.0, formed t p.1)
+    formed (two op a b) h = let p = both (has_form a) (has_form b) h in (formed a p.0, formed b p.1)
+    formed (pick op u t) h = let p = both (is_read_use u) (has_form t) h in (read_use u p.0, formed t p.1)
 
-  formed_cases : (cs : SourceCases) → IsTrue (have_case_forms cs) → HaveCaseForms cs
-  formed_cases no_cases h = tt
-  formed_cases (a_case t o cs) h =
-      let p = both (has_form t) (has_form o && have_case_forms cs) h in
-      let q = both (has_form o) (have_case_forms cs) p.1 in
-      (formed t p.0, formed o q.0, formed_cases cs q.1)
+    formed_all : (ts : Sources) → IsTrue (have_forms ts) → HaveForms tables ts
+    formed_all no_trees h = tt
+    formed_all (tree t ts) h = let p = both (has_form t) (have_forms ts) h in (formed t p.0, formed_all ts p.1)
+
+    formed_cases : (cs : SourceCases) → IsTrue (have_case_forms cs) → HaveCaseForms tables cs
+    formed_cases no_cases h = tt
+    formed_cases (a_case t o cs) h =
+        let p = both (has_form t) (has_form o && have_case_forms cs) h in
+        let q = both (has_form o) (have_case_forms cs) p.1 in
+        (formed t p.0, formed o q.0, formed_cases cs q.1)
 
 -- ---- facts
 
@@ -123,13 +135,6 @@ none_are : (bs : List Bound) → IsTrue (has_none bs) → bs ≡ []
 none_are [] h = refl
 none_are (b ∷ bs) h = absurd cc
 
-kind : (f : Fact) (main : Option Source) → f.conditional ≡ None → IsTrue (has_kind f main) → HasKind f main
-kind f None c h = (writable f.stated h, c)
-kind f (Some t) c h =
-    let p = both (is_derived_type f.stated) (has_form t && has_none f.limits) h in
-    let q = both (has_form t) (has_none f.limits) p.1 in
-    (derived f.stated p.0, formed t q.0, none_are f.limits q.1)
-
 one_path : (p q : Option FactPath) → IsTrue (same_path_option p q) → q ≡ p
 one_path (Some p) q h = is_path-is p q h
 one_path None q h = nothing_is q h
@@ -142,25 +147,33 @@ no_conditional : (o : Option (Source × Source)) → IsTrue (is_none o) → o �
 no_conditional None h = refl
 no_conditional (Some c) h = absurd cc
 
-no_placeholder : (o : Option Source) → IsTrue (is_none o) → HasOptionForm o
-no_placeholder None h = tt
-no_placeholder (Some t) h = absurd cc
+module _ (tables : List LookupTable) where
+  kind : (f : Fact) (main : Option Source) → f.conditional ≡ None → IsTrue (has_kind f main) → HasKind tables f main
+  kind f None c h = (writable f.stated h, c)
+  kind f (Some t) c h =
+      let p = both (is_derived_type f.stated) (has_form t && has_none f.limits) h in
+      let q = both (has_form t) (has_none f.limits) p.1 in
+      (derived f.stated p.0, formed tables t q.0, none_are f.limits q.1)
 
-no_conditional_form : (o : Option (Source × Source)) → IsTrue (is_none o) → HasConditionalForm o
-no_conditional_form None h = tt
-no_conditional_form (Some t) h = absurd cc
+  no_placeholder : (o : Option Source) → IsTrue (is_none o) → HasOptionForm tables o
+  no_placeholder None h = tt
+  no_placeholder (Some t) h = absurd cc
 
-well_formed : (f : Fact) → IsTrue (is_well_formed f) → IsWellFormed f
-well_formed f h =
-    let p = both (has_path f) (has_kind f f.main && (is_none f.conditional && is_none f.placeholder)) h in
-    let q = both (has_kind f f.main) (is_none f.conditional && is_none f.placeholder) p.1 in
-    let r = both (is_none f.conditional) (is_none f.placeholder) q.1 in
-    record {
-      path = fact_path_from f.path_text f.path (one_path f.path (fact_path_of f.path_text) p.0);
-      kind = kind f f.main (no_conditional f.conditional r.0) q.0;
-      conditional = no_conditional_form f.conditional r.0;
-      placeholder = no_placeholder f.placeholder r.1;
-    }
+  no_conditional_form : (o : Option (Source × Source)) → IsTrue (is_none o) → HasConditionalForm tables o
+  no_conditional_form None h = tt
+  no_conditional_form (Some t) h = absurd cc
+
+  well_formed : (f : Fact) → IsTrue (is_well_formed f) → IsWellFormed tables f
+  well_formed f h =
+      let p = both (has_path f) (has_kind f f.main && (is_none f.conditional && is_none f.placeholder)) h in
+      let q = both (has_kind f f.main) (is_none f.conditional && is_none f.placeholder) p.1 in
+      let r = both (is_none f.conditional) (is_none f.placeholder) q.1 in
+      record {
+        path = fact_path_from f.path_text f.path (one_path f.path (fact_path_of f.path_text) p.0);
+        kind = kind f f.main (no_conditional f.conditional r.0) q.0;
+        conditional = no_conditional_form f.conditional r.0;
+        placeholder = no_placeholder f.placeholder r.1;
+      }
 
 none_is : (o : Option ℕ) → IsTrue (is_none o) → o ≡ None
 none_is None h = refl
@@ -172,8 +185,8 @@ taken_name d f h = (both (is_named f.stated) (is_well_formed f && is_within (wit
 taken_rest : (d : Dictionary) (f : Fact) → IsTrue (takes d f) → IsTrue (is_well_formed f) × IsTrue (is_within (with_fact d f))
 taken_rest d f h = both (is_well_formed f) (is_within (with_fact d f)) (both (is_named f.stated) (is_well_formed f && is_within (with_fact d f)) h).1
 
-pub taken_form : (d : Dictionary) (f : Fact) → IsTrue (takes d f) → IsWellFormed f
-taken_form d f h = well_formed f (taken_rest d f h).0
+pub taken_form : (d : Dictionary) (f : Fact) → IsTrue (takes d f) → IsWellFormed d.tables f
+taken_form d f h = well_formed d.tables f (taken_rest d f h).0
 
 pub taken_limits : (d : Dictionary) (f : Fact) → IsTrue (takes d f) → IsWithinLimits (with_fact d f)
 taken_limits d f h =
@@ -190,10 +203,10 @@ rest_taken d f fs left e h = (both (takes d f) (takes_all (with_fact d f) fs) (s
 
 pub one_more : (d : Dictionary) (f : Fact) (fs left : List Fact) → left ≡ f ∷ fs → with_facts d left ≡ with_facts (with_fact d f) fs
 one_more d f fs left e =
-    ap (with_facts d) e ∙ ap (λ l. record { enums = d.enums; facts = l }) (sym (append_assoc d.facts (f ∷ []) fs))
+    ap (with_facts d) e ∙ ap (λ l. record { enums = d.enums; tables = d.tables; facts = l }) (sym (append_assoc d.facts (f ∷ []) fs))
 
 pub all_more : (d : Dictionary) (left : List Fact) → left ≡ [] → with_facts d left ≡ d
-all_more d left e = ap (with_facts d) e ∙ ap (λ l. record { enums = d.enums; facts = l }) (append-nil d.facts)
+all_more d left e = ap (with_facts d) e ∙ ap (λ l. record { enums = d.enums; tables = d.tables; facts = l }) (append-nil d.facts)
 
 -- ---- paths of facts
 

@@ -1,5 +1,6 @@
 -- The expression that a form writes.
 use Rattle.std.specs.Prelude.{List, map}
+use Rattle.dict_tree.specs.Names.{op_of_name}
 use Rattle.dict_tree.specs.Tree.{Literal, literal_true, literal_false, literal_int, literal_dollar, literal_rational, literal_day, literal_text, literal_choice, Source, Sources, SourceCase, SourceCases, literal, read, switch, many, one, two, pick}
 use Rattle.dict_tree.specs.View.{trees_of, cases_of}
 use Rattle.dict_tree.specs.Parsing.{use_of}
@@ -28,7 +29,7 @@ form_step fs (Form-F.Const c) = literal (fixed_view fs c)
 form_step fs (Form-F.Read op p) = read (op, use_of p.now)
 form_step fs (Form-F.Switch cs) = switch (cases_of cs.now)
 form_step fs (Form-F.Many op ts) = many op (trees_of ts.now)
-form_step fs (Form-F.One op t) = one op t.now
+form_step fs (Form-F.One name t) = one (op_of_name name) t.now
 form_step fs (Form-F.Two op a b) = two op a.now b.now
 form_step fs (Form-F.Pick op p t) = pick op (use_of p.now) t.now
 

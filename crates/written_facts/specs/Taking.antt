@@ -9,6 +9,8 @@ use Rattle.fact_values.specs.declared.fact_type.FactType.{FactType}
 use Rattle.fact_values.specs.declared.fact_type.FactType.TheVariants as types
 use Rattle.dict_tree.specs.declared.operators.ManyOp.{ManyOp}
 use Rattle.dict_tree.specs.declared.operators.ManyOp.TheVariants as many_op
+use Rattle.dict_tree.specs.declared.operators.OneOp.{OneOp}
+use Rattle.dict_tree.specs.declared.operators.OneOp.TheVariants as one_op
 use Rattle.dict_tree.specs.Tree.{Use, Source, Sources, SourceCases, literal, read, switch, many, one, two, pick, no_trees, tree, no_cases, a_case}
 use Rattle.dict_tree.specs.Facts.{Bound, Fact, Stated, enum_of, item_of, list_of, scalar, writable_list}
 use Rattle.dict_tree.specs.Dictionary.{Dictionary, too_deep, too_many, with_fact}
@@ -47,6 +49,11 @@ abbrev pub are_enough : ManyOp → Sources → Bool
 are_enough many_op.Subtract ts = are_two ts
 are_enough _ ts = are_some ts
 
+-- a name alone stands for it, since no source has tables
+abbrev pub has_name : OneOp → Bool
+has_name (one_op.Lookup t) = false
+has_name op = true
+
 abbrev pub are_cases : SourceCases → Bool
 are_cases no_cases = false
 are_cases (a_case t o cs) = true
@@ -57,7 +64,7 @@ abbrev mutual
   has_form (read r) = is_read_use r.1
   has_form (switch cs) = are_cases cs && have_case_forms cs
   has_form (many op ts) = are_enough op ts && have_forms ts
-  has_form (one op t) = has_form t
+  has_form (one op t) = has_name op && has_form t
   has_form (two op a b) = has_form a && has_form b
   has_form (pick op p t) = is_read_use p && has_form t
 
@@ -128,4 +135,4 @@ takes_all d [] = true
 takes_all d (f ∷ fs) = takes d f && takes_all (with_fact d f) fs
 
 abbrev pub with_facts : Dictionary → List Fact → Dictionary
-with_facts d fs = record { enums = d.enums; facts = d.facts ++ fs }
+with_facts d fs = record { enums = d.enums; tables = d.tables; facts = d.facts ++ fs }

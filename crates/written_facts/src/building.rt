@@ -8,7 +8,7 @@ ghost use Rattle.written_facts.specs.Forms.{fixed_view, form_view, forms_view, w
 
 use crate::figure::{Figure, text_of};
 use crate::form::{Fixed, Form, When};
-use dict_tree::{Case, Constant, Expr, PickOp, TwoOp, read_use};
+use dict_tree::{Case, Constant, Expr, PickOp, TwoOp, op_of_name, read_use};
 use fact_values::NoMemory;
 use std::alloc::Global;
 
@@ -74,7 +74,10 @@ pub fn build(alloc: Global, figures: &[Figure<'_>], form: &Form<'_>) -> Result<E
         Form::Read(op, path) => Ok(Expr::Read(*op, read_use(alloc, path)?)),
         Form::Switch(cases) => Ok(Expr::Switch(build_cases(alloc, figures, cases)?)),
         Form::Many(op, operands) => Ok(Expr::Many(*op, build_all(alloc, figures, operands)?)),
-        Form::One(op, operand) => Ok(Expr::One(*op, build_boxed(alloc, figures, operand)?)),
+        Form::One(name, operand) => Ok(Expr::One(
+            op_of_name(*name),
+            build_boxed(alloc, figures, operand)?,
+        )),
         Form::Two(op, left, right) => {
             let left = build_boxed(alloc, figures, left)?;
             let right = build_boxed(alloc, figures, right)?;

@@ -1,5 +1,5 @@
 // Expressions as rows write them. They take no memory.
-use dict_tree::{ManyOp, OneOp, PickOp, ReadOp, TwoOp};
+use dict_tree::{ManyOp, OneName, PickOp, ReadOp, TwoOp};
 
 /// A constant.
 #[derive(Clone, Copy)]
@@ -27,7 +27,7 @@ pub enum Form<'a> {
     Read(ReadOp, &'a str),
     Switch(&'a [When<'a>]),
     Many(ManyOp, &'a [Form<'a>]),
-    One(OneOp, &'a Form<'a>),
+    One(OneName, &'a Form<'a>),
     Two(TwoOp, &'a Form<'a>, &'a Form<'a>),
     Pick(PickOp, &'a str, &'a Form<'a>),
 }

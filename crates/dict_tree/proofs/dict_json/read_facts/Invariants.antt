@@ -15,5 +15,5 @@ abbrev pub ◌>>=◌ : {A B : Type 0} → Result A TreeFault → (A → Result B
 abbrev pub invariant-loop-item : goal.invariant-loop-item
 invariant-loop-item l = record {
   count : l.number ≡ l.item-index;
-  rest : (facts_of l.version (l.number + 1) (items_view (drop l.item-index l.items)) >>= λ fs. Ok (map fact_view l.facts.items ++ fs)) ≡ facts_of l.version 1 (items_view l.items);
+  rest : (facts_of l.version l.tables (l.number + 1) (items_view (drop l.item-index l.items)) >>= λ fs. Ok (map fact_view l.facts.items ++ fs)) ≡ facts_of l.version l.tables 1 (items_view l.items);
 }

@@ -6,5 +6,5 @@ use Rattle.dictionary.proofs.given.given_result.Goals as goal
 
 pub list_result-requires : goal.list_result-requires
 list_result-requires c = λ ms e.
-    let any : Dictionary = record { enums = []; facts = [] } in
+    let any : Dictionary = record { enums = []; tables = []; facts = [] } in
     (open_members any (answered c.args.answers.now) c.requires.well c.requires.from_one c.args.slot.fact ms (sym c.members.ensures ∙ e)).0

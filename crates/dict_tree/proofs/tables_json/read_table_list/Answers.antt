@@ -1,0 +1,15 @@
+use Rattle.std.proofs.Common.{◌∙◌, ◌∷◌, [], ◌++◌, ◌+◌, drop, map, ap, refl, append_assoc, add-one}
+use Rattle.serde_json.specs.View.{view as json, items_view}
+use Rattle.dict_tree.specs.DictParsing.{listed_view}
+use Rattle.dict_tree.specs.TableParsing.{table_list, table_of}
+use Rattle.dict_tree.proofs.ParsingLaws.{items_next, read_next}
+use Rattle.dict_tree.proofs.tables_json.read_table_list.Goals as goal
+
+pub loop-item-preserved : goal.loop-item-preserved
+loop-item-preserved c =
+    let i = c.loop-item.item-index in
+    let values = c.args.items.now in
+    let lists = map listed_view c.args.enums.now in
+    read_next (table_of lists) (table_list lists) (λ d ds. refl) (items_view (drop i values)) (items_view (drop (i + 1) values)) (json c.item-item.result) c.in_ok-table.table c.loop-item.tables.items c.push.new.self.items _
+    (items_next values i (i + 1) c.item-item.result c.loop-item-test.true c.item-item.is (add-one i)) c.loop-item.invariant c.in_ok-table.ensures
+    (λ ys. ap (λ l. l ++ ys) c.in_ok-push.ensures.items ∙ append_assoc c.loop-item.tables.items (c.in_ok-table.table ∷ []) ys)
