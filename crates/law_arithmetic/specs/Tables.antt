@@ -1,9 +1,17 @@
 -- Tables of rows with rising keys.
-use Rattle.std.specs.Prelude.{ℤ, Bool, true, IsTrue, not, ◌&&◌, List, [], ◌∷◌, length, nat_le, int_lt, Option, None}
+use Rattle.std.specs.Prelude.{ℤ, pos, Bool, true, IsTrue, not, ◌&&◌, List, [], ◌∷◌, length, nat_le, int_lt, Option, None}
 use Rattle.std.specs.List.{filter, last_or}
 use Rattle.std.specs.Option.{option_map}
 use Rattle.fact_values.specs.declared.value.Value.{Value}
+use Rattle.fact_values.specs.declared.value.Value.TheVariants.{Int, Dollar, Day}
 use Rattle.law_arithmetic.specs.declared.table.Row.{Row}
+
+-- the key that a whole number, an amount or a day is; no other value is looked up
+abbrev pub key_of : Value → ℤ
+key_of (Int n) = n
+key_of (Dollar cents) = cents
+key_of (Day n) = n
+key_of _ = pos 0
 
 -- each key is less than the next
 abbrev pub are_rising : List Row → Bool

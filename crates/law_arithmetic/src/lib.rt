@@ -15,4 +15,4 @@ pub use civil_date::{CivilDate, date_of, day_of, month_of};
 pub use increment::Increment;
 pub use months::{add_months, add_years};
 pub use multiples::{round_down, round_nearest, round_up};
-pub use table::{Row, Table};
+pub use table::{Row, Table, key_of};

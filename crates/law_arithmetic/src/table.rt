@@ -1,7 +1,7 @@
 // Tables: values by keys that rise.
 ghost use Rattle.std.specs.Prelude.{◌≡◌, ◌+◌, ◌*◌, ◌^◌, ◌≤◌, ◌↔◌, length, IsSome, IfSome};
 ghost use Rattle.std.specs.Option.{option_copied};
-ghost use Rattle.law_arithmetic.specs.Tables.{IsTable, are_rising as rising, is_table as table, looked_up};
+ghost use Rattle.law_arithmetic.specs.Tables.{IsTable, are_rising as rising, is_table as table, key_of, looked_up};
 
 use crate::bisection::bisect;
 use fact_values::Value;
@@ -16,6 +16,18 @@ pub struct Row {
     /// A whole number, an amount in cents, or the number of a day.
     pub key: i64,
     pub value: Value,
+}
+
+/// The key that a whole number, an amount in cents or the number of a day is, and 0 for any other value.
+pub fn key_of(value: &Value) -> i64
+    ensures { result ≡ key_of value.now }
+{
+    match value {
+        Value::Int(n) => n.get(),
+        Value::Dollar(amount) => amount.cents(),
+        Value::Day(day) => day.number(),
+        _ => 0,
+    }
 }
 
 /// At most 1,000 rows, each with a greater key than the one before.
