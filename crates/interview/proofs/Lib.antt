@@ -1,4 +1,5 @@
 pub mod BeginningLaws
+pub mod CallLaws
 pub mod CheckLaws
 pub mod DictionaryLaws
 pub mod EndLaws

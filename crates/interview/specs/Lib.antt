@@ -1,6 +1,7 @@
 pub mod Codes
 pub mod Words
 pub mod Beginnings
+pub mod Calls
 pub mod Dictionaries
 pub mod FaultLines
 pub mod Meanings

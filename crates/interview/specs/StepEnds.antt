@@ -2,7 +2,7 @@
 use Rattle.std.specs.Prelude.{◌≡◌, ◌⊎◌, ℕ, ◌<◌, ◌≤◌, List, [], length, Option, Some, None, Result, Ok, Err, Vec}
 use Rattle.std.specs.declared.alloc.Global.{Global}
 use Rattle.std.specs.Io.KnownBytes.{Appends}
-use Rattle.fg_io.specs.Outside.{Contents, Files, MayHold, Output, Rose}
+use Rattle.fg_io.specs.Outside.{ByFetch, Contents, Files, MayHold, Output, Rose}
 use Rattle.fg_io.specs.Sent.{Sent}
 use Rattle.dictionary.specs.Accepted.{Named, accepted, names_of}
 use Rattle.dictionary.specs.Faults.{AreAccepted, IsFault}
@@ -18,6 +18,7 @@ use Rattle.dictionary.specs.Fits.{AnswersFit}
 use Rattle.save_file.specs.Dropped.{IsDroppedText}
 use Rattle.save_file.specs.declared.fault.LoadFault.{LoadFault}
 use Rattle.save_file.specs.declared.fault.LoadFault.TheVariants as loads
+use Rattle.interview.specs.Calls.{CallsForAccepted, CallsForNone}
 use Rattle.interview.specs.Given.{Did}
 use Rattle.interview.specs.Meanings.{Meaning, meaning_of}
 use Rattle.interview.specs.declared.resuming.Dropped.{Dropped}
@@ -64,6 +65,12 @@ NotFetched name files files_now other = ⊥
 abbrev pub ObtainedAs : (List ℕ → Contents) → Origin → List Named → Fetched → Type 0
 ObtainedAs contents origin checks (fetches.Accepted dict) = (content : Content) × MayGive contents origin content × IsAcceptedAs checks content (rules dict) × SameChecks (rules dict) checks
 ObtainedAs contents origin checks (fetches.Refused fault) = (content : Content) × MayGive contents origin content × HasFault checks content fault
+
+-- where it is accepted, it came of the calls for it, and where it isn't, none did, or memory was wanting
+abbrev pub ObtainedBy : {S : Type 0} → ByFetch S → List Named → Origin → S → S → Result Fetched Status → Type 0
+ObtainedBy fetched checks origin shelf shelf_now (Ok (fetches.Accepted dict)) = CallsForAccepted fetched checks origin shelf shelf_now
+ObtainedBy fetched checks origin shelf shelf_now (Ok (fetches.Refused fault)) = CallsForNone fetched checks origin shelf shelf_now
+ObtainedBy fetched checks origin shelf shelf_now (Err status) = CallsForNone fetched checks origin shelf shelf_now ⊎ (status ≡ NoMemory)
 
 -- no dictionary was had: the shelf failed to give the name of a file, or there was no memory
 abbrev pub NotObtained : Origin → Files → Files → Status → Type 0

@@ -2,8 +2,10 @@
 ghost use Rattle.std.specs.Prelude.{◌≡◌};
 ghost use Rattle.text_checks.specs.Tables.{named_checks};
 ghost use Rattle.dictionary.specs.Accepted.{accepted};
+ghost use Rattle.interview.specs.Calls.{CallsForDictionary};
 ghost use Rattle.interview.specs.Interview.{defined_accepted};
 ghost use Rattle.interview.specs.StepEnds.{CheckEnds, EndedBy, check_did};
+ghost use Rattle.interview.specs.Words.{file};
 ghost use Rattle.interview.specs.declared.status.Status.TheVariants.{Done};
 
 use crate::Status;
@@ -36,6 +38,7 @@ pub fn check<H: Shelf, K: Sink>(
 ) -> Status
     ensures ends { CheckEnds ((H.files shelf.old).contents name.now) (named_checks checks.now) name.now
         (check_did (H.files shelf.old) (H.files shelf.new) (K.output out.old) (K.output out.new)) result }
+    ensures calls { CallsForDictionary H.fetched (file name.now) shelf.old shelf.new }
 {
     match fetch(alloc, name, checks, shelf) {
         Ok(Fetched::Accepted(dictionary)) => {

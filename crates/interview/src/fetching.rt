@@ -3,7 +3,9 @@ ghost use Rattle.std.specs.Prelude.{◌≡◌, ◌≤◌, IfErr, IfOk};
 ghost use Rattle.text_checks.specs.Tables.{named_checks};
 ghost use Rattle.dictionary.specs.Accepted.{accepted, names_of};
 ghost use Rattle.dictionary.specs.Faults.{AreAccepted, IsFault, Refuses};
-ghost use Rattle.interview.specs.StepEnds.{FetchedAs, NotFetched};
+ghost use Rattle.interview.specs.Calls.{CallsForDictionary};
+ghost use Rattle.interview.specs.StepEnds.{FetchedAs, NotFetched, ObtainedBy};
+ghost use Rattle.interview.specs.Words.{file};
 ghost use Rattle.interview.specs.FaultLines.{is_memory as wants_memory};
 
 use crate::Status;
@@ -66,6 +68,8 @@ pub fn fetch<H: Shelf>(
     ensures not_fetched { IfErr result (NotFetched name.now (H.files shelf.old) (H.files shelf.new)) }
     ensures kept { (H.files shelf.new).contents ≡ (H.files shelf.old).contents }
     ensures later { (H.files shelf.old).faults ≤ (H.files shelf.new).faults }
+    ensures calls { CallsForDictionary H.fetched (file name.now) shelf.old shelf.new }
+    ensures by_calls { ObtainedBy H.fetched (named_checks checks.now) (file name.now) shelf.old shelf.new result }
 {
     let bytes = match shelf.fetch(name, LIMIT) {
         Ok(bytes) => bytes,

@@ -1,9 +1,9 @@
 // Has the dictionary of a run.
 ghost use Rattle.std.specs.Prelude.{◌≡◌, ◌≤◌, IfErr, IfOk};
 ghost use Rattle.text_checks.specs.Tables.{named_checks};
-ghost use Rattle.interview.specs.StepEnds.{NotObtained, ObtainedAs};
-ghost use Rattle.interview.specs.Words.{origin_of, program};
-ghost use Rattle.built_in.specs.declared.built_in.BuiltIn.{BuiltIn};
+ghost use Rattle.interview.specs.Calls.{CallsForDictionary};
+ghost use Rattle.interview.specs.StepEnds.{NotObtained, ObtainedAs, ObtainedBy};
+ghost use Rattle.interview.specs.Words.{origin_of};
 
 use crate::Status;
 use crate::fetching::{Fetched, fetch};
@@ -26,7 +26,8 @@ pub fn obtain<H: Shelf>(
     ensures not_obtained { IfErr result (NotObtained (origin_of origin.entry) (H.files shelf.old) (H.files shelf.new)) }
     ensures kept { (H.files shelf.new).contents ≡ (H.files shelf.old).contents }
     ensures later { (H.files shelf.old).faults ≤ (H.files shelf.new).faults }
-    ensures unfetched { (b : BuiltIn) → origin_of origin.entry ≡ program b → shelf.new ≡ shelf.old }
+    ensures calls { CallsForDictionary H.fetched (origin_of origin.entry) shelf.old shelf.new }
+    ensures by_calls { ObtainedBy H.fetched (named_checks checks.now) (origin_of origin.entry) shelf.old shelf.new result }
 {
     match origin {
         Origin::File(name) => fetch(alloc, name, checks, shelf),

@@ -5,8 +5,9 @@ ghost use Rattle.text_checks.specs.Tables.{named_checks};
 ghost use Rattle.graph_session.specs.Refusals.{SameChecks};
 ghost use Rattle.graph_session.specs.Rules.{rules};
 ghost use Rattle.interview.specs.Beginnings.{saved_limit, to_carry, to_load};
+ghost use Rattle.interview.specs.Calls.{CallsForSaved, CallsOnce};
 ghost use Rattle.interview.specs.StepEnds.{FetchedText, Gives, NotFetched, NotResumed, RefusedFor, ResumedAs, ResumesAs};
-ghost use Rattle.interview.specs.Words.{beginning_of, by_carry, by_load, unanswered};
+ghost use Rattle.interview.specs.Words.{beginning_of, by_carry, by_load};
 ghost use Rattle.interview.specs.declared.status.Status.TheVariants.{NoMemory as WantsMemory};
 
 use crate::Status;
@@ -109,6 +110,7 @@ fn carry_ready(
 fn fetch_text<H: Shelf>(name: &str, shelf: &mut H) -> Result<Option<Vec<u8>>, Status>
     ensures fetched { IfOk result (FetchedText ((H.files shelf.old).contents name.now)) }
     ensures not_fetched { IfErr result (NotFetched name.now (H.files shelf.old) (H.files shelf.new)) }
+    ensures calls { CallsOnce H.fetched name.now saved_limit shelf.old shelf.new }
 {
     match shelf.fetch(name, LIMIT) {
         Ok(bytes) => Ok(Some(bytes)),
@@ -127,6 +129,7 @@ fn resume_loaded<H: Shelf>(
 ) -> Result<Resumed, Status>
     ensures resumed { IfOk result (ResumedAs (H.files shelf.old).contents (by_load name.now) (rules dict.now)) }
     ensures not_resumed { IfErr result (NotResumed (by_load name.now) (H.files shelf.old) (H.files shelf.new)) }
+    ensures calls { CallsForSaved H.fetched (by_load name.now) shelf.old shelf.new }
 {
     match fetch_text(name, shelf) {
         Ok(Some(bytes)) => load_ready(alloc, dict, bytes.as_slice()),
@@ -146,6 +149,7 @@ fn resume_carried<H: Shelf>(
     requires { SameChecks (rules dict.now) (named_checks checks.now) }
     ensures resumed { IfOk result (ResumedAs (H.files shelf.old).contents (by_carry name.now) (rules dict.now)) }
     ensures not_resumed { IfErr result (NotResumed (by_carry name.now) (H.files shelf.old) (H.files shelf.new)) }
+    ensures calls { CallsForSaved H.fetched (by_carry name.now) shelf.old shelf.new }
 {
     match fetch_text(name, shelf) {
         Ok(Some(bytes)) => carry_ready(alloc, dict, checks, bytes),
@@ -168,7 +172,7 @@ pub fn resume<H: Shelf>(
         (rules dict.now)) }
     ensures not_resumed { IfErr result (NotResumed (beginning_of beginning.entry) (H.files shelf.old)
         (H.files shelf.new)) }
-    ensures unfetched { beginning_of beginning.entry ≡ unanswered → shelf.new ≡ shelf.old }
+    ensures calls { CallsForSaved H.fetched (beginning_of beginning.entry) shelf.old shelf.new }
 {
     let _accepted = dict.source();
     match beginning {

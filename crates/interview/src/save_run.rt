@@ -7,6 +7,7 @@ ghost use Rattle.dictionary.specs.Accepted.{accepted};
 ghost use Rattle.graph_session.specs.Refusals.{SameChecks};
 ghost use Rattle.graph_session.specs.Rules.{rules};
 ghost use Rattle.save_file.specs.SavedText.{saved};
+ghost use Rattle.interview.specs.Calls.{CallsForDictionary};
 ghost use Rattle.interview.specs.Given.{did_by, given_with};
 ghost use Rattle.interview.specs.Meanings.{of_session};
 ghost use Rattle.interview.specs.Save.{ScriptSaves, save_meaning};
@@ -14,8 +15,7 @@ ghost use Rattle.session_lines.specs.Stepping.{open_at};
 ghost use Rattle.interview.specs.SaveEnds.{SaveEnds};
 ghost use Rattle.interview.specs.ScriptEnds.{script_did};
 ghost use Rattle.interview.specs.StepEnds.{EndedBy};
-ghost use Rattle.interview.specs.Words.{IsSave, origin_of, program};
-ghost use Rattle.built_in.specs.declared.built_in.BuiltIn.{BuiltIn};
+ghost use Rattle.interview.specs.Words.{IsSave, origin_of};
 ghost use Rattle.interview.specs.declared.status.Status.TheVariants.{Done};
 
 use crate::Status;
@@ -122,7 +122,7 @@ pub fn run_and_save<H: Shelf, S: Source, K: Sink>(
         (named_checks checks.now) (named_relations table.now) (H.files shelf.old) (S.input script.old))
         (did_by (H.files shelf.old) (H.files shelf.new) (S.input script.old) (S.input script.new) (K.output out.old)
         (K.output out.new)) result }
-    ensures unfetched { (b : BuiltIn) → origin_of origin.entry ≡ program b → shelf.new ≡ shelf.old }
+    ensures calls { CallsForDictionary H.fetched (origin_of origin.entry) shelf.old shelf.new }
 {
     match obtain(alloc, origin, checks, shelf) {
         Ok(Fetched::Accepted(dictionary)) => {

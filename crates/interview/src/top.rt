@@ -9,11 +9,11 @@ ghost use Rattle.graph_session.specs.Rules.{rules};
 ghost use Rattle.fact_watch.specs.Tables.{named_relations};
 ghost use Rattle.interview.specs.ScriptEnds.{script_did};
 ghost use Rattle.interview.specs.StepEnds.{Gives, RunEnds, StartEnds};
+ghost use Rattle.interview.specs.Calls.{Calls, CallsForSaved};
 ghost use Rattle.interview.specs.Ends.{Interviewed};
 ghost use Rattle.interview.specs.Given.{did_by, given_by};
 ghost use Rattle.interview.specs.Meanings.{IsBeginning, Meaning, meaning_of};
-ghost use Rattle.interview.specs.Words.{IsGen, IsRun, IsSave, beginning_of, program, texts, unanswered};
-ghost use Rattle.built_in.specs.declared.built_in.BuiltIn.{BuiltIn};
+ghost use Rattle.interview.specs.Words.{beginning_of, texts};
 
 use crate::Status;
 use crate::checking::check;
@@ -152,7 +152,7 @@ fn run_from<H: Shelf, S: Source, K: Sink>(
     ensures ends { RunEnds (H.files shelf.old).contents (beginning_of beginning.entry) (rules dictionary) mode
         (named_relations tables.now.relations.now) (did_by (H.files shelf.old) (H.files shelf.new) (S.input script.old)
         (S.input script.new) (K.output out.old) (K.output out.new)) result }
-    ensures unfetched { beginning_of beginning.entry ≡ unanswered → shelf.new ≡ shelf.old }
+    ensures calls { CallsForSaved H.fetched (beginning_of beginning.entry) shelf.old shelf.new }
 {
     match resume(alloc, beginning, &dictionary, tables.checks, shelf) {
         Ok(Resumed::Begins(ready)) => {
@@ -172,8 +172,9 @@ fn run_from<H: Shelf, S: Source, K: Sink>(
 /// Does all that the program does, over the words of its command line, without the program's name. The checks are those
 /// that a dictionary may name, and the relations of the table those by which a slot may be watched.
 ///
-/// A dictionary has at most 8,388,608 bytes, a saved text and a script at most 67,108,864 each. For a dictionary of the program's
-/// own without a saved text, and for `gen N`, nothing is fetched: the shelf is as it was.
+/// A dictionary has at most 8,388,608 bytes, a saved text and a script at most 67,108,864 each. Of the shelf a dictionary's name is
+/// fetched at most, once, and then, over an accepted dictionary, the name of a saved text, once. For a dictionary of the program's
+/// own without a saved text, for `gen N`, and for words without a form nothing is fetched: the shelf is as it was.
 pub fn interview<H: Shelf, S: Source, K: Sink>(
     alloc: Global,
     words: &[String],
@@ -186,10 +187,7 @@ pub fn interview<H: Shelf, S: Source, K: Sink>(
     ensures ends { Interviewed (given_by words.now (named_checks checks.now) (named_relations table.now)
         (H.files shelf.old) (S.input script.old)) (did_by (H.files shelf.old) (H.files shelf.new) (S.input script.old)
         (S.input script.new) (K.output out.old) (K.output out.new)) result }
-    ensures unfetched { (b : BuiltIn) (asked : IsRun (texts words.now) (program b)) → asked.beginning ≡ unanswered
-        → shelf.new ≡ shelf.old }
-    ensures gen_unfetched { (n : ℕ) → IsGen (texts words.now) n → shelf.new ≡ shelf.old }
-    ensures save_unfetched { (b : BuiltIn) → IsSave (texts words.now) (program b) → shelf.new ≡ shelf.old }
+    ensures calls { Calls H.fetched (texts words.now) (named_checks checks.now) result shelf.old shelf.new }
 {
     let tables = Tables {
         checks,

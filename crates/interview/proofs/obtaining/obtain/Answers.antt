@@ -1,5 +1,4 @@
-use Rattle.std.proofs.Common.{◌≡◌, inr, refl, arith}
-use Rattle.interview.specs.Words.{file, program}
+use Rattle.std.proofs.Common.{inr, refl, arith}
 use Rattle.interview.specs.Dictionaries.{brought}
 use Rattle.interview.proofs.DictionaryLaws.{obtains_file}
 use Rattle.interview.proofs.obtaining.obtain.Goals as goal
@@ -10,7 +9,8 @@ returns-in-File g c = record {
   not_obtained = rw c.in-File.is c.fetch.ensures.not_fetched;
   kept = c.fetch.ensures.kept;
   later = c.fetch.ensures.later;
-  unfetched = λ b is. absurd (let both : file c.in-File.name.now ≡ program b = rw c.in-File.is at is in cc);
+  calls = rw c.in-File.is c.fetch.ensures.calls;
+  by_calls = rw c.in-File.is c.fetch.ensures.by_calls;
 }
 
 pub returns-in-Ok : goal.returns-in-Ok
@@ -19,5 +19,9 @@ returns-in-Ok g c = record {
   not_obtained = tt;
   kept = refl;
   later = omega arith;
-  unfetched = λ b is. refl;
+  calls = rw c.in-BuiltIn.is refl;
+  by_calls = rw c.in-BuiltIn.is refl;
 }
+
+pub returns-in-Err-clause-calls : goal.returns-in-Err-clause-calls
+returns-in-Err-clause-calls g c = rw c.in-BuiltIn.is refl

@@ -11,9 +11,10 @@ returns-in-Ok-Some g c =
     record {
       resumed = resumed_by (g.H.Shelf.files c.args.shelf.now).contents (by_carry c.args.name.now) _ (to_carry c.in-Ok-Some.bytes.items) had.0 c.carry_ready.result c.carry_ready.ensures.resumed;
       not_resumed = wants_memory (λ s. NotResumed (by_carry c.args.name.now) (g.H.Shelf.files c.args.shelf.now) (g.H.Shelf.files c.fetch_text.new.shelf) s) tt c.carry_ready.result c.carry_ready.ensures.memory;
+      calls = c.fetch_text.ensures.calls;
     }
 
 pub returns-in-Ok-None : goal.returns-in-Ok-None
 returns-in-Ok-None g c =
     let had = rw c.in-Ok-None.field-0-is at c.in-Ok-None.ensures.fetched in
-    record { resumed = (to_carry had.0, had.1, inl (had.2, refl)); not_resumed = tt }
+    record { resumed = (to_carry had.0, had.1, inl (had.2, refl)); not_resumed = tt; calls = c.fetch_text.ensures.calls }

@@ -11,9 +11,10 @@ returns-in-Ok-Some g c =
     record {
       resumed = resumed_by (g.H.Shelf.files c.args.shelf.now).contents (by_load c.args.name.now) _ (to_load c.in-Ok-Some.bytes.items) had.0 c.load_ready.result (rw c.as_slice.ensures.value at c.load_ready.ensures.resumed);
       not_resumed = wants_memory (λ s. NotResumed (by_load c.args.name.now) (g.H.Shelf.files c.args.shelf.now) (g.H.Shelf.files c.fetch_text.new.shelf) s) tt c.load_ready.result c.load_ready.ensures.memory;
+      calls = c.fetch_text.ensures.calls;
     }
 
 pub returns-in-Ok-None : goal.returns-in-Ok-None
 returns-in-Ok-None g c =
     let had = rw c.in-Ok-None.field-0-is at c.in-Ok-None.ensures.fetched in
-    record { resumed = (to_load had.0, had.1, inl (had.2, refl)); not_resumed = tt }
+    record { resumed = (to_load had.0, had.1, inl (had.2, refl)); not_resumed = tt; calls = c.fetch_text.ensures.calls }

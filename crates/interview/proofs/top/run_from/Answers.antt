@@ -11,12 +11,12 @@ run_by-requires-clause-given g c = let had = rw c.in-Ok-Begins.field-0-is at c.i
 pub returns-in-Ok-Begins : goal.returns-in-Ok-Begins
 returns-in-Ok-Begins g c =
     let had = rw c.in-Ok-Begins.field-0-is at c.in-Ok-Begins.ensures.resumed in
-    record { ends = begins_and_ends _ _ _ c.args.mode _ _ c.in-Ok-Begins.ready c.run_by.result had c.run_by.ensures; unfetched = c.resume.ensures.unfetched }
+    record { ends = begins_and_ends _ _ _ c.args.mode _ _ c.in-Ok-Begins.ready c.run_by.result had c.run_by.ensures; calls = c.resume.ensures.calls }
 
 pub returns-in-Ok-Refused : goal.returns-in-Ok-Refused
 returns-in-Ok-Refused g c =
     let had = rw c.in-Ok-Refused.field-0-is at c.in-Ok-Refused.ensures.resumed in
-    record { ends = inr (inl (had.0, had.1, (c.in-Ok-Refused.line, had.2, c.end_by_refused_line.ensures, (refl, refl)))); unfetched = c.resume.ensures.unfetched }
+    record { ends = inr (inl (had.0, had.1, (c.in-Ok-Refused.line, had.2, c.end_by_refused_line.ensures, (refl, refl)))); calls = c.resume.ensures.calls }
 
 pub returns-in-Err : goal.returns-in-Err
-returns-in-Err g c = record { ends = inr (inr (c.in-Err.ensures.not_resumed, refl, (refl, refl))); unfetched = c.resume.ensures.unfetched }
+returns-in-Err g c = record { ends = inr (inr (c.in-Err.ensures.not_resumed, refl, (refl, refl))); calls = c.resume.ensures.calls }
