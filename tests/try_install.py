@@ -56,6 +56,8 @@ int main(void) {{
   return 0;
 }}
 """
+# The functions that weren't in the first version, each with the one that brought it.
+SINCE = {name: version for version, name in re.findall(r"Since version (\d+\.\d+)\. \*/\n\w+ (fact_graph_\w+)\(", HEADER.read_text(encoding="utf-8"))}
 # The numbers of refusals that no session of the library gives: that of the plain engine, and those of a desk.
 ELSEWHERE = {15, 20, 21}
 
@@ -183,7 +185,7 @@ def names(tally: Tally, where: Installed) -> None:
     tally.judge("what the shared library asks for", " ".join(sorted(needed(shared) - SYSTEM)))
     defined = said([tool("nm"), "-D", "--defined-only", "--with-symbol-versions", "--format=posix", shared], TOP)
     exported = [line.split()[0] for line in defined.splitlines() if " A " not in line]
-    tally.expect("what the shared library exports", sorted(exported), [f"{name}@@FACT_GRAPH_1.0" for name in FUNCTIONS])
+    tally.expect("what the shared library exports", sorted(exported), [f"{name}@@FACT_GRAPH_{SINCE.get(name, '1.0')}" for name in FUNCTIONS])
     kept = said([tool("nm"), "-g", "--defined-only", "--format=posix", archive], TOP)
     tally.expect("what the archive has", sorted(re.findall(r"^(\w+) \w ", kept, re.MULTILINE)), FUNCTIONS)
     for link in (where.libraries / SONAME, where.libraries / "libfact_graph.so"):

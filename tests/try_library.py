@@ -7,8 +7,8 @@ Nothing is built but the hosts.
 
 - tests/library/sessions.c runs each script of examples/ over its dictionary with each allocation failing in turn, after which each
   call has to say the same as ever, and once more under valgrind and with the compiler's sanitizers.
-- tests/library/calls.c tries the calls beside lines in the same three ways: what a slot reads, how many changes are kept, a text that is
-  given back, and the dictionaries that come with the library.
+- tests/library/calls.c tries the calls beside lines in the same three ways: what a slot reads, the facts and their descriptions, how many
+  changes are kept, a text that is given back, and the dictionaries that come with the library.
 - tests/library/threads.c does so in eight threads at the same time, with the sanitizers.
 - tests/library/resumed.c resumes from saved texts that came from outside, under valgrind, with the sanitizers and with each allocation failing in turn.
 - tests/library/cases.c runs the stored cases of tests/rows that the library serves under valgrind and with the sanitizers, each line

@@ -29,10 +29,10 @@ extern "C" {
 
 /* The version, by semantic versioning: a host runs with each library of its major number and no lower minor one. */
 #define FACT_GRAPH_VERSION_MAJOR 1
-#define FACT_GRAPH_VERSION_MINOR 0
+#define FACT_GRAPH_VERSION_MINOR 1
 #define FACT_GRAPH_VERSION_PATCH 0
 
-/* The same as one number, for `#if FACT_GRAPH_VERSION_NUMBER >= 10200`, and as a text, "1.0.0". */
+/* The same as one number, for `#if FACT_GRAPH_VERSION_NUMBER >= 10200`, and as a text, "1.1.0". */
 #define FACT_GRAPH_VERSION_NUMBER (FACT_GRAPH_VERSION_MAJOR * 10000 + FACT_GRAPH_VERSION_MINOR * 100 + FACT_GRAPH_VERSION_PATCH)
 #define FACT_GRAPH_VERSION \
   FACT_GRAPH_DOTTED(FACT_GRAPH_VERSION_MAJOR, FACT_GRAPH_VERSION_MINOR, FACT_GRAPH_VERSION_PATCH)
@@ -163,14 +163,20 @@ uint32_t fact_graph_save(fact_graph graph, size_t *text_size, fact_graph *back);
  * FACT_GRAPH_SAID or FACT_GRAPH_NO_MEMORY. */
 uint32_t fact_graph_reads(fact_graph graph, const uint8_t *slot, size_t slot_size, size_t *text_size, fact_graph *back);
 
-/* Says the session's dictionary as JSON, laid out over lines, in version 2: `fact_graph_open` of this text opens a session over the
- * same dictionary, where the text has at most FACT_GRAPH_DICTIONARY_LIMIT bytes. Descriptions aren't kept. The session is as before.
- * Returns FACT_GRAPH_SAID or FACT_GRAPH_NO_MEMORY. */
+/* Says the session's dictionary as JSON, laid out over lines, in version 2, or in version law-1 where it has tables or an operator of
+ * that: `fact_graph_open` of this text opens a session over the same dictionary, where the text has at most
+ * FACT_GRAPH_DICTIONARY_LIMIT bytes. Of descriptions it keeps those of facts alone. The session is as before. Returns FACT_GRAPH_SAID
+ * or FACT_GRAPH_NO_MEMORY. */
 uint32_t fact_graph_dictionary(fact_graph graph, size_t *text_size, fact_graph *back);
 
 /* Says the facts of the session's dictionary, each in a line, in their order: `PATH writable TYPE` or `PATH derived TYPE`, as the
  * dictionary writes them. The session is as before. Returns FACT_GRAPH_SAID or FACT_GRAPH_NO_MEMORY. */
 uint32_t fact_graph_facts(fact_graph graph, size_t *text_size, fact_graph *back);
+
+/* Says the description of a fact, in UTF-8 and with no newline but its own. `fact` is the fact's number, from 1, by the order of
+ * `fact_graph_facts`, as a fault has it. The text is empty where the fact has no description, and where no fact has the number. The
+ * session is as before. Returns FACT_GRAPH_SAID or FACT_GRAPH_NO_MEMORY. Since version 1.1. */
+uint32_t fact_graph_description(fact_graph graph, uint32_t fact, size_t *text_size, fact_graph *back);
 
 /* Forgets all changes that can be undone but the newest `most`. What can be redone, the answers, the results, the stamps and the
  * text are as before. A host that calls it behind each line bounds what a session keeps for undo. */

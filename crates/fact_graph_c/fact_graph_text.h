@@ -23,10 +23,13 @@ static inline const char *fact_graph_text(uint32_t kind, uint32_t number) {
       case 3u:
         return "`3 Shape fact 0`: Something outside the list of facts isn't of the form: a key that isn't known or is "
                "missing, a version other than `1`, `2` and `law-1`, an enum without options or with two that are "
-               "equal, or with an option that is no name, two enums of one name. `3 Shape fact F`: The fact isn't of "
-               "the form: a key or a node that isn't known, a wrong number of operands, a number, `true` or `null` "
-               "where a text or a list belongs, a type that isn't known, a `conditional` in version 1, or in a version "
-               "before `law-1` a node that it alone has.";
+               "equal, or with an option that is no name, two enums of one name; `tables` in a version before `law-1`, "
+               "two tables of one name, more than 100 tables, or in a table a key that is no value of its type or "
+               "isn't above the one before it, a value or an `else` that is none of its type, more than 1,000 rows. `3 "
+               "Shape fact F`: The fact isn't of the form: a key or a node that isn't known, a wrong number of "
+               "operands, a number, `true` or `null` where a text or a list belongs, a type that isn't known, a "
+               "`conditional` in version 1, in a version before `law-1` a node that it alone has, or a Lookup in a "
+               "table that isn't there.";
       case 4u:
         return "There is more than the limit of: 1 facts (2,000); 2 nodes (40,000); 3 writable collections (32); 4 "
                "enums (200); 5 options of an enum (100); 6 limits of a fact (8).";

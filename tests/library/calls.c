@@ -2,8 +2,8 @@
  *
  *   calls WORDS SCRIPT
  *
- * Tries fact_graph_reads, fact_graph_dictionary, fact_graph_facts, fact_graph_keep_changes and fact_graph_trim over a dictionary of its
- * own. Then it opens a session over the dictionary that comes with the library by these words, as `year 2023`, and one over the text
+ * Tries fact_graph_reads, fact_graph_dictionary, fact_graph_facts, fact_graph_description, fact_graph_keep_changes and fact_graph_trim
+ * over a dictionary of its own. Then it opens a session over the dictionary that comes with the library by these words, as `year 2023`, and one over the text
  * that the first says of its dictionary. The replies of the first to the script are printed, and both have to end with the same answers.
  * Where it is compiled with FAILING, each allocation of each call fails in turn, and what the blocks of memory hold is counted. Exits
  * with 1 where anything isn't as the header says. */
@@ -11,14 +11,14 @@
 
 static const char dictionary[] =
     "{\"version\":\"1\",\"facts\":["
-    "{\"path\":\"/a\",\"writable\":\"Dollar\"},"
+    "{\"path\":\"/a\",\"writable\":\"Dollar\",\"description\":\"What comes in,\\nin a m\\u00f6nth.\"},"
     "{\"path\":\"/b\",\"writable\":\"Dollar\",\"placeholder\":[\"Dependency\",\"/a\"]},"
     "{\"path\":\"/s\",\"derived\":\"Dollar\",\"is\":[\"Add\",[\"Dependency\",\"/a\"],[\"Dependency\",\"/b\"],[\"Dependency\",\"/a\"]]},"
-    "{\"path\":\"/people\",\"writable\":\"Collection\"},"
+    "{\"path\":\"/people\",\"writable\":\"Collection\",\"description\":\"\"},"
     "{\"path\":\"/people/*/name\",\"writable\":\"Text\"},"
     "{\"path\":\"/people/*/wages\",\"writable\":\"Dollar\"},"
     "{\"path\":\"/people/*/share\",\"derived\":\"Dollar\",\"is\":[\"Add\",[\"Dependency\",\"../wages\"],[\"Dependency\",\"/a\"]]},"
-    "{\"path\":\"/total\",\"derived\":\"Dollar\",\"is\":[\"CollectionSum\",\"/people/*/share\"]},"
+    "{\"path\":\"/total\",\"derived\":\"Dollar\",\"is\":[\"CollectionSum\",\"/people/*/share\"],\"description\":\"refused 3 UnknownFact\"},"
     "{\"path\":\"/t\",\"derived\":\"Dollar\",\"is\":[\"Switch\","
     "[\"Case\",[\"LessThan\",[\"Dependency\",\"/a\"],[\"Dollar\",\"10\"]],[\"Dependency\",\"/b\"]],"
     "[\"Case\",[\"True\"],[\"Dependency\",\"/total\"]]]}]}";
@@ -184,6 +184,36 @@ static void says_its_dictionary(void) {
   fact_graph_close(graph);
 }
 
+/* ---- fact_graph_description */
+
+/* Asks for the description of a fact, which has to be this. The session has the same answers before and after. */
+static void description_is(fact_graph *graph, uint32_t fact, const char *due) {
+  text before = saved_text(graph);
+  size_t size = 1;
+  uint32_t how;
+  WITH_MEMORY(how = fact_graph_description(*graph, fact, &size, graph), how == FACT_GRAPH_NO_MEMORY, CHECK(size == 0), (void)0);
+  CHECK(how == FACT_GRAPH_SAID);
+  text said = whole(graph, size), after = saved_text(graph);
+  CHECK(is(said, due) && same(before, after));
+  free(before.bytes);
+  free(said.bytes);
+  free(after.bytes);
+}
+
+static void says_descriptions(void) {
+  static const char *const descriptions[] = {"What comes in,\nin a m\xc3\xb6nth.", "", "", "", "", "", "", "refused 3 UnknownFact", ""};
+  fact_graph graph = opened();
+  replies(&graph, "watch changed /s", "ok\n");
+  replies(&graph, "set /a 5", "ok\nwatch changed /s\n");
+  for (uint32_t k = 0; k < sizeof descriptions / sizeof descriptions[0]; k++) description_is(&graph, k + 1, descriptions[k]);
+  description_is(&graph, 0, "");
+  description_is(&graph, 10, "");
+  description_is(&graph, UINT32_MAX, "");
+  replies(&graph, "stamp /s", "stamp 1\n");
+  replies(&graph, "undo", "ok\nwatch changed /s\n");
+  fact_graph_close(graph);
+}
+
 /* ---- fact_graph_keep_changes */
 
 static void keeps_changes(size_t most, int undone, const char *first_undo) {
@@ -314,6 +344,7 @@ static void goes_on_when_over(void) {
   text listed = said_by(fact_graph_facts, &graph);
   CHECK(is(listed, facts));
   free(listed.bytes);
+  description_is(&graph, 8, "refused 3 UnknownFact");
   fact_graph_keep_changes(graph, 0, &graph);
   fact_graph_trim(graph, &graph);
   CHECK(is_empty(&graph));
@@ -356,6 +387,7 @@ int main(int count, char **words) {
   reads_no_slot();
   reads_change_nothing();
   says_its_dictionary();
+  says_descriptions();
   keeps_changes(0, 0, "refused 13 NothingToUndo\n");
   keeps_changes(1, 0, "ok\n");
   keeps_changes(4, 0, "ok\n");

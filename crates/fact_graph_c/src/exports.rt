@@ -6,7 +6,7 @@ ghost use Rattle.fact_graph_c.specs.Calls.{AnswersCall, BeginsCall, KeepsChanges
 ghost use Rattle.fact_graph_c.specs.Faults.{fault_numbers, plain};
 ghost use Rattle.fact_graph_c.specs.Openings.{Carries, Loads, NotBrought, NotCarried, NotLoaded, NotOpened, Opens, OpensBuiltIn, Resumes};
 ghost use Rattle.fact_graph_c.specs.Outcomes.{outcome_number};
-ghost use Rattle.fact_graph_c.specs.Printing.{IsDictionaryText, IsFactsText};
+ghost use Rattle.fact_graph_c.specs.Printing.{IsDescription, IsDictionaryText, IsFactsText};
 ghost use Rattle.fact_graph_c.specs.Reading.{IsReads};
 ghost use Rattle.fact_graph_c.specs.Saving.{IsSaved};
 
@@ -16,7 +16,7 @@ use crate::engine::Engine;
 use crate::fault::{Fault, NotBegun, fault_of, no_fault};
 use crate::handle::Handle;
 use crate::outcome::{Outcome, number_of};
-use crate::printing::{say_dictionary, say_facts};
+use crate::printing::{say_description, say_dictionary, say_facts};
 use crate::reading::say_reads;
 use crate::saving::save_answers;
 use crate::session_slot::{SessionSlot, keep};
@@ -229,12 +229,27 @@ pub extern "C" fn fact_graph_facts(
     hand_back(engine, outcome, text_size, back)
 }
 
+/// Says the description of a fact.
+#[unsafe(no_mangle)]
+pub extern "C" fn fact_graph_description(
+    graph: Handle,
+    fact: u32,
+    text_size: &mut usize,
+    back: &mut SessionSlot,
+) -> u32
+    ensures { SaysCall (IsDescription (rules_of graph.value) fact) graph.value text_size.new back.new.value result }
+{
+    let mut engine = graph.into_box();
+    let outcome = say_description(&mut engine, fact);
+    hand_back(engine, outcome, text_size, back)
+}
+
 /// The version of the library as one number: 10,000 times its first part, 100 times its second, and its third.
 #[unsafe(no_mangle)]
 pub extern "C" fn fact_graph_version() -> u32
-    ensures { result ≡ 10000 }
+    ensures { result ≡ 10100 }
 {
-    10_000
+    10_100
 }
 
 /// Keeps the newest changes, so many at most: those before them can't be undone any more.

@@ -1,0 +1,18 @@
+use Rattle.std.proofs.Common.{◌≡◌, subst, ◌∙◌}
+use Rattle.fact_graph_c.specs.Answering.{rules_of}
+use Rattle.fact_graph_c.specs.declared.engine.Engine.{Engine}
+use Rattle.fact_graph_c.specs.Printing.{IsDescription}
+use Rattle.fact_graph_c.specs.Saying.{Says}
+use Rattle.fact_graph_c.proofs.exports.fact_graph_description.Goals as goal
+
+pub returns : goal.returns
+returns c =
+    let engine : c.deref_mut.result.now ≡ c.args.graph.value = c.deref_mut.ensures.value ∙ c.into_box-engine.ensures in
+    record {
+      new = c.say_description-outcome.new.engine;
+      outcome = c.say_description-outcome.result;
+      says = subst (λ (e : Engine). Says (IsDescription (rules_of e) c.args.fact) e c.say_description-outcome.new.engine c.say_description-outcome.result) engine c.say_description-outcome.ensures;
+      back = c.hand_back.ensures.back;
+      number = c.hand_back.ensures.number;
+      size = c.hand_back.ensures.size;
+    }
