@@ -29,7 +29,7 @@ from .explanation import Explanation, Missing
 from .session import Dropped, Session, Watch
 from .values import Answer, Kind, Result, Value
 
-__version__ = "1.0.0"
+__version__ = "1.1.0"
 
 __all__ = [
     "Answer",

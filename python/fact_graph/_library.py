@@ -71,6 +71,7 @@ class Library:  # pylint: disable=too-many-instance-attributes # a function each
         self.reads: Call = function("reads", c_uint32, graph, *text, at, at)
         self.dictionary: Call = function("dictionary", c_uint32, graph, at, at)
         self.facts: Call = function("facts", c_uint32, graph, at, at)
+        self.description: Call = function("description", c_uint32, graph, c_uint32, at, at)
         self.keep_changes: Callable[..., None] = function("keep_changes", None, graph, c_size_t, at)
         self.trim: Callable[..., None] = function("trim", None, graph, at)
         self.read: Call = function("read", c_size_t, graph, c_size_t, at, c_size_t, at)

@@ -1,4 +1,4 @@
-"""Which texts are values of a type, in a dictionary and in a script.
+"""Which texts are values of a type, in a dictionary and in a script, and by what number they are ordered.
 
     >>> misspelt("Dollar", "2.5")
     'a Dollar is an optional `-`, 1 to 13 digits, and a point with exactly two digits or neither'
@@ -10,7 +10,11 @@ from __future__ import annotations
 import re
 import unicodedata
 from datetime import date
+from fractions import Fraction
 from math import gcd
+from typing import Union
+
+Number = Union[int, Fraction]
 
 RULES = {
     "Boolean": "a Boolean is `true` or `false`",
@@ -34,6 +38,19 @@ def misspelt(kind: str, text: str) -> str | None:
     """Why a text is no value of this type, or None where it is one."""
     reasons = {"Int": _int, "Dollar": _dollar, "Rational": _rational, "Day": _day, "Text": _text, "Boolean": _boolean}
     return reasons[kind](text)
+
+
+def number_of(kind: str, text: str) -> Number:
+    """The number of a value of an ordered type, by its text: of an amount its cents, of a day its place in the calendar.
+
+    >>> number_of("Dollar", "-0.50"), number_of("Rational", "2/4"), number_of("Int", "007")
+    (-50, Fraction(1, 2), 7)
+    """
+    if kind == "Day":
+        return date.fromisoformat(text).toordinal()
+    if kind == "Dollar":
+        return int(Fraction(text) * 100)
+    return Fraction(text) if kind == "Rational" else int(text)
 
 
 def _boolean(text: str) -> str | None:

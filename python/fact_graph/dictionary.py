@@ -1,10 +1,12 @@
-"""What a dictionary says of its facts, for those who show them: types, limits, lists of options, descriptions."""
+"""What a dictionary says of its facts, for those who show them: types, limits, lists of options, tables, descriptions."""
 
 from __future__ import annotations
 
 import json
 from dataclasses import dataclass
 from typing import Any, NamedTuple
+
+from .values import READERS, Answer, Value
 
 
 class FactType(NamedTuple):
@@ -99,8 +101,53 @@ class Fact(NamedTuple):
         return collection_of(self.path)
 
 
+class Table(NamedTuple):
+    """A table: its name, the types of its keys and of its values, its rows as pairs of texts, and the text of the value below the first.
+
+    >>> aid = Table("mostAid", FactType("Int"), FactType("Dollar"), (("1", "291"), ("2", "535")), "0", "")
+    >>> [aid.value(size) for size in (0, 1, 2, 9)]
+    [Decimal('0'), Decimal('291'), Decimal('535'), Decimal('535')]
+    """
+
+    name: str
+    keys: FactType
+    values: FactType
+    rows: tuple[tuple[str, str], ...]
+    otherwise: str
+    description: str
+
+    @classmethod
+    def stated(cls, stated: dict[str, Any]) -> Table:
+        """Of its object in a dictionary that has no fault.
+
+        >>> Table.stated({"name": "t", "from": "Int", "to": "Text", "rows": [["1", "a"]], "else": "b"}).rows
+        (('1', 'a'),)
+        """
+        keys, values = FactType.of_text(stated["from"]), FactType.of_text(stated["to"])
+        rows = tuple((key, value) for key, value in stated["rows"])
+        return cls(stated["name"], keys, values, rows, stated["else"], stated.get("description", ""))
+
+    def row(self, key: Answer) -> int:
+        """The number of the row to which a key leads, from 1: the last whose own key is at most it; 0 where it is below them all.
+
+        >>> Table("t", FactType("Int"), FactType("Text"), (("1", "a"), ("5", "b")), "", "").row(4)
+        1
+        """
+        read: Any = READERS[self.keys.name]
+        return sum(read(own) <= key for own, _ in self.rows)
+
+    def value(self, key: Answer) -> Value:
+        """What a key comes to.
+
+        >>> Table("t", FactType("Int"), FactType("Text"), (("1", "a"), ("5", "b")), "none", "").value(0)
+        'none'
+        """
+        row = self.row(key)
+        return READERS[self.values.name](self.rows[row - 1][1] if row else self.otherwise)
+
+
 class Dictionary(NamedTuple):
-    """A dictionary that was accepted: its facts by their paths, in its order, and its lists of options by their names.
+    """A dictionary that was accepted: its facts by their paths, in its order, and its lists of options and tables by their names.
 
     >>> from fact_graph import Session
     >>> dictionary = Session.open("screener.json").dictionary
@@ -110,11 +157,14 @@ class Dictionary(NamedTuple):
     ('rents', 'owns', 'other')
     >>> [path for path, fact in dictionary.facts.items() if fact.has_placeholder]
     ['/savings']
+    >>> dictionary.tables
+    {}
     """
 
     facts: dict[str, Fact]
     options: dict[str, tuple[str, ...]]
     description: str
+    tables: dict[str, Table]
 
     @classmethod
     def of_json(cls, text: bytes) -> Dictionary:
@@ -128,6 +178,7 @@ class Dictionary(NamedTuple):
             {fact["path"]: _fact(fact) for fact in stated["facts"]},
             {enum["name"]: tuple(enum["options"]) for enum in stated.get("enums", [])},
             stated.get("description", ""),
+            {table["name"]: Table.stated(table) for table in stated.get("tables", [])},
         )
 
     def fact_at(self, slot: str) -> Fact:

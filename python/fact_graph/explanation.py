@@ -119,8 +119,9 @@ class Explanation:  # pylint: disable=too-many-instance-attributes # what a sess
             yield level, here
             ahead += [(level + 1, it) for it in reversed(here.children)]
 
-    def lines(self, shown: Callable[[str], str] = str) -> Iterator[str]:
-        """The lines of the text, indented by their levels. `shown` is applied to each result, and may colour it.
+    def lines(self, shown: Callable[[str], str] = str, noted: Callable[[Explanation], Iterable[str]] = lambda _: ()) -> Iterator[str]:
+        """The lines of the text, indented by their levels. `shown` is applied to each result, and may colour it; what `noted` has of a
+        slot is told in brackets behind its result.
 
         >>> from fact_graph import Session
         >>> for line in Session.open("three.json").why("/s").lines(str.upper):
@@ -133,7 +134,8 @@ class Explanation:  # pylint: disable=too-many-instance-attributes # what a sess
         for level, it in self.levels():
             description = "" if it.slot in told else CONTROLS.sub(" ", it.description).strip()
             told.add(it.slot)
-            yield f"{'  ' * level}{it.slot} {shown(it.said)}{_notes(it)}" + (f"  # {description}" if description else "")
+            notes = "".join(f" ({note})" for note in (*noted(it), *_notes(it)))
+            yield f"{'  ' * level}{it.slot} {shown(it.said)}{notes}" + (f"  # {description}" if description else "")
 
     def __str__(self) -> str:
         return "\n".join(self.lines())
@@ -165,11 +167,11 @@ def _row(it: Explanation) -> _Row:
     return _OWN(it), len(it.children)
 
 
-def _notes(it: Explanation) -> str:
+def _notes(it: Explanation) -> Iterator[str]:
     """What a line says behind the result."""
     ends = it.below and not it.children and not it.is_above
     notes = {"override": it.is_overridden, "missing": it.is_missing, "above": it.is_above, f"reads {len(it.below)}": ends}
-    return "".join(f" ({note})" for note, is_so in notes.items() if is_so)
+    return (note for note, is_so in notes.items() if is_so)
 
 
 def _grown(rows: Sequence[_Row]) -> Explanation:
@@ -295,7 +297,7 @@ class Walk:
             is_final = result.kind == "complete" and self.session.final(slot) is not None
             # a slot that is overridden reads none
             is_overridden = not fact.is_writable and not self._below(slot) and slot in self._overridden
-            description = self.session.dictionary.facts[path].description
+            description = self.session.description(path)
             self._own[slot] = slot, fact.type, result, is_final, is_overridden, slot in self.missing, description
         return self._own[slot]
 

@@ -15,7 +15,7 @@ from .located import Pointer
 
 
 class Form(NamedTuple):
-    """What stands behind the name of a node: each part is an `operand`, a `path`, a `text` or a `case`."""
+    """What stands behind the name of a node: each part is an `operand`, a `path`, a `text`, a `table` or a `case`."""
 
     parts: tuple[str, ...]
     more: bool = False
@@ -56,6 +56,7 @@ def _forms() -> Iterator[tuple[str, Form]]:
         ("RoundUp RoundDown RoundNearest", Form((operand, operand))),
         ("Equal NotEqual LessThan LessThanOrEqual GreaterThan GreaterThanOrEqual", Form((operand, operand))),
         ("Filter Find", Form((path, operand))),
+        ("Lookup", Form(("table", operand))),
     ):
         for name in names.split():
             yield name, form
@@ -67,7 +68,7 @@ NODES = dict(_forms())
 LAW = "law-1"
 VERSIONS = ("1", "2", LAW)
 """The versions of dictionaries. Each has what those before it have."""
-OF_LAW = frozenset("AddMonths AddYears DaysBetween AgeOn MonthOf DayOf RoundUp RoundDown RoundNearest".split())
+OF_LAW = frozenset("AddMonths AddYears DaysBetween AgeOn MonthOf DayOf RoundUp RoundDown RoundNearest Lookup".split())
 """The nodes that the last version alone has."""
 
 

@@ -111,7 +111,7 @@ class Misstated(NamedTuple):
 def misstated(stated: Any, dictionary: Dictionary) -> Iterator[Misstated]:
     """What is wrong with what is stated of a page over a dictionary.
 
-    >>> nothing = Dictionary({}, {}, "")
+    >>> nothing = Dictionary({}, {}, "", {})
     >>> [(it.reason, it.hint) for it in misstated({"titel": "Help"}, nothing)]
     [('a page has no key `titel`', '`title` is like it')]
     """

@@ -15,15 +15,15 @@ import json
 from collections.abc import Iterator
 from typing import Any
 
-from .dictionary import Dictionary
+from .dictionary import Dictionary, FactType, Table
 from .expressions import FactTree, Node, fact_tree
 from .rules.comments import Notes
 from .rules.declared import Declared, Scope
 from .rules.layout import laid
-from .rules.nodes import Printer
+from .rules.nodes import Printer, entry_text
 from .uses import WITH_CONDITION, Uses, collection_of, home_of, item_of, type_of
 
-__all__ = ["FactTree", "Node", "Rulebook", "cases_of", "home_of"]
+__all__ = ["FactTree", "Node", "Rulebook", "Table", "cases_of", "home_of", "row_words", "type_words", "value_words"]
 
 MOST_SHOWN = 100
 
@@ -87,6 +87,33 @@ class Rulebook:
 
         for root in tree.roots:
             yield from below(root, None)
+
+
+def row_words(table: Table, row: int) -> str:
+    """A row of a table as people read it, by its number from 1; of 0 what stands below the first.
+
+    >>> aid = Table("mostAid", FactType("Int"), FactType("Dollar"), (("1", "291"), ("2", "535")), "0", "")
+    >>> row_words(aid, 2), row_words(aid, 0)
+    ('from 2: $535', 'otherwise $0')
+    """
+    if row == 0:
+        return f"otherwise {value_words(table, table.otherwise)}"
+    key, value = table.rows[row - 1]
+    return f"from {entry_text(table.keys.name, key)}: {value_words(table, value)}"
+
+
+def value_words(table: Table, text: str) -> str:
+    """A value of a table as people read it."""
+    return entry_text(type_words(table.values), text)
+
+
+def type_words(stated: FactType) -> str:
+    """A type as it is written.
+
+    >>> type_words(FactType("Enum", "tenure")), type_words(FactType("Dollar"))
+    ('Enum(tenure)', 'Dollar')
+    """
+    return f"{stated.name}({stated.of})" if stated.of else stated.name
 
 
 def cases_of(node: Node) -> Iterator[tuple[Node, Node]]:

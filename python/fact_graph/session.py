@@ -15,7 +15,7 @@ from typing import Any, NamedTuple, NoReturn
 from ._answering import answering
 from ._library import NO_MEMORY, OVER, SAID, Fault, last_text, library
 from .dictionary import Dictionary, ListedFact, path_of
-from .errors import FactGraphError, OutOfMemory, Refused, SessionBusy, SessionClosed, SessionForked
+from .errors import FactGraphError, OutOfMemory, Refused, SessionBusy, SessionClosed, SessionForked, UnknownSlot
 from .explanation import Explanation, Missing, Walk
 from .values import KINDS, READERS, Answer, Result, Value, text_of, text_of_int
 
@@ -197,6 +197,7 @@ class Session:  # pylint: disable=too-many-instance-attributes # what its calls 
         self.dropped = tuple(map(Dropped.of_line, self._text().decode().splitlines()))
         self.source = self._say_all(calls.dictionary) if dictionary is None else dictionary
         self._facts = {fact.path: fact for fact in map(ListedFact.of_line, self._say_all(calls.facts).decode().splitlines())}
+        self._numbers = {path: number for number, path in enumerate(self._facts, 1)}
         self._readers = {path: READERS[fact.type.name] for path, fact in self._facts.items()}
         _sessions.add(self)
 
@@ -550,6 +551,18 @@ class Session:  # pylint: disable=too-many-instance-attributes # what its calls 
         ['/wages', '/means', '/most', '/help']
         """
         return dict(self._facts)
+
+    def description(self, slot: str) -> str:
+        """What a fact is, in words for people, by its path or by a slot of it; empty where its dictionary doesn't say it.
+
+        >>> session = Session.open("screener.json")
+        >>> session.description("/bill"), session.description("/tenure")
+        ('The heating bill of a year.', '')
+        """
+        number = self._numbers.get(slot) or self._numbers.get(path_of(slot))
+        if number is None:
+            raise UnknownSlot(3, "UnknownFact")
+        return self._say_all(library().description, number).decode()
 
     # ---- the whole
 

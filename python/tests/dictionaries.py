@@ -56,6 +56,12 @@ PARTS = ("YearOf", "MonthOf", "DayOf")
 BETWEEN = ("DaysBetween", "AgeOn")
 DAYS = [("Day", "Day")]
 LATER = ("AddDays", "AddMonths", "AddYears")
+# By a type by which a table goes, keys that rise.
+KEYS = {
+    "Int": ("-999999999999999", "-1", "-0", "1", "2", "012", "999999999999999"),
+    "Dollar": ("-9999999999999.99", "-1.00", "0", "0.01", "1", "12.34", "9999999999999.99"),
+    "Day": ("1800-01-01", "2024-02-29", "2024-03-01", "2025-01-01", "2199-12-31"),
+}
 
 
 class Made(NamedTuple):
@@ -78,6 +84,14 @@ class Made(NamedTuple):
     def base(self, word: str) -> str:
         """The collection that its type, of this word, is of; an empty text where it is of another word."""
         return self.type.removeprefix(word)[1:-1] if self.type.startswith(f"{word}(") else ""
+
+
+class Tabled(NamedTuple):
+    """A table that was made: its name, the type of its keys, and that of its values."""
+
+    name: str
+    keys: str
+    values: str
 
 
 class Scope(NamedTuple):
@@ -121,10 +135,19 @@ class Maker:
 
     def __init__(self, draw: Callable[..., Any]) -> None:
         self.draw = draw
+        self.tables: list[Tabled] = []
 
     def one_of(self, them: Any) -> Any:
         """Any of these."""
         return self.draw(st.sampled_from(list(them)))
+
+    def table(self, number: int) -> dict[str, Any]:
+        """A table of a few rows, which expressions may use from then on."""
+        made = Tabled(f"t{number}", self.one_of(KEYS), self.one_of(PLAIN))
+        keys = self.draw(st.lists(st.sampled_from(KEYS[made.keys]), unique=True, max_size=len(KEYS[made.keys])))
+        rows = [[key, self.one_of(CONSTANTS[made.values])] for key in sorted(keys, key=KEYS[made.keys].index)]
+        self.tables.append(made)
+        return {"name": made.name, "from": made.keys, "to": made.values, "rows": rows, "else": self.one_of(CONSTANTS[made.values])}
 
     def expression(self, wanted: str, scope: Scope, depth: int = 0) -> Expression | None:
         """An expression of a type; None where there is none in the scope."""
@@ -181,6 +204,9 @@ class Maker:
     def nodes(self, wanted: str, scope: Scope, depth: int) -> list[Callable[[], Expression | None]]:
         """What makes an expression with operands."""
         makers: list[Callable[[], Expression | None]] = [lambda: self.switch(wanted, scope, depth)]
+        tables = [table for table in self.tables if table.values == wanted]
+        if tables:
+            makers += [lambda: self.lookup(self.one_of(tables), scope, depth)] * 2
         word, _, base = wanted.partition("(")
         if word in ("Collection", "Item") and not scope.tested:
             makers.append(lambda: self.picked("Filter" if word == "Collection" else "Find", base[:-1], scope, depth))
@@ -199,6 +225,10 @@ class Maker:
         if wanted == "Day":
             makers.append(lambda: self.pair(self.one_of(LATER), [("Day", "Int")], scope, depth))
         return makers
+
+    def lookup(self, table: Tabled, scope: Scope, depth: int) -> Expression:
+        """A row of a table."""
+        return ["Lookup", table.name, self.sure(table.keys, scope, depth)]
 
     def several(self, wanted: str, scope: Scope, depth: int, least: int) -> list[Expression]:
         """Some operands of a type."""
@@ -273,6 +303,7 @@ class Maker:
 def dictionaries(draw: Callable[..., Any]) -> str:
     """The text of a dictionary that is accepted."""
     maker = Maker(draw)
+    tables = [maker.table(number) for number in range(draw(st.integers(0, 3)))]
     stated: list[dict[str, Any]] = [{"path": path, "writable": "Collection"} for path in COLLECTIONS[: draw(st.integers(0, 2))]]
     made = [Made(fact["path"], f"Collection({fact['path']})") for fact in stated]
     for number in range(draw(st.integers(2, 14))):
@@ -282,5 +313,5 @@ def dictionaries(draw: Callable[..., Any]) -> str:
             stated.append(added[1])
     enums = [{"name": name, "options": options} for name, options in OPTIONS.items()]
     facts = draw(st.permutations(stated))
-    is_of_law = any(f'"{name}"' in json.dumps(facts) for name in OF_LAW)
-    return json.dumps({"version": LAW if is_of_law else "2", "enums": enums, "facts": facts})
+    is_of_law = tables or any(f'"{name}"' in json.dumps(facts) for name in OF_LAW)
+    return json.dumps({"version": LAW if is_of_law else "2", "enums": enums, **({"tables": tables} if tables else {}), "facts": facts})

@@ -3,10 +3,12 @@ session that random commands are held to says the same."""
 
 from __future__ import annotations
 
+import json
 from collections.abc import Callable, Iterator
 from pathlib import Path
 
 import pytest
+from oracle.refusing import refused
 from oracle.session import Session as Plain
 from run_rows import first_difference
 from stored_cases import Malformed, Served, also, cases_of, files_of_cases, served
@@ -97,3 +99,12 @@ def test_the_plain_session_has_the_stored_replies(path: Path) -> None:
         session = Plain(case.dictionary)
         text = "".join(map(session.line, case.case.script.split(b"\n")))
         assert text.encode() == case.case.due, case.case.place
+
+
+@pytest.mark.parametrize("path", [path for path in FILES if path.stem == "tables"], ids=lambda path: str(path.name))
+def test_the_plain_rules_refuse_the_same_tables(path: Path) -> None:
+    count = 0
+    for count, case in enumerate(cases(path), 1):
+        due, said = case.case.due.decode(), refused(json.loads(case.dictionary))
+        assert due == f"{said}\n" if said else not due.startswith("dictionary refused 3 "), case.case.place
+    assert count > 1

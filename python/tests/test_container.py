@@ -3,6 +3,7 @@
 from __future__ import annotations
 
 import copy
+import json
 import pickle
 import signal
 import threading
@@ -88,6 +89,20 @@ def test_the_library_lists_the_facts(screener: Session) -> None:
     facts.clear()
     screener.close()
     assert screener.facts()["/people/*/born"].collection == "/people"
+
+
+def test_the_library_says_descriptions(screener: Session) -> None:
+    for path, fact in screener.dictionary.facts.items():
+        assert screener.description(path) == fact.description
+    assert screener.description("/people/#2/wages") == screener.description("/people/*/wages")
+    for slot in ("/nowhere", "/people/#2/nowhere", "/bill ", ""):
+        with pytest.raises(UnknownSlot, match="refused 3 UnknownFact"):
+            screener.description(slot)
+    stated = json.dumps({"version": "1", "facts": [{"path": "/a", "writable": "Text", "description": "refused 1 \0\n\u20ac"}]})
+    with Session(stated) as session:
+        assert session.description("/a") == "refused 1 \0\n\u20ac"
+    with pytest.raises(SessionClosed):
+        session.description("/a")
 
 
 def test_members_may_be_added_while_slots_are_gone_through(screener: Session) -> None:

@@ -16,6 +16,7 @@ from fact_graph.coverage.measuring import Reading
 from fact_graph.coverage.probes import Probes
 from fact_graph.rulebook import Rulebook
 
+from .dictionaries import CONSTANTS
 from .interviews import Interview, interviews
 
 SLOWLY = settings(max_examples=60, deadline=None, suppress_health_check=list(HealthCheck))
@@ -68,7 +69,7 @@ def test_what_is_read_is_what_the_engine_reads(interview: Interview) -> None:
 @SLOWLY
 @given(interviews())
 def test_what_is_not_reached_does_not_matter(interview: Interview) -> None:
-    """A case that isn't taken, and a placeholder that doesn't stand in, may be any other: no figure that is due moves."""
+    """A case that isn't taken, a placeholder that doesn't stand in, and a row that isn't read, may be any other: no figure that is due moves."""
     rulebook = Rulebook(interview.dictionary)
     probes = Probes(rulebook)
     sessions = [answered(text, interview.lines) for text in probes.texts()]
@@ -79,6 +80,10 @@ def test_what_is_not_reached_does_not_matter(interview: Interview) -> None:
             for part, at, point in replaceable(fact, rulebook):
                 if point not in reading.reached:
                     part[at] = ["Switch", ["Case", ["False"], part[at]]]
+        for table in other.get("tables", []):
+            for part, at, row in entries(table):
+                if Point(table["name"], "row", row) not in reading.reached:
+                    part[at] = next(text for text in CONSTANTS[table["to"]] if text != part[at])
         with answered(json.dumps(other).encode(), interview.lines) as changed:
             assert changed.get(slot) == sessions[0].get(slot)
 
@@ -95,6 +100,11 @@ def replaceable(fact: dict[str, Any], rulebook: Rulebook) -> list[tuple[Any, Any
         if node is rulebook.trees[fact["path"]].placeholder:
             found.append((fact, "placeholder", Point(fact["path"], "placeholder", node.number)))
     return found
+
+
+def entries(table: dict[str, Any]) -> list[tuple[Any, Any, int]]:
+    """The values of a table, each with the number of its row, which is 0 of what stands below the first."""
+    return [(table, "else", 0), *((row, 1, at) for at, row in enumerate(table["rows"], 1))]
 
 
 class AsTheyAre(Names):
@@ -169,9 +179,57 @@ def test_points_that_a_case_reaches(said: str, due: str, reached: set[str]) -> N
     assert {told(point) for point in coverage.reached} == reached
 
 
+OF_TABLES = """{"version":"law-1","tables":[
+  {"name":"t","from":"Int","to":"Int","rows":[["1","10"],["5","50"],["9","90"]],"else":"0"},
+  {"name":"d","from":"Day","to":"Boolean","rows":[["2024-01-01","true"]],"else":"false"},
+  {"name":"u","from":"Dollar","to":"Text","rows":[["0.01","a"]],"else":"b"}],"facts":[
+  {"path":"/n","writable":"Int","limits":[["Min","1"],["Max","8"]],"placeholder":["Int","1"]},
+  {"path":"/day","writable":"Day"},
+  {"path":"/x","derived":"Int","is":["Lookup","t",["Dependency","/n"]]},
+  {"path":"/y","derived":"Int","is":["Lookup","t",["Add",["Dependency","/n"],["Int","1"]]]},
+  {"path":"/z","derived":"Boolean","is":["Any",["Lookup","d",["Dependency","/day"]],["Equal",["Dependency","/n"],["Int","1"]]]},
+  {"path":"/a","derived":"Text","is":["Lookup","u",["Dollar","0"]]},
+  {"path":"/c","writable":"Collection"},
+  {"path":"/c/*/m","writable":"Int"},
+  {"path":"/c/*/ahead","derived":"Item(/c)","is":["Find","/c",
+    ["LessThan",["Int","10"],["Lookup","t",["Subtract",["Dependency","m"],["Dependency","../m"]]]]]},
+  {"path":"/large","derived":"Collection(/c)","is":["Filter","/c",["LessThan",["Int","10"],["Lookup","t",["Dependency","m"]]]]},
+  {"path":"/huge","derived":"Collection(/c)","is":["Filter","/c",["LessThan",["Int","50"],["Lookup","t",["Add",["Dependency","m"],["Int","1"]]]]]}]}"""
+
+ROWS: tuple[tuple[str, str, str, set[str]], ...] = (
+    ("a row that an answer leads to", "given: {/n: 4}", "due: {/x: 10}", {"t #1"}),
+    ("a row that a placeholder leads to", "given: {}", "due: {/x: placeholder 10}", {"t #1"}),
+    ("no row, where nothing leads to one", "given: {}", "due: {/z: incomplete}", set()),
+    ("a row that a sum leads to", "given: {/n: 4}", "due: {/y: 50}", {"t #2"}),
+    ("a row by a day, and what stands below the first", "given: {/n: 1, /day: 2023-12-31}", "due: {/z: true}", {"d #0"}),
+    ("what stands below the first, by a constant", "given: {}", "due: {/a: b}", {"u #0"}),
+    ("a row for each member that is tested", "given: {/c: {p: {m: 0}, q: {m: 1}, r: {m: 9}}}", "due: {/large: [r]}", {"t #0", "t #1", "t #3"}),
+    ("a row by a sum for each member", "given: {/c: {p: {m: -1}, q: {m: 8}}}", "due: {/huge: [q]}", {"t #0", "t #3"}),
+    ("rows by what lies between two members", "given: {/c: {p: {m: 1}, q: {m: 2}, r: {m: 7}}}", "due: {/c/p/ahead: r}", {"t #0", "t #1", "t #2"}),
+    ("nothing for no member", "given: {/c: []}", "due: {/large: []}", set()),
+)
+
+
+@pytest.mark.parametrize("said, due, reached", [row[1:] for row in ROWS], ids=[row[0] for row in ROWS])
+def test_rows_that_a_case_reaches(said: str, due: str, reached: set[str]) -> None:
+    """Each was worked out by hand."""
+    coverage = measure(OF_TABLES.encode(), read_cases("a.yaml", f"cases: [{{title: one, {said}, {due}}}]".encode()))
+    assert {told(point) for point in coverage.reached if point.kind == "row"} == reached
+
+
+def test_rows_that_no_limit_lets_in_are_no_points() -> None:
+    """What stands below the first row counts where a key can lead there, and so each row."""
+    coverage = measure(OF_TABLES.encode(), [])
+    assert {name: [told(point) for point in coverage.points[name]] for name in ("t", "d", "u")} == {
+        "t": ["t #0", "t #1", "t #2", "t #3"], "d": ["d #0", "d #1"], "u": ["u #0"],
+    }  # fmt: skip
+
+
 def told(point: Point) -> str:
-    """A point in few words."""
-    return " ".join(str(part) for part in (point.fact, point.kind, point.node or None, point.value) if part is not None)
+    """A point in few words: of a row, the table and the number."""
+    if point.kind == "row":
+        return f"{point.of} #{point.at}"
+    return " ".join(str(part) for part in (point.of, point.kind, point.at or None, point.value) if part is not None)
 
 
 def test_all_points_count() -> None:

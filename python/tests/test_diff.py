@@ -55,6 +55,49 @@ def test_options() -> None:
     assert [f"{it.of}: {it.words}" for it in changes(rulebook(S, ["x", "y"]), rulebook(S, ["y", "z"]))] == ["enum e: x is gone, z is new"]
 
 
+TABLE: dict[str, Any] = {"name": "t", "from": "Int", "to": "Dollar", "rows": [["1", "291"], ["2", "535"]], "else": "0"}
+TABLES: tuple[tuple[str, dict[str, Any], list[str]], ...] = (
+    ("nothing", TABLE, []),
+    ("a value written otherwise, and a key", {**TABLE, "rows": [["01", "291.00"], ["2", "535"]], "else": "0.00"}, []),
+    ("a value", {**TABLE, "rows": [["1", "292"], ["2", "535"]]}, ["table t: from 1: $291 becomes $292"]),
+    ("what stands below the first", {**TABLE, "else": "23.00"}, ["table t: otherwise $0 becomes $23.00"]),
+    (
+        "rows",
+        {**TABLE, "rows": [["-1", "5"], ["2", "536"], ["3", "700"]]},
+        ["table t: from -1: $5 is new", "table t: from 1: $291 is gone", "table t: from 2: $535 becomes $536", "table t: from 3: $700 is new"],
+    ),
+    ("values of another type", {**TABLE, "to": "Int"}, [
+        "table t: Int to Dollar becomes Int to Int", "table t: otherwise $0 becomes 0", "table t: from 1: $291 becomes 291",
+        "table t: from 2: $535 becomes 535",
+    ]),
+    ("keys of another type", {**TABLE, "from": "Dollar"}, ["table t: Int to Dollar becomes Dollar to Dollar"]),
+    ("keys of another type, in other rows", {**TABLE, "from": "Dollar", "rows": []}, [
+        "table t: Int to Dollar becomes Dollar to Dollar", "table t: the rows are others",
+    ]),
+    ("a description", {**TABLE, "description": "By size."}, ["table t: description: none becomes By size."]),
+    ("a name", {**TABLE, "name": "u"}, ["table t: is gone", "table u: is new: Int to Dollar, otherwise $0, 2 rows"]),
+)  # fmt: skip
+
+
+def tabled(table: dict[str, Any]) -> Rulebook:
+    """Rules with this table."""
+    return Rulebook(json.dumps({"version": "law-1", "tables": [table], "facts": [A]}).encode())
+
+
+@pytest.mark.parametrize("new, words", [row[1:] for row in TABLES], ids=[row[0] for row in TABLES])
+def test_what_differs_in_a_table(new: dict[str, Any], words: list[str]) -> None:
+    """Each row by its key, from what to what."""
+    assert [f"{it.of}: {it.words}" for it in changes(tabled(TABLE), tabled(new))] == words
+
+
+def test_a_rule_that_reads_a_table_now() -> None:
+    """It is told as it is read."""
+    old, new = ({**S, "is": node} for node in (["Int", "1"], ["Lookup", "t", ["Add", ["Dependency", "/a"], ["Int", "1"]]]))
+    table = {**TABLE, "to": "Int"}
+    before, after = (Rulebook(json.dumps({"version": "law-1", "tables": [table], "facts": [A, fact]}).encode()) for fact in (old, new))
+    assert [f"{it.of}: {it.words}" for it in changes(before, after)] == ["/s: 1 becomes t for (/a + 1)"]
+
+
 DIFFERENCE = """\
 enum outcome
   half is gone, quarter is new

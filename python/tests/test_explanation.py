@@ -17,7 +17,7 @@ from hypothesis import given
 from oracle.session import Session as Plain
 
 from fact_graph import Explanation, Missing, Session, UnknownSlot
-from fact_graph.dictionary import Dictionary, ListedFact
+from fact_graph.dictionary import ListedFact
 from fact_graph.explanation import Walk
 from fact_graph.values import Result
 
@@ -151,12 +151,15 @@ class Layered:
         self.asked: Counter[tuple[str, str]] = Counter()
         paths = [f"/f{layer}-{at}" for layer in range(layers) for at in range(width)]
         self.listed = {path: ListedFact.of_line(f"{path} {'writable' if path.startswith('/f0-') else 'derived'} Int") for path in paths}
-        facts = [{"path": path, "writable": "Int"} for path in paths]
-        self.dictionary = Dictionary.of_json(json.dumps({"facts": facts}).encode())
 
     def facts(self) -> dict[str, ListedFact]:
         """As a session's."""
         return self.listed
+
+    def description(self, slot: str) -> str:
+        """As a session's."""
+        self.asked["description", slot] += 1
+        return ""
 
     def get(self, slot: str) -> Result:
         """As a session's."""

@@ -35,6 +35,7 @@ OF_LAW: dict[str, dict[str, Any]] = {
     "d": {"path": "/d", "writable": "Day", "limits": [["Min", "2024-02-10"], ["Max", "2024-03-31"]]},
     "u": {"path": "/u", "writable": "Dollar", "limits": [["Min", "0"], ["Max", "5"]]},
 }
+ENUMS = [{"name": "e", "options": ["x", "y"]}]
 IS_B, N, M = ["Dependency", "/b"], ["Dependency", "/n"], ["Dependency", "/m"]
 LESS, MORE = ["LessThan", N, ["Int", "5"]], ["GreaterThanOrEqual", N, ["Int", "5"]]
 
@@ -87,7 +88,7 @@ FOUND: tuple[tuple[str, dict[str, Any], list[str]], ...] = (
 
 def rules(*facts: dict[str, Any]) -> bytes:
     """A dictionary of these facts."""
-    return json.dumps({"version": "2", "enums": [{"name": "e", "options": ["x", "y"]}], "facts": [*FACTS.values(), *facts]}).encode()
+    return json.dumps({"version": "2", "enums": ENUMS, "facts": [*FACTS.values(), *facts]}).encode()
 
 
 D, U, BORN = ["Dependency", "/d"], ["Dependency", "/u"], ["Day", "2006-03-01"]
@@ -107,6 +108,73 @@ RANGES: tuple[tuple[list[Any], str, tuple[int, int], tuple[str, ...]], ...] = (
     (["RoundDown", ["Dollar", "7"], U], "Dollar", (200, 700), ("zero-divide",)),
     (["RoundUp", U, ["Dollar", "0"]], "Dollar", (0, -1), ("zero-divide",)),
 )
+
+
+AID = {"name": "aid", "from": "Int", "to": "Dollar", "rows": [["1", "291"], ["2", "-5"], ["11", "900"]], "else": "0.50"}
+SPANS: tuple[tuple[list[Any], tuple[int, int]], ...] = (
+    (["Lookup", "aid", N], (-500, 29100)),
+    (["Lookup", "aid", ["Add", N, ["Int", "1"]]], (-500, 90000)),
+    (["Lookup", "aid", ["Subtract", N, ["Int", "11"]]], (50, 50)),
+    (["Lookup", "aid", ["Int", "1"]], (29100, 29100)),
+    (["Multiply", ["Lookup", "aid", ["Int", "3"]], ["Int", "2"]], (-1000, -1000)),
+)
+
+
+@pytest.mark.parametrize("node, ends", SPANS, ids=[str(row[0]) for row in SPANS])
+def test_what_a_table_comes_to(node: list[Any], ends: tuple[int, int]) -> None:
+    """The least and the greatest of the values to which a key can lead."""
+    found = Reasoning(Rulebook(tabled([AID], {"path": "/s", "derived": "Dollar", "is": node}))).fact("/s")
+    assert isinstance(found, Span) and (found.low, found.high) == ends
+
+
+def tabled(tables: list[dict[str, Any]], *facts: dict[str, Any]) -> bytes:
+    """A dictionary of these tables and facts."""
+    return json.dumps({"version": "law-1", "tables": tables, "facts": [*FACTS.values(), *facts], "enums": ENUMS}).encode()
+
+
+OF_TABLES: tuple[tuple[str, dict[str, Any], list[str]], ...] = (
+    ("a table that no rule reads", {}, ["unused-table t 0: no rule reads this table"]),
+    ("a table whose rows are all reached", {"is": ["Lookup", "t", N]}, []),
+    ("what stands below the first row may not be reached", {"is": ["Lookup", "t", ["Add", N, ["Int", "1"]]]}, []),
+    (
+        "a row before the least key, and one behind the greatest",
+        {"is": ["Lookup", "t", ["LesserOf", N, ["Int", "4"]]]},
+        ["unreachable-row t 0: no key leads to the row from 5: 50"],
+    ),
+    (
+        "rows between which all keys lie",
+        {"is": ["Lookup", "t", ["GreaterOf", N, ["Int", "5"]]]},
+        ["unreachable-row t 0: no key leads to the row from 1: 10"],
+    ),
+    ("rows that two rules reach together", {"is": ["Add", *[["Lookup", "t", ["Int", key]] for key in ("1", "7")]]}, []),
+    (
+        "rows by what is known in a case",
+        {"is": ["Switch", ["Case", LESS, ["Lookup", "t", N]], ["Case", ["True"], ["Int", "0"]]]},
+        ["unreachable-row t 0: no key leads to the row from 5: 50"],
+    ),
+    (
+        "a case that can't be taken, whose rows aren't named too",
+        {"is": ["Switch", ["Case", ["LessThan", N, ["Int", "0"]], ["Lookup", "t", N]], ["Case", ["True"], ["Int", "0"]]]},
+        ["unreachable-case /s 2: the case /n < 0 is never taken: its test is never true there"],
+    ),
+)
+
+
+@pytest.mark.parametrize("fact, found", [row[1:] for row in OF_TABLES], ids=[row[0] for row in OF_TABLES])
+def test_what_is_found_of_tables(fact: dict[str, Any], found: list[str]) -> None:
+    """Tables that no rule reads, and rows to which no key leads."""
+    table = {"name": "t", "from": "Int", "to": "Int", "rows": [["1", "10"], ["5", "50"]], "else": "0"}
+    text = tabled([table], {**SWITCH, "is": N, **fact})
+    assert [f"{it.check} {it.path} {it.node}: {it.reason}" for it in findings(Rulebook(text), ["/s"]) if it.check != "unused-answer"] == found
+
+
+@pytest.mark.parametrize("values, condition", [("Boolean", ["Lookup", "t", N]), ("Enum(e)", ["Equal", ["Lookup", "t", N], ["Enum", "e", "x"]])])
+def test_conditions_that_a_table_decides(values: str, condition: list[Any]) -> None:
+    """A condition is always true where all rows that are reached make it true."""
+    true, false = ("true", "false") if values == "Boolean" else ("x", "y")
+    for rows, found in (([["0", true], ["11", false]], ["constant-condition /s 1", "unreachable-row t 0"]), ([["0", true], ["5", false]], [])):
+        table = {"name": "t", "from": "Int", "to": values, "rows": rows, "else": false}
+        assert sorted(told(tabled([table], boolean(*condition)), "/s")) == found
 
 
 @pytest.mark.parametrize("node, kind, ends, faults", RANGES, ids=[str(row[0]) for row in RANGES])
@@ -166,9 +234,11 @@ def test_what_is_said_always_holds(interview: Interview) -> None:
         reading = Reading(probes, sessions, Case("", PLACE, (), (Entry(slot, "", PLACE),)), AsTheyAre(sessions[0].dictionary))
         for point in reading.reached:
             if point.kind == "case":
-                assert (point.fact, point.node) in reasoning.taken
+                assert (point.of, point.at) in reasoning.taken
+            if point.kind == "row":
+                assert point.at in reasoning.rows[point.of]
             if point.kind == "side":
-                assert has(reasoning.ranges[point.fact, point.node], point.value is True)
+                assert has(reasoning.ranges[point.of, point.at], point.value is True)
         main = rulebook.trees[path].main
         if "#" not in slot and main and main.name == "Switch" and main.number in {number for at, number in reasoning.ranges if at == path}:
             tests = [reading.outcome(rulebook.trees[path], test, At()).value for test, _ in cases_of(main)]
@@ -202,6 +272,16 @@ def written(folder: Path, fact: dict[str, Any], lint: str | None = None) -> str:
     return str(folder / "rules.json")
 
 
+def test_what_stands_of_a_table_is_allowed_by_its_name(tmp_path: Path, capsys: pytest.CaptureFixture[str]) -> None:
+    """A line allows a check for a table as for a fact."""
+    file = tmp_path / "rules.json"
+    table = {"name": "aid", "from": "Int", "to": "Int", "rows": [["11", "1"]], "else": "0"}
+    file.write_bytes(tabled([table], {**SWITCH, "is": ["Lookup", "aid", N]}))
+    (tmp_path / "rules.lint").write_text(f"{ALLOWED}# The limit may rise.\nallow unreachable-row aid\nallow unused-table aid\n")
+    assert command_line(["lint", str(file), "--figure", "/s"]) == 12
+    assert capsys.readouterr().out == f"{file.with_suffix('.lint')}:7: allow unused-table aid allows nothing: take it away\n0 found\n"
+
+
 ALLOWED = "# The answers are asked for by the clerk.\nallow unused-answer /b\nallow unused-answer /e\nallow unused-answer /m\n"
 
 
@@ -226,7 +306,7 @@ def test_what_is_allowed_is_not_told(tmp_path: Path, capsys: pytest.CaptureFixtu
     [
         ("allow overflow /s", "line 1: a note above it"),
         ("# why\nallow overflows /s", "line 2: there is no check overflows; did you mean `overflow`?"),
-        ("# why\nallow overflow /t", "line 2: there is no fact /t"),
+        ("# why\nallow overflow /t", "line 2: there is no fact or table /t"),
         ("# why\n\nallow overflow /s", "line 3: a note above it"),
         ("# why\nallow overflow", "line 2: write `allow CHECK /path`"),
     ],

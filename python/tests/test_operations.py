@@ -5,6 +5,7 @@ from __future__ import annotations
 import json
 from datetime import date
 from fractions import Fraction
+from typing import Any
 
 from hypothesis import example, given
 from hypothesis import strategies as st
@@ -32,6 +33,7 @@ NODES = [
     *((node, ("Day", "Day"), "Int") for node in ("DaysBetween", "AgeOn")),
     *((node, ("Day", "Int"), "Day") for node in ("AddDays", "AddMonths", "AddYears")),
 ]
+KEYED_BY = ("Int", "Dollar", "Day")
 SLOTS = [f"/{name}{kind}" for kind in TYPES for name in ("a", "b")]
 DICTIONARY = json.dumps(
     {
@@ -71,3 +73,24 @@ def test_the_engine_and_exact_arithmetic_agree(operands: tuple[Content, ...]) ->
             assert session.line(line) == plain.line(line.encode()) == "ok\n"
         for number, node in enumerate(NODES):
             assert session.line(f"get /n{number}") == plain.line(f"get /n{number}".encode()), node
+
+
+def tabled(kind: str, keys: list[Content]) -> str:
+    """A dictionary with a table of these keys, each with the number of its row."""
+    rows = [[str(Value(kind, key)), str(row)] for row, key in enumerate(keys, 1)]
+    facts = [{"path": "/key", "writable": kind}, {"path": "/row", "derived": "Int", "is": ["Lookup", "t", ["Dependency", "/key"]]}]
+    return json.dumps({"version": LAW, "tables": [{"name": "t", "from": kind, "to": "Int", "rows": rows, "else": "0"}], "facts": facts})
+
+
+@given(st.sampled_from(KEYED_BY), st.data())
+def test_the_last_row_whose_key_is_at_most_what_is_asked_for(kind: str, data: st.DataObject) -> None:
+    values: st.SearchStrategy[Any] = DAYS if kind == "Day" else WHOLE
+    keys = sorted(data.draw(st.sets(values, max_size=40)))
+    dictionary = tabled(kind, keys)
+    plain = Plain(dictionary)
+    with Session(dictionary) as session:
+        for asked in [*keys, *data.draw(st.lists(values, max_size=20))]:
+            session["/key"] = str(Value(kind, asked))
+            plain.line(f"set /key {Value(kind, asked)}".encode())
+            row = max((row for row, key in enumerate(keys, 1) if key <= asked), default=0)
+            assert session.line("get /row") == plain.line(b"get /row") == f"complete {row}\n"

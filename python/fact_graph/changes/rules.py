@@ -5,24 +5,26 @@ from __future__ import annotations
 from collections.abc import Iterator
 from typing import Any, NamedTuple
 
+from ..constants import number_of
 from ..expressions import FactTree, Node
-from ..rulebook import Rulebook
+from ..rulebook import Rulebook, Table, row_words, type_words, value_words
 from ..rules.printing import limit_words
+from ..values import READERS
 
 JOINING = ("Switch", "All", "Any", "Filter", "Find")
 """The nodes whose operands are read each for itself."""
 
 
 class Change(NamedTuple):
-    """What differs in a fact, or in a list of options: in words."""
+    """What differs in a fact, in a list of options or in a table: in words."""
 
     of: str
     words: str
 
 
 def changes(old: Rulebook, new: Rulebook) -> list[Change]:
-    """What differs: lists of options first, then facts that are gone, facts that are new, and those that are changed."""
-    return [*_options(old, new), *_gone(old, new), *_new(old, new), *_changed(old, new)]
+    """What differs: lists of options first, then tables, then facts that are gone, facts that are new, and those that are changed."""
+    return [*_options(old, new), *_tables(old, new), *_gone(old, new), *_new(old, new), *_changed(old, new)]
 
 
 def _options(old: Rulebook, new: Rulebook) -> Iterator[Change]:
@@ -36,6 +38,54 @@ def _options(old: Rulebook, new: Rulebook) -> Iterator[Change]:
             words = [f"{', '.join(gone)} {'is' if len(gone) == 1 else 'are'} gone"] * bool(gone)
             words += [f"{', '.join(come)} {'is' if len(come) == 1 else 'are'} new"] * bool(come)
             yield Change(f"enum {name}", ", ".join(words))
+
+
+def _tables(old: Rulebook, new: Rulebook) -> Iterator[Change]:
+    before, after = old.dictionary.tables, new.dictionary.tables
+    for name in {**before, **after}:
+        if name not in after:
+            yield Change(f"table {name}", "is gone")
+        elif name not in before:
+            rows = len(after[name].rows)
+            yield Change(f"table {name}", f"is new: {_types(after[name])}, {row_words(after[name], 0)}, {rows} row{'' if rows == 1 else 's'}")
+        else:
+            yield from (Change(f"table {name}", words) for words in _of_table(before[name], after[name]))
+
+
+def _of_table(before: Table, after: Table) -> Iterator[str]:
+    if _types(before) != _types(after):
+        yield f"{_types(before)} becomes {_types(after)}"
+    if not _is_same(before, before.otherwise, after, after.otherwise):
+        yield f"{row_words(before, 0)} becomes {value_words(after, after.otherwise)}"
+    if before.keys == after.keys:
+        yield from _rows(before, after)
+    elif before.rows != after.rows:
+        yield "the rows are others"
+    if before.description != after.description:
+        yield f"description: {before.description or 'none'} becomes {after.description or 'none'}"
+
+
+def _rows(before: Table, after: Table) -> Iterator[str]:
+    """The rows that are others, by their keys."""
+    one, other = ({number_of(table.keys.name, key): row for row, (key, _) in enumerate(table.rows, 1)} for table in (before, after))
+    for key in sorted({**one, **other}):
+        if key not in other:
+            yield f"{row_words(before, one[key])} is gone"
+        elif key not in one:
+            yield f"{row_words(after, other[key])} is new"
+        elif not _is_same(before, before.rows[one[key] - 1][1], after, after.rows[other[key] - 1][1]):
+            yield f"{row_words(before, one[key])} becomes {value_words(after, after.rows[other[key] - 1][1])}"
+
+
+def _is_same(before: Table, one: str, after: Table, other: str) -> bool:
+    """Whether two texts of values spell one value of one type."""
+    read = READERS[before.values.name]
+    return before.values == after.values and read(one) == read(other)
+
+
+def _types(table: Table) -> str:
+    """The types of a table, as people read them."""
+    return f"{type_words(table.keys)} to {type_words(table.values)}"
 
 
 def _gone(old: Rulebook, new: Rulebook) -> Iterator[Change]:

@@ -4,8 +4,8 @@
     allow overflow /wages
     allow unused-answer /caseNumber
 
-A line allows a check for a fact, and the note above it says why: one is asked for. By fact and not by node, so that a line
-stays when the rules are written anew.
+A line allows a check for a fact, or for a table by its name, and the note above it says why: one is asked for. By fact and not by node,
+so that a line stays when the rules are written anew.
 """
 
 from __future__ import annotations
@@ -31,7 +31,7 @@ class NotAllowed(FactGraphError):
 
 
 class Allowance(NamedTuple):
-    """A check that is let stand for a fact, and why."""
+    """A check that is let stand for a fact or a table, and why."""
 
     check: str
     path: str
@@ -40,7 +40,7 @@ class Allowance(NamedTuple):
 
 
 def read_allowances(text: str, paths: Iterable[str]) -> list[Allowance]:
-    """The allowances of a text over rules that have these facts.
+    """The allowances of a text over rules that have these facts and tables.
 
     >>> read_allowances("# payslips say less\\nallow overflow /wages\\n", ["/wages"])
     [Allowance(check='overflow', path='/wages', reason='payslips say less', line=2)]
@@ -61,7 +61,7 @@ def _allowance(words: list[str], known: list[str], note: str, number: int) -> Al
     if len(words) != 3 or words[0] != "allow":
         raise NotAllowed(number, "write `allow CHECK /path`")
     _, check, path = words
-    for word, among, kind in ((check, list(CHECKS), "check"), (path, known, "fact")):
+    for word, among, kind in ((check, list(CHECKS), "check"), (path, known, "fact or table")):
         if word not in among:
             raise NotAllowed(number, f"there is no {kind} {word}{meant(word, among)}")
     if not note:

@@ -7,8 +7,9 @@ from fractions import Fraction
 from math import ceil, floor
 from typing import NamedTuple
 
+from ..constants import Number
 from .dates import MONTHS, PARTS, age, between, later, part
-from .ranges import MOST, NOTHING, WHOLE, Number, Range, Span, common, is_single
+from .ranges import MOST, NOTHING, WHOLE, Range, Span, common, is_single
 
 LEAST: dict[str, Number] = {"Int": 1, "Dollar": 1, "Rational": Fraction(1, 10**12)}
 """The least number above zero of each type that divides."""

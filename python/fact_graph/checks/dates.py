@@ -5,7 +5,8 @@ from __future__ import annotations
 from calendar import monthrange
 from datetime import date
 
-from .ranges import Number, Span
+from ..constants import Number
+from .ranges import Span
 
 PARTS = {"YearOf": (1800, 2199), "MonthOf": (1, 12), "DayOf": (1, 31)}
 """By a node the part of a date that it gives, and the least and the greatest that this can be."""

@@ -6,7 +6,7 @@ from collections.abc import Iterable, Iterator
 from typing import NamedTuple
 
 from ..expressions import FactTree, Node
-from ..rulebook import Rulebook, cases_of
+from ..rulebook import Rulebook, cases_of, row_words
 from ..uses import WITH_CONDITION, home_of
 from .arithmetic import TO_MULTIPLES
 from .ranges import FALSE, TRUE
@@ -18,6 +18,8 @@ CHECKS = {
     "constant-condition": "a condition is always true, or always false, by the types and limits of the answers",
     "unused-fact": "no figure rests on a fact that follows",
     "unused-answer": "an answer is asked for, and no figure rests on it",
+    "unused-table": "no rule reads a table",
+    "unreachable-row": "no key leads to a row of a table, by the types and limits of the answers",
     "hidden-answer": "a placeholder stands in for answers that have none of their own, so that a figure looks known before they are given",
     "overflow": "an amount can be out of its type's range, and is a fault then",
     "zero-divide": "a divisor can be zero, or the unit of a rounding zero or less, and the result is a fault then",
@@ -29,7 +31,7 @@ AMOUNTS = ("Int", "Dollar", "Rational", "Day")
 
 
 class Finding(NamedTuple):
-    """What a check finds: of which fact, at which node of it or 0, and why."""
+    """What a check finds: of which fact, at which node of it or 0, and why. Of a table the path is its name."""
 
     check: str
     path: str
@@ -38,15 +40,26 @@ class Finding(NamedTuple):
 
 
 def findings(rulebook: Rulebook, figures: Iterable[str]) -> list[Finding]:
-    """What the checks find in rules whose figures these are, by the order of the facts and of the checks."""
+    """What the checks find in rules whose figures these are, by the order of the tables and facts and of the checks."""
     reasoning = Reasoning(rulebook)
     order = {check: at for at, check in enumerate(CHECKS)}
-    found = [*_of_use(rulebook, figures)]
+    found = [*_of_tables(rulebook, reasoning), *_of_use(rulebook, figures)]
     for tree in rulebook.trees.values():
         found += [*_of_cases(rulebook, reasoning, tree), *_of_conditions(rulebook, reasoning, tree), *_of_placeholder(rulebook, tree)]
         found += _of_arithmetic(rulebook, reasoning, tree)
-    places = {path: at for at, path in enumerate(rulebook.trees)}
+    places = {name: at for at, name in enumerate((*rulebook.dictionary.tables, *rulebook.trees))}
     return sorted(found, key=lambda it: (places[it.path], order[it.check], it.node))
+
+
+def _of_tables(rulebook: Rulebook, reasoning: Reasoning) -> Iterator[Finding]:
+    """The tables that no rule reads, and the rows of the others that can't be reached where any can."""
+    read = {node.texts[0] for tree in rulebook.trees.values() for node in tree.nodes() if node.name == "Lookup"}
+    for name, table in rulebook.dictionary.tables.items():
+        if name not in read:
+            yield Finding("unused-table", name, 0, "no rule reads this table")
+        for row in range(1, len(table.rows) + 1) if name in reasoning.rows else ():
+            if row not in reasoning.rows[name]:
+                yield Finding("unreachable-row", name, 0, f"no key leads to the row {row_words(table, row)}")
 
 
 def _of_cases(rulebook: Rulebook, reasoning: Reasoning, tree: FactTree) -> Iterator[Finding]:

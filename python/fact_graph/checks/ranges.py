@@ -7,11 +7,10 @@ from __future__ import annotations
 
 from collections.abc import Iterable
 from datetime import date
-from fractions import Fraction
 from functools import reduce
 from typing import NamedTuple, Union
 
-Number = Union[int, Fraction]
+from ..constants import Number
 
 
 class Span(NamedTuple):

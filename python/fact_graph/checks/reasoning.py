@@ -7,12 +7,12 @@ from __future__ import annotations
 
 import json
 from collections.abc import Iterable
-from datetime import date
-from fractions import Fraction
 from graphlib import TopologicalSorter
 
+from ..constants import number_of
+from ..dictionary import FactType
 from ..expressions import FactTree, Node
-from ..rulebook import Rulebook, cases_of
+from ..rulebook import Rulebook, Table, cases_of
 from ..uses import WITH_CONDITION, WITH_PATH
 from .arithmetic import Outcome, arithmetic, total
 from .ranges import (
@@ -22,7 +22,6 @@ from .ranges import (
     TRUE,
     WHOLE,
     Anything,
-    Number,
     Options,
     Range,
     Span,
@@ -67,11 +66,12 @@ class Known:
 NOT_KNOWN: dict[str, Range] = {}
 
 
-class Reasoning:
+class Reasoning:  # pylint: disable=too-many-instance-attributes # what is seen on the way
     """The ranges of the facts and expressions of a dictionary, and what is seen on the way to them.
 
     `ranges` has each expression that can be evaluated at all. `taken` are the tests by which a case can be taken, `left` the
-    Switches of which all tests can be false, and `faults` what an operation can be at fault by.
+    Switches of which all tests can be false, `rows` the numbers of the rows of tables that can be reached, 0 where that is what
+    stands below the first, and `faults` what an operation can be at fault by.
     """
 
     def __init__(self, rulebook: Rulebook) -> None:
@@ -79,6 +79,7 @@ class Reasoning:
         self.ranges: dict[Key, Range] = {}
         self.taken: set[Key] = set()
         self.left: set[Key] = set()
+        self.rows: dict[str, set[int]] = {}
         self.faults: dict[Key, set[str]] = {}
         self._facts: dict[str, Range] = {}
         self._keys: dict[Key, str] = {}
@@ -102,7 +103,7 @@ class Reasoning:
         whole = self._of_type(tree.stated)
         for name, text in tree.limits:
             if isinstance(whole, Span) and whole.low <= whole.high:
-                bound = value_of(whole.unit, text)
+                bound = number_of(whole.unit, text)
                 low, high = (bound, max(bound, whole.high)) if name == "Min" else (min(bound, whole.low), bound)
                 whole = common(whole, Span(whole.unit, low, high))
         return whole
@@ -154,10 +155,20 @@ class Reasoning:
     def _operation(self, tree: FactTree, node: Node, operands: list[Range]) -> Range:
         if node.name == "Not":
             return negated(operands[0])
+        if node.name == "Lookup":
+            return self._lookup(self.rulebook.dictionary.tables[node.texts[0]], operands[0])
         if node.name in ("Equal", "NotEqual"):
             return equality(*operands) if node.name == "Equal" else negated(equality(*operands))
         spans = [operand for operand in operands if isinstance(operand, Span)]
         return order(node.name, *spans) if node.name in OPPOSITE else self._told(tree, node, arithmetic(node.name, spans))
+
+    def _lookup(self, table: Table, asked: Range) -> Range:
+        """What stands in the rows that can be reached."""
+        assert isinstance(asked, Span)
+        found = reached(table, asked)
+        self.rows.setdefault(table.name, set()).update(found)
+        texts = [table.rows[row - 1][1] if row else table.otherwise for row in found]
+        return union(value_range(table.values, text) for text in texts)
 
     def _told(self, tree: FactTree, node: Node, outcome: Outcome) -> Range:
         """The range of an outcome, whose faults are kept."""
@@ -295,25 +306,30 @@ def constant(node: Node) -> Range:
     """What a constant comes to: its value."""
     if node.name in ("True", "False"):
         return TRUE if node.name == "True" else FALSE
-    if node.name == "Enum":
-        return Options(frozenset({node.texts[1]}))
-    if node.name == "Text":
+    return value_range(FactType(node.name), node.texts[-1])
+
+
+def value_range(kind: FactType, text: str) -> Range:
+    """The one value that a text spells."""
+    if kind.name == "Boolean":
+        return TRUE if text == "true" else FALSE
+    if kind.name == "Enum":
+        return Options(frozenset({text}))
+    if kind.name == "Text":
         return Anything()
-    value = value_of(node.name, node.texts[0])
-    return Span(node.name, value, value)
+    value = number_of(kind.name, text)
+    return Span(kind.name, value, value)
 
 
-def value_of(unit: str, text: str) -> Number:
-    """The number of a constant's text.
+def reached(table: Table, asked: Span) -> list[int]:
+    """The numbers of the rows that what is asked for can reach, and 0 where it can be below the first.
 
-    >>> value_of("Dollar", "-0.50"), value_of("Rational", "2/4"), value_of("Int", "007")
-    (-50, Fraction(1, 2), 7)
+    >>> reached(Table("t", FactType("Int"), FactType("Int"), (("1", "5"), ("3", "6"), ("4", "7")), "0", ""), Span("Int", 0, 3))
+    [0, 1, 2]
     """
-    if unit == "Day":
-        return date.fromisoformat(text).toordinal()
-    if unit == "Dollar":
-        return int(Fraction(text) * 100)
-    return Fraction(text) if unit == "Rational" else int(text)
+    keys = [number_of(table.keys.name, key) for key, _ in table.rows]
+    starts, ends = [asked.low, *keys], [*keys, asked.high + 1]
+    return [row for row, (start, end) in enumerate(zip(starts, ends)) if max(start, asked.low) < min(end, asked.high + 1)]
 
 
 def _depth(node: Node) -> int:

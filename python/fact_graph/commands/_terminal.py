@@ -87,7 +87,7 @@ class ScriptCompleter(Completer):
 
     def _meta(self, fact: ListedFact) -> str:
         of = f" {fact.type.of}" if fact.type.of else ""
-        description = self.session.dictionary.facts[fact.path].description
+        description = self.session.description(fact.path)
         return f"{fact.type.name}{of}{f': {description}' if description else ''}"
 
 

@@ -53,6 +53,6 @@ def figures_of(rules: Rules, rulebook: Rulebook, named: tuple[str, ...]) -> list
 def allowances(file: Path, rulebook: Rulebook) -> list[Allowance]:
     """What the file allows, where there is one."""
     try:
-        return read_allowances(read(str(file)).decode(), rulebook.trees) if file.is_file() else []
+        return read_allowances(read(str(file)).decode(), (*rulebook.trees, *rulebook.dictionary.tables)) if file.is_file() else []
     except (NotAllowed, UnicodeDecodeError) as wrong:
         raise Failed(Status.USAGE, f"{file}: {wrong}") from wrong

@@ -66,4 +66,5 @@ def command(rules: Rules, host: str, port: int, workers: int, proxy: str, store:
         workers=workers,
         forwarded_allow_ips=proxy,
         server_header=False,
+        access_log=False,
     )

@@ -4,6 +4,7 @@ from __future__ import annotations
 
 import click
 
+from ..rows_read import RowsRead
 from ._failures import naming
 from ._rules import Rules, rules_argument, saved_option
 from ._scripts import coloured
@@ -19,8 +20,8 @@ def command(rules: Rules, slot: str, saved: bytes | None, depth: int | None) -> 
 
     Below SLOT with its result stand the slots that it was worked out from, in the order in which they were read, each with what
     it was worked out from itself, down to answers, and with its description where the rules have one. What stood above isn't
-    unfolded again.
+    unfolded again. Where the rule of a slot reads a table for another fact, the row is told that it has.
     """
     with rules.session(saved) as session, naming(slot):
-        for line in session.why(slot, depth=depth).lines(coloured):
+        for line in session.why(slot, depth=depth).lines(coloured, RowsRead(session).of):
             click.echo(line)

@@ -1,4 +1,5 @@
-"""Which points the cases reach: what the evaluation of their due figures reads, as the engine says what each condition comes to."""
+"""Which points the cases reach: what the evaluation of their due figures reads, as the engine says what each condition comes to, and for
+what a table is read."""
 
 from __future__ import annotations
 
@@ -20,14 +21,14 @@ HAS_VALUE = ("complete", "placeholder")
 
 
 class Coverage(NamedTuple):
-    """The points of each fact, and how many cases reach each of them."""
+    """The points of each table and fact, and how many cases reach each of them."""
 
     rulebook: Rulebook
     points: dict[str, list[Point]]
     reached: dict[Point, int]
 
     def counts(self, path: str | None = None) -> tuple[int, int]:
-        """How many points of a fact are reached, and how many it has; of all facts where none is named."""
+        """How many points of a fact or a table are reached, and how many it has; of all where none is named."""
         of = self.points[path] if path else [point for found in self.points.values() for point in found]
         return sum(point in self.reached for point in of), len(of)
 
@@ -130,6 +131,8 @@ class Reading:
             self.visit(tree, operand, at)
             if node.name in CONDITIONS:
                 self._side(tree, operand, self.outcome(tree, operand, at))
+            elif node.name == "Lookup":
+                self._row(node.texts[0], self.outcome(tree, operand, at))
 
     def _switch(self, tree: FactTree, node: Node, at: At) -> None:
         for test, value in cases_of(node):
@@ -153,6 +156,12 @@ class Reading:
 
     def _side(self, tree: FactTree, node: Node, said: Result) -> None:
         self.reached.update(point for point in sides(tree, node) if said.kind in HAS_VALUE and said.value == point.value)
+
+    def _row(self, name: str, asked: Result) -> None:
+        """The row of a table that is read for this."""
+        if asked.kind in HAS_VALUE:
+            assert asked.value is not None and not isinstance(asked.value, tuple)  # an Int, an amount or a day
+            self.reached.add(Point(name, "row", self.rulebook.dictionary.tables[name].row(asked.value)))
 
     def _members(self, tree: FactTree, node: Node, at: At) -> list[str]:
         """The members of the collection that a node names."""
@@ -180,7 +189,7 @@ class Reading:
         return slots
 
     def outcome(self, tree: FactTree, node: Node, at: At) -> Result:
-        """What the engine says of a condition."""
+        """What the engine says of a condition, or of what a table is read for."""
         if node.name in CONSTANTS:
             return Result("complete", node.name == "True")
         if node.name == "Dependency":
@@ -190,7 +199,9 @@ class Reading:
         place = (tree.path, node.number)
         if place in self.probes.pairs:
             return self._compared(self.probes.pairs[place], at)
-        return self._probed(self.probes.conditions[place], at.tested if self.rulebook.over(tree, node) else at.home)
+        if place in self.probes.turns:
+            return self._in_turn(self.probes.results[place], self.probes.turns[place], at)
+        return self._probed(self.probes.results[place], at.tested if self.rulebook.over(tree, node) else at.home)
 
     def _compared(self, pair: Pair, at: At) -> Result:
         """What a condition that compares two members comes to: it is asked when it is the tested one's turn."""
@@ -202,6 +213,14 @@ class Reading:
             if found is not None:
                 return Result("complete", value)
         return Result("incomplete")
+
+    def _in_turn(self, probe: Probe, turn: str, at: At) -> Result:
+        """What rests on two members comes to, when it is the tested one's turn."""
+        session = self.sessions[probe.dictionary]
+        session.set(turn.replace("*", at.tested or ""), True)
+        found = self._probed(probe, at.home)
+        session.undo()
+        return found
 
     def _probed(self, probe: Probe, member: str | None) -> Result:
         return self.sessions[probe.dictionary].get(probe.path.replace("*", member or ""))

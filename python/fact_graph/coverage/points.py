@@ -1,10 +1,12 @@
-"""What cases are to reach: of each fact its result, the cases of its Switches, the sides of its conditions, its placeholder."""
+"""What cases are to reach: of each fact its result, the cases of its Switches, the sides of its conditions, its placeholder; of each
+table its rows."""
 
 from __future__ import annotations
 
 from collections.abc import Iterator
 from typing import NamedTuple
 
+from ..checks.reasoning import Reasoning
 from ..rulebook import FactTree, Node, Rulebook, cases_of
 from ..uses import WITH_CONDITION
 
@@ -15,19 +17,22 @@ CONSTANTS = ("True", "False")
 class Point(NamedTuple):
     """A point that a case reaches or doesn't.
 
-    `kind` is `result`, `case`, `otherwise`, `side` or `placeholder`. `node` is the number of the test, of the operand or of
-    the placeholder, and 0 for a result and for what a conditional leaves to the main expression; `value` is that of a side.
+    `of` is the path of a fact, or the name of a table. `kind` is `result`, `case`, `otherwise`, `side`, `placeholder` or `row`. `at`
+    is the number of the node that is the test, the operand or the placeholder, and 0 for a result and for what a conditional leaves
+    to the main expression; of a row it is the number, and 0 for what stands below the first. `value` is that of a side.
     """
 
-    fact: str
+    of: str
     kind: str
-    node: int = 0
+    at: int = 0
     value: bool | None = None
 
 
 def points(rulebook: Rulebook) -> dict[str, list[Point]]:
-    """The points of each fact, in the order of its nodes."""
-    return {path: list(_of_fact(tree)) for path, tree in rulebook.trees.items()}
+    """The points of each table, which are the rows that can be reached, and of each fact, in the order of its nodes."""
+    rows = Reasoning(rulebook).rows
+    tables = {name: [Point(name, "row", row) for row in sorted(rows.get(name, ()))] for name in rulebook.dictionary.tables}
+    return {**tables, **{path: list(_of_fact(tree)) for path, tree in rulebook.trees.items()}}
 
 
 def sides(tree: FactTree, node: Node) -> Iterator[Point]:

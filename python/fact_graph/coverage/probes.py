@@ -1,9 +1,10 @@
-"""Probes: facts that are added to a dictionary, one for each condition in it, so that the engine itself says what it comes to."""
+"""Probes: facts that are added to a dictionary, one for each condition in it and for each key for which a table is read, so that the
+engine itself says what it comes to."""
 
 from __future__ import annotations
 
 import json
-from collections.abc import Iterator
+from collections.abc import Callable, Iterator
 from typing import Any, NamedTuple
 
 from ..errors import FactGraphError
@@ -42,15 +43,17 @@ class Pair(NamedTuple):
 class Probes:
     """A dictionary with its probes; where the bounds of a dictionary don't leave room for all, several of them.
 
-    `bodies` are by facts, whose results without their placeholders they are. `conditions` are by the place of the node whose
-    result they are, and so are the `pairs` of those that compare two members.
+    `bodies` are by facts, whose results without their placeholders they are. `results` are by the place of the node whose result they
+    are, and so are the `pairs` of conditions that compare two members. `turns` are by the place of a key that rests on two members:
+    its result is that of the one whose fact `turn` is answered.
     """
 
     def __init__(self, rulebook: Rulebook) -> None:
         self.rulebook = rulebook
         self.bodies: dict[str, Probe] = {}
-        self.conditions: dict[Place, Probe] = {}
+        self.results: dict[Place, Probe] = {}
         self.pairs: dict[Place, Pair] = {}
+        self.turns: dict[Place, str] = {}
         self._name = _unused(rulebook)
         turns = [{"path": self._turn(over), "writable": "Boolean"} for over in self._compared()]
         self._dictionaries = _Dictionaries(rulebook, self._name, turns)
@@ -63,8 +66,8 @@ class Probes:
 
     def _compared(self) -> list[str]:
         """The collections of whose members two are compared."""
-        tests = ((tree, test) for tree in self.rulebook.trees.values() for test in _tests(tree))
-        return sorted({self.rulebook.over(tree, test) or "" for tree, test in tests if compares_members(self.rulebook, tree, test)})
+        probed = ((tree, node) for tree in self.rulebook.trees.values() for node in (*_tests(tree), *(key for _, key in _keys(tree))))
+        return sorted({self.rulebook.over(tree, node) or "" for tree, node in probed if compares_members(self.rulebook, tree, node)})
 
     def _turn(self, collection: str) -> str:
         return f"{collection}/*/{self._name}"
@@ -76,13 +79,27 @@ class Probes:
             self.bodies[tree.path] = add(home, {key: stated[key] for key in ("derived", "is", "conditional") if key in stated})
         for test in _tests(tree):
             place = (tree.path, test.number)
-            if test.name in (*CONSTANTS, "Dependency") or place in self.conditions or place in self.pairs:
+            if test.name in (*CONSTANTS, "Dependency") or place in self.results or place in self.pairs:
                 continue
             over, written = self.rulebook.over(tree, test), self.rulebook.written(test)
             if over and compares_members(self.rulebook, tree, test):
                 self.pairs[place] = self._pair(home, over, written)
             else:
-                self.conditions[place] = add(over or home, {"derived": "Boolean", "is": _of_member(written) if over else written})
+                self.results[place] = add(over or home, {"derived": "Boolean", "is": _of_member(written) if over else written})
+        for name, key in _keys(tree):
+            if key.name != "Dependency":
+                self._key(tree, key, self.rulebook.dictionary.tables[name].keys.name)
+
+    def _key(self, tree: FactTree, key: Node, kind: str) -> None:
+        """Adds the probe of a key of this type."""
+        place, written = (tree.path, key.number), self.rulebook.written(key)
+        home, over = home_of(tree), self.rulebook.over(tree, key)
+        if over and compares_members(self.rulebook, tree, key):
+            self.turns[place] = self._turn(over)
+            found = {"derived": f"Item({over})", "is": ["Find", over, ["IsComplete", self._name]]}
+            self.results[place] = self._dictionaries.add_behind(home, found, lambda name: {"derived": kind, "is": _of_member(written, f"../{name}/")})
+        else:
+            self.results[place] = self._dictionaries.add(over or home, {"derived": kind, "is": _of_member(written) if over else written})
 
     def _pair(self, home: str | None, over: str, written: Written) -> Pair:
         def found(test: Written) -> Probe:
@@ -117,6 +134,14 @@ class _Dictionaries:
         self.added[-1].append({"path": path, **stated})
         return Probe(len(self.added) - 1, path)
 
+    def add_behind(self, home: str | None, first: dict[str, Any], behind: Callable[[str], dict[str, Any]]) -> Probe:
+        """Adds two facts to one dictionary, the second by the name of the first."""
+        rest = behind("")
+        if self.left[0] < 2 or self.left[1] < _count(first["is"]) + _count(rest["is"]):
+            self.left = (0, 0)  # so that the next one takes the first
+        found = self.add(home, first)
+        return self.add(home, behind(found.path.rpartition("/")[2]))
+
     def texts(self) -> list[bytes]:
         """The dictionaries, as JSON."""
         return [json.dumps({**self.stated, "facts": [*self.stated["facts"], *added]}).encode() for added in self.added]
@@ -137,17 +162,24 @@ def _tests(tree: FactTree) -> Iterator[Node]:
         yield from judged(node)
 
 
+def _keys(tree: FactTree) -> Iterator[tuple[str, Node]]:
+    """The tables that a fact reads, each with what it is read for."""
+    for node in tree.nodes():
+        if node.name == "Lookup":
+            yield node.texts[0], node.operands[0]
+
+
 def _count(written: Written) -> int:
     """How many nodes an expression has; a Case is none."""
     return int(written[0] != "Case") + sum(_count(part) for part in written[1:] if isinstance(part, list))
 
 
-def _of_member(written: Written) -> Written:
-    """The condition on a tested member, as it is written in a fact of that member."""
+def _of_member(written: Written, way: str = "../") -> Written:
+    """An expression on a tested member, as it is written in a fact of that member, or in one from which this way leads to it."""
     if written[0] in ("Dependency", "IsComplete"):
         path = written[1]
-        return [written[0], path if path.startswith("/") else f"../{path}"]
-    return [_of_member(part) if isinstance(part, list) else part for part in written]
+        return [written[0], path if path.startswith(("/", "../")) else f"{way}{path}"]
+    return [_of_member(part, way) if isinstance(part, list) else part for part in written]
 
 
 def _unused(rulebook: Rulebook) -> str:

@@ -7,6 +7,7 @@ from typing import NamedTuple
 
 import jinja2
 
+from ..rulebook import row_words
 from ..wording import table
 from .measuring import Coverage
 from .points import Point
@@ -20,13 +21,13 @@ class Row(NamedTuple):
 
 
 def lines(coverage: Coverage) -> Iterator[str]:
-    """The facts that have points that no case reaches, and how much is reached in all."""
+    """The tables and facts that have points that no case reaches, and how much is reached in all."""
     rows = [("fact", "reached", "not reached")]
     for path, points in coverage.points.items():
         missed = [point for point in points if point not in coverage.reached]
         if missed:
             reached, of = coverage.counts(path)
-            rows.append((path, f"{reached} of {of}", _told(coverage, missed[0])))
+            rows.append((_named(path), f"{reached} of {of}", _told(coverage, missed[0])))
             rows.extend(("", "", _told(coverage, point)) for point in missed[1:])
     if len(rows) > 1:
         yield from table(rows)
@@ -45,8 +46,8 @@ def page(coverage: Coverage, name: str, cases: int) -> str:
     shown = jinja2.Environment(loader=jinja2.PackageLoader(__package__, "."), autoescape=True, trim_blocks=True, lstrip_blocks=True)
     facts = [
         {
-            "path": path,
-            "description": coverage.rulebook.dictionary.facts[path].description,
+            "name": _named(path),
+            "description": _described(coverage, path),
             "reached": coverage.counts(path)[0],
             "of": coverage.counts(path)[1],
             "rows": [Row(_told(coverage, point), coverage.reached.get(point, 0)) for point in points],
@@ -54,7 +55,19 @@ def page(coverage: Coverage, name: str, cases: int) -> str:
         for path, points in coverage.points.items()
     ]
     reached, of = coverage.counts()
-    return shown.get_template("page.html").render(name=name, cases=cases, facts=facts, reached=reached, of=of, percent=_percent(coverage))
+    has_tables = bool(coverage.rulebook.dictionary.tables)
+    said = {"name": name, "cases": cases, "facts": facts, "has_tables": has_tables, "reached": reached, "of": of, "percent": _percent(coverage)}
+    return shown.get_template("page.html").render(said)
+
+
+def _named(of: str) -> str:
+    """What a point is of, as people read it."""
+    return of if of.startswith("/") else f"table {of}"
+
+
+def _described(coverage: Coverage, of: str) -> str:
+    dictionary = coverage.rulebook.dictionary
+    return dictionary.facts[of].description if of in dictionary.facts else dictionary.tables[of].description
 
 
 def _percent(coverage: Coverage) -> str:
@@ -64,8 +77,10 @@ def _percent(coverage: Coverage) -> str:
 
 def _told(coverage: Coverage, point: Point) -> str:
     """A point in the words of the rules."""
-    tree = coverage.rulebook.trees[point.fact]
-    node = next((node for node in tree.nodes() if node.number == point.node), None)
+    if point.kind == "row":
+        return row_words(coverage.rulebook.dictionary.tables[point.of], point.at)
+    tree = coverage.rulebook.trees[point.of]
+    node = next((node for node in tree.nodes() if node.number == point.at), None)
     shown = coverage.rulebook.shown(tree, node) if node else ""
     if point.kind == "result":
         return "an answer" if tree.is_writable else "a result"

@@ -26,7 +26,9 @@ from .cycles import cycles
 from .finding import Finding
 from .form import excesses, misforms
 from .limits import limit_faults
+from .parts import options_of
 from .paths import path_faults
+from .tables import table_types
 from .types import type_faults
 
 __all__ = ["Examined", "Finding", "Source", "findings"]
@@ -136,11 +138,10 @@ def _beyond_form(value: dict[str, Any], misformed: set[int | None]) -> Iterator[
     trees = [fact_tree(number, fact) for number, fact in numbered if number not in misformed]
     unread = [_unread(number, fact) for number, fact in numbered if number in misformed]
     uses = Uses(sorted([*trees, *unread], key=lambda tree: tree.number))
-    options = _options(value)
     if 0 not in misformed:
         yield from excesses(value, trees)
     yield from path_faults(trees, uses)
-    yield from type_faults(trees, uses, options)
+    yield from type_faults(trees, uses, options_of(value), table_types(value))
     yield from limit_faults(trees)
     yield from cycles(trees, uses)
 
@@ -149,13 +150,3 @@ def _unread(number: int, fact: Any) -> FactTree:
     """What is known of a fact without a form."""
     path = fact.get("path") if isinstance(fact, dict) else None
     return FactTree(number, path if isinstance(path, str) else "", "", False)
-
-
-def _options(value: dict[str, Any]) -> dict[str, tuple[str, ...]]:
-    """The lists of options, by their names."""
-    enums = value.get("enums")
-    found: dict[str, tuple[str, ...]] = {}
-    for enum in enums if isinstance(enums, list) else []:
-        if isinstance(enum, dict) and isinstance(enum.get("name"), str) and isinstance(enum.get("options"), list):
-            found.setdefault(enum["name"], tuple(it for it in enum["options"] if isinstance(it, str)))
-    return found

@@ -7,7 +7,7 @@ from collections.abc import Iterator
 from ..expressions import FactTree
 from ..uses import OVER_COLLECTIONS, OVER_FIELDS, WITH_CONDITION, Use, Used, Uses, collection_of, home_of, is_fact_path, item_of, type_of
 from .finding import Finding, nearest
-from .form import NAME_RULE
+from .parts import NAME_RULE
 
 FORMS_OF_USES = "`/rent`, `../age`, `age`, `/people/*/age`, `/eldest/age` and `../partner/age`"
 

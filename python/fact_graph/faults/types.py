@@ -9,6 +9,7 @@ from ..expressions import FactTree, Node
 from ..located import Pointer
 from ..uses import OVER_FIELDS, Used, Uses, collection_of, item_of, type_of
 from .finding import Finding, listed, nearest
+from .tables import TableType
 
 ORDERED = ("Int", "Dollar", "Rational", "Day")
 COMPARED = ("LessThan", "LessThanOrEqual", "GreaterThan", "GreaterThanOrEqual")
@@ -40,23 +41,25 @@ TAKES = {
 LEAVES = ("True", "False", "Int", "Dollar", "Rational", "Day", "Text", "Enum")
 
 Options = Mapping[str, tuple[str, ...]]
+Tables = Mapping[str, TableType]
 Result = Callable[[list[str]], str | None]
 
 
-def type_faults(trees: list[FactTree], uses: Uses, options: Options) -> Iterator[Finding]:
+def type_faults(trees: list[FactTree], uses: Uses, options: Options, tables: Tables) -> Iterator[Finding]:
     """What is wrong with the types of all facts and nodes. A node over what has no known type is passed over."""
     for tree in trees:
-        typing = _Typing(tree, {used.node.number: used for used in uses.in_fact(tree)}, options)
+        typing = _Typing(tree, {used.node.number: used for used in uses.in_fact(tree)}, options, tables)
         yield from typing.faults()
 
 
 class _Typing:
     """Finds the types of a fact's nodes."""
 
-    def __init__(self, tree: FactTree, used: dict[int, Used], options: Options) -> None:
+    def __init__(self, tree: FactTree, used: dict[int, Used], options: Options, tables: Tables) -> None:
         self.tree = tree
         self.used = used
         self.options = options
+        self.tables = tables
         self.found: list[Finding] = []
 
     def faults(self) -> list[Finding]:
@@ -122,6 +125,8 @@ class _Typing:
             return None
         if node.name == "Switch":
             return self.switch(node, known)
+        if node.name == "Lookup":
+            return self.lookup(node, known[0])
         came = result_type(node.name, known)
         if came is None:
             self.note(node, self.mismatch(node, known), self.instead(node, known), self.sources(node))
@@ -215,6 +220,15 @@ class _Typing:
             self.note(node, reason, "the values of a Switch are of one type", self.sources(node), node.operands[2 * other + 1].pointer)
             return None
         return values[0]
+
+    def lookup(self, node: Node, key: str) -> str | None:
+        """The type of a Lookup, whose operand is of the type of the table's keys."""
+        table = self.tables[node.texts[0]]
+        if table.keys and key != table.keys:
+            reason = f"the table `{node.texts[0]}` goes by {_a(table.keys)}, and this is {_a(key)}"
+            self.note(node, reason, "", (("tables", list(self.tables).index(node.texts[0]), "from"), *self.sources(node)))
+            return None
+        return table.values or None
 
     def mismatch(self, node: Node, types: list[str]) -> str:
         """Why operands of these types don't go together."""

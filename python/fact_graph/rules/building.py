@@ -8,9 +8,24 @@ from lark import Token, Tree
 from lark.exceptions import VisitError
 from lark.visitors import Transformer_NonRecursive
 
-from .drafts import Conditional, Definition, Draft, EnumDraft, FactDraft, Limit, Misread, Placeholder, Span, StatedType, Text, VersionDraft
+from .drafts import (
+    Conditional,
+    Definition,
+    Draft,
+    EnumDraft,
+    FactDraft,
+    Limit,
+    Misread,
+    Placeholder,
+    RowDraft,
+    Span,
+    StatedType,
+    TableDraft,
+    Text,
+    VersionDraft,
+)
 from .literals import TYPES, read, unquoted
-from .phrases import LATER, OF_ONE, OF_TWO
+from .phrases import LATER, LOOKUP, OF_ONE, OF_TWO
 
 Part = Any
 """A token, or what another rule made."""
@@ -73,6 +88,18 @@ class Builder(Transformer_NonRecursive):
         """`enum tenure: rents, owns`"""
         name, *options = (Text(str(it), self.span(it)) for it in parts if it.type == "NAME")
         return EnumDraft(name, options, self.span(parts[0], parts[-1]))
+
+    def table(self, parts: list[Part]) -> TableDraft:
+        """`table mostAid: Int to Dollar, otherwise $0`, with its rows"""
+        _, name, _, keys, _, values, _, _, otherwise, *rest = parts
+        named, keyed = (Text(str(it), self.span(it)) for it in (name, keys))
+        description = next((it for it in rest if isinstance(it, Text)), None)
+        rows = [it for it in rest if isinstance(it, RowDraft)]
+        return TableDraft(named, keyed, values, otherwise, self.span(parts[0], otherwise), rows, description)
+
+    def row(self, parts: list[Part]) -> RowDraft:
+        """`from 1: $291`"""
+        return RowDraft(parts[1], parts[3], self.span(parts[0], parts[3]))
 
     def fact(self, parts: list[Part]) -> FactDraft:
         """`/rent: Dollar, from $0`"""
@@ -277,6 +304,11 @@ class Builder(Transformer_NonRecursive):
     def two(self, parts: list[Part]) -> Draft:
         """`age of /a on /b`, `round up /a to $1`"""
         return self.node(OF_TWO_WORDS[words(parts[0])], parts, parts[1], parts[3])
+
+    def lookup(self, parts: list[Part]) -> Draft:
+        """`mostAid for /size`"""
+        name = self.quoted(parts[1]).text if parts[1].type == "STRING" else str(parts[0])
+        return self.node(LOOKUP, parts, parts[-1], texts=(name,))
 
     def many(self, parts: list[Part]) -> Draft:
         """`greater of (/a, /b)`"""

@@ -123,6 +123,29 @@ class EnumDraft:
 
 
 @dataclass
+class RowDraft:
+    """A row of a table: from which key on, and what it comes to."""
+
+    key: Draft
+    value: Draft
+    span: Span
+
+
+@dataclass
+class TableDraft:
+    """A table, with what stands below its first row."""
+
+    name: Text
+    keys: Text
+    values: StatedType
+    otherwise: Draft
+    header: Span
+    """From its first word to what stands below the first row."""
+    rows: list[RowDraft] = field(default_factory=list)
+    description: Text | None = None
+
+
+@dataclass
 class VersionDraft:
     """The version, and the description of all."""
 

@@ -8,14 +8,15 @@ from lark import UnexpectedInput, UnexpectedToken
 
 VALUES = frozenset(
     "PATH QUOTED_PATH WORD OPTION INT DOLLAR FRACTION PERCENT DAY STRING TRUE FALSE CONSTANT CHOICE LPAR NOT IF YEAR_OF MONTH_OF DAY_OF "
-    "AGE_OF DAYS_FROM ROUND_TO ROUND GREATER_OF LESSER_OF MANY SUM_OF NUMBER_OF COUNT_OF FIRST_OF".split()
+    "AGE_OF DAYS_FROM ROUND_TO ROUND GREATER_OF LESSER_OF MANY SUM_OF NUMBER_OF COUNT_OF FIRST_OF LOOKUP".split()
 )
-OPERATORS = frozenset("PLUS MINUS STAR SLASH IS IS_NOT IS_COMPLETE IS_NOT_COMPLETE ORDER AND OR DAYS MONTHS YEARS".split())
+OPERATORS = frozenset("PLUS MINUS STAR SLASH IS IS_NOT IS_COMPLETE IS_NOT_COMPLETE ORDER AND OR DAYS MONTHS YEARS FOR".split())
 GROUPS = (
     ("WORD", VALUES, "a value"),
     ("PLUS", OPERATORS, "an operator"),
+    ("CONSTANT", frozenset("NAME OPTION INT DOLLAR FRACTION PERCENT DAY STRING CONSTANT".split()), "a value"),
     ("DOLLAR", frozenset("INT DOLLAR FRACTION PERCENT DAY".split()), "a constant"),
-    ("FROM", frozenset("FROM TO AT_MOST NAME LIMIT PLACEHOLDER".split()), "a limit, a check or a placeholder"),
+    ("LIMIT", frozenset("FROM TO AT_MOST NAME LIMIT PLACEHOLDER".split()), "a limit, a check or a placeholder"),
     ("PATH", frozenset(("PATH", "QUOTED_PATH")), "a path"),
 )
 """Where the first may stand, all of these are told by the words."""
@@ -77,7 +78,7 @@ def _hint(text: str, at: int) -> str:
     called = re.search(r"([A-Za-z]+)\s*$", text[:at]) if text[at] == "(" else None
     if called:
         meant = CALLED.get(called[1].lower())
-        return f"write `{meant}`" if meant else f"nothing is called `{called[1]}`"
+        return f"write `{meant}`" if meant else f"nothing is called `{called[1]}`: a table is read as `{called[1]} for ..`"
     return next((hint for pattern, hint in HINTS if re.compile(pattern).match(text, at)), "")
 
 

@@ -10,7 +10,9 @@ import re
 
 NAME = re.compile(r"[A-Za-z][A-Za-z0-9_-]*")
 PATH = re.compile(r"(\.\.)?(/([A-Za-z][A-Za-z0-9_-]*|\*))+")
-RESERVED = frozenset("if then otherwise and or not is complete where true false days except placeholder".split())
+CONSTANTS = ("Int", "Dollar", "Rational", "Day")
+"""The types whose constants may be written in quotes behind them, so that no name stands before quotes where one of these is."""
+RESERVED = frozenset((*"if then otherwise and or not is complete where true false days except placeholder".split(), *CONSTANTS, "Enum", "Lookup"))
 """The words that no name in an expression has."""
 
 AMOUNT = re.compile(r"(-?)(0|[1-9][0-9]*)((?:\.[0-9]{2})?)")

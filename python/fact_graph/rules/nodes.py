@@ -10,8 +10,8 @@ from ..uses import Scope
 from .comments import Notes
 from .declared import Declared
 from .layout import EDGE, HARD, SPACE, Doc, Remark, group, nest, row
-from .literals import NAME, PATH, RESERVED, quoted, written
-from .phrases import LATER, OF_ONE, OF_TWO
+from .literals import CONSTANTS, NAME, PATH, RESERVED, quoted, written
+from .phrases import KEY, LATER, LOOKUP, OF_ONE, OF_TWO
 from .units import CHAINS, LISTS, VALUE_SIDES
 
 Node = list[Any]
@@ -24,7 +24,7 @@ OVER = {"CollectionSum": "sum of", "CollectionSize": "number of", "Count": "coun
 LOOSE, EITHER, BOTH, NEGATION, COMPARISON, PHRASE, SUM, PRODUCT, CLOSED = range(9)
 LEVELS = {
     "Switch": LOOSE, "Filter": LOOSE, "Find": LOOSE, "Any": EITHER, "All": BOTH, "Not": NEGATION,
-    **dict.fromkeys(COMPARISONS, COMPARISON), "IsComplete": COMPARISON, **dict.fromkeys(OF_TWO, PHRASE),
+    **dict.fromkeys(COMPARISONS, COMPARISON), "IsComplete": COMPARISON, **dict.fromkeys((*OF_TWO, LOOKUP), PHRASE),
     "Add": SUM, "Subtract": SUM, **dict.fromkeys(LATER, SUM), **dict.fromkeys(PRODUCTS, PRODUCT),
 }  # fmt: skip
 SUMS = frozenset(("Add", "Subtract", *LATER))
@@ -61,7 +61,7 @@ class Printer:
             **dict.fromkeys(CHAINS, self._chain), **dict.fromkeys(LISTS, self._list), **dict.fromkeys(COMPARISONS, self._comparison),
             **dict.fromkeys(PRODUCTS, self._product), **dict.fromkeys(LATER, self._later_day), **dict.fromkeys(OF_ONE, self._of_one),
             **dict.fromkeys(OF_TWO, self._of_two), "Switch": self._switch, "Filter": self._choice, "Find": self._choice, "Not": self._not,
-            "Round": self._round,
+            "Round": self._round, LOOKUP: self._lookup,
         }  # fmt: skip
 
     def root(self, node: Node, pointer: Pointer, scope: Scope, enum: str | None) -> Doc:
@@ -171,6 +171,10 @@ class Printer:
         second_doc = nest(SPACE, f"{second} ", self._inside(node[2], spot.part(2), CLOSED))
         return group(f"{first} ", self._inside(node[1], spot.part(1), CLOSED), second_doc)
 
+    def _lookup(self, node: Node, spot: Spot) -> Doc:
+        name = node[1] if NAME.fullmatch(node[1]) and node[1] not in RESERVED else f"{LOOKUP} {quoted(node[1])}"
+        return group(name, nest(SPACE, f"{KEY} ", self._inside(node[2], spot.part(2), CLOSED)))
+
     def _leaf(self, node: Node, spot: Spot) -> str:
         name, *texts = node
         if name in ("True", "False"):
@@ -205,6 +209,19 @@ def constant_text(kind: str, text: str) -> str:
     if kind == "Text":
         return quoted(text)
     return written(kind, text) or f"{kind} {quoted(text)}"
+
+
+def entry_text(kind: str, text: str) -> str:
+    """A key or a value of a table, whose type the table says.
+
+    >>> entry_text("Dollar", "291"), entry_text("Rational", "3"), entry_text("Enum(tenure)", "rents"), entry_text("Text", "a b")
+    ('$291', '3', 'rents', '"a b"')
+    """
+    if kind.startswith("Enum("):
+        return f"{kind[5:-1]}.{text}" if text in CONSTANTS else text
+    if kind == "Boolean":
+        return text
+    return (written("Int", text) if kind == "Rational" else None) or constant_text(kind, text)
 
 
 def path_text(path: str) -> str:

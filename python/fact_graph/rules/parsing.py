@@ -16,15 +16,17 @@ from ..located import Document, Place
 from .building import Builder
 from .comments import Notes, noted
 from .declared import Declared
-from .drafts import EnumDraft, FactDraft, Misread, Span, VersionDraft
+from .drafts import EnumDraft, FactDraft, Misread, Span, TableDraft, VersionDraft
 from .expected import told
 from .reading import Reader, type_text
 from .scanning import Item, Scan, scan
 
-KIND = re.compile(r"(version|enum)(?![A-Za-z0-9_-])|[/`.]")
-NO_KIND = "`version`, `enum` or the path of a fact belongs at the left edge; what goes on with a fact is indented"
+KIND = re.compile(r"(version|enum|table)(?![A-Za-z0-9_-])|[/`.]")
+NO_KIND = "`version`, `enum`, `table` or the path of a fact belongs at the left edge; what goes on with a fact is indented"
 NO_ITEM = "nothing stands before this line, so it can't be indented"
-ItemDraft = VersionDraft | EnumDraft | FactDraft
+LISTED = ("enums", "tables", "facts")
+"""The lists of a dictionary, in their order."""
+ItemDraft = VersionDraft | EnumDraft | TableDraft | FactDraft
 Made = TypeVar("Made")
 
 
@@ -49,10 +51,10 @@ class Rules(Document):
 
     @property
     def json(self) -> bytes:
-        """The dictionary as a file of JSON, with a line for each list of options and for each fact."""
-        top = {key: value for key, value in self.value.items() if key not in ("enums", "facts")}
+        """The dictionary as a file of JSON, with a line for each list of options, table and fact."""
+        top = {key: value for key, value in self.value.items() if key not in LISTED}
         parts = [f"{_compact(key)}:{_compact(value)}" for key, value in top.items()]
-        parts += [_lines(key, self.value[key]) for key in ("enums", "facts") if key in self.value]
+        parts += [_lines(key, self.value[key]) for key in LISTED if key in self.value]
         return ("{" + ",\n".join(parts) + "\n]}\n").encode()
 
 
@@ -62,14 +64,14 @@ def _compact(value: Any) -> str:
 
 def _lines(key: str, values: list[Any]) -> str:
     """A list with a line for each of its values, and its end on the line of the last, but for the facts."""
-    end = "]" if key == "enums" else ""
+    end = "" if key == "facts" else "]"
     return f"{_compact(key)}:[\n" + ",\n".join(map(_compact, values)) + end
 
 
 @functools.cache
 def grammar() -> Lark:
     """The parser of items."""
-    return Lark.open("grammar.lark", rel_to=__file__, parser="lalr", start=["version", "enum", "fact"], keep_all_tokens=True)
+    return Lark.open("grammar.lark", rel_to=__file__, parser="lalr", start=["version", "enum", "table", "fact"], keep_all_tokens=True)
 
 
 def parse(text: str) -> Rules:
@@ -138,16 +140,19 @@ class _Parser:
         return draft
 
     def _order(self, drafts: list[ItemDraft]) -> None:
-        """Notes what stands out of its order: first the version, then the lists of options, then the facts."""
+        """Notes what stands out of its order: first the version, then the lists of options, then the tables, then the facts."""
         if not self.faults and not (drafts and isinstance(drafts[0], VersionDraft)):
             self._fault((0, 0), "rules begin with their version, as `version 2`")
-        has_facts = False
+        has_tables = has_facts = False
         for at, draft in enumerate(drafts):
+            has_tables |= isinstance(draft, TableDraft)
             has_facts |= isinstance(draft, FactDraft)
             if at and isinstance(draft, VersionDraft):
                 self._fault(draft.span, "the version stands once, before all else")
-            elif has_facts and isinstance(draft, EnumDraft):
-                self._fault(draft.span, "the lists of options stand before the facts")
+            elif isinstance(draft, EnumDraft) and (has_tables or has_facts):
+                self._fault(draft.span, f"the lists of options stand before the {'facts' if has_facts else 'tables'}")
+            elif isinstance(draft, TableDraft) and has_facts:
+                self._fault(draft.header, "the tables stand before the facts")
 
     def _declared(self, drafts: list[ItemDraft]) -> Declared:
         """The types of the facts, and the lists of options."""
@@ -157,13 +162,14 @@ class _Parser:
     def _value(self, drafts: list[ItemDraft], reader: Reader) -> dict[str, Any]:
         """The JSON of the drafts. A part with a fault is none."""
         value: dict[str, Any] = {}
-        enums: list[Any] = []
-        facts: list[Any] = []
+        lists: dict[str, list[Any]] = {key: [] for key in LISTED}
         for draft in drafts:
             if isinstance(draft, VersionDraft):
                 value |= self._tried(partial(reader.version, draft)) or {}
             elif isinstance(draft, EnumDraft):
-                enums.append(self._tried(partial(reader.enum, draft, ("enums", len(enums)))))
+                lists["enums"].append(self._tried(partial(reader.enum, draft, ("enums", len(lists["enums"])))))
+            elif isinstance(draft, TableDraft):
+                lists["tables"].append(self._tried(partial(reader.table, draft, ("tables", len(lists["tables"])))))
             else:
-                facts.append(self._tried(partial(reader.fact, draft, ("facts", len(facts)))))
-        return value | ({"enums": enums} if enums else {}) | {"facts": facts}
+                lists["facts"].append(self._tried(partial(reader.fact, draft, ("facts", len(lists["facts"])))))
+        return value | {key: stated for key, stated in lists.items() if stated or key == "facts"}

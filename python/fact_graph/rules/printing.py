@@ -9,7 +9,7 @@ from .comments import Notes
 from .declared import OF, Declared, enum_of, scope_of
 from .layout import HARD, SPACE, Doc, Remark, group, laid, nest, row
 from .literals import NAME, quoted, written
-from .nodes import Printer, path_text
+from .nodes import Printer, entry_text, path_text
 
 BOUNDS = {"Min": "from", "Max": "to"}
 
@@ -35,16 +35,19 @@ class _Text:
     def __init__(self, dictionary: dict[str, Any], notes: Notes | None) -> None:
         self.dictionary = dictionary
         self.enums: list[dict[str, Any]] = dictionary.get("enums", [])
+        self.tables: list[dict[str, Any]] = dictionary.get("tables", [])
         self.facts: list[dict[str, Any]] = dictionary["facts"]
         types = ((fact["path"], stated_type(fact)) for fact in self.facts)
         self.declared = Declared(types, ((enum["name"], enum["options"]) for enum in self.enums))
-        self.notes = notes or Notes(before={("enums", 0): [""], ("facts", 0): [""]})
+        parted: list[Pointer] = [("enums", 0), ("facts", 0), *(("tables", at) for at in range(len(self.tables)))]
+        self.notes = notes or Notes(before={pointer: [""] for pointer in parted})
         self.printer = Printer(self.declared, self.notes)
 
     def all(self) -> str:
         """The whole text."""
         items = [self._item(("version",), self._version())]
         items += [self._item(("enums", at), self._enum(enum, ("enums", at))) for at, enum in enumerate(self.enums)]
+        items += [self._item(("tables", at), self._table(table, ("tables", at))) for at, table in enumerate(self.tables)]
         items += [self._item(("facts", at), self._fact(fact, ("facts", at))) for at, fact in enumerate(self.facts)]
         lines = [*(line for item in items for line in item), *self.notes.after]
         return "".join(f"{line}\n" for at, line in enumerate(lines) if line or at and lines[at - 1]).rstrip("\n") + "\n"
@@ -70,6 +73,16 @@ class _Text:
         options = nest(SPACE, first, *(row(",", SPACE, option) for option in others))
         return row(group(f"enum {enum['name']}:", options), self._remarks(pointer))
 
+    def _table(self, table: dict[str, Any], pointer: Pointer) -> Doc:
+        keys, values = table["from"], table["to"]
+        header = f"table {table['name']}: {keys} to {values}, otherwise {entry_text(values, table['else'])}"
+        rows: list[Doc] = []
+        for at, (key, value) in enumerate(table["rows"]):
+            here = (*pointer, "rows", at)
+            words = f"from {entry_text(keys, key)}: {entry_text(values, value)}"
+            rows.append(nest(HARD, self.printer.leading(here), words, self._remarks(here)))
+        return row(header, self._remarks(pointer), *self._description(table, pointer), *rows)
+
     def _fact(self, fact: dict[str, Any], pointer: Pointer) -> Doc:
         header = f"{path_text(fact['path'])}: {type_words(stated_type(fact))}"
         description = self._description(fact, pointer)
@@ -83,11 +96,11 @@ class _Text:
             body = row(group(header, " =", self._remarks(pointer), nest(SPACE, leading, main)))
         return row(body, *self._conditional(fact, pointer), *self._placeholder(fact, pointer))
 
-    def _description(self, fact: dict[str, Any], pointer: Pointer) -> list[Doc]:
-        if "description" not in fact:
+    def _description(self, item: dict[str, Any], pointer: Pointer) -> list[Doc]:
+        if "description" not in item:
             return []
         at = (*pointer, "description")
-        return [nest(HARD, self.printer.leading(at), quoted(fact["description"])), self._remarks(at)]
+        return [nest(HARD, self.printer.leading(at), quoted(item["description"])), self._remarks(at)]
 
     def _clauses(self, fact: dict[str, Any], pointer: Pointer) -> list[Doc]:
         """What stands behind the type of a fact that a person answers."""

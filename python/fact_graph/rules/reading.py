@@ -9,7 +9,7 @@ from ..expressions import LAW, OF_LAW, VERSIONS
 from ..located import Pointer
 from ..uses import Scope
 from .declared import Declared, enum_of, scope_of
-from .drafts import Draft, EnumDraft, FactDraft, Misread, Span, StatedType, Text, VersionDraft
+from .drafts import Draft, EnumDraft, FactDraft, Misread, Span, StatedType, TableDraft, Text, VersionDraft
 from .phrases import phrase
 from .units import OPEN, VALUE_SIDES
 
@@ -22,6 +22,15 @@ CONSTANTS = {
     "Day": ("a day, as `2025-01-31`", ("Day",)),
 }
 """How a limit of each type is written."""
+KEYED_BY = ("Int", "Dollar", "Day")
+"""The types of a table's keys."""
+ENTRIES = {
+    **CONSTANTS,
+    "Boolean": ("`true` or `false`", ("Word",)),
+    "Text": ("a text in quotes", ("Text",)),
+    "Enum": ("an option of its list", ("Word", "Enum")),
+}
+"""How a key or a value of a table of each type is written."""
 
 
 class Reader:
@@ -62,6 +71,40 @@ class Reader:
             seen.add(option.text)
         options = [self.note(option, (*pointer, "options", at)) for at, option in enumerate(draft.options)]
         return {"name": self.note(draft.name, (*pointer, "name")), "options": options}
+
+    def table(self, draft: TableDraft, pointer: Pointer) -> dict[str, Any]:
+        """A table."""
+        if self.stated_version != LAW:
+            raise Misread(draft.header, f"a table belongs to version {LAW}")
+        self.spans[pointer] = self.units[pointer] = draft.header
+        values = type_text(draft.values)
+        if draft.values.name in ("Collection", "Item"):
+            raise Misread(draft.values.span, f"a table has no members to give: its values are {', '.join(SCALARS)} or Enum(..)")
+        if draft.keys.text not in KEYED_BY:
+            raise Misread(draft.keys.span, "a table goes by an Int, a Dollar or a Day")
+        self.spans[(*pointer, "to")] = draft.values.span
+        self.spans[(*pointer, "rows")] = draft.rows[0].span if draft.rows else draft.header
+        rows = []
+        for at, row in enumerate(draft.rows):
+            here = (*pointer, "rows", at)
+            self.spans[here] = self.units[here] = row.span
+            key = self._entry(row.key, (*here, 0), draft.keys.text, f"a key of {draft.name.text}")
+            rows.append([key, self._entry(row.value, (*here, 1), values, f"a value of {draft.name.text}")])
+        stated = {"name": self.note(draft.name, (*pointer, "name")), "from": self.note(draft.keys, (*pointer, "from")), "to": values, "rows": rows}
+        stated["else"] = self._entry(draft.otherwise, (*pointer, "else"), values, f"a value of {draft.name.text}")
+        if draft.description:
+            self.units[(*pointer, "description")] = draft.description.span
+            stated["description"] = self.note(draft.description, (*pointer, "description"))
+        return stated
+
+    def _entry(self, draft: Draft, pointer: Pointer, kind: str, what: str) -> str:
+        """The text of a key or a value of a table."""
+        wanted, names = ENTRIES[kind.partition("(")[0]]
+        is_of_others = kind == "Boolean" and draft.texts[0] not in ("true", "false") or draft.name == "Enum" and draft.texts[0] != enum_of(kind)
+        if draft.name not in names or is_of_others:
+            raise Misread(draft.span, f"{what} is written as {wanted}")
+        self.spans[pointer] = draft.span
+        return draft.texts[-1]
 
     def fact(self, draft: FactDraft, pointer: Pointer) -> dict[str, Any]:
         """A fact: one that a person answers, or one that follows."""

@@ -53,6 +53,69 @@ def test_what_a_figure_rests_on(words: list[str], due: list[str], capsys: Shown)
     assert capsys.readouterr().out.splitlines() == due
 
 
+TABLES = """version law-1
+
+enum rank: low, high
+
+table aid: Int to Dollar, otherwise $0
+  from 1: $291
+  from 2: $535
+table rank: Dollar to Enum(rank), otherwise low
+  from $500: high
+table open: Day to Boolean, otherwise false
+
+/size: Int, placeholder 1
+/day: Day
+/people: Collection
+/people/*/age: Int
+/people/*/aid: Dollar = aid for ../age
+/first: Item(/people) = first of /people where age > 1
+/aid: Dollar = aid for /size
+/rank: Enum(rank) = rank for (aid for /size)
+/more: Dollar = (aid for 0) + $2 * /size + (aid for (/size + 1))
+/firstAid: Dollar = aid for /first/age
+/case: Dollar = if /size > 0 then aid for /size otherwise $0
+/may: Boolean = open for /day
+/asked: Int
+/guessed: Dollar = aid for /asked
+  placeholder aid for /size
+/other: Dollar = aid for /size
+  except if /may then $1
+"""
+ANSWERS = "saved 1\nnext 3\nlist /people #1 #2\nvalue /size 2\nvalue /people/#1/age 1\nvalue /people/#2/age 5\n"
+ROWS = (
+    ("/aid", ["/aid final 535.00 (table aid, from 2: $535)", "  /size final 2"]),
+    ("/rank", ["/rank final high (table rank, from $500: high) (table aid, from 2: $535)", "  /size final 2"]),
+    ("/more", ["/more final 539.00 (table aid, otherwise $0)", "  /size final 2"]),
+    ("/people/#1/aid", ["/people/#1/aid final 291.00 (table aid, from 1: $291)", "  /people/#1/age final 1"]),
+    ("/firstAid", ["/firstAid final 535.00 (table aid, from 2: $535)", "  /first final #2", "    /people final [#1 #2]", "    /people/#1/age final 1",
+                   "    /people/#2/age final 5", "  /people/#2/age final 5"]),
+    ("/case", ["/case final 535.00", "  /size final 2"]),
+    ("/may", ["/may incomplete", "  /day incomplete (missing)"]),
+    ("/other", ["/other incomplete", "  /may incomplete", "    /day incomplete (missing)"]),
+)  # fmt: skip
+
+
+@pytest.mark.usefixtures("folder")
+@pytest.mark.parametrize(("slot", "due"), ROWS)
+def test_which_row_of_a_table_was_read(slot: str, due: list[str], capsys: Shown) -> None:
+    """It is told where the rule reads it for a fact, a constant or another row, and reads it for sure."""
+    Path("tables.facts").write_text(TABLES, encoding="utf-8")
+    Path("answers").write_text(f"{ANSWERS}end\n", encoding="utf-8")
+    assert main(["why", "tables.facts", slot, "--saved", "answers"]) == Status.DONE
+    assert capsys.readouterr().out.splitlines() == due
+
+
+@pytest.mark.usefixtures("folder")
+def test_what_an_override_or_a_placeholder_stands_for_reads_no_row(capsys: Shown) -> None:
+    """A row is told of what the rule itself came to."""
+    Path("tables.facts").write_text(TABLES, encoding="utf-8")
+    Path("answers").write_text(f"{ANSWERS}override /aid 7.00\nend\n", encoding="utf-8")
+    for slot, due in (("/aid", "/aid final 7.00 (override)"), ("/guessed", "/guessed placeholder 535.00")):
+        assert main(["why", "tables.facts", slot, "--saved", "answers"]) == Status.DONE
+        assert capsys.readouterr().out.splitlines()[0] == due
+
+
 @pytest.mark.usefixtures("folder")
 def test_what_leads_to_a_missing_answer(capsys: Shown) -> None:
     assert main(["missing", "d.json", "/b", "/c", "--tree"]) == Status.DONE

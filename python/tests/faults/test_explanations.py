@@ -22,6 +22,11 @@ TOP = Path(__file__).resolve().parents[3]
 MEMBERS = '{"path":"/c","writable":"Collection"},{"path":"/c/*/k","writable":"Boolean"},{"path":"/c/*/v","writable":"Int"}'
 ENUMS = '"enums":[{"name":"size","options":["small","large"]}],'
 
+TABLE = '"tables":[{"name":"mostAid","from":"Int","to":"Dollar","rows":[["1","291"],["2","535"]],"else":"0"}],'
+OF_OPTIONS = '"tables":[{"name":"sizeOf","from":"Int","to":"Enum(size)","rows":[["1","large"]],"else":"small"}],'
+ROWS = "".join(f'["{key}","5"],' for key in range(2, 1001))
+MANY_TABLES = f'"tables":[{",".join("¦" * (at == 100) + TABLE[10:-2].replace("mostAid", f"t{at}") for at in range(101))}],'
+
 
 def of(facts: str, enums: str = "", version: str = "1") -> str:
     """The text of a dictionary with these facts."""
@@ -32,7 +37,7 @@ CASES = [
     # the form of what stands outside the facts
     ("¦[]", "3 Shape fact 0", "a dictionary is an object in braces", '{"version"'),
     ('{"version":¦1,"facts":[]}', "3 Shape fact 0", "there is no version 1", 'write "1"'),
-    ('{"version":¦"law-2","facts":[]}', "3 Shape fact 0", 'there is no version "law-2"', '"law-1" for ages, months and rounding'),
+    ('{"version":¦"law-2","facts":[]}', "3 Shape fact 0", 'there is no version "law-2"', '"law-1" for ages, months, rounding and tables'),
     ('{"version":"1","facts":[],¦"fact":[]}', "3 Shape fact 0", "a dictionary has no key `fact`", "`version`, `description`, `enums` and `facts`"),
     ('¦{"version":"1"}', "3 Shape fact 0", "needs the key `facts`", ""),
     (of("", '"enums":[{"name":¦"my size","options":["small"]}],'), "3 Shape fact 0", "is a name, and \"my size\" is none", '"my-size" is one'),
@@ -40,6 +45,30 @@ CASES = [
     (of("", '"enums":[{"name":"size","options":["a",¦"a"]}],'), "3 Shape fact 0", 'the option "a" stands twice', ""),
     (of("", '"enums":[{"name":"size","options":¦[]}],'), "3 Shape fact 0", "one option at least", ""),
     (of("", '"enums":[{"name":"s","options":["a"]},{"name":¦"s","options":["a"]}],'), "3 Shape fact 0", "an earlier list of options is named `s`", ""),
+    # the form of tables
+    (of("", TABLE, "2").replace('"tables"', '¦"tables"'), "3 Shape fact 0", "`tables` is of version law-1", 'write "version":"law-1"'),
+    (of("", '"tables":¦"mostAid",', "law-1"), "3 Shape fact 0", "the tables are a list, and this is a text", '"tables":[{"name"'),
+    (of("", '"tables":[¦["mostAid"]],', "law-1"), "3 Shape fact 0", "a table is an object in braces, and this is a list", '"else":"0"'),
+    (of("", TABLE.replace(',"else":"0"', "").replace('{"name"', '¦{"name"'), "law-1"), "3 Shape fact 0", "a table needs the key `else`", ""),
+    (of("", TABLE.replace('"else"', '¦"otherwise":"0","else"'), "law-1"), "3 Shape fact 0", "a table has no key `otherwise`", "a table has `name`, `from`"),
+    (of("", TABLE.replace('"mostAid"', '¦"most aid"'), "law-1"), "3 Shape fact 0", 'the name of a table is a name, and "most aid" is none', '"most-aid" is one'),
+    (of("", TABLE.replace('"Int"', '¦"Rational"'), "law-1"), "3 Shape fact 0", 'keys of the type `Int`, `Dollar` or `Day`, and not "Rational"', ""),
+    (of("", TABLE.replace('"Dollar"', '¦"Item(/people)"'), "law-1"), "3 Shape fact 0", 'no values of the type "Item(/people)"', "`Text` and `Enum(..)`"),
+    (of("", ENUMS + TABLE.replace('"Dollar"', '¦"Enum(sizes)"'), "law-1"), "3 Shape fact 0", "no list of options is named `sizes`", "`size` is like it"),
+    (of("", TABLE.replace('["2","535"]', '¦["2"]'), "law-1"), "3 Shape fact 0", 'a row is a pair of a key and a value, and this is ["2"]', '["1","291"]'),
+    (of("", TABLE.replace('"535"', "¦535"), "law-1"), "3 Shape fact 0", "the value of row no. 2 is a text, and this is the number 535", 'write "535"'),
+    (of("", TABLE.replace('"2"', '¦"2.5"'), "law-1"), "3 Shape fact 0", "the key of row no. 2 of the table `mostAid` is no Int: an Int is an optional `-`", ""),
+    (of("", TABLE.replace('"535"', '¦"535.5"'), "law-1"), "3 Shape fact 0", "the value of row no. 2 of the table `mostAid` is no Dollar", ""),
+    (of("", TABLE.replace('"0"', '¦"none"'), "law-1"), "3 Shape fact 0", "what stands below the first row of the table `mostAid` is no Dollar", ""),
+    (of("", TABLE.replace('"2"', '¦"01"'), "law-1"), "3 Shape fact 0", "the key 01 of row no. 2 of the table `mostAid` isn't above the one before it, 1", "each key once"),
+    (of("", ENUMS + OF_OPTIONS.replace('"large"', '¦"larg"'), "law-1"), "3 Shape fact 0", 'the value of row no. 1 of the table `sizeOf` is "larg"', "`large` is like it"),
+    (of("", TABLE.replace("}]", '},{"name":¦"mostAid","from":"Int","to":"Int","rows":[],"else":"1"}]'), "law-1"), "3 Shape fact 0", "an earlier table is named `mostAid`, too", ""),
+    (of("", TABLE.replace('["2","535"]', ROWS + '¦["1001","5"]'), "law-1"), "3 Shape fact 0", "the table `mostAid` has 1,001 rows, and there may be 1,000", ""),
+    (of("", MANY_TABLES, "law-1"), "3 Shape fact 0", "101 tables, and there may be 100", ""),
+    (of('{"path":"/a","derived":"Dollar","is":["Lookup",¦"mostAd",["Int","1"]]}', TABLE, "law-1"), "3 Shape fact 1", 'there is no table "mostAd"', "`mostAid` is like it"),
+    (of('{"path":"/a","derived":"Dollar","is":["Lookup",¦"mostAid",["Int","1"]]}', "", "law-1"), "3 Shape fact 1", 'there is no table "mostAid"', '"tables":[ .. ]'),
+    (of('{"path":"/a","derived":"Dollar","is":¦["Lookup","mostAid"]}', TABLE, "law-1"), "3 Shape fact 1", "`Lookup` takes a table and one operand, and has 1", ""),
+    (of('{"path":"/a","derived":"Dollar","is":[¦"Lookup","mostAid",["Int","1"]]}', "", "2"), "3 Shape fact 1", "`Lookup` is of version law-1", 'write "version":"law-1"'),
     # the form of a fact
     (of('{"path":"/a","writable":¦"Money"}'), "3 Shape fact 1", 'there is no type "Money"', "`Dollar` is like it"),
     (of('{"path":"/a","writable":"Int",¦"placholder":["Int","1"]}'), "3 Shape fact 1", "a writable fact has no key `placholder`", "`placeholder` is like it"),
@@ -93,6 +122,8 @@ CASES = [
     (of(f'{MEMBERS},{{"path":"/a","derived":"Item(/c)","is":¦["Find","/c",["Dependency","v"]]}}'), "12 IllTyped fact 4 node 1", "the condition of a Find is a Boolean, and this is an Int", ""),
     (of('{"path":"/a","derived":"Int","is":¦["AgeOn",["Day","2000-02-29"],["Int","18"]]}', "", "law-1"), "12 IllTyped fact 1 node 1", "AgeOn takes two Days, and operand 1 is a Day, operand 2 an Int", ""),
     (of('{"path":"/a","derived":"Dollar","is":¦["RoundUp",["Dollar","1.50"],["Int","1"]]}', "", "law-1"), "12 IllTyped fact 1 node 1", "a Dollar to whose multiple it is rounded", "make the Int an amount"),
+    (of('{"path":"/a","derived":"Dollar","is":¦["Lookup","mostAid",["Dollar","1"]]}', TABLE, "law-1"), "12 IllTyped fact 1 node 1", "the table `mostAid` goes by an Int, and this is a Dollar", ""),
+    (of('{"path":"/a","derived":"Int","is":¦["Lookup","mostAid",["Int","1"]]}', TABLE, "law-1"), "12 IllTyped fact 1 node 1", "the fact says that it is an Int, and its expression is a Dollar", ""),
     # limits
     (of('{"path":"/a","writable":"Text","limits":[¦["Min","1"]]}'), "13 BadLimit fact 1", "the fact is Text", ""),
     (of('{"path":"/a","writable":"Int","limits":[["Max",¦"1.5"]]}'), "13 BadLimit fact 1", "`1.5` is no Int", ""),
@@ -131,6 +162,11 @@ def test_an_option_of_a_list_without_any_is_found_behind_it() -> None:
     assert ("the list `size` has no option `small`", "it has none") in [(it.reason, it.hint) for it in Examined(text.encode()).findings]
 
 
+def test_a_value_of_a_list_without_options_is_found_behind_it() -> None:
+    text = of("", '"enums":[{"name":"size","options":[]}],' + OF_OPTIONS, "law-1")
+    assert [it.hint for it in Examined(text.encode()).findings] == ["", "it has none", "it has none"]
+
+
 def test_a_dictionary_without_a_fault_has_no_finding() -> None:
     for path in sorted([*(TOP / "examples").glob("*.json"), *(TOP / "tests" / "dictionaries").glob("*.json")]):
         examined = Examined(path.read_bytes())
@@ -150,7 +186,7 @@ def test_the_nodes_are_those_of_the_schema() -> None:
         parts = tuple(kinds[it["$ref"]] if "$ref" in it else "text" for it in then["prefixItems"][1:])
         for name in entry["if"]["prefixItems"][0]["enum"]:
             form = NODES[name]
-            assert tuple("text" if it == "path" else it for it in form.parts) == parts
+            assert tuple("text" if it in ("path", "table") else it for it in form.parts) == parts
             assert form.more == (then["items"] is not False)
             assert then["minItems"] == len(parts) + 1
             seen.add(name)

@@ -10,7 +10,7 @@ from fact_graph.expressions import LAW, OF_LAW, VERSIONS
 
 Node = list[Any]
 
-ENUMS = {"tenure": ["rents", "owns", "none"], "outcome": ["full", "none", "away", "complete"], "if": ["then", "table"]}
+ENUMS = {"tenure": ["rents", "owns", "none"], "outcome": ["full", "none", "away", "complete"], "if": ["then", "table", "Int", "Enum", "true", "from"]}
 FACTS = {
     "/a": "Int", "/b": "Dollar", "/tenure": "Enum(tenure)", "/outcome": "Enum(outcome)", "/people": "Collection", "/people/*/born": "Day",
     "/people/*/away": "Boolean", "/people/*/status": "Enum(outcome)", "/people/*/where": "Enum(tenure)", "/people/*/age": "Int",
@@ -21,6 +21,14 @@ PATHS = [
     "none", "where", "if", "complete", "age", "months", "on", "Int", "/1", "//", "", "/a/b/c", "../a/*/b", "a b", "..", "/people/*",
     "`", "#", "\u202e", '"', "\\", "\n",
 ]  # fmt: skip
+KEYS = {"Int": ["-5", "-0", "1", "007", "18000"], "Dollar": ["-1234567.89", "0", "1.50", "007", "18000.00"], "Day": ["1800-01-01", "2024-02-29"]}
+"""By a type by which a table goes, keys that rise."""
+ENTRIES = {
+    "Boolean": ["true", "false"], **KEYS, "Rational": ["1/2", "2", "12/100", "007/100", "-3/4", "-0"],
+    "Text": ["", "a b", '"', "\\n", "#", "`", "\u202e", "\U0001f600", "from 1: 2"], **{f"Enum({name})": options for name, options in ENUMS.items()},
+}  # fmt: skip
+"""By the type of a table's values, some of them."""
+TABLES = ["mostAid", "for", "if", "Int", "first", "away", "Lookup", "table", "to"]
 TYPES = ["Boolean", "Int", "Dollar", "Rational", "Day", "Text", "Enum(tenure)", "Enum(outcome)", "Enum(if)", "Enum(gone)"]
 WRITABLE = [*TYPES, "Collection"]
 DERIVED = [*TYPES, "Collection(/people)", "Item(/people)", "Item(people)", "Collection()", "Item(a) (b)"]
@@ -43,19 +51,31 @@ class Forms:
         self.random = random
         self.left = 0
         self.version = "1"
+        self.tables: list[str] = []
 
     def dictionary(self) -> dict[str, Any]:
         """A dictionary of a few facts, mostly behind those that paths name."""
         self.version = self.random.choice(VERSIONS)
+        self.tables = self.random.sample(TABLES, self.random.randint(0, 4)) if self.version == LAW else []
         dictionary: dict[str, Any] = {"version": self.version}
         if self.random.random() < 0.5:
             dictionary["description"] = self.random.choice(TEXTS)
         if self.random.random() < 0.7:
             dictionary["enums"] = [{"name": name, "options": options} for name, options in ENUMS.items()]
+        if self.version == LAW and (self.tables or self.random.random() < 0.5):
+            dictionary["tables"] = [self.table(name, "enums" in dictionary) for name in self.tables]
         named = [{"path": path, "writable": stated} for path, stated in FACTS.items()] if self.random.random() < 0.7 else []
         dictionary["facts"] = [*named, *(self.fact() for _ in range(self.random.randint(0, 3)))]
         self.random.shuffle(dictionary["facts"])
         return dictionary
+
+    def table(self, name: str, has_enums: bool) -> dict[str, Any]:
+        """A table of a few rows."""
+        keys, values = self.random.choice(list(KEYS)), self.random.choice([it for it in ENTRIES if has_enums or not it.startswith("Enum")])
+        among = sorted(self.random.sample(KEYS[keys], self.random.randint(0, len(KEYS[keys]))), key=KEYS[keys].index)
+        rows = [[key, self.random.choice(ENTRIES[values])] for key in among]
+        table = {"name": name, "from": keys, "to": values, "rows": rows, "else": self.random.choice(ENTRIES[values])}
+        return table | ({"description": self.random.choice(TEXTS)} if self.random.random() < 0.3 else {})
 
     def fact(self) -> dict[str, Any]:
         """A fact, which a person answers or which follows."""
@@ -85,7 +105,8 @@ class Forms:
         self.left -= 1
         if self.left <= 0 or self.random.random() < 0.2:
             return self.leaf()
-        make: Callable[[], Node] = self.random.choice([self.many, self.many, self.switch, self.one, self.two, self.compared, self.pick])
+        makers = [self.many, self.many, self.switch, self.one, self.two, self.compared, self.pick, *([self.lookup] if self.tables else [])]
+        make: Callable[[], Node] = self.random.choice(makers)
         return make()
 
     def leaf(self) -> Node:
@@ -128,6 +149,10 @@ class Forms:
     def compared(self) -> Node:
         """A fact that is compared with a leaf, often with an option of its list."""
         return [self.random.choice(["Equal", "NotEqual"]), ["Dependency", self.random.choice(PATHS)], self.leaf()]
+
+    def lookup(self) -> Node:
+        """A row of a table."""
+        return ["Lookup", self.random.choice(self.tables), self.node()]
 
     def pick(self) -> Node:
         """A choice of members."""

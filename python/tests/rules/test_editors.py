@@ -15,7 +15,12 @@ GRAMMAR = TOP / "editors" / "vscode" / "facts.tmLanguage.json"
 TEXTS = sorted((TOP / "examples").rglob("*.facts"))
 ALL_KINDS = r"""version law-1
   "each kind of word"
-enum if: then, otherwise
+enum if: then, otherwise, Int
+table first: Day to Enum(if), otherwise if.Int
+  "the first table"
+  from 2024-10-01: for  # with a name that is a word
+table t: Dollar to Rational, otherwise 1/2
+  from -$5: 10%
 /t: Text, at most 5 bytes, digits, limit Check "to", placeholder "a \" b # c"
 /n: Int, from -5 to 5, placeholder if.then
 `/2nd`: Rational, from 1/2 to 90%
@@ -23,17 +28,20 @@ enum if: then, otherwise
   except if /a is not "x" and 3 <= 4 then 2024-02-29 + 5 days
   placeholder greater of (1, lesser of (2, 3)) + round(year of ../born) + Enum "a" "b"
 /z: Int = age of ../born on (/d + 3 months + 1 year) - (days  from /d to /e) + month of /d + day of /d
+/v: Int = (Lookup "if" for /a) + (t for $5) + (t for number of /b) * (first  for (t for /c))
+/u: Enum(if) = if /a is for and /b is not for then for otherwise first for /d
 /w: Dollar = round up /a to $1 + (round  off /b to $5) - (round down /c to $0.05)
 /y: Item(/people) = first of /people where sum of /a/*/b < number of /a and count of `/b` > adult and /t is rents
 """
 SCOPES = {
-    "VERSION": "keyword.declaration", "ENUM": "keyword.declaration", "NAME": "", "WORD": "variable.other.name", "OPTION": "constant.other.option",
+    **dict.fromkeys(("VERSION", "ENUM", "TABLE"), "keyword.declaration"),
+    "NAME": "", "WORD": "variable.other.name", "OPTION": "constant.other.option",
     "PATH": "variable.other.path", "QUOTED_PATH": "string.quoted.other.path", "STRING": "string.quoted.double", "INT": "constant.numeric.integer",
     "DOLLAR": "constant.numeric.amount", "FRACTION": "constant.numeric.fraction", "PERCENT": "constant.numeric.fraction",
     "DAY": "constant.numeric.day", "TRUE": "constant.language", "FALSE": "constant.language", "CONSTANT": "support.type", "CHOICE": "support.type",
     **dict.fromkeys(("IF", "THEN", "OTHERWISE", "EXCEPT", "PLACEHOLDER", "WHERE"), "keyword.control"),
     **dict.fromkeys(("OR", "AND", "NOT", "IS", "IS_NOT", "IS_COMPLETE", "IS_NOT_COMPLETE", "DAYS", "MONTHS", "YEARS"), "keyword.operator.word"),
-    **dict.fromkeys(("YEAR_OF", "MONTH_OF", "DAY_OF", "AGE_OF", "DAYS_FROM", "ON", "ROUND_TO", "ROUND"), "support.function"),
+    **dict.fromkeys(("YEAR_OF", "MONTH_OF", "DAY_OF", "AGE_OF", "DAYS_FROM", "ON", "FOR", "LOOKUP", "ROUND_TO", "ROUND"), "support.function"),
     **dict.fromkeys(("GREATER_OF", "LESSER_OF", "MANY", "SUM_OF", "NUMBER_OF", "COUNT_OF", "FIRST_OF"), "support.function"),
     **dict.fromkeys(("FROM", "TO", "AT_MOST", "BYTES", "LIMIT"), "keyword.other.limit"),
     **dict.fromkeys(("ORDER", "EQUAL", "PLUS", "MINUS", "STAR", "SLASH"), "keyword.operator"),

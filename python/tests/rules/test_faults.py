@@ -24,7 +24,7 @@ PLACED = {
     "/s: Int = (1 + 2": "17: `)` belongs here, and nothing follows",
     "/s: Int = 1 < 2 < 3": "17: an operator, `except`, `placeholder` or the end of the rule belongs here, and `<` stands here; "
     "part two comparisons by `and`, or use brackets",
-    "rent: Int": "1: `version`, `enum` or the path of a fact belongs at the left edge; what goes on with a fact is indented",
+    "rent: Int": "1: `version`, `enum`, `table` or the path of a fact belongs at the left edge; what goes on with a fact is indented",
     "/s: Int = rents": "11: `rents` is neither a path nor an option that is known here: "
     "a path begins with / or ../, and an option is written with its list, as `tenure.rents`",
     "/rents: Int\n/s: Int = rents": "11: `rents` is neither a path nor an option that is known here: write `/rents`",
@@ -45,6 +45,8 @@ PLACED = {
     '/x: Text = "a\\qb"': "12: a backslash stands before what it can't stand before here: write \\\\ for one backslash",
     "/x: Day = /a + 3 months": "11: `.. + .. months` belongs to version law-1",
     "/x: Int = 1 + (age of /a on /b)": "16: `age of .. on ..` belongs to version law-1",
+    "table t: Int to Int, otherwise 0": "1: a table belongs to version law-1",
+    "/x: Int = t for /a": "11: `.. for ..` belongs to version law-1",
     "/x: Boolean = " + "not " * 120 + "/a": "15: more than 120 operations stand in each other here: give a part a fact of its own",
 }
 """By a line behind `version 2`, what is said of it, and at which column."""
@@ -56,6 +58,27 @@ OF_LAW = {
     "write `age of /born on /day`",
     "/x: Int = days from /a": "23: `to` belongs here, and nothing follows",
     "/x: Dollar = round up /a * 2 to $1": "26: `to` belongs here, and `*` stands here; what is more than one value stands in brackets",
+    "/x: Int = mostAid for": "22: a value belongs here, and nothing follows",
+    "/x: Int = mostAid(/a)": "18: an operator, `except`, `placeholder` or the end of the rule belongs here, and `(` stands here; "
+    "nothing is called `mostAid`: a table is read as `mostAid for ..`",
+    "table t: Int to Int": "20: a comma belongs here, and nothing follows",
+    "table t: Int to Int, else 0": "22: `otherwise` belongs here, and `else` stands here; write `otherwise`, and `if` for each further case",
+    "table t: Int, otherwise 0": "13: `to` belongs here, and `,` stands here",
+    "table t: Int to Int, otherwise 0\n  1: 2": "3: `from`, a text in quotes or the end of the rule belongs here, and `1` stands here",
+    "table t: Int to Int, otherwise 0\n  from 1 2": "10: `:` belongs here, and `2` stands here",
+    "table t: Int to Int, otherwise 0\n  from 1:": "10: a value belongs here, and nothing follows",
+    "table t: Rational to Int, otherwise 0": "10: a table goes by an Int, a Dollar or a Day",
+    "table t: Int to Item(/a), otherwise 0": "17: a table has no members to give: its values are Boolean, Int, Dollar, Rational, Day, Text or Enum(..)",
+    "table t: Int to Money, otherwise 0": "17: Money is no type: the types are Boolean, Int, Dollar, Rational, Day, Text, Enum(..), Collection, "
+    "Collection(/..) and Item(/..)",
+    "table t: Int to Dollar, otherwise 0": "35: a value of t is written as an amount, as `$5` or `$1,500.00`",
+    "table t: Int to Dollar, otherwise $0\n  from $1: $2": "8: a key of t is written as a whole number, as `5`",
+    "table t: Int to Dollar, otherwise $0\n  from 1: 2": "11: a value of t is written as an amount, as `$5` or `$1,500.00`",
+    "table t: Day to Boolean, otherwise no": "36: a value of t is written as `true` or `false`",
+    "table t: Day to Enum(e), otherwise f.x": "36: a value of t is written as an option of its list",
+    "table t: Day to Text, otherwise x": "33: a value of t is written as a text in quotes",
+    "/a: Int\ntable t: Int to Int, otherwise 0": "1: the tables stand before the facts",
+    "table t: Int to Int, otherwise 0\nenum e: x": "1: the lists of options stand before the tables",
     "/x: Dollar = ceil(/a)": "18: an operator, `except`, `placeholder` or the end of the rule belongs here, and `(` stands here; "
     "write `round up .. to $1`",
 }
@@ -96,6 +119,42 @@ def test_rules_begin_with_their_version(text: str) -> None:
         parse(text)
 
 
+def placed(text: str) -> tuple[int, int, int]:
+    """The number of the engine's fault in rules, and the line and column where it is shown."""
+    rules = parse(text)
+    with pytest.raises(DictionaryRefused) as raised:
+        Session(rules.json)
+    examined = Examined(rules.json, rules)
+    finding = examined.finding_of(raised.value)
+    assert finding
+    place = examined.place(finding)
+    assert place
+    return raised.value.number, *place
+
+
+TABLES = {
+    "  from 2: $6": (3, 5, 8),
+    "  from 01: $6": (3, 5, 8),
+    "  from 1000000000000000: $6": (3, 5, 8),
+    "\n  # too much\n  from 3: $60000000000000": (3, 7, 11),
+    "table t: Int to Int, otherwise 1": (3, 5, 7),
+    "table u: Int to Enum(f), otherwise x": (3, 5, 17),
+    "table u: Int to Enum(e), otherwise z": (3, 5, 36),
+    "\n".join(f"  from {key}: $5" for key in range(3, 1003)): (3, 1004, 3),
+    "/a: Dollar = $1 + (u for 1)": (3, 5, 20),
+    "/a: Int\n/b: Dollar = t for (/a * $1)": (12, 6, 14),
+    "/b: Int = t for 3": (12, 5, 11),
+}
+"""By what follows the first row of a table, the number of the engine's fault, and the line and column where it stands."""
+
+
+@pytest.mark.parametrize("follows", TABLES, ids=short)
+def test_where_faults_of_tables_stand(follows: str, library: Path) -> None:
+    """What is wrong with a table, and with what is read from one, is shown at its line."""
+    assert library
+    assert placed(f"version law-1\nenum e: x, y\ntable t: Int to Dollar, otherwise $0\n  from 2: $5\n{follows}\n") == TABLES[follows]
+
+
 FAULTS = {
     "/a: Int = /b": (9, 2, 11),
     "/a: Int =\n  1\n  + $2": (12, 3, 3),
@@ -115,13 +174,7 @@ FAULTS = {
 def test_where_faults_stand(facts: str, library: Path) -> None:
     """A fault that the engine names is shown in the text of the rules."""
     assert library
-    rules = parse(f"version 2\n{facts}\n")
-    with pytest.raises(DictionaryRefused) as raised:
-        Session(rules.json)
-    examined = Examined(rules.json, rules)
-    finding = examined.finding_of(raised.value)
-    assert finding
-    assert (raised.value.number, examined.place(finding)) == (FAULTS[facts][0], FAULTS[facts][1:])
+    assert placed(f"version 2\n{facts}\n") == FAULTS[facts]
 
 
 def test_each_node_has_a_place() -> None:

@@ -15,7 +15,7 @@ from fact_graph.status import Status
 from ..places import TOP
 
 PAGE = (TOP / "docs" / "RULES.md").read_text()
-WHOLE, ANSWERED, FOLLOWING, OF_LAW, TOLD = re.findall(r"```text\n(.*?)```", PAGE, re.DOTALL)
+WHOLE, ANSWERED, FOLLOWING, OF_LAW, TABLES, TOLD_OF_TABLE, TOLD = re.findall(r"```text\n(.*?)```", PAGE, re.DOTALL)
 
 
 def test_the_first_example_is_a_dictionary(library: Path) -> None:
@@ -52,6 +52,34 @@ def test_the_words_of_laws_are_a_dictionary(library: Path) -> None:
         session[f"/people/#{person}/born"], session["/appliedOn"], session["/monthlyWages"] = "2000-02-29", "2018-02-28", "10.01"
         shown = [session.line(f"get {path}") for path in (f"/people/#{person}/age", "/contribution", "/decideBy", "/daysLeft")]
     assert shown == ["complete 17\n", "complete 4.00\n", "complete 2018-03-28\n", "complete 28\n"]
+
+
+@pytest.mark.parametrize(
+    ("answers", "due"),
+    [
+        ({"/size": 0, "/appliedOn": "2023-09-30"}, ("0.00", "807.00")),
+        ({"/size": 2, "/appliedOn": "2023-10-01"}, ("535.00", "802.00")),
+        ({"/size": 7, "/appliedOn": "2024-09-30"}, ("766.00", "802.00")),
+        ({"/size": 1, "/appliedOn": "2024-10-01"}, ("291.00", "796.00")),
+    ],
+)
+def test_the_tables_are_a_dictionary(library: Path, answers: dict[str, int | str], due: tuple[str, str]) -> None:
+    """They have their form, and give what they say."""
+    assert library
+    assert formatted(TABLES) == TABLES
+    with Session(parse(TABLES).json) as session:
+        session["/income"] = 1000
+        for path, value in answers.items():
+            session[path] = value
+        assert (str(session["/mostAid"]), str(session["/counted"])) == due
+
+
+def test_what_is_told_of_a_row(monkeypatch: pytest.MonkeyPatch, tmp_path: Path, capsys: pytest.CaptureFixture[str]) -> None:
+    """A key that doesn't rise is told as the page has it."""
+    monkeypatch.chdir(tmp_path)
+    Path("aid.facts").write_text(TABLES.replace("from 3: $766", "from 2: $766"), encoding="utf-8")
+    assert main(["check", "aid.facts"]) == Status.DICTIONARY_REFUSED
+    assert capsys.readouterr().out.startswith(TOLD_OF_TABLE)
 
 
 def test_what_is_told_of_slips(monkeypatch: pytest.MonkeyPatch, tmp_path: Path, capsys: pytest.CaptureFixture[str]) -> None:
