@@ -22,7 +22,7 @@ import tempfile
 import time
 import urllib.request
 from collections.abc import Iterator, Sequence
-from contextlib import closing, contextmanager
+from contextlib import ExitStack, closing, contextmanager
 from pathlib import Path
 
 TOP = Path(__file__).resolve().parent.parent
@@ -126,11 +126,12 @@ def main(argv: list[str]) -> int:  # pylint: disable=too-many-locals  # what the
     from fact_graph_service.settings import Settings
     from servers import Worker, held_ports
 
-    with tempfile.TemporaryDirectory(prefix="load_service.") as made, closing(Postgres()) as database, held_ports(3) as (port, *ports):
+    with tempfile.TemporaryDirectory(prefix="load_service.") as made, closing(Postgres()) as database, held_ports(3) as (port, *ports), ExitStack() as begun:
         folder, address = Path(made), f"http://127.0.0.1:{port}"
         settings = Settings(DICTIONARY, database.place, secrets.token_bytes(32), origins=(address,), cache=given.cache, rate=1_000_000)
         workers = [Worker(settings, it) for it in ports]
         for worker in workers:
+            begun.callback(worker.close)  # also where something fails
             worker.begin()
         with nginx(folder, port, ports) as front:
             began, before = time.monotonic(), busy()
@@ -139,7 +140,7 @@ def main(argv: list[str]) -> int:  # pylint: disable=too-many-locals  # what the
             press(address, folder, given.visitors, given.rate, given.seconds)
             parts["PostgreSQL"] = database.pids()
             took = {name: seconds - earlier[name] for name, seconds in spent_by(parts).items()}
-            others = (busy() - before - sum(took.values())) / (time.monotonic() - began)
+            others, wanted = (busy() - before - sum(took.values())) / (time.monotonic() - began), os.getloadavg()[0]
         changes = max(1, database.count("changes"))
         print(f"{changes} changes in the store, {changes / given.seconds:.0f} a second")
         for name, seconds in took.items():
@@ -148,6 +149,7 @@ def main(argv: list[str]) -> int:  # pylint: disable=too-many-locals  # what the
             print(f"  {name:26} {milliseconds:.2f} ms")
         print("memory of the workers:", ", ".join(f"{worker.megabytes():.0f} MB" for worker in workers))
         print(f"{others:.1f} of {os.cpu_count()} processors were taken by wrk and other processes")
+        print(f"{wanted:.0f} processes wanted one, in the mean of a minute")
         for worker in workers:
             worker.end()
     return 0

@@ -28,6 +28,8 @@ DICTIONARY = TOP / "examples" / "screener.json"
 CHANGES = 500
 KEPT = 3600
 SEALED = b"x" * 60
+NAME = secrets.token_bytes(32)
+"""That of the session to which the database's client writes."""
 
 
 def questions() -> list[str]:
@@ -59,13 +61,15 @@ class Parts:
         # pylint: disable=import-outside-toplevel # the package finds its library when it is imported
         from fact_graph import Session
         from fact_graph_service.sealing import Vault, new_secret
-        from fact_graph_service.store import Store
+        from fact_graph_service.store import Head, Store
         from fact_graph_service.visitors import Asked, Visitors
 
         text = DICTIONARY.read_bytes()
         self.questions, self.session, self.secret = questions(), Session(text), new_secret()
         self.store, self.vault, self.known = Store(place), Vault(secrets.token_bytes(32)), Asked(None, 0)
-        self.visitors = Visitors(text, self.store, self.vault, seconds=KEPT, most=1_000_000, cache=1)
+        self.visitors = Visitors(text, self.store, seconds=KEPT, most=1_000_000, cache=1)
+        with self.store.held(NAME) as hold:
+            hold.begin(Head("visit", self.visitors.digest, 0, 0, SEALED, int(time.time()) + KEPT), 1_000_000)
 
     def engine(self, number: int) -> None:
         """The engine makes the change and answers the questions."""
@@ -74,25 +78,21 @@ class Parts:
 
     def sealing(self, _: int) -> None:
         """The visitor's keys are worked out, and the change is encrypted."""
-        self.vault.name(self.secret)
-        self.vault.is_token(self.secret, self.vault.token(self.secret))
-        self.vault.seal(self.secret).close(SEALED, "place")
+        keys = self.vault.keys(self.secret)
+        keys.is_token(keys.token)
+        keys.seal.close(SEALED, "place")
 
     def store_client(self, number: int) -> None:
-        """The database is asked and told, as a change does."""
-        from fact_graph_service.store import Change, Head  # pylint: disable=import-outside-toplevel # as above
+        """The database is told of the change, as where the session stands in memory."""
+        from fact_graph_service.store import Change  # pylint: disable=import-outside-toplevel # as above
 
-        expires = int(time.time()) + KEPT
-        with self.store.held(b"part" * 8) as hold:
-            if hold.head() is None:
-                hold.begin(Head("visit", self.visitors.digest, 0, 0, SEALED, expires), 1_000_000)
-            hold.change_of(str(number))
-            hold.append(Change(number + 1, str(number), SEALED), expires)
+        is_made = self.store.step(NAME, "visit", 0, Change(number + 1, str(number), SEALED), int(time.time()) + KEPT)
+        assert is_made
 
     def call(self, number: int) -> None:
         """All of it, as HTTP calls it."""
         asked = self.known._replace(change=str(number), line=line(number), questions=self.questions)
-        answered = self.visitors.answer(self.secret, asked)
+        answered = self.visitors.answer(self.vault.keys(self.secret), asked)
         self.known = self.known._replace(visit=answered.visit, revision=answered.revision)
 
 

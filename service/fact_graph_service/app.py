@@ -13,14 +13,13 @@ import logging
 import math
 import weakref
 from collections.abc import AsyncIterator, Awaitable, Callable
+from concurrent.futures import ThreadPoolExecutor
 from contextlib import asynccontextmanager
 from pathlib import Path
 from typing import Any, TypeVar
 from urllib.parse import urlsplit
 
-import anyio.to_thread
 from starlette.applications import Starlette
-from starlette.concurrency import run_in_threadpool
 from starlette.middleware import Middleware
 from starlette.requests import ClientDisconnect, Request
 from starlette.responses import HTMLResponse, JSONResponse, PlainTextResponse, Response
@@ -31,7 +30,7 @@ from fact_graph import OutOfMemory, SavedRefused
 
 from .form import Form
 from .guard import Rates, SecureHeaders
-from .sealing import Unreadable, Vault, is_secret, new_secret
+from .sealing import Keys, Unreadable, Vault, is_secret, new_secret
 from .settings import Settings
 from .store import Store, StoreFailed, StoreFull
 from .visitors import Answered, Asked, Damaged, Ended, Visitors
@@ -65,13 +64,14 @@ class Service:
         form = Form.open(settings.dictionary)
         self.settings, self.store, self.vault = settings, Store(settings.store), Vault(settings.key)
         bounds = {"seconds": settings.minutes * 60, "most": settings.sessions, "cache": settings.cache}
-        self.visitors = Visitors(form.text, self.store, self.vault, **bounds)
+        self.visitors = Visitors(form.text, self.store, **bounds)
         self.rates = Rates(settings.rate)
         self.hosts = {urlsplit(origin).netloc for origin in settings.origins}
         self.form = json.dumps({"id": self.visitors.digest, **form.described()}, ensure_ascii=False).encode()
         self.cookie = "__Host-fact-graph" if settings.is_secure else "fact-graph"
         self.html = (PAGE / "index.html").read_text(encoding="utf-8")
-        self._turns: weakref.WeakValueDictionary[str, asyncio.Lock] = weakref.WeakValueDictionary()
+        self._turns: weakref.WeakValueDictionary[bytes, asyncio.Lock] = weakref.WeakValueDictionary()
+        self._threads = ThreadPoolExecutor(THREADS)
 
     # ---- whose request it is
 
@@ -80,29 +80,34 @@ class Service:
         found = request.cookies.get(self.cookie, "")
         return found if is_secret(found) else None
 
-    def visitor(self, request: Request) -> str:
-        """The secret of a visitor whose page makes a call. Raises `Wrong` where another site may have sent it."""
+    def visitor(self, request: Request) -> Keys:
+        """The keys of a visitor whose page makes a call. Raises `Wrong` where another site may have sent it."""
         if request.headers.get("origin") not in self.settings.origins:
             raise Wrong(403, "origin")
         secret = self.secret(request)
         if secret is None:
             raise Wrong(403, "cookie")
-        if not self.vault.is_token(secret, request.headers.get("x-token", "")):
+        keys = self.vault.keys(secret)
+        if not keys.is_token(request.headers.get("x-token", "")):
             raise Wrong(403, "token")
-        return secret
+        return keys
 
-    async def in_turn(self, secret: str, call: Callable[[], Made]) -> Made:
+    async def in_turn(self, keys: Keys, call: Callable[[], Made]) -> Made:
         """Makes a call in a thread, behind the visitor's calls before it."""
-        turn = self._turns.setdefault(secret, asyncio.Lock())
+        turn = self._turns.setdefault(keys.name, asyncio.Lock())
         async with turn:
-            return await run_in_threadpool(call)
+            return await self._in_thread(call)
+
+    def _in_thread(self, call: Callable[[], Made]) -> Awaitable[Made]:
+        """Makes a call that may wait, beside the others."""
+        return asyncio.get_running_loop().run_in_executor(self._threads, call)
 
     # ---- the page
 
     async def page(self, request: Request) -> Response:
         """The page, with the visitor's token; a new visitor gets a cookie."""
         secret = self.secret(request) or new_secret()
-        response = HTMLResponse(self.html.replace("{token}", self.vault.token(secret)))
+        response = HTMLResponse(self.html.replace("{token}", self.vault.keys(secret).token))
         response.set_cookie(self.cookie, secret, path="/", secure=self.settings.is_secure, httponly=True, samesite="strict")
         return response
 
@@ -114,30 +119,30 @@ class Service:
 
     async def answer(self, request: Request) -> Response:
         """A change, and questions."""
-        secret, said = self.visitor(request), await _said(request)
+        keys, said = self.visitor(request), await _said(request)
         asked = _asked(said)
-        return _told(await self.in_turn(secret, lambda: self.visitors.answer(secret, asked)))
+        return _told(await self.in_turn(keys, lambda: self.visitors.answer(keys, asked)))
 
     async def save(self, request: Request) -> Response:
         """The saved text."""
-        secret, asked = self.visitor(request), _asked(await _said(request))
-        return PlainTextResponse(await self.in_turn(secret, lambda: self.visitors.save(secret, asked)))
+        keys, asked = self.visitor(request), _asked(await _said(request))
+        return PlainTextResponse(await self.in_turn(keys, lambda: self.visitors.save(keys, asked)))
 
     async def resume(self, request: Request) -> Response:
         """Goes on from a saved text."""
-        secret, said = self.visitor(request), await _said(request, LARGEST_TEXT)
+        keys, said = self.visitor(request), await _said(request, LARGEST_TEXT)
         asked, text = _asked(said), _text(said, "text").encode()
-        return _told(await self.in_turn(secret, lambda: self.visitors.resume(secret, asked, text)))
+        return _told(await self.in_turn(keys, lambda: self.visitors.resume(keys, asked, text)))
 
     async def stay(self, request: Request) -> Response:
         """Keeps the answers for longer."""
-        secret, asked = self.visitor(request), _asked(await _said(request))
-        return _told(await self.in_turn(secret, lambda: self.visitors.stay(secret, asked)))
+        keys, asked = self.visitor(request), _asked(await _said(request))
+        return _told(await self.in_turn(keys, lambda: self.visitors.stay(keys, asked)))
 
     async def end(self, request: Request) -> Response:
         """Erases the answers."""
-        secret, asked = self.visitor(request), _asked(await _said(request))
-        await self.in_turn(secret, lambda: self.visitors.end(secret, asked))
+        keys, asked = self.visitor(request), _asked(await _said(request))
+        await self.in_turn(keys, lambda: self.visitors.end(keys, asked))
         return JSONResponse({})
 
     # ---- for those who run it
@@ -149,7 +154,7 @@ class Service:
     async def ready(self, _: Request) -> Response:
         """Whether the store answers too."""
         try:
-            await run_in_threadpool(self.store.check)
+            await self._in_thread(self.store.check)
         except StoreFailed:
             return PlainTextResponse("the store doesn't answer", 503)
         return PlainTextResponse("ready")
@@ -189,18 +194,18 @@ class Service:
     @asynccontextmanager
     async def lifespan(self, _: Starlette) -> AsyncIterator[None]:
         """Erases what is over, as long as the service runs."""
-        anyio.to_thread.current_default_thread_limiter().total_tokens = THREADS
         eraser = asyncio.create_task(self._erase())
         try:
             yield
         finally:
             eraser.cancel()
+            self._threads.shutdown()
             self.store.close()
 
     async def _erase(self) -> None:
         while True:
             try:
-                erased = await run_in_threadpool(self.store.expire)
+                erased = await self._in_thread(self.store.expire)
                 LOG.info("sessions erased: %d", erased)
             except StoreFailed:
                 pass  # the store has told it, and there is a next time
@@ -212,9 +217,9 @@ def application(settings: Settings | None = None) -> Starlette:
     service = Service(settings or Settings.of_environment())
     gets = {"/": service.page, "/form.json": service.described}
     posts = {f"/{call.__name__}": call for call in (service.answer, service.save, service.resume, service.stay, service.end)}
-    routes: list[BaseRoute] = [Route("/health", service.health), Route("/ready", service.ready)]
+    routes: list[BaseRoute] = [Route(path, service.served(handler), methods=["POST"]) for path, handler in posts.items()]
     routes += [Route(path, service.served(handler), methods=["GET"]) for path, handler in gets.items()]
-    routes += [Route(path, service.served(handler), methods=["POST"]) for path, handler in posts.items()]
+    routes += [Route("/health", service.health), Route("/ready", service.ready)]
     routes += [Mount("/page", StaticFiles(directory=PAGE))]
     return Starlette(routes=routes, middleware=[Middleware(SecureHeaders, is_secure=service.settings.is_secure)], lifespan=service.lifespan)
 
@@ -225,9 +230,10 @@ def application(settings: Settings | None = None) -> Starlette:
 async def _said(request: Request, most: int = LARGEST_CALL) -> dict[str, Any]:
     """The object that a request says. A slow one is waited for, but not for ever."""
     try:
-        body = await asyncio.wait_for(_body(request, most), SECONDS_FOR_BODY)
+        async with asyncio.timeout(SECONDS_FOR_BODY):
+            body = await _body(request, most)
         said = json.loads(body)
-    except asyncio.TimeoutError as slow:
+    except TimeoutError as slow:
         raise Wrong(408, "slow") from slow
     except ClientDisconnect as gone:
         raise Wrong(400, "form") from gone
@@ -254,27 +260,26 @@ def _asked(said: dict[str, Any]) -> Asked:
         raise Wrong(400, "form")
     if not isinstance(questions, list) or len(questions) > MOST_QUESTIONS:
         raise Wrong(400, "form")
-    for line in questions:
-        _checked(line)
+    _check(*questions)
     line = _text(said, "line") if "line" in said else None
     change = _text(said, "change") if "change" in said else ""
-    if (line is not None and not change) or len(change) > 100:
+    if (line is not None and not change) or len(change) > 100 or "\0" in change:
         raise Wrong(400, "form")
     return Asked(visit, revision, change, line, questions)
 
 
 def _text(said: dict[str, Any], name: str) -> str:
-    return _checked(said.get(name))
+    text = said.get(name)
+    _check(text)
+    return str(text)
 
 
-def _checked(text: object) -> str:
-    """A text that can be encoded."""
+def _check(*texts: Any) -> None:
+    """Raises `Wrong` where one is no text, or can't be encoded."""
     try:
-        if isinstance(text, str) and text.encode() is not None:
-            return text
-    except UnicodeEncodeError:
-        pass
-    raise Wrong(400, "form")
+        "".join(texts).encode()
+    except (TypeError, UnicodeEncodeError) as wrong:
+        raise Wrong(400, "form") from wrong
 
 
 def _told(answered: Answered) -> Response:

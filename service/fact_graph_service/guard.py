@@ -6,7 +6,6 @@ import time
 from collections import OrderedDict
 from collections.abc import Callable
 
-from starlette.datastructures import MutableHeaders
 from starlette.types import ASGIApp, Message, Receive, Scope, Send
 
 HEADERS = {
@@ -30,14 +29,14 @@ class SecureHeaders:
     """Adds the headers of safety to each answer."""
 
     def __init__(self, app: ASGIApp, is_secure: bool) -> None:
-        self._app, self._headers = app, HEADERS | (OVER_TLS if is_secure else {})
+        headers = HEADERS | (OVER_TLS if is_secure else {})
+        self._app, self._headers = app, [(name.lower().encode(), value.encode()) for name, value in headers.items()]
 
     async def __call__(self, scope: Scope, receive: Receive, send: Send) -> None:
         async def send_with_headers(message: Message) -> None:
             if message["type"] == "http.response.start":
-                headers = MutableHeaders(scope=message)
-                for name, value in self._headers.items():
-                    headers.setdefault(name, value)
+                said = {name for name, _ in message["headers"]}
+                message["headers"] = [*message["headers"], *(header for header in self._headers if header[0] not in said)]
             await send(message)
 
         await self._app(scope, receive, send_with_headers)

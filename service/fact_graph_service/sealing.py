@@ -8,11 +8,10 @@ from __future__ import annotations
 
 import hmac
 import secrets
+from typing import NamedTuple
 
 from cryptography.exceptions import InvalidTag
 from cryptography.hazmat.primitives.ciphers.aead import AESGCM
-from cryptography.hazmat.primitives.hashes import SHA256
-from cryptography.hazmat.primitives.kdf.hkdf import HKDF
 
 SECRET_BYTES = 32
 NONCE_BYTES = 12
@@ -32,32 +31,6 @@ def is_secret(text: str) -> bool:
     return len(text) == 43 and text.isascii() and text.replace("-", "").replace("_", "").isalnum()
 
 
-class Vault:
-    """What is worked out of the service's key for a visitor."""
-
-    def __init__(self, key: bytes) -> None:
-        self._key = key
-
-    def name(self, secret: str) -> bytes:
-        """The name of the visitor's session in the store."""
-        return self._worked_out("name", secret)
-
-    def token(self, secret: str) -> str:
-        """What the visitor's page sends with each request, and another site's page can't know."""
-        return self._worked_out("token", secret).hex()
-
-    def is_token(self, secret: str, token: str) -> bool:
-        """Whether the token is the visitor's."""
-        return hmac.compare_digest(self.token(secret).encode(), token.encode())
-
-    def seal(self, secret: str) -> Seal:
-        """What encrypts the visitor's answers."""
-        return Seal(self._worked_out("seal", secret))
-
-    def _worked_out(self, use: str, secret: str) -> bytes:
-        return HKDF(SHA256(), 32, secret.encode(), use.encode()).derive(self._key)
-
-
 class Seal:
     """Encrypts texts, each for one place: a text that was moved to another place can't be opened there."""
 
@@ -75,3 +48,31 @@ class Seal:
             return self._cipher.decrypt(sealed[:NONCE_BYTES], sealed[NONCE_BYTES:], place.encode())
         except (InvalidTag, ValueError) as wrong:
             raise Unreadable(place) from wrong
+
+
+class Keys(NamedTuple):
+    """What is worked out for a visitor."""
+
+    name: bytes
+    """The name of the visitor's session in the store."""
+    token: str
+    """What the visitor's page sends with each request, and another site's page can't know."""
+    seal: Seal
+    """What encrypts the visitor's answers."""
+
+    def is_token(self, token: str) -> bool:
+        """Whether the token is the visitor's."""
+        return hmac.compare_digest(self.token.encode(), token.encode())
+
+
+class Vault:
+    """The service's key."""
+
+    def __init__(self, key: bytes) -> None:
+        self._key = key
+
+    def keys(self, secret: str) -> Keys:
+        """The keys of a visitor, by HKDF with SHA-256, as RFC 5869 has it: the secret is the salt, and each use has one block."""
+        extracted = hmac.digest(secret.encode(), self._key, "sha256")
+        name, token, seal = (hmac.digest(extracted, use + b"\x01", "sha256") for use in (b"name", b"token", b"seal"))
+        return Keys(name, token.hex(), Seal(seal))

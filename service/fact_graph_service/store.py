@@ -1,8 +1,8 @@
 """Where sessions are kept: in a SQLite file, or in PostgreSQL, by the same statements.
 
-A session is a row and the changes that were made in it, each under a number (its revision) and the id that the page gave it. All
-calls are made within a `Hold`, a transaction over the session. Every call may raise `StoreFailed`: then the hold is over, and
-whether its changes were written is only known by another one.
+A session is a row and the changes that were made in it, each under a number (its revision) and the id that the page gave it. Calls
+are made within a `Hold`, a transaction over the session, but for those of which each is a transaction of its own: `step` and
+`changes`. Every call may raise `StoreFailed`: then the hold is over, and whether its changes were written is only known by another one.
 """
 
 from __future__ import annotations
@@ -18,6 +18,8 @@ from typing import Any, NamedTuple
 
 import psycopg
 
+from . import postgres
+
 LOG = logging.getLogger(__name__)
 
 SECONDS_TO_CONNECT = 5
@@ -32,6 +34,18 @@ CREATE TABLE IF NOT EXISTS sessions (name {bytes} PRIMARY KEY, visit TEXT NOT NU
 CREATE INDEX IF NOT EXISTS sessions_by_end ON sessions (expires);
 CREATE TABLE IF NOT EXISTS changes (name {bytes} NOT NULL REFERENCES sessions ON DELETE CASCADE, revision BIGINT NOT NULL,
   id TEXT NOT NULL, sealed {bytes} NOT NULL, PRIMARY KEY (name, revision), UNIQUE (name, id))
+"""
+
+STEP = """
+UPDATE sessions SET revision = ?2, expires = ?7 WHERE name = ?1 AND visit = ?5 AND base = ?6 AND revision = ?2 - 1 AND expires > ?8
+  AND NOT EXISTS (SELECT 1 FROM changes WHERE name = ?1 AND id = ?3)
+"""
+"""Brings a session to a revision, where it is at the one before, over this base in this stay, its time isn't over, and no change has
+the id."""
+INSERT = "INSERT INTO changes (name, revision, id, sealed)"
+CHANGES = """
+SELECT changes.revision, id, sealed FROM changes JOIN sessions USING (name)
+WHERE name = ?1 AND visit = ?2 AND base = ?3 AND changes.revision > ?4 ORDER BY changes.revision
 """
 
 
@@ -74,7 +88,6 @@ class Kind:
 
     connect: Callable[[], Any]
     bytes: str
-    mark: str
     tables: str
     """Has a row where the tables are there."""
     begin: str
@@ -84,6 +97,8 @@ class Kind:
     failures: tuple[type[Exception], ...]
     is_torn: Callable[[Any], bool]
     """Whether the database has ended a connection."""
+    step: Callable[[Any, tuple[Any, ...]], bool]
+    """Writes a change in a transaction of its own, where the session is at the revision before it. Says whether it did."""
 
 
 def kind_of(place: str) -> Kind:
@@ -93,25 +108,25 @@ def kind_of(place: str) -> Kind:
         return Kind(
             connect=lambda: _sqlite(path),
             bytes="BLOB",
-            mark="?",
             tables="SELECT 1 FROM sqlite_master WHERE name = 'dictionaries'",
             begin="BEGIN IMMEDIATE",  # the whole file's lock
             begin_to_read="BEGIN",
             locked="",
             failures=(sqlite3.Error,),
             is_torn=lambda _: False,
+            step=_sqlite_step,
         )
     if place.startswith(("postgresql://", "postgres://")):
         return Kind(
             connect=lambda: _postgres(place),
             bytes="BYTEA",
-            mark="%s",
             tables="SELECT 1 WHERE to_regclass('dictionaries') IS NOT NULL",
             begin="BEGIN ISOLATION LEVEL READ COMMITTED; SELECT pg_advisory_xact_lock({lock})",
             begin_to_read="BEGIN ISOLATION LEVEL REPEATABLE READ READ ONLY",
             locked="FOR UPDATE",
             failures=(psycopg.Error,),
             is_torn=lambda connection: bool(connection.closed),
+            step=_postgres_step,
         )
     raise ValueError(f"a store is sqlite:PATH or postgresql://.., and not {place}")
 
@@ -124,17 +139,30 @@ def _sqlite(path: str) -> sqlite3.Connection:
     return connection
 
 
-def _postgres(place: str) -> psycopg.Connection[Any]:
+def _sqlite_step(connection: sqlite3.Connection, values: tuple[Any, ...]) -> bool:
+    connection.execute("BEGIN IMMEDIATE")
+    is_made = connection.execute(STEP, values).rowcount == 1
+    if is_made:
+        connection.execute(f"{INSERT} VALUES (?1, ?2, ?3, ?4)", values[:4])
+    connection.execute("COMMIT")
+    return is_made
+
+
+def _postgres(place: str) -> postgres.Connection:
     bounds = {"lock_timeout": SECONDS_FOR_LOCK, "statement_timeout": SECONDS_FOR_CALL, "idle_in_transaction_session_timeout": SECONDS_FOR_CALL}
     options = " ".join(f"-c {name}={seconds}s" for name, seconds in bounds.items())
-    return psycopg.connect(
+    return postgres.Connection(
         place,
-        autocommit=True,
-        options=f"{options} -c synchronous_commit=on",
+        options=rf"{options} -c synchronous_commit=on -c default_transaction_isolation=read\ committed",
         connect_timeout=SECONDS_TO_CONNECT,
         keepalives_idle=SECONDS_FOR_CALL,
         tcp_user_timeout=SECONDS_FOR_CALL * 1000,
     )
+
+
+def _postgres_step(connection: postgres.Connection, values: tuple[Any, ...]) -> bool:
+    """One statement, which is one way to the database and back. The row that it changes is locked until it is written."""
+    return connection.execute(f"WITH step AS ({STEP} RETURNING 1) {INSERT} SELECT ?1, ?2, ?3, ?4 FROM step", values).rowcount == 1
 
 
 class Hold:
@@ -147,58 +175,57 @@ class Hold:
     def head(self) -> Head | None:
         """The session's row, or None where there is none or its time is over."""
         columns, now = ", ".join(Head._fields), int(time.time())
-        row = self._row(f"SELECT {columns} FROM sessions WHERE name = ? AND expires > ? {self._locked}", self._name, now)
+        row = self._row(f"SELECT {columns} FROM sessions WHERE name = ?1 AND expires > ?2 {self._locked}", self._name, now)
         return Head(*row) if row else None
 
     def changes(self, after: int) -> list[Change]:
         """The changes behind a revision, in their order."""
-        rows = self._run("SELECT revision, id, sealed FROM changes WHERE name = ? AND revision > ? ORDER BY revision", self._name, after)
+        rows = self._run("SELECT revision, id, sealed FROM changes WHERE name = ?1 AND revision > ?2 ORDER BY revision", self._name, after)
         return [Change(*row) for row in rows.fetchall()]
 
     def change_of(self, change_id: str) -> Change | None:
         """The change that was made under this id, where it is still kept."""
-        row = self._row("SELECT revision, id, sealed FROM changes WHERE name = ? AND id = ?", self._name, change_id)
+        row = self._row("SELECT revision, id, sealed FROM changes WHERE name = ?1 AND id = ?2", self._name, change_id)
         return Change(*row) if row else None
 
     def dictionary(self, digest: str) -> bytes:
         """The text of a dictionary over which a session stands."""
-        row = self._row("SELECT text FROM dictionaries WHERE digest = ?", digest)
+        row = self._row("SELECT text FROM dictionaries WHERE digest = ?1", digest)
         assert row is not None, "each session refers to a dictionary that is kept"
         return bytes(row[0])
 
     def begin(self, head: Head, most: int) -> None:
         """Begins the session, which isn't there or whose time is over. Raises `StoreFull` where the store has as many as it may."""
-        self._run("DELETE FROM sessions WHERE name = ?", self._name)
-        row = self._row("SELECT count(*) FROM sessions")
-        if row is None or row[0] >= most:
+        self._run("DELETE FROM sessions WHERE name = ?1", self._name)
+        if self._row("SELECT 1 WHERE (SELECT count(*) FROM sessions) < ?1", most) is None:
             raise StoreFull
-        marks = ", ".join("?" * (1 + len(head)))
+        marks = ", ".join(f"?{place}" for place in range(1, 2 + len(head)))
         self._run(f"INSERT INTO sessions (name, {', '.join(Head._fields)}) VALUES ({marks})", self._name, *head)
 
     def append(self, change: Change, expires: int) -> None:
         """Writes a change behind the others."""
-        self._run("INSERT INTO changes (name, revision, id, sealed) VALUES (?, ?, ?, ?)", self._name, *change)
-        self._run("UPDATE sessions SET revision = ?, expires = ? WHERE name = ?", change.revision, expires, self._name)
+        self._run(f"{INSERT} VALUES (?1, ?2, ?3, ?4)", self._name, *change)
+        self._run("UPDATE sessions SET revision = ?2, expires = ?3 WHERE name = ?1", self._name, change.revision, expires)
 
     def rebase(self, head: Head) -> None:
         """Gives the session a new snapshot, and forgets the changes up to it."""
-        columns = ", ".join(f"{column} = ?" for column in Head._fields)
-        self._run(f"UPDATE sessions SET {columns} WHERE name = ?", *head, self._name)
-        self._run("DELETE FROM changes WHERE name = ? AND revision <= ?", self._name, head.base)
+        columns = ", ".join(f"{column} = ?{place}" for place, column in enumerate(Head._fields, 2))
+        self._run(f"UPDATE sessions SET {columns} WHERE name = ?1", self._name, *head)
+        self._run("DELETE FROM changes WHERE name = ?1 AND revision <= ?2", self._name, head.base)
 
     def stay(self, expires: int) -> None:
         """Keeps the session until then."""
-        self._run("UPDATE sessions SET expires = ? WHERE name = ?", expires, self._name)
+        self._run("UPDATE sessions SET expires = ?2 WHERE name = ?1", self._name, expires)
 
     def erase(self) -> None:
         """Erases the session and all of its changes."""
-        self._run("DELETE FROM sessions WHERE name = ?", self._name)
+        self._run("DELETE FROM sessions WHERE name = ?1", self._name)
 
     def _row(self, statement: str, *values: Any) -> Any:
         return self._run(statement, *values).fetchone()
 
     def _run(self, statement: str, *values: Any) -> Any:
-        return self._connection.execute(statement.replace("?", self._kind.mark), values)
+        return self._connection.execute(statement, values)
 
 
 class Store:
@@ -216,8 +243,19 @@ class Store:
         with self._transaction(self._kind.begin.format(lock=LOCK_OF_TABLES)) as connection:
             for statement in SCHEMA.replace("{bytes}", self._kind.bytes).split(";"):
                 connection.execute(statement)
-            insert = "INSERT INTO dictionaries (digest, text) VALUES (?, ?) ON CONFLICT DO NOTHING"
-            connection.execute(insert.replace("?", self._kind.mark), (digest, dictionary))
+            connection.execute("INSERT INTO dictionaries (digest, text) VALUES (?1, ?2) ON CONFLICT DO NOTHING", (digest, dictionary))
+
+    def step(self, name: bytes, visit: str, base: int, change: Change, expires: int) -> bool:
+        """Writes a change and keeps the session until then, where the session is there in this stay, over this base, at the revision
+        before, and has no change of the id. Says whether it did."""
+        values = (name, *change, visit, base, expires, int(time.time()))
+        is_made: bool = self._at_once(lambda connection: self._kind.step(connection, values))
+        return is_made
+
+    def changes(self, name: bytes, visit: str, base: int, after: int) -> list[Change]:
+        """The changes behind a revision, in their order, where the session stands over this base in this stay; else none."""
+        rows = self._at_once(lambda connection: connection.execute(CHANGES, (name, visit, base, after)).fetchall())
+        return [Change(*row) for row in rows]
 
     @contextmanager
     def held(self, name: bytes) -> Iterator[Hold]:
@@ -234,13 +272,12 @@ class Store:
     def expire(self) -> int:
         """Erases the sessions whose time is over, and says how many."""
         with self._transaction(self._kind.begin.format(lock=LOCK_OF_ERASING)) as connection:
-            erased: int = connection.execute("DELETE FROM sessions WHERE expires <= " + self._kind.mark, (int(time.time()),)).rowcount
+            erased: int = connection.execute("DELETE FROM sessions WHERE expires <= ?1", (int(time.time()),)).rowcount
             return erased
 
     def check(self) -> None:
         """Raises `StoreFailed` where the store can't be read."""
-        with self._transaction(self._kind.begin_to_read) as connection:
-            connection.execute("SELECT 1 FROM sessions LIMIT 1").fetchone()
+        self._at_once(lambda connection: connection.execute("SELECT 1 FROM sessions LIMIT 1").fetchone())
 
     def close(self) -> None:
         """Closes the connections that nobody uses."""
@@ -253,37 +290,44 @@ class Store:
         with self._transaction(self._kind.begin_to_read) as connection:
             if connection.execute(self._kind.tables).fetchone() is None:
                 return False
-            select = "SELECT 1 FROM dictionaries WHERE digest = ?"
-            return connection.execute(select.replace("?", self._kind.mark), (digest,)).fetchone() is not None
+            return connection.execute("SELECT 1 FROM dictionaries WHERE digest = ?1", (digest,)).fetchone() is not None
+
+    def _at_once(self, use: Callable[[Any], Any]) -> Any:
+        """What a connection is used for that is a transaction of its own, and does no harm twice."""
+        try:
+            connection, found = self._begun(use)
+        except self._kind.failures as wrong:  # pylint: disable=catching-non-exception # those of the database
+            raise _failed(wrong) from wrong  # pylint: disable=bad-exception-cause # it is the database's
+        self._idle.put(connection)
+        return found
 
     @contextmanager
     def _transaction(self, begin: str) -> Iterator[Any]:
         """A transaction on a connection of its own. One that fails is closed, so that nothing of it stays."""
         connection = None
         try:
-            connection = self._connection(begin)
+            connection, _ = self._begun(lambda connection: connection.execute(begin))
             yield connection
             connection.execute("COMMIT")
         except self._kind.failures as wrong:  # pylint: disable=catching-non-exception # those of the database
             self._drop(connection)
-            LOG.warning("the store failed: %s", type(wrong).__name__)
-            raise StoreFailed from wrong  # pylint: disable=bad-exception-cause # it is the database's
+            raise _failed(wrong) from wrong  # pylint: disable=bad-exception-cause # it is the database's
         except BaseException:
             if connection is not None:
                 self._roll_back(connection)
             raise
         self._idle.put(connection)
 
-    def _connection(self, begin: str) -> Any:
-        """A connection in a new transaction: an idle one, or a new one where there is none or the idle ones were torn meanwhile."""
+    def _begun(self, begin: Callable[[Any], Any]) -> tuple[Any, Any]:
+        """A connection on which something is begun, and what came of it: an idle one, or a new one where there is none or the idle ones
+        were torn meanwhile. Nobody knows how far a torn one came, so what is begun has to be such that twice does no harm."""
         while True:
             try:
                 connection, is_new = self._idle.get_nowait(), False
             except queue.Empty:
                 connection, is_new = self._kind.connect(), True
             try:
-                connection.execute(begin)
-                return connection
+                return connection, begin(connection)
             except self._kind.failures:  # pylint: disable=catching-non-exception # those of the database
                 is_torn = self._kind.is_torn(connection)
                 self._drop(connection)
@@ -304,6 +348,12 @@ class Store:
         if connection is not None:
             with suppress(*self._kind.failures):
                 connection.close()
+
+
+def _failed(wrong: Exception) -> StoreFailed:
+    """What is raised where a database failed, which the log tells without values."""
+    LOG.warning("the store failed: %s", type(wrong).__name__)
+    return StoreFailed()
 
 
 def _lock_of(name: bytes) -> int:

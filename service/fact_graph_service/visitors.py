@@ -12,7 +12,7 @@ import secrets
 import threading
 import time
 from collections import OrderedDict
-from collections.abc import Sequence
+from collections.abc import Iterable, Sequence
 from dataclasses import dataclass
 from typing import NamedTuple
 
@@ -20,12 +20,14 @@ from fact_graph import SavedRefused, Session
 
 from . import history
 from .history import Snapshot
-from .sealing import Seal, Vault
+from .sealing import Keys, Seal
 from .store import Change, Head, Hold, Store
 from .upload import Dropped, resumed
 
 REFUSED = "refused "
 BAD_LINE = "refused 1 BadLine"
+MADE = (*history.CHANGES, *history.STEPS, *history.WATCHING)
+"""The verbs of changes."""
 
 
 class Ended(Exception):
@@ -102,24 +104,17 @@ class Call:
         """A snapshot for the row."""
         return self.seal.close(snapshot.to_bytes(), f"snapshot {visit} {base}")
 
-    def read(self, visit: str, change: Change) -> tuple[str, str, list[Dropped]]:
-        """The line of a change, its reply, and what it dropped."""
-        line, reply, dropped = json.loads(self.seal.open(change.sealed, f"change {visit} {change.revision} {change.id}"))
-        return line, reply, [Dropped(*one) for one in dropped]
-
     def append(self, head: Head, change: str, line: str, reply: str, dropped: Sequence[Dropped] = ()) -> None:
         """Writes a change at the head's revision, which it has come to."""
-        sealed = self.seal.close(json.dumps([line, reply, dropped]).encode(), f"change {head.visit} {head.revision} {change}")
-        self.hold.append(Change(head.revision, change, sealed), head.expires)
+        self.hold.append(_change(self.seal, head.visit, head.revision, change, [line, reply, dropped]), head.expires)
 
 
 class Visitors:
     """The sessions of all visitors over one dictionary. A visitor has one call at a time; calls may raise `StoreFailed`."""
 
-    def __init__(self, dictionary: bytes, store: Store, vault: Vault, *, seconds: int, most: int, cache: int) -> None:
+    def __init__(self, dictionary: bytes, store: Store, *, seconds: int, most: int, cache: int) -> None:
         self._dictionary, self.digest = dictionary, hashlib.sha256(dictionary).hexdigest()
-        self._store, self._vault = store, vault
-        self._seconds, self._most, self._cache = seconds, most, cache
+        self._store, self._seconds, self._most, self._cache = store, seconds, most, cache
         self._kept: OrderedDict[bytes, Kept] = OrderedDict()
         self._kept_lock = threading.Lock()
         self._blank = Session(dictionary)
@@ -127,76 +122,93 @@ class Visitors:
 
     # ---- the calls of a page
 
-    def answer(self, secret: str, asked: Asked) -> Answered:
+    def answer(self, keys: Keys, asked: Asked) -> Answered:
         """Makes the change, and answers the questions. Raises `Ended`, `StoreFull`."""
         if asked.line is None:
-            return self._look(secret, asked)
-        name = self._vault.name(secret)
-        with self._store.held(name) as hold:
-            call = Call(hold, self._vault.seal(secret), hold.head())
-            kept, answered = self._change(name, call, asked, asked.line)
-        return self._told(name, kept, answered, asked.questions)
+            return self._look(keys, asked)
+        answered = self._step(keys, asked, asked.line)
+        if answered:
+            return answered
+        with self._store.held(keys.name) as hold:
+            call = Call(hold, keys.seal, hold.head())
+            kept, answered = self._change(keys.name, call, asked, asked.line)
+        return self._told(keys.name, kept, answered, asked.questions)
 
-    def save(self, secret: str, asked: Asked) -> bytes:
+    def save(self, keys: Keys, asked: Asked) -> bytes:
         """The saved text. Raises `Ended` where nothing was answered."""
-        name = self._vault.name(secret)
-        with self._store.seen(name) as hold:
-            call = Call(hold, self._vault.seal(secret), hold.head())
-            kept = self._current(name, call, _known(call.head, asked))
-        self._keep(name, kept)
+        with self._store.seen(keys.name) as hold:
+            call = Call(hold, keys.seal, hold.head())
+            kept = self._current(keys.name, call, _known(call.head, asked))
+        self._keep(keys.name, kept)
         return kept.session.save()
 
-    def resume(self, secret: str, asked: Asked, text: bytes) -> Answered:
+    def resume(self, keys: Keys, asked: Asked, text: bytes) -> Answered:
         """Goes on from a saved text. Raises `Ended`, `StoreFull`, and `SavedRefused` where it is none."""
-        name = self._vault.name(secret)
         session, dropped = resumed(self._dictionary, text)
-        with self._store.held(name) as hold:
-            call = Call(hold, self._vault.seal(secret), hold.head())
+        with self._store.held(keys.name) as hold:
+            call = Call(hold, keys.seal, hold.head())
             made = self._made_before(call, asked)
             if made:
                 return made
             head = self._rebased(call, session)
             call.append(head, asked.change, "", "ok", dropped)
-        self._keep(name, Kept(session, head.visit, head.digest, head.base, head.revision))
+        self._keep(keys.name, Kept(session, head.visit, head.digest, head.base, head.revision))
         return self._answered(head, reply="ok", dropped=dropped)
 
-    def stay(self, secret: str, asked: Asked) -> Answered:
+    def stay(self, keys: Keys, asked: Asked) -> Answered:
         """Keeps the answers for longer. Raises `Ended`."""
-        with self._store.held(self._vault.name(secret)) as hold:
+        with self._store.held(keys.name) as hold:
             head = _known(hold.head(), asked)._replace(expires=self._expires())
             hold.stay(head.expires)
         return self._answered(head)
 
-    def end(self, secret: str, asked: Asked) -> None:
+    def end(self, keys: Keys, asked: Asked) -> None:
         """Erases the answers. Raises `Ended` where they are gone."""
-        name = self._vault.name(secret)
-        with self._store.held(name) as hold:
+        with self._store.held(keys.name) as hold:
             _known(hold.head(), asked)
             hold.erase()
-        self._take(name)
+        self._take(keys.name)
 
     # ---- how
 
-    def _look(self, secret: str, asked: Asked) -> Answered:
+    def _look(self, keys: Keys, asked: Asked) -> Answered:
         """Answers questions."""
-        name = self._vault.name(secret)
-        with self._store.seen(name) as hold:
-            call = Call(hold, self._vault.seal(secret), hold.head())
+        with self._store.seen(keys.name) as hold:
+            call = Call(hold, keys.seal, hold.head())
             if call.head is None and asked.visit is None:
                 return Answered(None, 0, None, replies=_replies(self._blank, asked.questions))
             head = _known(call.head, asked)
-            kept = self._current(name, call, head) if head.digest == self.digest else None
+            kept = self._current(keys.name, call, head) if head.digest == self.digest else None
         if kept is None:
-            return self._moved(secret, asked)
-        return self._told(name, kept, self._answered(head), asked.questions)
+            return self._moved(keys, asked)
+        return self._told(keys.name, kept, self._answered(head), asked.questions)
 
-    def _moved(self, secret: str, asked: Asked) -> Answered:
+    def _moved(self, keys: Keys, asked: Asked) -> Answered:
         """Answers questions where the session stands over another dictionary, by carrying it to this one."""
-        name = self._vault.name(secret)
-        with self._store.held(name) as hold:
-            call = Call(hold, self._vault.seal(secret), hold.head())
-            kept, answered = self._carried(name, call, _known(call.head, asked))
-        return self._told(name, kept, answered, asked.questions)
+        with self._store.held(keys.name) as hold:
+            call = Call(hold, keys.seal, hold.head())
+            kept, answered = self._carried(keys.name, call, _known(call.head, asked))
+        return self._told(keys.name, kept, answered, asked.questions)
+
+    def _step(self, keys: Keys, asked: Asked, line: str) -> Answered | None:
+        """Makes a change where the session in memory comes to where the page stands: there first, and then in the store by one
+        statement, which writes it where the store's session stands there too. Else nothing is made, and None is returned: what the
+        session in memory has then gone through, the store doesn't know of, so it is thrown away."""
+        kept = self._take(keys.name)
+        if kept is None:
+            return None
+        if kept.revision < asked.revision:
+            _catch_up(kept, keys.seal, self._store.changes(keys.name, kept.visit, kept.base, kept.revision))
+        is_there = (kept.visit, kept.revision, kept.digest) == (asked.visit, asked.revision, self.digest)
+        reply = _reply(kept.session, line, MADE) if is_there and not _is_long(kept.base, kept.revision + 1) else None
+        if reply is None or reply.startswith(REFUSED):
+            self._keep(keys.name, kept)
+            return None
+        kept.revision += 1
+        change = _change(keys.seal, kept.visit, kept.revision, asked.change, [line, reply, ()])
+        if not self._store.step(keys.name, kept.visit, kept.base, change, self._expires()):
+            return None
+        return self._told(keys.name, kept, Answered(kept.visit, kept.revision, self._seconds, reply=reply), asked.questions)
 
     def _change(self, name: bytes, call: Call, asked: Asked, line: str) -> tuple[Kept, Answered]:
         """Makes a change that wasn't made before."""
@@ -212,7 +224,7 @@ class Visitors:
             head, kept = call.head, self._current(name, call, call.head)
         if made:
             return kept, made
-        reply = _reply(kept.session, line, (*history.CHANGES, *history.STEPS, *history.WATCHING))
+        reply = _reply(kept.session, line, MADE)
         if reply.startswith(REFUSED):
             return kept, self._answered(call.head, reply=reply)
         if call.head is None:
@@ -233,7 +245,7 @@ class Visitors:
             raise Ended
         made = call.hold.change_of(asked.change)
         if made:
-            _, reply, dropped = call.read(call.head.visit, made)
+            _, reply, dropped = _read(call.seal, call.head.visit, made)
             return self._answered(call.head, reply=reply, dropped=dropped)
         if (asked.visit, asked.revision) != (call.head.visit, call.head.revision):
             return self._answered(call.head, stale=True)
@@ -246,11 +258,7 @@ class Visitors:
             session = call.begun(head, self._dictionary_of(call, head))
             kept = Kept(session, head.visit, head.digest, head.base, head.base)
         if kept.revision < head.revision:
-            for change in call.hold.changes(kept.revision):
-                line, reply, _ = call.read(head.visit, change)
-                if kept.session.line(line).removesuffix("\n") != reply:
-                    raise Damaged(f"change {head.visit} {change.revision} {change.id}")
-            kept.revision = head.revision
+            _catch_up(kept, call.seal, call.hold.changes(kept.revision))
         return kept
 
     def _carried(self, name: bytes, call: Call, head: Head) -> tuple[Kept, Answered]:
@@ -273,10 +281,9 @@ class Visitors:
 
     def _cut(self, call: Call, head: Head) -> None:
         """Puts a snapshot in place of the older changes, where there are many. Sessions in memory then begin anew from it."""
-        count = head.revision - head.base
-        if count < 2 * history.REACH or count % history.REACH:
+        if not _is_long(head.base, head.revision):
             return
-        lines = [call.read(head.visit, change)[0] for change in call.hold.changes(head.base)]
+        lines = [_read(call.seal, head.visit, change)[0] for change in call.hold.changes(head.base)]
         cut = history.cut_of(lines)
         if cut:
             snapshot = call.snapshot(head).behind(self._dictionary, lines[:cut])
@@ -314,6 +321,37 @@ class Visitors:
             self._kept[name] = kept
             while len(self._kept) > self._cache:
                 self._kept.popitem(last=False)
+
+
+def _is_long(base: int, revision: int) -> bool:
+    """Whether it is time to see whether a snapshot can take the place of older changes."""
+    count = revision - base
+    return count >= 2 * history.REACH and count % history.REACH == 0
+
+
+def _place(visit: str, revision: int, change: str) -> str:
+    """The place of a change, for which it is encrypted."""
+    return f"change {visit} {revision} {change}"
+
+
+def _change(seal: Seal, visit: str, revision: int, change: str, said: list[object]) -> Change:
+    """A change as the store has it: its line, its reply, and what it dropped."""
+    return Change(revision, change, seal.close(json.dumps(said).encode(), _place(visit, revision, change)))
+
+
+def _read(seal: Seal, visit: str, change: Change) -> tuple[str, str, list[Dropped]]:
+    """The line of a change, its reply, and what it dropped."""
+    line, reply, dropped = json.loads(seal.open(change.sealed, _place(visit, change.revision, change.id)))
+    return line, reply, [Dropped(*one) for one in dropped]
+
+
+def _catch_up(kept: Kept, seal: Seal, changes: Iterable[Change]) -> None:
+    """Brings a session in memory up to the store, by the changes that it lacks."""
+    for change in changes:
+        line, reply, _ = _read(seal, kept.visit, change)
+        if kept.session.line(line).removesuffix("\n") != reply:
+            raise Damaged(_place(kept.visit, change.revision, change.id))
+        kept.revision = change.revision
 
 
 def _known(head: Head | None, asked: Asked) -> Head:

@@ -397,8 +397,8 @@ def answering(place: str) -> Store:
 
 async def judge(store: Store, vault: Vault, visitor: Visitor, tally: Tally) -> None:
     """Compares what a visitor was told with the store, and the service with the engine."""
-    seal = vault.seal(visitor.secret)
-    with store.seen(vault.name(visitor.secret)) as hold:
+    keys = vault.keys(visitor.secret)
+    with store.seen(keys.name) as hold:
         head = hold.head()
         kept = hold.changes(0) if head else []
     tally.acknowledged += len(visitor.acknowledged)
@@ -410,7 +410,7 @@ async def judge(store: Store, vault: Vault, visitor: Visitor, tally: Tally) -> N
     with Session.open(DICTIONARY) as session:
         for change in kept:
             name = f"change {head.visit} {change.revision} {change.id}"  # type: ignore[union-attr] # changes have a head
-            line, reply, _ = json.loads(seal.open(change.sealed, name))
+            line, reply, _ = json.loads(keys.seal.open(change.sealed, name))
             told = visitor.acknowledged.get(change.id)
             tally.wrong += told is not None and told != (line, reply) or session.line(line).removesuffix("\n") != reply
         known = {"visit": visitor.visit, "revision": 0}

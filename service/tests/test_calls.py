@@ -4,6 +4,7 @@ from __future__ import annotations
 
 import threading
 import uuid
+from collections.abc import Iterator
 from pathlib import Path
 from typing import Any
 
@@ -12,7 +13,7 @@ import pytest
 from fact_graph import Session
 from fact_graph_service import history
 from fact_graph_service.settings import Settings
-from fact_graph_service.store import Head, Hold
+from fact_graph_service.store import Head, Hold, Store, StoreFailed
 
 from pages import EXAMPLES, Page
 from waiting import SECONDS
@@ -93,6 +94,101 @@ def test_of_two_windows_that_begin_at_once_one_is_told(settings: Settings, monke
         assert (told[0]["stale"], told[0]["reply"], told[0]["replies"]) == (True, None, ["complete 5.00"])
         assert other.change("set /bill 7")["reply"] == "ok"
         assert page.change("set /bill 8")["stale"]
+
+
+@pytest.fixture
+def windows(settings: Settings) -> Iterator[tuple[Page, Page]]:
+    """Two windows of a visitor, each at a worker of its own."""
+    with Page.open(settings) as page, Page.open(settings) as other:
+        other.client.cookies = page.client.cookies
+        yield page, other.load()
+
+
+def knows(window: Page, other: Page) -> Page:
+    """The window, once it knows what the other one does."""
+    window.visit, window.revision = other.visit, other.revision
+    return window
+
+
+@pytest.fixture
+def ways(monkeypatch: pytest.MonkeyPatch) -> list[str]:
+    """How the store was asked: `held`, which is many ways to it and back, `changes` and `step`, each of which is one."""
+    found: list[str] = []
+
+    def noted(name: str) -> None:
+        call = getattr(Store, name)
+
+        def noting(*words: Any) -> Any:
+            found.append(name)
+            return call(*words)
+
+        monkeypatch.setattr(Store, name, noting)
+
+    for name in ("held", "changes", "step"):
+        noted(name)
+    return found
+
+
+def test_a_change_goes_to_the_store_once(windows: tuple[Page, Page], ways: list[str]) -> None:
+    page, other = windows
+    with Session.open(EXAMPLES / "screener.json") as session:
+        for place, line in enumerate(["set /bill 5", "add /people", "set /people/#1/wages 7", "undo", "undo", "redo", "watch changed /bill", "set /bill 6"]):
+            told = page.change(line, "get /bill", "get /people", "stamp /bill")
+            due = [session.line(one).removesuffix("\n") for one in (line, "get /bill", "get /people", "stamp /bill")]
+            assert [told["reply"], *told["replies"]] == due
+            assert ways == (["step"] if place else ["held"])
+            ways.clear()
+        assert knows(other, page).change("undo")["reply"] == session.line("undo").removesuffix("\n")
+        assert ways == ["held"], "the other worker didn't know of the session"
+        ways.clear()
+        assert knows(page, other).change("redo", "get /bill")["reply"] == session.line("redo").removesuffix("\n")
+        assert ways == ["changes", "step"], "this one had to catch up"
+        assert knows(other, page).ask("get /bill", "stamp /bill") == ["complete 6.00", session.line("stamp /bill").removesuffix("\n")]
+
+
+def test_a_change_over_what_another_worker_has_moved_is_not_made(windows: tuple[Page, Page], ways: list[str]) -> None:
+    page, other = windows
+    page.change("set /bill 5")
+    knows(other, page).change("set /bill 6")
+    ways.clear()
+    told = page.change("set /bill 7", "get /bill")
+    assert (told["stale"], told["reply"], told["replies"], ways) == (True, None, ["complete 6.00"], ["step", "held"])
+    assert page.change("undo", "get /bill")["replies"] == ["complete 5.00"]
+
+
+def test_a_change_in_a_stay_that_another_worker_has_ended_is_not_made(windows: tuple[Page, Page]) -> None:
+    page, other = windows
+    page.change("set /bill 5")
+    assert knows(other, page).post("end").status_code == 200
+    assert page.post("answer", {"change": "a", "line": "set /bill 6"}).status_code == 410
+    other.visit, other.revision = None, 0
+    other.change("set /savings 7")
+    assert page.post("answer", {"change": "a", "line": "set /bill 6"}).status_code == 410
+    assert knows(page, other).change("set /bill 8", "get /savings")["replies"] == ["complete 7.00"]
+
+
+def test_a_change_that_is_repeated_by_a_page_that_knows_of_it_is_made_once(page: Page) -> None:
+    page.change("set /savings 1")
+    replies = [page.change("add /people", "get /people", change="a") for _ in range(3)]
+    assert [(told["reply"], told["replies"], told["revision"]) for told in replies] == [("ok #1", ["complete [#1]"], 2)] * 3
+    assert page.change("add /people", "get /people")["replies"] == ["complete [#1 #2]"]
+
+
+@pytest.mark.parametrize("is_written", [True, False])
+def test_a_change_of_which_nobody_knows_whether_it_is_written_is_made_once(page: Page, monkeypatch: pytest.MonkeyPatch, is_written: bool) -> None:
+    step = Store.step
+
+    def failing(*words: Any) -> bool:
+        if is_written:
+            step(*words)
+        raise StoreFailed
+
+    page.change("set /savings 1")
+    with monkeypatch.context() as failure:
+        failure.setattr(Store, "step", failing)
+        assert page.post("answer", {"change": "a", "line": "add /people"}).status_code == 503
+    told = page.change("add /people", "get /people", change="a")
+    assert (told["reply"], told["replies"], told["revision"]) == ("ok #1", ["complete [#1]"], 2)
 
 
 def test_a_window_of_an_ended_stay_is_told(page: Page) -> None:

@@ -6,13 +6,17 @@ import dataclasses
 import functools
 import json
 import logging
+import secrets
 import time
 from pathlib import Path
 
 import pytest
+from cryptography.hazmat.primitives.hashes import SHA256
+from cryptography.hazmat.primitives.kdf.hkdf import HKDF
 
 from fact_graph_service import app
 from fact_graph_service.guard import Rates
+from fact_graph_service.sealing import Seal, Vault, new_secret
 from fact_graph_service.settings import Settings, SettingsWrong
 from fact_graph_service.store import Store
 
@@ -68,7 +72,7 @@ def test_another_applications_cookie_does_no_harm(page: Page, others: str) -> No
 @pytest.mark.parametrize("body", [
     b"", b"{", b"[]", b"null", b"5", b'{"line":"undo"}', b'{"change":"a","line":5}', b'{"change":"a","line":null}', b'{"questions":"get /bill"}',
     b'{"questions":[5]}', b'{"revision":-1}', b'{"revision":true}', b'{"revision":1.5}', b'{"revision":9223372036854775808}', b'{"visit":5}',
-    b'{"change":"a","line":"set /caseNumber \\ud800"}',
+    b'{"change":"a","line":"set /caseNumber \\ud800"}', b'{"change":"\\u0000","line":"undo"}',
     b'{"questions":["\\udfff"]}', b'{"change":"' + b"a" * 101 + b'","line":"undo"}', b"[" * 100_000, b"\xff",
 ])
 def test_a_body_of_another_form_is_refused(page: Page, body: bytes) -> None:
@@ -159,6 +163,14 @@ def test_the_store_and_the_logs_tell_no_answer(settings: Settings, tmp_path: Pat
     assert "31415926" not in caplog.text and secret not in caplog.text
 
 
+def test_keys_are_worked_out_by_hkdf() -> None:
+    key, secret = secrets.token_bytes(32), new_secret()
+    name, token, seal = (HKDF(SHA256(), 32, secret.encode(), use).derive(key) for use in (b"name", b"token", b"seal"))
+    keys = Vault(key).keys(secret)
+    assert (keys.name, keys.token) == (name, token.hex())
+    assert Seal(seal).open(keys.seal.close(b"text", "place"), "place") == b"text"
+
+
 def test_what_ends_is_erased(settings: Settings, tmp_path: Path) -> None:
     with Page.open(settings) as page:
         page.change("set /bill 5")
@@ -194,7 +206,7 @@ def test_a_row_that_was_moved_is_not_read(settings: Settings) -> None:
 def test_readiness_says_whether_the_store_answers(settings: Settings, monkeypatch: pytest.MonkeyPatch) -> None:
     with Page.open(settings) as page:
         assert [page.client.get(path).text for path in ("/health", "/ready")] == ["well", "ready"]
-        monkeypatch.setattr(Store, "_connection", _failing)
+        monkeypatch.setattr(Store, "_begun", _failing)
         assert [page.client.get(path).status_code for path in ("/health", "/ready")] == [200, 503]
         assert page.post("answer", CHANGE).json() == {"error": "busy"}
 
