@@ -68,12 +68,11 @@ class BrowserEngine {
   }
 
   /**
-   * Keeps what is to be said again. A first revision is the time, and a millisecond has more of them than changes, so that none is
-   * that of answers which were erased.
+   * Keeps what is to be said again.
    * @param {Kept} kept
    */
   keep(kept) {
-    kept.revision = kept.revision ? kept.revision + 1 : Date.now() * 1000;
+    kept.revision = kept.revision ? kept.revision + 1 : firstRevision();
     try {
       this.storage.setItem(this.name, JSON.stringify(kept));
     } catch (wrong) {
@@ -188,6 +187,12 @@ class BrowserEngine {
     const locks = globalThis.navigator?.locks;
     return locks ? locks.request(this.name, call) : call();
   }
+}
+
+/** Where revisions begin, at random of 52 bits: new answers don't pass for those that were erased. */
+function firstRevision() {
+  const [high = 0, low = 0] = crypto.getRandomValues(new Uint32Array(2));
+  return (high >>> 12) * 2 ** 32 + low + 1;
 }
 
 /**

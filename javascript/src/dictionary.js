@@ -76,7 +76,8 @@ function factOf(stated) {
  * @param {string} slot
  */
 export function pathOf(slot) {
-  return slot.replace(/^(\/[^/]*\/)#[^/]*(\/[^/]*)$/, "$1*$2");
+  const at = slot.indexOf("/#") + 1, end = slot.indexOf("/", at);
+  return at && end > 0 ? `${slot.slice(0, at)}*${slot.slice(end)}` : slot;
 }
 
 /** A dictionary that was accepted: its facts by their paths, in its order, and its lists of options by their names. */

@@ -185,7 +185,7 @@ export class Walk {
   #overridden = null;
 
   /**
-   * @param {Pick<Session, "facts" | "get" | "final" | "reads" | "save" | "dictionary">} session
+   * @param {Pick<Session, "facts" | "description" | "get" | "final" | "reads" | "save">} session
    * @param {string} slot
    * @param {readonly string[]} missing
    */
@@ -258,7 +258,7 @@ export class Walk {
       const isFinal = result.kind === "complete" && this.#session.final(slot) !== null;
       // a slot that is overridden reads none
       const isOverridden = !isWritable && this.#below(slot).length === 0 && this.#overrides().has(slot);
-      const description = this.#session.dictionary.facts.get(path)?.description ?? "";
+      const description = this.#session.description(path);
       return { slot, type, result, isFinal, isOverridden, isMissing: this.#missing.has(slot), description };
     });
   }

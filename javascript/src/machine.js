@@ -270,7 +270,7 @@ export class Machine {
 
   /**
    * The bytes of what a call says that changes nothing, which the next call ends.
-   * @param {"save" | "reads" | "dictionary" | "facts"} name
+   * @param {"save" | "reads" | "dictionary" | "facts" | "description"} name
    * @param {number} block
    * @param {...number} given
    */
@@ -305,6 +305,15 @@ export class Machine {
    */
   facts(block) {
     return this.#saidBy("facts", block);
+  }
+
+  /**
+   * The bytes of the description of the fact with this number, from 1, which the next call ends.
+   * @param {number} block
+   * @param {number} fact
+   */
+  description(block, fact) {
+    return this.#saidBy("description", block, fact);
   }
 
   /**
@@ -346,10 +355,18 @@ export class Machine {
     this.#copy(block, 0);
     const numbers = this.#numbers, end = this.#output + size;
     let text = "", at = this.#output;
-    for (; at + 8 <= end; at += 8) {
-      const a = numbers.getUint32(at, true), b = numbers.getUint32(at + 4, true);
-      if ((a | b) & NOT_ASCII) return textOfBytes(this.text(block));
-      text += String.fromCharCode(a & 127, (a >> 8) & 127, (a >> 16) & 127, a >> 24, b & 127, (b >> 8) & 127, (b >> 16) & 127, b >> 24);
+    for (; at + 16 <= end; at += 16) {
+      const a = numbers.getUint32(at, true), b = numbers.getUint32(at + 4, true), c = numbers.getUint32(at + 8, true), d = numbers.getUint32(at + 12, true);
+      if ((a | b | c | d) & NOT_ASCII) return textOfBytes(this.text(block));
+      text += String.fromCharCode(
+        a & 127, (a >> 8) & 127, (a >> 16) & 127, a >> 24, b & 127, (b >> 8) & 127, (b >> 16) & 127, b >> 24,
+        c & 127, (c >> 8) & 127, (c >> 16) & 127, c >> 24, d & 127, (d >> 8) & 127, (d >> 16) & 127, d >> 24,
+      );
+    }
+    for (; at + 4 <= end; at += 4) {
+      const a = numbers.getUint32(at, true);
+      if (a & NOT_ASCII) return textOfBytes(this.text(block));
+      text += String.fromCharCode(a & 127, (a >> 8) & 127, (a >> 16) & 127, a >> 24);
     }
     for (; at < end; at++) {
       const byte = numbers.getUint8(at);

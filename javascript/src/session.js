@@ -2,7 +2,7 @@
 
 import { Dictionary, listedFact, pathOf } from "./dictionary.js";
 import { Engine, machineOf } from "./engine.js";
-import { Refused, SessionClosed } from "./errors.js";
+import { Refused, SessionClosed, UnknownSlot } from "./errors.js";
 import { Missing, Walk } from "./explanation.js";
 import { bytesOf, textOfBytes } from "./machine.js";
 import { READERS, textOf } from "./values.js";
@@ -103,6 +103,7 @@ export class Session {
   /** @type {Dictionary | null} */
   #dictionary = null;
   #facts;
+  #numbers;
   #isOpen = true;
   // how many changes could be undone, but for those before the session, and how many of them stand before the block of changes
   #depth = 0;
@@ -139,6 +140,7 @@ export class Session {
     this.#undo = undo;
     this.dropped = dropped;
     this.#facts = new Map(linesOf(machine.facts(block)).map((line) => [line.slice(0, line.indexOf(" ")), listedFact(line)]));
+    this.#numbers = new Map([...this.#facts.keys()].map((path, at) => [path, at + 1]));
     machine.closeWith(this, block);
   }
 
@@ -295,9 +297,12 @@ export class Session {
    * @returns {Result}
    */
   get(slot) {
-    const [kind, text] = parted(this.#ask(`get ${slot}`));
-    if (kind === "complete" || kind === "placeholder") return { kind, value: this.#reader(slot)(text), fault: null };
-    return { kind: /** @type {Kind} */ (kind), value: null, fault: text || null };
+    const said = this.#ask(`get ${slot}`);
+    const blank = said.indexOf(" ");
+    const kind = /** @type {Kind} */ (said.slice(0, blank)); // (of `incomplete`, all but its newline)
+    if (blank < 0) return { kind, value: null, fault: null };
+    const text = said.slice(blank + 1, -1);
+    return kind === "fault" ? { kind, value: null, fault: text } : { kind, value: this.#reader(slot)(text), fault: null };
   }
 
   /**
@@ -306,8 +311,8 @@ export class Session {
    * @returns {Value | null}
    */
   final(slot) {
-    const [word, text] = parted(this.#ask(`final ${slot}`));
-    return word === "final" ? this.#reader(slot)(text) : null;
+    const said = this.#ask(`final ${slot}`);
+    return said.startsWith("final ") ? this.#reader(slot)(said.slice(6, -1)) : null;
   }
 
   /**
@@ -368,6 +373,17 @@ export class Session {
    */
   facts() {
     return new Map(this.#facts);
+  }
+
+  /**
+   * What a fact is, in words for people, by its path or by a slot of it; empty where its dictionary doesn't say it.
+   * @param {string} slot
+   */
+  description(slot) {
+    this.#hold();
+    const number = this.#numbers.get(slot) ?? this.#numbers.get(pathOf(slot));
+    if (number === undefined) throw new UnknownSlot(3, "UnknownFact");
+    return textOfBytes(this.#machine.description(this.#block, number));
   }
 
   /** What the dictionary's text says of its facts: placeholders, limits, options and descriptions, too. */
@@ -539,16 +555,6 @@ if ("dispose" in Symbol) Object.defineProperty(Session.prototype, /** @type {any
  */
 function asLine(text) {
   return text.endsWith("\r") ? `${text}\r` : text;
-}
-
-/**
- * The first word of a reply of one line, and what is behind it.
- * @param {string} reply
- * @returns {[string, string]}
- */
-function parted(reply) {
-  const blank = reply.indexOf(" ");
-  return blank < 0 ? [reply.slice(0, -1), ""] : [reply.slice(0, blank), reply.slice(blank + 1, -1)];
 }
 
 /**

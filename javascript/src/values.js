@@ -53,6 +53,9 @@ export function amountText(cents) {
   return `${cents < 0n ? "-" : ""}${digits.slice(0, -2)}.${digits.slice(-2)}`;
 }
 
+// The codes of characters; those of the sign and of the point are less than that of a digit.
+const ZERO = 48, MINUS = 45;
+
 const AMOUNT = /^(-?)(\d+)(?:\.(\d\d))?$/;
 
 /**
@@ -98,6 +101,21 @@ function saidValue(value, type) {
   return type === "Item" ? `#${value}` : textOf(value);
 }
 
+/**
+ * The cents of an amount as a session prints it, always with two digits behind the point. Those of a number that has no more than 15 digits are
+ * read one by one, which takes half the time.
+ * @param {string} text
+ */
+function printedCents(text) {
+  if (text.length > 16) return BigInt(text.slice(0, -3) + text.slice(-2));
+  let cents = 0;
+  for (let at = 0; at < text.length; at++) {
+    const code = text.charCodeAt(at);
+    if (code >= ZERO) cents = cents * 10 + code - ZERO;
+  }
+  return BigInt(text.charCodeAt(0) === MINUS ? -cents : cents);
+}
+
 /** @param {string} text */
 const same = (text) => text;
 /** @param {string} text */
@@ -117,7 +135,7 @@ function rational(text) {
 export const READERS = {
   Boolean: (text) => text === "true",
   Int: Number,
-  Dollar: (text) => BigInt(text.slice(0, -3) + text.slice(-2)),
+  Dollar: printedCents,
   Rational: rational,
   Day: same,
   Text: same,

@@ -144,7 +144,6 @@ test("a slot that doesn't stand has no tree", async () => {
 /** What answers as a session over layers of facts, each of which reads all those of the layer below it; and counts what it is asked. */
 class Layered {
   asked = new Map();
-  dictionary = { facts: new Map() };
 
   constructor(layers, width) {
     this.layers = layers;
@@ -159,6 +158,10 @@ class Layered {
   facts() {
     const listed = { type: { name: "Int", of: null }, isWritable: true };
     return { get: () => listed };
+  }
+
+  description(slot) {
+    return this.#ask("description", slot, "");
   }
 
   get(slot) {

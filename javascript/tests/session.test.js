@@ -110,6 +110,14 @@ test("a dictionary with a fault is refused with its place", async () => {
   await assert.rejects(Session.open(" ".repeat(8_388_608)), { number: 2 });
 });
 
+test("a number of JSON is none where it rounds to more than the greatest double", async () => {
+  const at = (/** @type {string} */ number) => `{"version":${number},"facts":[]}`;
+  for (const number of ["1.7976931348623158e308", "0.00017976931348623158e312", "17976931348623158e292", "4.9e-324", "1e-400"])
+    await assert.rejects(Session.open(at(number)), { code: "Shape", fact: 0 }, number);
+  for (const number of ["1.7976931348623159e308", "0.00017976931348623159e312", "17976931348623159e292", "1e309"])
+    await assert.rejects(Session.open(at(number)), { code: "NotJson" }, number);
+});
+
 test("lists, overrides, undo and redo", async () => {
   const session = await opened();
   session.openList("/people");
@@ -238,6 +246,17 @@ test("the engine lists the facts", async () => {
   assert.equal(session.facts().get("/people/*/born").collection, "/people");
   session.close();
   assert.equal(session.facts().get("/housing").isWritable, false);
+});
+
+test("the engine says descriptions", async () => {
+  const session = await opened();
+  for (const [path, fact] of session.dictionary.facts) assert.equal(session.description(path), fact.description);
+  assert.equal(session.description("/rent"), "The rent of a month");
+  for (const slot of ["/nowhere", "/people/#2/nowhere", "/rent ", ""]) assert.throws(() => session.description(slot), UnknownSlot);
+  const facts = [{ path: "/a", writable: "Text", description: "refused 1 \0\n\u20ac" }];
+  assert.equal((await Session.open(JSON.stringify({ version: "1", facts }))).description("/a"), "refused 1 \0\n\u20ac");
+  session.close();
+  assert.throws(() => session.description("/rent"), SessionClosed);
 });
 
 test("the dictionary tells its facts", async () => {

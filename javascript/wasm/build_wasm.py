@@ -5,9 +5,9 @@
 
 tools/build_library.py keeps that module; it is run where no PATH is given, and proves the crate. With --module nothing is proved. The module
 is held against the static library first: compiled again, it has to be that library's object file to the byte. Then it is written for
-WebAssembly (retarget.py), compiled by the toolchain's clang, linked with the runtime, whose heap and division it calls, made one
-with addresses of 32 bits (lower.py), and optimized by binaryen's wasm-opt. It imports nothing, and exports the functions of fact_graph.h
-with numbers of 32 bits. The same module gives the same bytes.
+WebAssembly (retarget.py), compiled by the toolchain's clang, linked with the runtime, which it calls, made one with addresses of 32 bits
+(lower.py), optimized by binaryen's wasm-opt, and ordered for what compresses it on its way to a visitor (reorder.py). It imports nothing, and
+exports the functions of fact_graph.h with numbers of 32 bits. The same module gives the same bytes.
 
 The exit status is 0 where it was written, 1 where a step failed or met what it doesn't know, and 2 where the module is wanting.
 """
@@ -25,6 +25,7 @@ from typing import NamedTuple
 from binary import Refused
 from lower import lowered
 from narrow import file_of
+from reorder import reordered
 from retarget import TARGET, retargeted
 
 HERE = Path(__file__).resolve().parent
@@ -43,8 +44,9 @@ X86, WASM = TARGET["target triple"]
 FEATURES = ["-mcpu=mvp", "-mbulk-memory", "-msign-ext"]
 TO_OPTIMIZE = ["--enable-bulk-memory", "--enable-sign-ext"]
 
-# The engine's lists are short: vectors that LLVM makes of loops, and unrolled loops, make the module larger and no line faster.
-AS_WRITTEN = ["-fno-vectorize", "-fno-slp-vectorize", "-fno-unroll-loops"]
+# The engine's lists are short: vectors that LLVM makes of loops, and unrolled loops, make the module larger and no line faster. A call is
+# replaced by what it runs where that is this short: of longer ones the module grows by a fifteenth, and a line gains a twentieth.
+AS_WRITTEN = ["-fno-vectorize", "-fno-slp-vectorize", "-fno-unroll-loops", "-mllvm", "-inline-threshold=150"]
 
 OF_C = ["-std=c11", "-O2", "-ffreestanding", "-fno-builtin", "-Wall", "-Wextra", "-Wpedantic", "-Wconversion"]
 
@@ -71,7 +73,7 @@ class Variant(NamedTuple):
 
     has_vectors: bool = True
     is_testing: bool = False  # with what the tests call, and allocations that fail on demand
-    is_lowered_here: bool = True  # or by binaryen, which does so without vectors alone
+    is_lowered_here: bool = True  # and ordered; or lowered by binaryen, which does so without vectors alone
 
 
 SHIPPED = Variant()
@@ -95,9 +97,11 @@ class Builder:
         vectors = ["--enable-simd"] if variant.has_vectors else []
         if lowering:
             run("wasm-opt", *TO_OPTIMIZE, *lowering, small, "-o", small)
+        optimized = small.with_suffix(".optimized.wasm")
+        # LLVM has inlined what makes a line fast; more of it makes the module larger and no line faster
+        run("wasm-opt", "-Os", "--one-caller-inline-max-function-size=0", *TO_OPTIMIZE, *vectors, small, "-o", optimized)
         to.parent.mkdir(parents=True, exist_ok=True)
-        # LLVM has inlined what makes a line fast; what -O3 inlines beyond that makes the module larger and no line faster
-        run("wasm-opt", "-Os", *TO_OPTIMIZE, *vectors, small, "-o", to)
+        to.write_bytes(reordered(optimized.read_bytes()) if variant.is_lowered_here else optimized.read_bytes())
 
     def linked(self, variant: Variant) -> Path:
         """The engine and the runtime in one module, with addresses of 64 bits."""

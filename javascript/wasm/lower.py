@@ -19,10 +19,14 @@ from pathlib import Path
 from binary import Reader, Refused, signed, unsigned
 
 HEADER = b"\0asm\1\0\0\0"
+# An exported function of this name is the start: it runs where the module is instantiated, and isn't exported.
+START = b"start"
 MOST_PAGES, MOST_PLACES = 65_536, 2**32 - 1
 
 I32, I64, F32, F64, V128 = 0x7F, 0x7E, 0x7D, 0x7C, 0x7B
 LOCAL_GET, LOCAL_SET = 0x20, 0x21
+A_FUNCTION = 0  # among exports
+EXPORTS, THE_START = 7, 8
 WRAP, EXTEND_SIGNED, EXTEND_UNSIGNED = b"\xa7", b"\xac", b"\xad"
 I32_CONST, I64_CONST, END = 0x41, 0x42, 0x0B
 
@@ -31,7 +35,7 @@ PLAIN = {0x00, 0x01, 0x05, END, 0x0F, 0x1A, 0x1B, *range(0x45, 0xC5)}
 WITH_INDEX = {0x0C, 0x0D, 0x10, *range(0x20, 0x25)}
 WITH_SIGNED = {0x02, 0x03, 0x04, I32_CONST, I64_CONST}  # (the type of a block is such a number)
 WITH_BYTES = {0x43: 4, 0x44: 8}
-BR_TABLE, CALL_INDIRECT, MEMORY_SIZE, MEMORY_GROW, BULK, VECTOR = 0x0E, 0x11, 0x3F, 0x40, 0xFC, 0xFD
+BR_TABLE, CALL, CALL_INDIRECT, MEMORY_SIZE, MEMORY_GROW, BULK, VECTOR = 0x0E, 0x10, 0x11, 0x3F, 0x40, 0xFC, 0xFD
 LOADS = range(0x28, 0x36)
 STORED = {0x36: I32, 0x37: I64, 0x38: F32, 0x39: F64, 0x3A: I32, 0x3B: I32, 0x3C: I64, 0x3D: I64, 0x3E: I64}
 
@@ -180,18 +184,21 @@ class Module:
         self.read.expect(*HEADER)
         self.parameters: list[int] = []  # by type
         self.types: list[int] = []  # by function
-        self.changes = {1: self.note_types, 3: self.note_functions, 4: self.tables, 5: self.memories, 9: self.elements, 10: self.codes, 11: self.data}
+        self.start: int | None = None
+        kept_with_notes = {1: self.note_types, 3: self.note_functions}
+        self.changes = {**kept_with_notes, 4: self.tables, 5: self.memories, EXPORTS: self.exports, 9: self.elements, 10: self.codes, 11: self.data}
 
-    # globals, exports and the count of data stay as they are
-    KEPT = {6, 7, 12}
+    # globals and the count of data stay as they are
+    KEPT = {6, 12}
 
     def lowered(self) -> bytes:
         """The whole module."""
         parts = [HEADER]
         while not self.read.is_at_end():
             kind = self.read.byte()
-            content = self.section(kind, self.read.part(self.read.unsigned()))
-            parts += [bytes([kind]), unsigned(len(content)), content]
+            parts.append(section_of(kind, self.section(kind, self.read.part(self.read.unsigned()))))
+            if kind == EXPORTS and self.start is not None:
+                parts.append(section_of(THE_START, unsigned(self.start)))
         return b"".join(parts)
 
     def section(self, kind: int, section: Reader) -> bytes:
@@ -232,6 +239,18 @@ class Module:
         small = unsigned(1) + limits(section, MOST_PAGES)
         return small if self.with_memory else section.data[start : section.at]
 
+    def exports(self, section: Reader) -> bytes:
+        """All that is exported but the start."""
+        kept = []
+        for _ in range(section.unsigned()):
+            at = section.at
+            name, kind, index = section.take(section.unsigned()), section.byte(), section.unsigned()
+            if name == START and kind == A_FUNCTION:
+                self.start = index
+            else:
+                kept.append(section.data[at : section.at])
+        return unsigned(len(kept)) + b"".join(kept)
+
     def elements(self, section: Reader) -> bytes:
         """Functions that stand in the first table from a place on."""
         count = section.unsigned()
@@ -263,6 +282,11 @@ class Module:
             code = Code(self.parameters[kind], section.part(section.unsigned()), self.with_memory).lowered()
             written += unsigned(len(code)) + code
         return bytes(written)
+
+
+def section_of(kind: int, content: bytes) -> bytes:
+    """A section as it is written."""
+    return bytes([kind]) + unsigned(len(content)) + content
 
 
 def limits(section: Reader, most: int) -> bytes:

@@ -2,7 +2,8 @@
 
 Sizes, layouts and calls are the same on both, so nothing but what names the processor changes. What the module may have of it is listed
 here; anything else that is of a processor, of threads or of C is refused, since it could mean something else on WebAssembly. What no
-line of a session reaches is compiled for size: it runs where a session begins or is saved, and a visitor waits for all of the code.
+line of a session reaches is compiled for size: it runs where a session begins or is saved, and a visitor waits for all of the code. A
+table of random bytes that a few lines of C make again (runtime/powers.c) isn't carried along.
 """
 
 from __future__ import annotations
@@ -44,6 +45,9 @@ define internal <16 x i8> @shuffled(<16 x i8> %table, <16 x i8> %places) alwaysi
 # The fence keeps LLVM from moving arithmetic over it. WebAssembly has none: a call into another object file is as good.
 FENCE, AS_FENCE = "llvm.arithmetic.fence.f64", "fence_of_arithmetic"
 
+# The runtime's table of the powers of 5, by which fractions of JSON are read.
+POWERS, TABLE_OF_POWERS = range(-342, 326), "powers_of_five"
+
 # Words of LLVM's text that mean a processor, threads or C, or what none of the engine's code has.
 UNKNOWN = re.compile(
     r"\b(?:x86_\w+|asm|thread_local|atomicrmw|cmpxchg|(?:load|store) atomic|fence|addrspace|callbr|invoke|landingpad|va_arg"
@@ -62,7 +66,7 @@ CONSTANT = re.compile(r'^(?P<name>@(?:"[^"]*"|[\w.$-]+)) = .*$', re.MULTILINE)
 
 def retargeted(text: str, has_vectors: bool) -> str:
     """The module for WebAssembly, whose instructions on vectors are there or not."""
-    text = without_fence(without_shuffle(for_size(without_processor(for_target(text))), has_vectors))
+    text = without_powers(without_fence(without_shuffle(for_size(without_processor(for_target(text))), has_vectors)))
     refuse_unknown(text, has_vectors)
     return text
 
@@ -97,7 +101,7 @@ def for_size(text: str) -> str:
         return function[0] if function["name"] in reached else f"{function['head']} #{SMALL}{function['group']} {{{function['body']}"
 
     def doubled(line: re.Match[str]) -> str:
-        return f"{line[0]}\nattributes #{SMALL}{line[1]} = {{ minsize optsize{line[2]}"
+        return f"{line[0]}\nattributes #{SMALL}{line[1]} = {{ optsize{line[2]}"
 
     return re.sub(r"^attributes #(\d+) = \{(.*)$", doubled, FUNCTION.sub(change, text), flags=re.MULTILINE)
 
@@ -132,6 +136,42 @@ def without_fence(text: str) -> str:
         return text
     text = without_declaration(text, FENCE).replace(f"@{FENCE}", f"@{AS_FENCE}")
     return text + f"\ndeclare double @{AS_FENCE}(double) nounwind\n"
+
+
+def highest_bits(power: int) -> int:
+    """The highest 128 bits of a power of 5, those below them cut off.
+
+    >>> hex(highest_bits(1)), hex(highest_bits(-1))
+    ('0xa0000000000000000000000000000000', '0xcccccccccccccccccccccccccccccccc')
+    """
+    five: int = 5 ** abs(power)
+    number = five << 128 if power >= 0 else (1 << 1024) // five
+    return number >> (number.bit_length() - 128)
+
+
+def bytes_of_powers() -> bytes:
+    """The table as it stands in the memory."""
+    return b"".join(highest_bits(power).to_bytes(16, "little") for power in POWERS)
+
+
+def as_constant(data: bytes) -> str:
+    r"""Bytes as LLVM writes them in its text.
+
+    >>> print(as_constant(b'a"\\\n'))
+    [4 x i8] c"a\22\\\0A"
+    """
+    written = ("\\\\" if byte == 0x5C else chr(byte) if 32 <= byte < 127 and byte != 0x22 else f"\\{byte:02X}" for byte in data)
+    return f'[{len(data)} x i8] c"{"".join(written)}"'
+
+
+def without_powers(text: str) -> str:
+    """Has the engine read the runtime's table in place of a constant with the same bytes."""
+    table = as_constant(bytes_of_powers())
+    found = re.search(rf"^(@[\w.$-]+) = private unnamed_addr constant {re.escape(table)}(?=, align 16$)", text, flags=re.MULTILINE)
+    if not found:
+        return text
+    text = text.replace(found[0], f"@{TABLE_OF_POWERS} = external constant {table.partition(' c')[0]}")
+    return re.sub(rf"{re.escape(found[1])}(?![\w.$-])", f"@{TABLE_OF_POWERS}", text)
 
 
 def refuse_unknown(text: str, has_vectors: bool) -> None:

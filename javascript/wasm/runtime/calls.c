@@ -1,6 +1,7 @@
 // What the compiled crate calls: the kit's functions of the heap, and those of C and of the compiler that WebAssembly has no
 // instructions for; and what a page calls beside the library's own functions.
 #include "heap.h"
+#include "powers.h"
 #include "wide.h"
 
 #ifndef __wasm_bulk_memory__
@@ -25,6 +26,9 @@ _Bool memory_grow(u64 pages) { return (u32)__builtin_wasm_memory_grow(0, pages) 
 EXPORT(allocate) u32 allocate(u32 size) { return (u32)(u64)heap_take(size); }
 EXPORT(release) void release(u32 address) { heap_give_back(AT(address)); }
 EXPORT(keep_below) void keep_below(u32 bytes) { heap_keep_below(bytes); }
+
+// (lower.py makes this one the module's start, and no export)
+EXPORT(start) void start(void) { make_powers_of_five(); }
 
 // ---- for the crate: as the kit's code over malloc has it, no size of 0 is asked for, and a pointer is never null
 

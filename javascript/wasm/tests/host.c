@@ -1,12 +1,14 @@
 // The runtime on this machine, for its tests.
 //
 //   host wide          reads records of two numbers of 128 bits and a shift, and writes the six results of each
+//   host powers        writes the table of the powers of 5
 //   host heap SEED     300,000 random steps over the heap, whose blocks are filled, looked at again, and walked over
 #include <stdio.h>
 #include <stdlib.h>
 #include <string.h>
 
 #include "heap.h"
+#include "powers.h"
 #include "wide.h"
 
 // ---- arithmetic
@@ -27,6 +29,11 @@ static int answer_wide(void) {
     if (fwrite(results, sizeof results, 1, stdout) != 1) return 1;
   }
   return 0;
+}
+
+static int write_powers(void) {
+  make_powers_of_five();
+  return fwrite(powers_of_five, sizeof powers_of_five, 1, stdout) != 1;
 }
 
 // ---- the heap, over a memory that grows up to 64 MiB and that now and then has no more
@@ -133,6 +140,7 @@ static int walk_heap(const char *from) {
 
 int main(int words, char **word) {
   if (words == 2 && !strcmp(word[1], "wide")) return answer_wide();
+  if (words == 2 && !strcmp(word[1], "powers")) return write_powers();
   if (words == 3 && !strcmp(word[1], "heap")) return walk_heap(word[2]);
-  stop("usage: host wide, or host heap SEED");
+  stop("usage: host wide, host powers, or host heap SEED");
 }

@@ -1,4 +1,4 @@
-"""The runtime in C, built for this machine under the sanitizers: its arithmetic against Python's integers, and its heap."""
+"""The runtime in C, built for this machine under the sanitizers: its arithmetic and its powers against Python's integers, and its heap."""
 
 import random
 import struct
@@ -7,6 +7,8 @@ from collections.abc import Iterator
 from pathlib import Path
 
 import pytest
+
+from retarget import bytes_of_powers
 
 HERE = Path(__file__).resolve().parent
 RUNTIME = HERE.parent / "runtime"
@@ -20,7 +22,7 @@ PAIRS = 200_000
 def built_host(tmp_path_factory: pytest.TempPathFactory) -> Path:
     """The program that runs the runtime here."""
     host = tmp_path_factory.mktemp("runtime") / "host"
-    sources = [HERE / "host.c", RUNTIME / "heap.c", RUNTIME / "wide.c"]
+    sources = [HERE / "host.c", *(RUNTIME / name for name in ("heap.c", "powers.c", "wide.c"))]
     subprocess.run(["cc", "-std=c11", *WARNINGS, *SANITIZED, f"-I{RUNTIME}", *sources, "-o", host], check=True)
     return host
 
@@ -65,6 +67,11 @@ def test_arithmetic_is_that_of_integers(host: Path, seed: int) -> None:
     assert len(came) == 6 * PAIRS
     for number, case in enumerate(given):
         assert tuple(came[6 * number : 6 * number + 6]) == due(*case), case
+
+
+def test_the_powers_of_5_are_those_of_integers(host: Path) -> None:
+    """All of them, as the module's constant has them that they stand for."""
+    assert subprocess.run([host, "powers"], capture_output=True, check=True).stdout == bytes_of_powers()
 
 
 @pytest.mark.parametrize("seed", range(1, 5))

@@ -9,7 +9,8 @@ from hypothesis import strategies as some
 from binary import Reader, Refused, signed, unsigned
 from lower import HEADER, lowered
 from narrow import narrowed
-from retarget import TARGET, retargeted
+from reorder import reordered
+from retarget import TARGET, as_constant, bytes_of_powers, retargeted
 
 HEAD = "".join(f'{word} = "{old}"\n' for word, (old, _) in TARGET.items())
 
@@ -58,8 +59,8 @@ def test_what_no_line_reaches_is_compiled_for_size() -> None:
     )
     groups = re.findall(r'^define .*?@"?(.*?)"?\(\) (#\d+) \{$', text, re.MULTILINE)
     assert groups == [("fact_graph_answer", "#0"), ("called (by a line) c", "#1"), ("in a table", "#0"), ("fact_graph_open", "#770"), ("s", "#771")]
-    assert "attributes #770 = { minsize optsize nounwind }\n" in text
-    assert 'attributes #771 = { minsize optsize nounwind "rattle-sig"="1" }\n' in text
+    assert "attributes #770 = { optsize nounwind }\n" in text
+    assert 'attributes #771 = { optsize nounwind "rattle-sig"="1" }\n' in text
 
 
 def test_the_shuffle_of_x86_is_the_one_of_webassembly() -> None:
@@ -77,6 +78,18 @@ def test_the_fence_of_arithmetic_is_a_call() -> None:
     text = retargeted(HEAD + "declare double @llvm.arithmetic.fence.f64(double)\n%a = call double @llvm.arithmetic.fence.f64(double %b)\n", True)
     assert "call double @fence_of_arithmetic(double %b)" in text
     assert "llvm.arithmetic" not in text
+
+
+def test_the_table_of_powers_is_the_runtime_s() -> None:
+    """Where a constant has all of its bytes; each other constant stays."""
+    def table(data: bytes) -> str:
+        return f"@t.1 = private unnamed_addr constant {as_constant(data)}, align 16\n@t.10 = private constant i8 0\n"
+
+    use = "define ptr @f() {\n  store ptr @t.1, ptr @t.10\n}\n"
+    due = "@powers_of_five = external constant [10688 x i8], align 16\n@t.10 = private constant i8 0\n"
+    assert retargeted(HEAD + table(bytes_of_powers()) + use, True).endswith(due + use.replace("@t.1,", "@powers_of_five,"))
+    other = table(bytes_of_powers()[:-1] + b"\0") + use
+    assert retargeted(HEAD + other, True).endswith(other)
 
 
 @pytest.mark.parametrize(
@@ -157,6 +170,14 @@ def test_memory_and_tables_have_32_bits() -> None:
     assert section(4, b"\x01\x70\x01\x07\x07") in small
 
 
+def test_the_start_is_no_export() -> None:
+    """A section of its own names it, behind that of the exports; a memory of that name is one."""
+    exports = section(7, b"\x03\x05start\0\0\x01f\0\0\x05start\x02\0")
+    small = lowered(module(b"", exports))
+    assert section(7, b"\x02\x01f\0\0\x05start\x02\0") + section(8, b"\0") in small
+    assert section(7, b"\x01\x01f\0\0") + section(10, b"\x01\x02\0\x0b") in lowered(module(b"", section(7, b"\x01\x01f\0\0")))
+
+
 def test_tables_alone() -> None:
     """The memory and its addresses stay."""
     small = lowered(module(b"\x20\0\x29\x03\x08\x1a\x20\0\x11\0\0"), with_memory=False)
@@ -191,6 +212,28 @@ def test_what_isnt_known_of_a_module_is_refused(data: bytes) -> None:
     memory, a memory of 32 bits, one beyond 4 GiB, an end within, data that lies far or nowhere."""
     with pytest.raises(Refused):
         lowered(data)
+
+
+# ---- the order of functions
+
+def of_three(calls: bytes, order: bytes, first: int) -> bytes:
+    """A module of three functions in an order, whose types, calls and names are those of these numbers."""
+    parts = {0: b"\0" + bytes([1]) * 20, 1: b"\0" + b"\x41\x07\x1a" * 5, 2: b"\0" + bytes([1]) * 19}
+    codes = [parts[it] + bytes([0x10, calls[it], 0x0B]) for it in order]
+    types = section(1, b"\x03" + b"\x60\0\0" * 3) + section(3, b"\x03" + order)
+    named = section(7, b"\x02\x01f\0" + calls[0:1] + b"\x01m\x02\0") + section(8, bytes([first])) + section(9, b"\x01\0\x41\x01\x0b\x03" + calls)
+    return HEADER + types + named + section(10, b"\x03" + b"".join(unsigned(len(it)) + it for it in codes)) + section(11, b"\0")
+
+
+def test_calls_follow_functions_that_move() -> None:
+    """So do exports, the start and the table; the memory that is exported stays."""
+    assert reordered(of_three(b"\x01\x02\0", b"\0\x01\x02", 2)) == of_three(b"\x02\x01\0", b"\0\x02\x01", 1)
+
+
+def test_what_isnt_known_isnt_ordered() -> None:
+    """A section of names."""
+    with pytest.raises(Refused):
+        reordered(of_three(b"\0\0\0", b"\0\x01\x02", 0) + section(0, b"\x04name"))
 
 
 # ---- the header
