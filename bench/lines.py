@@ -77,7 +77,8 @@ def write_files(folder: Path) -> None:
     shutil.copy(EXAMPLES / "three.json", folder)
     write_dictionary(folder / "large.json", large_dictionary())
     scripts: dict[str, Iterable[str]] = {
-        "set": ["set /a 1.50\n"] * LINES,
+        "same": ["set /a 1.50\n"] * LINES,
+        "set": ["set /b 2.25\n", *["set /a 1.50\n", "set /a 2.50\n"] * (LINES // 2)],
         "get": ["set /a 1.50\nset /b 2.25\n", *["get /s\n"] * LINES],
         "none": [],
         "pairs": pairs(),
@@ -140,7 +141,8 @@ def main(argv: list[str]) -> int:
         engines += [Engine(what, plain, word) for what, word in beside.items()]
         table = Table(engines, folder)
         table.show("least user time of the runs, and the system's", [*(it.name for it in engines), "ratio"])
-        table.time(f"{LINES:,} lines set /a 1.50", "three.json", "set.script")
+        table.time(f"{LINES:,} lines set /a 1.50", "three.json", "same.script")
+        table.time(f"{LINES:,} lines set /a of two values in turn", "three.json", "set.script")
         table.time(f"{LINES:,} lines get /s", "three.json", "get.script")
         for kind, line in SILENT_LINES.items():
             (folder / "silent.script").write_bytes(line * (SCRIPT_BYTES // len(line)))

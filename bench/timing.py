@@ -67,6 +67,7 @@ def add_up(first: list[object], count: int) -> list[object]:
     return ["Add", first, *[["Int", "1"]] * count]
 
 
-def write_dictionary(path: Path, facts: Iterable[dict[str, object]]) -> None:
-    """Writes a dictionary of these facts."""
-    path.write_text(json.dumps({"version": "1", "facts": list(facts)}), encoding="utf-8")
+def write_dictionary(path: Path, facts: Iterable[dict[str, object]], tables: Sequence[dict[str, object]] = ()) -> None:
+    """Writes a dictionary of these facts, in the law profile where it has tables."""
+    rest = {"version": "law-1", "tables": list(tables)} if tables else {"version": "1"}
+    path.write_text(json.dumps({**rest, "facts": list(facts)}), encoding="utf-8")

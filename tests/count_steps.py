@@ -18,7 +18,8 @@ without a node is one that is answered or overridden.
 
 Work of any other kind is bounded: a command of the large dictionary that takes few steps, walks none, and takes no member away, takes
 fewer instructions than there are slots, so that nothing in it goes through all of them: no second engine is begun, and no table is
-copied. One that takes a member away drops the slots of that member.
+copied. One that takes a member away drops the slots of that member. In the dictionary with a table of a thousand rows there are fewer
+than two for each row that its reads would go through.
 
 The exit status is 0 where none failed, 1 where one did, and 2 where there is no such program or no valgrind.
 """
@@ -198,6 +199,45 @@ LARGE_LINES: list[Line] = [
 ]
 
 
+# ---- tables, in which a row is found without a look at most others
+
+ROWS = 1_000
+LOOKUPS = 40
+
+
+def tabled() -> dict[str, Any]:
+    """A dictionary of a table of a thousand rows, and a sum of what forty reads of it give."""
+    rows = [[str(row), str(row)] for row in range(ROWS)]
+    return {
+        "version": "law-1",
+        "tables": [{"name": "t", "from": "Int", "to": "Int", "rows": rows, "else": "-1"}],
+        "facts": [
+            {"path": "/n", "writable": "Int"},
+            {"path": "/x", "derived": "Int", "is": ["Lookup", "t", ["Lookup", "t", ["Add", ["Dependency", "/n"], ["Int", "1"]]]]},
+            {"path": "/s", "derived": "Int", "is": ["Add", *[["Lookup", "t", ["Dependency", "/n"]]] * LOOKUPS]},
+        ],
+    }
+
+
+OF_X, OF_S = 5, 1 + 2 * LOOKUPS
+TABLED_LINES: list[Line] = [
+    # all slots: /x 5: two Lookups, Add, /n, 1; /s: Add, and a Lookup and /n forty times
+    Line("get /x", "incomplete", OF_X + OF_S),
+    # walked: the same of /x
+    Line("missing /x", "missing 1\n/n", 0, OF_X),
+    Line("set /n 0", "ok", OF_X + OF_S),
+    Line("get /s", "complete 0", 0),
+    Line(f"set /n {ROWS - 1}", "ok", OF_X + OF_S),
+    Line("get /s", f"complete {LOOKUPS * (ROWS - 1)}", 0),
+    Line("set /n -5", "ok", OF_X + OF_S),
+    Line("get /s", f"complete {-LOOKUPS}", 0),
+    Line("get /x", "complete -1", 0),
+    Line("undo", "ok", OF_X + OF_S),
+]
+# A command that reads the table takes fewer instructions than two for each row that it would go through.
+THROUGH = 2 * ROWS * LOOKUPS
+
+
 # ---- counting
 
 def counts_in(part: Path) -> Counts:
@@ -278,14 +318,18 @@ def judged(program: Path, folder: Path, dictionary: dict[str, Any], lines: list[
 
 
 def main(argv: list[str]) -> int:
-    """Counts the steps of both dictionaries."""
+    """Counts the steps of each dictionary."""
     words = words_of(__doc__)
     add_program(words)
     program = words.parse_args(argv).program
     tool("valgrind")
     tally = Tally()
     with tempfile.TemporaryDirectory(prefix="count_steps.") as folder, ThreadPoolExecutor(2) as pool:
-        cases = [("small", SMALL, SMALL_LINES, None), ("large", {"version": "1", "facts": list(large())}, LARGE_LINES, SLOTS)]
+        cases = [
+            ("small", SMALL, SMALL_LINES, None),
+            ("large", {"version": "1", "facts": list(large())}, LARGE_LINES, SLOTS),
+            ("tables", tabled(), TABLED_LINES, THROUGH),
+        ]
         ran = [(name, pool.submit(judged, program, Path(folder, name), dictionary, lines, slots)) for name, dictionary, lines, slots in cases]
         for name, wrongs in ran:
             for wrong in wrongs.result():
