@@ -4,4 +4,5 @@ pub mod Kept
 pub mod Kinds
 pub mod Lines
 pub mod Pieces
+pub mod Verbs
 pub mod Parsing
