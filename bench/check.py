@@ -26,7 +26,7 @@ use std::process::ExitCode;
 fn is_json(rt: HostRuntime) -> Option<bool> {
     let name = env::args(&rt).ok()?.nth(1)?;
     let mut shelf = FolderShelf::new(rt, rt.alloc());
-    let bytes = shelf.fetch(name.as_str(), 8_388_608).ok()?;
+    let bytes = shelf.fetch(&(), &(), name.as_str(), 8_388_608).ok()?;
     Some(Value::from_slice(rt.alloc(), bytes.as_slice()).is_ok())
 }
 

@@ -1,5 +1,6 @@
 -- The numbers of calls, from 1.
-use Rattle.std.specs.Prelude.{ℕ, ◌+◌, ◌-◌, ◌^◌, min, List, Contains}
+use Rattle.std.specs.Prelude.{◌≡◌, ℕ, ◌+◌, ◌-◌, ◌^◌, min, List, Contains}
+use Rattle.fg_io.specs.Outside.{Pulled, gave, faulted}
 
 -- a count, one higher; it stands still at the greatest u64
 abbrev pub next_count : ℕ → ℕ
@@ -8,3 +9,8 @@ next_count count = min (count + 1) (2 ^ 64 - 1)
 -- the call after so many is one of those that fail
 abbrev pub Fails : List ℕ → ℕ → Type 0
 Fails failing calls = Contains failing (next_count calls)
+
+-- a pull leaves a count of faults, and a fault raises it
+abbrev pub IsCounted : ℕ → ℕ → Pulled → Type 0
+IsCounted count count_now (gave bytes) = count_now ≡ count
+IsCounted count count_now faulted = count_now ≡ next_count count

@@ -13,5 +13,5 @@ abbrev pub files_hidden : FolderState → Files
 files_hidden folder = record { contents = λ name. hidden; faults = folder.faults; failed_name = folder.failed_name }
 
 -- a fetch moves its count and the failed name alone
-abbrev pub folder_fetched : ByFetch FolderState
-folder_fetched folder name at_most answer folder_now = FetchCause name (files_hidden folder) (files_hidden folder_now) answer
+abbrev pub folder_fetched : {S K : Type 0} → ByFetch FolderState S K
+folder_fetched folder script out name at_most answer folder_now = FetchCause name (files_hidden folder) (files_hidden folder_now) answer

@@ -1,5 +1,5 @@
 -- What the outside tells of itself, and when it may say that it failed.
-use Rattle.std.specs.Prelude.{◌≡◌, ℕ, ◌+◌, ◌-◌, ◌^◌, ◌<◌, ◌≤◌, min, List, length, Vec, Result, OnErr, IfOk, IsErrOf, Option, None, Some}
+use Rattle.std.specs.Prelude.{◌≡◌, ℕ, ◌+◌, ◌-◌, ◌^◌, ◌<◌, ◌≤◌, min, List, length, take, Vec, Result, Ok, Err, OnErr, IfOk, IsErrOf, Option, None, Some}
 use Rattle.std.specs.declared.alloc.Global.{Global}
 use Rattle.fg_io.specs.declared.error.FetchFault.{FetchFault}
 use Rattle.fg_io.specs.declared.error.FetchFault.TheVariants.{Failed, TooLong}
@@ -64,7 +64,22 @@ pub record FetchCause {T : Type 0} (name : List ℕ) (files files_now : Files) (
 
 -- ---- what a call makes of a device
 
--- A shelf before a fetch, the name, the most bytes, the answer, and the shelf after it. Whoever calls shelves of any kind, and
--- says that one came to this, has made the fetch, and no other.
-abbrev pub ByFetch : Type 0 → Type 1
-ByFetch S = S → List ℕ → ℕ → Result (Vec ℕ Global) FetchFault → S → Type 0
+-- Whoever calls devices of any kind, and says that one came to this, has made these calls, and no other. A state of a device that is
+-- handed in is the one in which it stood.
+
+-- A shelf before a fetch, the source and the sink as they stood, the name, the most bytes, the answer, and the shelf after it.
+abbrev pub ByFetch : Type 0 → Type 0 → Type 0 → Type 1
+ByFetch H S K = H → S → K → List ℕ → ℕ → Result (Vec ℕ Global) FetchFault → H → Type 0
+
+-- what a pull came to: these bytes, which are none at the end, or a fault
+pub data Pulled : Type 0 where
+  gave : List ℕ → Pulled
+  faulted : Pulled
+
+abbrev pub pulled_as : {E : Type 0} → Result ℕ E → List ℕ → Pulled
+pulled_as (Ok count) buf = gave (take count buf)
+pulled_as (Err failed) buf = faulted
+
+-- A source before a pull, the sink as it stood, the most bytes, what it came to, and the source after it.
+abbrev pub ByPull : Type 0 → Type 0 → Type 1
+ByPull S K = S → K → ℕ → Pulled → S → Type 0

@@ -1,7 +1,7 @@
 -- A source in memory.
-use Rattle.std.specs.Prelude.{ℕ, min, List, length, drop, Some}
-use Rattle.fg_io.specs.Calls.{next_count}
-use Rattle.fg_io.specs.Outside.{Input}
+use Rattle.std.specs.Prelude.{◌≡◌, ℕ, min, List, length, drop, Some}
+use Rattle.fg_io.specs.Calls.{Fails, next_count}
+use Rattle.fg_io.specs.Outside.{Input, Pulled, gave, faulted}
 
 pub record SourceState : Type 0 where
   -- the bytes left
@@ -29,3 +29,8 @@ after_giving source count = record source { left = drop count source.left; calls
 -- after a pull that failed
 abbrev pub after_failing : SourceState → SourceState
 after_failing source = record source { calls = next_count source.calls; faults = next_count source.faults }
+
+-- A pull into a buffer of this length ends so: it fails where its number is a failing one, and nowhere else.
+abbrev pub PullEnds : SourceState → SourceState → ℕ → Pulled → Type 0
+PullEnds old new len (gave bytes) = (¬ Fails old.failing old.calls) × (new ≡ after_giving old (given_count old len))
+PullEnds old new len faulted = Fails old.failing old.calls × (new ≡ after_failing old)

@@ -84,14 +84,20 @@ fn read_file<R: Files>(
     }
 }
 
-impl<R: Files + Drop> Shelf for FolderShelf<R> {
+impl<R: Files + Drop, S, K> Shelf<S, K> for FolderShelf<R> {
     ghost use Rattle.fg_io.specs.FolderState.{files_hidden, folder_fetched};
 
     ghost files = { files_hidden };
 
     ghost fetched = { folder_fetched };
 
-    fn fetch(&mut self, name: &str, at_most: u64) -> Result<Vec<u8>, FetchFault>
+    fn fetch(
+        &mut self,
+        _script: &S,
+        _out: &K,
+        name: &str,
+        at_most: u64,
+    ) -> Result<Vec<u8>, FetchFault>
         ensures content { Fetches hidden at_most result }
         ensures cause { FetchCause name.now (files_hidden self.old) (files_hidden self.new) result }
         ensures failed { IsErrOf result FetchFault.Failed → self.new ≡ record {

@@ -95,14 +95,20 @@ impl MemShelf {
     }
 }
 
-impl Shelf for MemShelf {
+impl<S, K> Shelf<S, K> for MemShelf {
     ghost use Rattle.fg_io.specs.ShelfState.{files_shown, FetchEnds};
 
     ghost files = { files_shown };
 
-    ghost fetched = { λ old name at_most answer new. FetchEnds old new name answer };
+    ghost fetched = { λ old script out name at_most answer new. FetchEnds old new name answer };
 
-    fn fetch(&mut self, name: &str, at_most: u64) -> Result<Vec<u8>, FetchFault>
+    fn fetch(
+        &mut self,
+        _script: &S,
+        _out: &K,
+        name: &str,
+        at_most: u64,
+    ) -> Result<Vec<u8>, FetchFault>
         ensures content { Fetches (contents_in self.old name.now) at_most result }
         ensures kept { contents_in self.new ≡ contents_in self.old }
         ensures cause { FetchCause name.now (files_shown self.old) (files_shown self.new) result }

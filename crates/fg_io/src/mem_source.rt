@@ -60,13 +60,15 @@ impl MemSource {
     }
 }
 
-impl Source for MemSource {
+impl<K> Source<K> for MemSource {
     ghost use Rattle.std.specs.declared.option.Option.TheVariants.{Some};
-    ghost use Rattle.fg_io.specs.SourceState.{input_shown};
+    ghost use Rattle.fg_io.specs.SourceState.{PullEnds, input_shown};
 
     ghost input = { input_shown };
 
-    fn pull(&mut self, buf: &mut [u8]) -> Result<usize, Failed>
+    ghost pulled = { λ old out room came new. PullEnds old new room came };
+
+    fn pull(&mut self, _out: &K, buf: &mut [u8]) -> Result<usize, Failed>
         requires { 0 < length buf.old }
         ensures bound { ReadsAtMost result buf.new }
         ensures bytes { ReadConsumes (Some self.old.left) (Some self.new.left) result buf.new }

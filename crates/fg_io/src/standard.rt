@@ -32,12 +32,15 @@ impl StdinSource {
     }
 }
 
-impl Source for StdinSource {
+impl<K> Source<K> for StdinSource {
     ghost use Rattle.std.specs.declared.option.Option.TheVariants.{None};
+    ghost use Rattle.fg_io.specs.Calls.{IsCounted};
 
     ghost input = { λ count. record { left = None; faults = count } };
 
-    fn pull(&mut self, buf: &mut [u8]) -> Result<usize, Failed>
+    ghost pulled = { λ count out room came count_now. IsCounted count count_now came };
+
+    fn pull(&mut self, _out: &K, buf: &mut [u8]) -> Result<usize, Failed>
         requires { 0 < length buf.old }
         ensures bound { ReadsAtMost result buf.new }
         ensures bytes { ReadConsumes None None result buf.new }

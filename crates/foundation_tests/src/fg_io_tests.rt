@@ -10,17 +10,17 @@ use std::test::Fail;
 use std::{env, fs};
 
 // Whether one pull into a buffer of four gives these bytes.
-fn gives<S: Source>(source: &mut S, wanted: &[u8]) -> bool {
+fn gives<S: Source<()>>(source: &mut S, wanted: &[u8]) -> bool {
     let mut buf = [0u8; 4];
-    match source.pull(&mut buf) {
+    match source.pull(&(), &mut buf) {
         Ok(count) => wanted == &buf[..count],
         Err(_) => false,
     }
 }
 
-fn gives_none<S: Source>(source: &mut S) -> bool {
+fn gives_none<S: Source<()>>(source: &mut S) -> bool {
     let mut buf = [0u8; 4];
-    source.pull(&mut buf).is_err()
+    source.pull(&(), &mut buf).is_err()
 }
 
 // The seven bytes, at most so many a call: none where memory is wanting.
@@ -153,15 +153,15 @@ fn add_files(alloc: Global, shelf: &mut MemShelf) -> Option<()> {
     Some(())
 }
 
-fn fetches<H: Shelf>(shelf: &mut H, name: &str, at_most: u64, wanted: &[u8]) -> bool {
-    match shelf.fetch(name, at_most) {
+fn fetches<H: Shelf<(), ()>>(shelf: &mut H, name: &str, at_most: u64, wanted: &[u8]) -> bool {
+    match shelf.fetch(&(), &(), name, at_most) {
         Ok(found) => found.as_slice() == wanted,
         Err(_) => false,
     }
 }
 
-fn fails<H: Shelf>(shelf: &mut H, name: &str, at_most: u64, fault: FetchFault) -> bool {
-    match shelf.fetch(name, at_most) {
+fn fails<H: Shelf<(), ()>>(shelf: &mut H, name: &str, at_most: u64, fault: FetchFault) -> bool {
+    match shelf.fetch(&(), &(), name, at_most) {
         Ok(_) => false,
         Err(found) => found == fault,
     }
@@ -194,7 +194,7 @@ fn contents(alloc: Global) -> Option<Vec<u8>> {
     Some(bytes)
 }
 
-fn answers_a_file<H: Shelf>(shelf: &mut H, name: &str, wanted: &[u8]) -> bool {
+fn answers_a_file<H: Shelf<(), ()>>(shelf: &mut H, name: &str, wanted: &[u8]) -> bool {
     fetches(shelf, name, 5000, wanted)
         && fetches(shelf, name, u64::MAX, wanted)
         && fails(shelf, name, 4999, FetchFault::TooLong)

@@ -2,9 +2,9 @@
 use Rattle.std.proofs.Common.{◌≡◌, ℕ, ◌≤◌, List, length, inl, inr, refl, sym, ap, subst, ◌∙◌, arith}
 use Rattle.fg_io.specs.Outside.{MayHold, Contents, missing}
 use Rattle.value_text.specs.Enums.{AreLists}
-use Rattle.dictionary.specs.Accepted.{IsAccepted}
-use Rattle.dictionary.specs.Fits.{AnswersFit}
-use Rattle.dictionary.proofs.FitStart.{start_fits}
+use Rattle.dict_meaning.specs.Accepted.{IsAccepted}
+use Rattle.dict_meaning.specs.Fits.{AnswersFit}
+use Rattle.dict_meaning.proofs.FitStart.{start_fits}
 use Rattle.graph_session.specs.Rules.{Rules, tree_of}
 use Rattle.save_file.specs.CarriedText.{CarriedText, IsCarriedText}
 use Rattle.save_file.specs.Carrying.{IsCarryOf, dropped_numbers}

@@ -1,62 +1,120 @@
--- The fetches that an interview makes: what is known of the one form that the words have is known of every form.
-use Rattle.std.proofs.Common.{◌≡◌, ◌⊎◌, ℕ, List, inl, inr, refl, subst}
-use Rattle.fg_io.specs.Outside.{ByFetch}
-use Rattle.dictionary.specs.Accepted.{Named}
-use Rattle.interview.specs.Calls.{Calls, CallsForDictionary, CallsForNone, CallsForRun}
+-- The calls that an interview makes: what is known of the one form that the words have is known of every form.
+use Rattle.std.proofs.Common.{◌≡◌, ◌⊎◌, ℕ, List, inl, inr, refl, sym, subst}
+use Rattle.fg_io.specs.Outside.{ByFetch, ByPull, Contents, Output}
+use Rattle.answers.specs.Answered.{Answered}
+use Rattle.answers.specs.Meaning.{answered}
+use Rattle.dictionary.specs.Kept.{Named}
+use Rattle.graph_session.specs.Rules.{Rules}
+use Rattle.interview.specs.Beginnings.{MayBring}
+use Rattle.interview.specs.Calls.{ByStillFetch, Calls, CallsForDictionary, CallsForNone, CallsForRun, CallsForSave, CallsInVain, TalksFrom, beside}
+use Rattle.interview.specs.declared.resuming.Ready.{Ready}
+use Rattle.interview.specs.declared.resuming.Resumed.TheVariants as resumed
 use Rattle.interview.specs.declared.status.Status.{Status}
-use Rattle.interview.specs.declared.status.Status.TheVariants.{NoMemory}
+use Rattle.interview.specs.declared.status.Status.TheVariants.{Done, NoMemory, ReadFault}
+use Rattle.interview.specs.declared.words.Mode.{Mode}
+use Rattle.interview.specs.Given.{Given}
+use Rattle.interview.specs.Meanings.{Meaning, meaning_of}
+use Rattle.interview.specs.StepEnds.{Gives, ResumedAs}
+use Rattle.interview.specs.Talk.{MayTalk, Talk, TalkBehind}
 use Rattle.interview.specs.Words.{Beginning, HasNoForm, IsCheck, IsGen, IsRun, IsSave, Origin, file}
-use Rattle.interview.proofs.WordLaws.{gen_is_no_check, gen_is_no_run, gen_is_no_save, not_both, same_beginning, same_check, same_origin, same_save, save_is_no_check, save_is_no_run}
+use Rattle.interview.proofs.WordLaws.{gen_is_no_check, gen_is_no_run, gen_is_no_save, not_both, same_beginning, same_check, same_mode, same_origin, same_save, save_is_no_check, save_is_no_run}
 
--- a run that had no dictionary
-pub unobtained_calls : {S : Type 0} (fetched : ByFetch S) (checks : List Named) (status : Status) (shelf shelf_now : S) (origin : Origin) (beginning : Beginning)
-    → CallsForNone fetched checks origin shelf shelf_now ⊎ (status ≡ NoMemory) → CallsForDictionary fetched origin shelf shelf_now → CallsForRun fetched checks origin beginning status shelf shelf_now
-unobtained_calls fetched checks status shelf shelf_now origin beginning (inl none) called = inr (inl none)
-unobtained_calls fetched checks status shelf shelf_now origin beginning (inr wanting) called = inr (inr (wanting, called))
+-- ---- a dictionary that wasn't had
 
-module _ {S : Type 0} (fetched : ByFetch S) (words : List (List ℕ)) (checks : List Named) (status : Status) (shelf shelf_now : S) where
-  pub calls_of_run : (origin : Origin) (asked : IsRun words origin) → CallsForRun fetched checks origin asked.beginning status shelf shelf_now → Calls fetched words checks status shelf shelf_now
+pub in_vain : {H : Type 0} (fetched : ByStillFetch H) (checks : List Named) (origin : Origin) (status : Status) (shelf shelf_now : H)
+    → CallsForNone fetched checks origin shelf shelf_now ⊎ (status ≡ NoMemory) → CallsForDictionary fetched origin shelf shelf_now → CallsInVain fetched checks origin status shelf shelf_now
+in_vain fetched checks origin status shelf shelf_now (inl none) called = inl none
+in_vain fetched checks origin status shelf shelf_now (inr wanting) called = inr (wanting, called)
+
+-- ---- a script
+
+module _ {S K : Type 0} (pulled : ByPull S K) (output : K → Output) (out : K) (script script_now : S) where
+  none_failed : {A B C : Type 0} → A ⊎ ((Done ≡ ReadFault) × B) → A ⊎ C
+  none_failed (inl all) = inl all
+  none_failed (inr (wrong, call)) = absurd cc
+
+  -- one that was done had no pull that failed, whatever came behind it
+  pub talk_done : (m : Meaning) → Talk pulled output m out script script_now Done → (status : Status) → Talk pulled output m out script script_now status
+  talk_done m talk status = record {
+    pieces = talk.pieces;
+    between = talk.between;
+    came = talk.came;
+    last = none_failed talk.last;
+  }
+
+  module _ (contents : List ℕ → Contents) (beginning : Beginning) (r : Rules) (mode : Mode) (relations : List Named) (status : Status) where
+    -- behind the answers that a run begins with
+    pub talks_from : (ready : Ready) → ResumedAs contents beginning r (resumed.Begins ready)
+        → ((front : List ℕ) → Gives ready.dropped front → MayTalk pulled output (meaning_of r mode relations (answered ready.answers)) front out script script_now status)
+        → TalksFrom pulled output contents beginning r mode relations status script script_now out
+    talks_from ready (basis, brought, (s, is, begun)) talks =
+        elim (subst (λ (a : Answered). MayTalk pulled output (meaning_of r mode relations a) s.front out script script_now status) begun.answers (talks s.front begun.front)) [
+          | inl still ↦ inl still
+          | inr talk ↦ inr (basis, brought, (s, is, talk))
+        ]
+
+    -- by what the shelf told before
+    pub talks_same : (before : List ℕ → Contents) → contents ≡ before → TalksFrom pulled output contents beginning r mode relations status script script_now out
+        → TalksFrom pulled output before beginning r mode relations status script script_now out
+    talks_same before same talks = subst (λ (t : List ℕ → Contents). TalksFrom pulled output t beginning r mode relations status script script_now out) same talks
+
+-- ---- the form that the words have
+
+module _ {H S K : Type 0} (fetched : ByFetch H S K) (pulled : ByPull S K) (output : K → Output) (given : Given) (status : Status) (shelf shelf_now : H) (script script_now : S) (out : K) where
+  abbrev Made : Type 0
+  Made = Calls fetched pulled output given status shelf shelf_now script script_now out
+
+  abbrev RunMade : Origin → Beginning → Mode → Type 0
+  RunMade origin beginning mode = CallsForRun fetched pulled output given origin beginning mode status shelf shelf_now script script_now out
+
+  pub calls_of_run : (origin : Origin) (asked : IsRun given.words origin) → RunMade origin asked.beginning asked.mode → Made
   calls_of_run origin asked made = record {
-    run = λ o run. subst (λ p. CallsForRun fetched checks p run.beginning status shelf shelf_now) (same_origin words origin o asked run) (subst (λ b. CallsForRun fetched checks origin b status shelf shelf_now) (same_beginning words origin o asked run) made);
-    check = λ name check. absurd (not_both words origin name asked check);
-    save = λ o save. absurd (save_is_no_run words o origin save asked);
-    gen = λ n gen. absurd (gen_is_no_run words n origin gen asked);
+    run = λ o run.
+        subst (λ p. RunMade p run.beginning run.mode) (same_origin given.words origin o asked run)
+        (subst (λ b. RunMade origin b run.mode) (same_beginning given.words origin o asked run)
+        (subst (λ m. RunMade origin asked.beginning m) (same_mode given.words origin o asked run) made));
+    check = λ name check. absurd (not_both given.words origin name asked check);
+    save = λ o save. absurd (save_is_no_run given.words o origin save asked);
+    gen = λ n gen. absurd (gen_is_no_run given.words n origin gen asked);
     no_form = λ none. absurd (none.0 origin asked);
   }
 
-  pub calls_of_check : (name : List ℕ) → IsCheck words name → CallsForDictionary fetched (file name) shelf shelf_now → Calls fetched words checks status shelf shelf_now
-  calls_of_check name asked made = record {
-    run = λ o run. absurd (not_both words o name run asked);
-    check = λ other check. subst (λ n. CallsForDictionary fetched (file n) shelf shelf_now) (same_check words name other asked check) made;
-    save = λ o save. absurd (save_is_no_check words o name save asked);
-    gen = λ n gen. absurd (gen_is_no_check words n name gen asked);
+  pub calls_of_check : (name : List ℕ) → IsCheck given.words name → CallsForDictionary (beside fetched script out) (file name) shelf shelf_now → script_now ≡ script → Made
+  calls_of_check name asked made still = record {
+    run = λ o run. absurd (not_both given.words o name run asked);
+    check = λ other check. (subst (λ n. CallsForDictionary (beside fetched script out) (file n) shelf shelf_now) (same_check given.words name other asked check) made, still);
+    save = λ o save. absurd (save_is_no_check given.words o name save asked);
+    gen = λ n gen. absurd (gen_is_no_check given.words n name gen asked);
     no_form = λ none. absurd (none.1 name asked);
   }
 
-  pub calls_of_save : (origin : Origin) → IsSave words origin → CallsForDictionary fetched origin shelf shelf_now → Calls fetched words checks status shelf shelf_now
+  pub calls_of_save : (origin : Origin) → IsSave given.words origin → CallsForSave fetched pulled output given origin status shelf shelf_now script script_now out → Made
   calls_of_save origin asked made = record {
-    run = λ o run. absurd (save_is_no_run words origin o asked run);
-    check = λ name check. absurd (save_is_no_check words origin name asked check);
-    save = λ o save. subst (λ p. CallsForDictionary fetched p shelf shelf_now) (same_save words origin o asked save) made;
-    gen = λ n gen. absurd (gen_is_no_save words n origin gen asked);
+    run = λ o run. absurd (save_is_no_run given.words origin o asked run);
+    check = λ name check. absurd (save_is_no_check given.words origin name asked check);
+    save = λ o save. subst (λ p. CallsForSave fetched pulled output given p status shelf shelf_now script script_now out) (same_save given.words origin o asked save) made;
+    gen = λ n gen. absurd (gen_is_no_save given.words n origin gen asked);
     no_form = λ none. absurd (none.3 origin asked);
   }
 
-module _ {S : Type 0} (fetched : ByFetch S) (words : List (List ℕ)) (checks : List Named) (status : Status) (shelf : S) where
-  pub calls_of_gen : (n : ℕ) → IsGen words n → Calls fetched words checks status shelf shelf
+module _ {H S K : Type 0} (fetched : ByFetch H S K) (pulled : ByPull S K) (output : K → Output) (given : Given) (status : Status) (shelf : H) (script : S) (out : K) where
+  abbrev NoneMade : Type 0
+  NoneMade = Calls fetched pulled output given status shelf shelf script script out
+
+  pub calls_of_gen : (n : ℕ) → IsGen given.words n → NoneMade
   calls_of_gen n asked = record {
-    run = λ o run. absurd (gen_is_no_run words n o asked run);
-    check = λ name check. absurd (gen_is_no_check words n name asked check);
-    save = λ o save. absurd (gen_is_no_save words n o asked save);
-    gen = λ m gen. refl;
-    no_form = λ none. refl;
+    run = λ o run. absurd (gen_is_no_run given.words n o asked run);
+    check = λ name check. absurd (gen_is_no_check given.words n name asked check);
+    save = λ o save. absurd (gen_is_no_save given.words n o asked save);
+    gen = λ m gen. (refl, refl);
+    no_form = λ none. (refl, refl);
   }
 
-  pub calls_of_none : HasNoForm words → Calls fetched words checks status shelf shelf
+  pub calls_of_none : HasNoForm given.words → NoneMade
   calls_of_none none = record {
     run = λ o run. absurd (none.0 o run);
     check = λ name check. absurd (none.1 name check);
     save = λ o save. absurd (none.3 o save);
-    gen = λ n gen. refl;
-    no_form = λ none. refl;
+    gen = λ n gen. (refl, refl);
+    no_form = λ none. (refl, refl);
   }

@@ -2,10 +2,11 @@
 use Rattle.std.proofs.Common.{◌≡◌, ℕ, List, [], Result, Ok, Err, inl, sym, ap, subst, ◌∙◌}
 use Rattle.std.specs.Prelude.{IfOk}
 use Rattle.dictionary.specs.declared.fault.DictFault.{DictFault}
-use Rattle.dictionary.specs.Accepted.{Accepted, IsAccepted, Named, accepted, names_of}
+use Rattle.dict_meaning.specs.Accepted.{Accepted, IsAccepted}
+use Rattle.dictionary.specs.Kept.{Named, accepted, names_of}
 use Rattle.dictionary.specs.Faults.{IsFaultOf}
 use Rattle.dictionary.proofs.FirstLaws.{accepted_has_none, one_dictionary, one_fault}
-use Rattle.dictionary.specs.Fits.{AnswersFit}
+use Rattle.dict_meaning.specs.Fits.{AnswersFit}
 use Rattle.graph_session.specs.Rules.{Rules, tree_of}
 use Rattle.tax_2023.proofs.NoFault.{year_has_none}
 use Rattle.tax_2023.proofs.TableLaw.{one_of_year, year_tables_hold}
@@ -24,7 +25,7 @@ use Rattle.built_in.specs.BuiltIns.{IsBrought, facts_of}
 use Rattle.interview.specs.Dictionaries.{Content, Gives, HasFault, IsAcceptedAs, MayGive, brought, spelled}
 use Rattle.answers.specs.Answered.{Answered}
 use Rattle.interview.specs.Interview.{TablesHoldIn}
-use Rattle.dictionary.proofs.AcceptedLaws.{one_accepted}
+use Rattle.dict_meaning.proofs.AcceptedLaws.{one_accepted}
 use Rattle.interview.specs.StepEnds.{FetchedAs, ObtainedAs}
 
 -- ---- what comes from there

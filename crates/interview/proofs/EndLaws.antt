@@ -1,5 +1,5 @@
 -- How a script ends, from how far it went.
-use Rattle.std.proofs.Common.{◌≡◌, ℕ, ◌+◌, ◌<◌, ◌≤◌, false, List, [], ◌++◌, length, inl, inr, refl, sym, ap, subst, ◌∙◌, arith, append_assoc, length-append}
+use Rattle.std.proofs.Common.{◌≡◌, ◌≢◌, ℕ, ◌+◌, ◌<◌, ◌≤◌, false, List, [], ◌++◌, length, inl, inr, refl, sym, ap, subst, ◌∙◌, arith, append_assoc, length-append}
 use Rattle.std.proofs.lemmas.List.{append-nil}
 use Rattle.std.specs.Io.KnownBytes.{Appends, Consumes, Keeps, IsAtEnd}
 use Rattle.std.proofs.KnownBytes.{Consumes-kept}
@@ -8,7 +8,6 @@ use Rattle.fg_io.specs.Sent.{Sent}
 use Rattle.fg_io.proofs.SentLaws.{sent_on, sent_whole}
 use Rattle.fg_io.proofs.ConsumedLaws.{consumes_more, may_be_whole, may_go_on}
 use Rattle.script_lines.specs.Lines.{ScriptLine, script_lines, ended_lines}
-use Rattle.script_lines.proofs.EndedLaws.{ready_lines_are_ended}
 use Rattle.session_lines.specs.declared.progress.Progress.{Progress}
 use Rattle.session_lines.specs.declared.progress.Progress.TheVariants.{More, Over, Unwritten, OutOfMemory}
 use Rattle.interview.specs.declared.status.Status.{Status}
@@ -20,6 +19,7 @@ use Rattle.interview.specs.Telling.{LineOutputAs, LinesOutput, SomeOutput}
 use Rattle.interview.specs.Save.{LeavesAnswers}
 use Rattle.interview.specs.SoFar.{AnsweredSoFar}
 use Rattle.interview.specs.ScriptEnds.{ScriptDid, ScriptEnds, ending_of, piece_limit}
+use Rattle.interview.proofs.SoFarLaws.{ended_so_far, replied_so_far, unquit_so_far}
 use Rattle.interview.proofs.ScriptLaws.{answers_behind, defined_text, done_behind, first_lines, first_written, long_is_too_long, long_lines, over_in_front, over_written, part_written, replied_first, short_is_done, short_lines, output_then}
 
 module _ (m : Meaning) (did : ScriptDid) (source_now : Input) (sink_now : Output) (count : ℕ) (there : Meaning) (held : List ℕ)
@@ -94,12 +94,12 @@ module _ (m : Meaning) (did : ScriptDid) (source_now : Input) (sink_now : Output
 
   -- ---- between pieces
 
-  abbrev ended_so_far : lines_so_far ≡ ended_lines so_far.bytes
-  ended_so_far = ready_lines_are_ended so_far.bytes held lines_so_far so_far.unended so_far.output.cut
+  abbrev ended : lines_so_far ≡ ended_lines so_far.bytes
+  ended = ended_so_far m did.input.before.left source_now.left did.output.before.taken sink_now.taken count there held so_far
 
   -- no `quit` ended so far
-  open_still : m.over (ended_lines so_far.bytes) ≡ false
-  open_still = ap m.over (sym ended_so_far ∙ sym (append-nil lines_so_far)) ∙ so_far.output.left.over [] ∙ so_far.unquit
+  abbrev open_still : m.over (ended_lines so_far.bytes) ≡ false
+  open_still = unquit_so_far m did.input.before.left source_now.left did.output.before.taken sink_now.taken count there held so_far
 
   -- ---- in a piece
 
@@ -160,7 +160,7 @@ module _ (m : Meaning) (did : ScriptDid) (source_now : Input) (sink_now : Output
       within = short_bytes short;
       unquit = open_still;
       replied = subst (λ now. Appends did.output.before.taken now (m.texts (ended_lines so_far.bytes))) same_taken
-          (subst (λ l. Appends did.output.before.taken sink_now.taken (m.texts l)) ended_so_far (sent_whole did.output.before.taken sink_now.taken text_so_far so_far.output.wrote));
+          (replied_so_far m did.input.before.left source_now.left did.output.before.taken sink_now.taken count there held so_far);
     },
   )
 
@@ -173,10 +173,17 @@ module _ (m : Meaning) (did : ScriptDid) (source_now : Input) (sink_now : Output
       let same : answered_lines ((so_far.bytes ++ chunk) ++ more.0) ≡ ended_lines so_far.bytes = ap answered_lines joint ∙ long_lines so_far.bytes (chunk ++ more.0) full_bytes past in
       let past_all : script_limit < length ((so_far.bytes ++ chunk) ++ more.0) = omega (arith, past, ap length joint) in
       let text : m.texts lines_so_far ≡ (defined_script m ((so_far.bytes ++ chunk) ++ more.0)).text =
-      ap m.texts (ended_so_far ∙ sym same) ∙ sym (defined_text m ((so_far.bytes ++ chunk) ++ more.0)) in (
+      ap m.texts (ended ∙ sym same) ∙ sym (defined_text m ((so_far.bytes ++ chunk) ++ more.0)) in (
         (so_far.bytes ++ chunk) ++ more.0,
         more.1,
         long_is_too_long m ((so_far.bytes ++ chunk) ++ more.0) past_all (ap m.over same ∙ open_still),
         subst (λ now. Appends did.output.before.taken now (defined_script m ((so_far.bytes ++ chunk) ++ more.0)).text) same_taken
             (subst (λ t. Appends did.output.before.taken sink_now.taken t) text (sent_whole did.output.before.taken sink_now.taken text_so_far so_far.output.wrote)),
       )
+
+-- where the last line was answered quietly, no write failed
+pub quiet_at_end : (progress : Progress) (status : Status) → status ≡ ending_of progress → progress ≢ Unwritten → status ≢ WriteFault
+quiet_at_end More status is quiet = λ e. cc
+quiet_at_end Over status is quiet = λ e. cc
+quiet_at_end Unwritten status is quiet = absurd (quiet refl)
+quiet_at_end OutOfMemory status is quiet = λ e. cc

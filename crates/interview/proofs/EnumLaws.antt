@@ -1,8 +1,8 @@
 -- The enums of an accepted dictionary are lists of options, each under a name of its own.
 use Rattle.std.proofs.Common.{List, refl, sym, subst, arith}
 use Rattle.value_text.specs.Enums.{AreLists}
-use Rattle.dict_tree.specs.Dictionary.{Dictionary}
-use Rattle.dictionary.specs.Accepted.{Named}
+use Rattle.dict_source.specs.Dictionary.{Dictionary}
+use Rattle.dictionary.specs.Kept.{Named}
 use Rattle.dictionary.proofs.EnumLists.{read_lists}
 use Rattle.graph_session.specs.Rules.{Rules, tree_of}
 use Rattle.tax_2023.specs.Facts.{filing_statuses}

@@ -7,10 +7,11 @@ use Rattle.fact_paths.specs.declared.slot_path.SlotPath.{SlotPath}
 use Rattle.three_state.specs.declared.res.Res.{Res}
 use Rattle.three_state.specs.declared.res.Res.TheVariants.{Complete}
 use Rattle.answers.specs.Answered.{Answered}
-use Rattle.dictionary.specs.Accepted.{Accepted, IsAccepted, Named}
-use Rattle.dictionary.specs.Extension.{IsExtension}
-use Rattle.dictionary.specs.Fits.{AnswersFit}
-use Rattle.dictionary.specs.Plain.{plain}
+use Rattle.dict_meaning.specs.Accepted.{Accepted, IsAccepted}
+use Rattle.dictionary.specs.Kept.{Named}
+use Rattle.dict_meaning.specs.Extension.{IsExtension}
+use Rattle.dict_meaning.specs.Fits.{AnswersFit}
+use Rattle.dict_meaning.specs.Plain.{plain}
 use Rattle.graph_session.specs.Naming.{slot_of}
 use Rattle.graph_session.specs.Rules.{Rules, tree_of}
 use Rattle.placeholder_laws.specs.Stays.{Stays}

@@ -19,6 +19,7 @@ pub mod RunLaws
 pub mod SaveEndLaws
 pub mod SaveLaws
 pub mod ScriptLaws
+pub mod SoFarLaws
 pub mod StartLaws
 pub mod StepLaws
 pub mod TellingLaws

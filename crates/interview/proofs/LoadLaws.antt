@@ -10,7 +10,7 @@ use Rattle.fg_io.specs.Outside.{MayBe, Output}
 use Rattle.fg_io.specs.Sent.{Sent}
 use Rattle.script_lines.specs.Lines.{lines_of}
 use Rattle.answers.specs.Answered.{start}
-use Rattle.dictionary.specs.Accepted.{Named}
+use Rattle.dictionary.specs.Kept.{Named}
 use Rattle.dictionary.specs.Keeping.{node_count}
 use Rattle.dict_gen.specs.Script.{script}
 use Rattle.graph_session.specs.Rules.{Rules, tree_of}
@@ -23,7 +23,7 @@ use Rattle.interview.specs.Interview.{defined_script}
 use Rattle.interview.specs.Meanings.{Meaning, meaning_of}
 use Rattle.interview.specs.StepEnds.{EndedBy}
 use Rattle.interview.specs.Summary.{summary}
-use Rattle.dictionary.proofs.AcceptedLaws.{one_accepted}
+use Rattle.dict_meaning.proofs.AcceptedLaws.{one_accepted}
 use Rattle.interview.proofs.WordLaws.{no_number, same_number}
 use Rattle.interview.specs.Load.{GeneratedAs, IsOfLoad, OneEndOfGen, defined_gen}
 

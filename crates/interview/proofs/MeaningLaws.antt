@@ -3,7 +3,7 @@ use Rattle.std.proofs.Common.{◌≡◌, true, false, List, [], ◌∷◌, ◌++
 use Rattle.std.specs.Prelude.{if◌then◌else◌}
 use Rattle.script_lines.specs.Lines.{ScriptLine}
 use Rattle.answers.specs.Answered.{Answered}
-use Rattle.dictionary.specs.Accepted.{Named}
+use Rattle.dictionary.specs.Kept.{Named}
 use Rattle.graph_session.specs.Rules.{Rules}
 use Rattle.session_lines.specs.Stepping.{LineState, State, Step, at_start, open_at, replies, state_after, step, step_line}
 use Rattle.session_lines.proofs.AnsweringLaws.{replies-append, state_after-append}
@@ -14,7 +14,7 @@ use Rattle.desk_lines.proofs.AnsweringLaws.{desk_replies-append, desk_state_afte
 use Rattle.desk_lines.proofs.DeskStepLaws.{desk_steps-append}
 use Rattle.interview.specs.declared.words.Mode.{Mode}
 use Rattle.interview.specs.declared.words.Mode.TheVariants.{Incremental, Plain, Desk}
-use Rattle.interview.specs.Meanings.{Behind, IsBeginning, IsQuit, Meaning, meaning_of, of_desk, of_session}
+use Rattle.interview.specs.Meanings.{Behind, IsBeginning, IsQuit, Meaning, meaning_of, of_desk, of_session, silently}
 
 -- ---- behind lines stand others
 
@@ -116,3 +116,19 @@ pub meaning_begins : (r : Rules) (mode : Mode) (relations : List Named) (a : Ans
 meaning_begins r Incremental relations a = session_begins r (at_start r (record { answers = a; stamps = true; relations = relations })).standing
 meaning_begins r Plain relations a = session_begins r (at_start r (record { answers = a; stamps = false; relations = relations })).standing
 meaning_begins r Desk relations a = desk_begins r (desk_at_start r a).desk
+
+-- ---- where nobody reads the replies
+
+pub silently_behind : (m : Meaning) (lines : List ScriptLine) (rest : Meaning) → Behind m lines rest → Behind (silently m) lines (silently rest)
+silently_behind m lines rest behind = record { texts = λ l. refl; over = behind.over; answers = behind.answers; steps = behind.steps }
+
+pub silently_begins : (m : Meaning) → IsBeginning m → IsBeginning (silently m)
+silently_begins m begins = record {
+  texts = refl;
+  over = begins.over;
+  steps = begins.steps;
+  goes_on = λ lines. let on = begins.goes_on lines in (silently on.0, silently_behind m lines on.0 on.1);
+}
+
+pub silently_quits : (m : Meaning) → IsQuit m → IsQuit (silently m)
+silently_quits m quits = record { texts = λ lines. refl; over = quits.over; answers = quits.answers }

@@ -7,7 +7,7 @@ use Rattle.script_lines.specs.Lines.{ScriptLine, ended_lines, ready_lines, scrip
 use Rattle.script_lines.specs.declared.lines.Ready.{Ready}
 use Rattle.script_lines.proofs.EndedLaws.{ended_follows}
 use Rattle.answers.specs.Answered.{Answered}
-use Rattle.dictionary.specs.Accepted.{Accepted}
+use Rattle.dict_meaning.specs.Accepted.{Accepted}
 use Rattle.interview.specs.Meanings.{Behind, IsBeginning, Meaning}
 use Rattle.interview.specs.Telling.{LinesOutput, SomeOutput}
 use Rattle.interview.proofs.MeaningLaws.{behind_none, behind_on}

@@ -8,8 +8,8 @@ use Rattle.fg_io.proofs.SentLaws.{sent_none}
 use Rattle.answers.specs.Answered.{start}
 use Rattle.answers.specs.Meaning.{answered}
 use Rattle.answers.specs.declared.parts.Parts.{Parts}
-use Rattle.dictionary.specs.Fits.{AnswersFit}
-use Rattle.dictionary.proofs.FitStart.{start_fits}
+use Rattle.dict_meaning.specs.Fits.{AnswersFit}
+use Rattle.dict_meaning.proofs.FitStart.{start_fits}
 use Rattle.graph_session.specs.Rules.{Rules, tree_of}
 use Rattle.save_file.specs.Carrying.{IsCarry, RefusesCarried}
 use Rattle.save_file.specs.Dropped.{dropped_text}

@@ -1,5 +1,5 @@
 -- What a save comes to, and how its steps end.
-use Rattle.std.proofs.Common.{◌≡◌, ℕ, List, Option, None, inl, inr, refl, sym, ap, subst, ◌∙◌, arith}
+use Rattle.std.proofs.Common.{◌≡◌, ◌≢◌, ℕ, List, Option, inl, inr, refl, sym, ap, subst, ◌∙◌}
 use Rattle.fg_io.specs.Outside.{Input, Output}
 use Rattle.std.specs.Io.KnownBytes.{Appends, Keeps}
 use Rattle.std.proofs.KnownBytes.{Keeps-refl}
@@ -7,14 +7,14 @@ use Rattle.fg_io.specs.Sent.{Sent}
 use Rattle.dictionary.specs.declared.fault.DictFault.{DictFault}
 use Rattle.answers.specs.Answered.{Answered}
 use Rattle.graph_session.specs.Rules.{Rules, tree_of}
-use Rattle.interview.specs.Meanings.{Meaning}
+use Rattle.interview.specs.Meanings.{Meaning, silently}
 use Rattle.save_file.specs.SavedText.{saved}
 use Rattle.interview.specs.declared.status.Status.{Status}
 use Rattle.interview.specs.declared.status.Status.TheVariants.{Done, DictionaryRefused, FetchFault, ReadFault, WriteFault, ScriptTooLong, NoMemory}
 use Rattle.interview.specs.Words.{IsSave, Origin, file, program}
 use Rattle.interview.specs.Dictionaries.{Content, HasFault, IsAcceptedAs, MayGive}
 use Rattle.interview.specs.Given.{Did, Given, Unread}
-use Rattle.interview.specs.Interview.{defined_fault}
+use Rattle.interview.specs.Interview.{defined_fault, defined_script}
 use Rattle.interview.specs.Save.{OneEndOfSave, ScriptSaves, LeavesAnswers, defined_save, save_meaning, saved_after}
 use Rattle.interview.specs.SaveEnds.{AcceptedSave, SaveEnds}
 use Rattle.interview.specs.ScriptEnds.{ReadThrough, ScriptDid, ScriptEnds, script_did}
@@ -36,36 +36,49 @@ nothing before now still = subst (Keeps before) still (Keeps-refl before)
 
 -- ---- a script that was run silently
 
-module _ (r : Rules) (m : Meaning) (source source_now : Input) (sink sink_now : Output) where
-  abbrev did : ScriptDid
-  did = script_did source source_now sink sink_now
+-- it has the status that it has with its replies
+silent_status : (m : Meaning) (script : List ℕ) → (defined_script m script).status ≡ (defined_script (silently m) script).status
+unfolding defined_script
+silent_status m script = refl
 
+module _ (r : Rules) (m : Meaning) (source source_now : Input) (sink ran : Output) (same_sink : ran ≡ sink) where
   -- what the run itself did
-  abbrev silently : ScriptDid
-  silently = script_did source source_now (record { taken = None; faults = 0 }) (record { taken = None; faults = 0 })
+  abbrev silent_did : ScriptDid
+  silent_did = script_did source source_now sink ran
 
-  read_so : ReadThrough m silently → ReadThrough m did
-  read_so (inl end) = inl end
-  read_so (inr quit) = inr (record { earlier = quit.earlier; piece = quit.piece; read = quit.read; short = quit.short; unquit = quit.unquit; quit = quit.quit })
+  module _ (sink_now : Output) where
+    abbrev did : ScriptDid
+    did = script_did source source_now sink sink_now
 
-  -- it was done, and the answers that stand were written, whole or in part
-  pub saves_done : (k : Rules) (answers : Answered) → k ≡ r → ScriptEnds m silently Done → LeavesAnswers m source.left answers Done → (status : Status)
-      → EndedBy sink sink_now (saved (tree_of k) answers) Done status → ScriptSaves r m did status
-  saves_done k answers same_rules ends leaves status ended =
-      let text : saved (tree_of k) answers ≡ saved_after r m leaves.0 = ap (λ q. saved (tree_of q) answers) same_rules ∙ ap (saved (tree_of r)) (sym leaves.3) in
-      elim ended as (λ _. ScriptSaves r m did status) [
-        | inl wrote ↦ subst (ScriptSaves r m did) (sym wrote.0) ((leaves.0, (leaves.1, leaves.2), subst (Appends sink.taken sink_now.taken) text wrote.1), read_so ends.1)
-        | inr part ↦ subst (ScriptSaves r m did) (sym part.0) (part.1, (leaves.0, (leaves.1, leaves.2), subst (λ t. (rest : List ℕ) × Sent sink.taken sink_now.taken t rest) text part.2))
-      ]
+    read_so : ReadThrough (silently m) silent_did → ReadThrough m did
+    read_so (inl end) = inl end
+    read_so (inr quit) = inr (record { earlier = quit.earlier; piece = quit.piece; read = quit.read; short = quit.short; unquit = quit.unquit; quit = quit.quit })
+
+    -- it was done, and the answers that stand were written, whole or in part
+    pub saves_done : (k : Rules) (answers : Answered) → k ≡ r → ScriptEnds (silently m) silent_did Done → LeavesAnswers (silently m) source.left answers Done → (status : Status)
+        → EndedBy ran sink_now (saved (tree_of k) answers) Done status → ScriptSaves r m did status
+    saves_done k answers same_rules ends leaves status ended =
+        let text : saved (tree_of k) answers ≡ saved_after r m leaves.0 = ap (λ q. saved (tree_of q) answers) same_rules ∙ ap (saved (tree_of r)) (sym leaves.3) in
+        let done : (defined_script m leaves.0).status ≡ Done = silent_status m leaves.0 ∙ leaves.2 in
+        elim (subst (λ (o : Output). EndedBy o sink_now (saved (tree_of k) answers) Done status) same_sink ended) as (λ _. ScriptSaves r m did status) [
+          | inl wrote ↦ subst (ScriptSaves r m did) (sym wrote.0) ((leaves.0, (leaves.1, done), subst (Appends sink.taken sink_now.taken) text wrote.1), read_so ends.1)
+          | inr part ↦ subst (ScriptSaves r m did) (sym part.0) (part.1, (leaves.0, (leaves.1, done), subst (λ t. (rest : List ℕ) × Sent sink.taken sink_now.taken t rest) text part.2))
+        ]
 
   -- it wasn't done, and nothing was written
-  pub saves_nothing : (status : Status) → (status ≡ Done → ⊥) → sink.taken ≡ sink_now.taken → ScriptEnds m silently status → ScriptSaves r m did status
-  saves_nothing Done not still ends = absurd (not refl)
-  saves_nothing ReadFault not still (rose, so_far) = (rose, record { bytes = so_far.bytes; read = so_far.read; within = so_far.within; unquit = so_far.unquit }, nothing _ _ still)
-  saves_nothing WriteFault not still (rose, part) = absurd (omega (arith, rose))
-  saves_nothing ScriptTooLong not still (script, may, status, wrote) = (script, may, status, nothing _ _ still)
-  saves_nothing NoMemory not still ends = nothing _ _ still
-  saves_nothing other not still ends = absurd ends
+  pub saves_nothing : (status : Status) → (status ≡ Done → ⊥) → status ≢ WriteFault → ScriptEnds (silently m) silent_did status → ScriptSaves r m silent_did status
+  saves_nothing status not unfailing ends = by status not unfailing ends
+    where
+      still : Keeps sink.taken ran.taken
+      still = nothing sink.taken ran.taken (ap (λ (o : Output). o.taken) (sym same_sink))
+
+      by : (status : Status) → (status ≡ Done → ⊥) → status ≢ WriteFault → ScriptEnds (silently m) silent_did status → ScriptSaves r m silent_did status
+      by Done not unfailing ends = absurd (not refl)
+      by ReadFault not unfailing (rose, so_far) = (rose, record { bytes = so_far.bytes; read = so_far.read; within = so_far.within; unquit = so_far.unquit }, still)
+      by WriteFault not unfailing ends = absurd (unfailing refl)
+      by ScriptTooLong not unfailing (script, may, status, wrote) = (script, may, silent_status m script ∙ status, still)
+      by NoMemory not unfailing ends = still
+      by other not unfailing ends = absurd ends
 
 -- ---- the whole
 

@@ -93,7 +93,7 @@ output_then m there next a b c bytes held chunk chunk_now held_next behind rest 
     }
 
 -- before the first byte
-pub none_so_far : (m : Meaning) → IsBeginning m → (left taken : Option (List ℕ)) → AnsweredSoFar m left left taken taken 0 m []
+unfoldable pub none_so_far : (m : Meaning) → IsBeginning m → (left taken : Option (List ℕ)) → AnsweredSoFar m left left taken taken 0 m []
 none_so_far m begins left taken = record {
   bytes = [];
   read = consumes_none left;

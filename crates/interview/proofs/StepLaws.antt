@@ -5,12 +5,13 @@ use Rattle.std.specs.Io.KnownBytes.{Consumes, Keeps}
 use Rattle.std.proofs.KnownBytes.{Consumes-kept}
 use Rattle.fg_io.proofs.ConsumedLaws.{consumes_more}
 use Rattle.script_lines.specs.Lines.{ScriptLine, ended_lines, script_lines}
-use Rattle.script_lines.proofs.EndedLaws.{ended_follows, lines_go_on, ready_lines_are_ended}
+use Rattle.script_lines.proofs.EndedLaws.{ended_follows, lines_go_on}
 use Rattle.answers.specs.Answered.{Answered}
-use Rattle.dictionary.specs.Accepted.{Accepted}
+use Rattle.dict_meaning.specs.Accepted.{Accepted}
 use Rattle.interview.specs.Meanings.{IsBeginning, Meaning}
 use Rattle.interview.specs.SoFar.{AnsweredSoFar}
 use Rattle.interview.specs.StepsOfScript.{StepsWithin}
+use Rattle.interview.proofs.SoFarLaws.{ended_so_far}
 
 module _ (most : Accepted → Answered → Answered → ℕ) (m : Meaning) (begins : IsBeginning m) where
   -- the first lines take no more than all
@@ -21,19 +22,19 @@ module _ (most : Accepted → Answered → Answered → ℕ) (m : Meaning) (begi
       omega (arith, sum)
 
   module _ (left left_now taken taken_now : Option (List ℕ)) (count : ℕ) (there : Meaning) (held : List ℕ) (so_far : AnsweredSoFar m left left_now taken taken_now count there held) where
-    ended_so_far : so_far.output.lines ≡ ended_lines so_far.bytes
-    ended_so_far = ready_lines_are_ended so_far.bytes held so_far.output.lines so_far.unended so_far.output.cut
+    abbrev ended : so_far.output.lines ≡ ended_lines so_far.bytes
+    ended = ended_so_far m left left_now taken taken_now count there held so_far
 
     -- lines behind those that ended so far
     steps_behind : (lines : List ScriptLine) → m.steps most (ended_lines so_far.bytes ++ lines) ≡ m.steps most (ended_lines so_far.bytes) + there.steps most lines
-    steps_behind lines = subst (λ l. m.steps most (l ++ lines) ≡ m.steps most l + there.steps most lines) ended_so_far (so_far.output.left.steps most lines)
+    steps_behind lines = subst (λ l. m.steps most (l ++ lines) ≡ m.steps most l + there.steps most lines) ended (so_far.output.left.steps most lines)
 
     -- the lines that end in a piece behind it
     ended_more : (chunk : List ℕ) → ended_lines (so_far.bytes ++ chunk) ≡ ended_lines so_far.bytes ++ ended_lines (held ++ chunk)
     ended_more chunk =
         ended_follows (so_far.bytes ++ chunk) (held ++ chunk) so_far.output.lines
         (λ more. ap script_lines (append_assoc so_far.bytes chunk more) ∙ so_far.output.cut (chunk ++ more) ∙ ap (λ l. so_far.output.lines ++ script_lines l) (sym (append_assoc held chunk more)))
-        ∙ ap (λ l. l ++ ended_lines (held ++ chunk)) ended_so_far
+        ∙ ap (λ l. l ++ ended_lines (held ++ chunk)) ended
 
     -- the last line
     lines_at_end : script_lines so_far.bytes ≡ ended_lines so_far.bytes ++ script_lines held
@@ -41,7 +42,7 @@ module _ (most : Accepted → Answered → Answered → ℕ) (m : Meaning) (begi
         ap script_lines (sym (append-nil so_far.bytes))
         ∙ so_far.output.cut []
         ∙ ap (λ l. so_far.output.lines ++ script_lines l) (append-nil held)
-        ∙ ap (λ l. l ++ script_lines held) ended_so_far
+        ∙ ap (λ l. l ++ script_lines held) ended
 
     module _ (before steps : ℕ) (counted : steps ≤ before + m.steps most (ended_lines so_far.bytes)) where
       -- a piece more

@@ -1,9 +1,11 @@
 -- What a session and a desk answered, as what their lines mean.
-use Rattle.std.proofs.Common.{◌≡◌, ℕ, ◌+◌, ◌≤◌, Bool, true, false, List, refl, sym, ap, subst}
+use Rattle.std.proofs.Common.{◌≡◌, ◌≢◌, ℕ, ◌+◌, ◌≤◌, Bool, true, false, List, [], None, refl, sym, ap, subst, arith}
 use Rattle.fg_io.specs.Outside.{Output}
+use Rattle.fg_io.proofs.SentLaws.{sent_none}
 use Rattle.script_lines.specs.Lines.{ScriptLine}
 use Rattle.answers.specs.Answered.{Answered}
-use Rattle.dictionary.specs.Accepted.{Accepted, Kept, Named}
+use Rattle.dict_meaning.specs.Accepted.{Accepted}
+use Rattle.dictionary.specs.Kept.{Kept, Named}
 use Rattle.fact_watch.specs.Watching.{Watching, nothing_watched}
 use Rattle.graph_session.specs.Rules.{Rules, rules}
 use Rattle.graph_session.specs.SessionView.{SessionState, SessionView, start_at}
@@ -15,9 +17,9 @@ use Rattle.shared_desk.specs.Desk.{Desk as Defined, desk_begun}
 use Rattle.shared_desk.specs.DeskView.{DeskView, StandsFor, rules_of}
 use Rattle.desk_lines.specs.DeskAnswering.{DeskAnsweredAs, StandsAt}
 use Rattle.desk_lines.specs.DeskStepping.{DeskState, desk_at_start, desk_open, desk_state_after}
-use Rattle.interview.specs.Meanings.{Behind, Meaning, of_desk, of_session}
+use Rattle.interview.specs.Meanings.{Behind, Meaning, of_desk, of_session, silently}
 use Rattle.interview.specs.Telling.{GoesOn, LineOutputAs}
-use Rattle.interview.proofs.MeaningLaws.{desk_begins, desk_behind, desk_quit, session_begins, session_behind, session_quit}
+use Rattle.interview.proofs.MeaningLaws.{desk_begins, desk_behind, desk_quit, session_begins, session_behind, session_quit, silently_begins, silently_behind, silently_quits}
 
 -- ---- a session
 
@@ -122,6 +124,38 @@ module _ (v v_now : DeskView) (sink sink_now : Output) (same : v_now.session.dic
 -- at its start
 pub desk_begun_means : (k : Kept) (a : Answered) (v : DeskView) → StandsFor v (desk_begun (rules k) a) → v.session.dict ≡ k → desk_means v (of_desk (rules k) (desk_at_start (rules k) a))
 desk_begun_means k a v stands same = (desk_begun (rules k) a, stands, ap (λ q. of_desk (rules q) (desk_open (desk_begun (rules k) a))) (sym same))
+
+-- ---- where nobody reads the replies
+
+-- what a sink tells that keeps nothing
+abbrev silent : Output
+silent = record { taken = None; faults = 0 }
+
+abbrev pub silently_means : (Meaning → Type 0) → Meaning → Type 0
+silently_means Means m = (told : Meaning) × Means told × (m ≡ silently told)
+
+module _ (MeansNow : Meaning → Type 0) (sink : Output) (answers : Answered) (lines : List ScriptLine) where
+  silent_line : (told : Meaning) (progress : Progress) → LineOutputAs MeansNow silent silent told answers lines progress → LineOutputAs (silently_means MeansNow) sink sink (silently told) answers lines progress
+  silent_line told More output =
+      let on = output.2 in
+      (sent_none sink.taken [], output.1, record { there = silently on.there; means = (on.there, on.means, refl); begins = silently_begins on.there on.begins; left = silently_behind told lines on.there on.left })
+  silent_line told Over output =
+      let quit = output.2 in
+      (sent_none sink.taken [], output.1, (silently quit.0, silently_behind told lines quit.0 quit.1, silently_quits quit.0 quit.2))
+  silent_line told Unwritten output = absurd (omega (arith, output.0))
+  silent_line told OutOfMemory output = (refl, (told, output.1, refl))
+
+  pub silent_output : (Means : Meaning → Type 0) (progress : Progress) → ((told : Meaning) → Means told → LineOutputAs MeansNow silent silent told answers lines progress)
+      → (m : Meaning) → silently_means Means m → LineOutputAs (silently_means MeansNow) sink sink m answers lines progress
+  silent_output Means progress output m (told, means, is) =
+      subst (λ (n : Meaning). LineOutputAs (silently_means MeansNow) sink sink n answers lines progress) (sym is) (silent_line told progress (output told means))
+
+  -- no write failed
+  pub silent_is_unfailing : (told : Meaning) (progress : Progress) → LineOutputAs MeansNow silent silent told answers lines progress → progress ≢ Unwritten
+  silent_is_unfailing told More output = λ e. cc
+  silent_is_unfailing told Over output = λ e. cc
+  silent_is_unfailing told Unwritten output = absurd (omega (arith, output.0))
+  silent_is_unfailing told OutOfMemory output = λ e. cc
 
 -- ---- steps
 

@@ -2,7 +2,7 @@
 use Rattle.std.specs.Prelude.{◌≡◌, ◌⊎◌, ℕ, ◌<◌, ◌≤◌, List, [], length}
 use Rattle.fg_io.specs.Outside.{MayHold, Contents, holds}
 use Rattle.answers.specs.Answered.{Answered, start}
-use Rattle.dictionary.specs.Fits.{AnswersFit}
+use Rattle.dict_meaning.specs.Fits.{AnswersFit}
 use Rattle.graph_session.specs.Rules.{Rules, tree_of}
 use Rattle.save_file.specs.CarriedText.{CarriedText, IsCarried, IsCarriedText, carried}
 use Rattle.save_file.specs.Carrying.{AreOfKept}

@@ -1,31 +1,46 @@
--- The fetches that an interview makes, for each form of the words. What a shelf says of a fetch is `fetched`: it leads from the
--- shelf before to the shelf after only by a call of this name and limit with this answer. So where a shelf came to another by these
--- fetches, it was called for these names, in this order, and for nothing else.
-use Rattle.std.specs.Prelude.{◌≡◌, ◌⊎◌, ℕ, List, Result, Ok, Err, Vec}
+-- The calls that an interview makes, for each form of the words. What a shelf says of a fetch is `fetched`: it leads from the shelf before
+-- to the shelf after only by a call of this name and limit with this answer, where source and sink stood so; and a source says the same
+-- of a pull. So where devices came to others by these calls, they were called so, in this order, and for nothing else.
+use Rattle.std.specs.Prelude.{◌≡◌, ◌⊎◌, ℕ, List, [], Result, Ok, Err, Vec}
 use Rattle.std.specs.declared.alloc.Global.{Global}
-use Rattle.fg_io.specs.Outside.{ByFetch}
+use Rattle.fg_io.specs.Outside.{ByFetch, ByPull, Contents, Output}
 use Rattle.fg_io.specs.declared.error.FetchFault.{FetchFault}
 use Rattle.dict_tree.specs.DictParsing.{max_bytes}
-use Rattle.dictionary.specs.Accepted.{Accepted, Named, names_of}
+use Rattle.dict_meaning.specs.Accepted.{Accepted}
+use Rattle.dictionary.specs.Kept.{Named, names_of}
 use Rattle.dictionary.specs.Faults.{AreAccepted}
-use Rattle.interview.specs.Beginnings.{saved_limit}
+use Rattle.graph_session.specs.Rules.{Rules}
+use Rattle.interview.specs.Beginnings.{Basis, IsStart, MayBring, Start, saved_limit}
+use Rattle.interview.specs.Dictionaries.{IsAcceptedAs, brought, spelled}
+use Rattle.interview.specs.Given.{Given}
+use Rattle.interview.specs.Meanings.{meaning_of, silently}
+use Rattle.interview.specs.Save.{save_meaning}
+use Rattle.interview.specs.Talk.{MayTalk, TalkBehind}
 use Rattle.interview.specs.Words.{Beginning, HasNoForm, IsCheck, IsGen, IsRun, IsSave, Origin, by_carry, by_load, file, program, unanswered}
 use Rattle.interview.specs.declared.status.Status.{Status}
 use Rattle.interview.specs.declared.status.Status.TheVariants.{NoMemory}
+use Rattle.interview.specs.declared.words.Mode.{Mode}
 
--- ---- one call
+-- ---- one fetch
 
 abbrev pub Answer : Type 0
 Answer = Result (Vec ℕ Global) FetchFault
 
+-- what a shelf says of a fetch, where source and sink stand still
+abbrev pub ByStillFetch : Type 0 → Type 1
+ByStillFetch H = H → List ℕ → ℕ → Answer → H → Type 0
+
+abbrev pub beside : {H S K : Type 0} → ByFetch H S K → S → K → ByStillFetch H
+beside fetched script out shelf name at_most answer shelf_now = fetched shelf script out name at_most answer shelf_now
+
 -- it was called once: for this name, with at most so many bytes
-abbrev pub CallsOnce : {S : Type 0} → ByFetch S → List ℕ → ℕ → S → S → Type 0
+abbrev pub CallsOnce : {H : Type 0} → ByStillFetch H → List ℕ → ℕ → H → H → Type 0
 CallsOnce fetched name at_most shelf shelf_now = (answer : Answer) × fetched shelf name at_most answer shelf_now
 
 -- ---- for a dictionary
 
 -- of a file it was called once, and of what the program brings it wasn't called
-abbrev pub CallsForDictionary : {S : Type 0} → ByFetch S → Origin → S → S → Type 0
+abbrev pub CallsForDictionary : {H : Type 0} → ByStillFetch H → Origin → H → H → Type 0
 CallsForDictionary fetched (file name) shelf shelf_now = CallsOnce fetched name max_bytes shelf shelf_now
 CallsForDictionary fetched (program b) shelf shelf_now = shelf_now ≡ shelf
 
@@ -34,43 +49,69 @@ abbrev pub IsDictionary : List Named → Answer → Type 0
 IsDictionary checks (Ok v) = (dict : Accepted) × AreAccepted v.items (names_of checks) dict
 IsDictionary checks (Err fault) = ⊥
 
--- it was called so, and an accepted dictionary came of it
-abbrev pub CallsForAccepted : {S : Type 0} → ByFetch S → List Named → Origin → S → S → Type 0
-CallsForAccepted fetched checks (file name) shelf shelf_now = (answer : Answer) × fetched shelf name max_bytes answer shelf_now × IsDictionary checks answer
-CallsForAccepted fetched checks (program b) shelf shelf_now = shelf_now ≡ shelf
+-- it was called so, and a dictionary came of it that is accepted as this
+abbrev pub CallsForAccepted : {H : Type 0} → ByStillFetch H → List Named → Origin → Rules → H → H → Type 0
+CallsForAccepted fetched checks (file name) r shelf shelf_now = (bytes : Vec ℕ Global) × fetched shelf name max_bytes (Ok bytes) shelf_now × IsAcceptedAs checks (spelled bytes.items) r
+CallsForAccepted fetched checks (program b) r shelf shelf_now = (shelf_now ≡ shelf) × IsAcceptedAs checks (brought b) r
 
 -- or none came
-abbrev pub CallsForNone : {S : Type 0} → ByFetch S → List Named → Origin → S → S → Type 0
+abbrev pub CallsForNone : {H : Type 0} → ByStillFetch H → List Named → Origin → H → H → Type 0
 CallsForNone fetched checks (file name) shelf shelf_now = (answer : Answer) × fetched shelf name max_bytes answer shelf_now × (IsDictionary checks answer → ⊥)
 CallsForNone fetched checks (program b) shelf shelf_now = ⊥
+
+-- it was called so, and nothing came of it: no dictionary, or memory was wanting
+abbrev pub CallsInVain : {H : Type 0} → ByStillFetch H → List Named → Origin → Status → H → H → Type 0
+CallsInVain fetched checks origin status shelf shelf_now =
+    CallsForNone fetched checks origin shelf shelf_now ⊎ ((status ≡ NoMemory) × CallsForDictionary fetched origin shelf shelf_now)
 
 -- ---- for a saved text
 
 -- it was called once, and where none is named it wasn't called
-abbrev pub CallsForSaved : {S : Type 0} → ByFetch S → Beginning → S → S → Type 0
+abbrev pub CallsForSaved : {H : Type 0} → ByStillFetch H → Beginning → H → H → Type 0
 CallsForSaved fetched unanswered shelf shelf_now = shelf_now ≡ shelf
 CallsForSaved fetched (by_load name) shelf shelf_now = CallsOnce fetched name saved_limit shelf shelf_now
 CallsForSaved fetched (by_carry name) shelf shelf_now = CallsOnce fetched name saved_limit shelf shelf_now
 
+-- ---- for a script
+
+-- it wasn't pulled, or with a start that it may have been given, over these rules, as a run talks that begins so
+abbrev pub TalksFrom : {S K : Type 0} → ByPull S K → (K → Output) → (List ℕ → Contents) → Beginning → Rules → Mode → List Named → Status → S → S → K → Type 0
+TalksFrom pulled output contents beginning r mode relations status script script_now out =
+    (script_now ≡ script)
+    ⊎ ((basis : Basis) × MayBring contents beginning basis × ((s : Start) × IsStart r basis s
+    × TalkBehind pulled output (meaning_of r mode relations s.answers) s.front out script script_now status))
+
 -- ---- for a run
 
--- It was called for the dictionary, and then, where an accepted one came of it, for the saved text. Behind the dictionary memory may
--- have been wanting.
-abbrev pub CallsForRun : {S : Type 0} → ByFetch S → List Named → Origin → Beginning → Status → S → S → Type 0
-CallsForRun {S} fetched checks origin beginning status shelf shelf_now =
-    ((between : S) × CallsForAccepted fetched checks origin shelf between × CallsForSaved fetched beginning between shelf_now)
-    ⊎ (CallsForNone fetched checks origin shelf shelf_now
-    ⊎ ((status ≡ NoMemory) × CallsForDictionary fetched origin shelf shelf_now))
+-- It was called for the dictionary, and then, where an accepted one came of it, for the saved text; and then the script was pulled as this
+-- dictionary means it. Behind the dictionary memory may have been wanting.
+abbrev pub CallsForRun : {H S K : Type 0} → ByFetch H S K → ByPull S K → (K → Output) → Given → Origin → Beginning → Mode → Status → H → H → S → S → K → Type 0
+CallsForRun {H} fetched pulled output given origin beginning mode status shelf shelf_now script script_now out =
+    ((r : Rules) × (between : H) × CallsForAccepted (beside fetched script out) given.checks origin r shelf between
+    × CallsForSaved (beside fetched script out) beginning between shelf_now
+    × TalksFrom pulled output given.contents beginning r mode given.relations status script script_now out)
+    ⊎ (CallsInVain (beside fetched script out) given.checks origin status shelf shelf_now × (script_now ≡ script))
+
+-- ---- for a save
+
+-- It was called for the dictionary, and then, where an accepted one came of it, the script was pulled as this dictionary means it, without
+-- a reply.
+abbrev pub CallsForSave : {H S K : Type 0} → ByFetch H S K → ByPull S K → (K → Output) → Given → Origin → Status → H → H → S → S → K → Type 0
+CallsForSave fetched pulled output given origin status shelf shelf_now script script_now out =
+    ((r : Rules) × CallsForAccepted (beside fetched script out) given.checks origin r shelf shelf_now
+    × MayTalk pulled output (silently (save_meaning r given.relations)) [] out script script_now status)
+    ⊎ (CallsInVain (beside fetched script out) given.checks origin status shelf shelf_now × (script_now ≡ script))
 
 -- ---- for an interview
 
--- how these words, with this status, led from the one shelf to the other
-pub record Calls {S : Type 0} (fetched : ByFetch S) (words : List (List ℕ)) (checks : List Named) (status : Status) (shelf shelf_now : S) : Type 0 where
-  -- a run calls for its dictionary, and over an accepted one for its saved text
-  pub run : (origin : Origin) (asked : IsRun words origin) → CallsForRun fetched checks origin asked.beginning status shelf shelf_now
-  -- a check and a save call for their dictionary
-  pub check : (name : List ℕ) → IsCheck words name → CallsForDictionary fetched (file name) shelf shelf_now
-  pub save : (origin : Origin) → IsSave words origin → CallsForDictionary fetched origin shelf shelf_now
+-- how these words, with this status, led from the one shelf and source to the others, where the sink stood so
+pub record Calls {H S K : Type 0} (fetched : ByFetch H S K) (pulled : ByPull S K) (output : K → Output) (given : Given) (status : Status) (shelf shelf_now : H) (script script_now : S) (out : K) : Type 0 where
+  -- a run calls for its dictionary, and over an accepted one for its saved text and its script
+  pub run : (origin : Origin) (asked : IsRun given.words origin) → CallsForRun fetched pulled output given origin asked.beginning asked.mode status shelf shelf_now script script_now out
+  -- a check calls for its dictionary
+  pub check : (name : List ℕ) → IsCheck given.words name → CallsForDictionary (beside fetched script out) (file name) shelf shelf_now × (script_now ≡ script)
+  -- a save calls for its dictionary, and over an accepted one for its script
+  pub save : (origin : Origin) → IsSave given.words origin → CallsForSave fetched pulled output given origin status shelf shelf_now script script_now out
   -- `gen` calls for nothing, and neither do words without a form
-  pub gen : (n : ℕ) → IsGen words n → shelf_now ≡ shelf
-  pub no_form : HasNoForm words → shelf_now ≡ shelf
+  pub gen : (n : ℕ) → IsGen given.words n → (shelf_now ≡ shelf) × (script_now ≡ script)
+  pub no_form : HasNoForm given.words → (shelf_now ≡ shelf) × (script_now ≡ script)

@@ -12,8 +12,8 @@ use Rattle.three_state.specs.declared.res.Res.{Res}
 use Rattle.three_state.specs.declared.res.Res.TheVariants.{Complete}
 use Rattle.evaluation.specs.Sure.{first_found}
 use Rattle.answers.specs.Answered.{Answered}
-use Rattle.dictionary.specs.Accepted.{Named}
-use Rattle.dictionary.specs.Extension.{IsExtension}
+use Rattle.dictionary.specs.Kept.{Named}
+use Rattle.dict_meaning.specs.Extension.{IsExtension}
 use Rattle.graph_session.specs.Rules.{Rules, tree_of}
 use Rattle.session_lines.specs.Laws.{final_line}
 use Rattle.session_lines.specs.Stepping.{at_start, state_after, step_command}

@@ -1,7 +1,8 @@
 -- The defined interview: what words, a dictionary and a script are to write, and the status at the end.
 use Rattle.std.specs.Prelude.{◌≡◌, ◌⊎◌, ℕ, List, ◌++◌, length, take, codes, nat_le, if◌then◌else◌}
 use Rattle.dictionary.specs.declared.fault.DictFault.{DictFault}
-use Rattle.dictionary.specs.Accepted.{Accepted, Named, names_of}
+use Rattle.dict_meaning.specs.Accepted.{Accepted}
+use Rattle.dictionary.specs.Kept.{Named, names_of}
 use Rattle.dictionary.specs.Faults.{AreAccepted, IsFault}
 use Rattle.dictionary.specs.Keeping.{node_count}
 use Rattle.script_lines.specs.Lines.{ScriptLine, script_lines, ended_lines}

@@ -3,7 +3,8 @@ use Rattle.std.specs.Prelude.{◌≡◌, ℕ, List, [], length}
 use Rattle.fg_io.specs.Outside.{Output}
 use Rattle.script_lines.specs.Lines.{lines_of}
 use Rattle.answers.specs.Answered.{start}
-use Rattle.dictionary.specs.Accepted.{IsAccepted, Named}
+use Rattle.dict_meaning.specs.Accepted.{IsAccepted}
+use Rattle.dictionary.specs.Kept.{Named}
 use Rattle.dictionary.specs.Keeping.{node_count}
 use Rattle.dict_gen.specs.Chain.{chain}
 use Rattle.dict_gen.specs.Script.{script}

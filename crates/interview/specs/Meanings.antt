@@ -2,7 +2,8 @@
 use Rattle.std.specs.Prelude.{◌≡◌, ℕ, ◌+◌, Bool, true, false, List, [], ◌++◌}
 use Rattle.script_lines.specs.Lines.{ScriptLine}
 use Rattle.answers.specs.Answered.{Answered}
-use Rattle.dictionary.specs.Accepted.{Accepted, Named}
+use Rattle.dict_meaning.specs.Accepted.{Accepted}
+use Rattle.dictionary.specs.Kept.{Named}
 use Rattle.graph_session.specs.Rules.{Rules}
 use Rattle.session_lines.specs.Stepping.{State, at_start, replies, state_after}
 use Rattle.session_lines.specs.Steps.{steps_of_lines}
@@ -48,6 +49,10 @@ abbrev pub meaning_of : Rules → Mode → List Named → Answered → Meaning
 meaning_of r Incremental relations a = of_answers r true relations a
 meaning_of r Plain relations a = of_answers r false relations a
 meaning_of r Desk relations a = of_desk r (desk_at_start r a)
+
+-- the same lines where nobody reads the replies
+abbrev pub silently : Meaning → Meaning
+silently m = record m { texts = λ lines. [] }
 
 -- ---- lines behind lines
 

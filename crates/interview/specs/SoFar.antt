@@ -1,8 +1,10 @@
 -- A script that goes on: so many bytes of it were read, each line that ended in them was answered, and none was `quit`.
-use Rattle.std.specs.Prelude.{◌≡◌, ℕ, false, List, [], length, Option}
+use Rattle.std.specs.Prelude.{◌≡◌, ℕ, ◌<◌, false, List, [], All, length, Option}
 use Rattle.std.specs.Io.KnownBytes.{Consumes}
+use Rattle.fg_io.specs.Outside.{ByPull, Output}
 use Rattle.script_lines.specs.Lines.{HasNoNewline}
 use Rattle.interview.specs.Meanings.{Meaning}
+use Rattle.interview.specs.Talk.{Came, bytes_of}
 use Rattle.interview.specs.Telling.{LinesOutput}
 
 -- what follows means this from here on
@@ -13,3 +15,10 @@ pub record AnsweredSoFar (m : Meaning) (left left_now taken taken_now : Option (
   pub output : LinesOutput m taken taken_now [] bytes there held [] []
   pub unquit : there.over [] ≡ false
   pub unended : HasNoNewline held
+
+-- these bytes came of it, in pieces, and none of them was the end
+pub record TalkedSoFar {S K : Type 0} (pulled : ByPull S K) (output : K → Output) (m : Meaning) (out : K) (script : S) (bytes : List ℕ) (script_now : S) : Type 0 where
+  pub pieces : List (List ℕ)
+  pub came : Came pulled output m out script pieces script_now
+  pub same : bytes_of pieces ≡ bytes
+  pub unended : All (λ piece. 0 < length piece) pieces

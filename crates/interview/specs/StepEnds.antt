@@ -2,9 +2,9 @@
 use Rattle.std.specs.Prelude.{◌≡◌, ◌⊎◌, ℕ, ◌<◌, ◌≤◌, List, [], length, Option, Some, None, Result, Ok, Err, Vec}
 use Rattle.std.specs.declared.alloc.Global.{Global}
 use Rattle.std.specs.Io.KnownBytes.{Appends}
-use Rattle.fg_io.specs.Outside.{ByFetch, Contents, Files, MayHold, Output, Rose}
+use Rattle.fg_io.specs.Outside.{Contents, Files, MayHold, Output, Rose}
 use Rattle.fg_io.specs.Sent.{Sent}
-use Rattle.dictionary.specs.Accepted.{Named, accepted, names_of}
+use Rattle.dictionary.specs.Kept.{Named, accepted, names_of}
 use Rattle.dictionary.specs.Faults.{AreAccepted, IsFault}
 use Rattle.interview.specs.declared.fetching.Fetched.{Fetched}
 use Rattle.interview.specs.declared.fetching.Fetched.TheVariants as fetches
@@ -14,11 +14,11 @@ use Rattle.interview.specs.Devices.{Around, SentNothing, SentPart, SentWhole, Sh
 use Rattle.graph_session.specs.Refusals.{SameChecks}
 use Rattle.graph_session.specs.Rules.{Rules, rules, tree_of}
 use Rattle.answers.specs.Meaning.{answered}
-use Rattle.dictionary.specs.Fits.{AnswersFit}
+use Rattle.dict_meaning.specs.Fits.{AnswersFit}
 use Rattle.save_file.specs.Dropped.{IsDroppedText}
 use Rattle.save_file.specs.declared.fault.LoadFault.{LoadFault}
 use Rattle.save_file.specs.declared.fault.LoadFault.TheVariants as loads
-use Rattle.interview.specs.Calls.{CallsForAccepted, CallsForNone}
+use Rattle.interview.specs.Calls.{ByStillFetch, CallsForAccepted, CallsForNone}
 use Rattle.interview.specs.Given.{Did}
 use Rattle.interview.specs.Meanings.{Meaning, meaning_of}
 use Rattle.interview.specs.declared.resuming.Dropped.{Dropped}
@@ -67,8 +67,8 @@ ObtainedAs contents origin checks (fetches.Accepted dict) = (content : Content) 
 ObtainedAs contents origin checks (fetches.Refused fault) = (content : Content) × MayGive contents origin content × HasFault checks content fault
 
 -- where it is accepted, it came of the calls for it, and where it isn't, none did, or memory was wanting
-abbrev pub ObtainedBy : {S : Type 0} → ByFetch S → List Named → Origin → S → S → Result Fetched Status → Type 0
-ObtainedBy fetched checks origin shelf shelf_now (Ok (fetches.Accepted dict)) = CallsForAccepted fetched checks origin shelf shelf_now
+abbrev pub ObtainedBy : {H : Type 0} → ByStillFetch H → List Named → Origin → H → H → Result Fetched Status → Type 0
+ObtainedBy fetched checks origin shelf shelf_now (Ok (fetches.Accepted dict)) = CallsForAccepted fetched checks origin (rules dict) shelf shelf_now
 ObtainedBy fetched checks origin shelf shelf_now (Ok (fetches.Refused fault)) = CallsForNone fetched checks origin shelf shelf_now
 ObtainedBy fetched checks origin shelf shelf_now (Err status) = CallsForNone fetched checks origin shelf shelf_now ⊎ (status ≡ NoMemory)
 

@@ -1,5 +1,5 @@
 // A desk answers the lines of a script: they are those of several parties.
-ghost use Rattle.std.specs.Prelude.{◌≡◌, ◌<◌};
+ghost use Rattle.std.specs.Prelude.{◌≡◌, ◌<◌, false};
 ghost use Rattle.shared_desk.specs.Desk.{Desk as Defined};
 ghost use Rattle.shared_desk.specs.DeskView.{StandsFor, rules_of};
 ghost use Rattle.desk_lines.specs.DeskStepping.{desk_at_start, desk_open};
@@ -19,6 +19,8 @@ use steps::Steps;
 
 impl<E: FactEngine> LineHandler for Desk<E> {
     ghost can_begin = { E.STAMPS };
+
+    ghost is_quiet = { false };
 
     ghost meaning = { λ r relations a. of_desk r (desk_at_start r a) };
 

@@ -1,8 +1,8 @@
 // Whether a dictionary is accepted.
 ghost use Rattle.std.specs.Prelude.{◌≡◌};
 ghost use Rattle.text_checks.specs.Tables.{named_checks};
-ghost use Rattle.dictionary.specs.Accepted.{accepted};
-ghost use Rattle.interview.specs.Calls.{CallsForDictionary};
+ghost use Rattle.dictionary.specs.Kept.{accepted};
+ghost use Rattle.interview.specs.Calls.{CallsForDictionary, beside};
 ghost use Rattle.interview.specs.Interview.{defined_accepted};
 ghost use Rattle.interview.specs.StepEnds.{CheckEnds, EndedBy, check_did};
 ghost use Rattle.interview.specs.Words.{file};
@@ -29,18 +29,19 @@ fn end_accepted<K: Sink>(out: &mut K, dictionary: &Dictionary) -> Status
 }
 
 /// Writes whether the dictionary of this name is accepted, or else its first fault.
-pub fn check<H: Shelf, K: Sink>(
+pub fn check<H: Shelf<S, K>, S, K: Sink>(
     alloc: Global,
     name: &str,
     checks: &CheckTable,
     shelf: &mut H,
+    script: &S,
     out: &mut K,
 ) -> Status
     ensures ends { CheckEnds ((H.files shelf.old).contents name.now) (named_checks checks.now) name.now
         (check_did (H.files shelf.old) (H.files shelf.new) (K.output out.old) (K.output out.new)) result }
-    ensures calls { CallsForDictionary H.fetched (file name.now) shelf.old shelf.new }
+    ensures calls { CallsForDictionary (beside H.fetched script.now out.old) (file name.now) shelf.old shelf.new }
 {
-    match fetch(alloc, name, checks, shelf) {
+    match fetch(alloc, name, checks, shelf, script, out) {
         Ok(Fetched::Accepted(dictionary)) => {
             let status = end_accepted(out, &dictionary);
             drop(dictionary);

@@ -1,9 +1,9 @@
 // Fetches a dictionary.
 ghost use Rattle.std.specs.Prelude.{◌≡◌, ◌≤◌, IfErr, IfOk};
 ghost use Rattle.text_checks.specs.Tables.{named_checks};
-ghost use Rattle.dictionary.specs.Accepted.{accepted, names_of};
+ghost use Rattle.dictionary.specs.Kept.{accepted, names_of};
 ghost use Rattle.dictionary.specs.Faults.{AreAccepted, IsFault, Refuses};
-ghost use Rattle.interview.specs.Calls.{CallsForDictionary};
+ghost use Rattle.interview.specs.Calls.{CallsForDictionary, beside};
 ghost use Rattle.interview.specs.StepEnds.{FetchedAs, NotFetched, ObtainedBy};
 ghost use Rattle.interview.specs.Words.{file};
 ghost use Rattle.interview.specs.FaultLines.{is_memory as wants_memory};
@@ -58,20 +58,22 @@ fn is_memory(fault: DictFault) -> bool
 }
 
 /// Fetches the dictionary of this name.
-pub fn fetch<H: Shelf>(
+pub fn fetch<H: Shelf<S, K>, S, K>(
     alloc: Global,
     name: &str,
     checks: &CheckTable,
     shelf: &mut H,
+    script: &S,
+    out: &K,
 ) -> Result<Fetched, Status>
     ensures fetched { IfOk result (FetchedAs ((H.files shelf.old).contents name.now) (named_checks checks.now)) }
     ensures not_fetched { IfErr result (NotFetched name.now (H.files shelf.old) (H.files shelf.new)) }
     ensures kept { (H.files shelf.new).contents ≡ (H.files shelf.old).contents }
     ensures later { (H.files shelf.old).faults ≤ (H.files shelf.new).faults }
-    ensures calls { CallsForDictionary H.fetched (file name.now) shelf.old shelf.new }
-    ensures by_calls { ObtainedBy H.fetched (named_checks checks.now) (file name.now) shelf.old shelf.new result }
+    ensures calls { CallsForDictionary (beside H.fetched script.now out.now) (file name.now) shelf.old shelf.new }
+    ensures by_calls { ObtainedBy (beside H.fetched script.now out.now) (named_checks checks.now) (file name.now) shelf.old shelf.new result }
 {
-    let bytes = match shelf.fetch(name, LIMIT) {
+    let bytes = match shelf.fetch(script, out, name, LIMIT) {
         Ok(bytes) => bytes,
         Err(FetchFault::TooLong) => return Ok(Fetched::Refused(DictFault::TooLong)),
         Err(FetchFault::Failed) => return Err(Status::FetchFault),

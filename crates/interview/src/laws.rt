@@ -3,6 +3,9 @@ ghost use Rattle.interview.specs.Engines.{EnginesAgree, LinesAgree, RunsAgree};
 ghost use Rattle.interview.specs.Interview.{OneEndOfCheck, OneEndOfRun};
 ghost use Rattle.interview.specs.Load.{OneEndOfGen};
 ghost use Rattle.interview.specs.Save.{OneEndOfSave};
+ghost use Rattle.interview.specs.Talk.{PiecesFollowReplies};
+
+use fg_io::{Sink, Source};
 
 /// A check of the bytes of a dictionary comes to one text and one status at most.
 pub fn a_check_has_one_end()
@@ -40,4 +43,9 @@ pub fn a_gen_has_one_end()
 /// A save over the bytes of a dictionary and of a script comes to one text and one status at most.
 pub fn a_save_has_one_end()
     ensures { OneEndOfSave }
+{}
+
+/// In a talk each piece of a script came behind the replies to all lines that ended before it, and none behind the end or `quit`.
+pub fn pieces_follow_replies<S: Source<K>, K: Sink>()
+    ensures { PiecesFollowReplies S.pulled K.output }
 {}

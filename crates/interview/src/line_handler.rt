@@ -1,15 +1,17 @@
 // Who answers the lines of a script.
-ghost use Rattle.std.specs.Prelude.{◌≡◌, ℕ, Bool, true, List, ◌+◌, ◌<◌, ◌≤◌, ◌^◌, IfOk, length};
+ghost use Rattle.std.specs.Prelude.{◌≡◌, ◌≢◌, ℕ, Bool, true, List, ◌+◌, ◌<◌, ◌≤◌, ◌^◌, IfOk, length};
 ghost use Rattle.text_checks.specs.Tables.{named_checks};
 ghost use Rattle.fact_watch.specs.Tables.{named_relations};
 ghost use Rattle.script_lines.specs.Lines.{ready_lines};
 ghost use Rattle.answers.specs.Answered.{Answered};
 ghost use Rattle.answers.specs.Meaning.{answered};
-ghost use Rattle.dictionary.specs.Accepted.{Accepted, Named, accepted};
-ghost use Rattle.dictionary.specs.Fits.{AnswersFit};
+ghost use Rattle.dict_meaning.specs.Accepted.{Accepted};
+ghost use Rattle.dictionary.specs.Kept.{Named, accepted};
+ghost use Rattle.dict_meaning.specs.Fits.{AnswersFit};
 ghost use Rattle.graph_session.specs.Refusals.{SameChecks};
 ghost use Rattle.graph_session.specs.Rules.{Rules, rules};
 ghost use Rattle.interview.specs.Meanings.{IsBeginning, Meaning};
+ghost use Rattle.session_lines.specs.declared.progress.Progress.TheVariants.{Unwritten};
 ghost use Rattle.interview.specs.Telling.{LineOutputAs};
 
 use answers::Answers;
@@ -26,6 +28,9 @@ use steps::Steps;
 pub trait LineHandler: Drop {
     /// Whether it can begin: a desk needs an engine with stamps.
     ghost can_begin: { Bool };
+
+    /// Whether nobody reads the replies: then it tells nothing.
+    ghost is_quiet: { Bool };
 
     /// What the lines of a script mean that begins over these rules with these answers, where slots may be watched by these relations.
     ghost meaning: { Rules → List Named → Answered → Meaning };
@@ -74,6 +79,9 @@ pub trait LineHandler: Drop {
         ensures same_rules { goes_by self.new ≡ goes_by self.old }
         ensures few { changes self.new ≤ changes self.old + 1 }
         ensures later { (K.output out.old).faults ≤ (K.output out.new).faults }
+        ensures quiet { is_quiet ≡ true → out.new ≡ out.old }
+        ensures unfailing { is_quiet ≡ true → (m : Meaning) → means self.old (named_relations tables.now.relations.now) m
+            → result ≢ Unwritten }
         ensures steps { (m : Meaning) → means self.old (named_relations tables.now.relations.now) m
             → steps.new ≤ steps.old + m.steps most (ready_lines ready line.now) };
 }

@@ -1,7 +1,7 @@
 // Has the dictionary of a run.
 ghost use Rattle.std.specs.Prelude.{◌≡◌, ◌≤◌, IfErr, IfOk};
 ghost use Rattle.text_checks.specs.Tables.{named_checks};
-ghost use Rattle.interview.specs.Calls.{CallsForDictionary};
+ghost use Rattle.interview.specs.Calls.{CallsForDictionary, beside};
 ghost use Rattle.interview.specs.StepEnds.{NotObtained, ObtainedAs, ObtainedBy};
 ghost use Rattle.interview.specs.Words.{origin_of};
 
@@ -15,22 +15,24 @@ use std::alloc::Global;
 use text_checks::CheckTable;
 
 /// The dictionary of a run, or its first fault: that of a file is fetched, and one that the program brings with it isn't.
-pub fn obtain<H: Shelf>(
+pub fn obtain<H: Shelf<S, K>, S, K>(
     alloc: Global,
     origin: Origin<'_>,
     checks: &CheckTable,
     shelf: &mut H,
+    script: &S,
+    out: &K,
 ) -> Result<Fetched, Status>
     ensures obtained { IfOk result (ObtainedAs (H.files shelf.old).contents (origin_of origin.entry)
         (named_checks checks.now)) }
     ensures not_obtained { IfErr result (NotObtained (origin_of origin.entry) (H.files shelf.old) (H.files shelf.new)) }
     ensures kept { (H.files shelf.new).contents ≡ (H.files shelf.old).contents }
     ensures later { (H.files shelf.old).faults ≤ (H.files shelf.new).faults }
-    ensures calls { CallsForDictionary H.fetched (origin_of origin.entry) shelf.old shelf.new }
-    ensures by_calls { ObtainedBy H.fetched (named_checks checks.now) (origin_of origin.entry) shelf.old shelf.new result }
+    ensures calls { CallsForDictionary (beside H.fetched script.now out.now) (origin_of origin.entry) shelf.old shelf.new }
+    ensures by_calls { ObtainedBy (beside H.fetched script.now out.now) (named_checks checks.now) (origin_of origin.entry) shelf.old shelf.new result }
 {
     match origin {
-        Origin::File(name) => fetch(alloc, name, checks, shelf),
+        Origin::File(name) => fetch(alloc, name, checks, shelf, script, out),
         Origin::BuiltIn(built_in) => match bring(alloc, built_in) {
             Ok(dictionary) => Ok(Fetched::Accepted(dictionary)),
             Err(NoMemory) => Err(Status::NoMemory),

@@ -1,10 +1,11 @@
 // Answers the lines that end in a piece of a script.
-ghost use Rattle.std.specs.Prelude.{◌≡◌, ◌+◌, ◌<◌, ◌≤◌, ◌^◌, ◌++◌, length};
+ghost use Rattle.std.specs.Prelude.{◌≡◌, ◌≢◌, ◌+◌, ◌<◌, ◌≤◌, ◌^◌, ◌++◌, length, true};
 ghost use Rattle.text_checks.specs.Tables.{named_checks};
 ghost use Rattle.fact_watch.specs.Tables.{named_relations};
 ghost use Rattle.script_lines.specs.Lines.{HasNoNewline, ended_lines};
 ghost use Rattle.graph_session.specs.Refusals.{SameChecks};
 ghost use Rattle.interview.specs.Meanings.{IsBeginning, Meaning};
+ghost use Rattle.session_lines.specs.declared.progress.Progress.TheVariants.{Unwritten};
 ghost use Rattle.interview.specs.Telling.{PieceOutputAs};
 
 use crate::line_handler::LineHandler;
@@ -34,6 +35,9 @@ pub fn answer_piece<T: LineHandler, L: Ledger, K: Sink>(
     ensures same_rules { T.goes_by handler.new ≡ T.goes_by handler.old }
     ensures few { T.changes handler.new ≤ T.changes handler.old + length bytes.now }
     ensures later { (K.output out.old).faults ≤ (K.output out.new).faults }
+    ensures quiet { T.is_quiet ≡ true → out.new ≡ out.old }
+    ensures unfailing { T.is_quiet ≡ true → (m : Meaning) → IsBeginning m
+        → T.means handler.old (named_relations tables.now.relations.now) m → result ≢ Unwritten }
     ensures steps { (m : Meaning) → IsBeginning m → T.means handler.old (named_relations tables.now.relations.now) m
         → steps.new ≤ steps.old + m.steps T.most (ended_lines (lines.old.so_far ++ bytes.now)) }
 {

@@ -5,7 +5,7 @@ ghost use Rattle.text_checks.specs.Tables.{named_checks};
 ghost use Rattle.graph_session.specs.Refusals.{SameChecks};
 ghost use Rattle.graph_session.specs.Rules.{rules};
 ghost use Rattle.interview.specs.Beginnings.{saved_limit, to_carry, to_load};
-ghost use Rattle.interview.specs.Calls.{CallsForSaved, CallsOnce};
+ghost use Rattle.interview.specs.Calls.{CallsForSaved, CallsOnce, beside};
 ghost use Rattle.interview.specs.StepEnds.{FetchedText, Gives, NotFetched, NotResumed, RefusedFor, ResumedAs, ResumesAs};
 ghost use Rattle.interview.specs.Words.{beginning_of, by_carry, by_load};
 ghost use Rattle.interview.specs.declared.status.Status.TheVariants.{NoMemory as WantsMemory};
@@ -107,12 +107,17 @@ fn carry_ready(
 }
 
 // Fetches the saved text of this name; of one that is too long nothing is kept.
-fn fetch_text<H: Shelf>(name: &str, shelf: &mut H) -> Result<Option<Vec<u8>>, Status>
+fn fetch_text<H: Shelf<S, K>, S, K>(
+    name: &str,
+    shelf: &mut H,
+    script: &S,
+    out: &K,
+) -> Result<Option<Vec<u8>>, Status>
     ensures fetched { IfOk result (FetchedText ((H.files shelf.old).contents name.now)) }
     ensures not_fetched { IfErr result (NotFetched name.now (H.files shelf.old) (H.files shelf.new)) }
-    ensures calls { CallsOnce H.fetched name.now saved_limit shelf.old shelf.new }
+    ensures calls { CallsOnce (beside H.fetched script.now out.now) name.now saved_limit shelf.old shelf.new }
 {
-    match shelf.fetch(name, LIMIT) {
+    match shelf.fetch(script, out, name, LIMIT) {
         Ok(bytes) => Ok(Some(bytes)),
         Err(FetchFault::TooLong) => Ok(None),
         Err(FetchFault::Failed) => Err(Status::FetchFault),
@@ -121,17 +126,19 @@ fn fetch_text<H: Shelf>(name: &str, shelf: &mut H) -> Result<Option<Vec<u8>>, St
 }
 
 // The answers of the saved text of this name, or the line at which it is refused.
-fn resume_loaded<H: Shelf>(
+fn resume_loaded<H: Shelf<S, K>, S, K>(
     alloc: Global,
     name: &str,
     dict: &Dictionary,
     shelf: &mut H,
+    script: &S,
+    out: &K,
 ) -> Result<Resumed, Status>
     ensures resumed { IfOk result (ResumedAs (H.files shelf.old).contents (by_load name.now) (rules dict.now)) }
     ensures not_resumed { IfErr result (NotResumed (by_load name.now) (H.files shelf.old) (H.files shelf.new)) }
-    ensures calls { CallsForSaved H.fetched (by_load name.now) shelf.old shelf.new }
+    ensures calls { CallsForSaved (beside H.fetched script.now out.now) (by_load name.now) shelf.old shelf.new }
 {
-    match fetch_text(name, shelf) {
+    match fetch_text(name, shelf, script, out) {
         Ok(Some(bytes)) => load_ready(alloc, dict, bytes.as_slice()),
         Ok(None) => Ok(Resumed::Refused(0)),
         Err(status) => Err(status),
@@ -139,19 +146,21 @@ fn resume_loaded<H: Shelf>(
 }
 
 // What may stand of the saved text of this name, or the line at which it is refused.
-fn resume_carried<H: Shelf>(
+fn resume_carried<H: Shelf<S, K>, S, K>(
     alloc: Global,
     name: &str,
     dict: &Dictionary,
     checks: &CheckTable,
     shelf: &mut H,
+    script: &S,
+    out: &K,
 ) -> Result<Resumed, Status>
     requires { SameChecks (rules dict.now) (named_checks checks.now) }
     ensures resumed { IfOk result (ResumedAs (H.files shelf.old).contents (by_carry name.now) (rules dict.now)) }
     ensures not_resumed { IfErr result (NotResumed (by_carry name.now) (H.files shelf.old) (H.files shelf.new)) }
-    ensures calls { CallsForSaved H.fetched (by_carry name.now) shelf.old shelf.new }
+    ensures calls { CallsForSaved (beside H.fetched script.now out.now) (by_carry name.now) shelf.old shelf.new }
 {
-    match fetch_text(name, shelf) {
+    match fetch_text(name, shelf, script, out) {
         Ok(Some(bytes)) => carry_ready(alloc, dict, checks, bytes),
         Ok(None) => Ok(Resumed::Refused(0)),
         Err(status) => Err(status),
@@ -160,19 +169,21 @@ fn resume_carried<H: Shelf>(
 
 /// The answers with which a run over an accepted dictionary begins, or the line at which its saved text is refused. A saved text
 /// is fetched.
-pub fn resume<H: Shelf>(
+pub fn resume<H: Shelf<S, K>, S, K>(
     alloc: Global,
     beginning: Beginning<'_>,
     dict: &Dictionary,
     checks: &CheckTable,
     shelf: &mut H,
+    script: &S,
+    out: &K,
 ) -> Result<Resumed, Status>
     requires { SameChecks (rules dict.now) (named_checks checks.now) }
     ensures resumed { IfOk result (ResumedAs (H.files shelf.old).contents (beginning_of beginning.entry)
         (rules dict.now)) }
     ensures not_resumed { IfErr result (NotResumed (beginning_of beginning.entry) (H.files shelf.old)
         (H.files shelf.new)) }
-    ensures calls { CallsForSaved H.fetched (beginning_of beginning.entry) shelf.old shelf.new }
+    ensures calls { CallsForSaved (beside H.fetched script.now out.now) (beginning_of beginning.entry) shelf.old shelf.new }
 {
     let _accepted = dict.source();
     match beginning {
@@ -180,7 +191,7 @@ pub fn resume<H: Shelf>(
             answers: Answers::new(alloc),
             dropped: Dropped::Nothing,
         })),
-        Beginning::Load(name) => resume_loaded(alloc, name, dict, shelf),
-        Beginning::Carry(name) => resume_carried(alloc, name, dict, checks, shelf),
+        Beginning::Load(name) => resume_loaded(alloc, name, dict, shelf, script, out),
+        Beginning::Carry(name) => resume_carried(alloc, name, dict, checks, shelf, script, out),
     }
 }

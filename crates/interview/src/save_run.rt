@@ -1,20 +1,21 @@
 // Runs a script without its replies, and saves the answers that stand at its end.
-ghost use Rattle.std.specs.Prelude.{◌≡◌, ◌<◌, ℕ, List};
+ghost use Rattle.std.specs.Prelude.{◌≡◌, ◌<◌, ℕ, List, []};
 ghost use Rattle.session_lines.specs.Answering.{state_by};
 ghost use Rattle.text_checks.specs.Tables.{named_checks};
 ghost use Rattle.fact_watch.specs.Tables.{named_relations};
-ghost use Rattle.dictionary.specs.Accepted.{accepted};
+ghost use Rattle.dictionary.specs.Kept.{accepted};
 ghost use Rattle.graph_session.specs.Refusals.{SameChecks};
 ghost use Rattle.graph_session.specs.Rules.{rules};
 ghost use Rattle.save_file.specs.SavedText.{saved};
-ghost use Rattle.interview.specs.Calls.{CallsForDictionary};
+ghost use Rattle.interview.specs.Calls.{CallsForSave};
 ghost use Rattle.interview.specs.Given.{did_by, given_with};
-ghost use Rattle.interview.specs.Meanings.{of_session};
+ghost use Rattle.interview.specs.Meanings.{of_session, silently};
 ghost use Rattle.interview.specs.Save.{ScriptSaves, save_meaning};
 ghost use Rattle.session_lines.specs.Stepping.{open_at};
 ghost use Rattle.interview.specs.SaveEnds.{SaveEnds};
 ghost use Rattle.interview.specs.ScriptEnds.{script_did};
 ghost use Rattle.interview.specs.StepEnds.{EndedBy};
+ghost use Rattle.interview.specs.Talk.{MayTalk, Talk};
 ghost use Rattle.interview.specs.Words.{IsSave, origin_of};
 ghost use Rattle.interview.specs.declared.status.Status.TheVariants.{Done};
 
@@ -23,7 +24,7 @@ use crate::ending::end_by_fault;
 use crate::fetching::Fetched;
 use crate::obtaining::obtain;
 use crate::script::run;
-use crate::silent::Silent;
+use crate::silent::Silenced;
 use crate::watched_session::WatchedSession;
 use crate::words::Origin;
 use dictionary::{Dictionary, FactEngine};
@@ -52,23 +53,25 @@ fn save_answers<E: FactEngine, K: Sink>(session: &Session<E>, out: &mut K) -> St
 }
 
 // Runs the script over a session at its start without its replies, and writes the answers that stand at its end.
-fn save_session<E: FactEngine, L: Ledger, S: Source, K: Sink>(
+fn save_session<E: FactEngine, L: Ledger, S: Source<K>, K: Sink>(
     alloc: Global,
-    watched: &mut WatchedSession<E>,
+    silenced: &mut Silenced<WatchedSession<E>>,
     tables: &Tables<'_>,
     script: &mut S,
     out: &mut K,
     steps: &mut Steps<L>,
 ) -> Status
-    requires same_checks { SameChecks (rules watched.old.session.dict) (named_checks tables.now.checks.now) }
-    requires unchanged { watched.old.session.changes ≡ 0 }
-    ensures saves { ScriptSaves (rules watched.old.session.dict) (of_session (rules watched.old.session.dict)
-        (open_at (state_by watched.old.session tables.now.relations.now watched.old.watches)))
+    requires same_checks { SameChecks (rules silenced.old.handler.session.dict) (named_checks tables.now.checks.now) }
+    requires unchanged { silenced.old.handler.session.changes ≡ 0 }
+    ensures saves { ScriptSaves (rules silenced.old.handler.session.dict) (of_session (rules silenced.old.handler.session.dict)
+        (open_at (state_by silenced.old.handler.session tables.now.relations.now silenced.old.handler.watches)))
         (script_did (S.input script.old) (S.input script.new) (K.output out.old) (K.output out.new)) result }
+    ensures calls { Talk S.pulled K.output (silently (of_session (rules silenced.old.handler.session.dict)
+        (open_at (state_by silenced.old.handler.session tables.now.relations.now silenced.old.handler.watches))))
+        out.old script.old script.new result }
 {
-    let mut silent = Silent;
-    match run(alloc, watched, tables, script, &mut silent, steps) {
-        Status::Done => save_answers(&watched.session, out),
+    match run(alloc, silenced, tables, script, out, steps) {
+        Status::Done => save_answers(&silenced.handler.session, out),
         Status::DictionaryRefused => Status::DictionaryRefused,
         Status::Usage => Status::Usage,
         Status::FetchFault => Status::FetchFault,
@@ -81,7 +84,7 @@ fn save_session<E: FactEngine, L: Ledger, S: Source, K: Sink>(
 }
 
 // The same over the dictionary, from no answers. Its steps are counted for nobody else.
-fn save_over<L: Ledger, S: Source, K: Sink>(
+fn save_over<L: Ledger, S: Source<K>, K: Sink>(
     alloc: Global,
     dictionary: Dictionary,
     tables: &Tables<'_>,
@@ -96,12 +99,15 @@ fn save_over<L: Ledger, S: Source, K: Sink>(
     ensures saves { ScriptSaves (rules dictionary)
         (save_meaning (rules dictionary) (named_relations tables.now.relations.now))
         (script_did (S.input script.old) (S.input script.new) (K.output out.old) (K.output out.new)) result }
+    ensures calls { MayTalk S.pulled K.output (silently (save_meaning (rules dictionary)
+        (named_relations tables.now.relations.now))) [] out.old script.old script.new result }
 {
     let mut steps = Steps::<L>::new(blank);
     match WatchedSession::<Recalc>::new(alloc, dictionary) {
-        Ok(mut watched) => {
-            let status = save_session(alloc, &mut watched, tables, script, out, &mut steps);
-            drop(watched);
+        Ok(handler) => {
+            let mut silenced = Silenced { handler };
+            let status = save_session(alloc, &mut silenced, tables, script, out, &mut steps);
+            drop(silenced);
             status
         }
         Err(NoMemory) => Status::NoMemory,
@@ -109,7 +115,7 @@ fn save_over<L: Ledger, S: Source, K: Sink>(
 }
 
 /// Runs a script over a dictionary without its replies, and writes the answers that stand at its end.
-pub fn run_and_save<H: Shelf, S: Source, K: Sink>(
+pub fn run_and_save<H: Shelf<S, K>, S: Source<K>, K: Sink>(
     alloc: Global,
     origin: Origin<'_>,
     checks: &CheckTable,
@@ -122,9 +128,11 @@ pub fn run_and_save<H: Shelf, S: Source, K: Sink>(
         (named_checks checks.now) (named_relations table.now) (H.files shelf.old) (S.input script.old))
         (did_by (H.files shelf.old) (H.files shelf.new) (S.input script.old) (S.input script.new) (K.output out.old)
         (K.output out.new)) result }
-    ensures calls { CallsForDictionary H.fetched (origin_of origin.entry) shelf.old shelf.new }
+    ensures calls { (words : List (List ℕ)) → CallsForSave H.fetched S.pulled K.output (given_with words
+        (named_checks checks.now) (named_relations table.now) (H.files shelf.old) (S.input script.old))
+        (origin_of origin.entry) result shelf.old shelf.new script.old script.new out.old }
 {
-    match obtain(alloc, origin, checks, shelf) {
+    match obtain(alloc, origin, checks, shelf, script, out) {
         Ok(Fetched::Accepted(dictionary)) => {
             let tables = Tables {
                 checks,

@@ -1,5 +1,5 @@
 // Runs a script, while it is read.
-ghost use Rattle.std.specs.Prelude.{◌≡◌, ◌≤◌, ◌<◌, ◌+◌, ◌^◌};
+ghost use Rattle.std.specs.Prelude.{◌≡◌, ◌≢◌, ◌≤◌, ◌<◌, ◌+◌, ◌^◌, true};
 ghost use Rattle.text_checks.specs.Tables.{named_checks};
 ghost use Rattle.fact_watch.specs.Tables.{named_relations};
 ghost use Rattle.script_lines.specs.Lines.{script_lines};
@@ -8,7 +8,10 @@ ghost use Rattle.interview.specs.Meanings.{IsBeginning, Meaning};
 ghost use Rattle.interview.specs.Save.{LeavesAnswers};
 ghost use Rattle.interview.specs.ScriptEnds.{ScriptEnds, ending_of, script_did};
 ghost use Rattle.interview.specs.StepsOfScript.{StepsWithin};
+ghost use Rattle.interview.specs.Talk.{Talk};
 ghost use Rattle.interview.specs.Telling.{LineOutputAs};
+ghost use Rattle.interview.specs.declared.status.Status.TheVariants.{WriteFault};
+ghost use Rattle.session_lines.specs.declared.progress.Progress.TheVariants.{Unwritten};
 
 use crate::Status;
 use crate::line_handler::LineHandler;
@@ -41,6 +44,9 @@ fn finish<T: LineHandler, L: Ledger, K: Sink>(
         (T.stands handler.new) (script_lines lines.old.so_far) result }
     ensures same_rules { T.goes_by handler.new ≡ T.goes_by handler.old }
     ensures later { (K.output out.old).faults ≤ (K.output out.new).faults }
+    ensures quiet { T.is_quiet ≡ true → out.new ≡ out.old }
+    ensures unfailing { T.is_quiet ≡ true → (m : Meaning) → T.means handler.old (named_relations tables.now.relations.now) m
+        → result ≢ Unwritten }
     ensures steps { (m : Meaning) → T.means handler.old (named_relations tables.now.relations.now) m → steps.new ≤ steps.old + m.steps T.most
         (script_lines lines.old.so_far) }
 {
@@ -62,7 +68,7 @@ fn status_at_end(progress: Progress) -> Status
 /// Runs a script, of which nothing was answered yet. It is read in pieces, and each line is answered before the next piece. Its
 /// steps are at most those that the lines mean: of a session the engine's bound for each change that is accepted, at a desk also for
 /// one that the session would accept and the desk refuses.
-pub fn run<T: LineHandler, L: Ledger, S: Source, K: Sink>(
+pub fn run<T: LineHandler, L: Ledger, S: Source<K>, K: Sink>(
     alloc: Global,
     handler: &mut T,
     tables: &Tables<'_>,
@@ -78,6 +84,10 @@ pub fn run<T: LineHandler, L: Ledger, S: Source, K: Sink>(
         result }
     ensures leaves { (m : Meaning) → IsBeginning m → T.means handler.old (named_relations tables.now.relations.now) m
         → LeavesAnswers m (S.input script.old).left (T.stands handler.new) result }
+    ensures calls { (m : Meaning) → IsBeginning m → T.means handler.old (named_relations tables.now.relations.now) m
+        → Talk S.pulled K.output m out.old script.old script.new result }
+    ensures quiet { T.is_quiet ≡ true → out.new ≡ out.old }
+    ensures unfailing { T.is_quiet ≡ true → result ≢ WriteFault }
     ensures same_rules { T.goes_by handler.new ≡ T.goes_by handler.old }
     ensures steps { (m : Meaning) → IsBeginning m → T.means handler.old (named_relations tables.now.relations.now) m → StepsWithin T.most m
         (S.input script.old).left (S.input script.new).left steps.old steps.new }
@@ -87,7 +97,7 @@ pub fn run<T: LineHandler, L: Ledger, S: Source, K: Sink>(
     let mut buf = [0u8; BUFFER];
     while taken < LIMIT {
         let room = BUFFER.min(LIMIT - taken);
-        match script.pull(&mut buf[..room]) {
+        match script.pull(out, &mut buf[..room]) {
             Ok(0) => {
                 return status_at_end(finish(alloc, handler, tables, &mut lines, out, steps));
             }
@@ -110,7 +120,7 @@ pub fn run<T: LineHandler, L: Ledger, S: Source, K: Sink>(
             Err(Failed) => return Status::ReadFault,
         }
     }
-    match script.pull(&mut buf[..1]) {
+    match script.pull(out, &mut buf[..1]) {
         Ok(0) => status_at_end(finish(alloc, handler, tables, &mut lines, out, steps)),
         Ok(_) => Status::ScriptTooLong,
         Err(Failed) => Status::ReadFault,

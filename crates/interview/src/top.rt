@@ -2,18 +2,19 @@
 ghost use Rattle.std.specs.Prelude.{◌≡◌, ◌<◌, ℕ, true, List};
 ghost use Rattle.answers.specs.Meaning.{answered};
 ghost use Rattle.text_checks.specs.Tables.{named_checks};
-ghost use Rattle.dictionary.specs.Accepted.{accepted};
-ghost use Rattle.dictionary.specs.Fits.{AnswersFit};
+ghost use Rattle.dictionary.specs.Kept.{accepted};
+ghost use Rattle.dict_meaning.specs.Fits.{AnswersFit};
 ghost use Rattle.graph_session.specs.Refusals.{SameChecks};
 ghost use Rattle.graph_session.specs.Rules.{rules};
 ghost use Rattle.fact_watch.specs.Tables.{named_relations};
 ghost use Rattle.interview.specs.ScriptEnds.{script_did};
 ghost use Rattle.interview.specs.StepEnds.{Gives, RunEnds, StartEnds};
-ghost use Rattle.interview.specs.Calls.{Calls, CallsForSaved};
+ghost use Rattle.interview.specs.Calls.{Calls, CallsForSaved, TalksFrom, beside};
+ghost use Rattle.interview.specs.Talk.{MayTalk};
 ghost use Rattle.interview.specs.Ends.{Interviewed};
 ghost use Rattle.interview.specs.Given.{did_by, given_by};
 ghost use Rattle.interview.specs.Meanings.{IsBeginning, Meaning, meaning_of};
-ghost use Rattle.interview.specs.Words.{beginning_of, texts};
+ghost use Rattle.interview.specs.Words.{beginning_of};
 
 use crate::Status;
 use crate::checking::check;
@@ -42,7 +43,7 @@ use steps::Steps;
 use text_checks::CheckTable;
 
 // Writes what stands before the replies, and runs the script. Its steps are counted for nobody else.
-fn run_behind<T: LineHandler, L: Ledger, S: Source, K: Sink>(
+fn run_behind<T: LineHandler, L: Ledger, S: Source<K>, K: Sink>(
     alloc: Global,
     handler: &mut T,
     dropped: &Dropped,
@@ -58,9 +59,12 @@ fn run_behind<T: LineHandler, L: Ledger, S: Source, K: Sink>(
     requires unchanged { T.changes handler.old ≡ 0 }
     requires meant { (m : Meaning) × IsBeginning m × T.means handler.old (named_relations tables.now.relations.now) m }
     requires given { (front : List ℕ) × Gives dropped.now front }
-    ensures { (front : List ℕ) → Gives dropped.now front → (m : Meaning) → IsBeginning m → T.means handler.old
+    ensures ends { (front : List ℕ) → Gives dropped.now front → (m : Meaning) → IsBeginning m → T.means handler.old
         (named_relations tables.now.relations.now) m → StartEnds m front (script_did (S.input script.old)
         (S.input script.new) (K.output out.old) (K.output out.new)) result }
+    ensures calls { (front : List ℕ) → Gives dropped.now front → (m : Meaning) → IsBeginning m → T.means handler.old
+        (named_relations tables.now.relations.now) m → MayTalk S.pulled K.output m front out.old script.old script.new
+        result }
 {
     let mut steps = Steps::<L>::new(blank);
     match put_front(dropped, out) {
@@ -70,7 +74,7 @@ fn run_behind<T: LineHandler, L: Ledger, S: Source, K: Sink>(
 }
 
 // Runs the script by whoever answers its lines, who begins before anything is written.
-fn run_as<T: LineHandler, S: Source, K: Sink>(
+fn run_as<T: LineHandler, S: Source<K>, K: Sink>(
     alloc: Global,
     dictionary: Dictionary,
     ready: Ready,
@@ -82,9 +86,12 @@ fn run_as<T: LineHandler, S: Source, K: Sink>(
     requires same_checks { SameChecks (rules dictionary) (named_checks tables.now.checks.now) }
     requires fit { AnswersFit (accepted dictionary).tree (answered ready.answers) }
     requires given { (front : List ℕ) × Gives ready.dropped front }
-    ensures { (front : List ℕ) → Gives ready.dropped front
+    ensures ends { (front : List ℕ) → Gives ready.dropped front
         → StartEnds (T.meaning (rules dictionary) (named_relations tables.now.relations.now) (answered ready.answers)) front
         (script_did (S.input script.old) (S.input script.new) (K.output out.old) (K.output out.new)) result }
+    ensures calls { (front : List ℕ) → Gives ready.dropped front
+        → MayTalk S.pulled K.output (T.meaning (rules dictionary) (named_relations tables.now.relations.now)
+        (answered ready.answers)) front out.old script.old script.new result }
 {
     match T::begin(alloc, dictionary, ready.answers) {
         Ok(mut handler) => {
@@ -105,7 +112,7 @@ fn run_as<T: LineHandler, S: Source, K: Sink>(
 }
 
 // Runs the script over the dictionary, in the mode that the words ask for.
-fn run_by<S: Source, K: Sink>(
+fn run_by<S: Source<K>, K: Sink>(
     alloc: Global,
     mode: Mode,
     dictionary: Dictionary,
@@ -117,10 +124,13 @@ fn run_by<S: Source, K: Sink>(
     requires same_checks { SameChecks (rules dictionary) (named_checks tables.now.checks.now) }
     requires fit { AnswersFit (accepted dictionary).tree (answered ready.answers) }
     requires given { (front : List ℕ) × Gives ready.dropped front }
-    ensures { (front : List ℕ) → Gives ready.dropped front
+    ensures ends { (front : List ℕ) → Gives ready.dropped front
         → StartEnds (meaning_of (rules dictionary) mode (named_relations tables.now.relations.now)
         (answered ready.answers)) front (script_did (S.input script.old) (S.input script.new) (K.output out.old)
         (K.output out.new)) result }
+    ensures calls { (front : List ℕ) → Gives ready.dropped front
+        → MayTalk S.pulled K.output (meaning_of (rules dictionary) mode (named_relations tables.now.relations.now)
+        (answered ready.answers)) front out.old script.old script.new result }
 {
     match mode {
         Mode::Incremental => {
@@ -138,7 +148,7 @@ fn run_by<S: Source, K: Sink>(
 }
 
 // Runs the script over an accepted dictionary, from the answers that the words ask for.
-fn run_from<H: Shelf, S: Source, K: Sink>(
+fn run_from<H: Shelf<S, K>, S: Source<K>, K: Sink>(
     alloc: Global,
     mode: Mode,
     beginning: Beginning<'_>,
@@ -152,9 +162,20 @@ fn run_from<H: Shelf, S: Source, K: Sink>(
     ensures ends { RunEnds (H.files shelf.old).contents (beginning_of beginning.entry) (rules dictionary) mode
         (named_relations tables.now.relations.now) (did_by (H.files shelf.old) (H.files shelf.new) (S.input script.old)
         (S.input script.new) (K.output out.old) (K.output out.new)) result }
-    ensures calls { CallsForSaved H.fetched (beginning_of beginning.entry) shelf.old shelf.new }
+    ensures fetches { CallsForSaved (beside H.fetched script.old out.old) (beginning_of beginning.entry) shelf.old
+        shelf.new }
+    ensures pulls { TalksFrom S.pulled K.output (H.files shelf.old).contents (beginning_of beginning.entry)
+        (rules dictionary) mode (named_relations tables.now.relations.now) result script.old script.new out.old }
 {
-    match resume(alloc, beginning, &dictionary, tables.checks, shelf) {
+    match resume(
+        alloc,
+        beginning,
+        &dictionary,
+        tables.checks,
+        shelf,
+        script,
+        out,
+    ) {
         Ok(Resumed::Begins(ready)) => {
             run_by(alloc, mode, dictionary, ready, tables, script, out)
         }
@@ -175,7 +196,7 @@ fn run_from<H: Shelf, S: Source, K: Sink>(
 /// A dictionary has at most 8,388,608 bytes, a saved text and a script at most 67,108,864 each. Of the shelf a dictionary's name is
 /// fetched at most, once, and then, over an accepted dictionary, the name of a saved text, once. For a dictionary of the program's
 /// own without a saved text, for `gen N`, and for words without a form nothing is fetched: the shelf is as it was.
-pub fn interview<H: Shelf, S: Source, K: Sink>(
+pub fn interview<H: Shelf<S, K>, S: Source<K>, K: Sink>(
     alloc: Global,
     words: &[String],
     checks: &CheckTable,
@@ -187,21 +208,25 @@ pub fn interview<H: Shelf, S: Source, K: Sink>(
     ensures ends { Interviewed (given_by words.now (named_checks checks.now) (named_relations table.now)
         (H.files shelf.old) (S.input script.old)) (did_by (H.files shelf.old) (H.files shelf.new) (S.input script.old)
         (S.input script.new) (K.output out.old) (K.output out.new)) result }
-    ensures calls { Calls H.fetched (texts words.now) (named_checks checks.now) result shelf.old shelf.new }
+    ensures calls { Calls H.fetched S.pulled K.output (given_by words.now (named_checks checks.now)
+        (named_relations table.now) (H.files shelf.old) (S.input script.old)) result shelf.old shelf.new script.old
+        script.new out.old }
 {
     let tables = Tables {
         checks,
         relations: table,
     };
     match form_of(words) {
-        Form::Run(mode, origin, beginning) => match obtain(alloc, origin, checks, shelf) {
+        Form::Run(mode, origin, beginning) => match obtain(
+            alloc, origin, checks, shelf, script, out,
+        ) {
             Ok(Fetched::Accepted(dictionary)) => run_from(
                 alloc, mode, beginning, dictionary, &tables, shelf, script, out,
             ),
             Ok(Fetched::Refused(fault)) => end_by_fault(out, fault),
             Err(status) => status,
         },
-        Form::Check(name) => check(alloc, name, checks, shelf, out),
+        Form::Check(name) => check(alloc, name, checks, shelf, script, out),
         Form::Gen(n) => run_load(alloc, n, table, out),
         Form::Save(origin) => run_and_save(alloc, origin, checks, table, shelf, script, out),
         Form::Unknown => end_by(out, b"usage: interview COMMAND ARGUMENTS\n", Status::Usage),

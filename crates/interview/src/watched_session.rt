@@ -1,5 +1,5 @@
 // A session answers the lines of a script: they are those of one person.
-ghost use Rattle.std.specs.Prelude.{◌≡◌, ◌<◌, true, IfOk};
+ghost use Rattle.std.specs.Prelude.{◌≡◌, ◌<◌, true, false, IfOk};
 ghost use Rattle.answers.specs.Answered.{start};
 ghost use Rattle.graph_session.specs.Rules.{rules};
 ghost use Rattle.session_lines.specs.Answering.{line_state_of};
@@ -44,6 +44,8 @@ impl<E: FactEngine> WatchedSession<E> {
 
 impl<E: FactEngine> LineHandler for WatchedSession<E> {
     ghost can_begin = { true };
+
+    ghost is_quiet = { false };
 
     ghost meaning = { λ r relations a. of_answers r E.STAMPS relations a };
 

@@ -1,5 +1,4 @@
 use Rattle.std.proofs.Common.{Err, Ok, inl, refl, sym, ◌∙◌}
-use Rattle.dictionary.specs.Accepted.{accepted}
 use Rattle.dictionary.proofs.FirstLaws.{accepted_has_none}
 use Rattle.interview.proofs.CheckLaws.{refused_for}
 use Rattle.interview.proofs.fetching.fetch.Goals as goal
@@ -14,7 +13,7 @@ pub returns-in-Err-Failed-clause-by_calls : goal.returns-in-Err-Failed-clause-by
 returns-in-Err-Failed-clause-by_calls g c = inl (Err c.in-Err-Failed.field-0, c.in-Err-Failed.ensures.call, λ is. is)
 
 pub returns-in-Ok-accept_named-clause-by_calls : goal.returns-in-Ok-accept_named-clause-by_calls
-returns-in-Ok-accept_named-clause-by_calls g c = (Ok c.in-Ok.bytes, c.in-Ok.ensures.call, (accepted c.in-Ok-accept_named.dictionary, rw c.as_slice.ensures.value at c.in-Ok-accept_named.ensures.is_accepted))
+returns-in-Ok-accept_named-clause-by_calls g c = (c.in-Ok.bytes, c.in-Ok.ensures.call, (rw c.as_slice.ensures.value at c.in-Ok-accept_named.ensures.is_accepted, c.in-Ok-accept_named.ensures.checks))
 
 pub returns : goal.returns
 returns g c =

@@ -20,7 +20,7 @@ returns-in-Ok g c = record {
   kept = refl;
   later = omega arith;
   calls = rw c.in-BuiltIn.is refl;
-  by_calls = rw c.in-BuiltIn.is refl;
+  by_calls = rw c.in-BuiltIn.is (refl, c.in-Ok.ensures.accepted);
 }
 
 pub returns-in-Err-clause-calls : goal.returns-in-Err-clause-calls

@@ -12,6 +12,7 @@ loop-rest-init g c = record {
   same_rules = refl;
   few = omega arith;
   later = omega arith;
+  quiet = λ q. refl;
 }
 
 pub loop-rest-preserved : goal.loop-rest-preserved
@@ -36,6 +37,7 @@ loop-rest-preserved g c =
           let some : 0 < length c.loop-rest.rest.now = search the_rules in
           omega (arith, c.loop-rest.invariant.few, c.answer_ready.ensures.few, c.feed-fed.ensures.some some, c.feed-fed.ensures.taken, length-take {A = ℕ}, length-drop c.feed-fed.result.taken c.loop-rest.rest.now);
       later = omega (arith, c.loop-rest.invariant.later, c.answer_ready.ensures.later);
+      quiet = λ q. c.answer_ready.ensures.quiet q ∙ c.loop-rest.invariant.quiet q;
     }
 
 pub returns-in-Over-clause-output : goal.returns-in-Over-clause-output
@@ -106,3 +108,26 @@ pub returns-clause-steps : goal.returns-clause-steps
 returns-clause-steps g c = λ m begins means.
     let so_far = c.loop-rest.invariant.output m begins means in
     omega (arith, so_far.4)
+
+pub returns-in-Over-clause-quiet : goal.returns-in-Over-clause-quiet
+returns-in-Over-clause-quiet g c = λ q. c.answer_ready.ensures.quiet q ∙ c.loop-rest.invariant.quiet q
+
+pub returns-in-Unwritten-clause-quiet : goal.returns-in-Unwritten-clause-quiet
+returns-in-Unwritten-clause-quiet g c = λ q. c.answer_ready.ensures.quiet q ∙ c.loop-rest.invariant.quiet q
+
+pub returns-in-OutOfMemory-clause-quiet : goal.returns-in-OutOfMemory-clause-quiet
+returns-in-OutOfMemory-clause-quiet g c = λ q. c.answer_ready.ensures.quiet q ∙ c.loop-rest.invariant.quiet q
+
+pub returns-in-Over-clause-unfailing : goal.returns-in-Over-clause-unfailing
+returns-in-Over-clause-unfailing g c = λ q m begins means e. cc
+
+pub returns-in-Unwritten-clause-unfailing : goal.returns-in-Unwritten-clause-unfailing
+returns-in-Unwritten-clause-unfailing g c = λ q m begins means e.
+    let so_far = c.loop-rest.invariant.output m begins means in
+    c.in-Unwritten.ensures.unfailing q so_far.0 so_far.1 refl
+
+pub returns-in-OutOfMemory-clause-unfailing : goal.returns-in-OutOfMemory-clause-unfailing
+returns-in-OutOfMemory-clause-unfailing g c = λ q m begins means e. cc
+
+pub returns-clause-unfailing : goal.returns-clause-unfailing
+returns-clause-unfailing g c = λ q m begins means e. cc

@@ -1,4 +1,4 @@
-use Rattle.std.proofs.Common.{◌≡◌, ◌+◌, ◌≤◌, [], ◌++◌, length}
+use Rattle.std.proofs.Common.{◌≡◌, ◌+◌, ◌≤◌, true, [], ◌++◌, length}
 use Rattle.fact_watch.specs.Tables.{named_relations}
 use Rattle.script_lines.specs.Lines.{HasNoNewline, ended_lines}
 use Rattle.interview.specs.Meanings.{IsBeginning, Meaning}
@@ -15,6 +15,7 @@ invariant-loop-rest g l = record {
   same_rules : g.T.LineHandler.goes_by l.handler ≡ g.T.LineHandler.goes_by l.fn.handler;
   few : g.T.LineHandler.changes l.handler + length l.rest ≤ g.T.LineHandler.changes l.fn.handler + length l.fn.bytes;
   later : (g.K.Sink.output l.fn.out).faults ≤ (g.K.Sink.output l.out).faults;
+  quiet : g.T.LineHandler.is_quiet ≡ true → l.out ≡ l.fn.out;
 }
 
 abbrev pub decreases-loop-rest : goal.decreases-loop-rest

@@ -1,5 +1,9 @@
-use Rattle.std.proofs.Common.{refl}
+use Rattle.std.proofs.Common.{inl, inr, refl}
+use Rattle.text_checks.specs.Tables.{named_checks}
+use Rattle.graph_session.specs.Rules.{rules}
+use Rattle.interview.specs.Calls.{beside}
 use Rattle.interview.specs.Given.{did_by}
+use Rattle.interview.proofs.CallLaws.{in_vain}
 use Rattle.interview.proofs.SaveLaws.{save_ends_refused, save_ends_run, save_ends_unobtained}
 use Rattle.interview.proofs.save_run.run_and_save.Goals as goal
 
@@ -8,7 +12,7 @@ returns-in-Ok-Accepted g c =
     let had = rw c.in-Ok-Accepted.field-0-is at c.in-Ok-Accepted.ensures.obtained in
     record {
       ends = λ words asked. save_ends_run _ (did_by (g.H.Shelf.files c.args.shelf.now) (g.H.Shelf.files c.obtain.new.shelf) (g.S.Source.input c.args.script.now) (g.S.Source.input c.save_over.new.script) (g.K.Sink.output c.args.out.now) (g.K.Sink.output c.save_over.new.out)) _ asked had.0 had.1 _ had.2 c.save_over.result c.save_over.ensures.saves;
-      calls = c.obtain.ensures.calls;
+      calls = λ words. inl (rules c.in-Ok-Accepted.dictionary, rw c.in-Ok-Accepted.field-0-is at c.in-Ok-Accepted.ensures.by_calls, c.save_over.ensures.calls);
     }
 
 pub returns-in-Ok-Refused : goal.returns-in-Ok-Refused
@@ -16,11 +20,11 @@ returns-in-Ok-Refused g c =
     let had = rw c.in-Ok-Refused.field-0-is at c.in-Ok-Refused.ensures.obtained in
     record {
       ends = λ words asked. save_ends_refused _ (did_by (g.H.Shelf.files c.args.shelf.now) (g.H.Shelf.files c.obtain.new.shelf) (g.S.Source.input c.args.script.now) (g.S.Source.input c.args.script.now) (g.K.Sink.output c.args.out.now) (g.K.Sink.output c.end_by_fault.new.out)) _ asked had.0 had.1 _ had.2 (refl, refl) c.end_by_fault.result c.end_by_fault.ensures;
-      calls = c.obtain.ensures.calls;
+      calls = λ words. inr (inl (rw c.in-Ok-Refused.field-0-is at c.in-Ok-Refused.ensures.by_calls), refl);
     }
 
 pub returns-in-Err : goal.returns-in-Err
 returns-in-Err g c = record {
   ends = λ words asked. save_ends_unobtained _ (did_by (g.H.Shelf.files c.args.shelf.now) (g.H.Shelf.files c.obtain.new.shelf) (g.S.Source.input c.args.script.now) (g.S.Source.input c.args.script.now) (g.K.Sink.output c.args.out.now) (g.K.Sink.output c.args.out.now)) _ asked c.in-Err.status refl (refl, refl) c.in-Err.ensures.not_obtained;
-  calls = c.obtain.ensures.calls;
+  calls = λ words. inr (in_vain (beside g.H.Shelf.fetched c.args.script.now c.args.out.now) (named_checks c.args.checks.now) _ c.in-Err.status c.args.shelf.now c.obtain.new.shelf c.in-Err.ensures.by_calls c.obtain.ensures.calls, refl);
 }

@@ -2,7 +2,7 @@ use Rattle.std.proofs.Common.{◌≡◌, inl, refl, subst}
 use Rattle.std.specs.Io.KnownBytes.{Appends}
 use Rattle.fg_io.proofs.SentLaws.{sent_whole}
 use Rattle.answers.specs.Meaning.{answered}
-use Rattle.dictionary.specs.Accepted.{accepted}
+use Rattle.dictionary.specs.Kept.{accepted}
 use Rattle.save_file.specs.SavedText.{saved}
 use Rattle.interview.proofs.save_run.save_answers.Goals as goal
 

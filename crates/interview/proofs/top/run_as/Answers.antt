@@ -1,4 +1,4 @@
-use Rattle.std.proofs.Common.{refl}
+use Rattle.std.proofs.Common.{inl, refl}
 use Rattle.fact_watch.specs.Tables.{named_relations}
 use Rattle.answers.specs.Meaning.{answered}
 use Rattle.graph_session.specs.Rules.{rules}
@@ -20,9 +20,13 @@ pub run_behind-status-requires-clause-given : goal.run_behind-status-requires-cl
 run_behind-status-requires-clause-given g c = c.requires.given
 
 pub returns-in-Ok : goal.returns-in-Ok
-returns-in-Ok g c = λ front gives.
+returns-in-Ok g c =
     let relations = named_relations c.args.tables.now.relations.now in
-    c.run_behind-status.ensures front gives (g.T.LineHandler.meaning (rules c.args.dictionary) relations (answered c.args.ready.answers)) (c.begin.ensures.begins relations) (c.in-Ok.ensures.meant relations)
+    let m = g.T.LineHandler.meaning (rules c.args.dictionary) relations (answered c.args.ready.answers) in
+    record {
+      ends = λ front gives. c.run_behind-status.ensures.ends front gives m (c.begin.ensures.begins relations) (c.in-Ok.ensures.meant relations);
+      calls = λ front gives. c.run_behind-status.ensures.calls front gives m (c.begin.ensures.begins relations) (c.in-Ok.ensures.meant relations);
+    }
 
 pub returns : goal.returns
-returns g c = λ front gives. ends_without _ front _ refl (refl, refl)
+returns g c = record { ends = λ front gives. ends_without _ front _ refl (refl, refl); calls = λ front gives. inl refl }

@@ -1,4 +1,5 @@
-use Rattle.std.proofs.Common.{refl}
+use Rattle.std.proofs.Common.{inl, inr, refl}
+use Rattle.fg_io.proofs.SentLaws.{sent_whole}
 use Rattle.interview.proofs.StartLaws.{ends_before, ends_behind}
 use Rattle.interview.proofs.top.run_behind.Goals as goal
 
@@ -9,9 +10,17 @@ pub run-requires-clause-meant : goal.run-requires-clause-meant
 run-requires-clause-meant g c = c.requires.meant
 
 pub returns-in-Ok : goal.returns-in-Ok
-returns-in-Ok g c = λ front gives m begins means.
-    let put = c.in-Ok.ensures front gives in
-    ends_behind m front _ (g.K.Sink.output c.put_front.new.out).taken (g.K.Sink.output c.put_front.new.out).faults c.run.result put.0 put.1 (c.run.ensures.ends m begins means)
+returns-in-Ok g c = record {
+  ends = λ front gives m begins means.
+      let put = c.in-Ok.ensures front gives in
+      ends_behind m front _ (g.K.Sink.output c.put_front.new.out).taken (g.K.Sink.output c.put_front.new.out).faults c.run.result put.0 put.1 (c.run.ensures.ends m begins means);
+  calls = λ front gives m begins means.
+      let put = c.in-Ok.ensures front gives in
+      inr (c.put_front.new.out, sent_whole _ _ front put.0, c.run.ensures.calls m begins means);
+}
 
 pub returns : goal.returns
-returns g c = λ front gives m begins means. ends_before m front _ (c.in-Err.ensures front gives) (refl, refl)
+returns g c = record {
+  ends = λ front gives m begins means. ends_before m front _ (c.in-Err.ensures front gives) (refl, refl);
+  calls = λ front gives m begins means. inl refl;
+}

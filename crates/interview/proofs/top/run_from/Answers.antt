@@ -1,4 +1,5 @@
 use Rattle.std.proofs.Common.{inl, inr, refl}
+use Rattle.interview.proofs.CallLaws.{talks_from}
 use Rattle.interview.proofs.StartLaws.{begins_and_ends}
 use Rattle.interview.proofs.top.run_from.Goals as goal
 
@@ -11,12 +12,16 @@ run_by-requires-clause-given g c = let had = rw c.in-Ok-Begins.field-0-is at c.i
 pub returns-in-Ok-Begins : goal.returns-in-Ok-Begins
 returns-in-Ok-Begins g c =
     let had = rw c.in-Ok-Begins.field-0-is at c.in-Ok-Begins.ensures.resumed in
-    record { ends = begins_and_ends _ _ _ c.args.mode _ _ c.in-Ok-Begins.ready c.run_by.result had c.run_by.ensures; calls = c.resume.ensures.calls }
+    record {
+      ends = begins_and_ends _ _ _ c.args.mode _ _ c.in-Ok-Begins.ready c.run_by.result had c.run_by.ensures.ends;
+      fetches = c.resume.ensures.calls;
+      pulls = talks_from g.S.Source.pulled g.K.Sink.output c.args.out.now c.args.script.now c.run_by.new.script _ _ _ c.args.mode _ c.run_by.result c.in-Ok-Begins.ready had c.run_by.ensures.calls;
+    }
 
 pub returns-in-Ok-Refused : goal.returns-in-Ok-Refused
 returns-in-Ok-Refused g c =
     let had = rw c.in-Ok-Refused.field-0-is at c.in-Ok-Refused.ensures.resumed in
-    record { ends = inr (inl (had.0, had.1, (c.in-Ok-Refused.line, had.2, c.end_by_refused_line.ensures, (refl, refl)))); calls = c.resume.ensures.calls }
+    record { ends = inr (inl (had.0, had.1, (c.in-Ok-Refused.line, had.2, c.end_by_refused_line.ensures, (refl, refl)))); fetches = c.resume.ensures.calls; pulls = inl refl }
 
 pub returns-in-Err : goal.returns-in-Err
-returns-in-Err g c = record { ends = inr (inr (c.in-Err.ensures.not_resumed, refl, (refl, refl))); calls = c.resume.ensures.calls }
+returns-in-Err g c = record { ends = inr (inr (c.in-Err.ensures.not_resumed, refl, (refl, refl))); fetches = c.resume.ensures.calls; pulls = inl refl }

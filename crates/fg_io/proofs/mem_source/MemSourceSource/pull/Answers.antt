@@ -4,7 +4,7 @@ use Rattle.fg_io.proofs.Cuts.{moved}
 use Rattle.fg_io.proofs.mem_source.MemSourceSource.pull.Goals as goal
 
 pub returns-clause-bytes : goal.returns-clause-bytes
-returns-clause-bytes c =
+returns-clause-bytes g c =
     let bytes = c.self.inside.bytes.items in
     let at = c.self.inside.at in
     let count = c.min-count.result in (

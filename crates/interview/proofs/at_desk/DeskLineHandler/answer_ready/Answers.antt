@@ -9,5 +9,7 @@ returns g c = record {
   same_rules = ap rules c.answer_ready.ensures.dict;
   few = c.answer_ready.ensures.few;
   later = c.answer_ready.ensures.later;
+  quiet = λ q. absurd cc;
+  unfailing = λ q. absurd cc;
   steps = λ m means. steps_output _ _ _ _ _ (c.answer_ready.ensures.steps means.0 means.1) m means.2;
 }

@@ -1,0 +1,79 @@
+-- A script that goes on: its lines so far, and the pulls by which they came.
+use Rattle.std.proofs.Common.{◌≡◌, ℕ, ◌<◌, ◌≤◌, false, List, [], ◌∷◌, ◌++◌, length, Option, inl, inr, refl, sym, ap, subst, ◌∙◌, arith}
+use Rattle.std.proofs.lemmas.List.{append-nil}
+use Rattle.std.proofs.lemmas.List.Elements.{All-nil, All-cons}
+use Rattle.std.specs.Io.KnownBytes.{Appends}
+use Rattle.fg_io.specs.Outside.{ByPull, Output, Pulled, gave, faulted}
+use Rattle.fg_io.proofs.SentLaws.{sent_whole}
+use Rattle.script_lines.specs.Lines.{ended_lines}
+use Rattle.script_lines.proofs.EndedLaws.{ready_lines_are_ended}
+use Rattle.interview.specs.declared.status.Status.{Status}
+use Rattle.interview.specs.declared.status.Status.TheVariants.{ReadFault}
+use Rattle.interview.specs.Interview.{script_limit}
+use Rattle.interview.specs.Meanings.{Meaning}
+use Rattle.interview.specs.SoFar.{AnsweredSoFar, TalkedSoFar}
+use Rattle.interview.specs.Talk.{Came, IsToGoOn, PiecesFollowReplies, PulledBehind, Talk, asked_behind}
+
+-- ---- its lines
+
+module _ (m : Meaning) (left left_now taken taken_now : Option (List ℕ)) (count : ℕ) (there : Meaning) (held : List ℕ) (so_far : AnsweredSoFar m left left_now taken taken_now count there held) where
+  pub ended_so_far : so_far.output.lines ≡ ended_lines so_far.bytes
+  ended_so_far = ready_lines_are_ended so_far.bytes held so_far.output.lines so_far.unended so_far.output.cut
+
+  -- no `quit` ended
+  pub unquit_so_far : m.over (ended_lines so_far.bytes) ≡ false
+  unquit_so_far = ap m.over (sym ended_so_far ∙ sym (append-nil so_far.output.lines)) ∙ so_far.output.left.over [] ∙ so_far.unquit
+
+  -- the replies were written whole
+  pub replied_so_far : Appends taken taken_now (m.texts (ended_lines so_far.bytes))
+  replied_so_far = subst (λ l. Appends taken taken_now (m.texts l)) ended_so_far (sent_whole taken taken_now (m.texts so_far.output.lines) so_far.output.wrote)
+
+-- ---- the pulls
+
+module _ {S K : Type 0} (pulled : ByPull S K) (output : K → Output) (m : Meaning) (out : K) (script : S) where
+  -- before the first
+  pub talked_none : TalkedSoFar pulled output m out script [] script
+  talked_none = record { pieces = []; came = refl; same = refl; unended = All-nil _ }
+
+  module _ (left left_now : Option (List ℕ)) (out_now : K) (count : ℕ) (there : Meaning) (held : List ℕ) (so_far : AnsweredSoFar m left left_now (output out).taken (output out_now).taken count there held)
+      (script_now : S) (talked : TalkedSoFar pulled output m out script so_far.bytes script_now) (short : count ≤ script_limit) where
+    goes_on : IsToGoOn output m out talked.pieces out_now
+    goes_on = record {
+      unended = talked.unended;
+      within = omega (arith, so_far.counted, ap length talked.same, short);
+      unquit = ap (λ (bytes : List ℕ). m.over (ended_lines bytes)) talked.same ∙ unquit_so_far m left left_now (output out).taken (output out_now).taken count there held so_far;
+      replied = subst (λ (bytes : List ℕ). Appends (output out).taken (output out_now).taken (m.texts (ended_lines bytes))) (sym talked.same)
+          (replied_so_far m left left_now (output out).taken (output out_now).taken count there held so_far);
+    }
+
+    module _ (room : ℕ) (script_next : S) where
+      behind : (came : Pulled) → pulled script_now out_now room came script_next → room ≡ asked_behind count → PulledBehind pulled output m out talked.pieces script_now script_next came
+      behind came call asked = record {
+        out_now = out_now;
+        goes_on = goes_on;
+        call = subst (λ (n : ℕ). pulled script_now out_now n came script_next) (asked ∙ ap asked_behind (so_far.counted ∙ ap length (sym talked.same))) call;
+      }
+
+      module _ (piece : List ℕ) (call : pulled script_now out_now room (gave piece) script_next) (asked : room ≡ asked_behind count) where
+        -- one more, which wasn't the end
+        pub talked_more : 0 < length piece → (bytes : List ℕ) → bytes ≡ so_far.bytes ++ piece → TalkedSoFar pulled output m out script bytes script_next
+        talked_more some bytes same = record {
+          pieces = piece ∷ talked.pieces;
+          came = (script_now, talked.came, behind (gave piece) call asked);
+          same = ap (λ (earlier : List ℕ). earlier ++ piece) talked.same ∙ sym same;
+          unended = All-cons (λ bytes. 0 < length bytes) piece talked.pieces some talked.unended;
+        }
+
+        -- the last
+        pub talk_ends : (status : Status) → Talk pulled output m out script script_next status
+        talk_ends status = record { pieces = piece ∷ talked.pieces; between = script_next; came = (script_now, talked.came, behind (gave piece) call asked); last = inl refl }
+
+      -- it failed
+      pub talk_fails : pulled script_now out_now room faulted script_next → room ≡ asked_behind count → Talk pulled output m out script script_next ReadFault
+      talk_fails call asked = record { pieces = talked.pieces; between = script_now; came = talked.came; last = inr (refl, behind faulted call asked) }
+
+-- ---- each piece
+
+pub pieces_follow_replies : {S K : Type 0} (pulled : ByPull S K) (output : K → Output) → PiecesFollowReplies pulled output
+pieces_follow_replies pulled output m out script script_now [] piece earlier came = (came.2.out_now, came.2.goes_on)
+pieces_follow_replies pulled output m out script script_now (last ∷ later) piece earlier came = pieces_follow_replies pulled output m out script came.0 later piece earlier came.1

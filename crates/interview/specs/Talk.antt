@@ -1,0 +1,72 @@
+-- The talk with a script, pull by pull: what stood at each pull, and what came of it. What a source says of a pull is `pulled`: it leads
+-- from the source before to the source after only by a call with this sink, for so many bytes, which came to this. So where a source
+-- came to another by these pulls, it was called so, in this order, and not else, and the sinks are those that stood.
+use Rattle.std.specs.Prelude.{◌≡◌, ◌⊎◌, ℕ, ◌-◌, ◌<◌, ◌≤◌, min, max, false, List, [], ◌∷◌, ◌++◌, All, length}
+use Rattle.std.specs.Io.KnownBytes.{Appends}
+use Rattle.fg_io.specs.Outside.{ByPull, Output, Pulled, gave, faulted}
+use Rattle.script_lines.specs.Lines.{ended_lines}
+use Rattle.interview.specs.declared.status.Status.{Status}
+use Rattle.interview.specs.declared.status.Status.TheVariants.{ReadFault}
+use Rattle.interview.specs.Interview.{script_limit}
+use Rattle.interview.specs.Meanings.{Meaning}
+use Rattle.interview.specs.ScriptEnds.{piece_limit}
+
+-- ---- the pieces that came
+
+-- the newest stands first, and these are their bytes, in order
+abbrev pub bytes_of : List (List ℕ) → List ℕ
+bytes_of [] = []
+bytes_of (piece ∷ earlier) = bytes_of earlier ++ piece
+
+-- how many bytes are asked for behind so many: a piece, within the limit, and at the limit one, to see whether more comes
+abbrev pub asked_behind : ℕ → ℕ
+asked_behind count = max 1 (min piece_limit (script_limit - count))
+
+-- ---- one pull
+
+-- The script goes on behind these pieces, where the sink stands so: none of them was the end, they keep within the limit, no `quit` ended
+-- in them, and the replies to all lines that ended in them were put whole.
+pub record IsToGoOn {K : Type 0} (output : K → Output) (m : Meaning) (out : K) (pieces : List (List ℕ)) (out_now : K) : Type 0 where
+  pub unended : All (λ piece. 0 < length piece) pieces
+  pub within : length (bytes_of pieces) ≤ script_limit
+  pub unquit : m.over (ended_lines (bytes_of pieces)) ≡ false
+  pub replied : Appends (output out).taken (output out_now).taken (m.texts (ended_lines (bytes_of pieces)))
+
+-- behind these pieces the script was pulled, once, and it came to this
+pub record PulledBehind {S K : Type 0} (pulled : ByPull S K) (output : K → Output) (m : Meaning) (out : K) (pieces : List (List ℕ)) (script script_now : S) (came : Pulled) : Type 0 where
+  pub out_now : K
+  pub goes_on : IsToGoOn output m out pieces out_now
+  pub call : pulled script out_now (asked_behind (length (bytes_of pieces))) came script_now
+
+-- ---- all of them
+
+-- these pieces came of the script, one at each pull
+abbrev pub Came : {S K : Type 0} → ByPull S K → (K → Output) → Meaning → K → S → List (List ℕ) → S → Type 0
+Came pulled output m out script [] script_now = script_now ≡ script
+Came {S} pulled output m out script (piece ∷ earlier) script_now =
+    (between : S) × Came pulled output m out script earlier between × PulledBehind pulled output m out earlier between script_now (gave piece)
+
+-- These are all pulls, but for a last one that failed. The sink stood so before the first reply.
+pub record Talk {S K : Type 0} (pulled : ByPull S K) (output : K → Output) (m : Meaning) (out : K) (script script_now : S) (status : Status) : Type 0 where
+  pub pieces : List (List ℕ)
+  pub between : S
+  pub came : Came pulled output m out script pieces between
+  pub last : (script_now ≡ between) ⊎ ((status ≡ ReadFault) × PulledBehind pulled output m out pieces between script_now faulted)
+
+-- a text was put whole, and then the talk began
+abbrev pub TalkBehind : {S K : Type 0} → ByPull S K → (K → Output) → Meaning → List ℕ → K → S → S → Status → Type 0
+TalkBehind {S} {K} pulled output m front out script script_now status =
+    (begun : K) × Appends (output out).taken (output begun).taken front × Talk pulled output m begun script script_now status
+
+-- or the script wasn't pulled
+abbrev pub MayTalk : {S K : Type 0} → ByPull S K → (K → Output) → Meaning → List ℕ → K → S → S → Status → Type 0
+MayTalk pulled output m front out script script_now status = (script_now ≡ script) ⊎ TalkBehind pulled output m front out script script_now status
+
+-- ---- laws
+
+-- Wherever in a talk a piece came, the script was to go on behind those before it, and the sink stood so: their replies had been put.
+-- So no piece came behind the end, or behind the one in which `quit` ended.
+abbrev pub PiecesFollowReplies : {S K : Type 0} → ByPull S K → (K → Output) → Type 0
+PiecesFollowReplies {S} {K} pulled output =
+    (m : Meaning) (out : K) (script script_now : S) (later : List (List ℕ)) (piece : List ℕ) (earlier : List (List ℕ))
+    → Came pulled output m out script (later ++ (piece ∷ earlier)) script_now → (out_now : K) × IsToGoOn output m out earlier out_now
