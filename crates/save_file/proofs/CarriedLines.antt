@@ -1,16 +1,12 @@
 -- The lines of a carried text, each by itself and behind others.
-use Rattle.std.proofs.Common.{Bool, Err, List, None, Ok, Some, [], ap, append_assoc, arith, false, filter, inl, inr, length, length-append, map, refl, subst, sym, ℕ, ◌++◌, ◌+◌, ◌<◌, ◌||◌, ◌∙◌, ◌∷◌, ◌≡◌, ◌≢◌, ◌≤◌, ◌⊎◌}
+use Rattle.std.proofs.Common.{Bool, Err, List, None, Ok, Some, [], ap, append_assoc, arith, false, filter, inr, length, length-append, map, refl, subst, sym, ℕ, ◌++◌, ◌+◌, ◌<◌, ◌||◌, ◌∙◌, ◌∷◌, ◌≡◌, ◌≢◌, ◌≤◌}
+use Rattle.save_file.proofs.Common.{All-tail, AllByRecursion, Answer, BadLine, BeginsOther, CarriedLine, EntryLine, Global, HasItsForm, HasNoNewline, IsBelowNext, IsCarried, IsInOrder, IsMemberList, IsMemberNumber, IsName, IsShort, IsSlotPath, IsUtf8, Lacks, LineFault, MayFollow, Member, NamesOther, NoMemory, Override, Pairs, ReadsLine, ReadsMembers, ReadsName, ReadsPath, SharesNone, Side, SlotPath, SpellsSlotPath, codes, collection, cut, cut-append, cut_some, end_line, entry, filter-append, front_lacks, has_its_member, is_collection, key_text, line_text, list_any, list_any-append, lists_member, name_lacks_blank, none-some, one_path_from, or_left, printed_rest, rank, side_word, slot_lacks_blank, slot_path_reading, slot_path_text}
 use Rattle.std.specs.Prelude.{IsTrue, string_bytes}
-use Rattle.std.specs.Str.{IsUtf8}
-use Rattle.save_file.proofs.Common.{All-tail, AllByRecursion, Answer, BadLine, CarriedLine, EntryLine, Global, HasItsForm, HasNoNewline, IsBelowNext, IsCarried, IsInOrder, IsMemberList, IsMemberNumber, IsName, IsShort, IsSlotPath, Lacks, LineFault, MayFollow, Member, NamesOther, Override, Pairs, ReadsLine, ReadsMembers, ReadsName, ReadsPath, SharesNone, Side, SlotPath, SpellsSlotPath, codes, collection, cut, cut-append, cut_some, end_line, filter-append, front_lacks, has_its_member, is_collection, key_text, line_of_entry, line_of_list, line_text, list_any, list_any-append, lists_member, none-some, or_left, printed_rest, rank, side_word, slot_lacks_blank, slot_path_reading, slot_path_text}
-use Rattle.fact_paths.proofs.ParsingLaws.{one_path_from}
 use Rattle.fact_paths.specs.Parsing.{slot_path_of}
-use Rattle.save_file.proofs.Lines.{cons_parts, first, never_empty}
+use Rattle.save_file.proofs.Lines.{cons_parts, first}
 use Rattle.save_file.proofs.SlotTexts.{Tail, members_numbered, numbers_of, same_behind, same_members, same_parts, tail_of}
-use Rattle.save_file.proofs.TextLaws.{all-append, next_one}
-use Rattle.save_file.specs.CarriedText.{entry}
-use Rattle.script_lines.proofs.PartLaws.{name_lacks_blank}
-use Rattle.script_lines.specs.declared.fault.LineFault.TheVariants.{NoMemory}
+use Rattle.save_file.proofs.TextLaws.{all-append, in_front as in_front_of, next_one}
+use Rattle.save_file.specs.declared.carried_line.TextLine.TheVariants.{Entry as entry_line}
 
 -- ==== lines of different kinds of a carried text
 
@@ -111,40 +107,20 @@ same_line (entry side p t) (entry k q u) is other e =
 
 -- ---- lines behind others
 
--- a text that begins with these lines is at its last line, or has another line
-pub goes_on : (before xs : List CarriedLine) (line : List ℕ) (more : List (List ℕ)) → AllByRecursion HasItsForm before → AllByRecursion HasItsForm xs
-    → map line_text xs ++ end_line ∷ [] ≡ map line_text before ++ line ∷ more
-    → (line ≡ end_line) ⊎ ((l : CarriedLine) × (rest : List CarriedLine) × (xs ≡ before ++ l ∷ rest) × (line_text l ≡ line))
-goes_on [] [] line more forms all e = inl (sym (cons_parts end_line line [] more e).0)
-goes_on [] (x ∷ xs) line more forms all e = inr (x, xs, refl, (cons_parts (line_text x) line (map line_text xs ++ end_line ∷ []) more e).0)
-goes_on (b ∷ before) [] line more forms all e = absurd (no_end b (sym (cons_parts end_line (line_text b) [] (map line_text before ++ line ∷ more) e).0))
-goes_on (b ∷ before) (x ∷ xs) line more forms all e = at (goes_on before xs line more forms.1 all.1 parts.1)
-  where
-    parts : (line_text x ≡ line_text b) × (map line_text xs ++ end_line ∷ [] ≡ map line_text before ++ line ∷ more)
-    parts = cons_parts (line_text x) (line_text b) (map line_text xs ++ end_line ∷ []) (map line_text before ++ line ∷ more) e
+-- a text that begins with the texts of lines begins with these lines
+pub begins_with : (before xs : List CarriedLine) (more : List (List ℕ)) → AllByRecursion HasItsForm before → AllByRecursion HasItsForm xs → map line_text xs ++ end_line ∷ [] ≡ map line_text before ++ more
+    → (rest : List CarriedLine) × (xs ≡ before ++ rest) × (map line_text rest ++ end_line ∷ [] ≡ more)
+begins_with [] xs more forms all e = (xs, refl, e)
+begins_with (b ∷ before) [] more forms all e = absurd (no_end b (sym (cons_parts end_line (line_text b) [] (map line_text before ++ more) e).0))
+begins_with (b ∷ before) (x ∷ xs) more forms all e =
+    let parts = cons_parts (line_text x) (line_text b) (map line_text xs ++ end_line ∷ []) (map line_text before ++ more) e in
+    let rest = begins_with before xs more forms.1 all.1 parts.1 in
+    (rest.0, ap (λ (y : CarriedLine). y ∷ xs) (same_line x b all.0 forms.0 parts.0) ∙ ap (λ (ys : List CarriedLine). b ∷ ys) rest.1, rest.2)
 
-    same : x ≡ b
-    same = same_line x b all.0 forms.0 parts.0
-
-    at : (line ≡ end_line) ⊎ ((l : CarriedLine) × (rest : List CarriedLine) × (xs ≡ before ++ l ∷ rest) × (line_text l ≡ line))
-        → (line ≡ end_line) ⊎ ((l : CarriedLine) × (rest : List CarriedLine) × (x ∷ xs ≡ b ∷ (before ++ l ∷ rest)) × (line_text l ≡ line))
-    at (inl last) = inl last
-    at (inr found) = inr (found.0, found.1, ap (λ (y : CarriedLine). y ∷ xs) same ∙ ap (λ (ys : List CarriedLine). b ∷ ys) found.2, found.3)
-
--- and these lines alone are none
-pub no_whole : (before xs : List CarriedLine) → map line_text xs ++ end_line ∷ [] ≡ map line_text before → ⊥
-no_whole [] xs e = never_empty (map line_text xs) end_line e
-no_whole (b ∷ before) [] e = no_end b (sym (cons_parts end_line (line_text b) [] (map line_text before) e).0)
-no_whole (b ∷ before) (x ∷ xs) e = no_whole before xs (cons_parts (line_text x) (line_text b) (map line_text xs ++ end_line ∷ []) (map line_text before) e).1
-
--- so are those of lines
-pub same_lines : (xs ys : List CarriedLine) → AllByRecursion HasItsForm xs → AllByRecursion HasItsForm ys → map line_text xs ++ end_line ∷ [] ≡ map line_text ys ++ end_line ∷ [] → xs ≡ ys
-same_lines [] [] is other e = refl
-same_lines [] (y ∷ ys) is other e = absurd (no_end y (sym (cons_parts end_line (line_text y) [] (map line_text ys ++ end_line ∷ []) e).0))
-same_lines (x ∷ xs) [] is other e = absurd (no_end x (cons_parts (line_text x) end_line (map line_text xs ++ end_line ∷ []) [] e).0)
-same_lines (x ∷ xs) (y ∷ ys) is other e =
-    let parts = cons_parts (line_text x) (line_text y) (map line_text xs ++ end_line ∷ []) (map line_text ys ++ end_line ∷ []) e in
-    ap (λ (l : CarriedLine). l ∷ xs) (same_line x y is.0 other.0 parts.0) ∙ ap (λ (ls : List CarriedLine). y ∷ ls) (same_lines xs ys is.1 other.1 parts.1)
+-- behind the last line comes none
+pub none_behind_end : (xs : List CarriedLine) (more : List (List ℕ)) → map line_text xs ++ end_line ∷ [] ≡ end_line ∷ more → (xs ≡ []) × (more ≡ [])
+none_behind_end [] more e = (refl, sym (cons_parts end_line end_line [] more e).1)
+none_behind_end (x ∷ xs) more e = absurd (no_end x (cons_parts (line_text x) end_line (map line_text xs ++ end_line ∷ []) more e).0)
 
 -- ==== how a line of a carried text is read
 
@@ -156,7 +132,7 @@ none_there (b ∷ front) back all = none_there front back (All-tail (λ c. c ≢
 -- ---- lists
 
 module _ (name : List ℕ) (lacks : Lacks 32 name) where
-  pub bad_name : (tail : List ℕ) → Tail tail → (fault : LineFault) → ReadsName name (Err fault) → ReadsLine line_of_list (codes "list /" ++ (name ++ tail)) (Err fault)
+  pub bad_name : (tail : List ℕ) → Tail tail → (fault : LineFault) → ReadsName name (Err fault) → ReadsLine (codes "list /" ++ (name ++ tail)) (Err fault)
   bad_name tail is_tail NoMemory bad = tt
   bad_name tail is_tail BadLine bad = none
     where
@@ -164,7 +140,7 @@ module _ (name : List ℕ) (lacks : Lacks 32 name) where
       none (collection n ms) form e = bad (let same = (list_parts n ms name tail form.0 lacks is_tail e).0 in subst (λ (x : List ℕ). HasItsForm (collection x ms)) same form).0
       none (entry side path text) form e = no_entry side path text (name ++ tail) e
 
-  pub bad_list : (found : List ℕ) → AllByRecursion IsMemberNumber found → ¬ IsMemberList found → ReadsLine line_of_list (codes "list /" ++ (name ++ printed_rest found)) (Err BadLine)
+  pub bad_list : (found : List ℕ) → AllByRecursion IsMemberNumber found → ¬ IsMemberList found → ReadsLine (codes "list /" ++ (name ++ printed_rest found)) (Err BadLine)
   bad_list found numbers bad = none
     where
       none : (line : CarriedLine) → HasItsForm line → line_text line ≢ codes "list /" ++ (name ++ printed_rest found)
@@ -172,7 +148,7 @@ module _ (name : List ℕ) (lacks : Lacks 32 name) where
           bad (subst IsMemberList (same_members ms found (numbers_of ms (members_numbered ms form.1)) numbers (list_parts n ms name (printed_rest found) form.0 lacks (tail_of found) e).1) form.1)
       none (entry side path text) form e = no_entry side path text (name ++ printed_rest found) e
 
-pub bad_members : (text name behind : List ℕ) → cut 32 text ≡ Some (name, behind) → (fault : LineFault) → ReadsMembers (32 ∷ behind) (Err fault) → ReadsLine line_of_list (codes "list /" ++ text) (Err fault)
+pub bad_members : (text name behind : List ℕ) → cut 32 text ≡ Some (name, behind) → (fault : LineFault) → ReadsMembers (32 ∷ behind) (Err fault) → ReadsLine (codes "list /" ++ text) (Err fault)
 bad_members text name behind parts NoMemory bad = tt
 bad_members text name behind parts BadLine bad = none
   where
@@ -185,7 +161,7 @@ bad_members text name behind parts BadLine bad = none
 -- ---- entries
 
 module _ (side : Side) (text : List ℕ) where
-  pub no_value : cut 32 text ≡ None → ReadsLine line_of_entry (side_word side ++ text) (Err BadLine)
+  pub no_value : cut 32 text ≡ None → ReadsLine (side_word side ++ text) (Err BadLine)
   no_value uncut = none
     where
       none : (line : CarriedLine) → HasItsForm line → line_text line ≢ side_word side ++ text
@@ -200,7 +176,7 @@ module _ (side : Side) (text : List ℕ) where
     whole_text : side_word side ++ text ≡ side_word side ++ (path ++ 32 ∷ value)
     whole_text = ap (λ (t : List ℕ). side_word side ++ t) (cut_some 32 text path value parts)
 
-    pub bad_path : (fault : LineFault) → ReadsPath path (Err fault) → ReadsLine line_of_entry (side_word side ++ text) (Err fault)
+    pub bad_path : (fault : LineFault) → ReadsPath path (Err fault) → ReadsLine (side_word side ++ text) (Err fault)
     bad_path NoMemory bad = tt
     bad_path BadLine bad = none
       where
@@ -210,7 +186,7 @@ module _ (side : Side) (text : List ℕ) where
             let same = entry_parts k side p v path value form.0 (front_lacks 32 text path value parts) (e ∙ whole_text) in
             bad p (form.0, sym same.1)
 
-    pub entry_read : HasNoNewline text → (p : SlotPath) → SpellsSlotPath path p → IsUtf8 value → (line : EntryLine) → line.side ≡ side → line.path ≡ p → string_bytes line.text ≡ value → ReadsLine line_of_entry (side_word side ++ text) (Ok line)
+    pub entry_read : HasNoNewline text → (p : SlotPath) → SpellsSlotPath path p → IsUtf8 value → (line : EntryLine) → line.side ≡ side → line.path ≡ p → string_bytes line.text ≡ value → ReadsLine (side_word side ++ text) (Ok (entry_line line))
     entry_read none p spelled utf8 line sides paths texts = (
       subst (λ (q : SlotPath). HasItsForm (entry line.side q (string_bytes line.text))) (sym paths)
           (subst (λ (v : List ℕ). HasItsForm (entry line.side p v)) (sym texts) (spelled.0, utf8, All-tail (λ c. c ≢ 10) 32 value (none_there path (32 ∷ value) (subst HasNoNewline (cut_some 32 text path value parts) none)))),
@@ -221,6 +197,15 @@ module _ (side : Side) (text : List ℕ) where
           ∙ ap (λ (x : List ℕ). side_word side ++ (x ++ 32 ∷ value)) (sym spelled.1)
           ∙ sym whole_text,
     )
+
+-- a line that begins with none of the words is none
+pub no_word : (text : List ℕ) → BeginsOther (codes "list /") text → BeginsOther (codes "value ") text → BeginsOther (codes "override ") text → ReadsLine text (Err BadLine)
+no_word text no_list_word no_value_word no_override_word = none
+  where
+    none : (line : CarriedLine) → HasItsForm line → line_text line ≢ text
+    none (collection n ms) form e = no_list_word (n ++ printed_rest ms) (sym e)
+    none (entry Answer p t) form e = no_value_word (slot_path_text p ++ 32 ∷ t) (sym e)
+    none (entry Override p t) form e = no_override_word (slot_path_text p ++ 32 ∷ t) (sym e)
 
 -- ==== what lines of a carried text keep, with one more behind them
 
@@ -233,6 +218,10 @@ pairs-push R (x ∷ xs) y pairs all = (all-append (R x) xs (y ∷ []) pairs.0 (a
 pub pairs_before : {X : Type 0} (R : X → X → Type 0) (xs : List X) (y : X) (ys : List X) → Pairs R (xs ++ y ∷ ys) → AllByRecursion (λ x. R x y) xs
 pairs_before R [] y ys pairs = tt
 pairs_before R (x ∷ xs) y ys pairs = (next_one (R x) xs y ys pairs.0, pairs_before R xs y ys pairs.1)
+
+pub pairs_front : {X : Type 0} (R : X → X → Type 0) (xs ys : List X) → Pairs R (xs ++ ys) → Pairs R xs
+pairs_front R [] ys pairs = tt
+pairs_front R (x ∷ xs) ys pairs = (in_front_of (R x) xs ys pairs.0, pairs_front R xs ys pairs.1)
 
 pairs_behind : {X : Type 0} (R : X → X → Type 0) (xs : List X) (y : X) (ys : List X) → Pairs R (xs ++ y ∷ ys) → AllByRecursion (R y) ys
 pairs_behind R [] y ys pairs = pairs.0

@@ -1,357 +1,174 @@
 -- What one line does to what was read of a carried text.
-use Rattle.std.proofs.Common.{Bool, Err, List, None, Ok, Result, Some, [], ap, append_assoc, arith, bytes_eq, false, filter, inl, inr, length, length-append, map, nat_eq, not, refl, string_bytes, subst, suc, sym, true, ℕ, ◌&&◌, ◌++◌, ◌+◌, ◌<◌, ◌||◌, ◌∙◌, ◌∷◌, ◌≡◌, ◌≢◌, ◌≤◌, ◌⊎◌}
-use Rattle.save_file.proofs.Common.{AllByRecursion, Answer, BadLine, BeginsOther, CarriedLine, CarriedRead, CarriedText, EndsNone, EntryLine, Global, HasItsForm, IfErr, IsCarried, IsInOrder, IsNextNumber, IsShort, IsWithEntry, IsWithList, JudgesCarried, LineFault, ListLine, MayFollow, Member, NamesOther, OnOk, Override, ReadsLine, SharesNone, Side, SlotPath, Takes, TakesText, after, after-append, after_some, and_intro, append-nil, are_below, are_others, both, carried_lines, codes, collection, decimal, end_line, equal_bytes, filter-append, is_collection, is_empty, is_not, is_other_list, is_override, key_of, key_text, line_of_entry, line_of_list, line_text, list_all, list_any, list_any-append, lists_member, lists_member_of, map-append, may_enter, may_list, nat_lt, nat_tests, neither_or, new_or_fault, next_line, none-some, not_true, opening_line, or_false, or_neither, printed_rest, rank, same_Some, same_bytes, side_word, slot_path_text, text_of, texts_of}
-use Rattle.save_file.proofs.CarriedLines.{entry_up, goes_on, no_end, same_line, stands_there, with_line}
-use Rattle.save_file.proofs.Lines.{cons_not_nil, cons_parts, first}
+use Rattle.std.proofs.Common.{Bool, Err, List, None, Ok, Result, Some, [], ap, append_assoc, arith, bytes_eq, cond, false, filter, inl, inr, length, length-append, map, nat_eq, not, refl, subst, sym, true, ℕ, ◌&&◌, ◌++◌, ◌+◌, ◌<◌, ◌||◌, ◌∙◌, ◌∷◌, ◌≡◌, ◌≢◌, ◌≤◌}
+use Rattle.save_file.proofs.Common.{AllByRecursion, Answer, BadLine, CarriedLine, CarriedRead, CarriedStage, CarriedText, EndsNone, Global, HasItsForm, IfErr, IsCarried, IsCarriedStage, IsNextNumber, IsShort, IsWith, JudgesCarried, LineFault, Lines, MayFollow, Member, NamesOther, NoMemory, Number, OnOk, Opening, Override, ReadsLine, SharesNone, Side, SlotPath, Takes, TakesText, TextLine, Whole, after, after-append, after_some, and_intro, append-nil, are_below, are_others, both, carried_lines, codes, collection, decimal, end_line, entry, equal_bytes, filter-append, find, has, is_collection, is_not, key_text, leb-true, length-map, line_of, line_text, list_all, list_any, list_any-append, lists_member, lists_member_of, map-append, may_stand, members_in, nat_lt, nat_tests, neither_or, new_or_fault, next_line, none-some, not_true, opening_line, option_map, or_false, or_neither, rank, read_lines as lines_of, same_Some, same_bytes, same_number, side_rank, stage_lines, text_of, texts_of}
+use Rattle.std.specs.Prelude.{nat_le}
+use Rattle.save_file.proofs.CarriedLines.{begins_with, entry_up, none_behind_end as none_behind_last, same_line, stands_there, with_line}
+use Rattle.save_file.proofs.Lines.{all_where, cons_not_nil, cons_parts, everywhere, never_empty}
 use Rattle.save_file.proofs.MemberParsing.{below_from, decimals_one, from_below, none_there, there_none}
 use Rattle.save_file.proofs.SlotTexts.{same_behind}
-use Rattle.save_file.proofs.TextLaws.{all-append, all_behind, in_front, next_one}
-use Rattle.save_file.specs.CarriedParsing.{IsRead, lines_of}
-use Rattle.save_file.specs.CarriedText.{entry}
-use Rattle.save_file.specs.EntryKeys.{has}
-use Rattle.save_file.specs.declared.carried_stage.CarriedStage.TheVariants.{Lines, Number, Opening, Whole}
+use Rattle.save_file.proofs.TextLaws.{all-append, next_one}
+use Rattle.save_file.specs.CarriedParsing.{IsRead}
 use Rattle.save_file.specs.declared.entry_keys.EntryKeys.{EntryKeys}
-use Rattle.script_lines.specs.declared.fault.LineFault.TheVariants.{NoMemory}
 
--- ==== tests tell whether a list or an entry may stand behind the lines of a carried text that were read
+-- ==== a test tells whether a line may stand behind the lines of a carried text that were read
 
--- ---- how many lists
+-- ---- what others are
 
-all_lists : (ls : List ListLine) → length (filter is_collection (map line_of_list ls)) ≡ length ls
-all_lists [] = refl
-all_lists (l ∷ ls) = ap suc (all_lists ls)
+all_lists : (xs : List CarriedLine) → AllByRecursion (λ x. rank x ≤ 0) xs → filter is_collection xs ≡ xs
+all_lists [] low = refl
+all_lists (collection n ms ∷ xs) low = ap (λ (ys : List CarriedLine). collection n ms ∷ ys) (all_lists xs low.1)
+all_lists (entry side path text ∷ xs) low = absurd (omega (arith, low.0, entry_up side path text))
 
-no_lists : (es : List EntryLine) → filter is_collection (map line_of_entry es) ≡ []
-no_lists [] = refl
-no_lists (e ∷ es) = no_lists es
+lists_pushed : (xs : List CarriedLine) (y : CarriedLine) → length (filter is_collection (xs ++ y ∷ [])) ≡ length (filter is_collection xs) + length (filter is_collection (y ∷ []))
+lists_pushed xs y = ap length (filter-append is_collection xs (y ∷ [])) ∙ length-append (filter is_collection xs) (filter is_collection (y ∷ []))
 
-count : (ls : List ListLine) (es : List EntryLine) (tail : List CarriedLine) → length (filter is_collection ((map line_of_list ls ++ map line_of_entry es) ++ tail)) ≡ length ls + length (filter is_collection tail)
-count ls es tail =
-    ap length (filter-append is_collection (map line_of_list ls ++ map line_of_entry es) tail)
-    ∙ length-append (filter is_collection (map line_of_list ls ++ map line_of_entry es)) (filter is_collection tail)
-    ∙ ap (λ (n : ℕ). n + length (filter is_collection tail)) (lists ∙ all_lists ls)
+side_is : (side : Side) (path : SlotPath) (text : List ℕ) → rank (entry side path text) ≡ side_rank side
+side_is Answer path text = refl
+side_is Override path text = refl
+
+-- an entry lists no member
+listed_there : (xs : List CarriedLine) (side : Side) (path : SlotPath) (text : List ℕ) → lists_member_of (xs ++ entry side path text ∷ []) path ≡ lists_member_of xs path
+listed_there xs side (Global n) text = refl
+listed_there xs side (Member name k n) text = list_any-append (lists_member name k) xs (entry side (Member name k n) text ∷ []) ∙ or_false (list_any (lists_member name k) xs)
+
+key_new : (key : List ℕ) (xs : List CarriedLine) → list_any (bytes_eq key) (map key_text xs) ≡ false → AllByRecursion (λ x. key_text x ≢ key) xs
+key_new key [] out = tt
+key_new key (x ∷ xs) out =
+    let tests_passed = or_neither (bytes_eq key (key_text x)) (list_any (bytes_eq key) (map key_text xs)) out in
+    (λ same. absurd (let equal : bytes_eq key (key_text x) ≡ true = ap (bytes_eq key) same ∙ equal_bytes key in let other : bytes_eq key (key_text x) ≡ false = tests_passed.0 in cc), key_new key xs tests_passed.1)
+
+new_key : (key : List ℕ) (xs : List CarriedLine) → AllByRecursion (λ x. key_text x ≢ key) xs → list_any (bytes_eq key) (map key_text xs) ≡ false
+new_key key [] all = refl
+new_key key (x ∷ xs) all = neither_or (bytes_eq key (key_text x)) (list_any (bytes_eq key) (map key_text xs)) (at (bytes_eq key (key_text x)) refl) (new_key key xs all.1)
   where
-    lists : length (filter is_collection (map line_of_list ls ++ map line_of_entry es)) ≡ length (filter is_collection (map line_of_list ls))
-    lists =
-        ap length (filter-append is_collection (map line_of_list ls) (map line_of_entry es)
-        ∙ ap (λ (xs : List CarriedLine). filter is_collection (map line_of_list ls) ++ xs) (no_lists es)
-        ∙ append-nil (filter is_collection (map line_of_list ls)))
+    at : (b : Bool) → bytes_eq key (key_text x) ≡ b → b ≡ false
+    at false h = refl
+    at true h = absurd (all.0 (sym (same_bytes key (key_text x) h)))
 
--- ---- names
+module _ (name ms : List ℕ) where
+  abbrev is_apart : CarriedLine → Bool
+  is_apart x = are_others ms (members_in x)
 
-other_name : (n m : List ℕ) → bytes_eq n m ≡ false → codes "list /" ++ n ≢ codes "list /" ++ m
-other_name n m other e = let same : bytes_eq n m ≡ true = ap (λ (k : List ℕ). bytes_eq k m) (same_behind (codes "list /") n m e) ∙ equal_bytes m in absurd cc
+  apart_from : (xs : List CarriedLine) → AllByRecursion (λ x. SharesNone x (collection name ms)) xs → list_all is_apart xs ≡ true
+  apart_from [] apart = refl
+  apart_from (x ∷ xs) apart = and_intro (is_apart x) (list_all is_apart xs) (is_not (list_any (λ m. list_any (nat_eq m) ms) (members_in x)) (there_none ms (members_in x) apart.0)) (apart_from xs apart.1)
 
-name_differs : (n m : List ℕ) → codes "list /" ++ n ≢ codes "list /" ++ m → bytes_eq n m ≡ false
-name_differs n m other = at (bytes_eq n m) refl
-  where
-    at : (b : Bool) → bytes_eq n m ≡ b → b ≡ false
-    at false e = refl
-    at true e = absurd (other (ap (λ (k : List ℕ). codes "list /" ++ k) (same_bytes n m e)))
+  from_apart : (xs : List CarriedLine) → list_all is_apart xs ≡ true → AllByRecursion (λ x. SharesNone x (collection name ms)) xs
+  from_apart [] all = tt
+  from_apart (x ∷ xs) all =
+      let parts = both (is_apart x) (list_all is_apart xs) all in
+      (none_there ms (members_in x) (not_true (list_any (λ m. list_any (nat_eq m) ms) (members_in x)) parts.0), from_apart xs parts.1)
 
-list_no_entry : (side : Side) (name path : List ℕ) → codes "list /" ++ name ≢ side_word side ++ path
-list_no_entry Answer name path e = let byte : 108 ≡ 118 = ap first e in omega (arith, byte)
-list_no_entry Override name path e = let byte : 108 ≡ 111 = ap first e in omega (arith, byte)
+-- ---- the test
 
--- ---- lists behind lists
+passes : (r : CarriedRead) → IsRead r → (line : CarriedLine) → MayFollow r.next (lines_of r) line → may_stand r line ≡ true
+passes r read (collection name ms) may =
+    let zero_most : r.rank ≤ 0 = read.least 0 may.order in
+    let lists : length (filter is_collection (lines_of r)) ≡ length (lines_of r) = ap length (all_lists (lines_of r) may.order) in
+    let low : length r.lines.items < 32 = omega (arith, may.few, lists_pushed (lines_of r) (collection name ms), lists, length-map r.lines.items line_of) in
+    and_intro (nat_eq r.rank 0) (nat_lt (length r.lines.items) 32 && (are_below r.next ms && list_all (λ x. are_others ms (members_in x)) (lines_of r))) (let test : nat_eq r.rank 0 ≡ true = grind (arith, nat_tests) in test)
+    (and_intro (nat_lt (length r.lines.items) 32) (are_below r.next ms && list_all (λ x. are_others ms (members_in x)) (lines_of r)) (let test : nat_lt (length r.lines.items) 32 ≡ true = grind (arith, nat_tests) in test)
+    (and_intro (are_below r.next ms) (list_all (λ x. are_others ms (members_in x)) (lines_of r)) (below_from r.next ms may.below) (apart_from name ms (lines_of r) may.apart)))
+passes r read (entry side path text) may =
+    let low : r.rank ≤ rank (entry side path text) = read.least (rank (entry side path text)) may.order in
+    let is = side_is side path text in
+    let up : r.rank ≤ side_rank side = omega (arith, low, is) in
+    and_intro (nat_le r.rank (side_rank side)) (lists_member_of (lines_of r) path) (let test : nat_le r.rank (side_rank side) ≡ true = grind (arith, nat_tests) in test)
+    (sym (listed_there (lines_of r) side path text) ∙ may.member)
 
-module _ (line : ListLine) where
-  others_from : (ls : List ListLine) → AllByRecursion (λ x. NamesOther x (line_of_list line)) (map line_of_list ls) → AllByRecursion (λ x. SharesNone x (line_of_list line)) (map line_of_list ls) → list_all (is_other_list line) ls ≡ true
-  others_from [] once apart = refl
-  others_from (l ∷ ls) once apart =
-      and_intro (is_other_list line l) (list_all (is_other_list line) ls)
-      (and_intro (not (bytes_eq l.name line.name)) (are_others line.members l.members) (is_not (bytes_eq l.name line.name) (name_differs l.name line.name once.0))
-      (is_not (list_any (λ m. list_any (nat_eq m) line.members) l.members) (there_none line.members l.members apart.0)))
-      (others_from ls once.1 apart.1)
+stands : (r : CarriedRead) → IsRead r → (line : CarriedLine) → HasItsForm line → IsShort line → may_stand r line ≡ true → AllByRecursion (λ x. NamesOther x line) (lines_of r) → MayFollow r.next (lines_of r) line
+stands r read (collection name ms) form short test others =
+    let one = both (nat_eq r.rank 0) (nat_lt (length r.lines.items) 32 && (are_below r.next ms && list_all (λ x. are_others ms (members_in x)) (lines_of r))) test in
+    let two = both (nat_lt (length r.lines.items) 32) (are_below r.next ms && list_all (λ x. are_others ms (members_in x)) (lines_of r)) one.1 in
+    let three = both (are_below r.next ms) (list_all (λ x. are_others ms (members_in x)) (lines_of r)) two.1 in
+    let lists_alone : AllByRecursion (λ x. rank x ≤ 0) (lines_of r) = subst (λ (n : ℕ). AllByRecursion (λ x. rank x ≤ n) (lines_of r)) (same_number r.rank 0 one.0) read.high in
+    let lists : length (filter is_collection (lines_of r)) ≡ length (lines_of r) = ap length (all_lists (lines_of r) lists_alone) in
+    let low : nat_lt (length r.lines.items) 32 ≡ true = two.0 in
+    let few : length r.lines.items < 32 = grind (arith, nat_tests) in
+    record {
+      form = form;
+      short = short;
+      below = from_below r.next ms three.0;
+      order = lists_alone;
+      once = others;
+      apart = from_apart name ms (lines_of r) three.1;
+      few = omega (arith, few, lists_pushed (lines_of r) (collection name ms), lists, length-map r.lines.items line_of);
+      member = refl;
+    }
+stands r read (entry side path text) form short test others =
+    let tests = both (nat_le r.rank (side_rank side)) (lists_member_of (lines_of r) path) test in
+    let is = side_is side path text in
+    let up : r.rank ≤ side_rank side = leb-true r.rank (side_rank side) tests.0 in
+    record {
+      form = form;
+      short = short;
+      below = tt;
+      order = all_where (λ x. rank x ≤ r.rank) (λ x. rank x ≤ r.rank) (λ x. rank x ≤ rank (entry side path text)) (λ x low also. omega (arith, low, up, is)) (lines_of r) read.high read.high;
+      once = others;
+      apart = everywhere (λ x. SharesNone x (entry side path text)) (λ x m i. refl) (lines_of r);
+      few = omega (arith, read.text.few, lists_pushed (lines_of r) (entry side path text));
+      member = listed_there (lines_of r) side path text ∙ tests.1;
+    }
 
-  from_others : (ls : List ListLine) → list_all (is_other_list line) ls ≡ true → AllByRecursion (λ x. NamesOther x (line_of_list line)) (map line_of_list ls) × AllByRecursion (λ x. SharesNone x (line_of_list line)) (map line_of_list ls)
-  from_others [] all = (tt, tt)
-  from_others (l ∷ ls) all =
-      let tests_passed = both (is_other_list line l) (list_all (is_other_list line) ls) all in
-      let here = both (not (bytes_eq l.name line.name)) (are_others line.members l.members) tests_passed.0 in
-      let rest = from_others ls tests_passed.1 in (
-        (other_name l.name line.name (not_true (bytes_eq l.name line.name) here.0), rest.0),
-        (none_there line.members l.members (not_true (list_any (λ m. list_any (nat_eq m) line.members) l.members) here.1), rest.1),
-      )
+-- ---- what comes of a line
 
-  no_entries : (ls : List ListLine) (es : List EntryLine) → AllByRecursion (λ x. IsInOrder x (line_of_list line)) (map line_of_list ls ++ map line_of_entry es) → is_empty es ≡ true
-  no_entries ls [] order = refl
-  no_entries ls (e ∷ es) order =
-      let low : rank (line_of_entry e) ≤ 0 = next_one (λ x. IsInOrder x (line_of_list line)) (map line_of_list ls) (line_of_entry e) (map line_of_entry es) order in
-      let up : 1 ≤ rank (line_of_entry e) = entry_up e.side e.path (string_bytes e.text) in
-      absurd (omega (arith, low, up))
+module _ (r : CarriedRead) (line : TextLine) (read : IsRead r) where
+  pub not_standing : may_stand r (line_of line) ≡ false → ¬ MayFollow r.next (lines_of r) (line_of line)
+  not_standing bad may = let good : may_stand r (line_of line) ≡ true = passes r read (line_of line) may in cc
 
-  in_order : (ls : List ListLine) → AllByRecursion (λ x. IsInOrder x (line_of_list line)) (map line_of_list ls)
-  in_order [] = tt
-  in_order (l ∷ ls) = (omega arith, in_order ls)
+  pub not_new : not (has r.keys (key_text (line_of line))) ≡ false → ¬ MayFollow r.next (lines_of r) (line_of line)
+  not_new old may = let new : has r.keys (key_text (line_of line)) ≡ false = read.keys (key_text (line_of line)) ∙ new_key (key_text (line_of line)) (lines_of r) may.once in cc
 
-is_nil : (es : List EntryLine) → is_empty es ≡ true → es ≡ []
-is_nil [] e = refl
-is_nil (x ∷ es) e = absurd cc
+  module _ (form : HasItsForm (line_of line)) (short : IsShort (line_of line)) (test : may_stand r (line_of line) ≡ true) (fresh : not (has r.keys (key_text (line_of line))) ≡ true)
+      (keys : EntryKeys) (added : (text : List ℕ) → has keys text ≡ (bytes_eq text (key_text (line_of line)) || has r.keys text)) where
+    may : MayFollow r.next (lines_of r) (line_of line)
+    may = stands r read (line_of line) form short test (key_new (key_text (line_of line)) (lines_of r) (sym (read.keys (key_text (line_of line))) ∙ not_true (has r.keys (key_text (line_of line))) fresh))
 
-module _ (r : CarriedRead) (line : ListLine) (read : IsRead r) (form : HasItsForm (line_of_list line)) (short : IsShort (line_of_list line)) where
-  listed_from : MayFollow r.next (lines_of r) (line_of_list line) → may_list r line ≡ true
-  listed_from may =
-      let total : length (filter is_collection (lines_of r ++ line_of_list line ∷ [])) ≡ length r.lists.items + 1 = count r.lists.items r.entries.items (line_of_list line ∷ []) in
-      let few : length r.lists.items < 32 = omega (arith, may.few, total) in
-      and_intro (is_empty r.entries.items) (nat_lt (length r.lists.items) 32 && (are_below r.next line.members && list_all (is_other_list line) r.lists.items)) (no_entries line r.lists.items r.entries.items may.order)
-      (and_intro (nat_lt (length r.lists.items) 32) (are_below r.next line.members && list_all (is_other_list line) r.lists.items) (let test : nat_lt (length r.lists.items) 32 ≡ true = grind (arith, nat_tests) in test)
-      (and_intro (are_below r.next line.members) (list_all (is_other_list line) r.lists.items) (below_from r.next line.members may.below)
-      (others_from line r.lists.items (in_front (λ x. NamesOther x (line_of_list line)) (map line_of_list r.lists.items) (map line_of_entry r.entries.items) may.once) (in_front (λ x. SharesNone x (line_of_list line)) (map line_of_list r.lists.items) (map line_of_entry r.entries.items) may.apart))))
-
-  pub not_listed : may_list r line ≡ false → ¬ MayFollow r.next (lines_of r) (line_of_list line)
-  not_listed bad may = let good : may_list r line ≡ true = listed_from may in absurd cc
-
-  module _ (test : may_list r line ≡ true) where
-    tests_passed : (is_empty r.entries.items ≡ true) × (nat_lt (length r.lists.items) 32 ≡ true) × (are_below r.next line.members ≡ true) × (list_all (is_other_list line) r.lists.items ≡ true)
-    tests_passed =
-        let one = both (is_empty r.entries.items) (nat_lt (length r.lists.items) 32 && (are_below r.next line.members && list_all (is_other_list line) r.lists.items)) test in
-        let two = both (nat_lt (length r.lists.items) 32) (are_below r.next line.members && list_all (is_other_list line) r.lists.items) one.1 in
-        let three = both (are_below r.next line.members) (list_all (is_other_list line) r.lists.items) two.1 in
-        (one.0, two.0, three.0, three.1)
-
-    none : r.entries.items ≡ []
-    none = is_nil r.entries.items tests_passed.0
-
-    -- all lines are lists
-    lists_alone : lines_of r ≡ map line_of_list r.lists.items
-    lists_alone = ap (λ (xs : List EntryLine). map line_of_list r.lists.items ++ map line_of_entry xs) none ∙ append-nil (map line_of_list r.lists.items)
-
-    may_follow : MayFollow r.next (lines_of r) (line_of_list line)
-    may_follow =
-        let total : length (filter is_collection (lines_of r ++ line_of_list line ∷ [])) ≡ length r.lists.items + 1 = count r.lists.items r.entries.items (line_of_list line ∷ []) in
-        let low : nat_lt (length r.lists.items) 32 ≡ true = tests_passed.1 in
-        let few : length r.lists.items < 32 = grind (arith, nat_tests) in
-        let others = from_others line r.lists.items tests_passed.3 in
-        record {
-          form = form;
-          short = short;
-          below = from_below r.next line.members tests_passed.2;
-          order = subst (AllByRecursion (λ x. IsInOrder x (line_of_list line))) (sym lists_alone) (in_order line r.lists.items);
-          once = subst (AllByRecursion (λ x. NamesOther x (line_of_list line))) (sym lists_alone) others.0;
-          apart = subst (AllByRecursion (λ x. SharesNone x (line_of_list line))) (sym lists_alone) others.1;
-          few = omega (arith, few, total);
-          member = refl;
-        }
-
-    pub took_list : (new : CarriedRead) → IsWithList r line new → Takes r (line_of_list line) (Ok new)
-    took_list new with = (
+    took : (new : CarriedRead) → IsWith (record { next = r.next; lines = r.lines; keys = keys; rank = r.rank }) line new → Takes r (line_of line) (Ok new)
+    took new with = (
       record {
-        text = subst (λ (n : ℕ). IsCarried (record { next = n; lines = lines_of new })) (sym with.next) (subst (λ (xs : List CarriedLine). IsCarried (record { next = r.next; lines = xs })) (sym more) (with_line r.next (lines_of r) (line_of_list line) read.text may_follow));
-        keys = λ key. ap (λ (h : EntryKeys). has h key) with.keys ∙ read.keys key ∙ ap (λ (xs : List EntryLine). list_any (bytes_eq key) (map key_of xs)) (sym with.entries);
-        overridden = with.overridden ∙ read.overridden ∙ ap (λ (xs : List EntryLine). list_any (λ (e : EntryLine). is_override e.side) xs) (sym with.entries);
+        text = subst (λ (n : ℕ). IsCarried (record { next = n; lines = lines_of new })) (sym with.next) (subst (λ (xs : List CarriedLine). IsCarried (record { next = r.next; lines = xs })) (sym more) (with_line r.next (lines_of r) (line_of line) read.text may));
+        keys = λ key.
+            ap (λ (h : EntryKeys). has h key) with.keys ∙ added key ∙ ap (λ (b : Bool). bytes_eq key (key_text (line_of line)) || b) (read.keys key)
+            ∙ turned (bytes_eq key (key_text (line_of line))) (list_any (bytes_eq key) (map key_text (lines_of r)))
+            ∙ sym (list_any-append (bytes_eq key) (map key_text (lines_of r)) (key_text (line_of line) ∷ []))
+            ∙ ap (list_any (bytes_eq key)) (sym (map-append key_text (lines_of r) (line_of line ∷ []))) ∙ ap (λ (xs : List CarriedLine). list_any (bytes_eq key) (map key_text xs)) (sym more);
+        high = subst (λ (xs : List CarriedLine). AllByRecursion (λ x. rank x ≤ new.rank) xs) (sym more) (subst (λ (n : ℕ). AllByRecursion (λ x. rank x ≤ n) (lines_of r ++ line_of line ∷ [])) (sym with.rank) (all-append (λ x. rank x ≤ rank (line_of line)) (lines_of r) (line_of line ∷ []) may.order (omega arith, tt)));
+        least = λ n all. (let last : rank (line_of line) ≤ n = next_one (λ x. rank x ≤ n) (lines_of r) (line_of line) [] (subst (AllByRecursion (λ x. rank x ≤ n)) more all) in let is = with.rank in omega (arith, last, is));
       },
       with.next,
       more,
     )
       where
-        more : lines_of new ≡ lines_of r ++ line_of_list line ∷ []
-        more =
-            ap (λ (xs : List EntryLine). map line_of_list new.lists.items ++ map line_of_entry xs) (with.entries ∙ none)
-            ∙ append-nil (map line_of_list new.lists.items)
-            ∙ ap (map line_of_list) with.lists
-            ∙ map-append line_of_list r.lists.items (line ∷ [])
-            ∙ ap (λ (xs : List CarriedLine). xs ++ line_of_list line ∷ []) (sym lists_alone)
+        more : lines_of new ≡ lines_of r ++ line_of line ∷ []
+        more = ap (map line_of) with.lines ∙ map-append line_of r.lines.items (line ∷ [])
 
--- ---- an entry behind lines
+        turned : (a b : Bool) → (a || b) ≡ (b || (a || false))
+        turned true true = refl
+        turned true false = refl
+        turned false true = refl
+        turned false false = refl
 
-key_new : (key : List ℕ) (es : List EntryLine) → list_any (bytes_eq key) (map key_of es) ≡ false → AllByRecursion (λ x. key_text x ≢ key) (map line_of_entry es)
-key_new key [] out = tt
-key_new key (e ∷ es) out =
-    let tests_passed = or_neither (bytes_eq key (key_of e)) (list_any (bytes_eq key) (map key_of es)) out in
-    (λ same. absurd (let equal : bytes_eq key (key_of e) ≡ true = ap (bytes_eq key) same ∙ equal_bytes key in let other : bytes_eq key (key_of e) ≡ false = tests_passed.0 in cc), key_new key es tests_passed.1)
+    pub line_result : (new : CarriedRead) (result : Result (Unit {0}) LineFault) → OnOk result (IsWith (record { next = r.next; lines = r.lines; keys = keys; rank = r.rank }) line new) → IfErr result (λ fault. fault ≡ NoMemory) → Takes r (line_of line) (new_or_fault new result)
+    line_result new (Ok done) with memory = took new with
+    line_result new (Err fault) with memory = subst (λ (f : LineFault). Takes r (line_of line) (Err f)) (sym memory) tt
 
-new_key : (key : List ℕ) (es : List EntryLine) → AllByRecursion (λ x. key_text x ≢ key) (map line_of_entry es) → list_any (bytes_eq key) (map key_of es) ≡ false
-new_key key [] all = refl
-new_key key (e ∷ es) all = neither_or (bytes_eq key (key_of e)) (list_any (bytes_eq key) (map key_of es)) (at (bytes_eq key (key_of e)) refl) (new_key key es all.1)
-  where
-    at : (b : Bool) → bytes_eq key (key_of e) ≡ b → b ≡ false
-    at false h = refl
-    at true h = absurd (all.0 (sym (same_bytes key (key_of e) h)))
-
-list_keys : (e : EntryLine) (ls : List ListLine) → AllByRecursion (λ x. NamesOther x (line_of_entry e)) (map line_of_list ls)
-list_keys e [] = tt
-list_keys e (l ∷ ls) = (list_no_entry e.side l.name (slot_path_text e.path), list_keys e ls)
-
-shares_none : (e : EntryLine) (xs : List CarriedLine) → AllByRecursion (λ x. SharesNone x (line_of_entry e)) xs
-shares_none e [] = tt
-shares_none e (x ∷ xs) = (λ m i. refl, shares_none e xs)
-
-lists_before : (k : ℕ) (ls : List ListLine) → AllByRecursion (λ x. rank x ≤ k) (map line_of_list ls)
-lists_before k [] = tt
-lists_before k (l ∷ ls) = (omega arith, lists_before k ls)
-
-rank_is : (side : Side) (path : SlotPath) (text : List ℕ) → is_override side ≡ false → rank (entry side path text) ≤ 1
-rank_is Answer path text e = omega arith
-rank_is Override path text e = absurd cc
-
-rank_most : (side : Side) (path : SlotPath) (text : List ℕ) → rank (entry side path text) ≤ 2
-rank_most Answer path text = omega arith
-rank_most Override path text = omega arith
-
-answers_alone : (es : List EntryLine) → list_any (λ (e : EntryLine). is_override e.side) es ≡ false → AllByRecursion (λ x. rank x ≤ 1) (map line_of_entry es)
-answers_alone [] out = tt
-answers_alone (e ∷ es) out =
-    let tests_passed = or_neither (is_override e.side) (list_any (λ (x : EntryLine). is_override x.side) es) out in
-    (rank_is e.side e.path (string_bytes e.text) tests_passed.0, answers_alone es tests_passed.1)
-
-alone_answers : (es : List EntryLine) → AllByRecursion (λ x. rank x ≤ 1) (map line_of_entry es) → list_any (λ (e : EntryLine). is_override e.side) es ≡ false
-alone_answers [] all = refl
-alone_answers (e ∷ es) all = neither_or (is_override e.side) (list_any (λ (x : EntryLine). is_override x.side) es) (at e.side e.path (string_bytes e.text) all.0) (alone_answers es all.1)
-  where
-    at : (side : Side) (path : SlotPath) (text : List ℕ) → rank (entry side path text) ≤ 1 → is_override side ≡ false
-    at Answer path text low = refl
-    at Override path text low = absurd (omega arith)
-
-entries_before : (es : List EntryLine) → AllByRecursion (λ x. rank x ≤ 2) (map line_of_entry es)
-entries_before [] = tt
-entries_before (e ∷ es) = (rank_most e.side e.path (string_bytes e.text), entries_before es)
-
--- no entry lists a member
-none_listed : (name : List ℕ) (k : ℕ) (es : List EntryLine) → list_any (lists_member name k) (map line_of_entry es) ≡ false
-none_listed name k [] = refl
-none_listed name k (e ∷ es) = none_listed name k es
-
-listed_there : (ls : List ListLine) (es : List EntryLine) (e : EntryLine) (path : SlotPath) → lists_member_of ((map line_of_list ls ++ map line_of_entry es) ++ line_of_entry e ∷ []) path ≡ lists_member_of (map line_of_list ls) path
-listed_there ls es e (Global n) = refl
-listed_there ls es e (Member name k n) =
-    list_any-append (lists_member name k) (map line_of_list ls ++ map line_of_entry es) (line_of_entry e ∷ [])
-    ∙ or_false (list_any (lists_member name k) (map line_of_list ls ++ map line_of_entry es))
-    ∙ list_any-append (lists_member name k) (map line_of_list ls) (map line_of_entry es)
-    ∙ ap (λ (b : Bool). list_any (lists_member name k) (map line_of_list ls) || b) (none_listed name k es)
-    ∙ or_false (list_any (lists_member name k) (map line_of_list ls))
-
-turned : (a b : Bool) → (a || b) ≡ (b || (a || false))
-turned true true = refl
-turned true false = refl
-turned false true = refl
-turned false false = refl
-
-pushed : (test : List ℕ → Bool) (es : List EntryLine) (e : EntryLine) → list_any test (map key_of (es ++ e ∷ [])) ≡ (test (key_of e) || list_any test (map key_of es))
-pushed test es e = ap (list_any test) (map-append key_of es (e ∷ [])) ∙ list_any-append test (map key_of es) (key_of e ∷ []) ∙ sym (turned (test (key_of e)) (list_any test (map key_of es)))
-
-side_pushed : (es : List EntryLine) (e : EntryLine) → list_any (λ (x : EntryLine). is_override x.side) (es ++ e ∷ []) ≡ (list_any (λ (x : EntryLine). is_override x.side) es || is_override e.side)
-side_pushed es e = list_any-append (λ (x : EntryLine). is_override x.side) es (e ∷ []) ∙ ap (λ (b : Bool). list_any (λ (x : EntryLine). is_override x.side) es || b) (or_false (is_override e.side))
-
-module _ (r : CarriedRead) (line : EntryLine) (read : IsRead r) (form : HasItsForm (line_of_entry line)) (short : IsShort (line_of_entry line)) where
-  entry_order : (side : Side) (path : SlotPath) (text : List ℕ) → AllByRecursion (λ x. IsInOrder x (entry side path text)) (lines_of r) → (is_override side || not r.overridden) ≡ true
-  entry_order Override path text order = refl
-  entry_order Answer path text order =
-      is_not r.overridden (read.overridden ∙ alone_answers r.entries.items (all_behind (λ x. rank x ≤ 1) (map line_of_list r.lists.items) (map line_of_entry r.entries.items) order))
-
-  order_from : (side : Side) (path : SlotPath) (text : List ℕ) → (is_override side || not r.overridden) ≡ true → AllByRecursion (λ x. IsInOrder x (entry side path text)) (lines_of r)
-  order_from Override path text test = all-append (λ x. rank x ≤ 2) (map line_of_list r.lists.items) (map line_of_entry r.entries.items) (lists_before 2 r.lists.items) (entries_before r.entries.items)
-  order_from Answer path text test =
-      all-append (λ x. rank x ≤ 1) (map line_of_list r.lists.items) (map line_of_entry r.entries.items) (lists_before 1 r.lists.items)
-      (answers_alone r.entries.items (sym read.overridden ∙ not_true r.overridden test))
-
-  pub not_entered : may_enter r line ≡ false → ¬ MayFollow r.next (lines_of r) (line_of_entry line)
-  not_entered bad may =
-      let good : may_enter r line ≡ true =
-      and_intro (is_override line.side || not r.overridden) (lists_member_of (map line_of_list r.lists.items) line.path) (entry_order line.side line.path (string_bytes line.text) may.order)
-      (sym (listed_there r.lists.items r.entries.items line line.path) ∙ may.member) in
-      absurd cc
-
-  pub not_new : not (has r.keys (key_of line)) ≡ false → ¬ MayFollow r.next (lines_of r) (line_of_entry line)
-  not_new old may =
-      let new : has r.keys (key_of line) ≡ false =
-      read.keys (key_of line) ∙ new_key (key_of line) r.entries.items (all_behind (λ x. NamesOther x (line_of_entry line)) (map line_of_list r.lists.items) (map line_of_entry r.entries.items) may.once) in
-      absurd cc
-
-  module _ (test : may_enter r line ≡ true) (new_one : not (has r.keys (key_of line)) ≡ true) where
-    tests : ((is_override line.side || not r.overridden) ≡ true) × (lists_member_of (map line_of_list r.lists.items) line.path ≡ true)
-    tests = both (is_override line.side || not r.overridden) (lists_member_of (map line_of_list r.lists.items) line.path) test
-
-    may_follow_entry : MayFollow r.next (lines_of r) (line_of_entry line)
-    may_follow_entry =
-        let total : length (filter is_collection (lines_of r ++ line_of_entry line ∷ [])) ≡ length r.lists.items + 0 = count r.lists.items r.entries.items (line_of_entry line ∷ []) in
-        let before : length (filter is_collection (lines_of r ++ [])) ≡ length r.lists.items + 0 = count r.lists.items r.entries.items [] in
-        let same : length (filter is_collection (lines_of r ++ [])) ≡ length (filter is_collection (lines_of r)) = ap (λ (xs : List CarriedLine). length (filter is_collection xs)) (append-nil (lines_of r)) in
-        let few : length (filter is_collection (lines_of r)) ≤ 32 = read.text.few in
-        record {
-          form = form;
-          short = short;
-          below = tt;
-          order = order_from line.side line.path (string_bytes line.text) tests.0;
-          once = all-append (λ x. NamesOther x (line_of_entry line)) (map line_of_list r.lists.items) (map line_of_entry r.entries.items) (list_keys line r.lists.items)
-              (key_new (key_of line) r.entries.items (sym (read.keys (key_of line)) ∙ not_true (has r.keys (key_of line)) new_one));
-          apart = shares_none line (lines_of r);
-          few = omega (arith, few, total, before, same);
-          member = listed_there r.lists.items r.entries.items line line.path ∙ tests.1;
-        }
-
-    pub took_entry : (new : CarriedRead) → new.next ≡ r.next → new.lists.items ≡ r.lists.items → new.entries.items ≡ r.entries.items ++ line ∷ [] → new.overridden ≡ (r.overridden || is_override line.side)
-        → ((text : List ℕ) → has new.keys text ≡ (bytes_eq text (key_of line) || has r.keys text)) → Takes r (line_of_entry line) (Ok new)
-    took_entry new next lists entries overridden added = (
-      record {
-        text = subst (λ (n : ℕ). IsCarried (record { next = n; lines = lines_of new })) (sym next) (subst (λ (xs : List CarriedLine). IsCarried (record { next = r.next; lines = xs })) (sym more) (with_line r.next (lines_of r) (line_of_entry line) read.text may_follow_entry));
-        keys = λ key.
-            added key ∙ ap (λ (b : Bool). bytes_eq key (key_of line) || b) (read.keys key)
-            ∙ sym (pushed (bytes_eq key) r.entries.items line) ∙ ap (λ (xs : List EntryLine). list_any (bytes_eq key) (map key_of xs)) (sym entries);
-        overridden =
-            overridden ∙ ap (λ (b : Bool). b || is_override line.side) read.overridden
-            ∙ sym (side_pushed r.entries.items line) ∙ ap (λ (xs : List EntryLine). list_any (λ (e : EntryLine). is_override e.side) xs) (sym entries);
-      },
-      next,
-      more,
-    )
-      where
-        more : lines_of new ≡ lines_of r ++ line_of_entry line ∷ []
-        more =
-            ap (λ (xs : List ListLine). map line_of_list xs ++ map line_of_entry new.entries.items) lists
-            ∙ ap (λ (xs : List EntryLine). map line_of_list r.lists.items ++ map line_of_entry xs) entries
-            ∙ ap (λ (xs : List CarriedLine). map line_of_list r.lists.items ++ xs) (map-append line_of_entry r.entries.items (line ∷ []))
-            ∙ sym (append_assoc (map line_of_list r.lists.items) (map line_of_entry r.entries.items) (line_of_entry line ∷ []))
-
--- whether one of the lists passes a test
-pub any_of : (test : CarriedLine → Bool) (ls : List ListLine) → list_any (λ l. test (line_of_list l)) ls ≡ list_any test (map line_of_list ls)
+-- whether one of the lines passes a test, and all do
+pub any_of : (test : CarriedLine → Bool) (ls : List TextLine) → list_any (λ l. test (line_of l)) ls ≡ list_any test (map line_of ls)
 any_of test [] = refl
-any_of test (l ∷ ls) = ap (λ (b : Bool). test (line_of_list l) || b) (any_of test ls)
+any_of test (l ∷ ls) = ap (λ (b : Bool). test (line_of l) || b) (any_of test ls)
 
--- ---- what comes of a list, and of an entry
+pub all_of : (test : CarriedLine → Bool) (ls : List TextLine) → list_all (λ l. test (line_of l)) ls ≡ list_all test (map line_of ls)
+all_of test [] = refl
+all_of test (l ∷ ls) = ap (λ (b : Bool). test (line_of l) && b) (all_of test ls)
 
-pub list_result : (r : CarriedRead) (line : ListLine) → IsRead r → HasItsForm (line_of_list line) → IsShort (line_of_list line) → may_list r line ≡ true
-    → (new : CarriedRead) (result : Result (Unit {0}) LineFault) → OnOk result (IsWithList r line new) → IfErr result (λ fault. fault ≡ NoMemory) → Takes r (line_of_list line) (new_or_fault new result)
-list_result r line read form short test new (Ok done) with memory = took_list r line read form short test new with
-list_result r line read form short test new (Err fault) with memory = subst (λ (f : LineFault). Takes r (line_of_list line) (Err f)) (sym memory) tt
-
-pub entry_result : (r : CarriedRead) (line : EntryLine) → IsRead r → HasItsForm (line_of_entry line) → IsShort (line_of_entry line) → may_enter r line ≡ true → not (has r.keys (key_of line)) ≡ true
-    → (keys : EntryKeys) → ((text : List ℕ) → has keys text ≡ (bytes_eq text (key_of line) || has r.keys text))
-    → (new : CarriedRead) (result : Result (Unit {0}) LineFault) → OnOk result (IsWithEntry (record { next = r.next; lists = r.lists; entries = r.entries; keys = keys; overridden = r.overridden }) line new) → IfErr result (λ fault. fault ≡ NoMemory)
-    → Takes r (line_of_entry line) (new_or_fault new result)
-entry_result r line read form short test new_one keys added new (Ok done) with memory =
-    took_entry r line read form short test new_one new with.next with.lists with.entries with.overridden (λ text. ap (λ (h : EntryKeys). has h text) with.keys ∙ added text)
-entry_result r line read form short test new_one keys added new (Err fault) with memory = subst (λ (f : LineFault). Takes r (line_of_entry line) (Err f)) (sym memory) tt
-
-pub few_lists : (r : CarriedRead) → IsCarried (text_of r) → length r.lists.items ≤ 32
-few_lists r is =
-    let total : length (filter is_collection (lines_of r ++ [])) ≡ length r.lists.items + 0 = count r.lists.items r.entries.items [] in
-    let same : length (filter is_collection (lines_of r ++ [])) ≡ length (filter is_collection (lines_of r)) = ap (λ (xs : List CarriedLine). length (filter is_collection xs)) (append-nil (lines_of r)) in
-    omega (arith, is.few, total, same)
-
--- ==== what one line does to what was read of a carried text
-
--- the first line, the next, and those behind
-pub behind_first : (c : CarriedText) (first : List ℕ) (rest : List (List ℕ)) → carried_lines c ≡ first ∷ rest → (opening_line ≡ first) × (next_line c.next ∷ (map line_text c.lines ++ end_line ∷ []) ≡ rest)
-behind_first c first rest e = cons_parts opening_line first (next_line c.next ∷ (map line_text c.lines ++ end_line ∷ [])) rest e
-
-pub behind_next : (c : CarriedText) (first next : List ℕ) (rest : List (List ℕ)) → carried_lines c ≡ first ∷ next ∷ rest → (next_line c.next ≡ next) × (map line_text c.lines ++ end_line ∷ [] ≡ rest)
-behind_next c first next rest e = cons_parts (next_line c.next) next (map line_text c.lines ++ end_line ∷ []) rest (behind_first c first (next ∷ rest) e).1
-
--- ---- the first two
-
-pub no_opening : (line : List ℕ) → line ≢ opening_line → EndsNone Opening line
-no_opening line other c more is e = other (sym (behind_first c line more e).0)
-
-pub no_next_word : (line : List ℕ) → after (codes "next ") line ≡ None → EndsNone Number line
-no_next_word line none c more is e =
-    let text = (behind_next c opening_line line more e).0 in
-    none-some (decimal c.next) (sym none ∙ ap (after (codes "next ")) (sym text) ∙ after-append (codes "next ") (decimal c.next))
-
-pub no_next_number : (line digits : List ℕ) → after (codes "next ") line ≡ Some digits → ((k : ℕ) → IsNextNumber k → digits ≢ decimal k) → EndsNone Number line
-no_next_number line digits found none c more is e =
-    let text = (behind_next c opening_line line more e).0 in
-    none c.next is.number (same_Some digits (decimal c.next) (sym found ∙ ap (after (codes "next ")) (sym text) ∙ after-append (codes "next ") (decimal c.next)))
+pub found_of : (test : CarriedLine → Bool) (ls : List TextLine) → option_map line_of (find (λ l. test (line_of l)) ls) ≡ find test (map line_of ls)
+found_of test [] = refl
+found_of test (l ∷ ls) = at (test (line_of l)) (found_of test ls)
+  where
+    at : (b : Bool) → option_map line_of (find (λ k. test (line_of k)) ls) ≡ find test (map line_of ls) → option_map line_of (cond b (Some l) (find (λ k. test (line_of k)) ls)) ≡ cond b (Some (line_of l)) (find test (map line_of ls))
+    at true rest = refl
+    at false rest = rest
 
 pub no_lines : (k : ℕ) → IsNextNumber k → IsCarried (record { next = k; lines = [] })
 no_lines k is = record {
@@ -366,21 +183,87 @@ no_lines k is = record {
   members = tt;
 }
 
+-- ==== what a text of lines that begins with those that were read goes on with
+
+-- ---- what is left of it
+
+abbrev pub IsLeft : CarriedStage → CarriedText → List (List ℕ) → Type 0
+IsLeft Opening c more = carried_lines c ≡ more
+IsLeft Number c more = next_line c.next ∷ (map line_text c.lines ++ end_line ∷ []) ≡ more
+IsLeft (Lines r) c more = (c.next ≡ r.next) × ((rest : List CarriedLine) × (c.lines ≡ lines_of r ++ rest) × (map line_text rest ++ end_line ∷ [] ≡ more))
+IsLeft (Whole r) c more = (c.lines ≡ lines_of r) × (more ≡ [])
+
+-- the lines behind the first two
+pub behind_next : (c : CarriedText) (k : ℕ) (lines : List CarriedLine) (more : List (List ℕ)) → IsCarried c → k ≤ 1000001 → AllByRecursion HasItsForm lines → carried_lines c ≡ opening_line ∷ next_line k ∷ (map line_text lines ++ more)
+    → (c.next ≡ k) × ((rest : List CarriedLine) × (c.lines ≡ lines ++ rest) × (map line_text rest ++ end_line ∷ [] ≡ more))
+behind_next c k lines more is low forms e =
+    let first = cons_parts opening_line opening_line (next_line c.next ∷ (map line_text c.lines ++ end_line ∷ [])) (next_line k ∷ (map line_text lines ++ more)) e in
+    let second = cons_parts (next_line c.next) (next_line k) (map line_text c.lines ++ end_line ∷ []) (map line_text lines ++ more) first.1 in
+    (decimals_one c.next k is.number.1 low (same_behind (codes "next ") (decimal c.next) (decimal k) second.0), begins_with lines c.lines more forms is.forms second.1)
+
+pub left : (stage : CarriedStage) → IsCarriedStage stage → (c : CarriedText) → IsCarried c → (more : List (List ℕ)) → carried_lines c ≡ texts_of stage ++ more → IsLeft stage c more
+left Opening sound c is more e = e
+left Number sound c is more e = (cons_parts opening_line opening_line (next_line c.next ∷ (map line_text c.lines ++ end_line ∷ [])) more e).1
+left (Lines r) sound c is more e = behind_next c r.next (lines_of r) more is sound.text.number.1 sound.text.forms e
+left (Whole r) sound c is more e =
+    let parts = behind_next c r.next (lines_of r) (end_line ∷ more) is sound.number.1 sound.forms (e ∙ ap (λ (ls : List (List ℕ)). opening_line ∷ next_line r.next ∷ ls) (append_assoc (map line_text (lines_of r)) (end_line ∷ []) more)) in
+    let last = none_behind_last parts.1.0 more parts.1.2 in
+    (parts.1.1 ∙ ap (λ (xs : List CarriedLine). lines_of r ++ xs) last.0 ∙ append-nil (lines_of r), last.1)
+
+-- its lines are those that were read, and others
+pub lines_left : (stage : CarriedStage) (c : CarriedText) (more : List (List ℕ)) → IsLeft stage c more → (rest : List CarriedLine) × (c.lines ≡ stage_lines stage ++ rest)
+lines_left Opening c more h = (c.lines, refl)
+lines_left Number c more h = (c.lines, refl)
+lines_left (Lines r) c more h = (h.1.0, h.1.1)
+lines_left (Whole r) c more h = ([], h.0 ∙ sym (append-nil (lines_of r)))
+
+-- more is left, but where it is whole
+pub more_left : (stage : CarriedStage) (c : CarriedText) → IsLeft stage c [] → (r : CarriedRead) × (stage ≡ Whole r)
+more_left Opening c e = absurd (cons_not_nil opening_line (next_line c.next ∷ (map line_text c.lines ++ end_line ∷ [])) e)
+more_left Number c e = absurd (cons_not_nil (next_line c.next) (map line_text c.lines ++ end_line ∷ []) e)
+more_left (Lines r) c h = absurd (never_empty (map line_text h.1.0) end_line h.1.2)
+more_left (Whole r) c h = (r, refl)
+
+-- and what was read is such a text, with what is left
+pub goes_on : (stage : CarriedStage) → IsCarriedStage stage → (c : CarriedText) × (more : List (List ℕ)) × IsCarried c × (carried_lines c ≡ texts_of stage ++ more)
+goes_on Opening sound = (record { next = 1; lines = [] }, carried_lines (record { next = 1; lines = [] }), no_lines 1 (omega arith, omega arith), refl)
+goes_on Number sound = (record { next = 1; lines = [] }, next_line 1 ∷ end_line ∷ [], no_lines 1 (omega arith, omega arith), refl)
+goes_on (Lines r) sound = (text_of r, end_line ∷ [], sound.text, refl)
+goes_on (Whole r) sound = (text_of r, [], sound, sym (append-nil (carried_lines (text_of r))))
+
+-- ==== what one line does to what was read of a carried text
+
+-- ---- the first two
+
+pub no_opening : (line : List ℕ) → line ≢ opening_line → EndsNone Opening line
+no_opening line other c more is e = other (sym (cons_parts opening_line line (next_line c.next ∷ (map line_text c.lines ++ end_line ∷ [])) more e).0)
+
+no_number : (line : List ℕ) → ((k : ℕ) → IsNextNumber k → next_line k ≢ line) → EndsNone Number line
+no_number line none c more is e = none c.next is.number (cons_parts (next_line c.next) line (map line_text c.lines ++ end_line ∷ []) more (left Number tt c is (line ∷ more) e)).0
+
+pub no_next_word : (line : List ℕ) → after (codes "next ") line ≡ None → EndsNone Number line
+no_next_word line none = no_number line (λ k is e. none-some (decimal k) (sym none ∙ ap (after (codes "next ")) (sym e) ∙ after-append (codes "next ") (decimal k)))
+
+pub no_next_number : (line digits : List ℕ) → after (codes "next ") line ≡ Some digits → ((k : ℕ) → IsNextNumber k → digits ≢ decimal k) → EndsNone Number line
+no_next_number line digits found none = no_number line (λ k is e. none k is (same_Some digits (decimal k) (sym found ∙ ap (after (codes "next ")) (sym e) ∙ after-append (codes "next ") (decimal k))))
+
 pub number_taken : (line digits : List ℕ) (k : ℕ) → after (codes "next ") line ≡ Some digits → IsNextNumber k → digits ≡ decimal k
-    → (new : CarriedRead) → new.next ≡ k → new.lists.items ≡ [] → new.entries.items ≡ [] → ((key : List ℕ) → has new.keys key ≡ false) → new.overridden ≡ false
+    → (new : CarriedRead) → new.next ≡ k → new.lines.items ≡ [] → ((key : List ℕ) → has new.keys key ≡ false) → new.rank ≡ 0
     → JudgesCarried Number line (Ok (Lines new))
-number_taken line digits k found number is new next lists entries keys overridden = (
+number_taken line digits k found number is new next lines keys zero_is = (
   record {
     text = subst (λ (n : ℕ). IsCarried (record { next = n; lines = lines_of new })) (sym next) (subst (λ (xs : List CarriedLine). IsCarried (record { next = k; lines = xs })) (sym empty) (no_lines k number));
-    keys = λ key. keys key ∙ ap (λ (xs : List EntryLine). list_any (bytes_eq key) (map key_of xs)) (sym entries);
-    overridden = overridden ∙ ap (λ (xs : List EntryLine). list_any (λ (e : EntryLine). is_override e.side) xs) (sym entries);
+    keys = λ key. keys key ∙ ap (λ (xs : List CarriedLine). list_any (bytes_eq key) (map key_text xs)) (sym empty);
+    high = subst (AllByRecursion (λ x. rank x ≤ new.rank)) (sym empty) tt;
+    least = λ n all. omega (arith, zero_is);
   },
   ap (λ (xs : List CarriedLine). opening_line ∷ next_line new.next ∷ map line_text xs) empty
       ∙ ap (λ (l : List ℕ). opening_line ∷ l ∷ []) (ap next_line next ∙ ap (λ (t : List ℕ). codes "next " ++ t) (sym is) ∙ sym (after_some (codes "next ") line digits found)),
+  inl (empty, refl),
 )
   where
     empty : lines_of new ≡ []
-    empty = ap (λ (xs : List ListLine). map line_of_list xs ++ map line_of_entry new.entries.items) lists ∙ ap (map line_of_entry) entries
+    empty = ap (map line_of) lines
 
 -- ---- the lines behind them
 
@@ -392,76 +275,48 @@ module _ (r : CarriedRead) (read : IsRead r) (line : List ℕ) where
         ∙ ap (λ (xs : List CarriedLine). opening_line ∷ next_line r.next ∷ map line_text xs) taken.2
         ∙ ap (λ (xs : List (List ℕ)). opening_line ∷ next_line r.next ∷ xs) (map-append line_text (lines_of r) (l ∷ []))
         ∙ ap (λ (t : List ℕ). (opening_line ∷ next_line r.next ∷ map line_text (lines_of r)) ++ t ∷ []) text,
+    inr (l, taken.2),
   )
 
   pub end_taken : line ≡ end_line → JudgesCarried (Lines r) line (Ok (Whole r))
-  end_taken e = (read.text, ap (λ (l : List ℕ). (opening_line ∷ next_line r.next ∷ map line_text (lines_of r)) ++ l ∷ []) (sym e))
+  end_taken e = (read.text, ap (λ (l : List ℕ). (opening_line ∷ next_line r.next ∷ map line_text (lines_of r)) ++ l ∷ []) (sym e), refl)
 
-  -- a text goes on with the line
-  goes_with : (c : CarriedText) (more : List (List ℕ)) → IsCarried c → carried_lines c ≡ texts_of (Lines r) ++ line ∷ more
-      → (line ≡ end_line) ⊎ ((l : CarriedLine) × (line_text l ≡ line) × MayFollow r.next (lines_of r) l)
-  goes_with c more is e = at (goes_on (lines_of r) c.lines line more read.text.forms is.forms parts.1)
+  later_refused : line ≢ end_line → TakesText r line (Err BadLine) → EndsNone (Lines r) line
+  later_refused other no_line c more is e = at h.1.0 h.1.1 h.1.2
     where
-      parts : (next_line c.next ≡ next_line r.next) × (map line_text c.lines ++ end_line ∷ [] ≡ map line_text (lines_of r) ++ line ∷ more)
-      parts = behind_next c opening_line (next_line r.next) (map line_text (lines_of r) ++ line ∷ more) e
+      h : IsLeft (Lines r) c (line ∷ more)
+      h = left (Lines r) read c is (line ∷ more) e
 
-      same : c.next ≡ r.next
-      same = decimals_one c.next r.next is.number.1 read.text.number.1 (same_behind (codes "next ") (decimal c.next) (decimal r.next) parts.0)
-
-      at : (line ≡ end_line) ⊎ ((l : CarriedLine) × (rest : List CarriedLine) × (c.lines ≡ lines_of r ++ l ∷ rest) × (line_text l ≡ line))
-          → (line ≡ end_line) ⊎ ((l : CarriedLine) × (line_text l ≡ line) × MayFollow r.next (lines_of r) l)
-      at (inl last) = inl last
-      at (inr found) =
-          let there : IsCarried (record { next = r.next; lines = lines_of r ++ found.0 ∷ found.1 }) =
-          subst (λ (n : ℕ). IsCarried (record { next = n; lines = lines_of r ++ found.0 ∷ found.1 })) same (subst (λ (xs : List CarriedLine). IsCarried (record { next = c.next; lines = xs })) found.2 is) in
-          inr (found.0, found.3, stands_there r.next (lines_of r) found.0 found.1 there)
-
-  pub later_refused : line ≢ end_line → TakesText r line (Err BadLine) → EndsNone (Lines r) line
-  later_refused other none c more is e = at (goes_with c more is e)
-    where
-      at : (line ≡ end_line) ⊎ ((l : CarriedLine) × (line_text l ≡ line) × MayFollow r.next (lines_of r) l) → ⊥
-      at (inl last) = other last
-      at (inr found) = none found.0 found.1 found.2
+      at : (rest : List CarriedLine) → c.lines ≡ lines_of r ++ rest → map line_text rest ++ end_line ∷ [] ≡ line ∷ more → ⊥
+      at [] same text = other (sym (cons_parts end_line line [] more text).0)
+      at (l ∷ rest) same text =
+          no_line l (cons_parts (line_text l) line (map line_text rest ++ end_line ∷ []) more text).0
+          (stands_there r.next (lines_of r) l rest
+          (subst (λ (n : ℕ). IsCarried (record { next = n; lines = lines_of r ++ l ∷ rest })) h.0 (subst (λ (xs : List CarriedLine). IsCarried (record { next = c.next; lines = xs })) same is)))
 
   pub later_fault : line ≢ end_line → (fault : LineFault) → TakesText r line (Err fault) → JudgesCarried (Lines r) line (Err fault)
-  later_fault other BadLine none = later_refused other none
-  later_fault other NoMemory none = tt
+  later_fault other BadLine no_line = later_refused other no_line
+  later_fault other NoMemory no_line = tt
 
--- behind the last line comes none
-no_more : (before xs : List CarriedLine) (line : List ℕ) (more : List (List ℕ)) → map line_text xs ++ end_line ∷ [] ≡ (map line_text before ++ end_line ∷ []) ++ line ∷ more → ⊥
-no_more [] [] line more e = cons_not_nil line more (sym (cons_parts end_line end_line [] (line ∷ more) e).1)
-no_more [] (x ∷ xs) line more e = no_end x (cons_parts (line_text x) end_line (map line_text xs ++ end_line ∷ []) (line ∷ more) e).0
-no_more (b ∷ before) [] line more e = no_end b (sym (cons_parts end_line (line_text b) [] ((map line_text before ++ end_line ∷ []) ++ line ∷ more) e).0)
-no_more (b ∷ before) (x ∷ xs) line more e = no_more before xs line more (cons_parts (line_text x) (line_text b) (map line_text xs ++ end_line ∷ []) ((map line_text before ++ end_line ∷ []) ++ line ∷ more) e).1
+pub none_behind_end : (r : CarriedRead) → IsCarried (text_of r) → (line : List ℕ) → EndsNone (Whole r) line
+none_behind_end r text line c more is e = cons_not_nil line more (left (Whole r) text c is (line ∷ more) e).1
 
-pub none_behind_end : (r : CarriedRead) (line : List ℕ) → EndsNone (Whole r) line
-none_behind_end r line c more is e = no_more (lines_of r) c.lines line more (behind_next c opening_line (next_line r.next) ((map line_text (lines_of r) ++ end_line ∷ []) ++ line ∷ more) e).1
+-- ---- a line by its text
 
--- ---- a line by its kind
-
-module _ (r : CarriedRead) where
-  pub line_fault : {T : Type 0} (line_of : T → CarriedLine) (text : List ℕ) (fault : LineFault) → ReadsLine line_of text (Err fault) → TakesText r text (Err fault)
-  line_fault line_of text BadLine none = λ line same may. none line may.form same
-  line_fault line_of text NoMemory none = tt
+module _ (r : CarriedRead) (text : List ℕ) where
+  pub line_fault : (fault : LineFault) → ReadsLine text (Err fault) → TakesText r text (Err fault)
+  line_fault BadLine bad = λ line same may. bad line may.form same
+  line_fault NoMemory bad = tt
 
   -- what is said of a line that was read is said of its text
-  pub of_text : (line : CarriedLine) (text : List ℕ) → HasItsForm line → line_text line ≡ text → (result : Result CarriedRead LineFault) → Takes r line result → TakesText r text result
-  of_text line text form same (Ok new) taken = (line, same, taken)
-  of_text line text form same (Err BadLine) none = λ other other_same may. none (subst (MayFollow r.next (lines_of r)) (same_line other line may.form form (other_same ∙ sym same)) may)
-  of_text line text form same (Err NoMemory) none = tt
+  pub of_text : (line : CarriedLine) → HasItsForm line → line_text line ≡ text → (result : Result CarriedRead LineFault) → Takes r line result → TakesText r text result
+  of_text line form same (Ok new) taken = (line, same, taken)
+  of_text line form same (Err BadLine) bad = λ other other_same may. bad (subst (MayFollow r.next (lines_of r)) (same_line other line may.form form (other_same ∙ sym same)) may)
+  of_text line form same (Err NoMemory) bad = tt
 
-  pub is_short : (line : CarriedLine) (text : List ℕ) → line_text line ≡ text → length text ≤ 4096 → IsShort line
-  is_short line text same low = omega (arith, ap length same)
-
-  -- a line that begins with none of the words is none
-  pub no_word : (text : List ℕ) → BeginsOther (codes "list /") text → BeginsOther (codes "value ") text → BeginsOther (codes "override ") text → TakesText r text (Err BadLine)
-  no_word text no_list no_value no_override line same may = at line same
-    where
-      at : (line : CarriedLine) → line_text line ≡ text → ⊥
-      at (collection n ms) e = no_list (n ++ printed_rest ms) (sym e)
-      at (entry Answer p t) e = no_value (slot_path_text p ++ 32 ∷ t) (sym e)
-      at (entry Override p t) e = no_override (slot_path_text p ++ 32 ∷ t) (sym e)
+  pub is_short : (line : CarriedLine) → line_text line ≡ text → length text ≤ 4096 → IsShort line
+  is_short line same low = omega (arith, ap length same)
 
   -- a long line is none
-  pub too_long : (text : List ℕ) → 4096 < length text → TakesText r text (Err BadLine)
-  too_long text long line same may = omega (arith, may.short, long, ap length same)
+  pub too_long : 4096 < length text → TakesText r text (Err BadLine)
+  too_long long line same may = omega (arith, may.short, long, ap length same)

@@ -1,16 +1,12 @@
 -- A carried text tells its lines, each line is kept or listed, and carrying gives one result.
-use Rattle.std.proofs.Common.{◌≡◌, ℕ, zero, suc, ◌+◌, ◌<◌, Bool, true, false, not, ◌||◌, nat_eq, cond, List, [], ◌∷◌, ◌++◌, map, Option, Some, None, Contains, slice_get, is_some, refl, sym, ap, subst, ◌∙◌, arith}
+use Rattle.std.proofs.Common.{Bool, Contains, List, None, Option, Some, [], ap, arith, cond, false, is_some, map, nat_eq, not, refl, slice_get, subst, suc, sym, true, zero, ℕ, ◌++◌, ◌+◌, ◌<◌, ◌||◌, ◌∙◌, ◌∷◌, ◌≡◌}
+use Rattle.save_file.proofs.Common.{Answered, AreOfKept, CarriedLine, CarriedText, CarriedTextsTellLines, CarryingGivesOne, EachLineIsKeptOrListed, Global, IsCarried, IsCarryOf, IsKept, Rules, append-nil, carried, carried_lines, collection, end_line, entry, equal_number, fact_of, is_list, keeps, kept_value, line_text, lines_of, list_any, nat_tests, numbers_failing, same, same_Some, slot_of, something, tree_of, value_of}
 use Rattle.std.specs.Prelude.{IsTrue, if◌then◌else◌}
 use Rattle.std.specs.FinMap as map
-use Rattle.save_file.proofs.Common.{Answered, AreOfKept, CarriedLine, CarriedText, CarriedTextsTellLines, CarryingGivesOne, EachLineIsKeptOrListed, Global, IsCarried, IsCarryOf, IsKept, Rules, carried, carried_lines, codes, collection, decimal, end_line, equal_number, fact_of, is_list, keeps, kept_value, line_text, list_any, nat_tests, next_line, numbers_failing, opening_line, same, same_Some, slot_of, something, tree_of, value_of}
-use Rattle.script_lines.specs.Lines.{lines_of}
-use Rattle.save_file.specs.CarriedText.{entry}
 use Rattle.save_file.proofs.CarriedEnds.{are_lines}
-use Rattle.save_file.proofs.CarriedLines.{same_lines}
+use Rattle.save_file.proofs.CarriedLines.{none_behind_end}
 use Rattle.save_file.proofs.CarriedSteps.{behind_next}
 use Rattle.save_file.proofs.Lines.{at_first, later_too}
-use Rattle.save_file.proofs.MemberParsing.{decimals_one}
-use Rattle.save_file.proofs.SlotTexts.{same_behind}
 use Rattle.save_file.proofs.SlotsLeft.{same_answers}
 use Rattle.save_file.proofs.TextLaws.{whole_lines}
 
@@ -18,16 +14,13 @@ use Rattle.save_file.proofs.TextLaws.{whole_lines}
 
 pub one_text : CarriedTextsTellLines
 one_text c e is other same =
-    ap (λ (n : ℕ). record { next = n; lines = c.lines }) next ∙ ap (λ (ls : List CarriedLine). record { next = e.next; lines = ls }) (same_lines c.lines e.lines is.forms other.forms parts.1)
+    ap (λ (n : ℕ). record { next = n; lines = c.lines }) parts.0
+    ∙ ap (λ (ls : List CarriedLine). record { next = e.next; lines = ls }) (parts.1.1 ∙ ap (λ (ls : List CarriedLine). e.lines ++ ls) (none_behind_end parts.1.0 [] parts.1.2).0 ∙ append-nil e.lines)
   where
-    all : carried_lines c ≡ carried_lines e
-    all = whole_lines IsCarried carried_lines are_lines c is (carried c) refl ∙ ap lines_of same ∙ sym (whole_lines IsCarried carried_lines are_lines e other (carried e) refl)
-
-    parts : (next_line c.next ≡ next_line e.next) × (map line_text c.lines ++ end_line ∷ [] ≡ map line_text e.lines ++ end_line ∷ [])
-    parts = behind_next c opening_line (next_line e.next) (map line_text e.lines ++ end_line ∷ []) all
-
-    next : c.next ≡ e.next
-    next = decimals_one c.next e.next is.number.1 other.number.1 (same_behind (codes "next ") (decimal c.next) (decimal e.next) parts.0)
+    parts : (c.next ≡ e.next) × ((rest : List CarriedLine) × (c.lines ≡ e.lines ++ rest) × (map line_text rest ++ end_line ∷ [] ≡ end_line ∷ []))
+    parts =
+        behind_next c e.next e.lines (end_line ∷ []) is other.number.1 other.forms
+        (whole_lines IsCarried carried_lines are_lines c is (carried c) refl ∙ ap lines_of same ∙ sym (whole_lines IsCarried carried_lines are_lines e other (carried e) refl))
 
 -- ---- numbers
 

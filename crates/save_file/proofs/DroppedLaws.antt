@@ -1,22 +1,17 @@
 -- What is written, and what is said of the lines that carrying drops.
-use Rattle.std.proofs.Common.{All, Bool, Err, List, Ok, Option, Result, [], ap, append_assoc, arith, drop, false, filter, inl, inr, length, length-drop, map, not, refl, subst, suc, sym, take, true, ℕ, ◌++◌, ◌+◌, ◌-◌, ◌<◌, ◌∙◌, ◌∷◌, ◌≡◌, ◌≢◌, ◌≤◌}
+use Rattle.std.proofs.Common.{All, Bool, Err, List, None, Ok, Option, Result, Some, [], ap, append_assoc, arith, drop, false, filter, inl, inr, length, length-drop, map, not, refl, subst, suc, sym, take, true, ℕ, ◌++◌, ◌+◌, ◌-◌, ◌<◌, ◌∙◌, ◌∷◌, ◌≡◌, ◌≢◌, ◌≤◌}
+use Rattle.save_file.proofs.Common.{AllByRecursion, Answer, Answered, CarriedLine, CarriedText, HasItsForm, IsCarried, IsCarry, IsFirstAt, Lacks, Override, Rules, Sent, Tree, Wrote, WrotePart, append-nil, carried_lines, codes, collection, cut, cut-append, cut-lacks, dropped_numbers, end_line, entries, entry, equal_number, failed_within, flat_map, is_next, joined, joined-append, keeps, line_text, lines_of, lists, name_lacks_blank, nat_tests, next_line, numbers_failing, opening_line, past, printed_rest, said, said_at, said_if, saved, sent_piece, slot_lacks_blank, slot_path_text, take_all}
 use Rattle.std.proofs.lemmas.Result.{err_from_is_err_and}
-use Rattle.std.specs.Prelude.{if◌then◌else◌}
+use Rattle.std.specs.Prelude.{if◌then◌else◌, unwrap_or}
 use Rattle.std.specs.Result.{IsErrAnd}
-use Rattle.save_file.proofs.Common.{All-head, All-tail, AllByRecursion, Answer, Answered, CarriedLine, CarriedText, HasItsForm, IsCarried, IsCarry, IsFirstAt, Lacks, Override, Rules, Tree, append-nil, at_byte, at_other, carried_lines, codes, collection, drop_more, dropped_numbers, end_line, entries, equal_number, flat_map, joined, keeps, line_text, lists, nat_tests, next_line, numbers_failing, opening_line, printed_rest, saved, slot_lacks_blank, slot_path_text, take-append-drop, take_all}
-use Rattle.fg_io.proofs.SentLaws.{sent_none, sent_piece}
-use Rattle.fg_io.proofs.WritingLaws.{failed_within}
+use Rattle.fact_paths.proofs.CutLaws.{cut-first, cut-none}
+use Rattle.fg_io.proofs.SentLaws.{sent_none}
 use Rattle.fg_io.specs.Outside.{HasCause, Output}
-use Rattle.fg_io.specs.Sent.{Sent}
-use Rattle.fg_io.specs.Writing.{Wrote, WroteAll, WrotePart}
+use Rattle.fg_io.specs.Writing.{WroteAll}
 use Rattle.save_file.proofs.CarriedEnds.{are_lines}
 use Rattle.save_file.proofs.SlotTexts.{Tail, tail_of}
 use Rattle.save_file.proofs.TextLaws.{empty_is, whole_lines}
-use Rattle.save_file.specs.CarriedText.{entry}
-use Rattle.save_file.specs.Dropped.{IsDroppedText, behind_word, dropped_key, dropped_keys, dropped_text, is_next, past, said, said_at, said_if, said_of, word_of}
-use Rattle.script_lines.proofs.JoinedLaws.{joined-append}
-use Rattle.script_lines.proofs.PartLaws.{name_lacks_blank}
-use Rattle.script_lines.specs.Lines.{lines_of}
+use Rattle.save_file.specs.Dropped.{IsDroppedText, behind_word, dropped_key, dropped_keys, dropped_text, said_of, word_of, words_of}
 
 -- ==== a text that is written piece by piece
 
@@ -81,53 +76,41 @@ saved_left d x a next e =
 
 -- ==== the first words of a line
 
--- ---- words
+-- where the text has a blank, and where it has none
+words_at : (text front back : List ℕ) → cut 32 text ≡ Some (front, back) → words_of text ≡ (front, back)
+words_at text front back e = ap (λ (o : Option (List ℕ × List ℕ)). unwrap_or o (text, [])) e
 
-word_front : (word rest : List ℕ) → Lacks 32 word → word_of (word ++ 32 ∷ rest) ≡ word
-word_front [] rest none = at_byte 32 32 [] (32 ∷ word_of rest) refl
-word_front (b ∷ word) rest none = at_other 32 b [] (b ∷ word_of (word ++ 32 ∷ rest)) none.0 ∙ ap (λ (w : List ℕ). b ∷ w) (word_front word rest none.1)
-
-behind_front : (word rest : List ℕ) → Lacks 32 word → behind_word (word ++ 32 ∷ rest) ≡ rest
-behind_front [] rest none = at_byte 32 32 rest (behind_word rest) refl
-behind_front (b ∷ word) rest none = at_other 32 b (word ++ 32 ∷ rest) (behind_word (word ++ 32 ∷ rest)) none.0 ∙ behind_front word rest none.1
-
-word_alone : (text : List ℕ) → Lacks 32 text → word_of text ≡ text
-word_alone [] none = refl
-word_alone (b ∷ text) none = at_other 32 b [] (b ∷ word_of text) none.0 ∙ ap (λ (w : List ℕ). b ∷ w) (word_alone text none.1)
-
-none_behind : (text : List ℕ) → Lacks 32 text → behind_word text ≡ []
-none_behind [] none = refl
-none_behind (b ∷ text) none = at_other 32 b text (behind_word text) none.0 ∙ none_behind text none.1
+words_uncut : (text : List ℕ) → cut 32 text ≡ None → words_of text ≡ (text, [])
+words_uncut text e = ap (λ (o : Option (List ℕ × List ℕ)). unwrap_or o (text, [])) e
 
 -- a word with nothing or a blank behind it
 word_before : (word tail : List ℕ) → Lacks 32 word → Tail tail → word_of (word ++ tail) ≡ word
-word_before word tail none (inl nothing) = ap (λ (t : List ℕ). word_of (word ++ t)) nothing ∙ ap word_of (append-nil word) ∙ word_alone word none
-word_before word tail none (inr some) = ap (λ (t : List ℕ). word_of (word ++ t)) some.1 ∙ word_front word some.0 none
+word_before word tail none (inl nothing) =
+    ap word_of (ap (λ (t : List ℕ). word ++ t) nothing ∙ append-nil word) ∙ ap (λ (p : List ℕ × List ℕ). p.0) (words_uncut word (cut-lacks 32 word none))
+word_before word tail none (inr some) =
+    ap word_of (ap (λ (t : List ℕ). word ++ t) some.1) ∙ ap (λ (p : List ℕ × List ℕ). p.0) (words_at (word ++ 32 ∷ some.0) word some.0 (cut-append 32 word some.0 none))
 
 -- ---- how they are cut
 
-lacks_of : (text : List ℕ) → All (λ b. b ≢ 32) text → Lacks 32 text
-lacks_of [] none = tt
-lacks_of (b ∷ text) none = (All-head (λ c. c ≢ 32) b text none, lacks_of text (All-tail (λ c. c ≢ 32) b text none))
+module _ (text : List ℕ) where
+  module _ (at : ℕ) (blank : IsFirstAt 32 text at) where
+    parts : words_of text ≡ (take at text, drop (at + 1) text)
+    parts =
+        words_at text (take at text) (drop (at + 1) text)
+        (cut-first 32 text (take at text) (drop (at + 1) text) at blank (let size : at ≡ at - 0 = omega arith in ap (λ (n : ℕ). take n text) size) refl)
 
-parts_at : (text : List ℕ) (at : ℕ) → IsFirstAt 32 text at → text ≡ take at text ++ 32 ∷ drop (at + 1) text
-parts_at text at blank =
-    sym (take-append-drop at text) ∙ ap (λ l. take at text ++ l) (drop_more text at 0 blank.within ∙ ap (λ b. b ∷ drop (at + 1) text) blank.here)
+    pub word_at : take at text ≡ word_of text
+    word_at = sym (ap (λ (p : List ℕ × List ℕ). p.0) parts)
 
-pub word_at : (text : List ℕ) (at : ℕ) → IsFirstAt 32 text at → take at text ≡ word_of text
-word_at text at blank =
-    sym (ap word_of (parts_at text at blank) ∙ word_front (take at text) (drop (at + 1) text) (lacks_of (take at text) blank.first))
+    pub behind_at : take (length text - (at + 1)) (drop (at + 1) text) ≡ behind_word text
+    behind_at = take_all (length text - (at + 1)) (drop (at + 1) text) (omega (arith, length-drop (at + 1) text)) ∙ sym (ap (λ (p : List ℕ × List ℕ). p.1) parts)
 
-pub behind_at : (text : List ℕ) (at : ℕ) → IsFirstAt 32 text at → take (length text - (at + 1)) (drop (at + 1) text) ≡ behind_word text
-behind_at text at blank =
-    take_all (length text - (at + 1)) (drop (at + 1) text) (omega (arith, length-drop (at + 1) text))
-    ∙ sym (ap behind_word (parts_at text at blank) ∙ behind_front (take at text) (drop (at + 1) text) (lacks_of (take at text) blank.first))
+  module _ (none : All (λ b. b ≢ 32) text) where
+    pub word_uncut : text ≡ word_of text
+    word_uncut = sym (ap (λ (p : List ℕ × List ℕ). p.0) (words_uncut text (cut-none 32 text none)))
 
-pub word_uncut : (text : List ℕ) → All (λ b. b ≢ 32) text → text ≡ word_of text
-word_uncut text none = sym (word_alone text (lacks_of text none))
-
-pub behind_uncut : (text : List ℕ) → All (λ b. b ≢ 32) text → [] ≡ behind_word text
-behind_uncut text none = sym (none_behind text (lacks_of text none))
+    pub behind_uncut : [] ≡ behind_word text
+    behind_uncut = sym (ap (λ (p : List ℕ × List ℕ). p.1) (words_uncut text (cut-none 32 text none)))
 
 -- ---- what is said of a line
 
@@ -137,10 +120,10 @@ said_line (collection name members) form =
     (word_before (47 ∷ name) (printed_rest members) (let other : 47 ≢ 32 = omega arith in other, name_lacks_blank name form.0) (tail_of members))
 said_line (entry Answer path text) form =
     ap (λ (word : List ℕ). codes "dropped " ++ (codes "value" ++ (codes " " ++ word)))
-    (word_front (slot_path_text path) text (slot_lacks_blank path form.0))
+    (word_before (slot_path_text path) (32 ∷ text) (slot_lacks_blank path form.0) (inr (text, refl)))
 said_line (entry Override path text) form =
     ap (λ (word : List ℕ). codes "dropped " ++ (codes "override" ++ (codes " " ++ word)))
-    (word_front (slot_path_text path) text (slot_lacks_blank path form.0))
+    (word_before (slot_path_text path) (32 ∷ text) (slot_lacks_blank path form.0) (inr (text, refl)))
 
 -- two words, in pieces
 pub said_left : (kind name : List ℕ) (a : Output) → IsLeft a a (said kind name ++ 10 ∷ []) (codes "dropped " ∷ kind ∷ codes " " ∷ name ∷ (10 ∷ []) ∷ [])

@@ -5,13 +5,11 @@ pub mod CarriedSteps
 pub mod CarryLaws
 mod Common
 pub mod DroppedLaws
-pub mod EntriesFollow
 pub mod Lines
 pub mod LineTexts
-pub mod ListsFollow
-pub mod LoadLaws
-pub mod LoadSteps
 pub mod MemberParsing
+pub mod OwnLaws
+pub mod OwnTexts
 pub mod RefusedLaws
 pub mod ResumeLaws
 pub mod SameTexts

@@ -1,5 +1,6 @@
 -- The texts of which lines are made: UTF-8, without newlines, and not long.
 use Rattle.std.proofs.Common.{Bool, List, Some, [], ap, arith, false, inl, inr, length, length-append, not, refl, slice_get, subst, suc, sym, true, zero, ℕ, ℤ, ◌&&◌, ◌*◌, ◌++◌, ◌<◌, ◌^◌, ◌∙◌, ◌∷◌, ◌≡◌, ◌≢◌, ◌≤◌}
+use Rattle.save_file.proofs.Common.{All-cons, All-from_get_or, All-nil, AllByRecursion, Answer, AreLists, FactType, HasNoNewline, HasNoNewline-append, IsMemberNumber, IsName, IsShort, IsSlotPath, IsUtf8, Listed, Override, Side, SlotPath, SpellsValue, Value, append-nil, are_distinct, are_options, both, both_some, codes, collection, decimal, entry, is_listed, is_name, is_name_byte, list_all, list_any, mapped, name_short, nat_lt, nat_tests, not_true, option_at, options_at, or_neither, own, printed_boolean, printed_item, printed_rest, side_word, slot_path_text}
 use Rattle.std.proofs.Math.Utf8.{encode, encodes}
 use Rattle.std.proofs.lemmas.Fmt.{digits_decimal}
 use Rattle.std.proofs.lemmas.Str.Ascii.{IsAscii-cons, IsAscii-nil}
@@ -7,17 +8,14 @@ use Rattle.std.proofs.lemmas.Str.{IsUtf8-append, IsUtf8-from_ascii, IsUtf8-from_
 use Rattle.std.specs.Char.{is_ascii_digit, is_control}
 use Rattle.std.specs.Int.{is_in_range}
 use Rattle.std.specs.Prelude.{nat_le}
-use Rattle.std.specs.Str.{IsUtf8, all_ascii_digits, chars, is_utf8}
-use Rattle.save_file.proofs.Common.{All-cons, All-from_get_or, All-nil, AllByRecursion, Answer, AreLists, FactType, HasNoNewline, HasNoNewline-append, IsMemberNumber, IsName, IsShort, IsSlotPath, Listed, Override, Side, SlotPath, SpellsValue, Value, append-nil, are_distinct, are_options, both, both_some, codes, collection, decimal, is_listed, is_name, is_name_byte, list_all, list_any, mapped, nat_lt, nat_tests, not_true, option_at, options_at, or_neither, printed_boolean, printed_item, printed_rest, side_word, slot_path_text}
+use Rattle.std.specs.Str.{all_ascii_digits, chars, is_utf8}
 use Rattle.fact_paths.proofs.NameLaws.{one_of_all}
 use Rattle.fact_paths.specs.declared.slot_path.SlotPath.TheVariants as slots
 use Rattle.fact_values.specs.Texts.{IsPlainText, has_control}
 use Rattle.fact_values.specs.declared.fact_type.FactType.TheVariants as types
 use Rattle.fact_values.specs.declared.value.Value.TheVariants as values
-use Rattle.save_file.specs.CarriedText.{entry}
 use Rattle.value_text.proofs.Decimals.{decimal_of_member}
-use Rattle.value_text.proofs.DigitLemmas.{own}
-use Rattle.value_text.proofs.EnumLemmas.{name_short, text_short}
+use Rattle.value_text.proofs.EnumLemmas.{text_short}
 use Rattle.value_text.specs.Dollars.{SpellsSize}
 use Rattle.value_text.specs.Fractions.{SpellsFraction}
 use Rattle.value_text.specs.Wholes.{SpellsWhole}

@@ -1,12 +1,11 @@
--- Lists of lines: of keys, by their first words, and which are there.
-use Rattle.std.proofs.Common.{Bool, Contains, List, None, Option, Some, [], ap, append_assoc, arith, cond, false, get_or, inl, inr, length, map, nat_eq, refl, slice_get, subst, suc, sym, true, zero, ℕ, ◌++◌, ◌+◌, ◌<◌, ◌∙◌, ◌∷◌, ◌≡◌, ◌≢◌, ◌≤◌, ◌⊎◌}
+-- Lists of lines: what each of a row of keys has, which lines are there, and lists that rise.
+use Rattle.std.proofs.Common.{Bool, Contains, List, None, Option, Some, [], ap, arith, cond, false, get_or, inl, inr, length, map, nat_eq, refl, slice_get, subst, suc, sym, true, zero, ℕ, ◌++◌, ◌+◌, ◌<◌, ◌∙◌, ◌∷◌, ◌≡◌, ◌≤◌, ◌⊎◌}
+use Rattle.save_file.proofs.Common.{All-head, All-tail, AllByRecursion, BeginsOther, Contains-append_cases, Contains-append_left, Contains-append_right, Contains-push, Contains-push_cases, Pairs, after, after-append, count_by, counted, find, flat_map, list_any, lookup, nat_tests, none-some, or_left, or_right, same_Some, same_number}
 use Rattle.std.proofs.lemmas.List.Sums.{sum_by-cons}
-use Rattle.std.specs.FinMap as map
 use Rattle.std.specs.List.{All}
-use Rattle.save_file.proofs.Common.{All-head, All-tail, AllByRecursion, Answer, Answered, BeginsOther, Contains-append_cases, Contains-append_left, Contains-append_right, Contains-push, Contains-push_cases, Override, Pairs, Side, Slot, Tree, Value, after, after-append, behind_lists, behind_side, codes, count_by, counted, end_line, entries, entry_line, entry_lines, entry_lines_of, find, flat_map, list_any, list_line, list_lines, list_lines_of, lookup, nat_tests, none-some, or_left, or_right, printed, printed_rest, same_Some, same_number, side_word, slot, slot_text, slots, value_of}
 use Rattle.save_file.proofs.TextLaws.{all-append}
 
--- ==== lines of keys, one after another, of which each has one line at most
+-- ==== parts of lists
 
 -- the parts of lists that are one
 pub cons_parts : {X : Type 0} (x y : X) (xs ys : List X) → x ∷ xs ≡ y ∷ ys → (x ≡ y) × (xs ≡ ys)
@@ -19,143 +18,21 @@ pub never_empty : {X : Type 0} (xs : List X) (y : X) → xs ++ y ∷ [] ≡ [] �
 never_empty [] y e = cc
 never_empty (x ∷ xs) y e = cc
 
--- a key has no line, or one
-abbrev pub HasOneAtMost : {K : Type 0} → (K → List (List ℕ)) → Type 0
-HasOneAtMost {K = K} g = (k : K) → (g k ≡ []) ⊎ ((l : List ℕ) × (g k ≡ l ∷ []))
-
--- the key has another line, or none
-abbrev pub HasOther : {K : Type 0} → (K → List (List ℕ)) → List ℕ → K → Type 0
-HasOther g line k = (l : List ℕ) → g k ≡ l ∷ [] → l ≢ line
-
-abbrev pub HasNone : {K : Type 0} → (K → List (List ℕ)) → K → Type 0
-HasNone g k = g k ≡ []
-
--- where the first line isn't one of theirs, they have none
-pub skip : {K : Type 0} (g : K → List (List ℕ)) → HasOneAtMost g → (ks : List K) (tail more : List (List ℕ)) (line : List ℕ)
-    → AllByRecursion (HasOther g line) ks → flat_map g ks ++ tail ≡ line ∷ more → AllByRecursion (HasNone g) ks × (tail ≡ line ∷ more)
-skip g one [] tail more line other e = (tt, e)
-skip {K = K} g one (k ∷ ks) tail more line other e = at (one k) (skip g one ks tail more line other.1)
-  where
-    at : (g k ≡ []) ⊎ ((l : List ℕ) × (g k ≡ l ∷ [])) → (flat_map g ks ++ tail ≡ line ∷ more → AllByRecursion (HasNone g) ks × (tail ≡ line ∷ more))
-        → (HasNone g k × AllByRecursion (HasNone g) ks) × (tail ≡ line ∷ more)
-    at (inl none) rest =
-        let later = rest (sym (ap (λ (ls : List (List ℕ)). (ls ++ flat_map g ks) ++ tail) none) ∙ e) in
-        ((none, later.0), later.1)
-    at (inr some) rest =
-        let f : some.0 ∷ (flat_map g ks ++ tail) ≡ line ∷ more = sym (ap (λ (ls : List (List ℕ)). (ls ++ flat_map g ks) ++ tail) some.1) ∙ e in
-        absurd (other.0 some.0 some.1 (cons_parts some.0 line (flat_map g ks ++ tail) more f).0)
-
--- keys without lines add none
-pub none_added : {K : Type 0} (g : K → List (List ℕ)) (ks : List K) (tail : List (List ℕ)) → AllByRecursion (HasNone g) ks → flat_map g ks ++ tail ≡ tail
-none_added g [] tail none = refl
-none_added g (k ∷ ks) tail none = ap (λ (ls : List (List ℕ)). (ls ++ flat_map g ks) ++ tail) none.0 ∙ none_added g ks tail none.1
-
--- the keys up to one, and those behind it
-pub behind_keys : {K : Type 0} (g : K → List (List ℕ)) (ks : List K) (k : K) (rest : List K) (tail : List (List ℕ)) → flat_map g (ks ++ k ∷ rest) ++ tail ≡ flat_map g ks ++ (g k ++ (flat_map g rest ++ tail))
-behind_keys g [] k rest tail = append_assoc (g k) (flat_map g rest) tail
-behind_keys g (j ∷ ks) k rest tail =
-    append_assoc (g j) (flat_map g (ks ++ k ∷ rest)) tail
-    ∙ ap (λ (ls : List (List ℕ)). g j ++ ls) (behind_keys g ks k rest tail)
-    ∙ sym (append_assoc (g j) (flat_map g ks) (g k ++ (flat_map g rest ++ tail)))
-
--- ==== the first words of the lines part them
-
 -- the first byte of a line
 abbrev pub first : List ℕ → ℕ
 first line = get_or line 0 0
+
+pub not_behind : (word line : List ℕ) → after word line ≡ None → BeginsOther word line
+not_behind word line none text e = none-some text (sym none ∙ ap (after word) e ∙ after-append word text)
 
 pub everywhere : {K : Type 0} (P : K → Type 0) → ((k : K) → P k) → (ks : List K) → AllByRecursion P ks
 everywhere P all [] = tt
 everywhere P all (k ∷ ks) = (all k, everywhere P all ks)
 
--- ---- each slot and each collection has one line at most
-
-entry_at_most : (side : Side) (d : Tree) (s : Slot) (o : Option Value) → (entry_lines_of side d s o ≡ []) ⊎ ((l : List ℕ) × (entry_lines_of side d s o ≡ l ∷ []))
-entry_at_most side d s None = inl refl
-entry_at_most side d s (Some v) = inr (entry_line side d s v, refl)
-
-pub one_entry : (side : Side) (d : Tree) (a : Answered) → HasOneAtMost (entry_lines side d a)
-one_entry side d a s = entry_at_most side d s (value_of side a s)
-
-list_at_most : (d : Tree) (c : ℕ) (o : Option (List ℕ)) → (list_lines_of d c o ≡ []) ⊎ ((l : List ℕ) × (list_lines_of d c o ≡ l ∷ []))
-list_at_most d c None = inl refl
-list_at_most d c (Some ms) = inr (list_line d c ms, refl)
-
-pub one_list : (d : Tree) (a : Answered) → HasOneAtMost (list_lines d a)
-one_list d a c = list_at_most d c (map.get a.lists c)
-
--- the line is that of a value, and of members
-pub entry_shown : (side : Side) (d : Tree) (a : Answered) (s : Slot) (l : List ℕ) → entry_lines side d a s ≡ l ∷ [] → (v : Value) × (value_of side a s ≡ Some v) × (l ≡ entry_line side d s v)
-entry_shown side d a s l e = at (value_of side a s) refl e
-  where
-    at : (o : Option Value) → value_of side a s ≡ o → entry_lines_of side d s o ≡ l ∷ [] → (v : Value) × (value_of side a s ≡ Some v) × (l ≡ entry_line side d s v)
-    at None is e = absurd cc
-    at (Some v) is e = (v, is, sym (cons_parts (entry_line side d s v) l [] [] e).0)
-
-pub list_shown : (d : Tree) (a : Answered) (c : ℕ) (l : List ℕ) → list_lines d a c ≡ l ∷ [] → (ms : List ℕ) × (map.get a.lists c ≡ Some ms) × (l ≡ list_line d c ms)
-list_shown d a c l e = at (map.get a.lists c) refl e
-  where
-    at : (o : Option (List ℕ)) → map.get a.lists c ≡ o → list_lines_of d c o ≡ l ∷ [] → (ms : List ℕ) × (map.get a.lists c ≡ Some ms) × (l ≡ list_line d c ms)
-    at None is e = absurd cc
-    at (Some ms) is e = (ms, is, sym (cons_parts (list_line d c ms) l [] [] e).0)
-
--- without a line there is no value, and no list
-pub no_entry : (side : Side) (d : Tree) (a : Answered) (s : Slot) → entry_lines side d a s ≡ [] → value_of side a s ≡ None
-no_entry side d a s e = at (value_of side a s) refl e
-  where
-    at : (o : Option Value) → value_of side a s ≡ o → entry_lines_of side d s o ≡ [] → value_of side a s ≡ None
-    at None is e = is
-    at (Some v) is e = absurd (cons_not_nil (entry_line side d s v) [] e)
-
-pub no_list : (d : Tree) (a : Answered) (c : ℕ) → list_lines d a c ≡ [] → map.get a.lists c ≡ None
-no_list d a c e = at (map.get a.lists c) refl e
-  where
-    at : (o : Option (List ℕ)) → map.get a.lists c ≡ o → list_lines_of d c o ≡ [] → map.get a.lists c ≡ None
-    at None is e = is
-    at (Some ms) is e = absurd (cons_not_nil (list_line d c ms) [] e)
-
--- ---- words
-
--- so it is no entry's line
-pub other_entry : (side : Side) (d : Tree) (a : Answered) (line : List ℕ) → BeginsOther (side_word side) line → (s : Slot) → HasOther (entry_lines side d a) line s
-other_entry side d a line other s l shown e =
-    let is = entry_shown side d a s l shown in
-    other (slot_text d s ++ (codes " " ++ printed d.enums is.0)) (sym e ∙ is.2)
-
-pub other_list : (d : Tree) (a : Answered) (line : List ℕ) → BeginsOther (codes "list ") line → (c : ℕ) → HasOther (list_lines d a) line c
-other_list d a line other c l shown e =
-    let is = list_shown d a c l shown in
-    other (slot_text d (slot c 0) ++ printed_rest is.0) (sym e ∙ is.2)
-
-pub not_behind : (word line : List ℕ) → after word line ≡ None → BeginsOther word line
-not_behind word line none text e = none-some text (sym none ∙ ap (after word) e ∙ after-append word text)
-
--- only the last line is left
-pub end_only : (line : List ℕ) (more : List (List ℕ)) → end_line ∷ [] ≡ line ∷ more → (line ≡ end_line) × (more ≡ [])
-end_only line more e = let parts = cons_parts end_line line [] more e in (sym parts.0, sym parts.1)
-
--- behind a side no line of it comes
-pub none_behind : (side : Side) (d : Tree) (a : Answered) (line : List ℕ) (more : List (List ℕ)) → first line ≡ first (side_word side) → behind_side side d a ≡ line ∷ more → ⊥
-none_behind Answer d a line more is e =
-    let byte : first line ≡ 118 = is in
-    let rest = skip (entry_lines Override d a) (one_entry Override d a) (slots d a) (end_line ∷ []) more line
-    (everywhere (HasOther (entry_lines Override d a) line) (other_entry Override d a line (λ text e. let o : first line ≡ 111 = ap first e in omega (arith, byte, o))) (slots d a)) e in
-    let last : first line ≡ 101 = ap first (end_only line more rest.1).0 in
-    omega (arith, byte, last)
-none_behind Override d a line more is e =
-    let byte : first line ≡ 111 = is in
-    let last : first line ≡ 101 = ap first (end_only line more e).0 in
-    omega (arith, byte, last)
-
--- and behind the lists no list
-pub no_list_behind : (d : Tree) (a : Answered) (line : List ℕ) (more : List (List ℕ)) → first line ≡ 108 → behind_lists d a ≡ line ∷ more → ⊥
-no_list_behind d a line more is e =
-    let answers = skip (entry_lines Answer d a) (one_entry Answer d a) (slots d a) (entries Override d a ++ end_line ∷ []) more line
-    (everywhere (HasOther (entry_lines Answer d a) line) (other_entry Answer d a line (λ text e. let o : first line ≡ 118 = ap first e in omega (arith, is, o))) (slots d a)) e in
-    let overrides = skip (entry_lines Override d a) (one_entry Override d a) (slots d a) (end_line ∷ []) more line
-    (everywhere (HasOther (entry_lines Override d a) line) (other_entry Override d a line (λ text e. let o : first line ≡ 111 = ap first e in omega (arith, is, o))) (slots d a)) answers.1 in
-    let last : first line ≡ 101 = ap first (end_only line more overrides.1).0 in
-    omega (arith, is, last)
+-- what is chosen by a test that passes
+pub chosen_by : {X : Type 0} (b : Bool) (o : Option X) (x : X) → cond b o None ≡ Some x → (b ≡ true) × (o ≡ Some x)
+chosen_by true o x e = (refl, e)
+chosen_by false o x e = absurd cc
 
 -- ==== what keys have, one after another, where each has one thing at most
 
@@ -208,6 +85,15 @@ across {X = X} R P Q each (x ∷ xs) ys left right = (of_one ys right, across R 
     of_one [] all = tt
     of_one (y ∷ ys) all = (each x y left.0 all.0, of_one ys all.1)
 
+-- of each, and of each two, where more is known of them
+pub all_where : {X : Type 0} (Q P S : X → Type 0) → ((x : X) → Q x → P x → S x) → (xs : List X) → AllByRecursion Q xs → AllByRecursion P xs → AllByRecursion S xs
+all_where Q P S each [] known all = tt
+all_where Q P S each (x ∷ xs) known all = (each x known.0 all.0, all_where Q P S each xs known.1 all.1)
+
+pub pairs_where : {X : Type 0} (Q : X → Type 0) (R S : X → X → Type 0) → ((x y : X) → Q x → Q y → R x y → S x y) → (xs : List X) → AllByRecursion Q xs → Pairs R xs → Pairs S xs
+pairs_where Q R S each [] known pairs = tt
+pairs_where Q R S each (x ∷ xs) known pairs = (all_where Q (R x) (S x) (λ y q r. each x y known.0 q r) xs known.1 pairs.0, pairs_where Q R S each xs known.1 pairs.1)
+
 -- ---- other lists of the same
 
 pub map_shown : {K X Y : Type 0} (o : K → Option X) (f : X → Y) (g : K → List Y) → ((k : K) → map f (onto (o k) []) ≡ g k) → (ks : List K) → map f (shown o ks) ≡ flat_map g ks
@@ -227,6 +113,15 @@ counted_above k from (suc n) low = (low, counted_above k (suc from) n (omega ari
 pub counted_rise : (from n : ℕ) → Pairs (λ k j. k < j) (counted from n)
 counted_rise from zero = tt
 counted_rise from (suc n) = (counted_above from (suc from) n (omega arith), counted_rise (suc from) n)
+
+-- what is true of all is true of each
+pub at_counted : (P : ℕ → Type 0) (from n : ℕ) → AllByRecursion P (counted from n) → (k : ℕ) → from ≤ k → k < from + n → P k
+at_counted P from zero all k low high = absurd (omega arith)
+at_counted P from (suc n) all k low high = at (nat_eq k from) refl (at_counted P (suc from) n all.1 k)
+  where
+    at : (b : Bool) → nat_eq k from ≡ b → (suc from ≤ k → k < suc from + n → P k) → P k
+    at true e rest = subst P (sym (same_number k from e)) all.0
+    at false e rest = rest (let above : suc from ≤ k = grind (arith, nat_tests) in above) (omega (arith, high))
 
 -- what one of them has is found
 pub any_counted : {X : Type 0} (o : ℕ → Option X) (p : X → Bool) (from n c : ℕ) (x : X) → from ≤ c → c < from + n → o c ≡ Some x → p x ≡ true → list_any p (shown o (counted from n)) ≡ true
@@ -290,6 +185,32 @@ one_of_all P (x ∷ xs) y all h = elim (first_or x xs y h) [ inl same ↦ subst 
 pub all_of : {X : Type 0} (P : X → Type 0) (xs : List X) → ((x : X) → Contains xs x → P x) → AllByRecursion P xs
 all_of P [] each = tt
 all_of P (x ∷ xs) each = (each x (at_first x xs), all_of P xs (λ y h. each y (later_too x xs y h)))
+
+-- lists that rise with the same elements are one
+pub one_rising : {X : Type 0} (f : X → ℕ) (xs ys : List X) → Pairs (λ x y. f x < f y) xs → Pairs (λ x y. f x < f y) ys → ((x : X) → Contains xs x → Contains ys x) → ((y : X) → Contains ys y → Contains xs y) → xs ≡ ys
+one_rising f [] [] rise up to from = refl
+one_rising f [] (y ∷ ys) rise up to from = absurd (none_there y (from y (at_first y ys)))
+one_rising f (x ∷ xs) [] rise up to from = absurd (none_there x (to x (at_first x xs)))
+one_rising {X = X} f (x ∷ xs) (y ∷ ys) rise up to from =
+    ap (λ z. z ∷ xs) same
+    ∙ ap (λ zs. y ∷ zs)
+    (one_rising f xs ys rise.1 up.1 (λ z h. behind y ys z (to z (later_too x xs z h)) (λ e. higher f xs x z rise.0 h (same ∙ e)))
+    (λ z h. behind x xs z (from z (later_too y ys z h)) (λ e. higher f ys y z up.0 h (sym same ∙ e))))
+  where
+    higher : (g : X → ℕ) (zs : List X) (a b : X) → AllByRecursion (λ z. g a < g z) zs → Contains zs b → a ≡ b → ⊥
+    higher g zs a b all h e = omega (arith, one_of_all (λ z. g a < g z) zs b all h, ap g e)
+
+    behind : (a : X) (zs : List X) (b : X) → Contains (a ∷ zs) b → (a ≡ b → ⊥) → Contains zs b
+    behind a zs b h other = elim (first_or a zs b h) [ inl e ↦ absurd (other e) | inr later ↦ later ]
+
+    same : x ≡ y
+    same = elim (first_or y ys x (to x (at_first x xs))) [
+      | inl e ↦ sym e
+      | inr later ↦ elim (first_or x xs y (from y (at_first y ys))) [
+        | inl e ↦ e
+        | inr also ↦ absurd (omega (arith, one_of_all (λ z. f y < f z) ys x up.0 later, one_of_all (λ z. f x < f z) xs y rise.0 also))
+      ]
+    ]
 
 -- what stands at a place of a list stands there too where each is mapped and more follow
 pub mapped_at : {X Y : Type 0} (f : X → Y) (xs : List X) (ys : List Y) (place : ℕ) (x : X) → slice_get xs place ≡ Some x → slice_get (map f xs ++ ys) place ≡ Some (f x)

@@ -1,13 +1,10 @@
 -- Members: how they are read, and tests of them.
-use Rattle.std.proofs.Common.{◌≤◌, Bool, Err, List, None, Ok, Option, Some, [], ap, append_assoc, arith, false, inl, inr, length, length-append, nat_eq, refl, subst, sym, true, ℕ, ◌++◌, ◌<◌, ◌||◌, ◌∙◌, ◌∷◌, ◌≡◌, ◌≢◌}
+use Rattle.std.proofs.Common.{Bool, Err, List, None, Ok, Option, Some, [], ap, append_assoc, arith, false, inl, inr, length, length-append, nat_eq, refl, subst, sym, true, ℕ, ◌++◌, ◌<◌, ◌||◌, ◌∙◌, ◌∷◌, ◌≡◌, ◌≢◌, ◌≤◌}
+use Rattle.save_file.proofs.Common.{AllByRecursion, BadLine, IsIn, IsMemberNumber, IsNextNumber, IsNotIn, Lacks, LineFault, MatchOption, NoMemory, ReadsMember, ReadsMembers, SpellsMemberNumber, and_intro, append-nil, are_below, both, cases_lt, codes, cut, cut_some, decimal, equal_number, front_lacks, list_any, nat_lt, nat_tests, neither_or, or_left, or_neither, or_right, own, printed_item, printed_rest, same_number, uncut_lacks}
 use Rattle.std.proofs.lemmas.Fmt.{decimal-digits_value, digits_value-decimal}
-use Rattle.std.specs.List.{All}
 use Rattle.std.specs.Str.Parse.{digits_value}
-use Rattle.save_file.proofs.Common.{All-cons, All-head, All-nil, All-tail, AllByRecursion, BadLine, IsBelow, IsIn, IsMemberNumber, IsNextNumber, IsNotIn, IsWithout, Lacks, LineFault, MatchOption, ReadsMember, ReadsMembers, SpellsMemberNumber, and_intro, append-nil, are_below, are_others, both, cases_lt, codes, cut, cut_some, decimal, equal_number, front_lacks, is_not, list_all, list_any, nat_lt, nat_tests, neither_or, not_true, or_left, or_neither, or_right, printed_item, printed_rest, same_number, uncut_lacks}
 use Rattle.save_file.proofs.Lines.{cons_not_nil, cons_parts}
 use Rattle.save_file.proofs.SlotTexts.{item_lacks, same_parts, tail_of}
-use Rattle.script_lines.specs.declared.fault.LineFault.TheVariants.{NoMemory}
-use Rattle.value_text.proofs.DigitLemmas.{own}
 
 -- ==== members that are read word by word, and the number of the next
 
@@ -156,19 +153,6 @@ there_none others (k ∷ ms) all =
     (all k (or_left (nat_eq k k) (list_any (nat_eq k) ms) (equal_number k)))
     (there_none others ms (λ m i. all m (or_right (nat_eq m k) (list_any (nat_eq m) ms) i)))
 
-pub apart_by : (ms : List ℕ) (c : ℕ) (lists : List (ℕ × List ℕ)) → list_all (λ (e : ℕ × List ℕ). are_others ms e.1) lists ≡ true → All (λ (e : ℕ × List ℕ). IsWithout e.1 (c, ms)) lists
-apart_by ms c [] all = All-nil (λ (e : ℕ × List ℕ). IsWithout e.1 (c, ms))
-apart_by ms c (e ∷ es) all =
-    let parts = both (are_others ms e.1) (list_all (λ (f : ℕ × List ℕ). are_others ms f.1) es) all in
-    All-cons (λ (f : ℕ × List ℕ). IsWithout f.1 (c, ms)) e es (none_there ms e.1 (not_true (list_any (λ m. list_any (nat_eq m) ms) e.1) parts.0)) (apart_by ms c es parts.1)
-
-pub by_apart : (ms : List ℕ) (c : ℕ) (lists : List (ℕ × List ℕ)) → All (λ (e : ℕ × List ℕ). IsWithout e.1 (c, ms)) lists → list_all (λ (e : ℕ × List ℕ). are_others ms e.1) lists ≡ true
-by_apart ms c [] all = refl
-by_apart ms c (e ∷ es) all =
-    and_intro (are_others ms e.1) (list_all (λ (f : ℕ × List ℕ). are_others ms f.1) es)
-    (is_not (list_any (λ m. list_any (nat_eq m) ms) e.1) (there_none ms e.1 (All-head (λ (f : ℕ × List ℕ). IsWithout f.1 (c, ms)) e es all)))
-    (by_apart ms c es (All-tail (λ (f : ℕ × List ℕ). IsWithout f.1 (c, ms)) e es all))
-
 -- ---- below
 
 pub below_from : (next : ℕ) (ms : List ℕ) → AllByRecursion (λ m. m < next) ms → are_below next ms ≡ true
@@ -180,9 +164,3 @@ from_below next [] all = tt
 from_below next (m ∷ ms) all =
     let tests_passed = both (nat_lt m next) (are_below next ms) all in
     (let test : nat_lt m next ≡ true = tests_passed.0 in let low : m < next = grind (arith, nat_tests) in low, from_below next ms tests_passed.1)
-
-pub below_by : (next c : ℕ) (ms : List ℕ) → are_below next ms ≡ true → IsBelow next (c, ms)
-below_by next c ms all = in_each (λ m. m < next) ms (from_below next ms all)
-
-pub by_below : (next c : ℕ) (ms : List ℕ) → IsBelow next (c, ms) → are_below next ms ≡ true
-by_below next c ms all = below_from next ms (each_in (λ m. m < next) ms all)

@@ -1,6 +1,6 @@
 -- A text is refused at one line.
-use Rattle.std.proofs.Common.{◌≡◌, ℕ, suc, ◌≤◌, List, arith, le_of_suc-le-suc, lt_of_not-le}
-use Rattle.save_file.specs.Loading.{IsRefusedAt}
+use Rattle.std.proofs.Common.{List, arith, le_of_suc-le-suc, lt_of_not-le, suc, ℕ, ◌≡◌, ◌≤◌}
+use Rattle.save_file.proofs.Common.{IsRefusedAt}
 
 no_later : (IsText : List ℕ → Type 0) (bytes : List ℕ) (n m : ℕ) → IsRefusedAt IsText bytes n → IsRefusedAt IsText bytes m → n ≤ m
 no_later IsText bytes n m h k =

@@ -1,16 +1,13 @@
 -- What is taken of a text that came from outside, and which lines are dropped.
 use Rattle.std.proofs.Common.{Bool, Contains, List, None, Option, Some, [], ap, append_assoc, arith, drop, false, filter, get_or, length, map, not, refl, subst, suc, sym, true, ℕ, ◌&&◌, ◌++◌, ◌+◌, ◌<◌, ◌||◌, ◌∙◌, ◌∷◌, ◌≡◌, ◌≤◌}
+use Rattle.save_file.proofs.Common.{AllByRecursion, Answer, Answered, AreOfKept, BadValue, CarriedLine, CarriedRead, CarriedText, Global, HasItsForm, IsBelowNext, IsCarried, IsCarryOf, IsInOrder, IsPlaced, IsShort, Member, NamesOther, NoMember, Override, Pairs, Refusal, Rules, SharesNone, SlotPath, TextLine, Tree, UnknownFact, Value, WrongKind, both, carried, collection, drop_more, dropped_from, entry, fact_of, first_of, has_its_member, is_answered_by, is_collection, kept_collection, kept_value, lacks_member, limit_refusals, line_of, list_any, lists_member, named_fact, names_of, option_map, overrides, read_lines as lines_of, set_refusals, text_of, tree_of, value_of, value_refusals, value_spelled, when}
 use Rattle.std.proofs.lemmas.List.Filters.{length-filter_both}
 use Rattle.std.specs.FinMap as map
-use Rattle.std.specs.Prelude.{Err, IsTrue, Ok, Result, if◌then◌else◌, is_none, is_some, string_bytes, unwrap_or}
-use Rattle.save_file.proofs.Common.{AllByRecursion, Answer, Answered, AreOfKept, BadValue, CarriedLine, CarriedRead, CarriedText, EntryLine, Global, HasItsForm, IsBelowNext, IsCarried, IsCarryOf, IsInOrder, IsShort, ListLine, Member, NamesOther, NoMember, OnOk, Override, Pairs, Refusal, Rules, SharesNone, Side, SlotPath, Tree, UnknownFact, Value, WrongKind, both, carried, collection, drop_more, fact_of, first_of, has_its_member, is_answered_by, is_collection, is_override, kept_collection, kept_value, lacks_member, length-map, limit_refusals, line_of_entry, line_of_list, list_any, lists_member, named_fact, names_of, option_map, set_refusals, text_of, tree_of, value_of, value_refusals, value_spelled, when}
-use Rattle.save_file.proofs.CarriedAnswers.{chosen_by, placed_where}
+use Rattle.std.specs.Prelude.{IsTrue, if◌then◌else◌, is_none, is_some, unwrap_or}
+use Rattle.save_file.proofs.CarriedAnswers.{placed_where}
 use Rattle.save_file.proofs.CarryLaws.{of_one, one_text}
-use Rattle.save_file.proofs.Lines.{one_of_all}
-use Rattle.save_file.specs.CarriedParsing.{lines_of}
-use Rattle.save_file.specs.CarriedText.{entry}
-use Rattle.save_file.specs.Keeping.{IsPlaced}
-use Rattle.save_file.specs.Resuming.{CarryingGivesTheSame, IsResumeOf, LimitsAllowWhatStands, NoOverrideStands, SetSaysTheReason, DroppedLine, DroppedWhereNotKept, all_dropped, fact_refusals, overrides, reason_of, dropped_from, dropped_where, without_overrides}
+use Rattle.save_file.proofs.Lines.{chosen_by, one_of_all}
+use Rattle.save_file.specs.Resuming.{CarryingGivesTheSame, IsResumeOf, LimitsAllowWhatStands, NoOverrideStands, SetSaysTheReason, DroppedLine, DroppedWhereNotKept, fact_refusals, reason_of, dropped_where, without_overrides}
 use Rattle.save_file.specs.declared.reason.Reason.TheVariants.{NoCollection, Refused as RefusedBy}
 use Rattle.save_file.specs.declared.reason.Reason.{Reason}
 
@@ -81,63 +78,27 @@ nothing_goes (entry Override p t ∷ lines) none = absurd (let other : true ≡ 
 
 -- ---- of what was read
 
-side_tells : (side : Side) (p : SlotPath) (t : List ℕ) → overrides (entry side p t) ≡ is_override side
-side_tells Answer p t = refl
-side_tells Override p t = refl
-
-entries_left : (es : List EntryLine) → left (map line_of_entry es) ≡ map line_of_entry (filter (λ (e : EntryLine). not (is_override e.side)) es)
-entries_left [] = refl
-entries_left (e ∷ es) =
-    ap (λ (b : Bool). if not b then line_of_entry e ∷ left (map line_of_entry es) else left (map line_of_entry es)) (side_tells e.side e.path (string_bytes e.text))
-    ∙ at (is_override e.side) (entries_left es)
+lines_left : (ls : List TextLine) → left (map line_of ls) ≡ map line_of (filter (λ (l : TextLine). not (overrides (line_of l))) ls)
+lines_left [] = refl
+lines_left (l ∷ ls) = at (not (overrides (line_of l))) (lines_left ls)
   where
-    at : (b : Bool) → left (map line_of_entry es) ≡ map line_of_entry (filter (λ (x : EntryLine). not (is_override x.side)) es)
-        → (if not b then line_of_entry e ∷ left (map line_of_entry es) else left (map line_of_entry es))
-        ≡ map line_of_entry (if not b then e ∷ filter (λ (x : EntryLine). not (is_override x.side)) es else filter (λ (x : EntryLine). not (is_override x.side)) es)
-    at true h = h
-    at false h = ap (λ (ls : List CarriedLine). line_of_entry e ∷ ls) h
+    at : (b : Bool) → left (map line_of ls) ≡ map line_of (filter (λ (x : TextLine). not (overrides (line_of x))) ls)
+        → (if b then line_of l ∷ left (map line_of ls) else left (map line_of ls)) ≡ map line_of (if b then l ∷ filter (λ (x : TextLine). not (overrides (line_of x))) ls else filter (λ (x : TextLine). not (overrides (line_of x))) ls)
+    at true h = ap (λ (xs : List CarriedLine). line_of l ∷ xs) h
+    at false h = h
 
-behind_lists : (ls : List ListLine) (rest : List CarriedLine) → left (map line_of_list ls ++ rest) ≡ map line_of_list ls ++ left rest
-behind_lists [] rest = refl
-behind_lists (l ∷ ls) rest = ap (λ (xs : List CarriedLine). line_of_list l ∷ xs) (behind_lists ls rest)
-
-module _ (old new : CarriedRead) (next : new.next ≡ old.next) (lists : new.lists.items ≡ old.lists.items) (entries : new.entries.items ≡ filter (λ (e : EntryLine). not (is_override e.side)) old.entries.items) where
+module _ (old new : CarriedRead) (next : new.next ≡ old.next) (lines : new.lines.items ≡ filter (λ (l : TextLine). not (overrides (line_of l))) old.lines.items) where
   pub text_left : text_of new ≡ without_overrides (text_of old)
   text_left =
       ap (λ (n : ℕ). record { next = n; lines = lines_of new }) next
-      ∙ ap (λ (ls : List CarriedLine). record { next = old.next; lines = ls })
-      (ap (λ (ls : List ListLine). map line_of_list ls ++ map line_of_entry new.entries.items) lists
-      ∙ ap (λ (es : List EntryLine). map line_of_list old.lists.items ++ map line_of_entry es) entries
-      ∙ ap (λ (xs : List CarriedLine). map line_of_list old.lists.items ++ xs) (sym (entries_left old.entries.items))
-      ∙ sym (behind_lists old.lists.items (map line_of_entry old.entries.items)))
+      ∙ ap (λ (xs : List CarriedLine). record { next = old.next; lines = xs }) (ap (map line_of) lines ∙ sym (lines_left old.lines.items))
 
-  pub few_left : (most : ℕ) → length old.lists.items + length old.entries.items + 3 < most → length new.lists.items + length new.entries.items + 3 < most
+  pub few_left : (most : ℕ) → length old.lines.items + 3 < most → length new.lines.items + 3 < most
   few_left most few =
-      let parts = length-filter_both (λ (e : EntryLine). not (is_override e.side)) (λ (e : EntryLine). not (not (is_override e.side))) (λ e. refl) old.entries.items in
-      omega (arith, parts, few, ap length lists, ap length entries)
+      let parts = length-filter_both (λ (l : TextLine). not (overrides (line_of l))) (λ (l : TextLine). not (not (overrides (line_of l)))) (λ l. refl) old.lines.items in
+      omega (arith, parts, few, ap length lines)
 
 -- ==== the lines that are dropped
-
-dropped-append : (r : Rules) (n : ℕ) (xs ys : List CarriedLine) → dropped_from r n (xs ++ ys) ≡ dropped_from r n xs ++ dropped_from r (length xs + n) ys
-dropped-append r n [] ys = ap (λ (m : ℕ). dropped_from r m ys) (let zero_more : n ≡ 0 + n = omega arith in zero_more)
-dropped-append r n (x ∷ xs) ys =
-    let later : length xs + suc n ≡ length (x ∷ xs) + n = omega arith in
-    ap (λ (ts : List DroppedLine). dropped_where n x (reason_of r x) ++ ts) (dropped-append r (suc n) xs ys ∙ ap (λ (m : ℕ). dropped_from r (suc n) xs ++ dropped_from r m ys) later)
-    ∙ sym (append_assoc (dropped_where n x (reason_of r x)) (dropped_from r (suc n) xs) (dropped_from r (length (x ∷ xs) + n) ys))
-
-pub dropped_in_all : (r : Rules) (read : CarriedRead) → dropped_from r 3 (map line_of_list read.lists.items) ++ dropped_from r (length read.lists.items + 3) (map line_of_entry read.entries.items) ≡ all_dropped r (lines_of read)
-dropped_in_all r read =
-    ap (λ (n : ℕ). dropped_from r 3 (map line_of_list read.lists.items) ++ dropped_from r (n + 3) (map line_of_entry read.entries.items)) (sym (length-map read.lists.items line_of_list))
-    ∙ sym (dropped-append r 3 (map line_of_list read.lists.items) (map line_of_entry read.entries.items))
-
--- the entries' behind the lists'
-pub dropped_behind : {T E : Type 0} (r : Rules) (read : CarriedRead) (result : Result T E) (old lists new : List DroppedLine) → lists ≡ old ++ dropped_from r 3 (map line_of_list read.lists.items)
-    → OnOk result (new ≡ lists ++ dropped_from r (length read.lists.items + 3) (map line_of_entry read.entries.items)) → OnOk result (new ≡ old ++ all_dropped r (lines_of read))
-dropped_behind r read (Ok x) old lists new e noted =
-    let of_lists = dropped_from r 3 (map line_of_list read.lists.items) in
-    let of_entries = dropped_from r (length read.lists.items + 3) (map line_of_entry read.entries.items) in
-    noted ∙ ap (λ (ts : List DroppedLine). ts ++ of_entries) e ∙ append_assoc old of_lists of_entries ∙ ap (λ (ts : List DroppedLine). old ++ ts) (dropped_in_all r read)
-dropped_behind r read (Err fault) old lists new e noted = tt
 
 pub dropped_on : {X : Type 0} (r : Rules) (line_of : X → CarriedLine) (items : List X) (i : ℕ) (item : X) → i < length items → item ≡ get_or items i item
     → (n m : ℕ) (old new : List DroppedLine) → new ≡ old ++ dropped_where n (line_of item) (reason_of r (line_of item)) → m ≡ suc n
@@ -233,7 +194,7 @@ set_says r is c carried a others of path text there = set_says_same r a path tex
     at : (p : SlotPath) → IsTrue (has_its_member c.lines (entry Answer p text)) → IsPlaced (tree_of r) a p
     at (Global n) has = λ f e. refl
     at (Member name k n) has =
-        placed_where (names_of r.checks) r is a (left c.lines) name k n (λ q ms h kept. (of.kept.lists q ms).1 (name, h, kept)) (member_left name k c.lines ∙ has)
+        placed_where (names_of r.checks) r.accepted is a (left c.lines) name k n (λ q ms h kept. (of.kept.lists q ms).1 (name, h, kept)) (member_left name k c.lines ∙ has)
 
 -- ---- beside carrying
 

@@ -1,28 +1,21 @@
 -- The saved text of answers that fit an accepted dictionary: it is a carried text, it tells its answers, and its own dictionary keeps its lines, but for answers that are refused now.
-use Rattle.save_file.specs.SavedLines.{EachAnswerIsKeptOrListed, HasALineEach, IsOnlyAt, IsSaid, KeepsOrListsAll, SavedTextsHaveALineEach}
 use Rattle.std.proofs.Common.{Bool, Contains, IsSome, List, None, Option, Some, [], ap, append_assoc, arith, bytes_eq, cond, false, if◌then◌else◌, inl, inr, is_none, is_some, length, map, nat_eq, refl, slice_get, subst, suc, sym, true, unwrap_or, zero, ℕ, ◌&&◌, ◌++◌, ◌+◌, ◌<◌, ◌∙◌, ◌∷◌, ◌≡◌, ◌≤◌, ◌⊎◌}
+use Rattle.save_file.proofs.Common.{Accepted, AllByRecursion, Answer, Answered, AnswersFit, AreLists, BadValue, CarriedLine, CarriedText, Fact, FactPath, Global, HasItsForm, HasPath, IsAccepted, IsBelowNext, IsCarried, IsCarry, IsCarryOf, IsIn, IsInOrder, IsKeptOrListed, IsName, IsRefusedAnswer, IsShort, IsSlot, IsSlotPath, NamesOther, Override, OwnLinesAreKept, Pairs, Refusal, Rules, SavedTextsAreCarried, SavedTextsTellAnswers, SharesNone, Side, Slot, SlotPath, Tree, Value, and_intro, both, carried, carried_lines, codes, collection, count_by, end_line, entries, entry, entry_line, entry_lines, entry_lines_of, equal_bytes, fact_at, fact_of, fact_of_standing, fact_size, facts, false_from_ne_true, first_of, has_its_member, home, home_is_collection, is_collection_type, is_list, is_member, joined, keeps, kept_collection, key_text, limit_refusals, line_text, list_any, list_any-append, list_line, list_lines, list_lines_of, list_of, lists, lists_member, lists_member_of, ltb-false, map-append, mapped, member_below, member_list-length, name_short, named_fact, names_of, nat_lt, next_line, none-some, opening_line, opens_of, option_map, or_left, path_of, printed, printed_rest, rank, same, same_Some, same_number, saved, saved_lines, side_word, slot, slot_path, slot_path_of, slot_path_text, slot_same, slot_short, slot_text, slots, stands, sum_by, takes, text_spells, too_many, tree_of, value_of, value_refusals, value_spelled, when}
+use Rattle.save_file.specs.SavedLines.{EachAnswerIsKeptOrListed, HasALineEach, IsOnlyAt, IsSaid, KeepsOrListsAll, SavedTextsHaveALineEach}
 use Rattle.std.specs.FinMap as map
 use Rattle.std.specs.Prelude.{IsTrue}
-use Rattle.save_file.proofs.Common.{Accepted, AllByRecursion, Answer, Answered, AnswersFit, AreLists, AreSlots, BadValue, CarriedLine, CarriedText, Fact, FactPath, Global, HasItsForm, HasPath, IsAccepted, IsBelowNext, IsCarried, IsCarry, IsCarryOf, IsIn, IsInOrder, IsKeptOrListed, IsName, IsRefusedAnswer, IsShort, IsSlot, IsSlotPath, NamesOther, Override, OwnLinesAreKept, Pairs, Refusal, Rules, SavedTextsAreCarried, SavedTextsTellAnswers, SharesNone, Side, Slot, SlotPath, Tree, Value, and_intro, both, carried, carried_lines, codes, collection, count_by, end_line, entries, entry_line, entry_lines, entry_lines_of, equal_bytes, fact_at, fact_of, fact_of_standing, fact_size, facts, false_from_ne_true, first_of, has_its_member, home, home_is_collection, is_collection_type, is_list, is_member, joined, keeps, key_text, limit_refusals, line_text, list_any, list_any-append, list_line, list_lines, list_lines_of, list_of, lists, lists_member, lists_member_of, ltb-false, map-append, mapped, member_below, named_fact, names_of, nat_lt, next_line, none-some, opening_line, opens_of, option_map, or_left, path_of, printed, printed_rest, rank, same, same_Some, same_number, saved, saved_lines, side_word, slot, slot_path, slot_path_text, slot_same, slot_same-itself, slot_short, slot_text, slots, stands, sum_by, takes, text_spells, too_many, tree_of, value_of, value_refusals, value_spelled, when}
-use Rattle.dictionary.specs.SlotText.{slot_path_of}
-use Rattle.evaluation.proofs.MemberLaws.{member_list-length}
 use Rattle.fact_paths.specs.declared.fact_path.FactPath.TheVariants as facts_by
 use Rattle.fact_paths.specs.declared.slot_path.SlotPath.TheVariants as paths
-use Rattle.save_file.proofs.CarriedAnswers.{named_kept}
-use Rattle.save_file.proofs.CarriedEnds.{are_lines}
+use Rattle.save_file.proofs.CarriedAnswers.{list_within, named_kept}
 use Rattle.save_file.proofs.CarriedLines.{entry_pieces, few_lists, higher, in_order, names_other, shares_none}
 use Rattle.save_file.proofs.CarryLaws.{kept_or_listed, one_text, same_options, there_at}
-use Rattle.save_file.proofs.EntriesFollow.{at_one}
-use Rattle.save_file.proofs.LineTexts.{IsLine, entry_short, list_short, rest_short, value_short}
-use Rattle.save_file.proofs.Lines.{across, all_of, all_shown, any_counted, counted_rise, each_shown, everywhere, few_shown, first_or, map_shown, mapped_at, none_there, one_of_all, onto, pairs-append, pairs_shown, shown}
-use Rattle.save_file.proofs.ListsFollow.{at_counted, list_within}
+use Rattle.save_file.proofs.LineTexts.{entry_short, list_short, rest_short, value_short}
+use Rattle.save_file.proofs.Lines.{across, all_of, all_shown, any_counted, at_counted, counted_rise, each_shown, everywhere, few_shown, first_or, map_shown, mapped_at, none_there, one_of_all, onto, pairs-append, pairs_shown, shown}
 use Rattle.save_file.proofs.SlotTexts.{entry_slot, found_at, list_slot, members_numbered, numbers_of, of_type, one_slot, open_list, open_list_members, path_parts, printed_line, printed_read, same_behind}
-use Rattle.save_file.proofs.SlotsLeft.{all_slots, none_outside, same_answers}
+use Rattle.save_file.proofs.SlotsLeft.{at_one, none_outside, same_answers, slot_number, slots_rise}
 use Rattle.save_file.proofs.TextLaws.{all-append, all_behind, in_front}
-use Rattle.save_file.specs.CarriedText.{entry}
-use Rattle.value_text.proofs.EnumLemmas.{name_short}
 use Rattle.value_text.proofs.PrintedTexts.{value_spelled as printed_spelled}
-use Rattle.save_file.proofs.MemberParsing.{each_in, none_same}
+use Rattle.save_file.proofs.MemberParsing.{each_in}
 
 -- ==== the saved text of answers that fit an accepted dictionary is a carried text
 
@@ -38,6 +31,10 @@ global_path : (path : SlotPath) (p : FactPath) → path ≡ slot_path_of 0 p →
 global_path (paths.Global n) p e is = (n, refl)
 global_path (paths.Member c k n) (facts_by.Global m) e is = absurd cc
 global_path (paths.Member c k n) (facts_by.Member b m) e is = let none : k ≡ 0 = cc in absurd (omega (arith, none, is.1.0))
+
+path_back : (m : ℕ) (p : FactPath) → path_of (slot_path_of m p) ≡ p
+path_back m (facts_by.Global n) = refl
+path_back m (facts_by.Member c n) = refl
 
 -- ---- collections are few
 
@@ -55,12 +52,6 @@ few_collections d h =
 opened : (o : Option Fact) → opens_of o ≡ true → (f : Fact) × (o ≡ Some f) × (is_collection_type f.stated ≡ true)
 opened None h = absurd cc
 opened (Some f) h = (f, refl, h)
-
--- ---- members
-
-apart_slots : (d : Tree) (a : Answered) (ss : List Slot) → AreSlots d a ss → Pairs (λ (s t : Slot). slot_same s t ≡ false) ss
-apart_slots d a [] all = tt
-apart_slots d a (s ∷ ss) all = (none_same (slot_same s) ss all.1, apart_slots d a ss all.2)
 
 -- ---- the lines
 
@@ -108,6 +99,15 @@ module _ (names : List (List ℕ)) (d : Accepted) (is : IsAccepted names d) wher
       let same : spelled.0 ≡ path_at d.tree s = sym (ap (λ (o : Option SlotPath). unwrap_or o (paths.Global [])) spelled.1) in
       (subst IsSlotPath same spelled.2.0, (spelled.2.1 ∙ ap slot_path_text same, spelled.1 ∙ ap Some same))
 
+  -- the fact of a slot's path
+  pub fact_named : (s : Slot) (path : SlotPath) → slot_path d.tree s ≡ Some path → named_fact d.tree path ≡ Some s.fact
+  fact_named s path e =
+      let parts = path_parts names d is s path e in
+      found_at names d is (path_of path) s.fact (subst (λ (p : FactPath). HasPath d.tree.facts p s.fact) (sym (ap path_of parts.2 ∙ path_back s.member parts.0)) parts.1)
+
+  pub list_named : (c : ℕ) → IsTrue (is_list d.tree c) → kept_collection d.tree (name_of d.tree c) ≡ Some c
+  list_named c list = named_kept d.tree (name_of d.tree c) c list (fact_named (slot c 0) (Global (name_of d.tree c)) (spelled_list c list).1.1)
+
   -- which tell them
   pub one_name : (c k : ℕ) → IsTrue (is_list d.tree c) → IsTrue (is_list d.tree k) → name_of d.tree c ≡ name_of d.tree k → c ≡ k
   one_name c k list other e =
@@ -120,14 +120,14 @@ module _ (names : List (List ℕ)) (d : Accepted) (is : IsAccepted names d) wher
 module _ (names : List (List ℕ)) (d : Accepted) (is : IsAccepted names d) (enums : AreLists d.tree.enums) (a : Answered) (fit : AnswersFit d.tree a) where
   -- ---- the line of a list
 
-  list_of_name : (c : ℕ) (ms : List ℕ) → map.get a.lists c ≡ Some ms → IsName (name_of d.tree c) × ((slot_text d.tree (slot c 0) ≡ 47 ∷ name_of d.tree c) × (slot_path d.tree (slot c 0) ≡ Some (paths.Global (name_of d.tree c))))
+  pub list_of_name : (c : ℕ) (ms : List ℕ) → map.get a.lists c ≡ Some ms → IsName (name_of d.tree c) × ((slot_text d.tree (slot c 0) ≡ 47 ∷ name_of d.tree c) × (slot_path d.tree (slot c 0) ≡ Some (paths.Global (name_of d.tree c))))
   list_of_name c ms has = spelled_list names d is c (open_list d.tree a fit c ms has)
 
   list_text : (c : ℕ) (ms : List ℕ) → map.get a.lists c ≡ Some ms → line_text (collection (name_of d.tree c) ms) ≡ list_line d.tree c ms
   list_text c ms has = ap (λ (t : List ℕ). codes "list " ++ (t ++ printed_rest ms)) (sym (list_of_name c ms has).1.0)
 
   -- what is true of the line of each list that is open
-  of_lists : (P : CarriedLine → Type 0) → ((c : ℕ) (ms : List ℕ) → map.get a.lists c ≡ Some ms → P (collection (name_of d.tree c) ms)) → AllByRecursion P (list_part d.tree a)
+  pub of_lists : (P : CarriedLine → Type 0) → ((c : ℕ) (ms : List ℕ) → map.get a.lists c ≡ Some ms → P (collection (name_of d.tree c) ms)) → AllByRecursion P (list_part d.tree a)
   of_lists P each =
       all_shown (list_at d.tree a) (λ (c : ℕ). Unit {0}) P
       (λ c x all e. let parts = mapped (collection (name_of d.tree c)) (map.get a.lists c) x e in subst P (sym parts.2) (each c parts.0 parts.1))
@@ -138,7 +138,7 @@ module _ (names : List (List ℕ)) (d : Accepted) (is : IsAccepted names d) (enu
 
   -- ---- the line of an entry
 
-  spelled_entry : (side : Side) (s : Slot) (v : Value) → value_of side a s ≡ Some v → IsSlotPath (path_at d.tree s) × ((slot_text d.tree s ≡ slot_path_text (path_at d.tree s)) × (slot_path d.tree s ≡ Some (path_at d.tree s)))
+  pub spelled_entry : (side : Side) (s : Slot) (v : Value) → value_of side a s ≡ Some v → IsSlotPath (path_at d.tree s) × ((slot_text d.tree s ≡ slot_path_text (path_at d.tree s)) × (slot_path d.tree s ≡ Some (path_at d.tree s)))
   spelled_entry side s v has = spelled_slot names d is s (entry_slot d.tree a fit side s v has)
 
   entry_text : (side : Side) (s : Slot) (v : Value) → value_of side a s ≡ Some v → line_text (entry side (path_at d.tree s) (printed d.tree.enums v)) ≡ entry_line side d.tree s v
@@ -146,7 +146,7 @@ module _ (names : List (List ℕ)) (d : Accepted) (is : IsAccepted names d) (enu
       entry_pieces side (path_at d.tree s) (printed d.tree.enums v)
       ∙ ap (λ (t : List ℕ). side_word side ++ (t ++ 32 ∷ printed d.tree.enums v)) (sym (spelled_entry side s v has).1.0)
 
-  of_side : (P : CarriedLine → Type 0) (side : Side) → ((s : Slot) (v : Value) → value_of side a s ≡ Some v → P (entry side (path_at d.tree s) (printed d.tree.enums v))) → AllByRecursion P (side_part d.tree a side)
+  pub of_side : (P : CarriedLine → Type 0) (side : Side) → ((s : Slot) (v : Value) → value_of side a s ≡ Some v → P (entry side (path_at d.tree s) (printed d.tree.enums v))) → AllByRecursion P (side_part d.tree a side)
   of_side P side each =
       all_shown (entry_at d.tree a side) (λ (s : Slot). Unit {0}) P
       (λ s x all e. let parts = mapped (λ (v : Value). entry side (path_at d.tree s) (printed d.tree.enums v)) (value_of side a s) x e in subst P (sym parts.2) (each s parts.0 parts.1))
@@ -159,7 +159,7 @@ module _ (names : List (List ℕ)) (d : Accepted) (is : IsAccepted names d) (enu
       (all-append P (side_part d.tree a Answer) (side_part d.tree a Override) (of_side P Answer (entries Answer)) (of_side P Override (entries Override)))
 
   -- and what is true of all lines is true of each list's and of each value's
-  list_of_all : (P : CarriedLine → Type 0) → AllByRecursion P (all_parts d.tree a) → (c : ℕ) (ms : List ℕ) → map.get a.lists c ≡ Some ms → P (collection (name_of d.tree c) ms)
+  pub list_of_all : (P : CarriedLine → Type 0) → AllByRecursion P (all_parts d.tree a) → (c : ℕ) (ms : List ℕ) → map.get a.lists c ≡ Some ms → P (collection (name_of d.tree c) ms)
   list_of_all P all c ms has =
       let within = list_within d.tree c (open_list d.tree a fit c ms has) in
       at_counted (λ k. (x : CarriedLine) → list_at d.tree a k ≡ Some x → P x) 1 (length d.tree.facts) (each_shown (list_at d.tree a) P (facts d.tree) (in_front P (list_part d.tree a) (behind d.tree a) all)) c (omega (arith, within.0)) (omega (arith, within.1))
@@ -169,7 +169,7 @@ module _ (names : List (List ℕ)) (d : Accepted) (is : IsAccepted names d) (enu
   side_of_all P all Answer = in_front P (side_part d.tree a Answer) (side_part d.tree a Override) (all_behind P (list_part d.tree a) (behind d.tree a) all)
   side_of_all P all Override = all_behind P (side_part d.tree a Answer) (side_part d.tree a Override) (all_behind P (list_part d.tree a) (behind d.tree a) all)
 
-  value_of_all : (P : CarriedLine → Type 0) → AllByRecursion P (all_parts d.tree a) → (side : Side) (s : Slot) (v : Value) → value_of side a s ≡ Some v → P (entry side (path_at d.tree s) (printed d.tree.enums v))
+  pub value_of_all : (P : CarriedLine → Type 0) → AllByRecursion P (all_parts d.tree a) → (side : Side) (s : Slot) (v : Value) → value_of side a s ≡ Some v → P (entry side (path_at d.tree s) (printed d.tree.enums v))
   value_of_all P all side s v has = at (list_any (slot_same s) (slots d.tree a)) refl
     where
       at : (t : Bool) → list_any (slot_same s) (slots d.tree a) ≡ t → P (entry side (path_at d.tree s) (printed d.tree.enums v))
@@ -227,7 +227,7 @@ module _ (names : List (List ℕ)) (d : Accepted) (is : IsAccepted names d) (enu
       (pairs-append R (side_part d.tree a Answer) (side_part d.tree a Override) (sides Answer) (sides Override) (across R (λ x. rank x ≡ 1) (λ y. rank y ≡ 2) to_overrides (side_part d.tree a Answer) (side_part d.tree a Override) answer_rank override_rank))
       (across R (λ x. rank x ≡ 0) (λ y. 1 ≤ rank y) to_entries (list_part d.tree a) (behind d.tree a) list_rank behind_rank)
 
-  two_lists : (R : CarriedLine → CarriedLine → Type 0) → ((c k : ℕ) (ms ns : List ℕ) → c < k → map.get a.lists c ≡ Some ms → map.get a.lists k ≡ Some ns → R (collection (name_of d.tree c) ms) (collection (name_of d.tree k) ns)) → Pairs R (list_part d.tree a)
+  pub two_lists : (R : CarriedLine → CarriedLine → Type 0) → ((c k : ℕ) (ms ns : List ℕ) → c < k → map.get a.lists c ≡ Some ms → map.get a.lists k ≡ Some ns → R (collection (name_of d.tree c) ms) (collection (name_of d.tree k) ns)) → Pairs R (list_part d.tree a)
   two_lists R each =
       pairs_shown (list_at d.tree a) (λ c k. c < k) R
       (λ c k x y low e f.
@@ -236,16 +236,16 @@ module _ (names : List (List ℕ)) (d : Accepted) (is : IsAccepted names d) (enu
       subst (λ (z : CarriedLine). R z y) (sym left.2) (subst (R (collection (name_of d.tree c) left.0)) (sym right.2) (each c k left.0 right.0 low left.1 right.1))))
       (facts d.tree) (counted_rise 1 (length d.tree.facts))
 
-  two_entries : (R : CarriedLine → CarriedLine → Type 0) (side : Side)
-      → ((s t : Slot) (v w : Value) → slot_same s t ≡ false → value_of side a s ≡ Some v → value_of side a t ≡ Some w → R (entry side (path_at d.tree s) (printed d.tree.enums v)) (entry side (path_at d.tree t) (printed d.tree.enums w)))
+  pub two_entries : (R : CarriedLine → CarriedLine → Type 0) (side : Side)
+      → ((s t : Slot) (v w : Value) → slot_number d.tree a s < slot_number d.tree a t → value_of side a s ≡ Some v → value_of side a t ≡ Some w → R (entry side (path_at d.tree s) (printed d.tree.enums v)) (entry side (path_at d.tree t) (printed d.tree.enums w)))
       → Pairs R (side_part d.tree a side)
   two_entries R side each =
-      pairs_shown (entry_at d.tree a side) (λ (s t : Slot). slot_same s t ≡ false) R
+      pairs_shown (entry_at d.tree a side) (λ (s t : Slot). slot_number d.tree a s < slot_number d.tree a t) R
       (λ s t x y other e f.
       (let left = mapped (λ (v : Value). entry side (path_at d.tree s) (printed d.tree.enums v)) (value_of side a s) x e in
       let right = mapped (λ (v : Value). entry side (path_at d.tree t) (printed d.tree.enums v)) (value_of side a t) y f in
       subst (λ (z : CarriedLine). R z y) (sym left.2) (subst (R (entry side (path_at d.tree s) (printed d.tree.enums left.0))) (sym right.2) (each s t left.0 right.0 other left.1 right.1))))
-      (slots d.tree a) (apart_slots d.tree a (slots d.tree a) (all_slots d.tree a fit.well))
+      (slots d.tree a) (slots_rise d.tree a fit)
 
   order : Pairs IsInOrder (all_parts d.tree a)
   order =
@@ -262,12 +262,11 @@ module _ (names : List (List ℕ)) (d : Accepted) (is : IsAccepted names d) (enu
       let fact = one_name names d is c k (open_list d.tree a fit c ms has) (open_list d.tree a fit k ns also) (same_behind (codes "list /") (name_of d.tree c) (name_of d.tree k) same) in
       omega (arith, low, fact)
 
-  other_entry : (side : Side) (s t : Slot) (v w : Value) → slot_same s t ≡ false → value_of side a s ≡ Some v → value_of side a t ≡ Some w
+  other_entry : (side : Side) (s t : Slot) (v w : Value) → slot_number d.tree a s < slot_number d.tree a t → value_of side a s ≡ Some v → value_of side a t ≡ Some w
       → NamesOther (entry side (path_at d.tree s) (printed d.tree.enums v)) (entry side (path_at d.tree t) (printed d.tree.enums w))
-  other_entry side s t v w other has also same =
+  other_entry side s t v w low has also same =
       let one = one_path names d is s t (entry_slot d.tree a fit side s v has) (entry_slot d.tree a fit side t w also) (same_behind (side_word side) (slot_path_text (path_at d.tree s)) (slot_path_text (path_at d.tree t)) same) in
-      let itself : slot_same s t ≡ true = ap (slot_same s) (sym one) ∙ slot_same-itself s in
-      absurd cc
+      omega (arith, low, ap (slot_number d.tree a) one)
 
   once : Pairs NamesOther (all_parts d.tree a)
   once =
@@ -309,10 +308,9 @@ module _ (names : List (List ℕ)) (d : Accepted) (is : IsAccepted names d) (enu
           ∙ or_left (list_any (lists_member c k) (list_part d.tree a)) (list_any (lists_member c k) (behind d.tree a))
           (any_counted (list_at d.tree a) (lists_member c k) 1 (length d.tree.facts) h (collection (name_of d.tree h) ms) (omega (arith, within.0)) (omega (arith, within.1)) (ap (option_map (collection (name_of d.tree h))) e) passes)
 
-  at_path : (side : Side) (s : Slot) (v : Value) → value_of side a s ≡ Some v → (p : FactPath) → HasPath d.tree.facts p s.fact → path_at d.tree s ≡ slot_path_of s.member p → lists_member_of (all_parts d.tree a) (path_at d.tree s) ≡ true
-  at_path side s v has (facts_by.Global n) there e = ap (lists_member_of (all_parts d.tree a)) e
-  at_path side s v has (facts_by.Member c n) there e =
-      ap (lists_member_of (all_parts d.tree a)) e ∙ listed c s.member (home d.tree s.fact) (home_is_collection names d s.fact c n is there).0.here (at (nat_eq (home d.tree s.fact) 0) refl standing.2)
+  -- a slot with a member stands where its home has the member
+  pub in_home : (side : Side) (s : Slot) (v : Value) → value_of side a s ≡ Some v → (c n : List ℕ) → path_at d.tree s ≡ paths.Member c s.member n → is_member a (home d.tree s.fact) s.member ≡ true
+  in_home side s v has c n e = at (nat_eq (home d.tree s.fact) 0) refl standing.2
     where
       standing : (f : Fact) × (fact_at d.tree.facts s.fact ≡ Some f) × IsTrue (if nat_eq (home d.tree s.fact) 0 then nat_eq s.member 0 else is_member a (home d.tree s.fact) s.member)
       standing = fact_of_standing d.tree a s (both (stands d.tree a s) (takes side d.tree s.fact) (fit.placed side s (ap is_some has))).0
@@ -323,6 +321,11 @@ module _ (names : List (List ℕ)) (d : Accepted) (is : IsAccepted names d) (enu
       at : (b : Bool) → nat_eq (home d.tree s.fact) 0 ≡ b → IsTrue (if b then nat_eq s.member 0 else is_member a (home d.tree s.fact) s.member) → is_member a (home d.tree s.fact) s.member ≡ true
       at true h i = absurd (let none : s.member ≡ 0 = same_number s.member 0 i in omega (arith, some, none))
       at false h i = i
+
+  at_path : (side : Side) (s : Slot) (v : Value) → value_of side a s ≡ Some v → (p : FactPath) → HasPath d.tree.facts p s.fact → path_at d.tree s ≡ slot_path_of s.member p → lists_member_of (all_parts d.tree a) (path_at d.tree s) ≡ true
+  at_path side s v has (facts_by.Global n) there e = ap (lists_member_of (all_parts d.tree a)) e
+  at_path side s v has (facts_by.Member c n) there e =
+      ap (lists_member_of (all_parts d.tree a)) e ∙ listed c s.member (home d.tree s.fact) (home_is_collection names d s.fact c n is there).0.here (in_home side s v has c n e)
 
   member_listed : (side : Side) (s : Slot) (v : Value) → value_of side a s ≡ Some v → lists_member_of (all_parts d.tree a) (path_at d.tree s) ≡ true
   member_listed side s v has =
@@ -367,7 +370,7 @@ module _ (names : List (List ℕ)) (d : Accepted) (is : IsAccepted names d) (enu
       ∙ ap (λ (ls : List (List ℕ)). ls ++ map line_text (side_part d.tree a Override)) (map_shown (entry_at d.tree a Answer) line_text (entry_lines Answer d.tree a) (same_entry Answer) (slots d.tree a))
       ∙ ap (λ (ls : List (List ℕ)). entries Answer d.tree a ++ ls) (map_shown (entry_at d.tree a Override) line_text (entry_lines Override d.tree a) (same_entry Override) (slots d.tree a)))
 
-  same_text : saved_lines d.tree a ≡ carried_lines (own_text d.tree a)
+  pub same_text : saved_lines d.tree a ≡ carried_lines (own_text d.tree a)
   same_text =
       sym
       (ap (λ (ls : List (List ℕ)). opening_line ∷ next_line a.next ∷ (ls ++ end_line ∷ [])) same_lines
@@ -377,10 +380,6 @@ module _ (names : List (List ℕ)) (d : Accepted) (is : IsAccepted names d) (enu
 
   pub saved_is : saved d.tree a ≡ carried (own_text d.tree a)
   saved_is = ap joined same_text
-
-  -- each line is UTF-8, and has no newline
-  pub all_lines : AllByRecursion IsLine (saved_lines d.tree a)
-  all_lines = subst (AllByRecursion IsLine) (sym same_text) (are_lines (own_text d.tree a) is_carried)
 
 pub saved_carried : SavedTextsAreCarried
 saved_carried names d is enums a fit = (own_text d.tree a, is_carried names d is enums a fit, saved_is names d is enums a fit)
@@ -449,7 +448,7 @@ only_at (x ∷ lines) line pairs h = at (first_or x lines line h) (only_at lines
         one (suc k) l e key = ap suc ((rest there).1.1 k l e key)
 
 module _ (names : List (List ℕ)) (d : Accepted) (is : IsAccepted names d) (enums : AreLists d.tree.enums) (a : Answered) (fit : AnswersFit d.tree a) where
-  each_there : AllByRecursion (Contains (all_parts d.tree a)) (all_parts d.tree a)
+  pub each_there : AllByRecursion (Contains (all_parts d.tree a)) (all_parts d.tree a)
   each_there = all_of (Contains (all_parts d.tree a)) (all_parts d.tree a) (λ l h. h)
 
   line_at : (line : CarriedLine) → Contains (all_parts d.tree a) line → (place : ℕ) × IsOnlyAt (all_parts d.tree a) place line
@@ -525,10 +524,6 @@ all_kept_or_listed names d is enums a fit = keeps_all names d is enums a fit
 
 -- ---- its lines over its own dictionary
 
-path_back : (m : ℕ) (p : FactPath) → path_of (slot_path_of m p) ≡ p
-path_back m (facts_by.Global n) = refl
-path_back m (facts_by.Member c n) = refl
-
 some_value : (b : Bool) (o : Option Value) (v : Value) → o ≡ Some v → b ≡ true → is_some (if b then o else None) ≡ true
 some_value true o v e h = ap is_some e
 some_value false o v e h = absurd cc
@@ -554,24 +549,18 @@ module _ (r : Rules) (path : SlotPath) (text : List ℕ) (v : Value) (spelled : 
       at false h = (v, spelled, some_of (first_of (limit_refusals r fact (Some v))) (sym (ap (λ (o : Option Value). is_none (first_of (when (is_none o) BadValue ∷ limit_refusals r fact o))) spelled) ∙ h))
 
 module _ (r : Rules) (is : IsAccepted (names_of r.checks) r.accepted) (enums : AreLists (tree_of r).enums) (a : Answered) (fit : AnswersFit (tree_of r) a) where
-  fact_named : (s : Slot) (path : SlotPath) → slot_path (tree_of r) s ≡ Some path → named_fact (tree_of r) path ≡ Some s.fact
-  fact_named s path e =
-      let parts = path_parts (names_of r.checks) r.accepted is s path e in
-      found_at (names_of r.checks) r.accepted is (path_of path) s.fact (subst (λ (p : FactPath). HasPath (tree_of r).facts p s.fact) (sym (ap path_of parts.2 ∙ path_back s.member parts.0)) parts.1)
-
   own_list : (c : ℕ) (ms : List ℕ) → map.get a.lists c ≡ Some ms → keeps r (collection (name_of (tree_of r) c) ms) ≡ false → ⊥
   own_list c ms has dropped =
       let list = open_list (tree_of r) a fit c ms has in
-      let name = name_of (tree_of r) c in
       let kept : keeps r (collection (name_of (tree_of r) c) ms) ≡ true =
-      ap is_some (named_kept (tree_of r) name c list (fact_named (slot c 0) (Global name) (spelled_list (names_of r.checks) r.accepted is c list).1.1)) in
+      ap is_some (list_named (names_of r.checks) r.accepted is c list) in
       cc
 
   own_entry : (side : Side) (s : Slot) (v : Value) → value_of side a s ≡ Some v
       → keeps r (entry side (path_at (tree_of r) s) (printed (tree_of r).enums v)) ≡ false → IsRefusedAnswer r (entry side (path_at (tree_of r) s) (printed (tree_of r).enums v))
   own_entry side s v has =
       let path = path_at (tree_of r) s in
-      let fact : fact_of (tree_of r) path ≡ s.fact = ap (λ (o : Option ℕ). unwrap_or o 0) (fact_named s path (spelled_slot (names_of r.checks) r.accepted is s (entry_slot (tree_of r) a fit side s v has)).1.1) in
+      let fact : fact_of (tree_of r) path ≡ s.fact = ap (λ (o : Option ℕ). unwrap_or o 0) (fact_named (names_of r.checks) r.accepted is s path (spelled_slot (names_of r.checks) r.accepted is s (entry_slot (tree_of r) a fit side s v has)).1.1) in
       refused r path (printed (tree_of r).enums v) v
       (ap (λ (n : ℕ). value_spelled (tree_of r) n (printed (tree_of r).enums v)) fact ∙ printed_read (names_of r.checks) r.accepted is enums a fit side s v has) side
       (ap (takes side (tree_of r)) fact ∙ (both (stands (tree_of r) a s) (takes side (tree_of r) s.fact) (fit.placed side s (ap is_some has))).1)

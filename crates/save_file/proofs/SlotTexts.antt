@@ -1,24 +1,19 @@
 -- The texts of slots, of lists and of values.
 use Rattle.std.proofs.Common.{Bool, IsSome, IsTrue, List, None, Option, Some, [], ap, arith, false, inl, inr, is_some, length, length-append, nat_le, refl, subst, sym, true, ℕ, ◌&&◌, ◌++◌, ◌+◌, ◌∙◌, ◌∷◌, ◌≡◌, ◌≤◌, ◌⊎◌}
+use Rattle.save_file.proofs.Common.{Accepted, AllByRecursion, Answer, Answered, AnswersFit, AreLists, Fact, FactPath, FactType, HasPath, IsAccepted, IsMemberList, IsMemberNumber, IsPrinted, IsSlot, Lacks, Override, Side, Slot, SlotPath, SpellsSlotPath, Tree, Value, after, after-append, append-nil, both, both_left, both_right, both_some, cases_lt, cut, cut-append, cut-lacks, decimal, domains, fact_at, fact_within, find_path, find_path-first, global_has_none, is_answered_by, is_given, is_list, is_overridden_by, leb-true, list_all, mapped, nat_lt, nat_tests, none-some, one_path_from, open_members, opens_of, option_and_then, option_at, or_left, or_right, printed, printed_item, printed_rest, same_Some, slot, slot_path, slot_path_of, slot_path_reading, slot_text, some_pair_parts, standing_slot, stands, takes, text_spells, type_at, value_at, value_of, value_printed, value_spelled}
 use Rattle.std.specs.FinMap as map
-use Rattle.save_file.proofs.Common.{Accepted, AllByRecursion, Answer, Answered, AnswersFit, AreLists, Fact, FactPath, FactType, HasPath, IsAccepted, IsMemberList, IsMemberNumber, IsPrinted, IsSlot, Lacks, Override, Side, Slot, SlotPath, SpellsSlotPath, Tree, Value, after, after-append, append-nil, both, both_left, both_right, both_some, cases_lt, cut, cut-append, cut-lacks, decimal, domains, fact_at, fact_within, find_path, global_has_none, is_answered_by, is_given, is_list, is_overridden_by, leb-true, list_all, mapped, nat_lt, nat_tests, none-some, opens_of, option_and_then, option_at, or_left, or_right, printed, printed_item, printed_rest, same_Some, slot, slot_lacks_blank, slot_path, slot_path_reading, slot_text, some_pair_parts, standing_slot, stands, takes, text_spells, value_at, value_of, value_spelled}
-use Rattle.dict_tree.proofs.FindingLaws.{find_path-first, find_path-none}
-use Rattle.dict_types.specs.DuplicatePath.{is_before, is_taken}
-use Rattle.dict_types.specs.StatedTypes.{type_at}
-use Rattle.dictionary.proofs.ExtensionLaws.{is_placed, list_home}
-use Rattle.dictionary.proofs.ListTypes.{open_members}
-use Rattle.dictionary.proofs.PrintedLaws.{value_printed}
-use Rattle.dictionary.specs.SlotText.{slot_path_of}
+use Rattle.dict_source.proofs.FindingLaws.{find_path-none}
+use Rattle.dict_rules.specs.DuplicatePath.{is_before, is_taken}
+use Rattle.dict_meaning.proofs.ExtensionLaws.{is_placed, list_home}
 use Rattle.evaluation.specs.Typed.{IsOfType}
 use Rattle.fact_paths.proofs.MemberNumbers.{decimal_lacks, member_number-decimal}
-use Rattle.fact_paths.proofs.ParsingLaws.{one_path_from}
 use Rattle.fact_paths.specs.Parsing.{member_number_of, slot_path_of as read_slot_path}
 use Rattle.fact_paths.specs.declared.fact_path.FactPath.TheVariants as facts
 use Rattle.fact_values.specs.Members as numbers
 use Rattle.fact_values.specs.declared.fact_type.FactType.TheVariants as types
 use Rattle.fact_values.specs.declared.value.Value.TheVariants as values
 use Rattle.graph_session.proofs.TypeLaws.{given_read}
-use Rattle.save_file.proofs.LineTexts.{IsLine, slot_line, value_line}
+use Rattle.save_file.proofs.LineTexts.{IsLine, value_line}
 use Rattle.value_text.proofs.PrintedTexts.{value_spelled as printed_spelled}
 use Rattle.value_text.proofs.TypeLaws.{read_printed}
 use Rattle.value_text.specs.ValueLaws.{IsValueOf}
@@ -51,16 +46,6 @@ same_slot : (s t : Slot) → s.fact ≡ t.fact → s.member ≡ t.member → s �
 same_slot s t f m = ap (λ n. slot n s.member) f ∙ ap (slot t.fact) m
 
 module _ (names : List (List ℕ)) (d : Accepted) (is : IsAccepted names d) where
-  pub text_lacks_blank : (s : Slot) → IsSlot d.tree s → Lacks 32 (slot_text d.tree s)
-  text_lacks_blank s slot =
-      let spelled = text_spells names d s is slot in
-      subst (Lacks 32) (sym spelled.2.1) (slot_lacks_blank spelled.0 spelled.2.0)
-
-  pub text_line : (s : Slot) → IsSlot d.tree s → IsLine (slot_text d.tree s)
-  text_line s slot =
-      let spelled = text_spells names d s is slot in
-      subst IsLine (sym spelled.2.1) (slot_line spelled.0 spelled.2.0)
-
   -- a slot's path, its fact and the fact's path
   pub path_parts : (s : Slot) (path : SlotPath) → slot_path d.tree s ≡ Some path → (p : FactPath) × HasPath d.tree.facts p s.fact × (path ≡ slot_path_of s.member p)
   path_parts s path e =

@@ -1,12 +1,13 @@
--- The slots that stand, each once, and answers that have the same.
-use Rattle.std.proofs.Common.{Bool, IsSome, IsTrue, List, None, Option, Some, [], ap, arith, drop, false, get_or, if◌then◌else◌, is_some, length, map, nat_eq, refl, subst, suc, sym, true, unwrap_or, zero, ℕ, ◌&&◌, ◌++◌, ◌+◌, ◌-◌, ◌<◌, ◌||◌, ◌∙◌, ◌∷◌, ◌≡◌, ◌≤◌}
+-- The slots that stand, in their order, and answers that have the same.
+use Rattle.std.proofs.Common.{Bool, IsSome, List, None, Option, Some, [], ap, arith, drop, false, get_or, if◌then◌else◌, is_some, length, map, nat_eq, refl, subst, suc, sym, true, unwrap_or, zero, ℕ, ◌*◌, ◌++◌, ◌+◌, ◌-◌, ◌<◌, ◌||◌, ◌∙◌, ◌∷◌, ◌≡◌, ◌≤◌}
+use Rattle.save_file.proofs.Common.{AllByRecursion, Answer, Answered, AnswersFit, Entry, FromOne, IsIn, IsListed, Numbered, Once, Override, Pairs, Side, Slot, Tree, Value, WellFormed, and_then, append-nil, both, counted, equal_number, facts, flat_map, home, list_any, list_of, listed_stand, member_list-length, members_of_home, nat_tests, none_some, of_side, open_members, or_neither, place_in, same, same_number, slot, slot_same, slot_same-equal, slots, slots_from, slots_of, slots_up_to, stands, takes, value_of}
 use Rattle.std.proofs.lemmas.List.Concat.{flat_map-append}
 use Rattle.std.specs.FinMap as map
-use Rattle.dictionary.specs.Slots.{standing}
-use Rattle.save_file.proofs.Common.{Answer, Answered, AnswersFit, AreSlots, Entry, FromOne, IsIn, IsListed, Numbered, Once, Override, Side, Slot, Tree, Value, WellFormed, and_then, append-nil, both, counted, eqb-true, equal_number, fact_there, facts, flat_map, home, is_member, list_any, list_any-append, list_of, listed_stand, members_of_home, nat_tests, neither_or, none_some, of_side, or_left, or_neither, or_right, same, same_number, slot, slot_same, slot_same-equal, slot_same-itself, slots, slots_from, slots_left, slots_of, slots_up_to, stands, stands_where, takes, value_of}
+use Rattle.dict_meaning.specs.Slots.{standing}
 use Rattle.answers.proofs.ChangeLaws.{answered_same}
 use Rattle.answers.proofs.SideLaws.{entry_same}
-use Rattle.save_file.specs.declared.cursor.Cursor.{Cursor}
+use Rattle.save_file.proofs.Lines.{across, all_where, everywhere, pairs-append, pairs_where}
+use Rattle.save_file.proofs.TextLaws.{all-append}
 
 -- ==== how a cursor goes through the slots that stand
 
@@ -16,11 +17,6 @@ pub counted_more : (done count : ℕ) → done < count → counted (suc done) (c
 counted_more done count low =
     let e : count - done ≡ suc (count - suc done) = omega arith in
     ap (counted (suc done)) e
-
-pub counted_all : (count : ℕ) → counted 1 (count - 0) ≡ counted 1 count
-counted_all count =
-    let e : count - 0 ≡ count = omega arith in
-    ap (counted 1) e
 
 -- ---- slots of a fact
 
@@ -59,92 +55,106 @@ module _ (d : Tree) (a : Answered) (members : List ℕ) (gone done count : ℕ) 
       from_first [] = refl
       from_first (f ∷ fs) = refl
 
--- ==== each slot that stands comes once
+-- ==== the slots that stand rise, by their facts and then by the places of their members
 
--- ---- parts of a list of slots
+-- ---- pairs
 
--- of two lists, where no slot of the one is in the other
-pub slots-append : (d : Tree) (b : Answered) (xs ys : List Slot) → AreSlots d b xs → AreSlots d b ys
-    → ((s : Slot) → list_any (slot_same s) xs ≡ true → list_any (slot_same s) ys ≡ false) → AreSlots d b (xs ++ ys)
-slots-append d b [] ys left right apart = right
-slots-append d b (x ∷ xs) ys left right apart = (
-  left.0,
-  list_any-append (slot_same x) xs ys ∙ neither_or (list_any (slot_same x) xs) (list_any (slot_same x) ys) left.1 (apart x (or_left (slot_same x x) (list_any (slot_same x) xs) (slot_same-itself x))),
-  slots-append d b xs ys left.2 right (λ s i. apart s (or_right (slot_same s x) (list_any (slot_same s) xs) i)),
-)
-
--- ---- the slots of a fact
-
-other_fact : (s : Slot) (f : ℕ) (ms : List ℕ) → nat_eq s.fact f ≡ false → list_any (slot_same s) (map (slot f) ms) ≡ false
-other_fact s f [] other = refl
-other_fact s f (m ∷ ms) other = neither_or (nat_eq s.fact f && nat_eq s.member m) (list_any (slot_same s) (map (slot f) ms)) (ap (λ (b : Bool). b && nat_eq s.member m) other) (other_fact s f ms other)
-
-member_in : (f m : ℕ) (ms : List ℕ) → list_any (slot_same (slot f m)) (map (slot f) ms) ≡ list_any (nat_eq m) ms
-member_in f m [] = refl
-member_in f m (k ∷ ms) = rw (equal_number f, member_in f m ms) refl
-
-of_members : (d : Tree) (b : Answered) (f : ℕ) (ms : List ℕ) → Once ms → ((m : ℕ) → list_any (nat_eq m) ms ≡ true → IsTrue (stands d b (slot f m))) → AreSlots d b (map (slot f) ms)
-of_members d b f [] once all = tt
-of_members d b f (m ∷ ms) once all = (
-  all m (or_left (nat_eq m m) (list_any (nat_eq m) ms) (equal_number m)),
-  member_in f m ms ∙ once.0,
-  of_members d b f ms once.1 (λ k i. all k (or_right (nat_eq k m) (list_any (nat_eq k) ms) i)),
-)
-
-of_home : (d : Tree) (b : Answered) → WellFormed b → (f h : ℕ) (once : Bool) → ((m : ℕ) → IsTrue (if once then nat_eq m 0 else is_member b h m) → IsTrue (stands d b (slot f m))) → AreSlots d b (map (slot f) (if once then 0 ∷ [] else list_of b h))
-of_home d b well f h true all = (all 0 refl, refl, tt)
-of_home d b well f h false all = of_members d b f (list_of b h) (well.distinct h) all
-
-of_fact : (d : Tree) (b : Answered) → WellFormed b → (f : ℕ) → 0 < f → f ≤ length d.facts → AreSlots d b (slots_of d b f)
-of_fact d b well f low high =
-    let there = fact_there d.facts f low high in
-    of_home d b well f (home d f) (nat_eq (home d f) 0) (λ m i. stands_where d b (slot f m) there.0 there.1 ∙ i)
-
--- ---- all slots
-
--- none of a lower fact is among those of these facts
-lower_out : (d : Tree) (b : Answered) (s : Slot) (from n : ℕ) → s.fact < from → list_any (slot_same s) (flat_map (slots_of d b) (counted from n)) ≡ false
-lower_out d b s from zero low = refl
-lower_out d b s from (suc n) low =
-    list_any-append (slot_same s) (slots_of d b from) (flat_map (slots_of d b) (counted (suc from) n))
-    ∙ neither_or (list_any (slot_same s) (slots_of d b from)) (list_any (slot_same s) (flat_map (slots_of d b) (counted (suc from) n)))
-    (other_fact s from (members_of_home b (home d from)) (let ne : nat_eq s.fact from ≡ false = grind (arith, nat_tests) in ne))
-    (lower_out d b s (suc from) n (omega arith))
-
--- a slot of a fact has that fact
-fact_is : (s : Slot) (f : ℕ) (ms : List ℕ) → list_any (slot_same s) (map (slot f) ms) ≡ true → s.fact ≡ f
-fact_is s f ms i = at (nat_eq s.fact f) refl
+pub pairs_mapped : {X Y : Type 0} (f : X → Y) (R : Y → Y → Type 0) (xs : List X) → Pairs (λ x y. R (f x) (f y)) xs → Pairs R (map f xs)
+pairs_mapped f R [] pairs = tt
+pairs_mapped {X = X} f R (x ∷ xs) pairs = (all xs pairs.0, pairs_mapped f R xs pairs.1)
   where
-    at : (b : Bool) → nat_eq s.fact f ≡ b → s.fact ≡ f
-    at true e = eqb-true s.fact f e
-    at false e = absurd (let out = other_fact s f ms e in cc)
+    all : (ys : List X) → AllByRecursion (λ y. R (f x) (f y)) ys → AllByRecursion (R (f x)) (map f ys)
+    all [] h = tt
+    all (y ∷ ys) h = (h.0, all ys h.1)
 
-of_facts : (d : Tree) (b : Answered) → WellFormed b → (from n : ℕ) → 0 < from → from + n ≤ suc (length d.facts) → AreSlots d b (flat_map (slots_of d b) (counted from n))
-of_facts d b well from zero low high = tt
-of_facts d b well from (suc n) low high =
-    slots-append d b (slots_of d b from) (flat_map (slots_of d b) (counted (suc from) n))
-    (of_fact d b well from low (omega arith)) (of_facts d b well (suc from) n (omega arith) (omega arith))
-    (λ s i. lower_out d b s (suc from) n (let same : s.fact ≡ from = fact_is s from (members_of_home b (home d from)) i in omega arith))
+-- ---- places in a list of members
 
-pub all_slots : (d : Tree) (b : Answered) → WellFormed b → AreSlots d b (slots d b)
-all_slots d b well = of_facts d b well 1 (length d.facts) (omega arith) (omega arith)
-
--- ---- parts of such a list
-
-pub behind_skipped : (d : Tree) (b : Answered) (xs ys : List Slot) → AreSlots d b (xs ++ ys) → AreSlots d b ys
-behind_skipped d b [] ys all = all
-behind_skipped d b (x ∷ xs) ys all = behind_skipped d b xs ys all.2
-
--- a slot in front isn't behind
-pub in_front : (d : Tree) (b : Answered) (xs ys : List Slot) → AreSlots d b (xs ++ ys) → (s : Slot) → list_any (slot_same s) xs ≡ true → list_any (slot_same s) ys ≡ false
-in_front d b [] ys all s i = absurd cc
-in_front d b (x ∷ xs) ys all s i = at (slot_same s x) refl i (in_front d b xs ys all.2 s)
+pub place_low : (m : ℕ) (ms : List ℕ) → place_in m ms ≤ length ms
+place_low m [] = omega arith
+place_low m (k ∷ ks) = at (nat_eq m k) (place_low m ks)
   where
-    at : (same : Bool) → slot_same s x ≡ same → (same || list_any (slot_same s) xs) ≡ true → (list_any (slot_same s) xs ≡ true → list_any (slot_same s) ys ≡ false) → list_any (slot_same s) ys ≡ false
-    at true e i rest = ap (λ (t : Slot). list_any (slot_same t) ys) (slot_same-equal s x e) ∙ (or_neither (list_any (slot_same x) xs) (list_any (slot_same x) ys) (sym (list_any-append (slot_same x) xs ys) ∙ all.1)).1
-    at false e i rest = rest i
+    at : (b : Bool) → place_in m ks ≤ length ks → (if b then 0 else suc (place_in m ks)) ≤ suc (length ks)
+    at true low = omega arith
+    at false low = omega (arith, low)
 
--- ==== the list of slots has all that stand, and rests on the lists of members alone
+-- each is behind the one before it
+places_rise : (ms : List ℕ) → Once ms → Pairs (λ m n. place_in m ms < place_in n ms) ms
+places_rise [] once = tt
+places_rise (k ∷ ks) once = (
+  all_where (λ n. nat_eq n k ≡ false) (λ n. nat_eq n k ≡ false) (λ n. place_in k (k ∷ ks) < place_in n (k ∷ ks)) (λ n other also. omega (arith, first, step n other)) ks (others ks once.0) (others ks once.0),
+  pairs_where (λ n. nat_eq n k ≡ false) (λ m n. place_in m ks < place_in n ks) (λ m n. place_in m (k ∷ ks) < place_in n (k ∷ ks)) (λ m n one other low. omega (arith, low, step m one, step n other)) ks (others ks once.0) (places_rise ks once.1),
+)
+  where
+    others : (ns : List ℕ) → list_any (nat_eq k) ns ≡ false → AllByRecursion (λ n. nat_eq n k ≡ false) ns
+    others [] out = tt
+    others (n ∷ ns) out =
+        let parts = or_neither (nat_eq k n) (list_any (nat_eq k) ns) out in
+        (let first : nat_eq k n ≡ false = parts.0 in let other : nat_eq n k ≡ false = grind (arith, nat_tests) in other, others ns parts.1)
+
+    step : (n : ℕ) → nat_eq n k ≡ false → place_in n (k ∷ ks) ≡ suc (place_in n ks)
+    step n other = ap (λ (b : Bool). if b then 0 else suc (place_in n ks)) other
+
+    first : place_in k (k ∷ ks) ≡ 0
+    first = ap (λ (b : Bool). if b then 0 else suc (place_in k ks)) (equal_number k)
+
+-- ---- slots
+
+-- where a slot comes
+abbrev pub slot_number : Tree → Answered → Slot → ℕ
+slot_number d a s = 101 * s.fact + place_in s.member (members_of_home a (home d s.fact))
+
+module _ (d : Tree) (a : Answered) (fit : AnswersFit d a) where
+  home_members : (h : ℕ) (b : Bool) → Once (if b then 0 ∷ [] else list_of a h) × (length (if b then 0 ∷ [] else list_of a h) ≤ 100)
+  home_members h true = ((refl, tt), omega arith)
+  home_members h false = (fit.well.distinct h, at (map.get a.lists h) refl)
+    where
+      at : (o : Option (List ℕ)) → map.get a.lists h ≡ o → length (list_of a h) ≤ 100
+      at None e = let none : list_of a h ≡ [] = ap (λ (o : Option (List ℕ)). unwrap_or o []) e in omega (arith, ap length none)
+      at (Some ms) e =
+          let some : list_of a h ≡ ms = ap (λ (o : Option (List ℕ)). unwrap_or o []) e in
+          omega (arith, ap length some, member_list-length ms (open_members d a fit.well fit.from_one h ms e).0)
+
+  members_at : (fact : ℕ) → Once (members_of_home a (home d fact)) × (length (members_of_home a (home d fact)) ≤ 100)
+  members_at fact = home_members (home d fact) (nat_eq (home d fact) 0)
+
+  pub slot_place_low : (s : Slot) → place_in s.member (members_of_home a (home d s.fact)) ≤ 100
+  slot_place_low s = omega (arith, place_low s.member (members_of_home a (home d s.fact)), (members_at s.fact).1)
+
+  fact_rise : (fact : ℕ) → Pairs (λ s t. slot_number d a s < slot_number d a t) (slots_of d a fact)
+  fact_rise fact =
+      let ms = members_of_home a (home d fact) in
+      pairs_mapped (slot fact) (λ s t. slot_number d a s < slot_number d a t) ms
+      (pairs_where (λ (m : ℕ). Unit {0}) (λ m n. place_in m ms < place_in n ms) (λ m n. slot_number d a (slot fact m) < slot_number d a (slot fact n)) (λ m n p q low. omega (arith, low)) ms
+      (everywhere (λ (m : ℕ). Unit {0}) (λ m. tt) ms) (places_rise ms (members_at fact).0))
+
+  of_fact : (fact : ℕ) (ms : List ℕ) → AllByRecursion (λ (s : Slot). s.fact ≡ fact) (map (slot fact) ms)
+  of_fact fact [] = tt
+  of_fact fact (m ∷ ms) = (refl, of_fact fact ms)
+
+  its_fact : (fact : ℕ) → AllByRecursion (λ (s : Slot). s.fact ≡ fact) (slots_of d a fact)
+  its_fact fact = of_fact fact (members_of_home a (home d fact))
+
+  of_facts : (from n : ℕ) → AllByRecursion (λ (s : Slot). from ≤ s.fact) (flat_map (slots_of d a) (counted from n))
+  of_facts from zero = tt
+  of_facts from (suc n) =
+      let here = slots_of d a from in
+      let later = flat_map (slots_of d a) (counted (suc from) n) in
+      all-append (λ (s : Slot). from ≤ s.fact) here later
+      (all_where (λ (s : Slot). s.fact ≡ from) (λ (s : Slot). s.fact ≡ from) (λ (s : Slot). from ≤ s.fact) (λ s e also. (let same : s.fact ≡ from = e in omega (arith, same))) here (its_fact from) (its_fact from))
+      (all_where (λ (s : Slot). suc from ≤ s.fact) (λ (s : Slot). suc from ≤ s.fact) (λ (s : Slot). from ≤ s.fact) (λ s up also. (let above : suc from ≤ s.fact = up in omega (arith, above))) later (of_facts (suc from) n) (of_facts (suc from) n))
+
+  facts_rise : (from n : ℕ) → Pairs (λ s t. slot_number d a s < slot_number d a t) (flat_map (slots_of d a) (counted from n))
+  facts_rise from zero = tt
+  facts_rise from (suc n) =
+      pairs-append (λ s t. slot_number d a s < slot_number d a t) (slots_of d a from) (flat_map (slots_of d a) (counted (suc from) n)) (fact_rise from) (facts_rise (suc from) n)
+      (across (λ s t. slot_number d a s < slot_number d a t) (λ (s : Slot). s.fact ≡ from) (λ (t : Slot). suc from ≤ t.fact)
+      (λ s t e up. (let low = slot_place_low s in omega (arith, e, up, low)))
+      (slots_of d a from) (flat_map (slots_of d a) (counted (suc from) n)) (its_fact from) (of_facts (suc from) n))
+
+  pub slots_rise : Pairs (λ s t. slot_number d a s < slot_number d a t) (slots d a)
+  slots_rise = facts_rise 1 (length d.facts)
+
+-- ==== the list of slots has all that stand
 
 counted-last : (from n : ℕ) → counted from (suc n) ≡ counted from n ++ (from + n) ∷ []
 counted-last from zero = let e : from ≡ from + 0 = omega arith in ap (λ (k : ℕ). k ∷ []) e
@@ -177,30 +187,14 @@ none_outside d a fit side s out = at (value_of side a s) refl
     at None e = refl
     at (Some v) e = absurd (let may = both (stands d a s) (takes side d s.fact) (fit.placed side s (ap is_some e)) in let there : stands d a s ≡ true = may.0 in let out_too : stands d a s ≡ false = stands_not in cc)
 
-same_by : {A B : Type 0} (f g : A → List B) → ((x : A) → f x ≡ g x) → (xs : List A) → flat_map f xs ≡ flat_map g xs
-same_by f g same [] = refl
-same_by f g same (x ∷ xs) = ap (λ ys. ys ++ flat_map f xs) (same x) ∙ ap (λ ys. g x ++ ys) (same_by f g same xs)
-
-of_lists : Numbered (List ℕ) → Answered → Answered
-of_lists lists a = record { next = a.next; lists = lists; globals = a.globals; members = a.members }
-
-pub same_slots : (d : Tree) (a b : Answered) → a.lists ≡ b.lists → slots d a ≡ slots d b
-unfolding of_lists
-same_slots d a b e = same_by (slots_of d a) (slots_of d b) (λ f. ap (λ (ls : Numbered (List ℕ)). slots_of d (of_lists ls a) f) e) (facts d)
-
-fact_slots : (d : Tree) (a b : Answered) → a.lists ≡ b.lists → (f : ℕ) → slots_of d a f ≡ slots_of d b f
-unfolding of_lists
-fact_slots d a b e f = ap (λ (ls : Numbered (List ℕ)). slots_of d (of_lists ls a) f) e
-
-same_from : (d : Tree) (a b : Answered) → a.lists ≡ b.lists → (gone : ℕ) (fs : List ℕ) → slots_from d a gone fs ≡ slots_from d b gone fs
-same_from d a b e gone [] = refl
-same_from d a b e gone (f ∷ fs) =
-    ap (λ (ss : List Slot). drop gone ss ++ flat_map (slots_of d a) fs) (fact_slots d a b e f)
-    ∙ ap (λ (ss : List Slot). drop gone (slots_of d b f) ++ ss) (same_by (slots_of d a) (slots_of d b) (fact_slots d a b e) fs)
-
--- and so do those that a cursor still goes through
-pub left_same : (d : Tree) (a b : Answered) (c : Cursor) → a.lists ≡ b.lists → slots_left d a c ≡ slots_left d b c
-left_same d a b c e = same_from d a b e c.gone (counted (suc c.done) (length d.facts - c.done))
+-- what is true of each is true of one that is there
+pub at_one : (P : Slot → Type 0) (ks : List Slot) (s : Slot) → AllByRecursion P ks → list_any (slot_same s) ks ≡ true → P s
+at_one P [] s all there = absurd cc
+at_one P (k ∷ ks) s all there = at (slot_same s k) refl there (at_one P ks s all.1)
+  where
+    at : (b : Bool) → slot_same s k ≡ b → (b || list_any (slot_same s) ks) ≡ true → (list_any (slot_same s) ks ≡ true → P s) → P s
+    at true e there rest = subst P (sym (slot_same-equal s k e)) all.0
+    at false e there rest = rest there
 
 -- ==== answers with the same lists, values and overrides are the same
 

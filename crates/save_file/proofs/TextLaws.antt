@@ -1,10 +1,8 @@
 -- Bytes and their lines.
 use Rattle.std.proofs.Common.{Bool, List, None, Some, [], ap, append_assoc, arith, false, length, length-append, nat_eq, refl, slice_get, subst, suc, sym, take, true, zero, ℕ, ◌++◌, ◌-◌, ◌<◌, ◌∙◌, ◌∷◌, ◌≡◌, ◌≢◌, ◌≤◌}
+use Rattle.save_file.proofs.Common.{All-cons, All-nil, AllByRecursion, Begins, HasNoNewline, IsRefusedAt, append-nil, eqb-true, first_lines, joined, joined-append, lines_of, lines_of-newline, nat_tests, none-some, onto_first, same_Some, same_number, ◌==◌, ◌↔◌}
 use Rattle.std.specs.Prelude.{if◌then◌else◌}
-use Rattle.save_file.proofs.Common.{All-cons, All-nil, AllByRecursion, Begins, HasNoNewline, IsRefusedAt, append-nil, eqb-true, first_lines, joined, lines_of-newline, nat_tests, none-some, onto_first, same_Some, same_number, ◌==◌, ◌↔◌}
 use Rattle.save_file.proofs.LineTexts.{IsLine}
-use Rattle.script_lines.proofs.JoinedLaws.{joined-append}
-use Rattle.script_lines.specs.Lines.{lines_of}
 
 -- ==== bytes and their lines
 
@@ -59,12 +57,12 @@ pub empty_is : (bytes : List ℕ) → length bytes ≤ 0 → bytes ≡ []
 empty_is [] none = refl
 empty_is (b ∷ bytes) none = absurd (omega arith)
 
-last_at : (bytes : List ℕ) (i b : ℕ) → suc i ≡ length bytes → slice_get bytes i ≡ Some b → (front : List ℕ) × (bytes ≡ front ++ b ∷ [])
+last_at : {X : Type 0} (bytes : List X) (i : ℕ) (b : X) → suc i ≡ length bytes → slice_get bytes i ≡ Some b → (front : List X) × (bytes ≡ front ++ b ∷ [])
 last_at [] i b low e = absurd (omega arith)
-last_at (x ∷ []) zero b low e = ([], ap (λ (y : ℕ). y ∷ []) (same_Some x b e))
+last_at (x ∷ []) zero b low e = ([], ap (λ y. y ∷ []) (same_Some x b e))
 last_at (x ∷ []) (suc i) b low e = absurd (omega arith)
 last_at (x ∷ y ∷ bytes) zero b low e = absurd (omega arith)
-last_at (x ∷ y ∷ bytes) (suc i) b low e = let rest = last_at (y ∷ bytes) i b (omega arith) e in (x ∷ rest.0, ap (λ (ys : List ℕ). x ∷ ys) rest.1)
+last_at (x ∷ y ∷ bytes) (suc i) b low e = let rest = last_at (y ∷ bytes) i b (omega arith) e in (x ∷ rest.0, ap (λ ys. x ∷ ys) rest.1)
 
 last_of : (front : List ℕ) (i b : ℕ) → suc i ≡ length (front ++ b ∷ []) → slice_get (front ++ b ∷ []) i ≡ Some b
 last_of [] zero b low = refl
@@ -72,9 +70,18 @@ last_of [] (suc i) b low = absurd (omega arith)
 last_of (x ∷ front) zero b low = absurd (omega (arith, length-append front (b ∷ [])))
 last_of (x ∷ front) (suc i) b low = last_of front i b (omega arith)
 
-ended_is : (bytes : List ℕ) (b : ℕ) → Some b ≡ slice_get bytes (length bytes - 1) → (front : List ℕ) × (bytes ≡ front ++ b ∷ [])
+pub ended_is : {X : Type 0} (bytes : List X) (b : X) → Some b ≡ slice_get bytes (length bytes - 1) → (front : List X) × (bytes ≡ front ++ b ∷ [])
 ended_is [] b e = absurd (none-some b (sym e))
 ended_is (x ∷ bytes) b e = last_at (x ∷ bytes) (length (x ∷ bytes) - 1) b (omega arith) (sym e)
+
+some_there : {X : Type 0} (xs : List X) (i : ℕ) → i < length xs → None ≡ slice_get xs i → ⊥
+some_there [] i low e = omega arith
+some_there (x ∷ xs) zero low e = none-some x e
+some_there (x ∷ xs) (suc i) low e = some_there xs i (omega arith) e
+
+pub no_last : {X : Type 0} (xs : List X) → None ≡ slice_get xs (length xs - 1) → xs ≡ []
+no_last [] e = refl
+no_last (x ∷ xs) e = absurd (some_there (x ∷ xs) (length (x ∷ xs) - 1) (omega arith) e)
 
 is_last : (bytes front : List ℕ) → bytes ≡ front ++ 10 ∷ [] → slice_get bytes (length bytes - 1) ≡ Some 10
 is_last bytes front e =
@@ -192,9 +199,6 @@ module _ {A : Type 0} (P : A → Type 0) (text : A → List (List ℕ)) (are_lin
           before = before_it;
           here = λ inside h. (let begun = subst (Begins IsText) up_to_it h in none (lines_of begun.0) begun.1.0 begun.1.1 (goes_with begun.0 begun.1.0 begun.1.1 begun.1.2));
         }
-
-        pub refused_bytes : (IsLine line → ⊥) → IsRefusedAt IsText bytes (suc (length ls))
-        refused_bytes none = refused_line (λ rest a fit e. none (next_one IsLine ls line rest (subst (AllByRecursion IsLine) e (are_lines a fit))))
 
       -- ---- the end
 

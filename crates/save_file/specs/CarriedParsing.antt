@@ -1,20 +1,25 @@
 -- What the lines of a carried text are read as.
-use Rattle.std.specs.Prelude.{◌≡◌, ◌≢◌, ℕ, ◌≤◌, ◌&&◌, ◌||◌, Bool, true, false, not, nat_lt, bytes_eq, IsTrue, List, [], ◌∷◌, ◌++◌, length, map, filter, string_bytes, Result, Ok, Err}
+use Rattle.std.specs.Prelude.{◌≡◌, ◌≢◌, ℕ, ◌≤◌, ◌&&◌, Bool, true, nat_eq, nat_le, nat_lt, bytes_eq, IsTrue, List, [], ◌∷◌, ◌++◌, length, map, filter, string_bytes, Option, Some, None, Result, Ok, Err, ◌⊎◌}
 use Rattle.std.specs.List.{AllByRecursion, list_all, list_any}
 use Rattle.fact_paths.specs.Names.{IsName}
 use Rattle.fact_paths.specs.Paths.{SpellsSlotPath}
 use Rattle.fact_paths.specs.declared.slot_path.SlotPath.{SlotPath}
+use Rattle.value_text.specs.Enums.{AreLists}
 use Rattle.answers.specs.declared.edit.Side.{Side}
 use Rattle.answers.specs.declared.edit.Side.TheVariants.{Answer, Override}
+use Rattle.dict_meaning.specs.Accepted.{IsAccepted}
+use Rattle.dictionary.specs.Kept.{Kept, accepted, names_of}
 use Rattle.script_lines.specs.declared.fault.LineFault.{LineFault}
 use Rattle.script_lines.specs.declared.fault.LineFault.TheVariants.{BadLine, NoMemory}
-use Rattle.save_file.specs.CarriedText.{CarriedLine, CarriedText, HasItsForm, IsBelowNext, IsCarried, IsInOrder, IsShort, NamesOther, SharesNone, carried, carried_lines, collection, entry, has_its_member, key_text, is_collection, line_text, lists_member_of}
+use Rattle.save_file.specs.CarriedText.{CarriedLine, CarriedText, HasItsForm, IsBelowNext, IsCarried, IsInOrder, IsShort, NamesOther, SharesNone, carried, carried_lines, collection, entry, has_its_member, key_text, is_collection, line_text, lists_member_of, members_in, rank}
 use Rattle.save_file.specs.Carrying.{RefusesCarried}
 use Rattle.save_file.specs.EntryKeys.{has}
+use Rattle.save_file.specs.Loading.{RefusesText}
+use Rattle.save_file.specs.OwnLines.{AreOwn, IsHighest, IsPositionOfLast}
 use Rattle.save_file.specs.Parsing.{are_below, are_others}
 use Rattle.save_file.specs.SavedText.{next_line, opening_line}
-use Rattle.save_file.specs.declared.carried_line.EntryLine.{EntryLine}
-use Rattle.save_file.specs.declared.carried_line.ListLine.{ListLine}
+use Rattle.save_file.specs.declared.carried_line.TextLine.{TextLine}
+use Rattle.save_file.specs.declared.carried_line.TextLine.TheVariants.{Collection as list_line, Entry as entry_line}
 use Rattle.save_file.specs.declared.carried_read.CarriedRead.{CarriedRead}
 use Rattle.save_file.specs.declared.carried_stage.CarriedStage.{CarriedStage}
 use Rattle.save_file.specs.declared.carried_stage.CarriedStage.TheVariants.{Opening, Number, Lines, Whole}
@@ -24,11 +29,9 @@ use Rattle.save_file.specs.declared.fault.LoadFault.TheVariants as faults
 
 -- ---- one line by itself
 
-abbrev pub line_of_list : ListLine → CarriedLine
-line_of_list l = collection l.name l.members
-
-abbrev pub line_of_entry : EntryLine → CarriedLine
-line_of_entry e = entry e.side e.path (string_bytes e.text)
+abbrev pub line_of : TextLine → CarriedLine
+line_of (list_line l) = collection l.name l.members
+line_of (entry_line e) = entry e.side e.path (string_bytes e.text)
 
 abbrev pub ReadsName : List ℕ → Result (List ℕ) LineFault → Type 0
 ReadsName text (Ok name) = (name ≡ text) × IsName text
@@ -41,10 +44,10 @@ ReadsPath text (Err BadLine) = (path : SlotPath) → ¬ SpellsSlotPath text path
 ReadsPath text (Err NoMemory) = Unit {0}
 
 -- the line whose text this is
-abbrev pub ReadsLine : {T : Type 0} → (T → CarriedLine) → List ℕ → Result T LineFault → Type 0
-ReadsLine line_of text (Ok l) = HasItsForm (line_of l) × (line_text (line_of l) ≡ text)
-ReadsLine line_of text (Err BadLine) = (line : CarriedLine) → HasItsForm line → line_text line ≢ text
-ReadsLine line_of text (Err NoMemory) = Unit {0}
+abbrev pub ReadsLine : List ℕ → Result TextLine LineFault → Type 0
+ReadsLine text (Ok l) = HasItsForm (line_of l) × (line_text (line_of l) ≡ text)
+ReadsLine text (Err BadLine) = (line : CarriedLine) → HasItsForm line → line_text line ≢ text
+ReadsLine text (Err NoMemory) = Unit {0}
 
 -- ---- a line behind others
 
@@ -62,51 +65,33 @@ pub record MayFollow (next : ℕ) (lines : List CarriedLine) (line : CarriedLine
 -- ---- the lines that were read
 
 abbrev pub lines_of : CarriedRead → List CarriedLine
-lines_of r = map line_of_list r.lists.items ++ map line_of_entry r.entries.items
+lines_of r = map line_of r.lines.items
 
 abbrev pub text_of : CarriedRead → CarriedText
 text_of r = record { next = r.next; lines = lines_of r }
 
-abbrev pub is_override : Side → Bool
-is_override Answer = false
-is_override Override = true
+abbrev pub side_rank : Side → ℕ
+side_rank Answer = 1
+side_rank Override = 2
 
-abbrev pub key_of : EntryLine → List ℕ
-key_of e = key_text (line_of_entry e)
-
--- they make a carried text, the keys are those of the entries, and it is known whether one is an override
+-- they make a carried text; what they name is known, and the highest rank of them
 pub record IsRead (r : CarriedRead) : Type 0 where
   pub text : IsCarried (text_of r)
-  pub keys : (key : List ℕ) → has r.keys key ≡ list_any (bytes_eq key) (map key_of r.entries.items)
-  pub overridden : r.overridden ≡ list_any (λ (e : EntryLine). is_override e.side) r.entries.items
+  pub keys : (key : List ℕ) → has r.keys key ≡ list_any (bytes_eq key) (map key_text (lines_of r))
+  pub high : AllByRecursion (λ line. rank line ≤ r.rank) (lines_of r)
+  pub least : (n : ℕ) → AllByRecursion (λ line. rank line ≤ n) (lines_of r) → r.rank ≤ n
 
--- the list has another name than an earlier one, and no member of it
-abbrev pub is_other_list : ListLine → ListLine → Bool
-is_other_list line earlier = not (bytes_eq earlier.name line.name) && are_others line.members earlier.members
+-- the line may come next, but for what others name
+abbrev pub may_stand : CarriedRead → CarriedLine → Bool
+may_stand r (collection name members) =
+    nat_eq r.rank 0 && (nat_lt (length r.lines.items) 32 && (are_below r.next members && list_all (λ line. are_others members (members_in line)) (lines_of r)))
+may_stand r (entry side path text) = nat_le r.rank (side_rank side) && lists_member_of (lines_of r) path
 
-abbrev pub is_empty : List EntryLine → Bool
-is_empty [] = true
-is_empty (e ∷ es) = false
-
-abbrev pub may_list : CarriedRead → ListLine → Bool
-may_list r line = is_empty r.entries.items && (nat_lt (length r.lists.items) 32 && (are_below r.next line.members && list_all (is_other_list line) r.lists.items))
-
-abbrev pub may_enter : CarriedRead → EntryLine → Bool
-may_enter r line = (is_override line.side || not r.overridden) && lists_member_of (map line_of_list r.lists.items) line.path
-
-pub record IsWithList (old : CarriedRead) (line : ListLine) (new : CarriedRead) : Type 0 where
+pub record IsWith (old : CarriedRead) (line : TextLine) (new : CarriedRead) : Type 0 where
   pub next : new.next ≡ old.next
-  pub lists : new.lists.items ≡ old.lists.items ++ line ∷ []
-  pub entries : new.entries.items ≡ old.entries.items
+  pub lines : new.lines.items ≡ old.lines.items ++ line ∷ []
   pub keys : new.keys ≡ old.keys
-  pub overridden : new.overridden ≡ old.overridden
-
-pub record IsWithEntry (old : CarriedRead) (line : EntryLine) (new : CarriedRead) : Type 0 where
-  pub next : new.next ≡ old.next
-  pub lists : new.lists.items ≡ old.lists.items
-  pub entries : new.entries.items ≡ old.entries.items ++ line ∷ []
-  pub keys : new.keys ≡ old.keys
-  pub overridden : new.overridden ≡ (old.overridden || is_override line.side)
+  pub rank : new.rank ≡ rank (line_of line)
 
 -- what lines that are lent come to
 abbrev pub new_or_fault : CarriedRead → Result (Unit {0}) LineFault → Result CarriedRead LineFault
@@ -127,6 +112,17 @@ TakesText old text (Err NoMemory) = Unit {0}
 
 -- ---- line by line
 
+-- the line doesn't begin with the word
+abbrev pub BeginsOther : List ℕ → List ℕ → Type 0
+BeginsOther word line = (text : List ℕ) → line ≢ word ++ text
+
+-- the lines behind the first two
+abbrev pub stage_lines : CarriedStage → List CarriedLine
+stage_lines Opening = []
+stage_lines Number = []
+stage_lines (Lines r) = lines_of r
+stage_lines (Whole r) = lines_of r
+
 -- the texts of all lines that were read
 abbrev pub texts_of : CarriedStage → List (List ℕ)
 texts_of Opening = []
@@ -140,26 +136,63 @@ IsCarriedStage Number = Unit {0}
 IsCarriedStage (Lines r) = IsRead r
 IsCarriedStage (Whole r) = IsCarried (text_of r)
 
+-- a line has come to those behind the first two, or one of these two or the last
+abbrev pub Grows : CarriedStage → CarriedStage → Type 0
+Grows old (Lines r) = ((lines_of r ≡ []) × (stage_lines old ≡ [])) ⊎ ((line : CarriedLine) × (lines_of r ≡ stage_lines old ++ line ∷ []))
+Grows old new = stage_lines new ≡ stage_lines old
+
+abbrev pub IsNext : CarriedStage → List ℕ → CarriedStage → Type 0
+IsNext old line new = IsCarriedStage new × (texts_of new ≡ texts_of old ++ line ∷ []) × Grows old new
+
 -- no carried text has these lines and then this one
 abbrev pub EndsNone : CarriedStage → List ℕ → Type 0
 EndsNone old line = (c : CarriedText) (more : List (List ℕ)) → IsCarried c → carried_lines c ≢ texts_of old ++ line ∷ more
 
 abbrev pub JudgesCarried : CarriedStage → List ℕ → Result CarriedStage LineFault → Type 0
-JudgesCarried old line (Ok new) = IsCarriedStage new × (texts_of new ≡ texts_of old ++ line ∷ [])
+JudgesCarried old line (Ok new) = IsNext old line new
 JudgesCarried old line (Err BadLine) = EndsNone old line
 JudgesCarried old line (Err NoMemory) = Unit {0}
 
 abbrev pub ReadsCarried : CarriedStage → List ℕ → ℕ → Result CarriedStage LoadFault → Type 0
-ReadsCarried old line number (Ok new) = IsCarriedStage new × (texts_of new ≡ texts_of old ++ line ∷ [])
+ReadsCarried old line number (Ok new) = IsNext old line new
 ReadsCarried old line number (Err (BadSaved n)) = (n ≡ number) × EndsNone old line
 ReadsCarried old line number (Err faults.NoMemory) = Unit {0}
+
+-- ---- the text of any dictionary's session, or of this one's
+
+abbrev pub IsWhose : Option Kept → Type 0
+IsWhose None = Unit {0}
+IsWhose (Some k) = IsAccepted (names_of k.checks) (accepted k) × AreLists (accepted k).tree.enums
+
+abbrev pub IsOf : Option Kept → List CarriedLine → Type 0
+IsOf None lines = Unit {0}
+IsOf (Some k) lines = AreOwn (accepted k).tree lines
+
+-- and where the last of them stands
+abbrev pub IsOfUpTo : Option Kept → List CarriedLine → ℕ → Type 0
+IsOfUpTo None lines last = Unit {0}
+IsOfUpTo (Some k) lines last = AreOwn (accepted k).tree lines × IsHighest (accepted k).tree lines last
+
+-- the last line that was read may be the dictionary's: it is then the one up to which all are
+abbrev pub JudgesLast : Option Kept → CarriedStage → ℕ → Option ℕ → Type 0
+JudgesLast (Some k) (Lines r) last new = IsPositionOfLast (accepted k).tree (lines_of r) last new
+JudgesLast _ stage last new = new ≡ Some last
+
+abbrev pub ReadsNext : Option Kept → CarriedStage → List ℕ → ℕ → Result (CarriedStage × ℕ) LoadFault → Type 0
+ReadsNext whose old line number (Ok new) = IsNext old line new.0 × IsOfUpTo whose (stage_lines new.0) new.1
+ReadsNext whose old line number (Err (BadSaved n)) = (n ≡ number) × ((c : CarriedText) (more : List (List ℕ)) → IsCarried c → IsOf whose c.lines → carried_lines c ≢ texts_of old ++ line ∷ more)
+ReadsNext whose old line number (Err faults.NoMemory) = Unit {0}
 
 -- the lines of a whole text that ends in a newline
 abbrev pub EndsCarried : CarriedStage → Bool → ℕ → Result CarriedRead LoadFault → Type 0
 EndsCarried (Whole r) true number result = result ≡ Ok r
 EndsCarried _ _ number result = result ≡ Err (BadSaved number)
 
+abbrev pub Refuses : Option Kept → List ℕ → LoadFault → Type 0
+Refuses None bytes fault = RefusesCarried bytes fault
+Refuses (Some k) bytes fault = RefusesText (accepted k).tree bytes fault
+
 -- the bytes are the carried text of the lines
-abbrev pub GivesLines : List ℕ → Result CarriedRead LoadFault → Type 0
-GivesLines bytes (Ok r) = IsCarried (text_of r) × (bytes ≡ carried (text_of r))
-GivesLines bytes (Err fault) = RefusesCarried bytes fault
+abbrev pub GivesLines : Option Kept → List ℕ → Result CarriedRead LoadFault → Type 0
+GivesLines whose bytes (Ok r) = IsCarried (text_of r) × (bytes ≡ carried (text_of r)) × IsOf whose (lines_of r)
+GivesLines whose bytes (Err fault) = Refuses whose bytes fault

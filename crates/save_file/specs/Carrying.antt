@@ -6,13 +6,14 @@ use Rattle.fact_paths.specs.declared.slot_path.SlotPath.{SlotPath}
 use Rattle.fact_paths.specs.declared.slot_path.SlotPath.TheVariants.{Global}
 use Rattle.fact_values.specs.declared.slot.Slot.{Slot}
 use Rattle.fact_values.specs.declared.value.Value.{Value}
-use Rattle.dict_tree.specs.Dictionary.{Dictionary as Tree}
+use Rattle.dict_source.specs.Dictionary.{Dictionary as Tree}
 use Rattle.answers.specs.Answered.{Answered, value_of}
 use Rattle.answers.specs.declared.edit.Side.{Side}
 use Rattle.answers.specs.declared.edit.Side.TheVariants.{Answer, Override}
 use Rattle.value_text.specs.Enums.{AreLists}
-use Rattle.dictionary.specs.Accepted.{Accepted, IsAccepted, names_of}
-use Rattle.dictionary.specs.Fits.{AnswersFit, is_answered_by, is_list, is_overridden_by}
+use Rattle.dict_meaning.specs.Accepted.{Accepted, IsAccepted}
+use Rattle.dictionary.specs.Kept.{names_of}
+use Rattle.dict_meaning.specs.Fits.{AnswersFit, is_answered_by, is_list, is_overridden_by}
 use Rattle.graph_session.specs.Kinds.{value_spelled}
 use Rattle.graph_session.specs.Naming.{fact_of, slot_of}
 use Rattle.graph_session.specs.Refusals.{first_of, limit_refusals, value_refusals}

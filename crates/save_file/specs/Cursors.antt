@@ -2,9 +2,9 @@
 use Rattle.std.specs.Prelude.{ℕ, suc, ◌-◌, List, [], ◌∷◌, ◌++◌, length, drop, Option, None, Some}
 use Rattle.std.specs.List.{flat_map}
 use Rattle.fact_values.specs.declared.slot.Slot.{Slot}
-use Rattle.dict_tree.specs.Dictionary.{Dictionary as Tree}
+use Rattle.dict_source.specs.Dictionary.{Dictionary as Tree}
 use Rattle.answers.specs.Answered.{Answered}
-use Rattle.dictionary.specs.Slots.{slots_of}
+use Rattle.dict_meaning.specs.Slots.{slots_of}
 use Rattle.save_file.specs.SavedText.{counted}
 use Rattle.save_file.specs.declared.cursor.Cursor.{Cursor}
 

@@ -1,5 +1,6 @@
 -- What is said of the lines that carrying drops.
-use Rattle.std.specs.Prelude.{◌≡◌, ℕ, suc, ◌==◌, Bool, false, not, nat_eq, List, [], ◌∷◌, ◌++◌, map, filter, codes, refl, if◌then◌else◌}
+use Rattle.std.specs.Prelude.{◌≡◌, ℕ, suc, Bool, false, not, nat_eq, List, [], ◌∷◌, ◌++◌, map, filter, unwrap_or, codes, refl, if◌then◌else◌}
+use Rattle.fact_paths.specs.Cuts.{cut}
 use Rattle.fact_paths.specs.declared.slot_path.SlotPath.TheVariants.{Global}
 use Rattle.answers.specs.declared.edit.Side.TheVariants.{Override}
 use Rattle.graph_session.specs.Rules.{Rules}
@@ -28,14 +29,15 @@ IsDroppedText bytes dropped text =
 
 -- ---- where it stands in the bytes
 
--- what stands before the first blank, and what stands behind it
+-- what stands before the first blank, and what stands behind it; all and nothing, where there is none
+abbrev pub words_of : List ℕ → List ℕ × List ℕ
+words_of text = unwrap_or (cut 32 text) (text, [])
+
 abbrev pub word_of : List ℕ → List ℕ
-word_of [] = []
-word_of (b ∷ bytes) = if b == 32 then [] else b ∷ word_of bytes
+word_of text = (words_of text).0
 
 abbrev pub behind_word : List ℕ → List ℕ
-behind_word [] = []
-behind_word (b ∷ bytes) = if b == 32 then bytes else behind_word bytes
+behind_word text = (words_of text).1
 
 -- with these two words
 abbrev pub said : List ℕ → List ℕ → List ℕ

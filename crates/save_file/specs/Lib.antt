@@ -3,10 +3,10 @@ pub mod CarriedText
 pub mod Carrying
 pub mod Cursors
 pub mod Dropped
-pub mod Following
 pub mod EntryKeys
 pub mod Keeping
 pub mod Loading
+pub mod OwnLines
 pub mod Parsing
 pub mod Resuming
 pub mod SavedLines

@@ -1,14 +1,12 @@
 -- Which bytes are a saved text, and at which line others are refused.
-use Rattle.std.specs.Prelude.{◌≡◌, ℕ, ◌+◌, ◌<◌, ◌≤◌, List, ◌++◌, length, take, Result, IfErr, IfOk}
+use Rattle.std.specs.Prelude.{◌≡◌, ℕ, ◌+◌, ◌<◌, ◌≤◌, List, ◌++◌, length, take}
 use Rattle.script_lines.specs.Joined.{joined}
 use Rattle.script_lines.specs.Lines.{lines_of}
-use Rattle.dict_tree.specs.Dictionary.{Dictionary as Tree}
+use Rattle.dict_source.specs.Dictionary.{Dictionary as Tree}
 use Rattle.answers.specs.Answered.{Answered}
-use Rattle.answers.specs.Meaning.{answered}
-use Rattle.answers.specs.declared.parts.Parts.{Parts}
 use Rattle.value_text.specs.Enums.{AreLists}
-use Rattle.dictionary.specs.Accepted.{Accepted, IsAccepted}
-use Rattle.dictionary.specs.Fits.{AnswersFit}
+use Rattle.dict_meaning.specs.Accepted.{Accepted, IsAccepted}
+use Rattle.dict_meaning.specs.Fits.{AnswersFit}
 use Rattle.save_file.specs.SavedText.{saved}
 use Rattle.save_file.specs.declared.fault.LoadFault.{LoadFault}
 use Rattle.save_file.specs.declared.fault.LoadFault.TheVariants.{BadSaved, NoMemory}
@@ -38,12 +36,6 @@ pub record IsRefusedAt (IsText : List ℕ → Type 0) (bytes : List ℕ) (n : �
 abbrev pub RefusesText : Tree → List ℕ → LoadFault → Type 0
 RefusesText d bytes (BadSaved n) = IsRefusedAt (IsSavedText d) bytes n
 RefusesText d bytes NoMemory = Unit {0}
-
--- what is said of a load
-pub record IsLoad (d : Tree) (bytes : List ℕ) (r : Result Parts LoadFault) : Type 0 where
-  pub loaded : IfOk r (λ (b : Parts). AnswersFit d (answered b) × (bytes ≡ saved d (answered b)))
-  pub only : (a : Answered) → AnswersFit d a → bytes ≡ saved d a → IfOk r (λ (b : Parts). answered b ≡ a)
-  pub refused : IfErr r (RefusesText d bytes)
 
 -- ---- laws
 

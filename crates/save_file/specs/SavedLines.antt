@@ -1,20 +1,19 @@
 -- The lines of a saved text, as carrying sees them: one for each list, answer and override; so each is kept or listed.
-use Rattle.std.specs.Prelude.{◌≡◌, ℕ, ◌+◌, Bool, not, IsTrue, nat_eq, List, slice_get, Contains, Some}
+use Rattle.std.specs.Prelude.{◌≡◌, ℕ, ◌+◌, List, slice_get, Contains, Some}
 use Rattle.std.specs.FinMap as map
-use Rattle.std.specs.List.{list_any}
 use Rattle.fact_paths.specs.declared.slot_path.SlotPath.{SlotPath}
 use Rattle.fact_paths.specs.declared.slot_path.SlotPath.TheVariants.{Global}
 use Rattle.fact_values.specs.declared.slot.Slot.{Slot}
 use Rattle.fact_values.specs.declared.value.Value.{Value}
 use Rattle.value_text.specs.Enums.{AreLists}
 use Rattle.value_text.specs.Values.{printed}
-use Rattle.dict_tree.specs.Dictionary.{Dictionary as Tree}
+use Rattle.dict_source.specs.Dictionary.{Dictionary as Tree}
 use Rattle.answers.specs.Answered.{Answered, value_of}
 use Rattle.answers.specs.declared.edit.Side.{Side}
-use Rattle.dictionary.specs.Accepted.{Accepted, IsAccepted}
-use Rattle.dictionary.specs.Dependencies.{slot}
-use Rattle.dictionary.specs.Fits.{AnswersFit}
-use Rattle.dictionary.specs.SlotText.{slot_path}
+use Rattle.dict_meaning.specs.Accepted.{Accepted, IsAccepted}
+use Rattle.evaluation.specs.Results.{slot}
+use Rattle.dict_meaning.specs.Fits.{AnswersFit}
+use Rattle.dict_meaning.specs.SlotText.{slot_path}
 use Rattle.graph_session.specs.Rules.{Rules}
 use Rattle.save_file.specs.CarriedText.{CarriedLine, CarriedText, IsCarried, carried, collection, entry, key_text}
 use Rattle.save_file.specs.Carrying.{IsCarry, IsKeptOrListed}

@@ -7,13 +7,13 @@ use Rattle.fact_values.specs.declared.value.Value.{Value}
 use Rattle.value_text.specs.MemberTexts.{printed_rest}
 use Rattle.value_text.specs.Values.{printed}
 use Rattle.script_lines.specs.Joined.{joined}
-use Rattle.dict_tree.specs.Dictionary.{Dictionary as Tree}
+use Rattle.dict_source.specs.Dictionary.{Dictionary as Tree}
 use Rattle.answers.specs.Answered.{Answered, value_of}
 use Rattle.answers.specs.declared.edit.Side.{Side}
 use Rattle.answers.specs.declared.edit.Side.TheVariants.{Answer, Override}
-use Rattle.dictionary.specs.Dependencies.{slot}
-use Rattle.dictionary.specs.Slots.{slots_of}
-use Rattle.dictionary.specs.SlotText.{slot_text}
+use Rattle.evaluation.specs.Results.{slot}
+use Rattle.dict_meaning.specs.Slots.{slots_of}
+use Rattle.dict_meaning.specs.SlotText.{slot_text}
 
 -- ---- lines, each without its newline
 

@@ -1,5 +1,5 @@
 // Reads a line of a carried text, whatever the dictionary.
-ghost use Rattle.std.specs.Prelude.{◌≡◌, ◌++◌, List, ℕ, IfErr, IfOk, codes, string_bytes};
+ghost use Rattle.std.specs.Prelude.{◌≡◌, ◌≤◌, ◌++◌, List, ℕ, IfErr, IfOk, codes, length, string_bytes};
 ghost use Rattle.std.specs.List.{AllByRecursion};
 ghost use Rattle.std.specs.Str.{IsUtf8};
 ghost use Rattle.fact_paths.specs.Cuts.{Lacks};
@@ -8,10 +8,12 @@ ghost use Rattle.fact_paths.specs.Paths.{IsMemberNumber};
 ghost use Rattle.script_lines.specs.Lines.{HasNoNewline};
 ghost use Rattle.script_lines.specs.declared.fault.LineFault.TheVariants.{NoMemory};
 ghost use Rattle.value_text.specs.MemberTexts.{printed_rest};
-ghost use Rattle.save_file.specs.CarriedParsing.{ReadsLine, ReadsName, ReadsPath, line_of_entry, line_of_list};
+ghost use Rattle.save_file.specs.CarriedParsing.{BeginsOther, ReadsLine, ReadsName, ReadsPath, line_of};
+ghost use Rattle.fact_values.specs.Members.{IsMemberList};
+ghost use Rattle.save_file.specs.CarriedText.{members_in};
 ghost use Rattle.save_file.specs.SavedText.{side_word as word_of_side};
 
-use crate::reading::{at_blank, read_members};
+use crate::reading::{at_blank, behind, read_members};
 use answers::Side;
 use fact_paths::{Name, PathFault, SlotPath, read_slot_path};
 use fact_values::Members;
@@ -31,6 +33,25 @@ pub struct EntryLine {
     pub side: Side,
     pub path: SlotPath,
     pub text: String,
+}
+
+/// A line behind the first two and before the last.
+#[derive(Drop)]
+pub enum TextLine {
+    Collection(ListLine),
+    Entry(EntryLine),
+}
+
+/// The members that the line lists.
+pub fn members_of(line: &TextLine) -> &[u32]
+    ensures members { result.now ≡ members_in (line_of line.now) }
+    ensures list { IsMemberList result.now }
+    ensures few { length result.now ≤ 100 }
+{
+    match line {
+        TextLine::Collection(list) => list.members.as_slice(),
+        TextLine::Entry(_) => &[],
+    }
 }
 
 fn read_name(alloc: Global, text: &str) -> Result<Name, LineFault>
@@ -65,10 +86,10 @@ fn copy_text(alloc: Global, text: &str) -> Result<String, LineFault>
 }
 
 // The line of this name with these members.
-fn with_members(alloc: Global, name: &str, found: Vec<u32>) -> Result<ListLine, LineFault>
+fn with_members(alloc: Global, name: &str, found: Vec<u32>) -> Result<TextLine, LineFault>
     requires name { Lacks 32 name.now }
     requires numbers { AllByRecursion IsMemberNumber found.items }
-    ensures { ReadsLine line_of_list (codes "list /" ++ (name.now ++ printed_rest found.items)) result }
+    ensures { ReadsLine (codes "list /" ++ (name.now ++ printed_rest found.items)) result }
 {
     match read_name(alloc, name) {
         Err(fault) => Err(fault),
@@ -77,14 +98,14 @@ fn with_members(alloc: Global, name: &str, found: Vec<u32>) -> Result<ListLine, 
                 drop(name);
                 Err(LineFault::BadLine)
             }
-            Some(members) => Ok(ListLine { name, members }),
+            Some(members) => Ok(TextLine::Collection(ListLine { name, members })),
         },
     }
 }
 
-/// The line of a list, of what stands behind its first word and the slash.
-pub fn read_list_line(alloc: Global, text: &str) -> Result<ListLine, LineFault>
-    ensures { ReadsLine line_of_list (codes "list /" ++ text.now) result }
+// The line of a list, of what stands behind its first word and the slash.
+fn read_list_line(alloc: Global, text: &str) -> Result<TextLine, LineFault>
+    ensures { ReadsLine (codes "list /" ++ text.now) result }
 {
     match at_blank(text) {
         None => with_members(alloc, text, Vec::new(alloc)),
@@ -95,10 +116,10 @@ pub fn read_list_line(alloc: Global, text: &str) -> Result<ListLine, LineFault>
     }
 }
 
-/// The line of an entry, of what stands behind its first word.
-pub fn read_entry_line(alloc: Global, side: Side, text: &str) -> Result<EntryLine, LineFault>
+// The line of an entry, of what stands behind its first word.
+fn read_entry_line(alloc: Global, side: Side, text: &str) -> Result<TextLine, LineFault>
     requires { HasNoNewline text.now }
-    ensures { ReadsLine line_of_entry (word_of_side side ++ text.now) result }
+    ensures { ReadsLine (word_of_side side ++ text.now) result }
 {
     let Some((path, value)) = at_blank(text) else {
         return Err(LineFault::BadLine);
@@ -110,7 +131,33 @@ pub fn read_entry_line(alloc: Global, side: Side, text: &str) -> Result<EntryLin
                 drop(path);
                 Err(fault)
             }
-            Ok(text) => Ok(EntryLine { side, path, text }),
+            Ok(text) => Ok(TextLine::Entry(EntryLine { side, path, text })),
         },
+    }
+}
+
+// The line of an entry, by its first word.
+fn read_entry(alloc: Global, line: &str) -> Result<TextLine, LineFault>
+    requires line { HasNoNewline line.now }
+    requires no_list { BeginsOther (codes "list /") line.now }
+    ensures { ReadsLine line.now result }
+{
+    match behind("value ", line) {
+        Some(text) => read_entry_line(alloc, Side::Answer, text),
+        None => match behind("override ", line) {
+            Some(text) => read_entry_line(alloc, Side::Override, text),
+            None => Err(LineFault::BadLine),
+        },
+    }
+}
+
+/// The line, by its first word.
+pub fn read_line(alloc: Global, line: &str) -> Result<TextLine, LineFault>
+    requires { HasNoNewline line.now }
+    ensures { ReadsLine line.now result }
+{
+    match behind("list /", line) {
+        Some(text) => read_list_line(alloc, text),
+        None => read_entry(alloc, line),
     }
 }

@@ -1,153 +1,194 @@
 // The lines of a carried text that were read, and one more.
-ghost use Rattle.std.specs.Prelude.{◌≡◌, ◌||◌, ℕ, List, map, not, bytes_eq, IfErr, IfOk, OnOk, string_bytes};
+ghost use Rattle.std.specs.Prelude.{◌≡◌, ◌||◌, ◌++◌, ℕ, List, codes, map, nat_eq, not, bytes_eq, IfErr, IfOk, OnOk, string_bytes};
 ghost use Rattle.std.specs.List.{list_all, list_any};
-ghost use Rattle.save_file.specs.CarriedParsing.{IsRead, IsWithEntry, IsWithList, Takes, is_other_list, is_override as is_side_override, line_of_entry, line_of_list, may_enter as may_be_entered, may_list as may_be_listed, new_or_fault};
+ghost use Rattle.fact_paths.specs.Paths.{slot_path_text};
+ghost use Rattle.save_file.specs.CarriedParsing.{IsRead, IsWith, Takes, line_of, may_stand as may_stand_behind, new_or_fault, side_rank as rank_of_side};
+ghost use Rattle.save_file.specs.CarriedText.{HasItsForm, IsShort, key_text, lists_member as lists_the_member, lists_member_of, members_in, rank};
 ghost use Rattle.save_file.specs.EntryKeys.{has};
-ghost use Rattle.save_file.specs.CarriedText.{HasItsForm, IsShort, key_text, lists_member as lists_the_member, lists_member_of};
+ghost use Rattle.save_file.specs.Parsing.{are_below as are_below_next, are_others as are_other_members};
+ghost use Rattle.save_file.specs.SavedText.{side_word as word_of_side};
 ghost use Rattle.script_lines.specs.declared.fault.LineFault.TheVariants.{NoMemory};
 
-use crate::carried_line::{EntryLine, ListLine};
+use crate::carried_line::{EntryLine, ListLine, TextLine, members_of};
 use crate::entries::side_word;
 use crate::entry_keys::EntryKeys;
-use crate::list_line::{are_below, are_others, is_among};
 use answers::Side;
 use fact_paths::{Name, SlotPath};
+use fact_values::Members;
 use script_lines::LineFault;
 use std::alloc::Global;
 
 /// The most lists of a text.
 const MOST_LISTS: usize = 32;
 
-/// The number of the next member, and the lines so far; what the entries name, and whether one of them is an override.
+/// The number of the next member, and the lines so far; what they name, and the rank of the last.
 #[derive(Drop)]
 pub struct CarriedRead {
     pub next: u32,
-    pub lists: Vec<ListLine>,
-    pub entries: Vec<EntryLine>,
+    pub lines: Vec<TextLine>,
     pub keys: EntryKeys,
-    pub overridden: bool,
+    pub rank: u32,
 }
 
-// Whether the line has another name than an earlier one, and no member of it.
-fn is_other(line: &ListLine, earlier: &ListLine) -> bool
-    ensures { result ≡ is_other_list line.now earlier.now }
+// Whether the member is one of the others.
+fn is_among(member: u32, others: &[u32]) -> bool
+    ensures { result ≡ list_any (nat_eq member) others.now }
 {
-    earlier.name.as_str() != line.name.as_str()
-        && are_others(line.members.as_slice(), earlier.members.as_slice())
+    others.iter().any(|other| member == *other)
 }
 
-fn is_new(line: &ListLine, lists: &[ListLine]) -> bool
-    ensures { result ≡ list_all (is_other_list line.now) lists.now }
+// Whether one of the members is one of the others.
+fn has_one(others: &[u32], members: &[u32]) -> bool
+    ensures { result ≡ list_any (λ m. list_any (nat_eq m) others.now) members.now }
 {
-    lists.iter().all(|earlier| is_other(line, earlier))
+    members.iter().any(|member| is_among(*member, others))
+}
+
+// Whether none of the members is one of the others.
+fn are_others(others: &[u32], members: &[u32]) -> bool
+    ensures { result ≡ are_other_members others.now members.now }
+{
+    !has_one(others, members)
+}
+
+// Whether each of the members is below the next number.
+fn are_below(next: u32, members: &Members) -> bool
+    ensures { result ≡ are_below_next next members.now }
+{
+    members.as_slice().iter().all(|member| *member < next)
+}
+
+// Whether none of the lines lists one of the members.
+fn are_new(members: &[u32], lines: &[TextLine]) -> bool
+    ensures { result ≡ list_all (λ l. are_other_members members.now (members_in (line_of l))) lines.now }
+{
+    lines
+        .iter()
+        .all(|line| are_others(members, members_of(line)))
+}
+
+fn are_apart(members: &[u32], lines: &[TextLine]) -> bool
+    ensures { result ≡ list_all (λ x. are_other_members members.now (members_in x)) (map line_of lines.now) }
+{
+    are_new(members, lines)
 }
 
 // Whether the line lists the member in the collection of this name.
-fn lists_member(line: &ListLine, name: &Name, member: u32) -> bool
-    ensures { result ≡ lists_the_member name.now member (line_of_list line.now) }
+fn lists_member(line: &TextLine, name: &Name, member: u32) -> bool
+    ensures { result ≡ lists_the_member name.now member (line_of line.now) }
 {
-    line.name.as_str() == name.as_str() && is_among(member, line.members.as_slice())
-}
-
-// Whether one of the lists has the member in the collection of this name.
-fn have_member(lists: &[ListLine], name: &Name, member: u32) -> bool
-    ensures { result ≡ list_any (λ l. lists_the_member name.now member (line_of_list l)) lists.now }
-{
-    lists.iter().any(|line| lists_member(line, name, member))
-}
-
-// Whether the member in the path is in the list of the path's collection.
-fn is_listed(path: &SlotPath, lists: &[ListLine]) -> bool
-    ensures { result ≡ lists_member_of (map line_of_list lists.now) path.now }
-{
-    match path {
-        SlotPath::Global(_) => true,
-        SlotPath::Member(name, member, _) => have_member(lists, name, *member),
+    match line {
+        TextLine::Collection(list) => {
+            list.name.as_str() == name.as_str() && is_among(member, list.members.as_slice())
+        }
+        TextLine::Entry(_) => false,
     }
 }
 
-/// The kind of the entry and what it names.
-pub fn key_of(alloc: Global, line: &EntryLine) -> Result<String, LineFault>
-    ensures key { IfOk result (λ key. string_bytes key ≡ key_text (line_of_entry line.now)) }
+// Whether one of the lines does.
+fn have_member(lines: &[TextLine], name: &Name, member: u32) -> bool
+    ensures { result ≡ list_any (λ l. lists_the_member name.now member (line_of l)) lines.now }
+{
+    lines.iter().any(|line| lists_member(line, name, member))
+}
+
+// Whether the member in the path is in the list of the path's collection.
+fn is_listed(path: &SlotPath, lines: &[TextLine]) -> bool
+    ensures { result ≡ lists_member_of (map line_of lines.now) path.now }
+{
+    match path {
+        SlotPath::Global(_) => true,
+        SlotPath::Member(name, member, _) => have_member(lines, name, *member),
+    }
+}
+
+// The kind of the list and what it names.
+fn list_key(alloc: Global, list: &ListLine) -> Result<String, LineFault>
+    ensures key { IfOk result (λ key. string_bytes key ≡ codes "list /" ++ list.now.name) }
     ensures memory { IfErr result (λ fault. fault ≡ NoMemory) }
 {
-    let word = side_word(line.side);
-    let path = &line.path;
+    let name = &list.name;
+    match format!(in alloc; "list /{name}") {
+        Ok(key) => Ok(key),
+        Err(_) => Err(LineFault::NoMemory),
+    }
+}
+
+// The same of an entry.
+fn entry_key(alloc: Global, entry: &EntryLine) -> Result<String, LineFault>
+    ensures key { IfOk result (λ key. string_bytes key ≡ word_of_side entry.now.side ++ slot_path_text entry.now.path) }
+    ensures memory { IfErr result (λ fault. fault ≡ NoMemory) }
+{
+    let word = side_word(entry.side);
+    let path = &entry.path;
     match format!(in alloc; "{word}{path}") {
         Ok(key) => Ok(key),
         Err(_) => Err(LineFault::NoMemory),
     }
 }
 
-/// Whether the line is an override.
-pub fn is_override(side: Side) -> bool
-    ensures { result ≡ is_side_override side }
+/// The kind of the line and what it names.
+pub fn key_of(alloc: Global, line: &TextLine) -> Result<String, LineFault>
+    ensures key { IfOk result (λ key. string_bytes key ≡ key_text (line_of line.now)) }
+    ensures memory { IfErr result (λ fault. fault ≡ NoMemory) }
+{
+    match line {
+        TextLine::Collection(list) => list_key(alloc, list),
+        TextLine::Entry(entry) => entry_key(alloc, entry),
+    }
+}
+
+fn side_rank(side: Side) -> u32
+    ensures { result ≡ rank_of_side side }
 {
     match side {
-        Side::Answer => false,
-        Side::Override => true,
+        Side::Answer => 1,
+        Side::Override => 2,
     }
 }
 
-// Whether the list may stand behind the lines.
-fn may_list(read: &CarriedRead, line: &ListLine) -> bool
-    ensures { result ≡ may_be_listed read.now line.now }
+fn rank_of(line: &TextLine) -> u32
+    ensures { result ≡ rank (line_of line.now) }
 {
-    read.entries.is_empty()
-        && read.lists.len() < MOST_LISTS
-        && are_below(read.next, &line.members)
-        && is_new(line, read.lists.as_slice())
+    match line {
+        TextLine::Collection(_) => 0,
+        TextLine::Entry(entry) => side_rank(entry.side),
+    }
 }
 
-// Whether the entry may, but for what other entries name.
-fn may_enter(read: &CarriedRead, line: &EntryLine) -> bool
-    ensures { result ≡ may_be_entered read.now line.now }
+// Whether the line may come next, but for what others name.
+fn may_stand(read: &CarriedRead, line: &TextLine) -> bool
+    ensures { result ≡ may_stand_behind read.now (line_of line.now) }
 {
-    (is_override(line.side) || !read.overridden) && is_listed(&line.path, read.lists.as_slice())
+    match line {
+        TextLine::Collection(list) => {
+            read.rank == 0
+                && read.lines.len() < MOST_LISTS
+                && are_below(read.next, &list.members)
+                && are_apart(list.members.as_slice(), read.lines.as_slice())
+        }
+        TextLine::Entry(entry) => {
+            read.rank <= side_rank(entry.side) && is_listed(&entry.path, read.lines.as_slice())
+        }
+    }
 }
 
-// Adds a list.
-fn add_list(read: &mut CarriedRead, line: ListLine) -> Result<(), LineFault>
-    ensures read { OnOk result (IsWithList read.old line read.new) }
+fn add(read: &mut CarriedRead, line: TextLine) -> Result<(), LineFault>
+    ensures read { OnOk result (IsWith read.old line read.new) }
     ensures memory { IfErr result (λ fault. fault ≡ NoMemory) }
 {
-    match read.lists.push(line) {
+    read.rank = rank_of(&line);
+    match read.lines.push(line) {
         Err(_) => Err(LineFault::NoMemory),
         Ok(()) => Ok(()),
     }
 }
 
-// Adds an entry.
-fn add_entry(read: &mut CarriedRead, line: EntryLine) -> Result<(), LineFault>
-    ensures read { OnOk result (IsWithEntry read.old line read.new) }
-    ensures memory { IfErr result (λ fault. fault ≡ NoMemory) }
-{
-    read.overridden = read.overridden || is_override(line.side);
-    match read.entries.push(line) {
-        Err(_) => Err(LineFault::NoMemory),
-        Ok(()) => Ok(()),
-    }
-}
-
-/// One more list.
-pub fn take_list_line(read: &mut CarriedRead, line: ListLine) -> Result<(), LineFault>
-    requires sound { IsRead read.old }
-    requires form { HasItsForm (line_of_list line) }
-    requires short { IsShort (line_of_list line) }
-    ensures { Takes read.old (line_of_list line) (new_or_fault read.new result) }
-{
-    if !may_list(read, &line) {
-        drop(line);
-        return Err(LineFault::BadLine);
-    }
-    add_list(read, line)
-}
-
-// Notes what the entry names, and tells whether it is new.
-fn note_key(alloc: Global, keys: &mut EntryKeys, line: &EntryLine) -> Result<bool, LineFault>
-    ensures fresh { IfOk result (λ fresh. fresh ≡ not (has keys.old (key_text (line_of_entry line.now)))) }
+// Notes what the line names, and tells whether it is new.
+fn note_key(alloc: Global, keys: &mut EntryKeys, line: &TextLine) -> Result<bool, LineFault>
+    ensures fresh { IfOk result (λ fresh. fresh ≡ not (has keys.old (key_text (line_of line.now)))) }
     ensures added { OnOk result ((text : List ℕ) → has keys.new text
-        ≡ (bytes_eq text (key_text (line_of_entry line.now)) || has keys.old text)) }
+        ≡ (bytes_eq text (key_text (line_of line.now)) || has keys.old text)) }
     ensures memory { IfErr result (λ fault. fault ≡ NoMemory) }
 {
     match key_of(alloc, line) {
@@ -156,18 +197,14 @@ fn note_key(alloc: Global, keys: &mut EntryKeys, line: &EntryLine) -> Result<boo
     }
 }
 
-/// One more entry.
-pub fn take_entry_line(
-    alloc: Global,
-    read: &mut CarriedRead,
-    line: EntryLine,
-) -> Result<(), LineFault>
+/// One more line.
+pub fn take_line(alloc: Global, read: &mut CarriedRead, line: TextLine) -> Result<(), LineFault>
     requires sound { IsRead read.old }
-    requires form { HasItsForm (line_of_entry line) }
-    requires short { IsShort (line_of_entry line) }
-    ensures { Takes read.old (line_of_entry line) (new_or_fault read.new result) }
+    requires form { HasItsForm (line_of line) }
+    requires short { IsShort (line_of line) }
+    ensures { Takes read.old (line_of line) (new_or_fault read.new result) }
 {
-    if !may_enter(read, &line) {
+    if !may_stand(read, &line) {
         drop(line);
         return Err(LineFault::BadLine);
     }
@@ -180,6 +217,6 @@ pub fn take_entry_line(
             drop(line);
             Err(LineFault::BadLine)
         }
-        Ok(true) => add_entry(read, line),
+        Ok(true) => add(read, line),
     }
 }

@@ -1,17 +1,13 @@
 // Takes the next line of a carried text.
-ghost use Rattle.std.specs.Prelude.{◌≡◌, ◌≢◌, ◌++◌, ◌≤◌, codes, length};
 ghost use Rattle.script_lines.specs.Lines.{HasNoNewline};
 ghost use Rattle.save_file.specs.CarriedParsing.{IsCarriedStage, IsRead, JudgesCarried, ReadsCarried, TakesText, new_or_fault};
-ghost use Rattle.save_file.specs.Following.{BeginsOther};
-ghost use Rattle.save_file.specs.SavedText.{end_line, side_word as word_of_side};
 ghost use Rattle.save_file.specs.declared.carried_stage.CarriedStage.TheVariants.{Lines, Number, Opening};
 
-use crate::carried_line::{read_entry_line, read_list_line};
-use crate::carried_read::{CarriedRead, take_entry_line, take_list_line};
+use crate::carried_line::read_line;
+use crate::carried_read::{CarriedRead, take_line as add_line};
 use crate::entry_keys::EntryKeys;
 use crate::fault::LoadFault;
 use crate::reading::{behind, is_word, read_next};
-use answers::Side;
 use script_lines::LineFault;
 use std::alloc::Global;
 
@@ -50,70 +46,10 @@ fn take_number(alloc: Global, line: &str) -> Result<CarriedStage, LineFault>
     };
     Ok(CarriedStage::Lines(CarriedRead {
         next,
-        lists: Vec::new(alloc),
-        entries: Vec::new(alloc),
+        lines: Vec::new(alloc),
         keys: EntryKeys::new(alloc),
-        overridden: false,
+        rank: 0,
     }))
-}
-
-// `list ..`, by what stands behind the slash
-fn take_list(alloc: Global, read: &mut CarriedRead, text: &str) -> Result<(), LineFault>
-    requires sound { IsRead read.old }
-    requires short { length (codes "list /" ++ text.now) ≤ 4096 }
-    ensures { TakesText read.old (codes "list /" ++ text.now) (new_or_fault read.new result) }
-{
-    match read_list_line(alloc, text) {
-        Err(fault) => Err(fault),
-        Ok(line) => take_list_line(read, line),
-    }
-}
-
-// `value ..` or `override ..`, by what stands behind the first word
-fn take_entry(
-    alloc: Global,
-    read: &mut CarriedRead,
-    side: Side,
-    text: &str,
-) -> Result<(), LineFault>
-    requires sound { IsRead read.old }
-    requires short { length (word_of_side side ++ text.now) ≤ 4096 }
-    requires line { HasNoNewline text.now }
-    ensures { TakesText read.old (word_of_side side ++ text.now) (new_or_fault read.new result) }
-{
-    match read_entry_line(alloc, side, text) {
-        Err(fault) => Err(fault),
-        Ok(line) => take_entry_line(alloc, read, line),
-    }
-}
-
-// A line of an override, or none.
-fn take_override(alloc: Global, read: &mut CarriedRead, line: &str) -> Result<(), LineFault>
-    requires sound { IsRead read.old }
-    requires short { length line.now ≤ 4096 }
-    requires line { HasNoNewline line.now }
-    requires no_list { BeginsOther (codes "list /") line.now }
-    requires no_value { BeginsOther (codes "value ") line.now }
-    ensures { TakesText read.old line.now (new_or_fault read.new result) }
-{
-    match behind("override ", line) {
-        None => Err(LineFault::BadLine),
-        Some(text) => take_entry(alloc, read, Side::Override, text),
-    }
-}
-
-// A line of an entry, or none.
-fn take_either(alloc: Global, read: &mut CarriedRead, line: &str) -> Result<(), LineFault>
-    requires sound { IsRead read.old }
-    requires short { length line.now ≤ 4096 }
-    requires line { HasNoNewline line.now }
-    requires no_list { BeginsOther (codes "list /") line.now }
-    ensures { TakesText read.old line.now (new_or_fault read.new result) }
-{
-    match behind("value ", line) {
-        None => take_override(alloc, read, line),
-        Some(text) => take_entry(alloc, read, Side::Answer, text),
-    }
 }
 
 // A line of a list or of an entry.
@@ -125,9 +61,9 @@ fn take_text(alloc: Global, read: &mut CarriedRead, line: &str) -> Result<(), Li
     if line.len() > MOST_BYTES {
         return Err(LineFault::BadLine);
     }
-    match behind("list /", line) {
-        None => take_either(alloc, read, line),
-        Some(text) => take_list(alloc, read, text),
+    match read_line(alloc, line) {
+        Err(fault) => Err(fault),
+        Ok(line) => add_line(alloc, read, line),
     }
 }
 

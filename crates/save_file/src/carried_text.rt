@@ -1,13 +1,55 @@
-// Reads the lines of a carried text.
-ghost use Rattle.std.specs.Prelude.{◌≡◌, ◌<◌, ◌++◌, length};
-ghost use Rattle.save_file.specs.CarriedParsing.{EndsCarried, GivesLines};
+// Reads the lines of a carried text, whatever the dictionary, or of a saved text over one.
+ghost use Rattle.std.specs.Prelude.{◌≡◌, ◌↔◌, ◌<◌, ◌∷◌, [], ◌++◌, ℕ, List, IsTrue, length, option_copied};
+ghost use Rattle.script_lines.specs.Lines.{HasNoNewline};
+ghost use Rattle.save_file.specs.CarriedParsing.{EndsCarried, GivesLines, IsCarriedStage, IsOfUpTo, IsWhose, ReadsNext, stage_lines};
 
 use crate::carried_read::CarriedRead;
 use crate::carried_stage::{CarriedStage, read_carried};
 use crate::fault::LoadFault;
-use crate::loading::is_ended;
+use crate::own_lines::judge;
+use dictionary::Dictionary;
 use script_lines::cut_line;
 use std::alloc::Global;
+
+// Whether the last byte is a newline.
+fn is_ended(bytes: &[u8]) -> bool
+    ensures { IsTrue result ↔ ((front : List ℕ) × (bytes.now ≡ front ++ 10 ∷ [])) }
+{
+    match bytes.last() {
+        None => false,
+        Some(last) => *last == b'\n',
+    }
+}
+
+// Takes the line of this number.
+fn read_next(
+    alloc: Global,
+    whose: Option<&Dictionary>,
+    stage: CarriedStage,
+    last: u64,
+    line: &[u8],
+    number: u32,
+) -> Result<(CarriedStage, u64), LoadFault>
+    requires sound { IsCarriedStage stage }
+    requires own { IsOfUpTo (option_copied whose) (stage_lines stage) last }
+    requires line { HasNoNewline line.now }
+    ensures { ReadsNext (option_copied whose.entry) stage line.now number result }
+{
+    match read_carried(alloc, stage, line, number) {
+        Err(fault) => Err(fault),
+        Ok(new) => match judge(alloc, whose, &new, last) {
+            Err(fault) => {
+                drop(new);
+                Err(fault)
+            }
+            Ok(None) => {
+                drop(new);
+                Err(LoadFault::BadSaved(number))
+            }
+            Ok(Some(position)) => Ok((new, position)),
+        },
+    }
+}
 
 // The lines of a whole text, of which `ended` says whether its last line has its newline.
 fn end_with(stage: CarriedStage, ended: bool, number: u32) -> Result<CarriedRead, LoadFault>
@@ -27,20 +69,29 @@ fn end_with(stage: CarriedStage, ended: bool, number: u32) -> Result<CarriedRead
     }
 }
 
-/// The lines of which the bytes are the carried text.
-pub fn read_lines(alloc: Global, bytes: &[u8]) -> Result<CarriedRead, LoadFault>
-    requires { length bytes.now < 4294967295 }
-    ensures { GivesLines bytes.now result }
+/// The lines of which the bytes are the carried text; of a saved text over the dictionary, where one is given.
+pub fn read_lines(
+    alloc: Global,
+    whose: Option<&Dictionary>,
+    bytes: &[u8],
+) -> Result<CarriedRead, LoadFault>
+    requires whose { IsWhose (option_copied whose) }
+    requires short { length bytes.now < 4294967295 }
+    ensures { GivesLines (option_copied whose.entry) bytes.now result }
 {
     let ended = is_ended(bytes);
     let mut stage = CarriedStage::Opening;
+    let mut last = 0;
     let mut number = 1;
     let mut rest = bytes;
     while !rest.is_empty() {
         let cut = cut_line(rest);
-        match read_carried(alloc, stage, cut.0, number) {
+        match read_next(alloc, whose, stage, last, cut.0, number) {
             Err(fault) => return Err(fault),
-            Ok(new) => stage = new,
+            Ok((new, position)) => {
+                stage = new;
+                last = position;
+            }
         }
         rest = cut.1;
         number += 1;

@@ -1,20 +1,20 @@
 // Carries a saved text to another dictionary.
-ghost use Rattle.std.specs.Prelude.{◌≡◌, ◌+◌, ◌<◌, ◌++◌, ◌∷◌, [], Some, ◌≤◌, IfErr, IfOk, OnOk, length, map, if◌then◌else◌};
+ghost use Rattle.std.specs.Prelude.{◌≡◌, ◌+◌, ◌<◌, ◌++◌, ◌∷◌, [], Some, ◌≤◌, IfErr, IfOk, OnOk, is_some, length, map, string_bytes};
 ghost use Rattle.answers.specs.Meaning.{answered};
 ghost use Rattle.text_checks.specs.Tables.{named_checks};
-ghost use Rattle.graph_session.specs.Naming.{slot_of};
+ghost use Rattle.graph_session.specs.Naming.{fact_of};
 ghost use Rattle.graph_session.specs.Refusals.{SameChecks};
 ghost use Rattle.graph_session.specs.Rules.{rules, tree_of};
-ghost use Rattle.save_file.specs.CarriedParsing.{line_of_entry, line_of_list, text_of};
+ghost use Rattle.save_file.specs.CarriedParsing.{line_of, text_of};
 ghost use Rattle.save_file.specs.CarriedText.{IsCarried};
-ghost use Rattle.save_file.specs.Carrying.{IsCarry, IsCarryOf, RefusesCarried, keeps, numbers_failing};
-ghost use Rattle.save_file.specs.Keeping.{ArePlaced, IsPlaced, entered, noted, with_worth, worth_of as worth_of_entry};
+ghost use Rattle.save_file.specs.Carrying.{IsCarry, IsCarryOf, RefusesCarried, keeps, kept_collection, kept_value, numbers_failing};
+ghost use Rattle.save_file.specs.Keeping.{ArePlaced, IsLinePlaced, IsPlaced, entered, noted, with_line, with_value};
 ghost use Rattle.save_file.specs.declared.fault.LoadFault.TheVariants.{NoMemory};
 
-use crate::carried_line::{EntryLine, ListLine};
+use crate::carried_line::{EntryLine, ListLine, TextLine};
 use crate::carried_read::CarriedRead;
 use crate::carried_text::read_lines;
-use crate::entry_line::set_value;
+use crate::entering::set_value;
 use crate::fault::LoadFault;
 use crate::keeping::{collection_of, worth_of};
 use crate::opening::open_kept;
@@ -49,36 +49,14 @@ fn note_list(
     number: u32,
     dropped: &mut Vec<u32>,
 ) -> Result<(), LoadFault>
-    ensures noted { OnOk result (dropped.new.items
-        ≡ (if keeps (rules dict.now) (line_of_list line.now) then dropped.old.items else dropped.old.items ++ number
-        ∷ [])) }
+    ensures noted { OnOk result (dropped.new.items ≡ noted (is_some (kept_collection (tree_of (rules dict.now))
+        line.now.name)) number dropped.old.items) }
     ensures memory { IfErr result (λ fault. fault ≡ NoMemory) }
 {
     match collection_of(dict, line) {
         Some(_) => Ok(()),
         None => note(number, dropped),
     }
-}
-
-// Notes the numbers of the lists that are dropped.
-fn note_lists(
-    dict: &Dictionary,
-    lists: &[ListLine],
-    dropped: &mut Vec<u32>,
-) -> Result<(), LoadFault>
-    requires { length lists.now ≤ 32 }
-    ensures noted { OnOk result (dropped.new.items ≡ dropped.old.items ++ numbers_failing (keeps (rules dict.now)) 3
-        (map line_of_list lists.now)) }
-    ensures memory { IfErr result (λ fault. fault ≡ NoMemory) }
-{
-    let mut number = 3;
-    for line in lists {
-        match note_list(dict, line, number, dropped) {
-            Err(fault) => return Err(fault),
-            Ok(()) => number += 1,
-        }
-    }
-    Ok(())
 }
 
 // Gives a slot the value of an entry that is kept, and notes the number of another.
@@ -92,78 +70,68 @@ fn keep_entry(
 ) -> Result<(), LoadFault>
     requires same_checks { SameChecks (rules dict.now) (named_checks checks.now) }
     requires placed { IsPlaced (tree_of (rules dict.now)) (answered carried.old.answers) line.now.path }
-    ensures entered { OnOk result (answered carried.new.answers ≡ with_worth (rules dict.now) line.now
-        (worth_of_entry (rules dict.now) line.now) (answered carried.old.answers)) }
-    ensures noted { OnOk result (carried.new.dropped.items ≡ noted (worth_of_entry (rules dict.now) line.now) number
+    ensures entered { OnOk result (answered carried.new.answers ≡ with_value (tree_of (rules dict.now)) line.now.side
+        line.now.path (kept_value (rules dict.now) line.now.side (fact_of (tree_of (rules dict.now)) line.now.path)
+        (string_bytes line.now.text)) (answered carried.old.answers)) }
+    ensures noted { OnOk result (carried.new.dropped.items ≡ noted (is_some (kept_value (rules dict.now) line.now.side
+        (fact_of (tree_of (rules dict.now)) line.now.path) (string_bytes line.now.text))) number
         carried.old.dropped.items) }
     ensures memory { IfErr result (λ fault. fault ≡ NoMemory) }
 {
     match worth_of(alloc, dict, checks, &carried.answers, line) {
         Err(fault) => Err(fault),
         Ok(None) => note(number, &mut carried.dropped),
-        Ok(Some((slot, value))) => {
-            match set_value(&mut carried.answers, line.side, slot, value) {
-                Err(_) => Err(LoadFault::NoMemory),
-                Ok(()) => Ok(()),
-            }
-        }
+        Ok(Some((slot, value))) => { set_value(&mut carried.answers, line.side, slot, value) }
     }
 }
 
-// Goes through the entries, behind the lists.
-fn keep_entries(
+fn keep_line(
     alloc: Global,
     dict: &Dictionary,
     checks: &CheckTable,
-    read: &CarriedRead,
+    line: &TextLine,
+    number: u32,
     carried: &mut Carried,
 ) -> Result<(), LoadFault>
     requires same_checks { SameChecks (rules dict.now) (named_checks checks.now) }
-    requires placed { ArePlaced (tree_of (rules dict.now)) (answered carried.old.answers) read.now.entries.items }
-    requires few { length read.now.lists.items + length read.now.entries.items + 3 < 4294967296 }
-    ensures entered { OnOk result (answered carried.new.answers ≡ entered (rules dict.now)
-        (answered carried.old.answers) read.now.entries.items) }
-    ensures dropped { OnOk result (carried.new.dropped.items ≡ carried.old.dropped.items ++ numbers_failing
-        (keeps (rules dict.now)) (length read.now.lists.items + 3) (map line_of_entry read.now.entries.items)) }
+    requires placed { IsLinePlaced (tree_of (rules dict.now)) (answered carried.old.answers) (line_of line.now) }
+    ensures entered { OnOk result (answered carried.new.answers ≡ with_line (tree_of (rules dict.now))
+        (kept_value (rules dict.now)) (answered carried.old.answers) (line_of line.now)) }
+    ensures noted { OnOk result (carried.new.dropped.items ≡ noted (keeps (rules dict.now) (line_of line.now)) number
+        carried.old.dropped.items) }
     ensures memory { IfErr result (λ fault. fault ≡ NoMemory) }
 {
-    let mut number = read.lists.len() as u32 + 3;
-    for line in read.entries.iter() {
-        match keep_entry(alloc, dict, checks, line, number, carried) {
+    match line {
+        TextLine::Collection(list) => note_list(dict, list, number, &mut carried.dropped),
+        TextLine::Entry(entry) => keep_entry(alloc, dict, checks, entry, number, carried),
+    }
+}
+
+// Goes through the lines, of which the collections are open.
+fn keep_lines(
+    alloc: Global,
+    dict: &Dictionary,
+    checks: &CheckTable,
+    lines: &[TextLine],
+    carried: &mut Carried,
+) -> Result<(), LoadFault>
+    requires same_checks { SameChecks (rules dict.now) (named_checks checks.now) }
+    requires placed { ArePlaced (tree_of (rules dict.now)) (answered carried.old.answers) (map line_of lines.now) }
+    requires few { length lines.now + 3 < 4294967296 }
+    ensures entered { OnOk result (answered carried.new.answers ≡ entered (tree_of (rules dict.now))
+        (kept_value (rules dict.now)) (answered carried.old.answers) (map line_of lines.now)) }
+    ensures dropped { OnOk result (carried.new.dropped.items ≡ carried.old.dropped.items ++ numbers_failing
+        (keeps (rules dict.now)) 3 (map line_of lines.now)) }
+    ensures memory { IfErr result (λ fault. fault ≡ NoMemory) }
+{
+    let mut number = 3;
+    for line in lines {
+        match keep_line(alloc, dict, checks, line, number, carried) {
             Err(fault) => return Err(fault),
             Ok(()) => number += 1,
         }
     }
     Ok(())
-}
-
-// The same of all lines, of which the collections are open.
-fn keep_lines(
-    alloc: Global,
-    dict: &Dictionary,
-    checks: &CheckTable,
-    read: &CarriedRead,
-    carried: &mut Carried,
-) -> Result<(), LoadFault>
-    requires same_checks { SameChecks (rules dict.now) (named_checks checks.now) }
-    requires placed { ArePlaced (tree_of (rules dict.now)) (answered carried.old.answers) read.now.entries.items }
-    requires lists { length read.now.lists.items ≤ 32 }
-    requires few { length read.now.lists.items + length read.now.entries.items + 3 < 4294967296 }
-    requires none { carried.old.dropped.items ≡ [] }
-    ensures entered { OnOk result (answered carried.new.answers ≡ entered (rules dict.now)
-        (answered carried.old.answers) read.now.entries.items) }
-    ensures dropped { OnOk result (carried.new.dropped.items ≡ numbers_failing (keeps (rules dict.now)) 3
-        (map line_of_list read.now.lists.items) ++ numbers_failing (keeps (rules dict.now))
-        (length read.now.lists.items + 3) (map line_of_entry read.now.entries.items)) }
-    ensures memory { IfErr result (λ fault. fault ≡ NoMemory) }
-{
-    match note_lists(dict, read.lists.as_slice(), &mut carried.dropped) {
-        Err(fault) => Err(fault),
-        Ok(()) => match keep_entries(alloc, dict, checks, read, carried) {
-            Err(fault) => Err(fault),
-            Ok(()) => Ok(()),
-        },
-    }
 }
 
 /// Carries lines that make a carried text.
@@ -175,7 +143,7 @@ pub fn carry_lines(
 ) -> Result<Carried, LoadFault>
     requires same_checks { SameChecks (rules dict.now) (named_checks checks.now) }
     requires text { IsCarried (text_of read.now) }
-    requires few { length read.now.lists.items + length read.now.entries.items + 3 < 4294967296 }
+    requires few { length read.now.lines.items + 3 < 4294967296 }
     ensures carried { IfOk result (λ c. IsCarryOf (rules dict.now) (text_of read.now) (answered c.answers)
         c.dropped.items) }
     ensures memory { IfErr result (λ fault. fault ≡ NoMemory) }
@@ -186,7 +154,7 @@ pub fn carry_lines(
         Ok(answers) => {
             let dropped = Vec::new(alloc);
             let mut carried = Carried { answers, dropped };
-            match keep_lines(alloc, dict, checks, read, &mut carried) {
+            match keep_lines(alloc, dict, checks, read.lines.as_slice(), &mut carried) {
                 Err(fault) => {
                     drop(carried);
                     Err(fault)
@@ -211,7 +179,7 @@ pub fn carry(
     ensures carried { IfOk result (λ c. IsCarry (rules dict.now) bytes.now (answered c.answers) c.dropped.items) }
     ensures refused { IfErr result (RefusesCarried bytes.now) }
 {
-    match read_lines(alloc, bytes) {
+    match read_lines(alloc, None, bytes) {
         Err(fault) => Err(fault),
         Ok(read) => carry_lines(alloc, dict, checks, &read),
     }

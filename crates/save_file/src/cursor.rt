@@ -1,10 +1,10 @@
 // A cursor over the slots that stand.
 ghost use Rattle.std.specs.Prelude.{◌≡◌};
 ghost use Rattle.answers.specs.Meaning.{answered};
-ghost use Rattle.dict_tree.specs.Finding.{IsNumber};
-ghost use Rattle.dictionary.specs.Accepted.{accepted};
-ghost use Rattle.dictionary.specs.Homes.{home};
-ghost use Rattle.dictionary.specs.Slots.{members_of_home};
+ghost use Rattle.dict_source.specs.Finding.{IsNumber};
+ghost use Rattle.dictionary.specs.Kept.{accepted};
+ghost use Rattle.dict_meaning.specs.Homes.{home};
+ghost use Rattle.dict_meaning.specs.Slots.{members_of_home};
 ghost use Rattle.save_file.specs.Cursors.{first_left, slots_left};
 ghost use Rattle.save_file.specs.SavedText.{slots};
 

@@ -4,9 +4,9 @@ ghost use Rattle.answers.specs.Answered.{value_of};
 ghost use Rattle.answers.specs.Meaning.{answered};
 ghost use Rattle.script_lines.specs.Joined.{joined};
 ghost use Rattle.value_text.specs.Values.{IsPrinted, printed};
-ghost use Rattle.dictionary.specs.Accepted.{accepted};
-ghost use Rattle.dictionary.specs.Fits.{AnswersFit};
-ghost use Rattle.dictionary.specs.SlotText.{IsSlot, slot_text};
+ghost use Rattle.dictionary.specs.Kept.{accepted};
+ghost use Rattle.dict_meaning.specs.Fits.{AnswersFit};
+ghost use Rattle.dict_meaning.specs.SlotText.{IsSlot, slot_text};
 ghost use Rattle.save_file.specs.SavedText.{entries, entry_line, entry_lines, side_word as word_of_side};
 ghost use Rattle.fg_io.specs.Writing.{Wrote};
 

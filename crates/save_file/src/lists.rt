@@ -6,10 +6,10 @@ ghost use Rattle.fact_values.specs.Members.{IsMemberList, is_member};
 ghost use Rattle.value_text.specs.MemberTexts.{printed_item, printed_rest};
 ghost use Rattle.answers.specs.Meaning.{answered};
 ghost use Rattle.script_lines.specs.Joined.{joined};
-ghost use Rattle.dictionary.specs.Accepted.{accepted};
-ghost use Rattle.dictionary.specs.Fits.{AnswersFit};
-ghost use Rattle.dictionary.specs.Dependencies.{slot};
-ghost use Rattle.dictionary.specs.SlotText.{IsSlot};
+ghost use Rattle.dictionary.specs.Kept.{accepted};
+ghost use Rattle.dict_meaning.specs.Fits.{AnswersFit};
+ghost use Rattle.evaluation.specs.Results.{slot};
+ghost use Rattle.dict_meaning.specs.SlotText.{IsSlot};
 ghost use Rattle.save_file.specs.SavedText.{list_line, list_lines, lists};
 ghost use Rattle.fg_io.specs.Writing.{Wrote};
 

@@ -1,72 +1,48 @@
 // Loads the answers of a saved text.
-ghost use Rattle.std.specs.Prelude.{◌≡◌, ◌↔◌, ◌<◌, ◌∷◌, [], ◌++◌, ℕ, List, IsTrue, IfErr, IfOk, length};
+ghost use Rattle.std.specs.Prelude.{◌≡◌, ◌<◌, IfErr, IfOk, length};
 ghost use Rattle.answers.specs.Answered.{Answered};
 ghost use Rattle.answers.specs.Meaning.{answered};
-ghost use Rattle.dictionary.specs.Accepted.{accepted};
-ghost use Rattle.dictionary.specs.Fits.{AnswersFit};
-ghost use Rattle.save_file.specs.Following.{Ends};
-ghost use Rattle.save_file.specs.Loading.{IsLoad, RefusesText};
+ghost use Rattle.dictionary.specs.Kept.{accepted};
+ghost use Rattle.dict_meaning.specs.Fits.{AnswersFit};
+ghost use Rattle.save_file.specs.CarriedParsing.{lines_of, text_of};
+ghost use Rattle.save_file.specs.CarriedText.{IsCarried, carried};
+ghost use Rattle.save_file.specs.Loading.{RefusesText};
+ghost use Rattle.save_file.specs.OwnLines.{AreOwn};
 ghost use Rattle.save_file.specs.SavedText.{saved};
+ghost use Rattle.save_file.specs.declared.fault.LoadFault.TheVariants.{NoMemory};
 
+use crate::carried_read::CarriedRead;
+use crate::carried_text::read_lines;
+use crate::entering::enter_all;
 use crate::fault::LoadFault;
-use crate::line::read_on;
-use crate::stage::Stage;
+use crate::opening::open_kept;
 use answers::Answers;
 use dictionary::Dictionary;
-use script_lines::cut_line;
 use std::alloc::Global;
 
-/// Whether the last byte is a newline.
-pub fn is_ended(bytes: &[u8]) -> bool
-    ensures { IsTrue result ↔ ((front : List ℕ) × (bytes.now ≡ front ++ 10 ∷ [])) }
-{
-    match bytes.last() {
-        None => false,
-        Some(last) => *last == b'\n',
-    }
-}
-
-// The answers of a whole text, of which `ended` says whether its last line has its newline.
-fn end_with(stage: Stage, ended: bool, number: u32) -> Result<Answers, LoadFault>
-    ensures { Ends stage ended number result }
-{
-    match stage {
-        Stage::Whole(answers) => {
-            if ended {
-                Ok(answers)
-            } else {
-                drop(answers);
-                Err(LoadFault::BadSaved(number))
-            }
-        }
-        other => {
-            drop(other);
-            Err(LoadFault::BadSaved(number))
-        }
-    }
-}
-
-// Takes line after line.
-fn load_lines(alloc: Global, dict: &Dictionary, bytes: &[u8]) -> Result<Answers, LoadFault>
-    requires { length bytes.now < 4294967295 }
-    ensures { IsLoad (accepted dict.now).tree bytes.now result }
+// The answers that lines of a saved text give.
+fn answers_of(alloc: Global, dict: &Dictionary, read: &CarriedRead) -> Result<Answers, LoadFault>
+    requires text { IsCarried (text_of read.now) }
+    requires own { AreOwn (accepted dict.now).tree (lines_of read.now) }
+    ensures fit { IfOk result (λ b. AnswersFit (accepted dict.now).tree (answered b)) }
+    ensures saved { IfOk result (λ b. carried (text_of read.now) ≡ saved (accepted dict.now).tree (answered b)) }
+    ensures memory { IfErr result (λ fault. fault ≡ NoMemory) }
 {
     let _accepted = dict.source();
     let _enums = dict.source().enums().len();
-    let ended = is_ended(bytes);
-    let mut stage = Stage::Opening;
-    let mut number = 1;
-    let mut rest = bytes;
-    while !rest.is_empty() {
-        let cut = cut_line(rest);
-        match read_on(alloc, dict, stage, cut.0, number) {
-            Err(fault) => return Err(fault),
-            Ok(new) => stage = new,
+    match open_kept(alloc, dict, read) {
+        Err(fault) => Err(fault),
+        Ok(answers) => {
+            let mut answers = answers;
+            match enter_all(alloc, dict, read.lines.as_slice(), &mut answers) {
+                Err(fault) => {
+                    drop(answers);
+                    Err(fault)
+                }
+                Ok(()) => Ok(answers),
+            }
         }
-        rest = cut.1;
-        number += 1;
     }
-    end_with(stage, ended, number)
 }
 
 /// The answers of which the bytes are the saved text over the dictionary; of other bytes nothing is kept. Limits and checks
@@ -79,5 +55,10 @@ pub fn load(alloc: Global, dict: &Dictionary, bytes: &[u8]) -> Result<Answers, L
         → IfOk result (λ b. answered b ≡ a) }
     ensures refused { IfErr result (RefusesText (accepted dict.now).tree bytes.now) }
 {
-    load_lines(alloc, dict, bytes)
+    let _accepted = dict.source();
+    let _enums = dict.source().enums().len();
+    match read_lines(alloc, Some(dict), bytes) {
+        Err(fault) => Err(fault),
+        Ok(read) => answers_of(alloc, dict, &read),
+    }
 }

@@ -1,46 +1,62 @@
 // Opens the collections whose lists are kept.
-ghost use Rattle.std.specs.Prelude.{◌≡◌, ◌++◌, ◌∷◌, [], IfErr, IfOk, OnOk, option_copied};
+ghost use Rattle.std.specs.Prelude.{◌≡◌, ◌++◌, ◌∷◌, [], IfErr, IfOk, OnOk, map, option_copied, option_map};
 ghost use Rattle.std.specs.List.{find};
 ghost use Rattle.answers.specs.GivenLists.{IsOfLists};
 ghost use Rattle.answers.specs.Meaning.{answered};
 ghost use Rattle.answers.specs.WellFormed.{FromOne, WellFormed};
 ghost use Rattle.graph_session.specs.Rules.{rules, tree_of};
-ghost use Rattle.save_file.specs.CarriedParsing.{text_of};
-ghost use Rattle.save_file.specs.CarriedText.{IsCarried};
+ghost use Rattle.save_file.specs.CarriedParsing.{line_of, lines_of, text_of};
+ghost use Rattle.fact_values.specs.Members.{IsMemberList};
+ghost use Rattle.save_file.specs.CarriedText.{IsCarried, members_in};
 ghost use Rattle.save_file.specs.Keeping.{opened, opened_at, opened_by, opens_fact};
 ghost use Rattle.save_file.specs.declared.fault.LoadFault.TheVariants.{NoMemory};
 
-use crate::carried_line::ListLine;
+use crate::carried_line::{TextLine, members_of};
 use crate::carried_read::CarriedRead;
 use crate::fault::LoadFault;
 use crate::keeping::collection_of;
 use answers::Answers;
 use dictionary::Dictionary;
 use fact_values::Members;
+use graph_session::is_list;
 use std::alloc::Global;
 
 // Whether the line opens this collection.
-fn opens(dict: &Dictionary, fact: u32, line: &ListLine) -> bool
-    ensures { result ≡ opens_fact (tree_of (rules dict.now)) fact line.now }
+fn opens(dict: &Dictionary, fact: u32, line: &TextLine) -> bool
+    ensures { result ≡ opens_fact (tree_of (rules dict.now)) fact (line_of line.now) }
 {
-    match collection_of(dict, line) {
-        None => false,
-        Some(found) => found == fact,
+    match line {
+        TextLine::Entry(_) => false,
+        TextLine::Collection(list) => match collection_of(dict, list) {
+            None => false,
+            Some(found) => found == fact,
+        },
     }
 }
 
-// The line that opens it.
-fn line_of<'a>(dict: &Dictionary, lists: &'a [ListLine], fact: u32) -> Option<&'a ListLine>
-    ensures { option_copied result ≡ find (opens_fact (tree_of (rules dict.now)) fact) lists.now }
+fn first_line<'a>(dict: &Dictionary, lines: &'a [TextLine], fact: u32) -> Option<&'a TextLine>
+    ensures { option_copied result ≡ find (λ l. opens_fact (tree_of (rules dict.now)) fact (line_of l)) lines.now }
 {
-    lists.iter().find(|line| opens(dict, fact, line))
+    lines.iter().find(|line| opens(dict, fact, line))
 }
 
-fn copy_members(alloc: Global, members: &Members) -> Result<Members, LoadFault>
+// The line that opens it, which is looked for where it may be opened.
+fn opening_line<'a>(dict: &Dictionary, lines: &'a [TextLine], fact: u32) -> Option<&'a TextLine>
+    ensures { option_map line_of (option_copied result) ≡ find (opens_fact (tree_of (rules dict.now)) fact)
+        (map line_of lines.now) }
+{
+    if !is_list(dict, fact) {
+        return None;
+    }
+    first_line(dict, lines, fact)
+}
+
+fn copy_members(alloc: Global, members: &[u32]) -> Result<Members, LoadFault>
+    requires { IsMemberList members.now }
     ensures copied { IfOk result (λ copy. copy ≡ members.now) }
     ensures memory { IfErr result (λ fault. fault ≡ NoMemory) }
 {
-    match Vec::from_slice(alloc, members.as_slice()) {
+    match Vec::from_slice(alloc, members) {
         Err(_) => Err(LoadFault::NoMemory),
         Ok(list) => match Members::new(list) {
             None => unreachable!(),
@@ -53,13 +69,13 @@ fn copy_members(alloc: Global, members: &Members) -> Result<Members, LoadFault>
 fn push_list(
     alloc: Global,
     fact: u32,
-    line: &ListLine,
+    line: &TextLine,
     given: &mut Vec<(u32, Members)>,
 ) -> Result<(), LoadFault>
-    ensures pushed { OnOk result (given.new.items ≡ given.old.items ++ (fact, line.now.members) ∷ []) }
+    ensures pushed { OnOk result (given.new.items ≡ given.old.items ++ (fact, members_in (line_of line.now)) ∷ []) }
     ensures memory { IfErr result (λ fault. fault ≡ NoMemory) }
 {
-    match copy_members(alloc, &line.members) {
+    match copy_members(alloc, members_of(line)) {
         Err(fault) => Err(fault),
         Ok(members) => match given.push((fact, members)) {
             Err(_) => Err(LoadFault::NoMemory),
@@ -72,15 +88,15 @@ fn push_list(
 fn add_list(
     alloc: Global,
     dict: &Dictionary,
-    lists: &[ListLine],
+    lines: &[TextLine],
     fact: u32,
     given: &mut Vec<(u32, Members)>,
 ) -> Result<(), LoadFault>
-    ensures added { OnOk result (given.new.items ≡ given.old.items ++ opened_at (tree_of (rules dict.now)) lists.now
-        fact) }
+    ensures added { OnOk result (given.new.items ≡ given.old.items ++ opened_at (tree_of (rules dict.now))
+        (map line_of lines.now) fact) }
     ensures memory { IfErr result (λ fault. fault ≡ NoMemory) }
 {
-    match line_of(dict, lists, fact) {
+    match opening_line(dict, lines, fact) {
         None => Ok(()),
         Some(line) => push_list(alloc, fact, line, given),
     }
@@ -90,9 +106,9 @@ fn add_list(
 fn given_lists(
     alloc: Global,
     dict: &Dictionary,
-    lists: &[ListLine],
+    lines: &[TextLine],
 ) -> Result<Vec<(u32, Members)>, LoadFault>
-    ensures given { IfOk result (λ given. given.items ≡ opened (tree_of (rules dict.now)) lists.now) }
+    ensures given { IfOk result (λ given. given.items ≡ opened (tree_of (rules dict.now)) (map line_of lines.now)) }
     ensures memory { IfErr result (λ fault. fault ≡ NoMemory) }
 {
     let count = dict.fact_count();
@@ -100,7 +116,7 @@ fn given_lists(
     let mut done = 0;
     while done < count {
         done += 1;
-        match add_list(alloc, dict, lists, done, &mut given) {
+        match add_list(alloc, dict, lines, done, &mut given) {
             Err(fault) => return Err(fault),
             Ok(()) => {}
         }
@@ -111,13 +127,13 @@ fn given_lists(
 /// Opens the collections of the lists that are kept.
 pub fn open_kept(alloc: Global, dict: &Dictionary, read: &CarriedRead) -> Result<Answers, LoadFault>
     requires { IsCarried (text_of read.now) }
-    ensures lists { IfOk result (λ a. IsOfLists (opened (tree_of (rules dict.now)) read.now.lists.items) read.now.next
+    ensures lists { IfOk result (λ a. IsOfLists (opened (tree_of (rules dict.now)) (lines_of read.now)) read.now.next
         (answered a)) }
     ensures well { IfOk result (λ a. WellFormed (answered a)) }
     ensures from_one { IfOk result (λ a. FromOne (answered a)) }
     ensures memory { IfErr result (λ fault. fault ≡ NoMemory) }
 {
-    match given_lists(alloc, dict, read.lists.as_slice()) {
+    match given_lists(alloc, dict, read.lines.as_slice()) {
         Err(fault) => Err(fault),
         Ok(given) => match Answers::with_lists(alloc, given, read.next) {
             Err(_) => Err(LoadFault::NoMemory),

@@ -1,22 +1,11 @@
 // Reads the parts of a line.
 ghost use Rattle.std.specs.Prelude.{◌≡◌, ◌≢◌, ◌↔◌, ◌∷◌, ℕ, MatchOption, IsTrue, codes, decimal, option_copied, option_map};
-ghost use Rattle.std.specs.Str.{IsUtf8};
 ghost use Rattle.fact_paths.specs.Cuts.{after, cut};
 ghost use Rattle.save_file.specs.Parsing.{IsNextNumber, ReadsMember, ReadsMembers};
 
 use fact_paths::read_member_number;
 use script_lines::LineFault;
 use std::alloc::Global;
-
-/// The text of which these are the bytes.
-pub fn text_of(bytes: &[u8]) -> Option<&str>
-    ensures { MatchOption result (¬ IsUtf8 bytes.now) (λ text. text.now ≡ bytes.now) }
-{
-    match str::from_utf8(bytes) {
-        Err(_) => None,
-        Ok(text) => Some(text),
-    }
-}
 
 /// The texts in front of the first blank and behind it.
 pub fn at_blank(text: &str) -> Option<(&str, &str)>

@@ -1,20 +1,19 @@
 // Why a line of a text that came from outside is dropped.
 ghost use Rattle.std.specs.Prelude.{◌≡◌, Some, IfErr, IfOk, option_map, string_bytes};
 ghost use Rattle.text_checks.specs.Tables.{named_checks};
-ghost use Rattle.dict_tree.specs.Finding.{IsNumber};
+ghost use Rattle.dict_source.specs.Finding.{IsNumber};
 ghost use Rattle.answers.specs.declared.edit.Side.TheVariants.{Answer};
-ghost use Rattle.graph_session.specs.Naming.{named_fact};
 ghost use Rattle.graph_session.specs.Refusals.{SameChecks, first_of};
 ghost use Rattle.graph_session.specs.Rules.{rules, tree_of};
-ghost use Rattle.save_file.specs.CarriedParsing.{line_of_entry, line_of_list};
-ghost use Rattle.save_file.specs.CarriedText.{entry};
+ghost use Rattle.save_file.specs.CarriedParsing.{line_of};
+ghost use Rattle.save_file.specs.CarriedText.{collection, entry};
 ghost use Rattle.save_file.specs.Resuming.{fact_refusals, reason_of};
 ghost use Rattle.save_file.specs.declared.fault.LoadFault.TheVariants as faults;
 ghost use Rattle.save_file.specs.declared.reason.Reason.TheVariants.{Refused as RefusedBy};
 
-use crate::carried_line::{EntryLine, ListLine};
+use crate::carried_line::{EntryLine, ListLine, TextLine};
 use crate::fault::LoadFault;
-use crate::keeping::collection_of;
+use crate::keeping::{collection_of, find_fact};
 use answers::Side;
 use dictionary::Dictionary;
 use fact_paths::SlotPath;
@@ -43,23 +42,13 @@ pub struct Dropped {
     pub reason: Reason,
 }
 
-/// Why the list is dropped.
-pub fn reason_of_list(dict: &Dictionary, line: &ListLine) -> Option<Reason>
-    ensures { result ≡ reason_of (rules dict.now) (line_of_list line.now) }
+// Why the list is dropped.
+fn reason_of_list(dict: &Dictionary, line: &ListLine) -> Option<Reason>
+    ensures { result ≡ reason_of (rules dict.now) (collection line.now.name line.now.members) }
 {
     match collection_of(dict, line) {
         Some(_) => None,
         None => Some(Reason::NoCollection),
-    }
-}
-
-// The number of the path's fact.
-fn find_fact(dict: &Dictionary, path: &SlotPath) -> Option<u32>
-    ensures { result ≡ named_fact (tree_of (rules dict.now)) path.now }
-{
-    match path {
-        SlotPath::Global(name) => dict.source().find_global(name),
-        SlotPath::Member(collection, _, name) => dict.source().find_member(collection, name),
     }
 }
 
@@ -124,19 +113,37 @@ fn reason_of_value(
     }
 }
 
-/// Why the entry is dropped.
-pub fn reason_of_entry(
+// Why the entry is dropped.
+fn reason_of_entry(
     alloc: Global,
     dict: &Dictionary,
     checks: &CheckTable,
     line: &EntryLine,
 ) -> Result<Option<Reason>, LoadFault>
     requires same_checks { SameChecks (rules dict.now) (named_checks checks.now) }
-    ensures reason { IfOk result (λ o. o ≡ reason_of (rules dict.now) (line_of_entry line.now)) }
+    ensures reason { IfOk result (λ o. o ≡ reason_of (rules dict.now)
+        (entry line.now.side line.now.path (string_bytes line.now.text))) }
     ensures memory { IfErr result (λ fault. fault ≡ faults.NoMemory) }
 {
     match line.side {
         Side::Answer => reason_of_value(alloc, dict, checks, &line.path, line.text.as_str()),
         Side::Override => Ok(Some(Reason::Override)),
+    }
+}
+
+/// Why the line is dropped.
+pub fn reason_of_line(
+    alloc: Global,
+    dict: &Dictionary,
+    checks: &CheckTable,
+    line: &TextLine,
+) -> Result<Option<Reason>, LoadFault>
+    requires same_checks { SameChecks (rules dict.now) (named_checks checks.now) }
+    ensures reason { IfOk result (λ o. o ≡ reason_of (rules dict.now) (line_of line.now)) }
+    ensures memory { IfErr result (λ fault. fault ≡ faults.NoMemory) }
+{
+    match line {
+        TextLine::Collection(list) => Ok(reason_of_list(dict, list)),
+        TextLine::Entry(entry) => reason_of_entry(alloc, dict, checks, entry),
     }
 }

@@ -2,22 +2,23 @@
 ghost use Rattle.std.specs.Prelude.{◌≡◌, ◌+◌, ◌<◌, IfErr, IfOk, filter, length, map, not};
 ghost use Rattle.answers.specs.Meaning.{answered};
 ghost use Rattle.text_checks.specs.Tables.{named_checks};
-ghost use Rattle.dictionary.specs.Fits.{AnswersFit};
+ghost use Rattle.dict_meaning.specs.Fits.{AnswersFit};
 ghost use Rattle.graph_session.specs.Refusals.{SameChecks};
 ghost use Rattle.graph_session.specs.Rules.{rules, tree_of};
-ghost use Rattle.save_file.specs.CarriedParsing.{is_override as is_side_override, text_of};
+ghost use Rattle.save_file.specs.CarriedParsing.{line_of, text_of};
 ghost use Rattle.save_file.specs.CarriedText.{IsCarried};
 ghost use Rattle.save_file.specs.Carrying.{AreOfKept, RefusesCarried};
-ghost use Rattle.save_file.specs.Resuming.{IsResume, IsResumeOf, dropped_line, without_overrides};
+ghost use Rattle.save_file.specs.Resuming.{IsResume, IsResumeOf, dropped_line, overrides, without_overrides};
 ghost use Rattle.save_file.specs.declared.fault.LoadFault.TheVariants.{NoMemory};
 
-use crate::carried_read::{CarriedRead, is_override};
+use crate::carried_line::TextLine;
+use crate::carried_read::CarriedRead;
 use crate::carried_text::read_lines;
 use crate::carrying::carry_lines;
 use crate::dropped_lines::lines_dropped;
 use crate::fault::LoadFault;
 use crate::reason::Dropped;
-use answers::Answers;
+use answers::{Answers, Side};
 use dictionary::Dictionary;
 use std::alloc::Global;
 use text_checks::CheckTable;
@@ -31,13 +32,24 @@ pub struct Resumed {
     pub dropped: Vec<Dropped>,
 }
 
+fn is_override(line: &TextLine) -> bool
+    ensures { result ≡ overrides (line_of line.now) }
+{
+    match line {
+        TextLine::Collection(_) => false,
+        TextLine::Entry(entry) => match entry.side {
+            Side::Answer => false,
+            Side::Override => true,
+        },
+    }
+}
+
 // Takes the overrides away.
 fn leave_overrides(read: &mut CarriedRead)
     ensures next { read.new.next ≡ read.old.next }
-    ensures lists { read.new.lists.items ≡ read.old.lists.items }
-    ensures entries { read.new.entries.items ≡ filter (λ e. not (is_side_override e.side)) read.old.entries.items }
+    ensures lines { read.new.lines.items ≡ filter (λ l. not (overrides (line_of l))) read.old.lines.items }
 {
-    read.entries.retain(|line| !is_override(line.side));
+    read.lines.retain(|line| !is_override(line));
 }
 
 // The answers of the lines without the overrides, which are taken away.
@@ -49,7 +61,7 @@ fn answers_of(
 ) -> Result<Answers, LoadFault>
     requires same_checks { SameChecks (rules dict.now) (named_checks checks.now) }
     requires text { IsCarried (text_of read.old) }
-    requires few { length read.old.lists.items + length read.old.entries.items + 3 < 4294967296 }
+    requires few { length read.old.lines.items + 3 < 4294967296 }
     ensures kept { IfOk result (λ a. AreOfKept (rules dict.now) (without_overrides (text_of read.old)) (answered a)) }
     ensures fit { IfOk result (λ a. AnswersFit (tree_of (rules dict.now)) (answered a)) }
     ensures memory { IfErr result (λ fault. fault ≡ NoMemory) }
@@ -70,7 +82,7 @@ fn resume_lines(
 ) -> Result<Resumed, LoadFault>
     requires same_checks { SameChecks (rules dict.now) (named_checks checks.now) }
     requires text { IsCarried (text_of read.old) }
-    requires few { length read.old.lists.items + length read.old.entries.items + 3 < 4294967296 }
+    requires few { length read.old.lines.items + 3 < 4294967296 }
     ensures resumed { IfOk result (λ x. IsResumeOf (rules dict.now) (text_of read.old) (answered x.answers)
         (map dropped_line x.dropped.items)) }
     ensures memory { IfErr result (λ fault. fault ≡ NoMemory) }
@@ -101,7 +113,7 @@ pub fn resume(
         (map dropped_line x.dropped.items)) }
     ensures refused { IfErr result (RefusesCarried bytes.now) }
 {
-    match read_lines(alloc, bytes) {
+    match read_lines(alloc, None, bytes) {
         Err(fault) => Err(fault),
         Ok(read) => {
             let mut read = read;

@@ -3,8 +3,8 @@ ghost use Rattle.std.specs.Prelude.{◌≡◌, ◌++◌, ◌∷◌, [], List, �
 ghost use Rattle.answers.specs.Meaning.{answered};
 ghost use Rattle.fg_io.specs.Outside.{HasCause};
 ghost use Rattle.fg_io.specs.Sent.{Sent};
-ghost use Rattle.dictionary.specs.Accepted.{accepted};
-ghost use Rattle.dictionary.specs.Fits.{AnswersFit};
+ghost use Rattle.dictionary.specs.Kept.{accepted};
+ghost use Rattle.dict_meaning.specs.Fits.{AnswersFit};
 ghost use Rattle.save_file.specs.SavedText.{next_line, saved};
 ghost use Rattle.fg_io.specs.Writing.{Wrote};
 

@@ -1,9 +1,5 @@
-use Rattle.std.proofs.Common.{ℕ, List, ◌++◌, ap, subst, sym, ◌∙◌}
-use Rattle.std.specs.Prelude.{codes}
-use Rattle.std.proofs.lemmas.List.{append-nil}
-use Rattle.fact_paths.proofs.CutLaws.{cut_some, front_lacks, uncut_lacks}
-use Rattle.value_text.specs.MemberTexts.{printed_rest}
-use Rattle.save_file.specs.CarriedParsing.{ReadsLine, line_of_list}
+use Rattle.std.proofs.Common.{List, ap, subst, sym, ℕ, ◌++◌, ◌∙◌}
+use Rattle.save_file.proofs.Common.{ReadsLine, append-nil, codes, cut_some, front_lacks, printed_rest, uncut_lacks}
 use Rattle.save_file.proofs.CarriedLines.{bad_members}
 use Rattle.save_file.proofs.carried_line.read_list_line.Goals as goal
 
@@ -15,7 +11,7 @@ with_members-requires-in-Ok-clause-name c = front_lacks 32 c.args.text.now c.in-
 
 pub returns-in-None : goal.returns-in-None
 returns-in-None c =
-    subst (λ (t : List ℕ). ReadsLine line_of_list (codes "list /" ++ t) c.with_members.result)
+    subst (λ (t : List ℕ). ReadsLine (codes "list /" ++ t) c.with_members.result)
     (ap (λ (ms : List ℕ). c.args.text.now ++ printed_rest ms) c.new.ensures.items ∙ append-nil c.args.text.now) c.with_members.ensures
 
 pub returns-in-Err : goal.returns-in-Err
@@ -23,5 +19,5 @@ returns-in-Err c = bad_members c.args.text.now c.in-Some.name.now c.in-Some.behi
 
 pub returns-in-Ok : goal.returns-in-Ok
 returns-in-Ok c =
-    subst (λ (t : List ℕ). ReadsLine line_of_list (codes "list /" ++ t) c.with_members-in-Ok.result)
+    subst (λ (t : List ℕ). ReadsLine (codes "list /" ++ t) c.with_members-in-Ok.result)
     (ap (λ (t : List ℕ). c.in-Some.name.now ++ t) c.in-Ok.ensures.0 ∙ sym (cut_some 32 c.args.text.now c.in-Some.name.now c.in-Some.behind.now (sym c.in-Some.ensures))) c.with_members-in-Ok.ensures

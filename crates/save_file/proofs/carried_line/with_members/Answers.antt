@@ -1,5 +1,5 @@
-use Rattle.std.proofs.Common.{◌≡◌, true, false}
-use Rattle.value_text.specs.MemberTexts.{printed_rest}
+use Rattle.std.proofs.Common.{false, true, ◌≡◌}
+use Rattle.save_file.proofs.Common.{printed_rest}
 use Rattle.save_file.proofs.CarriedLines.{bad_list, bad_name}
 use Rattle.save_file.proofs.SlotTexts.{tail_of}
 use Rattle.save_file.proofs.carried_line.with_members.Goals as goal

@@ -1,7 +1,5 @@
-use Rattle.std.proofs.Common.{Err, refl, sym, subst}
-use Rattle.script_lines.specs.Lines.{HasNoNewline}
-use Rattle.script_lines.specs.declared.fault.LineFault.{LineFault}
-use Rattle.save_file.specs.CarriedParsing.{JudgesCarried}
+use Rattle.std.proofs.Common.{Err, refl, subst, sym}
+use Rattle.save_file.proofs.Common.{HasNoNewline, JudgesCarried, LineFault}
 use Rattle.save_file.proofs.CarriedEnds.{no_bytes, text_refused, text_taken}
 use Rattle.save_file.proofs.carried_stage.read_carried.Goals as goal
 

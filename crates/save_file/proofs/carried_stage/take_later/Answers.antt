@@ -1,4 +1,4 @@
-use Rattle.std.proofs.Common.{◌≡◌, true, false}
+use Rattle.std.proofs.Common.{false, true, ◌≡◌}
 use Rattle.save_file.proofs.CarriedSteps.{end_taken, later_fault, later_taken}
 use Rattle.save_file.proofs.carried_stage.take_later.Goals as goal
 

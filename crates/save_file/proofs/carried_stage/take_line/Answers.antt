@@ -1,7 +1,5 @@
-use Rattle.std.proofs.Common.{Err, sym, subst}
-use Rattle.script_lines.specs.declared.fault.LineFault.TheVariants.{BadLine}
-use Rattle.save_file.specs.CarriedParsing.{IsCarriedStage, JudgesCarried}
-use Rattle.save_file.specs.declared.carried_stage.CarriedStage.{CarriedStage}
+use Rattle.std.proofs.Common.{Err, subst, sym}
+use Rattle.save_file.proofs.Common.{BadLine, CarriedStage, IsCarriedStage, JudgesCarried}
 use Rattle.save_file.proofs.CarriedSteps.{none_behind_end}
 use Rattle.save_file.proofs.carried_stage.take_line.Goals as goal
 
@@ -18,4 +16,4 @@ pub returns-in-Lines : goal.returns-in-Lines
 returns-in-Lines c = subst (λ (s : CarriedStage). JudgesCarried s c.args.line.now c.take_later.result) (sym c.in-Lines.is) c.take_later.ensures
 
 pub returns : goal.returns
-returns c = subst (λ (s : CarriedStage). JudgesCarried s c.args.line.now (Err BadLine)) (sym c.in-Whole.is) (none_behind_end c.in-Whole.field-0 c.args.line.now)
+returns c = subst (λ (s : CarriedStage). JudgesCarried s c.args.line.now (Err BadLine)) (sym c.in-Whole.is) (none_behind_end c.in-Whole.field-0 (subst IsCarriedStage c.in-Whole.is c.requires.sound) c.args.line.now)

@@ -1,4 +1,4 @@
-use Rattle.std.proofs.Common.{refl, sym, false}
+use Rattle.std.proofs.Common.{refl, sym}
 use Rattle.save_file.proofs.CarriedSteps.{no_next_number, no_next_word, number_taken}
 use Rattle.save_file.proofs.carried_stage.take_number.Goals as goal
 
@@ -10,4 +10,4 @@ returns-in_default-read_next c = no_next_number c.args.line.now c.in-Some.digits
 
 pub returns : goal.returns
 returns c = number_taken c.args.line.now c.in-Some.digits.now c.in-Some-read_next.next (sym c.in-Some.ensures) c.in-Some-read_next.ensures.0 c.in-Some-read_next.ensures.1
-    (record { next = c.in-Some-read_next.next; lists = c.new.result; entries = c.new-2.result; keys = c.new-3.result; overridden = false }) refl c.new.ensures.items c.new-2.ensures.items c.new-3.ensures refl
+    (record { next = c.in-Some-read_next.next; lines = c.new.result; keys = c.new-2.result; rank = 0 }) refl c.new.ensures.items c.new-2.ensures refl

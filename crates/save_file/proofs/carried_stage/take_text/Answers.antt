@@ -1,19 +1,19 @@
-use Rattle.std.proofs.Common.{ℕ, List, ◌≤◌, ◌<◌, length, sym, subst, arith}
-use Rattle.std.specs.Prelude.{codes}
-use Rattle.fact_paths.proofs.CutLaws.{after_some}
-use Rattle.save_file.specs.CarriedParsing.{TakesText, new_or_fault}
-use Rattle.save_file.proofs.CarriedSteps.{too_long}
-use Rattle.save_file.proofs.Lines.{not_behind}
+use Rattle.std.proofs.Common.{arith, length, ◌<◌, ◌≤◌}
+use Rattle.save_file.proofs.Common.{line_of, new_or_fault}
+use Rattle.save_file.proofs.CarriedSteps.{is_short, line_fault, of_text, too_long}
 use Rattle.save_file.proofs.carried_stage.take_text.Goals as goal
 
 pub returns-then-line-gt-MOST_BYTES : goal.returns-then-line-gt-MOST_BYTES
 returns-then-line-gt-MOST_BYTES c = too_long c.args.read.now c.args.line.now (let long : 4096 < length c.args.line.now = omega arith in long)
 
-pub take_either-requires-clause-no_list : goal.take_either-requires-clause-no_list
-take_either-requires-clause-no_list c = not_behind (codes "list /") c.args.line.now (sym c.in-None.ensures)
+pub returns-in-Err : goal.returns-in-Err
+returns-in-Err c = line_fault c.args.read.now c.args.line.now c.in-Err.fault c.in-Err.ensures
 
-pub take_list-requires-clause-short : goal.take_list-requires-clause-short
-take_list-requires-clause-short c = subst (λ (t : List ℕ). length t ≤ 4096) (after_some (codes "list /") c.args.line.now c.in-Some.text.now (sym c.in-Some.ensures)) (let short : length c.args.line.now ≤ 4096 = omega arith in short)
+pub take_line-requires-clause-form : goal.take_line-requires-clause-form
+take_line-requires-clause-form c = c.in-Ok.ensures.0
 
-pub returns-in-Some : goal.returns-in-Some
-returns-in-Some c = subst (λ (t : List ℕ). TakesText c.args.read.now t (new_or_fault c.take_list.new.read c.take_list.result)) (sym (after_some (codes "list /") c.args.line.now c.in-Some.text.now (sym c.in-Some.ensures))) c.take_list.ensures
+pub take_line-requires-clause-short : goal.take_line-requires-clause-short
+take_line-requires-clause-short c = is_short c.args.read.now c.args.line.now (line_of c.in-Ok.line) c.in-Ok.ensures.1 (let short : length c.args.line.now ≤ 4096 = omega arith in short)
+
+pub returns-in-Ok : goal.returns-in-Ok
+returns-in-Ok c = of_text c.args.read.now c.args.line.now (line_of c.in-Ok.line) c.in-Ok.ensures.0 c.in-Ok.ensures.1 (new_or_fault c.take_line.new.read c.take_line.result) c.take_line.ensures

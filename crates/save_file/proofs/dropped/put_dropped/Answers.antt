@@ -1,5 +1,5 @@
-use Rattle.std.proofs.Common.{ℕ, List, subst}
-use Rattle.fg_io.specs.Writing.{Wrote}
+use Rattle.std.proofs.Common.{List, subst, ℕ}
+use Rattle.save_file.proofs.Common.{Wrote}
 use Rattle.save_file.proofs.DroppedLaws.{cause_of, said_text}
 use Rattle.save_file.proofs.dropped.put_dropped.Goals as goal
 

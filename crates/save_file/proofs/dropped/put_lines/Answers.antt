@@ -1,10 +1,5 @@
-use Rattle.std.proofs.Common.{◌≡◌, ◌+◌, ◌≤◌, true, length, refl, sym, ◌∙◌, arith}
-use Rattle.std.proofs.lemmas.Bool.{eqb-true}
-use Rattle.fg_io.proofs.SentLaws.{sent_piece}
-use Rattle.fg_io.proofs.WritingLaws.{failed_within}
-use Rattle.script_lines.specs.Joined.{joined}
-use Rattle.script_lines.specs.Lines.{lines_of}
-use Rattle.save_file.specs.Dropped.{is_next, past, said_at, said_if}
+use Rattle.std.proofs.Common.{arith, length, refl, sym, true, ◌+◌, ◌∙◌, ◌≡◌, ◌≤◌}
+use Rattle.save_file.proofs.Common.{eqb-true, failed_within, is_next, joined, lines_of, past, said_at, said_if, sent_piece}
 use Rattle.save_file.proofs.DroppedLaws.{next_dropped, none_left}
 use Rattle.save_file.proofs.dropped.put_lines.Goals as goal
 

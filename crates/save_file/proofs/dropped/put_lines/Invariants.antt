@@ -1,8 +1,5 @@
-use Rattle.std.proofs.Common.{◌+◌, ◌≤◌, length}
-use Rattle.fg_io.specs.Sent.{Sent}
-use Rattle.script_lines.specs.Joined.{joined}
-use Rattle.script_lines.specs.Lines.{lines_of}
-use Rattle.save_file.specs.Dropped.{said_at}
+use Rattle.std.proofs.Common.{length, ◌+◌, ◌≤◌}
+use Rattle.save_file.proofs.Common.{Sent, joined, lines_of, said_at}
 use Rattle.save_file.proofs.dropped.put_lines.Given as goal
 
 abbrev pub invariant-loop-rest : goal.invariant-loop-rest

@@ -1,10 +1,5 @@
-use Rattle.std.proofs.Common.{ℕ, List, [], ◌∷◌, ◌++◌, subst}
-use Rattle.std.specs.Prelude.{codes}
-use Rattle.value_text.specs.Values.{printed}
-use Rattle.dictionary.specs.Accepted.{accepted}
-use Rattle.dictionary.specs.SlotText.{slot_text}
-use Rattle.save_file.specs.SavedText.{side_word}
-use Rattle.fg_io.specs.Writing.{Wrote, WrotePart}
+use Rattle.std.proofs.Common.{List, [], subst, ℕ, ◌++◌, ◌∷◌}
+use Rattle.save_file.proofs.Common.{Wrote, WrotePart, accepted, codes, printed, side_word, slot_text}
 use Rattle.fg_io.proofs.WritingLaws.{failed_before, wrote_behind}
 use Rattle.save_file.proofs.DroppedLaws.{entry_pieces}
 use Rattle.save_file.proofs.entries.put_both.Goals as goal

@@ -1,12 +1,5 @@
 use Rattle.std.proofs.Common.{arith}
-use Rattle.script_lines.specs.Joined.{joined}
-use Rattle.std.specs.List.{flat_map}
-use Rattle.answers.specs.Meaning.{answered}
-use Rattle.dictionary.specs.Accepted.{accepted}
-use Rattle.save_file.specs.Cursors.{slots_left}
-use Rattle.save_file.specs.SavedText.{entries, entry_lines}
-use Rattle.fg_io.proofs.SentLaws.{sent_piece}
-use Rattle.fg_io.proofs.WritingLaws.{failed_within}
+use Rattle.save_file.proofs.Common.{accepted, answered, entries, entry_lines, failed_within, flat_map, joined, sent_piece, slots_left}
 use Rattle.save_file.proofs.DroppedLaws.{next_piece}
 use Rattle.save_file.proofs.entries.put_entries.Goals as goal
 

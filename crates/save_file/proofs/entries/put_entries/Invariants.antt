@@ -1,11 +1,5 @@
-use Rattle.std.proofs.Common.{◌≤◌, length}
-use Rattle.std.specs.List.{flat_map}
-use Rattle.fg_io.specs.Sent.{Sent}
-use Rattle.script_lines.specs.Joined.{joined}
-use Rattle.answers.specs.Meaning.{answered}
-use Rattle.dictionary.specs.Accepted.{accepted}
-use Rattle.save_file.specs.Cursors.{slots_left}
-use Rattle.save_file.specs.SavedText.{entries, entry_lines}
+use Rattle.std.proofs.Common.{length, ◌≤◌}
+use Rattle.save_file.proofs.Common.{Sent, accepted, answered, entries, entry_lines, flat_map, joined, slots_left}
 use Rattle.save_file.proofs.entries.put_entries.Given as goal
 
 abbrev pub invariant-loop-slot : goal.invariant-loop-slot

@@ -1,6 +1,5 @@
 use Rattle.std.proofs.Common.{sym}
-use Rattle.answers.specs.Meaning.{answered}
-use Rattle.dictionary.specs.Accepted.{accepted}
+use Rattle.save_file.proofs.Common.{accepted, answered}
 use Rattle.save_file.proofs.SlotTexts.{entry_printed, entry_slot}
 use Rattle.save_file.proofs.entries.put_entry.Goals as goal
 

@@ -1,10 +1,5 @@
-use Rattle.std.proofs.Common.{ℕ, List, ◌++◌, ◌≤◌, length, ap, subst, ◌∙◌, arith, append_assoc}
-use Rattle.std.specs.Prelude.{codes}
-use Rattle.dictionary.specs.Accepted.{accepted, names_of}
-use Rattle.dictionary.specs.SlotText.{slot_text}
-use Rattle.save_file.specs.SavedText.{side_word}
-use Rattle.fg_io.specs.Writing.{Wrote}
-use Rattle.dictionary.proofs.SlotTextLaws.{slot_short}
+use Rattle.std.proofs.Common.{List, ap, append_assoc, arith, length, subst, ℕ, ◌++◌, ◌∙◌, ◌≤◌}
+use Rattle.save_file.proofs.Common.{Wrote, accepted, codes, names_of, side_word, slot_short, slot_text}
 use Rattle.save_file.proofs.SlotTexts.{length_behind}
 use Rattle.save_file.proofs.entries.put_slot.Goals as goal
 

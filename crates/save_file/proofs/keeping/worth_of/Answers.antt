@@ -1,11 +1,7 @@
-use Rattle.std.proofs.Common.{List, ℕ, Option, ap, ◌∙◌}
-use Rattle.std.specs.Prelude.{option_map, string_bytes}
-use Rattle.fact_values.specs.declared.slot.Slot.{Slot}
-use Rattle.fact_values.specs.declared.value.Value.{Value}
-use Rattle.answers.specs.Meaning.{answered}
-use Rattle.graph_session.specs.Rules.{rules, tree_of}
-use Rattle.graph_session.proofs.NamingLaws.{found_number}
-use Rattle.save_file.specs.Carrying.{kept_value}
+use Rattle.std.proofs.Common.{List, Option, ap, ℕ, ◌∙◌}
+use Rattle.save_file.proofs.Common.{Slot, Value, answered, found_number, kept_value, option_map, tree_of}
+use Rattle.std.specs.Prelude.{string_bytes}
+use Rattle.graph_session.specs.Rules.{rules}
 use Rattle.save_file.proofs.CarriedAnswers.{slot_named}
 use Rattle.save_file.proofs.keeping.worth_of.Goals as goal
 

@@ -1,8 +1,7 @@
 -- The members from here on are left to append, at most nine bytes each.
-use Rattle.std.proofs.Common.{◌≡◌, ◌+◌, ◌*◌, ◌≤◌, ◌++◌, length, drop, true}
-use Rattle.std.specs.List.{list_all}
+use Rattle.std.proofs.Common.{drop, length, true, ◌*◌, ◌++◌, ◌+◌, ◌≡◌, ◌≤◌}
+use Rattle.save_file.proofs.Common.{list_all, printed_rest}
 use Rattle.fact_values.specs.Members.{is_member}
-use Rattle.value_text.specs.MemberTexts.{printed_rest}
 use Rattle.save_file.proofs.lists.print_members.Given as goal
 
 abbrev pub invariant-loop-member : goal.invariant-loop-member

@@ -1,9 +1,5 @@
-use Rattle.std.proofs.Common.{List, ℕ, Option, sym, subst}
-use Rattle.script_lines.specs.Joined.{joined}
-use Rattle.answers.specs.Meaning.{answered}
-use Rattle.dictionary.specs.Accepted.{accepted, names_of}
-use Rattle.save_file.specs.SavedText.{list_lines_of}
-use Rattle.fg_io.specs.Writing.{Wrote}
+use Rattle.std.proofs.Common.{List, Option, subst, sym, ℕ}
+use Rattle.save_file.proofs.Common.{Wrote, accepted, answered, joined, list_lines_of, names_of}
 use Rattle.save_file.proofs.SlotTexts.{list_slot, open_list, open_list_members}
 use Rattle.save_file.proofs.lists.put_if_open.Goals as goal
 

@@ -1,12 +1,5 @@
-use Rattle.std.proofs.Common.{ℕ, List, [], ◌∷◌, ◌++◌, length, ◌≤◌, ap, subst, ◌∙◌, arith, append_assoc}
-use Rattle.std.specs.Prelude.{codes}
-use Rattle.evaluation.proofs.MemberLaws.{member_list-length}
-use Rattle.value_text.specs.MemberTexts.{printed_rest}
-use Rattle.dictionary.specs.Accepted.{accepted, names_of}
-use Rattle.dictionary.specs.Dependencies.{slot}
-use Rattle.dictionary.specs.SlotText.{slot_text}
-use Rattle.fg_io.specs.Writing.{Wrote}
-use Rattle.dictionary.proofs.SlotTextLaws.{slot_short}
+use Rattle.std.proofs.Common.{List, [], ap, append_assoc, arith, length, subst, ℕ, ◌++◌, ◌∙◌, ◌∷◌, ◌≤◌}
+use Rattle.save_file.proofs.Common.{Wrote, accepted, codes, member_list-length, names_of, printed_rest, slot, slot_short, slot_text}
 use Rattle.save_file.proofs.SlotTexts.{length_behind, members_numbered}
 use Rattle.save_file.proofs.lists.put_list.Goals as goal
 

@@ -1,13 +1,7 @@
-use Rattle.std.proofs.Common.{◌≡◌, ℕ, suc, ◌+◌, ◌-◌, ◌∷◌, ap, ◌∙◌, arith}
-use Rattle.script_lines.specs.Joined.{joined}
-use Rattle.std.specs.List.{flat_map}
-use Rattle.answers.specs.Meaning.{answered}
-use Rattle.dictionary.specs.Accepted.{accepted}
-use Rattle.save_file.specs.SavedText.{counted, list_lines, lists}
+use Rattle.std.proofs.Common.{ap, arith, suc, ℕ, ◌+◌, ◌-◌, ◌∙◌, ◌∷◌, ◌≡◌}
+use Rattle.save_file.proofs.Common.{accepted, answered, counted, failed_within, flat_map, joined, list_lines, lists_lines as lists, sent_piece}
 use Rattle.save_file.proofs.DroppedLaws.{next_piece}
 use Rattle.save_file.proofs.SlotsLeft.{counted_more}
-use Rattle.fg_io.proofs.SentLaws.{sent_piece}
-use Rattle.fg_io.proofs.WritingLaws.{failed_within}
 use Rattle.save_file.proofs.lists.put_lists.Goals as goal
 
 pub returns-in-Err : goal.returns-in-Err

@@ -1,10 +1,5 @@
-use Rattle.std.proofs.Common.{◌≤◌, ◌-◌, suc}
-use Rattle.std.specs.List.{flat_map}
-use Rattle.fg_io.specs.Sent.{Sent}
-use Rattle.script_lines.specs.Joined.{joined}
-use Rattle.answers.specs.Meaning.{answered}
-use Rattle.dictionary.specs.Accepted.{accepted}
-use Rattle.save_file.specs.SavedText.{counted, list_lines, lists}
+use Rattle.std.proofs.Common.{suc, ◌-◌, ◌≤◌}
+use Rattle.save_file.proofs.Common.{Sent, accepted, answered, counted, flat_map, joined, list_lines, lists_lines as lists}
 use Rattle.save_file.proofs.lists.put_lists.Given as goal
 
 abbrev pub invariant-loop-done : goal.invariant-loop-done

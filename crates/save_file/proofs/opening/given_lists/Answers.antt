@@ -1,14 +1,12 @@
-use Rattle.std.proofs.Common.{◌≡◌, ℕ, suc, ◌+◌, ◌-◌, List, ◌∷◌, ◌++◌, ap, sym, ◌∙◌, append_assoc, arith}
-use Rattle.std.specs.List.{flat_map}
-use Rattle.graph_session.specs.Rules.{rules, tree_of}
-use Rattle.save_file.specs.Keeping.{opened_at}
-use Rattle.save_file.specs.SavedText.{counted}
+use Rattle.std.proofs.Common.{List, ap, append_assoc, arith, map, suc, sym, ℕ, ◌++◌, ◌+◌, ◌-◌, ◌∙◌, ◌∷◌, ◌≡◌}
+use Rattle.save_file.proofs.Common.{counted, flat_map, line_of, opened_at, tree_of}
+use Rattle.graph_session.specs.Rules.{rules}
 use Rattle.save_file.proofs.SlotsLeft.{counted_more}
 use Rattle.save_file.proofs.opening.given_lists.Goals as goal
 
 pub loop-done-preserved : goal.loop-done-preserved
 loop-done-preserved c =
-    let f = opened_at (tree_of (rules c.args.dict.now)) c.args.lists.now in
+    let f = opened_at (tree_of (rules c.args.dict.now)) (map line_of c.args.lines.now) in
     let done = c.loop-done.done in
     let count = c.fact_count-count.result in
     let one : suc done ≡ done + 1 = omega arith in

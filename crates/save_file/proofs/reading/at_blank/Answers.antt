@@ -1,6 +1,5 @@
-use Rattle.std.proofs.Common.{Bor, ◌≡◌, ℕ, List, Option, Some, None, sym, arith}
-use Rattle.std.specs.Prelude.{MatchOption, option_map}
-use Rattle.fact_paths.specs.Cuts.{cut}
+use Rattle.std.proofs.Common.{Bor, List, None, Option, Some, arith, sym, ℕ, ◌≡◌}
+use Rattle.save_file.proofs.Common.{MatchOption, cut, option_map}
 use Rattle.fact_paths.proofs.CutLaws.{cut_from_split}
 use Rattle.save_file.proofs.reading.at_blank.Goals as goal
 

@@ -1,4 +1,4 @@
-use Rattle.std.proofs.Common.{ℕ, List, ◌∷◌, sym, subst, rules}
+use Rattle.std.proofs.Common.{List, rules, subst, sym, ℕ, ◌∷◌}
 use Rattle.save_file.proofs.MemberParsing.{AreSoFar, last_not_read, none_so_far, not_read, read_last, read_more, shorter}
 use Rattle.save_file.proofs.reading.read_members.Goals as goal
 

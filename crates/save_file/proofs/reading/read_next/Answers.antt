@@ -1,4 +1,4 @@
-use Rattle.std.proofs.Common.{◌≡◌, true, false}
+use Rattle.std.proofs.Common.{false, true, ◌≡◌}
 use Rattle.save_file.proofs.MemberParsing.{last_read, next_read}
 use Rattle.save_file.proofs.reading.read_next.Goals as goal
 

@@ -1,6 +1,5 @@
 use Rattle.std.proofs.Common.{refl}
-use Rattle.answers.specs.Meaning.{answered}
-use Rattle.dictionary.specs.Accepted.{accepted}
+use Rattle.save_file.proofs.Common.{accepted, answered}
 use Rattle.save_file.proofs.DroppedLaws.{failed_piece, last_piece, saved_left, wrote_piece}
 use Rattle.save_file.proofs.saving.put_saved.Goals as goal
 

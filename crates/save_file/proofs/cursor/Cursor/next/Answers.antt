@@ -1,11 +1,5 @@
-use Rattle.std.proofs.Common.{◌≡◌, ℕ, suc, ◌+◌, ◌-◌, ◌<◌, ◌∷◌, length, get_or, sym, ap, subst, ◌∙◌, arith}
-use Rattle.answers.specs.Meaning.{answered}
-use Rattle.dictionary.specs.Accepted.{accepted}
-use Rattle.dictionary.specs.Homes.{home}
-use Rattle.dictionary.specs.Dependencies.{slot}
-use Rattle.dictionary.specs.Slots.{members_of_home}
-use Rattle.save_file.specs.Cursors.{slots_from}
-use Rattle.save_file.specs.SavedText.{counted}
+use Rattle.std.proofs.Common.{ap, arith, get_or, length, subst, suc, sym, ℕ, ◌+◌, ◌-◌, ◌<◌, ◌∙◌, ◌∷◌, ◌≡◌}
+use Rattle.save_file.proofs.Common.{accepted, answered, counted, home, members_of_home, slot, slots_from}
 use Rattle.save_file.proofs.SlotsLeft.{next_fact, next_slot}
 use Rattle.save_file.proofs.cursor.Cursor.next.Goals as goal
 

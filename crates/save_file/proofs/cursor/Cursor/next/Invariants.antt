@@ -1,7 +1,5 @@
-use Rattle.std.proofs.Common.{◌≡◌, ◌-◌, length}
-use Rattle.answers.specs.Meaning.{answered}
-use Rattle.dictionary.specs.Accepted.{accepted}
-use Rattle.save_file.specs.Cursors.{slots_left}
+use Rattle.std.proofs.Common.{length, ◌-◌, ◌≡◌}
+use Rattle.save_file.proofs.Common.{accepted, answered, slots_left}
 use Rattle.save_file.proofs.cursor.Cursor.next.Given as goal
 
 abbrev pub invariant-loop-self : goal.invariant-loop-self

@@ -1,8 +1,8 @@
-use Rattle.std.proofs.Common.{◌||◌, Bool, true, bytes_eq, string_bytes, ap, ◌∙◌}
+use Rattle.std.proofs.Common.{Bool, ap, bytes_eq, string_bytes, true, ◌||◌, ◌∙◌}
+use Rattle.save_file.proofs.Common.{has}
 use Rattle.common_lemmas.proofs.Bools.{cond_or}
 use Rattle.common_lemmas.proofs.Bytes.{bytes_eq-comm}
 use Rattle.std.proofs.lemmas.Map.Text.{hash_set_updates_text}
-use Rattle.save_file.specs.EntryKeys.{has}
 use Rattle.save_file.proofs.entry_keys.EntryKeys.add.Goals as goal
 
 pub returns-clause-added : goal.returns-clause-added
