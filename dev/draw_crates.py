@@ -22,7 +22,9 @@ class Way(NamedTuple):
 
 
 WAYS = (
-    Way("a dictionary", "#1a4480", ("fg_io", "dict_tree", "dict_types", "dict_order", "dictionary", "node_compile", "dep_index", "recalc")),
+    Way("a dictionary", "#1a4480", (
+        "fg_io", "dict_tree", "fact_json", "dict_source", "dict_rules", "node_types", "dict_types", "dict_order", "dictionary",
+        "node_compile", "dep_index", "recalc")),
     Way("a change, as set", "#8a3b00", (
         "script_lines", "session_lines", "graph_session", "answers", "session_undo", "recalc", "node_eval", "cell_store")),
     Way("a question, as get", "#154c21", ("script_lines", "session_lines", "graph_session", "recalc", "cell_store", "value_text", "fg_io")),

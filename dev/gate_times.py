@@ -114,6 +114,16 @@ def number(cell: str) -> float:
     return float(cell.split(" ", maxsplit=1)[0])
 
 
+def longest_chain(proofs: dict[str, float]) -> tuple[float, list[str]]:
+    """The crates, each of which stands on the one before, whose proofs take the most minutes together: no run is shorter."""
+    found: dict[str, tuple[float, list[str]]] = {}
+    for crate in crates():
+        if not crate.is_of_tests:
+            minutes, names = max((found[low] for low in crate.below), default=(0.0, []))
+            found[crate.name] = minutes + proofs.get(crate.name, 0.0), [*names, crate.name]
+    return max(found.values())
+
+
 def times(seen: Seen, kept: dict[str, list[str]], minutes: float | None) -> str:
     """The times: the rows that stood there, and in their places what this run took. Of a run from nothing they have the minutes."""
     took: dict[tuple[str, str], float] = collections.defaultdict(float)
@@ -125,11 +135,13 @@ def times(seen: Seen, kept: dict[str, list[str]], minutes: float | None) -> str:
     names = [it.name for it in crates()]
     rows = {name: cells(took, tries, name, kept) for name in names if name in kept or any(took[name, phase] for phase in PHASES)}
     sums = [sum(number(row[i]) for row in rows.values()) for i in range(3)]
+    chain, chained = longest_chain({name: number(row[0]) for name, row in rows.items()})
     kit = subprocess.run(["rt", "version"], capture_output=True, text=True, check=True).stdout.strip()
     return "\n".join([
         f"Written by `dev/gate_times.py`, from runs of `rt ci` with {kit}: each crate's proof, tests and wrong bodies from nothing.",
         f"All together it is {sum(sums):.0f} minutes of one processor, so at least {sum(sums) / 4:.0f} minutes on four."
         + (f" The run took {minutes:.0f} minutes on {os.cpu_count()}." if minutes else ""),
+        f"The longest chain of proofs is {chain:.1f} minutes: {', '.join(chained)}.",
         "",
         "Minutes of processor time; in brackets how many checks of wrong bodies that is. A crate's tests are proved over a proof",
         "of the crate itself, and its wrong bodies over one more.",

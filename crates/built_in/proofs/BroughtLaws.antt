@@ -2,7 +2,8 @@
 use Rattle.std.proofs.Common.{◌≡◌, false, [], Result, Ok, Err, refl, ap, ◌∙◌}
 use Rattle.std.specs.Prelude.{IfOk}
 use Rattle.fact_values.specs.declared.memory.NoMemory.{NoMemory}
-use Rattle.dictionary.specs.Accepted.{Accepted, Kept, accepted}
+use Rattle.dict_meaning.specs.Accepted.{Accepted}
+use Rattle.dictionary.specs.Kept.{Kept, accepted}
 use Rattle.dictionary.specs.Checks.{has_check}
 use Rattle.tax_2023.specs.Facts.{dictionary}
 use Rattle.tax_2023.specs.Figures.{figures}

@@ -1,9 +1,9 @@
 -- The dictionaries that come with the program and the library.
 use Rattle.std.specs.Prelude.{ℕ, List, codes, map, Option, Some, None, option_map}
 use Rattle.fact_paths.specs.Cuts.{after}
-use Rattle.dict_tree.specs.Dictionary.{Dictionary as Tree}
-use Rattle.dict_tree.specs.Names.{under_name}
-use Rattle.dictionary.specs.Accepted.{Accepted}
+use Rattle.dict_source.specs.Dictionary.{Dictionary as Tree}
+use Rattle.fact_json.specs.Names.{under_name}
+use Rattle.dict_meaning.specs.Accepted.{Accepted}
 use Rattle.tax_2023.specs.Facts.{dictionary}
 use Rattle.tax_2023.specs.Figures.{figures}
 use Rattle.tax_2023.specs.Laws.{IsOfYear}

@@ -1,7 +1,7 @@
 //! Tests of `node_eval`: nodes over hand-made cells.
 ghost use Rattle.std.specs.Prelude.{◌≡◌, ◌<◌};
 
-use dict_tree::{ManyOp, PickOp};
+use dict_source::{ManyOp, PickOp};
 use fact_values::{Members, NoMemory, Slot, Value, Whole};
 use node_eval::{Cells, Node, NodeRead, Reader, eval};
 use std::alloc::Global;

@@ -1,6 +1,6 @@
 //! Nodes as texts: an expression as it is written in a dictionary, with the numbers of facts for paths, and amounts in cents.
 
-use dict_tree::{ManyOp, OneOp, PickOp, TwoOp};
+use dict_source::{ManyOp, OneOp, PickOp, TwoOp};
 use fact_values::{NoMemory, Value};
 use node_eval::{Node, NodeCase, NodeRead, Reader};
 

@@ -6,9 +6,9 @@ use Rattle.std.specs.List.{All, list_any}
 use Rattle.std.proofs.lemmas.Bool.{eqb-true, eq-eqb}
 use Rattle.common_lemmas.proofs.Numbers.{same_number}
 use Rattle.fact_values.specs.declared.slot.Slot.{Slot}
-use Rattle.dict_tree.specs.Dictionary.{Dictionary as Tree}
-use Rattle.dictionary.specs.Feeds.{feeds}
-use Rattle.dictionary.proofs.FeedLaws.{feeds_by_mentions}
+use Rattle.dict_source.specs.Dictionary.{Dictionary as Tree}
+use Rattle.dict_meaning.specs.Feeds.{feeds}
+use Rattle.dict_meaning.proofs.FeedLaws.{feeds_by_mentions}
 use Rattle.dep_index.specs.Laws.{FeedsByReaders, reads}
 use Rattle.dep_index.specs.Readers.{all_same, is_mentioned_by, is_reader}
 use Rattle.dep_index.specs.declared.row.ReaderOf.{ReaderOf}

@@ -5,9 +5,9 @@ use Rattle.std.specs.List.{AllByRecursion, IsDistinct, filter, list_all, list_an
 use Rattle.std.proofs.lemmas.List.{append-nil}
 use Rattle.common_lemmas.proofs.Numbers.{equal_number}
 use Rattle.common_lemmas.proofs.Bools.{and_assoc, and_true}
-use Rattle.dict_tree.specs.Dictionary.{Dictionary as Tree}
-use Rattle.dict_tree.specs.declared.mentions.Mention.{Mention}
-use Rattle.dictionary.specs.Feeds.{is_of, mentions_of}
+use Rattle.dict_source.specs.Dictionary.{Dictionary as Tree}
+use Rattle.dict_source.specs.declared.mentions.Mention.{Mention}
+use Rattle.dict_meaning.specs.Feeds.{is_of, mentions_of}
 use Rattle.dep_index.specs.Noting.{newest, noted, noted_after, with_facts, with_mentions}
 use Rattle.dep_index.specs.Readers.{all_same, is_mentioned_by}
 use Rattle.dep_index.specs.declared.row.ReaderOf.{ReaderOf}

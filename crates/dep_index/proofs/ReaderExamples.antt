@@ -7,12 +7,12 @@ use Rattle.fact_paths.specs.declared.fact_path.FactPath.TheVariants as facts
 use Rattle.fact_paths.specs.declared.use_path.UsePath.{UsePath}
 use Rattle.fact_paths.specs.declared.use_path.UsePath.TheVariants as uses
 use Rattle.fact_values.specs.declared.fact_type.FactType.TheVariants as types
-use Rattle.dict_tree.specs.declared.operators.ManyOp.TheVariants.{Add}
-use Rattle.dict_tree.specs.declared.operators.ReadOp.{ReadOp}
-use Rattle.dict_tree.specs.declared.operators.ReadOp.TheVariants.{CollectionSum, Dependency}
-use Rattle.dict_tree.specs.Tree.{Source, many, no_trees, read, tree}
-use Rattle.dict_tree.specs.Facts.{Fact, Stated, scalar, writable_list}
-use Rattle.dict_tree.specs.Dictionary.{Dictionary as Tree}
+use Rattle.dict_source.specs.declared.operators.ManyOp.TheVariants.{Add}
+use Rattle.dict_source.specs.declared.operators.ReadOp.{ReadOp}
+use Rattle.dict_source.specs.declared.operators.ReadOp.TheVariants.{CollectionSum, Dependency}
+use Rattle.dict_source.specs.Tree.{Source, many, no_trees, read, tree}
+use Rattle.dict_source.specs.Facts.{Fact, Stated, scalar, writable_list}
+use Rattle.dict_source.specs.Dictionary.{Dictionary as Tree}
 use Rattle.dep_index.specs.Noting.{with_facts}
 use Rattle.dep_index.specs.declared.row.ReaderOf.{ReaderOf}
 

@@ -11,16 +11,16 @@ use Rattle.std.proofs.lemmas.List.Kept.{AllPairs-filter}
 use Rattle.std.proofs.lemmas.Map.Keys.{IsDistinct-IsPermutation}
 use Rattle.std.proofs.lemmas.Map.Made.{AllPairs-from_IsDistinct, IsDistinct-from_AllPairs}
 use Rattle.common_lemmas.proofs.Numbers.{equal_number, same_number}
-use Rattle.dict_tree.specs.Dictionary.{Dictionary as Tree}
-use Rattle.dict_tree.specs.Finding.{IsNumber, fact_at}
-use Rattle.dict_tree.specs.Mentions.{found_mentions}
+use Rattle.dict_source.specs.Dictionary.{Dictionary as Tree}
+use Rattle.dict_source.specs.Finding.{IsNumber, fact_at}
+use Rattle.dict_source.specs.Mentions.{found_mentions}
 use Rattle.dict_order.proofs.DictionaryLaws.{length_mention_graph}
 use Rattle.dict_order.specs.Ranks.{rank_of}
-use Rattle.dictionary.specs.Accepted.{Accepted, IsAccepted}
+use Rattle.dict_meaning.specs.Accepted.{Accepted, IsAccepted}
 use Rattle.dictionary.specs.ByRank.{AreByRank}
-use Rattle.dictionary.specs.Feeds.{is_of}
+use Rattle.dict_meaning.specs.Feeds.{is_of}
 use Rattle.dictionary.proofs.ByRankLaws.{place_of_fact}
-use Rattle.dictionary.proofs.NumberLaws.{fact_within}
+use Rattle.dict_meaning.proofs.NumberLaws.{fact_within}
 use Rattle.dep_index.specs.Noting.{with_facts}
 use Rattle.dep_index.specs.Readers.{AreReaders, ComesBefore, all_same, is_mentioned_by, is_reader}
 use Rattle.dep_index.specs.declared.row.ReaderOf.{ReaderOf}

@@ -5,7 +5,7 @@ use Rattle.std.specs.List.{list_any}
 use Rattle.std.proofs.lemmas.List.Elements.{All-cons}
 use Rattle.common_lemmas.proofs.Bools.{or_left, or_right}
 use Rattle.common_lemmas.proofs.Numbers.{equal_number}
-use Rattle.dict_tree.specs.Finding.{IsNumber}
+use Rattle.dict_source.specs.Finding.{IsNumber}
 use Rattle.dep_index.specs.Laws.{ReadersAreFacts}
 use Rattle.dep_index.specs.Readers.{is_reader}
 use Rattle.dep_index.specs.declared.row.ReaderOf.{ReaderOf}

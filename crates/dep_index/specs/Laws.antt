@@ -2,9 +2,9 @@
 use Rattle.std.specs.Prelude.{◌≡◌, ℕ, Bool, not, ◌&&◌, ◌||◌, nat_eq, List, All}
 use Rattle.std.specs.List.{list_any}
 use Rattle.fact_values.specs.declared.slot.Slot.{Slot}
-use Rattle.dict_tree.specs.Finding.{IsNumber}
-use Rattle.dictionary.specs.Accepted.{Accepted}
-use Rattle.dictionary.specs.Feeds.{feeds}
+use Rattle.dict_source.specs.Finding.{IsNumber}
+use Rattle.dict_meaning.specs.Accepted.{Accepted}
+use Rattle.dict_meaning.specs.Feeds.{feeds}
 use Rattle.dep_index.specs.Readers.{AreReaders, is_reader}
 use Rattle.dep_index.specs.declared.row.ReaderOf.{ReaderOf}
 

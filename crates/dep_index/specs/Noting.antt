@@ -1,8 +1,8 @@
 -- How the readers of a fact are found: each fact's mentions are noted in turn.
 use Rattle.std.specs.Prelude.{ℕ, ◌-◌, ◌&&◌, Bool, nat_eq, if◌then◌else◌, List, [], ◌∷◌, ◌++◌, fold, length, Option, Some, None, slice_get, slice_set}
-use Rattle.dict_tree.specs.Dictionary.{Dictionary as Tree}
-use Rattle.dict_tree.specs.declared.mentions.Mention.{Mention}
-use Rattle.dictionary.specs.Feeds.{is_of, mentions_of}
+use Rattle.dict_source.specs.Dictionary.{Dictionary as Tree}
+use Rattle.dict_source.specs.declared.mentions.Mention.{Mention}
+use Rattle.dict_meaning.specs.Feeds.{is_of, mentions_of}
 use Rattle.dep_index.specs.declared.row.ReaderOf.{ReaderOf}
 
 abbrev pub newest : List ReaderOf → Option ReaderOf

@@ -1,11 +1,11 @@
 -- Which facts read a fact.
 use Rattle.std.specs.Prelude.{◌≡◌, ◌<◌, ◌≤◌, ℕ, zero, suc, Bool, not, ◌||◌, nat_eq, List, [], length, All, AllPairs, slice_index_or}
 use Rattle.std.specs.List.{list_any, list_all}
-use Rattle.dict_tree.specs.Dictionary.{Dictionary as Tree}
-use Rattle.dict_tree.specs.Finding.{IsNumber}
-use Rattle.dictionary.specs.Accepted.{Accepted}
-use Rattle.dictionary.specs.Feeds.{is_of, mentions_of}
-use Rattle.dictionary.specs.Plain.{rank}
+use Rattle.dict_source.specs.Dictionary.{Dictionary as Tree}
+use Rattle.dict_source.specs.Finding.{IsNumber}
+use Rattle.dict_meaning.specs.Accepted.{Accepted}
+use Rattle.dict_meaning.specs.Feeds.{is_of, mentions_of}
+use Rattle.dict_meaning.specs.Plain.{rank}
 use Rattle.dep_index.specs.declared.row.ReaderOf.{ReaderOf}
 
 -- the fact is mentioned by the reader

@@ -1,12 +1,12 @@
 // The readers of all facts.
 ghost use Rattle.std.specs.Prelude.{◌≡◌, ◌≤◌, ℕ, List, [], ◌-◌, All, fold, if◌then◌else◌, IfOk, OnOk, length, vec_len};
-ghost use Rattle.dict_tree.specs.Dictionary.{dictionary_view};
-ghost use Rattle.dictionary.specs.Accepted.{accepted};
+ghost use Rattle.dict_source.specs.Dictionary.{dictionary_view};
+ghost use Rattle.dictionary.specs.Kept.{accepted};
 ghost use Rattle.dep_index.specs.Noting.{with_facts, with_mention, with_mentions};
 ghost use Rattle.dep_index.specs.Readers.{HasRow, IsIndex, row};
 
 use crate::row::{ReaderOf, Row};
-use dict_tree::Mention;
+use dict_source::Mention;
 use dictionary::Dictionary;
 use fact_values::NoMemory;
 use std::alloc::Global;

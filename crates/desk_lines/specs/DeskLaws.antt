@@ -2,8 +2,8 @@
 use Rattle.std.specs.Prelude.{◌≡◌, ℕ, List, [], ◌∷◌, ◌++◌, codes}
 use Rattle.fact_paths.specs.declared.slot_path.SlotPath.{SlotPath}
 use Rattle.value_text.specs.Values.{printed}
-use Rattle.dictionary.specs.Accepted.{IsAccepted}
-use Rattle.dictionary.specs.Extension.{IsExtension}
+use Rattle.dict_meaning.specs.Accepted.{IsAccepted}
+use Rattle.dict_meaning.specs.Extension.{IsExtension}
 use Rattle.script_lines.specs.declared.command.Command.TheVariants.{Final}
 use Rattle.graph_session.specs.Naming.{slot_of}
 use Rattle.graph_session.specs.Rules.{Rules, tree_of}

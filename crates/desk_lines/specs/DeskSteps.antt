@@ -3,7 +3,7 @@
 use Rattle.std.specs.Prelude.{ℕ, ◌+◌, List, [], ◌∷◌, if◌then◌else◌}
 use Rattle.script_lines.specs.Lines.{ScriptLine, whole, long}
 use Rattle.answers.specs.Answered.{Answered}
-use Rattle.dictionary.specs.Accepted.{Accepted}
+use Rattle.dict_meaning.specs.Accepted.{Accepted}
 use Rattle.graph_session.specs.Rules.{Rules}
 use Rattle.graph_session.specs.SessionView.{SessionState}
 use Rattle.graph_session.specs.Step.{most_steps}

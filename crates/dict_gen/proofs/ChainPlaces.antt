@@ -5,10 +5,10 @@ use Rattle.std.proofs.lemmas.List.{length-append}
 use Rattle.std.proofs.lemmas.Option.{none-some}
 use Rattle.fact_paths.specs.declared.fact_path.FactPath.{FactPath}
 use Rattle.fact_paths.specs.declared.fact_path.FactPath.TheVariants as paths
-use Rattle.dict_tree.specs.Dictionary.{number_from}
-use Rattle.dict_tree.specs.Facts.{Fact}
-use Rattle.dict_tree.specs.Finding.{find_path, is_path}
-use Rattle.dict_tree.proofs.FindingLaws.{is_path-some}
+use Rattle.dict_source.specs.Dictionary.{number_from}
+use Rattle.dict_source.specs.Facts.{Fact}
+use Rattle.dict_source.specs.Finding.{find_path, is_path}
+use Rattle.dict_source.proofs.FindingLaws.{is_path-some}
 use Rattle.dict_order.proofs.ListLaws.{at_most_or_above}
 use Rattle.common_lemmas.proofs.Lists.{get_last}
 use Rattle.dict_gen.specs.Chain.{chain, chain_facts, member_facts, sum_fact}

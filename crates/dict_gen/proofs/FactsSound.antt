@@ -5,14 +5,14 @@ use Rattle.std.proofs.lemmas.Bool.{lt-ltb}
 use Rattle.fact_paths.specs.declared.fact_path.FactPath.TheVariants as paths
 use Rattle.fact_paths.specs.declared.use_path.UsePath.TheVariants as uses
 use Rattle.fact_values.specs.declared.fact_type.FactType.TheVariants.{Collection, Int}
-use Rattle.dict_tree.specs.declared.operators.ManyOp.TheVariants.{Add}
-use Rattle.dict_tree.specs.declared.operators.ReadOp.TheVariants.{CollectionSum, Dependency}
-use Rattle.dict_tree.specs.Dictionary.{Dictionary}
-use Rattle.dict_tree.specs.Facts.{Fact, scalar, writable_list}
-use Rattle.dict_tree.specs.Finding.{fact_at, find_path}
-use Rattle.dict_tree.specs.Parsing.{use_of}
-use Rattle.dict_tree.specs.Tree.{Source, Use, literal, literal_int, many, no_trees, read, tree}
-use Rattle.dict_types.specs.StatedTypes.{base_number}
+use Rattle.dict_source.specs.declared.operators.ManyOp.TheVariants.{Add}
+use Rattle.dict_source.specs.declared.operators.ReadOp.TheVariants.{CollectionSum, Dependency}
+use Rattle.dict_source.specs.Dictionary.{Dictionary}
+use Rattle.dict_source.specs.Facts.{Fact, scalar, writable_list}
+use Rattle.dict_source.specs.Finding.{fact_at, find_path}
+use Rattle.dict_source.specs.View.{use_of}
+use Rattle.dict_source.specs.Tree.{Source, Use, literal, literal_int, many, no_trees, read, tree}
+use Rattle.node_types.specs.StatedTypes.{base_number}
 use Rattle.written_facts.specs.Rows.{asked, derived, fact_with}
 use Rattle.dict_gen.specs.Chain.{chain, chain_facts, one_more, sum_fact, sum_path}
 use Rattle.dict_gen.proofs.ChainPlaces.{length_chain, member_at, member_found, sum_at, sum_found}

@@ -3,11 +3,11 @@ use Rattle.std.proofs.Common.{◌≡◌, [], ◌∷◌, ◌++◌, refl}
 use Rattle.std.specs.Prelude.{codes}
 use Rattle.std.specs.Fmt.{digits}
 use Rattle.fact_values.specs.declared.fact_type.FactType.TheVariants.{Int}
-use Rattle.dict_tree.specs.declared.operators.ManyOp.TheVariants.{Add}
-use Rattle.dict_tree.specs.declared.operators.ReadOp.TheVariants.{CollectionSum, Dependency}
-use Rattle.dict_tree.specs.Facts.{scalar}
-use Rattle.dict_tree.specs.Parsing.{use_of}
-use Rattle.dict_tree.specs.Tree.{literal, literal_int, many, no_trees, read, tree}
+use Rattle.dict_source.specs.declared.operators.ManyOp.TheVariants.{Add}
+use Rattle.dict_source.specs.declared.operators.ReadOp.TheVariants.{CollectionSum, Dependency}
+use Rattle.dict_source.specs.Facts.{scalar}
+use Rattle.dict_source.specs.View.{use_of}
+use Rattle.dict_source.specs.Tree.{literal, literal_int, many, no_trees, read, tree}
 use Rattle.written_facts.specs.Rows.{derived}
 use Rattle.dict_gen.specs.Chain.{chain, member_facts}
 use Rattle.dict_gen.specs.Script.{lines, script}

@@ -14,14 +14,14 @@ use Rattle.fact_paths.specs.declared.use_path.UsePath.TheVariants.{Global, Sibli
 use Rattle.fact_values.specs.declared.memory.NoMemory.{NoMemory}
 use Rattle.fact_values.specs.declared.fact_type.FactType.TheVariants.{Int}
 use Rattle.value_text.specs.Enums.{Listed}
-use Rattle.dict_tree.specs.declared.operators.ManyOp.TheVariants.{Add}
-use Rattle.dict_tree.specs.declared.operators.ReadOp.TheVariants.{Dependency}
-use Rattle.dict_tree.specs.Dictionary.{Dictionary, Written, dictionary_view, is_collection, number_from, too_deep, too_many, with_fact}
-use Rattle.dict_tree.proofs.SourceLaws.{not_over}
-use Rattle.dict_tree.specs.Facts.{Fact, fact_size, fact_within, scalar}
-use Rattle.dict_tree.specs.Parsing.{use_of}
-use Rattle.dict_tree.specs.Tree.{Source, literal, literal_int, many, no_trees, read, tree}
-use Rattle.dict_tree.proofs.FindingLaws.{same_path-same}
+use Rattle.dict_source.specs.declared.operators.ManyOp.TheVariants.{Add}
+use Rattle.dict_source.specs.declared.operators.ReadOp.TheVariants.{Dependency}
+use Rattle.dict_source.specs.Dictionary.{Dictionary, Written, dictionary_view, is_collection, number_from, too_deep, too_many, with_fact}
+use Rattle.dict_source.proofs.SourceLaws.{not_over}
+use Rattle.dict_source.specs.Facts.{Fact, fact_size, fact_within, scalar}
+use Rattle.dict_source.specs.View.{use_of}
+use Rattle.dict_source.specs.Tree.{Source, literal, literal_int, many, no_trees, read, tree}
+use Rattle.dict_source.proofs.FindingLaws.{same_path-same}
 use Rattle.written_facts.specs.Figures.{Named}
 use Rattle.written_facts.specs.Forms.{form_view, forms_view}
 use Rattle.written_facts.specs.declared.form.Fixed.TheVariants as fixed

@@ -5,20 +5,20 @@ use Rattle.std.specs.List.{list_all, slice_get}
 use Rattle.std.proofs.lemmas.Bool.{ltb-true}
 use Rattle.common_lemmas.proofs.Bools.{both}
 use Rattle.fact_values.specs.declared.fact_type.FactType.{FactType}
-use Rattle.dict_tree.specs.Dictionary.{Dictionary}
-use Rattle.dict_tree.specs.Facts.{Fact}
-use Rattle.dict_tree.specs.Finding.{fact_at}
-use Rattle.dict_tree.specs.Mentions.{fact_mentions, found_mentions}
+use Rattle.dict_source.specs.Dictionary.{Dictionary}
+use Rattle.dict_source.specs.Facts.{Fact}
+use Rattle.dict_source.specs.Finding.{fact_at}
+use Rattle.dict_source.specs.Mentions.{fact_mentions, found_mentions}
 use Rattle.dict_types.specs.declared.limit.Limit.{Limit}
-use Rattle.dict_types.specs.declared.rules.Rule.{Rule}
-use Rattle.dict_types.specs.declared.rules.Rule.TheVariants as rules
+use Rattle.dict_rules.specs.declared.rules.Rule.{Rule}
+use Rattle.dict_rules.specs.declared.rules.Rule.TheVariants as rules
 use Rattle.dict_types.specs.BadLimit.{fact_limits}
-use Rattle.dict_types.specs.Constants.{fact_values}
+use Rattle.node_types.specs.Constants.{fact_values}
 use Rattle.dict_types.specs.DictFaults.{AreKept, AreLimits, AreTypedFacts, IsKept, IsTypedDictionary, IsTypedFact}
-use Rattle.dict_types.specs.FirstFact.{first_passing}
-use Rattle.dict_types.specs.Rules.{breaks, rule_order}
+use Rattle.dict_rules.specs.FirstFact.{first_passing}
+use Rattle.dict_rules.specs.Rules.{breaks, rule_order}
 use Rattle.dict_types.specs.TypedParts.{TypedDictionary, TypedFact}
-use Rattle.dict_types.proofs.FirstLaws.{none_is_found}
+use Rattle.dict_rules.proofs.FirstLaws.{none_is_found}
 use Rattle.dict_types.proofs.FoundLaws.{well_typed_is_found}
 use Rattle.dict_order.specs.Graph.{Graph, Has, HasNoCycle, Leads, Mentions}
 use Rattle.dict_order.specs.MentionGraph.{facts_of, mention_graph}

@@ -2,12 +2,12 @@
 -- sum of `w` over all members, and each sum behind it is one more than the sum before it.
 use Rattle.std.specs.Prelude.{ℕ, zero, suc, decimal, codes, List, [], ◌∷◌, ◌++◌}
 use Rattle.fact_values.specs.declared.fact_type.FactType.TheVariants.{Int}
-use Rattle.dict_tree.specs.declared.operators.ManyOp.TheVariants.{Add}
-use Rattle.dict_tree.specs.declared.operators.ReadOp.TheVariants.{CollectionSum, Dependency}
-use Rattle.dict_tree.specs.Tree.{Source, literal, literal_int, many, no_trees, read, tree}
-use Rattle.dict_tree.specs.Facts.{Fact, scalar, writable_list}
-use Rattle.dict_tree.specs.Dictionary.{Dictionary}
-use Rattle.dict_tree.specs.Parsing.{use_of}
+use Rattle.dict_source.specs.declared.operators.ManyOp.TheVariants.{Add}
+use Rattle.dict_source.specs.declared.operators.ReadOp.TheVariants.{CollectionSum, Dependency}
+use Rattle.dict_source.specs.Tree.{Source, literal, literal_int, many, no_trees, read, tree}
+use Rattle.dict_source.specs.Facts.{Fact, scalar, writable_list}
+use Rattle.dict_source.specs.Dictionary.{Dictionary}
+use Rattle.dict_source.specs.View.{use_of}
 use Rattle.written_facts.specs.Rows.{asked, derived}
 
 -- one more than the fact with this path

@@ -1,16 +1,16 @@
 // The source of the dictionary.
 ghost use Rattle.std.specs.Prelude.{◌≡◌, ◌<◌, ◌≤◌, suc, zero, List, [], ◌∷◌, codes, string_bytes, IfOk, IsTrue, OnOk};
 ghost use Rattle.fact_values.specs.declared.fact_type.FactType.TheVariants.{Int};
-ghost use Rattle.dict_tree.specs.Dictionary.{dictionary_view, with_fact};
-ghost use Rattle.dict_tree.specs.Facts.{scalar};
+ghost use Rattle.dict_source.specs.Dictionary.{dictionary_view, with_fact};
+ghost use Rattle.dict_source.specs.Facts.{scalar};
 ghost use Rattle.written_facts.specs.Figures.{Named};
 ghost use Rattle.written_facts.specs.Rows.{derived, rows_view};
 ghost use Rattle.written_facts.specs.Taking.{takes};
 ghost use Rattle.dict_gen.specs.Chain.{chain, member_facts, one_more, sum_path as path_of_sum};
 
-use dict_tree::DictSource;
-use dict_tree::ManyOp::Add;
-use dict_tree::ReadOp::{CollectionSum, Dependency};
+use dict_source::DictSource;
+use dict_source::ManyOp::Add;
+use dict_source::ReadOp::{CollectionSum, Dependency};
 use fact_values::NoMemory;
 use std::alloc::Global;
 use value_text::EnumLists;

@@ -5,12 +5,12 @@ use Rattle.std.specs.Prelude.{slice_get, nat_lt}
 use Rattle.std.specs.List.{All}
 use Rattle.std.proofs.lemmas.List.{length-map, map-append}
 use Rattle.std.proofs.lemmas.List.Elements.{All-head, All-tail}
-use Rattle.dict_tree.specs.Dictionary.{Dictionary, Written, dictionary_view, IsValid, number_from, passed}
-use Rattle.dict_tree.specs.Facts.{Fact, fact_view}
-use Rattle.dict_tree.specs.Finding.{IsNumber, fact_at}
-use Rattle.dict_tree.specs.Mentions.{found_mentions}
-use Rattle.dict_tree.specs.declared.mentions.Mention.{Mention}
-use Rattle.dict_tree.proofs.MentionLaws.{found_within}
+use Rattle.dict_source.specs.Dictionary.{Dictionary, Written, dictionary_view, IsValid, number_from, passed}
+use Rattle.dict_source.specs.Facts.{Fact, fact_view}
+use Rattle.dict_source.specs.Finding.{IsNumber, fact_at}
+use Rattle.dict_source.specs.Mentions.{found_mentions}
+use Rattle.dict_source.specs.declared.mentions.Mention.{Mention}
+use Rattle.dict_source.proofs.MentionLaws.{found_within}
 use Rattle.dict_order.specs.Graph.{Graph, graph_of, mentioned, Has, HasNoCycle, MentionsFacts}
 use Rattle.dict_order.specs.MentionGraph.{facts_of, graph_from, mention_graph}
 use Rattle.dict_order.specs.Ranks.{AreRanks, are_ranks}

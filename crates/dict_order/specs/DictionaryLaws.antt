@@ -1,9 +1,9 @@
 -- What holds of the facts of every dictionary.
 use Rattle.std.specs.Prelude.{◌≡◌, ℕ, ◌<◌, List, IsTrue, Result, Ok, Err}
 use Rattle.std.specs.Global.{Vec}
-use Rattle.dict_tree.specs.Dictionary.{Dictionary}
-use Rattle.dict_tree.specs.Finding.{fact_at}
-use Rattle.dict_tree.specs.Mentions.{found_mentions}
+use Rattle.dict_source.specs.Dictionary.{Dictionary}
+use Rattle.dict_source.specs.Finding.{fact_at}
+use Rattle.dict_source.specs.Mentions.{found_mentions}
 use Rattle.dict_order.specs.Graph.{Has, HasNoCycle, MentionsFacts, mentioned}
 use Rattle.dict_order.specs.MentionGraph.{facts_of, mention_graph}
 use Rattle.dict_order.specs.Ranks.{AreRanks, are_ranks, rank_of}

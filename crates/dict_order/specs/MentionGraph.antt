@@ -1,9 +1,9 @@
 -- The graph of a dictionary: the facts that each of its facts mentions.
 use Rattle.std.specs.Prelude.{ℕ, suc, List, [], ◌∷◌, map}
-use Rattle.dict_tree.specs.Dictionary.{Dictionary}
-use Rattle.dict_tree.specs.Facts.{Fact}
-use Rattle.dict_tree.specs.Mentions.{fact_mentions}
-use Rattle.dict_tree.specs.declared.mentions.Mention.{Mention}
+use Rattle.dict_source.specs.Dictionary.{Dictionary}
+use Rattle.dict_source.specs.Facts.{Fact}
+use Rattle.dict_source.specs.Mentions.{fact_mentions}
+use Rattle.dict_source.specs.declared.mentions.Mention.{Mention}
 use Rattle.dict_order.specs.Graph.{Graph}
 
 -- of which facts these mentions are, whether of the same member or of any

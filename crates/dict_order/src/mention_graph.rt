@@ -1,10 +1,10 @@
 // The graph of a dictionary.
 ghost use Rattle.std.specs.Prelude.{◌≡◌, ◌≤◌, length, IfOk};
-ghost use Rattle.dict_tree.specs.Dictionary.{dictionary_view};
+ghost use Rattle.dict_source.specs.Dictionary.{dictionary_view};
 ghost use Rattle.dict_order.specs.Graph.{graph_of, mentioned};
 ghost use Rattle.dict_order.specs.MentionGraph.{facts_of, mention_graph};
 
-use dict_tree::{DictSource, Mention};
+use dict_source::{DictSource, Mention};
 use fact_values::NoMemory;
 use std::alloc::Global;
 

@@ -1,6 +1,6 @@
 // The ranks of facts, or the first fact on a cycle.
 ghost use Rattle.std.specs.Prelude.{◌<◌, ◌^◌, length, IfOk};
-ghost use Rattle.dict_tree.specs.Dictionary.{dictionary_view};
+ghost use Rattle.dict_source.specs.Dictionary.{dictionary_view};
 ghost use Rattle.dict_order.specs.Graph.{HasCycle, IsFirstCycle, MentionsFacts, graph_of};
 ghost use Rattle.dict_order.specs.MentionGraph.{mention_graph};
 ghost use Rattle.dict_order.specs.Order.{Orders};
@@ -9,7 +9,7 @@ use crate::fault::OrderFault;
 use crate::mention_graph::graph_of_dictionary;
 use crate::ranks::rank_all;
 use crate::walk::reaches_itself;
-use dict_tree::DictSource;
+use dict_source::DictSource;
 use fact_values::NoMemory;
 use std::alloc::Global;
 

@@ -10,15 +10,15 @@ use Rattle.serde_json.specs.Read.{max_depth}
 use Rattle.fact_values.specs.declared.fact_type.FactType.{FactType}
 use Rattle.law_arithmetic.specs.declared.table.Row.{Row}
 use Rattle.value_text.specs.Enums.{Listed}
-use Rattle.dict_tree.specs.Tree.{Literal, literal_true, Source, Sources, SourceCase, SourceCases, literal, read, switch, many, one, two, pick, no_trees, tree, no_cases, a_case, depth as tree_depth, depth_of_trees, depth_of_cases}
-use Rattle.dict_tree.specs.declared.operators.OneOp.{OneOp}
-use Rattle.dict_tree.specs.declared.operators.OneOp.TheVariants as ones
-use Rattle.dict_tree.specs.Tables.{LookupTable}
-use Rattle.dict_tree.specs.Facts.{Fact, Bound, least, option_within, conditional_within, fact_within}
-use Rattle.dict_tree.specs.Dictionary.{Dictionary, IsWithinLimits, number_from}
-use Rattle.dict_tree.specs.Json.{literal_json, one_json, json_of, json_of_trees, json_of_cases}
-use Rattle.dict_tree.specs.FactJson.{items_from, stated_text, limit_json, conditional_json}
-use Rattle.dict_tree.specs.Versions.{version_text}
+use Rattle.dict_source.specs.Tree.{Literal, literal_true, Source, Sources, SourceCase, SourceCases, literal, read, switch, many, one, two, pick, no_trees, tree, no_cases, a_case, depth as tree_depth, depth_of_trees, depth_of_cases}
+use Rattle.dict_source.specs.declared.operators.OneOp.{OneOp}
+use Rattle.dict_source.specs.declared.operators.OneOp.TheVariants as ones
+use Rattle.dict_source.specs.Tables.{LookupTable}
+use Rattle.dict_source.specs.Facts.{Fact, Bound, least, option_within, conditional_within, fact_within}
+use Rattle.dict_source.specs.Dictionary.{Dictionary, IsWithinLimits, number_from}
+use Rattle.fact_json.specs.Json.{literal_json, one_json, json_of, json_of_trees, json_of_cases}
+use Rattle.fact_json.specs.FactJson.{items_from, stated_text, limit_json, conditional_json}
+use Rattle.fact_json.specs.Versions.{version_text}
 use Rattle.dict_print.specs.DictionaryJson.{put_some, some_array, enum_json, row_json, table_json, fact_json, json_by_main, last_members, writable_members, derived_members, all_members, dictionary_json, printed_version}
 
 -- ---- expressions

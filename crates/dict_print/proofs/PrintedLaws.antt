@@ -3,7 +3,7 @@ use Rattle.std.proofs.Common.{◌≡◌, ℕ, ◌≤◌, List, length, Some, Ok,
 use Rattle.std.specs.Str.{IsUtf8}
 use Rattle.serde_json.specs.Data.{Data, depth}
 use Rattle.serde_json.specs.Read.{read, max_depth}
-use Rattle.dict_tree.specs.Dictionary.{Dictionary}
+use Rattle.dict_source.specs.Dictionary.{Dictionary}
 use Rattle.dict_tree.specs.DictParsing.{BytesGive, max_bytes}
 use Rattle.dict_print.specs.DictionaryJson.{dictionary_json, IsPrintable}
 use Rattle.dict_print.proofs.NestingLaws.{printed_nests}

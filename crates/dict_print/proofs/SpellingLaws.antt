@@ -10,19 +10,19 @@ use Rattle.serde_json.specs.Find.{get}
 use Rattle.fact_paths.specs.Names.{is_name}
 use Rattle.fact_paths.specs.Paths.{SpellsFactPath}
 use Rattle.value_text.specs.Enums.{Listed, AreLists, is_listed, are_options, are_distinct}
-use Rattle.dict_tree.specs.Tree.{Source, SourceCase}
-use Rattle.dict_tree.specs.Tables.{LookupTable}
+use Rattle.dict_source.specs.Tree.{Source, SourceCase}
+use Rattle.dict_source.specs.Tables.{LookupTable}
 use Rattle.dict_tree.specs.TableJson.{SpellTables}
-use Rattle.dict_tree.specs.Facts.{Fact, Bound}
-use Rattle.dict_tree.specs.Forms.{IsReadFrom, HasForm, HasOptionForm, HasConditionalForm, HasKind, IsWellFormed}
-use Rattle.dict_tree.specs.Dictionary.{Dictionary}
-use Rattle.dict_tree.specs.Json.{json_of}
-use Rattle.dict_tree.specs.FactParsing.{writable_keys, derived_keys}
-use Rattle.dict_tree.specs.FactJson.{AreSpelled, IsObjectOf, IsOptionalText, IsNamed, items_from, stated_text, limit_json, conditional_json, SpellLimits, SpellsOptional, SpellsRequired, SpellsConditional, SpellsWritable, SpellsDerived, SpellsFact}
+use Rattle.dict_source.specs.Facts.{Fact, Bound}
+use Rattle.dict_source.specs.Forms.{IsReadFrom, HasForm, HasOptionForm, HasConditionalForm, HasKind, IsWellFormed}
+use Rattle.dict_source.specs.Dictionary.{Dictionary}
+use Rattle.fact_json.specs.Json.{json_of}
+use Rattle.fact_json.specs.FactParsing.{writable_keys, derived_keys}
+use Rattle.fact_json.specs.FactJson.{AreSpelled, IsObjectOf, IsOptionalText, IsNamed, items_from, stated_text, limit_json, conditional_json, SpellLimits, SpellsOptional, SpellsRequired, SpellsConditional, SpellsWritable, SpellsDerived, SpellsFact}
 use Rattle.dict_tree.specs.DictJson.{SpellsEnum, SpellEnums, SpellsTop, SpellsDictionary, top_keys}
-use Rattle.dict_tree.specs.Profile.{fact_uses_law, has_operators}
-use Rattle.dict_tree.specs.Versions.{version_text}
-use Rattle.dict_tree.specs.declared.version.Version.TheVariants as versions
+use Rattle.fact_json.specs.Profile.{fact_uses_law, has_operators}
+use Rattle.fact_json.specs.Versions.{version_text}
+use Rattle.fact_json.specs.declared.version.Version.TheVariants as versions
 use Rattle.dict_tree.proofs.EnumJsonLaws.{not_empty}
 use Rattle.dict_print.specs.DictionaryJson.{put_some, some_array, enum_json, fact_json, json_by_main, writable_json, derived_json, dictionary_json, needs_law, printed_version, table_json, version_for, IsPrintable}
 use Rattle.dict_print.proofs.TableLaws.{tables_spelled}

@@ -17,14 +17,15 @@ use Rattle.value_text.specs.ValueLaws.{IsValueOf}
 use Rattle.value_text.specs.Values.{IsRead, printed}
 use Rattle.value_text.proofs.ChoiceLaws.{place_found}
 use Rattle.value_text.proofs.TypeLaws.{read_printed}
-use Rattle.dict_tree.specs.Facts.{Stated}
-use Rattle.dict_tree.specs.FactJson.{AreSpelled, IsNamed, items_from}
-use Rattle.dict_tree.specs.Forms.{IsWritableType}
+use Rattle.dict_source.specs.Facts.{Stated}
+use Rattle.fact_json.specs.FactJson.{AreSpelled, IsNamed, items_from}
+use Rattle.dict_source.specs.Forms.{IsWritableType}
 use Rattle.dict_tree.specs.TableJson.{IsConstantType, SpellTables, SpellsRow, SpellsTable}
-use Rattle.dict_tree.specs.Tables.{IsLookupTable, LookupTable, are_keys, is_key_type, is_kind, is_lookup_table, key_value, table_names, table_values}
+use Rattle.dict_source.specs.Tables.{IsLookupTable, LookupTable, are_keys, is_key_type, is_kind, is_lookup_table, key_value, table_names, table_values}
 use Rattle.dict_print.specs.DictionaryJson.{IsSound, row_json, some_array, stated_type, table_json}
 use Rattle.dict_print.specs.TableTexts.{HasText, HasTexts, IsTyped}
-use Rattle.dict_print.proofs.TextLaws.{are_named, has_text, list_there}
+use Rattle.value_text.proofs.SpelledTexts.{are_named, list_there}
+use Rattle.dict_print.proofs.TextLaws.{has_text}
 
 -- ---- keys
 

@@ -8,16 +8,16 @@ use Rattle.fact_values.specs.declared.fact_type.FactType.TheVariants as types
 use Rattle.law_arithmetic.specs.declared.table.Row.{Row}
 use Rattle.value_text.specs.Enums.{Listed, AreLists, name_at}
 use Rattle.value_text.specs.Values.{printed}
-use Rattle.dict_tree.specs.Tree.{Source, SourceCase}
-use Rattle.dict_tree.specs.Tables.{LookupTable, IsLookupTable, key_value}
-use Rattle.dict_tree.specs.Facts.{Fact, Stated, scalar, enum_of}
-use Rattle.dict_tree.specs.Dictionary.{Dictionary, IsValid}
-use Rattle.dict_tree.specs.Json.{node_json, json_of}
-use Rattle.dict_tree.specs.FactJson.{items_from, scalar_text, stated_text, limit_json, conditional_json, IsNamed}
-use Rattle.dict_tree.specs.Profile.{fact_uses_law}
-use Rattle.dict_tree.specs.Versions.{version_text}
-use Rattle.dict_tree.specs.declared.version.Version.{Version}
-use Rattle.dict_tree.specs.declared.version.Version.TheVariants as versions
+use Rattle.dict_source.specs.Tree.{Source, SourceCase}
+use Rattle.dict_source.specs.Tables.{LookupTable, IsLookupTable, key_value}
+use Rattle.dict_source.specs.Facts.{Fact, Stated, scalar, enum_of}
+use Rattle.dict_source.specs.Dictionary.{Dictionary, IsValid}
+use Rattle.fact_json.specs.Json.{node_json, json_of}
+use Rattle.fact_json.specs.FactJson.{items_from, scalar_text, stated_text, limit_json, conditional_json, IsNamed}
+use Rattle.fact_json.specs.Profile.{fact_uses_law}
+use Rattle.fact_json.specs.Versions.{version_text}
+use Rattle.fact_json.specs.declared.version.Version.{Version}
+use Rattle.fact_json.specs.declared.version.Version.TheVariants as versions
 
 -- ---- members of an object
 

@@ -1,9 +1,9 @@
 -- The facts of a dictionary as lines.
 use Rattle.std.specs.Prelude.{ℕ, List, [], ◌∷◌, ◌++◌, codes, Option, Some, None}
-use Rattle.dict_tree.specs.Tree.{Source}
-use Rattle.dict_tree.specs.Facts.{Fact}
-use Rattle.dict_tree.specs.FactJson.{stated_text}
-use Rattle.dict_tree.specs.Dictionary.{Dictionary}
+use Rattle.dict_source.specs.Tree.{Source}
+use Rattle.dict_source.specs.Facts.{Fact}
+use Rattle.fact_json.specs.FactJson.{stated_text}
+use Rattle.dict_source.specs.Dictionary.{Dictionary}
 
 -- a fact with a main expression is derived, and another is writable
 abbrev pub kind_text : Option Source → List ℕ

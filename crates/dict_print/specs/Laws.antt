@@ -2,7 +2,7 @@
 use Rattle.std.specs.Prelude.{◌≤◌}
 use Rattle.serde_json.specs.Data.{depth}
 use Rattle.serde_json.specs.Read.{max_depth}
-use Rattle.dict_tree.specs.Dictionary.{Dictionary, IsWithinLimits}
+use Rattle.dict_source.specs.Dictionary.{Dictionary, IsWithinLimits}
 use Rattle.dict_tree.specs.DictJson.{SpellsDictionary}
 use Rattle.dict_print.specs.DictionaryJson.{dictionary_json, IsPrintable}
 

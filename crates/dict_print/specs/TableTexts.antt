@@ -8,7 +8,7 @@ use Rattle.law_arithmetic.specs.declared.table.Row.{Row}
 use Rattle.value_text.specs.Enums.{Listed}
 use Rattle.value_text.specs.ValueLaws.{IsValueOf}
 use Rattle.value_text.specs.Values.{IsPrinted, printed}
-use Rattle.dict_tree.specs.Tables.{LookupTable, is_kind, key_value, table_values}
+use Rattle.dict_source.specs.Tables.{LookupTable, is_kind, key_value, table_values}
 
 -- what is printed of the value is a text
 pub record HasText (enums : List Listed) (value : Value) : Type 0 where

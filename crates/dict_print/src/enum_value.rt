@@ -3,7 +3,7 @@ ghost use Rattle.std.specs.Prelude.{◌≡◌, ◌<◌, codes, length, slice_get
 ghost use Rattle.serde_json.specs.Data.{array, string};
 ghost use Rattle.serde_json.specs.View.{view as json, members_view};
 ghost use Rattle.value_text.specs.Enums.{AreLists, Listed};
-ghost use Rattle.dict_tree.specs.FactJson.{items_from};
+ghost use Rattle.fact_json.specs.FactJson.{items_from};
 ghost use Rattle.dict_print.specs.DictionaryJson.{enum_json, put_some, some_array};
 
 use crate::node_value::push_value;

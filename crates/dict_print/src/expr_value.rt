@@ -2,8 +2,8 @@
 ghost use Rattle.std.specs.Prelude.{◌≡◌, codes, IfOk};
 ghost use Rattle.serde_json.specs.Data.{item, no_items, string};
 ghost use Rattle.serde_json.specs.View.{view as json};
-ghost use Rattle.dict_tree.specs.View.{view, case_view, cases_view, literal_of, trees_view};
-ghost use Rattle.dict_tree.specs.Json.{json_of, json_of_cases, json_of_trees, literal_json, node_json, one_json};
+ghost use Rattle.dict_source.specs.View.{view, case_view, cases_view, literal_of, trees_view};
+ghost use Rattle.fact_json.specs.Json.{json_of, json_of_cases, json_of_trees, literal_json, node_json, one_json};
 ghost use Rattle.dict_print.specs.DictionaryJson.{case_json};
 
 use crate::node_value::{
@@ -11,7 +11,7 @@ use crate::node_value::{
     texts_node,
 };
 use crate::word::{word_of_many, word_of_one, word_of_pick, word_of_read, word_of_two};
-use dict_tree::{Case, Constant, Expr, OneOp};
+use dict_source::{Case, Constant, Expr, OneOp};
 use fact_values::NoMemory;
 use serde_json::Value;
 use std::alloc::Global;
@@ -46,7 +46,7 @@ fn node_of_op(alloc: Global, op: &OneOp, operand: Value) -> Result<Value, NoMemo
 }
 
 /// The value that spells the expression.
-#[tactic(auto, using(dict_tree::proofs::Views::views))]
+#[tactic(auto, using(dict_source::proofs::Views::views))]
 #[cycle(expr)]
 pub fn expr_value(alloc: Global, expr: &Expr) -> Result<Value, NoMemory>
     ensures { IfOk result (λ v. json v ≡ json_of (view expr.now)) }

@@ -1,12 +1,12 @@
 // Prints the facts of a dictionary as lines.
 ghost use Rattle.std.specs.Prelude.{◌≡◌, ◌++◌, option_map, string_bytes, IfOk, OnOk};
-ghost use Rattle.dict_tree.specs.View.{view};
-ghost use Rattle.dict_tree.specs.Facts.{fact_view};
-ghost use Rattle.dict_tree.specs.Dictionary.{dictionary_view};
+ghost use Rattle.dict_source.specs.View.{view};
+ghost use Rattle.dict_source.specs.Facts.{fact_view};
+ghost use Rattle.dict_source.specs.Dictionary.{dictionary_view};
 ghost use Rattle.dict_print.specs.FactsText.{fact_line, facts_text, kind_text};
 
 use crate::stated::{push, push_stated};
-use dict_tree::{DictSource, Expr, FactSource};
+use dict_source::{DictSource, Expr, FactSource};
 use fact_values::NoMemory;
 use std::alloc::Global;
 

@@ -3,17 +3,17 @@ ghost use Rattle.std.specs.Prelude.{◌≡◌, [], codes, map, option_map, strin
 ghost use Rattle.std.specs.List.{All};
 ghost use Rattle.serde_json.specs.Data.{array, no_members, put, string};
 ghost use Rattle.serde_json.specs.View.{view as json, members_view};
-ghost use Rattle.dict_tree.specs.View.{view};
-ghost use Rattle.dict_tree.specs.Json.{json_of};
-ghost use Rattle.dict_tree.specs.Facts.{conditional_view, fact_view, stated_view};
-ghost use Rattle.dict_tree.specs.FactJson.{IsNamed, conditional_json, items_from, stated_text};
+ghost use Rattle.dict_source.specs.View.{view};
+ghost use Rattle.fact_json.specs.Json.{json_of};
+ghost use Rattle.dict_source.specs.Facts.{conditional_view, fact_view, stated_view};
+ghost use Rattle.fact_json.specs.FactJson.{IsNamed, conditional_json, items_from, stated_text};
 ghost use Rattle.dict_print.specs.DictionaryJson.{derived_json, derived_members, fact_json, put_some, writable_json, writable_members};
 
 use crate::expr_value::expr_value;
 use crate::limit_value::put_limits;
 use crate::node_value::push_value;
 use crate::stated::push_stated;
-use dict_tree::{Conditional, Expr, FactSource, TypeText};
+use dict_source::{Conditional, Expr, FactSource, TypeText};
 use fact_values::NoMemory;
 use serde_json::{Map, Value, json};
 use std::alloc::Global;

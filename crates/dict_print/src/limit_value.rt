@@ -2,12 +2,12 @@
 ghost use Rattle.std.specs.Prelude.{◌≡◌, codes, map, IfOk, OnOk};
 ghost use Rattle.serde_json.specs.Data.{array};
 ghost use Rattle.serde_json.specs.View.{view as json, members_view};
-ghost use Rattle.dict_tree.specs.Facts.{limit_view};
-ghost use Rattle.dict_tree.specs.FactJson.{items_from, limit_json};
+ghost use Rattle.dict_source.specs.Facts.{limit_view};
+ghost use Rattle.fact_json.specs.FactJson.{items_from, limit_json};
 ghost use Rattle.dict_print.specs.DictionaryJson.{put_some, some_array};
 
 use crate::node_value::{push_value, text_node};
-use dict_tree::LimitText;
+use dict_source::LimitText;
 use fact_values::NoMemory;
 use serde_json::{Map, Value};
 use std::alloc::Global;

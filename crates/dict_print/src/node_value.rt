@@ -2,7 +2,7 @@
 ghost use Rattle.std.specs.Prelude.{◌≡◌, IfOk, OnOk};
 ghost use Rattle.serde_json.specs.Data.{array, item, no_items, string};
 ghost use Rattle.serde_json.specs.View.{view as json, items_view};
-ghost use Rattle.dict_tree.specs.Json.{node_json, text_json};
+ghost use Rattle.fact_json.specs.Json.{node_json, text_json};
 ghost use Rattle.dict_print.specs.Joining.{Appends};
 
 use fact_values::NoMemory;

@@ -3,14 +3,15 @@ ghost use Rattle.std.specs.Prelude.{◌≡◌, ◌≤◌, length, Some, Ok, IfOk
 ghost use Rattle.serde_json.specs.Data.{no_members};
 ghost use Rattle.serde_json.specs.Read.{read};
 ghost use Rattle.serde_json.specs.View.{view as json, members_view};
-ghost use Rattle.dict_tree.specs.Dictionary.{dictionary_view};
+ghost use Rattle.dict_source.specs.Dictionary.{dictionary_view};
 ghost use Rattle.dict_tree.specs.DictParsing.{BytesGive, max_bytes};
 ghost use Rattle.dict_print.specs.DictionaryJson.{IsPrintable, all_members, dictionary_json, printed_version};
 
 use crate::enum_value::put_enums;
 use crate::fact_value::{fact_values, put_text};
 use crate::table_value::put_tables;
-use dict_tree::{DictSource, Version, some_uses_law, version_text};
+use dict_source::DictSource;
+use fact_json::{Version, some_uses_law, version_text};
 use fact_values::NoMemory;
 use serde_json::{Map, Value};
 use std::alloc::Global;

@@ -2,11 +2,11 @@
 ghost use Rattle.std.specs.Prelude.{◌≡◌, ◌<◌, ◌++◌, codes, length, string_bytes, OnOk};
 ghost use Rattle.fact_values.specs.declared.fact_type.FactType.TheVariants as types;
 ghost use Rattle.value_text.specs.Values.{IsRead};
-ghost use Rattle.dict_tree.specs.Facts.{stated_view};
-ghost use Rattle.dict_tree.specs.FactJson.{IsNamed, scalar_text, stated_text};
+ghost use Rattle.dict_source.specs.Facts.{stated_view};
+ghost use Rattle.fact_json.specs.FactJson.{IsNamed, scalar_text, stated_text};
 ghost use Rattle.dict_print.specs.DictionaryJson.{stated_type};
 
-use dict_tree::TypeText;
+use dict_source::TypeText;
 use fact_values::{FactType, NoMemory};
 use value_text::EnumLists;
 

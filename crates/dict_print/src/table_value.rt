@@ -5,15 +5,15 @@ ghost use Rattle.serde_json.specs.Data.{array, no_members, put, string};
 ghost use Rattle.serde_json.specs.View.{view as json, members_view};
 ghost use Rattle.value_text.specs.Enums.{AreLists};
 ghost use Rattle.value_text.specs.Values.{IsRead, printed};
-ghost use Rattle.dict_tree.specs.FactJson.{items_from, stated_text};
-ghost use Rattle.dict_tree.specs.Tables.{is_kind, key_value as value_of_key};
+ghost use Rattle.fact_json.specs.FactJson.{items_from, stated_text};
+ghost use Rattle.dict_source.specs.Tables.{is_kind, key_value as value_of_key};
 ghost use Rattle.dict_print.specs.DictionaryJson.{IsSound, put_some, row_json, some_array, stated_type, table_json, table_members};
 ghost use Rattle.dict_print.specs.TableTexts.{HasText, HasTexts, IsTyped};
 
 use crate::fact_value::put_text;
 use crate::node_value::push_value;
 use crate::stated::{push_type, scalar_word};
-use dict_tree::LookupTable;
+use dict_source::LookupTable;
 use fact_values::{Day, Dollar, FactType, NoMemory, Value as Answer, Whole};
 use law_arithmetic::Row;
 use serde_json::{Map, Value, json};

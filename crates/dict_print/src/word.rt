@@ -1,8 +1,8 @@
 // The names of nodes.
 ghost use Rattle.std.specs.Prelude.{◌≡◌};
-ghost use Rattle.dict_tree.specs.Names.{many_name, one_name, pick_name, read_name, two_name};
+ghost use Rattle.fact_json.specs.Names.{many_name, one_name, pick_name, read_name, two_name};
 
-use dict_tree::{ManyOp, OneOp, PickOp, ReadOp, TwoOp};
+use dict_source::{ManyOp, OneOp, PickOp, ReadOp, TwoOp};
 
 /// The name of a node that reads a path.
 pub fn word_of_read(op: ReadOp) -> &'static str

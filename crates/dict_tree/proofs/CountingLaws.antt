@@ -17,7 +17,7 @@ use Rattle.serde_json.specs.View.{items_view}
 use Rattle.serde_json.specs.declared.value.Value.{Value}
 use Rattle.dict_tree.specs.Counting.{count_of, HasFewFacts}
 use Rattle.dict_tree.specs.DictParsing.{IsJson, max_bytes}
-use Rattle.dict_tree.proofs.MemberLaws.{array_found}
+use Rattle.fact_json.proofs.MemberLaws.{array_found}
 
 -- ---- the parts of a value
 

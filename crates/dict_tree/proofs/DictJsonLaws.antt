@@ -7,23 +7,23 @@ use Rattle.common_lemmas.proofs.Options.{both_some}
 use Rattle.serde_json.specs.Data.{Data, Items, no_items, item}
 use Rattle.serde_json.specs.Find.{as_str, as_array, as_object, get}
 use Rattle.value_text.specs.Enums.{Listed}
-use Rattle.dict_tree.specs.Tables.{LookupTable}
+use Rattle.dict_source.specs.Tables.{LookupTable}
 use Rattle.dict_tree.specs.TableJson.{SpellTables}
 use Rattle.dict_tree.specs.TableParsing.{tables_in}
-use Rattle.dict_tree.specs.Facts.{Fact}
-use Rattle.dict_tree.specs.FactJson.{AreSpelled, IsObjectOf, SpellsFact}
-use Rattle.dict_tree.specs.FactParsing.{has_no_other, is_optional_text, text_at, fact_of}
-use Rattle.dict_tree.specs.Dictionary.{Dictionary, too_many, too_deep}
+use Rattle.dict_source.specs.Facts.{Fact}
+use Rattle.fact_json.specs.FactJson.{AreSpelled, IsObjectOf, SpellsFact}
+use Rattle.fact_json.specs.FactParsing.{has_no_other, is_optional_text, text_at, fact_of}
+use Rattle.dict_source.specs.Dictionary.{Dictionary, too_many, too_deep}
 use Rattle.dict_tree.specs.DictParsing.{facts_step, facts_of, if_top, tables_over, version_with, version_in, enums_in, shallow, few, with_facts, from_parts, dictionary_with, dictionary_of}
 use Rattle.dict_tree.specs.DictJson.{top_keys, SpellsTop, SpellsDictionary, IsTopWrong, IsFactWrong, IsFirstWrong, IsWrongAt, ValueGives}
-use Rattle.dict_tree.specs.Versions.{version_names, version_of, version_text}
+use Rattle.fact_json.specs.Versions.{version_names, version_of, version_text}
 use Rattle.dict_tree.specs.declared.fault.TreeFault.{TreeFault}
 use Rattle.dict_tree.specs.declared.fault.TreeFault.TheVariants as faults
-use Rattle.dict_tree.specs.declared.version.Version.{Version}
-use Rattle.dict_tree.specs.declared.version.Version.TheVariants as versions
-use Rattle.dict_tree.proofs.NameLaws.{named_so}
-use Rattle.dict_tree.proofs.MemberLaws.{object_is, is_object, optional_text_found, optional_text_again, text_found, array_found}
-use Rattle.dict_tree.proofs.FactJsonLaws.{fact_found, fact_again}
+use Rattle.fact_json.specs.declared.version.Version.{Version}
+use Rattle.fact_json.specs.declared.version.Version.TheVariants as versions
+use Rattle.fact_json.proofs.NameLaws.{named_so}
+use Rattle.fact_json.proofs.MemberLaws.{object_is, is_object, optional_text_found, optional_text_again, text_found, array_found}
+use Rattle.fact_json.proofs.FactJsonLaws.{fact_found, fact_again}
 use Rattle.dict_tree.proofs.EnumJsonLaws.{enums_found, enums_again}
 use Rattle.dict_tree.proofs.TableJsonLaws.{tables_found, tables_again}
 

@@ -3,13 +3,13 @@ use Rattle.std.proofs.Common.{◌≡◌, ℕ, ◌≤◌, List, length, Result, O
 use Rattle.std.specs.Prelude.{IfOk, IfErr, codes}
 use Rattle.serde_json.specs.Data.{Data}
 use Rattle.serde_json.specs.Find.{get}
-use Rattle.dict_tree.specs.Dictionary.{Dictionary, Written, IsValid, dictionary_view}
+use Rattle.dict_source.specs.Dictionary.{Dictionary, Written, IsValid, dictionary_view}
 use Rattle.dict_tree.specs.DictJson.{ValueGives}
 use Rattle.dict_tree.specs.DictParsing.{dictionary_of, Yields, IsJson, IsOfShape, BytesGive, max_bytes, seen}
 use Rattle.dict_tree.specs.declared.fault.TreeFault.{TreeFault}
 use Rattle.dict_tree.specs.declared.fault.TreeFault.TheVariants as faults
 use Rattle.dict_tree.proofs.DictJsonLaws.{read_given}
-use Rattle.dict_tree.proofs.FactLaws.{facts_are_well_formed}
+use Rattle.fact_json.proofs.FactLaws.{facts_are_well_formed}
 use Rattle.dict_tree.proofs.TableJsonLaws.{tables_are_valid}
 
 pub dictionary_is_valid : (d : Data) (dict : Dictionary) → ValueGives d (Ok dict) → IsValid dict

@@ -11,11 +11,12 @@ use Rattle.serde_json.specs.Find.{as_str, as_array, as_object, get}
 use Rattle.fact_paths.specs.Names.{is_name}
 use Rattle.fact_paths.specs.Parsing.{name_of}
 use Rattle.value_text.specs.Enums.{Listed, are_distinct, names_of}
-use Rattle.dict_tree.specs.FactJson.{AreSpelled, items_from}
-use Rattle.dict_tree.specs.FactParsing.{has_no_other, text_at}
+use Rattle.fact_json.specs.FactJson.{AreSpelled, items_from}
+use Rattle.fact_json.specs.FactParsing.{has_no_other, text_at}
 use Rattle.dict_tree.specs.DictParsing.{name_list, if_sound, enum_fields, enum_with, enum_of, enum_list, if_apart, enums_in}
 use Rattle.dict_tree.specs.DictJson.{enum_keys, SpellsEnum, SpellEnums}
-use Rattle.dict_tree.proofs.MemberLaws.{guarded, object_is, is_object, array_is, text_found, array_found}
+use Rattle.fact_json.proofs.MemberLaws.{object_is, is_object, array_is, text_found, array_found}
+use Rattle.dict_source.proofs.Guards.{guarded}
 
 -- ---- names
 

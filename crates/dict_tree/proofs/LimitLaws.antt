@@ -3,8 +3,8 @@ use Rattle.std.proofs.Common.{◌≡◌, ℕ, zero, suc, ◌+◌, ◌-◌, ◌<�
 use Rattle.std.specs.Prelude.{nat_lt, sum_by}
 use Rattle.std.specs.List.{fold}
 use Rattle.std.proofs.lemmas.Bool.{lt-ltb}
-use Rattle.dict_tree.specs.Facts.{Fact, fact_view, fact_size}
-use Rattle.dict_tree.specs.declared.fact_source.FactSource.{FactSource}
+use Rattle.dict_source.specs.Facts.{Fact, fact_view, fact_size}
+use Rattle.dict_source.specs.declared.fact_source.FactSource.{FactSource}
 
 abbrev total_from : ℕ → List Fact → ℕ
 total_from n fs = fold (λ m f. m + fact_size f) n fs

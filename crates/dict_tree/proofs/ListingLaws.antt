@@ -8,9 +8,9 @@ use Rattle.common_lemmas.proofs.Bools.{both}
 use Rattle.serde_json.specs.Data.{Data, Items, no_items, item}
 use Rattle.serde_json.specs.Find.{get}
 use Rattle.value_text.specs.Enums.{Listed, is_among, are_distinct, names_of}
-use Rattle.dict_tree.specs.Dictionary.{Dictionary, number_from, passed}
+use Rattle.dict_source.specs.Dictionary.{Dictionary, number_from, passed}
 use Rattle.dict_tree.specs.DictJson.{SpellsEnum, SpellEnums, ValueGives}
-use Rattle.dict_tree.specs.FactJson.{AreSpelled}
+use Rattle.fact_json.specs.FactJson.{AreSpelled}
 use Rattle.dict_tree.specs.Listing.{may_follow, may_all_follow}
 use Rattle.dict_tree.proofs.DistinctLaws.{are_new, are_new_none}
 use Rattle.dict_tree.proofs.EnumJsonLaws.{some_there}

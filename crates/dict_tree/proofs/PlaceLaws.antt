@@ -3,6 +3,7 @@ use Rattle.std.proofs.Common.{◌≡◌, ℕ, suc, ◌+◌, List, ◌∷◌, len
 use Rattle.std.specs.Prelude.{bytes_eq}
 use Rattle.std.specs.List.{position_or_len}
 use Rattle.value_text.specs.Enums.{Listed, list_place, names_of}
+use Rattle.value_text.proofs.ChoiceLaws.{past_first}
 
 abbrev pub place_from : ℕ → Option ℕ → Option ℕ
 place_from n o = option_map (λ k. n + k) o
@@ -13,9 +14,6 @@ place_from-zero (Some k) = ap (λ (j : ℕ). Some j) (omega arith)
 
 zero_below : (m : ℕ) → ltb 0 (suc m) ≡ true
 zero_below m = grind arith
-
-past_first : (p m : ℕ) → ltb (1 + p) (suc m) ≡ ltb p m
-past_first p m = grind arith
 
 pub place_here : (n : ℕ) (name : List ℕ) (e : Listed) (es : List Listed) → bytes_eq name e.name ≡ true → place_from n (list_place name (e ∷ es)) ≡ Some n
 place_here n name e es h = rw (h, zero_below (length (names_of es))) (ap (λ (j : ℕ). Some j) (omega arith))

@@ -20,20 +20,21 @@ use Rattle.value_text.proofs.ParsingLaws.{value_again as value_again_spelled}
 use Rattle.value_text.proofs.TypeLaws.{of_type}
 use Rattle.std.specs.List.{All, list_all}
 use Rattle.std.proofs.lemmas.List.Elements.{All-nil, All-cons}
-use Rattle.dict_tree.specs.Dictionary.{AreTables}
-use Rattle.dict_tree.specs.Facts.{Stated, scalar, enum_of}
-use Rattle.dict_tree.specs.FactJson.{AreSpelled, scalar_text, stated_text}
-use Rattle.dict_tree.specs.FactParsing.{has_no_other, is_optional_text, text_at}
-use Rattle.dict_tree.specs.Parsing.{two_texts}
-use Rattle.dict_tree.specs.StatedParsing.{writable_stated}
+use Rattle.dict_source.specs.Dictionary.{AreTables}
+use Rattle.dict_source.specs.Facts.{Stated, scalar, enum_of}
+use Rattle.fact_json.specs.FactJson.{AreSpelled, scalar_text, stated_text}
+use Rattle.fact_json.specs.FactParsing.{has_no_other, is_optional_text, text_at}
+use Rattle.fact_json.specs.Parsing.{two_texts}
+use Rattle.fact_json.specs.StatedParsing.{writable_stated}
 use Rattle.dict_tree.specs.TableJson.{IsConstantType, SpellTables, SpellsRow, SpellsTable, StatesValues, table_keys}
-use Rattle.dict_tree.specs.TableParsing.{constant_type_named, constant_type_of, if_few_apart, key_type_named, key_types, row_from, row_list, row_of, table_fields, table_list, table_of, table_with, table_with_rows, tables_in, typed_table}
-use Rattle.dict_tree.specs.Tables.{LookupTable, are_keys, is_key_type, is_kind, is_lookup_table, table_names, table_values}
+use Rattle.dict_tree.specs.TableParsing.{constant_type_named, constant_type_of, if_few_apart, key_type_named, key_types, row_from, row_list, row_of, table_fields, table_list, table_of, table_with, tables_in, typed_table}
+use Rattle.dict_source.specs.Tables.{table_with_rows, LookupTable, are_keys, is_key_type, is_kind, is_lookup_table, table_names, table_values}
 use Rattle.dict_tree.proofs.EnumJsonLaws.{name_found, name_again}
-use Rattle.dict_tree.proofs.ExprLaws.{two_texts_are}
-use Rattle.dict_tree.proofs.MemberLaws.{guarded, object_is, is_object, array_is, optional_text_found, optional_text_again, text_found, array_found}
-use Rattle.dict_tree.proofs.NameLaws.{named_so}
-use Rattle.dict_tree.proofs.StatedLaws.{writable_stated_found, writable_stated_again}
+use Rattle.fact_json.proofs.ExprLaws.{two_texts_are}
+use Rattle.fact_json.proofs.MemberLaws.{object_is, is_object, array_is, optional_text_found, optional_text_again, text_found, array_found}
+use Rattle.dict_source.proofs.Guards.{guarded}
+use Rattle.fact_json.proofs.NameLaws.{named_so}
+use Rattle.fact_json.proofs.StatedLaws.{writable_stated_found, writable_stated_again}
 
 -- ---- the type of the keys
 

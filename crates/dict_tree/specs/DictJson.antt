@@ -5,16 +5,16 @@ use Rattle.serde_json.specs.Data.{Data, string, array, Items, no_items, item}
 use Rattle.serde_json.specs.Find.{get}
 use Rattle.fact_paths.specs.Names.{is_name}
 use Rattle.value_text.specs.Enums.{Listed, are_distinct, names_of}
-use Rattle.dict_tree.specs.Tables.{LookupTable}
+use Rattle.dict_source.specs.Tables.{LookupTable}
 use Rattle.dict_tree.specs.TableJson.{SpellTables}
-use Rattle.dict_tree.specs.Facts.{Fact}
-use Rattle.dict_tree.specs.FactJson.{AreSpelled, IsObjectOf, IsOptionalText, items_from, SpellsFact}
-use Rattle.dict_tree.specs.Dictionary.{Dictionary, IsWithinLimits, too_many, too_deep}
-use Rattle.dict_tree.specs.Versions.{version_text}
+use Rattle.dict_source.specs.Facts.{Fact}
+use Rattle.fact_json.specs.FactJson.{AreSpelled, IsObjectOf, IsOptionalText, items_from, SpellsFact}
+use Rattle.dict_source.specs.Dictionary.{Dictionary, IsWithinLimits, too_many, too_deep}
+use Rattle.fact_json.specs.Versions.{version_text}
 use Rattle.dict_tree.specs.declared.fault.TreeFault.{TreeFault}
 use Rattle.dict_tree.specs.declared.fault.TreeFault.TheVariants as faults
-use Rattle.dict_tree.specs.declared.version.Version.{Version}
-use Rattle.dict_tree.specs.declared.version.Version.TheVariants as versions
+use Rattle.fact_json.specs.declared.version.Version.{Version}
+use Rattle.fact_json.specs.declared.version.Version.TheVariants as versions
 
 -- ---- enums
 

@@ -6,18 +6,18 @@ use Rattle.serde_json.specs.Find.{as_str, as_array, as_object, get}
 use Rattle.serde_json.specs.Read.{read}
 use Rattle.fact_paths.specs.Parsing.{name_of}
 use Rattle.value_text.specs.Enums.{Listed, are_distinct, names_of}
-use Rattle.dict_tree.specs.Tables.{LookupTable}
+use Rattle.dict_source.specs.Tables.{LookupTable}
 use Rattle.dict_tree.specs.TableParsing.{tables_in}
-use Rattle.dict_tree.specs.Facts.{Fact, fact_view}
-use Rattle.dict_tree.specs.FactParsing.{has_no_other, text_at, is_optional_text, fact_of}
-use Rattle.dict_tree.specs.Dictionary.{Dictionary, too_many, too_deep}
-use Rattle.dict_tree.specs.Versions.{version_of}
+use Rattle.dict_source.specs.Facts.{Fact, fact_view}
+use Rattle.fact_json.specs.FactParsing.{has_no_other, text_at, is_optional_text, fact_of}
+use Rattle.dict_source.specs.Dictionary.{Dictionary, too_many, too_deep}
+use Rattle.fact_json.specs.Versions.{version_of}
 use Rattle.dict_tree.specs.DictJson.{enum_keys, top_keys, ValueGives}
 use Rattle.dict_tree.specs.declared.dict_json.Found.{Found}
 use Rattle.dict_tree.specs.declared.enums_json.EnumSource.{EnumSource}
 use Rattle.dict_tree.specs.declared.fault.TreeFault.{TreeFault}
 use Rattle.dict_tree.specs.declared.fault.TreeFault.TheVariants as faults
-use Rattle.dict_tree.specs.declared.version.Version.{Version}
+use Rattle.fact_json.specs.declared.version.Version.{Version}
 
 -- ---- enums
 

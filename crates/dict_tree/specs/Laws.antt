@@ -1,46 +1,16 @@
--- Laws of reading and spelling.
+-- Laws of reading and spelling lists of options, tables and dictionaries.
 use Rattle.std.specs.Prelude.{◌≡◌, List, Some, Result}
 use Rattle.serde_json.specs.Data.{Data}
 use Rattle.value_text.specs.Enums.{Listed}
-use Rattle.dict_tree.specs.Tree.{Source}
-use Rattle.dict_tree.specs.Json.{Spells}
-use Rattle.dict_tree.specs.FactJson.{SpellsFact}
 use Rattle.dict_tree.specs.DictJson.{SpellsEnum, ValueGives}
-use Rattle.dict_tree.specs.Parsing.{tree_of}
-use Rattle.dict_tree.specs.Tables.{LookupTable}
+use Rattle.dict_source.specs.Tables.{LookupTable}
 use Rattle.dict_tree.specs.TableJson.{SpellsTable}
 use Rattle.dict_tree.specs.TableParsing.{table_of}
-use Rattle.dict_tree.specs.Facts.{Fact}
-use Rattle.dict_tree.specs.Forms.{IsWellFormed}
-use Rattle.dict_tree.specs.FactParsing.{fact_of}
-use Rattle.dict_tree.specs.Dictionary.{Dictionary}
+use Rattle.dict_source.specs.Dictionary.{Dictionary}
 use Rattle.dict_tree.specs.DictParsing.{enum_of, dictionary_of}
 use Rattle.dict_tree.specs.declared.fault.TreeFault.{TreeFault}
-use Rattle.dict_tree.specs.declared.version.Version.{Version}
 
--- ---- expressions
-
--- an expression that is read is spelled
-abbrev pub ReadIsSpelled : Type 0
-ReadIsSpelled = (tables : List LookupTable) (d : Data) (t : Source) → tree_of tables d ≡ Some t → Spells tables d t
-
--- an expression that is spelled is read
-abbrev pub SpelledIsRead : Type 0
-SpelledIsRead = (tables : List LookupTable) (d : Data) (t : Source) → Spells tables d t → tree_of tables d ≡ Some t
-
--- ---- facts and enums
-
--- a fact that is read is well formed
-abbrev pub ReadIsWellFormed : Type 0
-ReadIsWellFormed = (version : Version) (tables : List LookupTable) (d : Data) (f : Fact) → fact_of version tables d ≡ Some f → IsWellFormed tables f
-
--- a fact that is read is spelled
-abbrev pub ReadFactIsSpelled : Type 0
-ReadFactIsSpelled = (version : Version) (tables : List LookupTable) (d : Data) (f : Fact) → fact_of version tables d ≡ Some f → SpellsFact version tables d f
-
--- a fact that is spelled is read
-abbrev pub SpelledFactIsRead : Type 0
-SpelledFactIsRead = (version : Version) (tables : List LookupTable) (d : Data) (f : Fact) → SpellsFact version tables d f → fact_of version tables d ≡ Some f
+-- ---- lists of options and tables
 
 -- a list of options that is read is spelled
 abbrev pub ReadEnumIsSpelled : Type 0

@@ -10,10 +10,10 @@ use Rattle.law_arithmetic.specs.declared.table.Row.{Row}
 use Rattle.law_arithmetic.specs.Tables.{key_of}
 use Rattle.value_text.specs.Enums.{Listed, are_distinct, list_place}
 use Rattle.value_text.specs.Values.{value_at}
-use Rattle.dict_tree.specs.Facts.{Stated, scalar, enum_of, writable_list, list_of, item_of}
-use Rattle.dict_tree.specs.Forms.{IsWritableType}
-use Rattle.dict_tree.specs.FactJson.{AreSpelled, IsObjectOf, IsOptionalText, IsNamed, scalar_text, stated_text}
-use Rattle.dict_tree.specs.Tables.{LookupTable, is_lookup_table, table_names}
+use Rattle.dict_source.specs.Facts.{Stated, scalar, enum_of, writable_list, list_of, item_of}
+use Rattle.dict_source.specs.Forms.{IsWritableType}
+use Rattle.fact_json.specs.FactJson.{AreSpelled, IsObjectOf, IsOptionalText, IsNamed, scalar_text, stated_text}
+use Rattle.dict_source.specs.Tables.{LookupTable, is_lookup_table, table_names}
 
 abbrev pub table_keys : List (List ℕ)
 table_keys = codes "name" ∷ codes "from" ∷ codes "to" ∷ codes "rows" ∷ codes "else" ∷ codes "description" ∷ []

@@ -5,18 +5,17 @@ use Rattle.serde_json.specs.Find.{as_array, as_object, get}
 use Rattle.fact_paths.specs.Parsing.{name_of}
 use Rattle.fact_values.specs.declared.fact_type.FactType.{FactType}
 use Rattle.fact_values.specs.declared.fact_type.FactType.TheVariants as types
-use Rattle.fact_values.specs.declared.value.Value.{Value}
 use Rattle.law_arithmetic.specs.declared.table.Row.{Row}
 use Rattle.law_arithmetic.specs.Tables.{key_of}
 use Rattle.value_text.specs.Enums.{Listed, are_distinct, list_place}
 use Rattle.value_text.specs.Values.{value_at}
-use Rattle.dict_tree.specs.Facts.{Stated, scalar, enum_of, writable_list, list_of, item_of}
-use Rattle.dict_tree.specs.FactParsing.{has_no_other, is_optional_text, text_at}
-use Rattle.dict_tree.specs.Names.{under_name}
-use Rattle.dict_tree.specs.Parsing.{two_texts}
-use Rattle.dict_tree.specs.StatedParsing.{writable_stated}
+use Rattle.dict_source.specs.Facts.{Stated, scalar, enum_of, writable_list, list_of, item_of}
+use Rattle.fact_json.specs.FactParsing.{has_no_other, is_optional_text, text_at}
+use Rattle.fact_json.specs.Names.{under_name}
+use Rattle.fact_json.specs.Parsing.{two_texts}
+use Rattle.fact_json.specs.StatedParsing.{writable_stated}
 use Rattle.dict_tree.specs.TableJson.{table_keys}
-use Rattle.dict_tree.specs.Tables.{LookupTable, is_lookup_table, table_names}
+use Rattle.dict_source.specs.Tables.{LookupTable, if_table, table_names, table_with_rows}
 
 -- ---- types
 
@@ -54,13 +53,6 @@ row_list enums from to no_items = Some []
 row_list enums from to (item d ds) = option_and_then (λ row. option_map (λ rows. row ∷ rows) (row_list enums from to ds)) (row_of enums from to d)
 
 -- ---- a table
-
--- where its keys rise, and its values are of its type
-abbrev pub if_table : LookupTable → Option LookupTable
-if_table t = if is_lookup_table t then Some t else None
-
-abbrev pub table_with_rows : List ℕ → FactType → FactType → List Row → Value → LookupTable
-table_with_rows name from to rows below = record { name = name; from = from; to = to; rows = rows; below = below }
 
 -- of these types
 unfoldable pub typed_table : List Listed → Data → List ℕ → FactType → FactType → Option LookupTable

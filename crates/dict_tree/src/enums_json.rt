@@ -4,12 +4,12 @@ ghost use Rattle.serde_json.specs.Find.{as_str, as_array};
 ghost use Rattle.serde_json.specs.View.{view as json, items_view, members_view};
 ghost use Rattle.fact_paths.specs.Parsing.{name_of};
 ghost use Rattle.value_text.specs.Enums.{are_distinct as distinct, is_among as among, names_of};
-ghost use Rattle.dict_tree.specs.Parsing.{Gives};
-ghost use Rattle.dict_tree.specs.FactParsing.{text_at};
+ghost use Rattle.dict_source.specs.Parts.{Gives};
+ghost use Rattle.fact_json.specs.FactParsing.{text_at};
 ghost use Rattle.dict_tree.specs.DictParsing.{listed_view, name_list, enum_of, enum_with, enum_list, enums_in, if_sound};
 
-use crate::fault::ReadFault;
-use crate::members::{has_no_other, text_under};
+use dict_source::ReadFault;
+use fact_json::{has_no_other, text_under};
 use fact_paths::{Name, PathFault};
 use indexmap::IndexSet;
 use serde_json::{Map, Value};

@@ -1,7 +1,6 @@
 // Why bytes spell no dictionary.
 ghost use Rattle.std.specs.Prelude.{◌≡◌};
 ghost use Rattle.dict_tree.specs.declared.fault.TreeFault.TheVariants.{NoMemory};
-ghost use Rattle.dict_tree.specs.declared.fault.ReadFault.TheVariants as read_faults;
 
 use std::alloc::{AllocError, AllocFailed};
 
@@ -35,30 +34,5 @@ impl<T: Drop> From<AllocFailed<T>> for TreeFault {
 
     fn from(_error: AllocFailed<T>) -> TreeFault {
         TreeFault::NoMemory
-    }
-}
-
-/// Why a JSON value gives no part of a dictionary.
-#[derive(Clone, Copy, Debug, PartialEq, Eq)]
-pub enum ReadFault {
-    /// The value isn't of the form.
-    Shape,
-    /// There was no memory left.
-    NoMemory,
-}
-
-impl From<AllocError> for ReadFault {
-    ghost from_gives = { λ _ fault. fault ≡ read_faults.NoMemory };
-
-    fn from(_error: AllocError) -> ReadFault {
-        ReadFault::NoMemory
-    }
-}
-
-impl<T: Drop> From<AllocFailed<T>> for ReadFault {
-    ghost from_gives = { λ _ fault. fault ≡ read_faults.NoMemory };
-
-    fn from(_error: AllocFailed<T>) -> ReadFault {
-        ReadFault::NoMemory
     }
 }

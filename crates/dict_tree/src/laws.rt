@@ -1,22 +1,5 @@
 // Laws of reading and spelling. Each function's contract is its laws.
-ghost use Rattle.dict_tree.specs.Laws.{GivenIsRead, ReadEnumIsSpelled, ReadFactIsSpelled, ReadIsGiven, ReadIsSpelled, ReadIsWellFormed, ReadTableIsSpelled, SpelledEnumIsRead, SpelledFactIsRead, SpelledIsRead, SpelledTableIsRead};
-
-/// An expression is read of a JSON value exactly where the value spells it.
-pub fn expressions_are_spelled()
-    ensures spelled { ReadIsSpelled }
-    ensures read { SpelledIsRead }
-{}
-
-/// A fact is read of a JSON value exactly where the value spells it.
-pub fn facts_are_spelled()
-    ensures spelled { ReadFactIsSpelled }
-    ensures read { SpelledFactIsRead }
-{}
-
-/// A fact that is read of a JSON value is well formed.
-pub fn facts_are_well_formed()
-    ensures { ReadIsWellFormed }
-{}
+ghost use Rattle.dict_tree.specs.Laws.{GivenIsRead, ReadEnumIsSpelled, ReadIsGiven, ReadTableIsSpelled, SpelledEnumIsRead, SpelledTableIsRead};
 
 /// A list of options is read of a JSON value exactly where the value spells it.
 pub fn enums_are_spelled()

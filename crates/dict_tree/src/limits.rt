@@ -1,15 +1,14 @@
 // Whether a dictionary is within its limits.
 ghost use Rattle.std.specs.Prelude.{[], ◌≡◌, ◌+◌, ◌<◌, ◌≤◌, ◌↔◌, nat_lt, not, length, map, sum_by, count_by, IsTrue, MatchOption, option_map, if◌then◌else◌};
 ghost use Rattle.std.specs.List.{list_any};
-ghost use Rattle.dict_tree.specs.Tree.{size, size_of_trees, size_of_cases, depth as depth_of, depth_of_trees, depth_of_cases};
-ghost use Rattle.dict_tree.specs.View.{view, trees_view, cases_view};
-ghost use Rattle.dict_tree.specs.Facts.{fact_view, fact_size, fact_within, conditional_view, conditional_size, conditional_within, option_size, option_within};
-ghost use Rattle.dict_tree.specs.Dictionary.{is_collection, number_from, too_many};
+ghost use Rattle.dict_source.specs.Tree.{size, size_of_trees, size_of_cases, depth as depth_of, depth_of_trees, depth_of_cases};
+ghost use Rattle.dict_source.specs.View.{view, trees_view, cases_view};
+ghost use Rattle.dict_source.specs.Facts.{fact_view, fact_size, fact_within, conditional_view, conditional_size, conditional_within, option_size, option_within};
+ghost use Rattle.dict_source.specs.Dictionary.{is_collection, number_from, too_many};
 ghost use Rattle.dict_tree.specs.DictParsing.{listed_view, dictionary_with};
 
 use crate::enums_json::EnumSource;
-use crate::expr::{Case, Expr};
-use crate::fact_source::{Conditional, FactSource, TypeText};
+use dict_source::{Case, Conditional, Expr, FactSource, TypeText};
 
 const MOST_FACTS: usize = 2_000;
 
@@ -27,7 +26,7 @@ const DEEPEST: u32 = 48;
 
 // ---- nodes: what is left of a number after the nodes of a part, or None where they are more
 
-#[tactic(auto, using(crate::proofs::Views::views))]
+#[tactic(auto, using(dict_source::proofs::Views::views))]
 #[cycle(spend)]
 fn spend(expr: &Expr, left: u32) -> Option<u32>
     ensures { MatchOption result (left < size (view expr.now)) (λ rest. rest + size (view expr.now) ≡ left) }
@@ -114,7 +113,7 @@ fn has_many_nodes(facts: &[FactSource]) -> bool
 
 // ---- depth
 
-#[tactic(auto, using(crate::proofs::Views::views))]
+#[tactic(auto, using(dict_source::proofs::Views::views))]
 #[cycle(within)]
 fn is_within(expr: &Expr, most: u32) -> bool
     ensures { IsTrue result ↔ (depth_of (view expr.now) ≤ most) }

@@ -6,29 +6,29 @@ use Rattle.std.proofs.lemmas.Bool.{true≢false}
 use Rattle.std.proofs.lemmas.List.{length-map}
 use Rattle.fact_values.specs.declared.fact_type.FactType.{FactType}
 use Rattle.fact_values.specs.declared.fact_type.FactType.TheVariants.{Boolean}
-use Rattle.dict_tree.specs.Tree.{Source, SourceCase, size}
-use Rattle.dict_tree.specs.OperandTypes.{same_type}
-use Rattle.dict_tree.specs.Typing.{HasType}
-use Rattle.dict_tree.specs.Facts.{Fact, fact_view, option_size, conditional_size}
-use Rattle.dict_tree.specs.Dictionary.{Dictionary, Written, dictionary_view}
-use Rattle.dict_types.specs.declared.fault.TypeFault.{TypeFault}
-use Rattle.dict_types.specs.declared.fault.TypeFault.TheVariants as faults
+use Rattle.dict_source.specs.Tree.{Source, SourceCase, size}
+use Rattle.dict_source.specs.OperandTypes.{same_type}
+use Rattle.dict_source.specs.Typing.{HasType}
+use Rattle.dict_source.specs.Facts.{Fact, fact_view, option_size, conditional_size}
+use Rattle.dict_source.specs.Dictionary.{Dictionary, Written, dictionary_view}
+use Rattle.dict_rules.specs.declared.fault.TypeFault.{TypeFault}
+use Rattle.dict_rules.specs.declared.fault.TypeFault.TheVariants as faults
 use Rattle.dict_types.specs.declared.limit.Limit.{Limit}
-use Rattle.dict_types.specs.declared.rules.Rule.{Rule}
+use Rattle.dict_rules.specs.declared.rules.Rule.{Rule}
 use Rattle.dict_types.specs.BadLimit.{fact_limits}
-use Rattle.dict_types.specs.Constants.{fact_values}
+use Rattle.node_types.specs.Constants.{fact_values}
 use Rattle.dict_types.specs.DictFaults.{AreKept, AreLimits, AreTypedFacts, HaveWanted, IsFaultOf, IsFirstBadLimit, IsFirstBroken, IsFirstFault, IsFirstIllTyped, IsFirstNode, IsFirstOf, IsTypedDictionary, IsTypedFact, Part, conditional_parts, fact_parts, option_parts}
-use Rattle.dict_types.specs.FactTyping.{conditional_as, expr_as, fact_typed, nodes_as, option_as, root_as, types_in}
-use Rattle.dict_types.specs.Inferring.{◌>>=◌, type_of}
-use Rattle.dict_types.specs.NodeFaults.{SourceTypes}
-use Rattle.dict_types.specs.Rules.{breaks, fault_of, first_breaking, first_fault as fault_by_rules, rule_order}
-use Rattle.dict_types.specs.StatedTypes.{stated_type}
+use Rattle.node_types.specs.FactTyping.{conditional_as, expr_as, fact_typed, nodes_as, option_as, root_as, types_in}
+use Rattle.node_types.specs.Inferring.{◌>>=◌, type_of}
+use Rattle.node_types.specs.NodeFaults.{SourceTypes}
+use Rattle.dict_rules.specs.Rules.{breaks, fault_of, first_breaking, first_fault as fault_by_rules, rule_order}
+use Rattle.node_types.specs.StatedTypes.{stated_type}
 use Rattle.dict_types.specs.Typed.{Finds, Refuses, at_fact, limits_of, or_bad_limit, or_fault, typed_dictionary, typed_fact, typed_facts}
 use Rattle.dict_types.specs.TypedParts.{TypedFact, TypedDictionary}
-use Rattle.dict_types.proofs.FaultLaws.{first_fault}
-use Rattle.dict_types.proofs.FirstLaws.{first_is_least, none_is_found}
-use Rattle.dict_types.proofs.InferenceLaws.{bind_err, bind_ok, sound}
-use Rattle.dict_tree.proofs.TypeLaws.{same_is, same_itself}
+use Rattle.node_types.proofs.FaultLaws.{first_fault}
+use Rattle.dict_rules.proofs.FirstLaws.{first_is_least, none_is_found}
+use Rattle.node_types.proofs.InferenceLaws.{bind_err, bind_ok, sound}
+use Rattle.dict_source.proofs.TypeLaws.{same_is, same_itself}
 
 -- ---- results
 

@@ -2,25 +2,25 @@
 use Rattle.std.proofs.Common.{◌≡◌, ◌≢◌, ℕ, zero, suc, ◌+◌, Bool, true, false, List, [], ◌∷◌, Option, Some, None, Result, Ok, Err, inl, inr, refl, sym, ap, ◌∙◌}
 use Rattle.fact_values.specs.declared.fact_type.FactType.{FactType}
 use Rattle.fact_values.specs.declared.value.Value.{Value}
-use Rattle.dict_tree.specs.OperandTypes.{same_type}
-use Rattle.dict_tree.specs.Typing.{HasType}
-use Rattle.dict_tree.specs.Facts.{Fact}
-use Rattle.dict_tree.specs.Dictionary.{Dictionary}
-use Rattle.dict_types.specs.declared.fault.TypeFault.{TypeFault}
+use Rattle.dict_source.specs.OperandTypes.{same_type}
+use Rattle.dict_source.specs.Typing.{HasType}
+use Rattle.dict_source.specs.Facts.{Fact}
+use Rattle.dict_source.specs.Dictionary.{Dictionary}
+use Rattle.dict_rules.specs.declared.fault.TypeFault.{TypeFault}
 use Rattle.dict_types.specs.declared.limit.Limit.{Limit}
-use Rattle.dict_types.specs.declared.rules.Rule.{Rule}
+use Rattle.dict_rules.specs.declared.rules.Rule.{Rule}
 use Rattle.dict_types.specs.DictFaults.{AreKept, AreLimits, AreTypedFacts, HaveWanted, IsFaultOf, IsFirstBadLimit, IsFirstBroken, IsFirstFault, IsFirstIllTyped, IsFirstNode, IsFirstOf, IsTypedDictionary, IsTypedFact, Part, fact_parts}
-use Rattle.dict_types.specs.FactTyping.{expr_as, fact_typed, nodes_as, types_in}
-use Rattle.dict_types.specs.Inferring.{type_of}
-use Rattle.dict_types.specs.NodeFaults.{FirstIn, IsAtFault, SourceTree, SourceTypes, placed}
-use Rattle.dict_types.specs.Rules.{breaks, first_fault as fault_by_rules, rule_order}
+use Rattle.node_types.specs.FactTyping.{expr_as, fact_typed, nodes_as, types_in}
+use Rattle.node_types.specs.Inferring.{type_of}
+use Rattle.node_types.specs.NodeFaults.{FirstIn, IsAtFault, SourceTree, SourceTypes, placed}
+use Rattle.dict_rules.specs.Rules.{breaks, first_fault as fault_by_rules, rule_order}
 use Rattle.dict_types.specs.Typed.{limits_of, typed_dictionary, typed_fact, typed_facts}
 use Rattle.dict_types.specs.TypedParts.{TypedFact, TypedDictionary}
 use Rattle.dict_types.proofs.DictLaws.{fine, failed, kept, nodes_are, parts_as}
-use Rattle.dict_types.proofs.FaultLaws.{first_fault, none_or_first, typed_none}
-use Rattle.dict_types.proofs.FirstLaws.{first_is_least, none_is_found}
-use Rattle.dict_types.proofs.InferenceLaws.{complete, sound}
-use Rattle.dict_tree.proofs.TypeLaws.{same_is, same_itself}
+use Rattle.node_types.proofs.FaultLaws.{first_fault, none_or_first, typed_none}
+use Rattle.dict_rules.proofs.FirstLaws.{first_is_least, none_is_found}
+use Rattle.node_types.proofs.InferenceLaws.{complete, sound}
+use Rattle.dict_source.proofs.TypeLaws.{same_is, same_itself}
 
 -- ---- rules
 

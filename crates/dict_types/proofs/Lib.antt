@@ -1,16 +1,5 @@
 pub mod DictLaws
-pub mod FaultLaws
-pub mod FirstLaws
-pub mod FitLaws
 pub mod FoundLaws
-pub mod InferLaws
-pub mod InferenceLaws
 pub mod LimitLaws
-pub mod OneByOneLaws
-pub mod PlaceLaws
-pub mod ReadLaws
-pub mod RuleLaws
 pub mod SizeLaws
 pub mod UnfitLaws
-pub mod UseLaws
-pub mod ValueLaws

@@ -2,7 +2,7 @@
 use Rattle.std.proofs.Common.{◌≡◌, ℕ, List, [], ◌∷◌, ◌++◌, Option, Some, None, option_map, refl, ap, sym, ◌∙◌, append_assoc}
 use Rattle.std.specs.Prelude.{option_and_then}
 use Rattle.value_text.specs.Enums.{Listed}
-use Rattle.dict_tree.specs.Facts.{Stated, Bound}
+use Rattle.dict_source.specs.Facts.{Stated, Bound}
 use Rattle.dict_types.specs.declared.limit.Limit.{Limit}
 use Rattle.dict_types.specs.BadLimit.{limit_at, limits_at}
 

@@ -3,9 +3,9 @@ use Rattle.std.proofs.Common.{◌≡◌, ℕ, zero, suc, ◌<◌, ◌≤◌, Boo
 use Rattle.std.specs.Prelude.{nat_lt, sum_by}
 use Rattle.std.proofs.lemmas.Bool.{ltb-false}
 use Rattle.std.proofs.lemmas.List.Sums.{sum_by-cons}
-use Rattle.dict_tree.specs.Facts.{fact_size, fact_view}
-use Rattle.dict_tree.specs.Dictionary.{Dictionary, Written, IsValid, dictionary_view, too_many}
-use Rattle.dict_tree.specs.declared.fact_source.FactSource.{FactSource}
+use Rattle.dict_source.specs.Facts.{fact_size, fact_view}
+use Rattle.dict_source.specs.Dictionary.{Dictionary, Written, IsValid, dictionary_view, too_many}
+use Rattle.dict_source.specs.declared.fact_source.FactSource.{FactSource}
 
 size_at : (facts : List FactSource) (i : ℕ) (f : FactSource) → i < length facts → f ≡ get_or facts i f → fact_size (fact_view f) ≤ sum_by fact_size (map fact_view facts)
 size_at [] i f low at = absurd (omega arith)

@@ -12,14 +12,14 @@ use Rattle.fact_values.specs.declared.value.Value.{Value}
 use Rattle.fact_values.specs.declared.value.Value.TheVariants as values
 use Rattle.value_text.specs.Enums.{Listed}
 use Rattle.value_text.specs.Values.{value_at}
-use Rattle.dict_tree.specs.Facts.{Fact, Stated, scalar, Bound, least, greatest, max_length, check}
-use Rattle.dict_tree.specs.Typing.{IsOrdered}
-use Rattle.dict_tree.proofs.MemberLaws.{guarded}
+use Rattle.dict_source.specs.Facts.{Fact, Stated, scalar, Bound, least, greatest, max_length, check}
+use Rattle.dict_source.specs.Typing.{IsOrdered}
+use Rattle.dict_source.proofs.Guards.{guarded}
 use Rattle.dict_types.specs.declared.limit.Limit.{Limit}
 use Rattle.dict_types.specs.declared.limit.Limit.TheVariants as limits
 use Rattle.dict_types.specs.BadLimit.{Fits, HasBadLimit, IsBoundOf, bound_value, fact_limits, has_twice, length_at, limit_at, limits_at, ordered_value, takes_text, value_length}
-use Rattle.dict_types.specs.UnknownCheck.{check_place}
-use Rattle.dict_types.proofs.UseLaws.{Decides-any}
+use Rattle.dict_rules.specs.UnknownCheck.{check_place}
+use Rattle.dict_rules.proofs.UseLaws.{Decides-any}
 
 -- ---- a limit that fits
 

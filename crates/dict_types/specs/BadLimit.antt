@@ -1,5 +1,6 @@
 -- The limits of a fact, and whether they fit it.
-use Rattle.std.specs.Prelude.{◌≡◌, ◌⊎◌, ◌≤◌, ℕ, ℤ, pos, negsuc, Bool, true, false, ◌||◌, IsTrue, nat_le, List, [], ◌∷◌, Option, Some, None, option_map, option_and_then, unwrap_or, Result, Ok, Err, if◌then◌else◌}
+use Rattle.std.specs.Prelude.{◌≡◌, ◌⊎◌, ◌≤◌, ℕ, ℤ, pos, negsuc, Bool, true, false, ◌||◌, IsTrue, is_none, nat_le, List, [], ◌∷◌, Option, Some, None, option_map, option_and_then, unwrap_or, Result, Ok, Err, if◌then◌else◌}
+use Rattle.std.specs.Bool.{Decides}
 use Rattle.std.specs.List.{Any, list_any}
 use Rattle.fact_values.specs.declared.fact_type.FactType.{FactType}
 use Rattle.fact_values.specs.declared.fact_type.FactType.TheVariants as types
@@ -7,13 +8,13 @@ use Rattle.fact_values.specs.declared.value.Value.{Value}
 use Rattle.fact_values.specs.declared.value.Value.TheVariants as values
 use Rattle.value_text.specs.Enums.{Listed}
 use Rattle.value_text.specs.Values.{value_at}
-use Rattle.dict_tree.specs.Facts.{Fact, Stated, scalar, enum_of, writable_list, list_of, item_of, Bound, least, greatest, max_length, check}
-use Rattle.dict_tree.specs.Typing.{IsOrdered}
+use Rattle.dict_source.specs.Facts.{Fact, Stated, scalar, enum_of, writable_list, list_of, item_of, Bound, least, greatest, max_length, check}
+use Rattle.dict_source.specs.Typing.{IsOrdered}
 use Rattle.dict_types.specs.declared.limit.Limit.{Limit}
 use Rattle.dict_types.specs.declared.limit.Limit.TheVariants as limits
 use Rattle.dict_types.specs.declared.bad_limit.LimitFault.{LimitFault}
 use Rattle.dict_types.specs.declared.bad_limit.LimitFault.TheVariants as faults
-use Rattle.dict_types.specs.UnknownCheck.{check_place}
+use Rattle.dict_rules.specs.UnknownCheck.{check_place}
 
 -- ---- values of limits
 
@@ -133,3 +134,9 @@ abbrev pub Gives : {X Y : Type 0} → (X → Y) → Option Y → Result X LimitF
 Gives view wanted (Ok x) = wanted ≡ Some (view x)
 Gives view wanted (Err faults.BadLimit) = wanted ≡ None
 Gives view wanted (Err faults.NoMemory) = Unit {0}
+
+-- ---- a law
+
+-- the test says what the rule says in its own words
+abbrev pub BadLimitsAreByRule : Type 0
+BadLimitsAreByRule = (names : List (List ℕ)) (enums : List Listed) (f : Fact) → Decides (is_none (fact_limits names enums f)) (HasBadLimit enums f)

@@ -2,21 +2,21 @@
 use Rattle.std.specs.Prelude.{◌≡◌, ◌≢◌, ◌⊎◌, ℕ, suc, ◌+◌, List, [], ◌∷◌, ◌++◌, Option, Some, None, Ok, Err}
 use Rattle.fact_values.specs.declared.fact_type.FactType.{FactType}
 use Rattle.fact_values.specs.declared.fact_type.FactType.TheVariants.{Boolean}
-use Rattle.dict_tree.specs.Tree.{Source, SourceCase, size}
-use Rattle.dict_tree.specs.Typing.{HasType}
-use Rattle.dict_tree.specs.Facts.{Fact, option_size, conditional_size}
-use Rattle.dict_tree.specs.Dictionary.{Dictionary}
-use Rattle.dict_types.specs.declared.fault.TypeFault.{TypeFault}
-use Rattle.dict_types.specs.declared.fault.TypeFault.TheVariants as faults
+use Rattle.dict_source.specs.Tree.{Source, SourceCase, size}
+use Rattle.dict_source.specs.Typing.{HasType}
+use Rattle.dict_source.specs.Facts.{Fact, option_size, conditional_size}
+use Rattle.dict_source.specs.Dictionary.{Dictionary}
+use Rattle.dict_rules.specs.declared.fault.TypeFault.{TypeFault}
+use Rattle.dict_rules.specs.declared.fault.TypeFault.TheVariants as faults
 use Rattle.dict_types.specs.declared.limit.Limit.{Limit}
-use Rattle.dict_types.specs.declared.rules.Rule.{Rule}
+use Rattle.dict_rules.specs.declared.rules.Rule.{Rule}
 use Rattle.dict_types.specs.BadLimit.{fact_limits}
-use Rattle.dict_types.specs.Constants.{fact_values}
-use Rattle.dict_types.specs.FactTyping.{types_in}
-use Rattle.dict_types.specs.FirstFact.{Passes, IsFirstPassing}
-use Rattle.dict_types.specs.NodeFaults.{SourceTypes, IsAtFault, FirstIn, placed}
-use Rattle.dict_types.specs.Rules.{breaks, fault_of, rule_order}
-use Rattle.dict_types.specs.StatedTypes.{stated_type}
+use Rattle.node_types.specs.Constants.{fact_values}
+use Rattle.node_types.specs.FactTyping.{types_in}
+use Rattle.dict_rules.specs.FirstFact.{Passes, IsFirstPassing}
+use Rattle.node_types.specs.NodeFaults.{SourceTypes, IsAtFault, FirstIn, placed}
+use Rattle.dict_rules.specs.Rules.{breaks, fault_of, rule_order}
+use Rattle.node_types.specs.StatedTypes.{stated_type}
 use Rattle.dict_types.specs.Typed.{typed_dictionary}
 use Rattle.dict_types.specs.TypedParts.{TypedFact, TypedDictionary}
 

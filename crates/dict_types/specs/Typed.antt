@@ -1,16 +1,16 @@
 -- A dictionary's types, constants and limits, or its first fault of paths, types and limits.
 use Rattle.std.specs.Prelude.{◌≡◌, ℕ, zero, suc, ◌≤◌, List, [], ◌∷◌, length, slice_get, Option, Some, None, option_and_then, Result, Ok, Err, ⊤}
 use Rattle.fact_values.specs.declared.value.Value.{Value}
-use Rattle.dict_tree.specs.Facts.{Fact}
-use Rattle.dict_tree.specs.Dictionary.{Dictionary}
-use Rattle.dict_types.specs.declared.fault.TypeFault.{TypeFault}
-use Rattle.dict_types.specs.declared.fault.TypeFault.TheVariants as faults
+use Rattle.dict_source.specs.Facts.{Fact}
+use Rattle.dict_source.specs.Dictionary.{Dictionary}
+use Rattle.dict_rules.specs.declared.fault.TypeFault.{TypeFault}
+use Rattle.dict_rules.specs.declared.fault.TypeFault.TheVariants as faults
 use Rattle.dict_types.specs.declared.limit.Limit.{Limit}
 use Rattle.dict_types.specs.BadLimit.{fact_limits}
-use Rattle.dict_types.specs.Constants.{fact_values}
-use Rattle.dict_types.specs.FactTyping.{fact_typed}
-use Rattle.dict_types.specs.Inferring.{◌>>=◌}
-use Rattle.dict_types.specs.Rules.{first_fault, rule_order}
+use Rattle.node_types.specs.Constants.{fact_values}
+use Rattle.node_types.specs.FactTyping.{fact_typed}
+use Rattle.node_types.specs.Inferring.{◌>>=◌}
+use Rattle.dict_rules.specs.Rules.{first_fault, rule_order}
 use Rattle.dict_types.specs.TypedParts.{TypedFact, TypedDictionary}
 
 -- ---- facts by number

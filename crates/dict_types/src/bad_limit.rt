@@ -3,13 +3,13 @@ ghost use Rattle.std.specs.Prelude.{◌≡◌, map};
 ghost use Rattle.std.specs.List.{list_any};
 ghost use Rattle.text_checks.specs.Tables.{check_names};
 ghost use Rattle.value_text.specs.Values as values;
-ghost use Rattle.dict_tree.specs.Facts.{fact_view, limit_view, stated_view};
+ghost use Rattle.dict_source.specs.Facts.{fact_view, limit_view, stated_view};
 ghost use Rattle.dict_types.specs.BadLimit.{Gives, bound_value as value_of_bound, fact_limits as limits_of_fact, has_twice as twice, is_again as again, is_greatest as greatest, is_least as least, is_max_length as longest, is_text as text_type, length_at as length_of_text, length_in as length_within, limit_at, limits_at, ordered_value as value_in_order, takes_text as takes, value_length as length_of_value};
 ghost use Rattle.dict_types.specs.declared.bad_limit.LimitFault.TheVariants.{NoMemory};
 
 use crate::limit::Limit;
-use crate::unknown_check::find_check;
-use dict_tree::{FactSource, LimitText, TypeText};
+use dict_rules::find_check;
+use dict_source::{FactSource, LimitText, TypeText};
 use fact_values::{FactType, Value};
 use std::alloc::{AllocError, AllocFailed, Global};
 use text_checks::CheckTable;

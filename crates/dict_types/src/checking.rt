@@ -1,23 +1,20 @@
 // All rules of types in their order: a typed dictionary, or its first fault.
 ghost use Rattle.std.specs.Prelude.{◌≡◌, ◌≤◌, IfErr, IfOk, length};
 ghost use Rattle.text_checks.specs.Tables.{check_names};
-ghost use Rattle.dict_tree.specs.Dictionary.{dictionary_view};
-ghost use Rattle.dict_tree.specs.Facts.{fact_size, fact_view};
+ghost use Rattle.dict_source.specs.Dictionary.{dictionary_view};
+ghost use Rattle.dict_source.specs.Facts.{fact_size, fact_view};
 ghost use Rattle.dict_types.specs.BadLimit.{fact_limits as limits_in};
-ghost use Rattle.dict_types.specs.Rules.{first_fault as fault_by_rules, rule_order};
+ghost use Rattle.dict_rules.specs.Rules.{first_fault as fault_by_rules, rule_order};
 ghost use Rattle.dict_types.specs.DictFaults.{IsFirstFault, IsTypedDictionary};
 ghost use Rattle.dict_types.specs.Typed.{Finds, Refuses, at_fact, limits_of, or_bad_limit, typed_dictionary, typed_fact, typed_facts};
-ghost use Rattle.dict_types.specs.FactTyping.{fact_typed};
+ghost use Rattle.node_types.specs.FactTyping.{fact_typed};
 
 use crate::bad_limit::{LimitFault, fact_limits};
-use crate::constants::fact_values;
-use crate::fact_typing::type_fact;
-use crate::fault::TypeFault;
-use crate::node_fault::NodeFault;
-use crate::rules::{Rule, first_fault};
 use crate::typed::{Limits, Typed, TypedFact};
-use dict_tree::{DictSource, FactSource};
+use dict_rules::{Rule, TypeFault, first_fault};
+use dict_source::{DictSource, FactSource};
 use fact_values::FactType;
+use node_types::{NodeFault, fact_values, type_fact};
 use std::alloc::Global;
 use text_checks::CheckTable;
 

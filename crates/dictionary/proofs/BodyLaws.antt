@@ -5,18 +5,18 @@ use Rattle.std.specs.List.{list_all}
 use Rattle.std.proofs.lemmas.List.{map-append}
 use Rattle.std.proofs.lemmas.List.Folds.{list_all-append}
 use Rattle.fact_paths.specs.declared.use_path.UsePath.{UsePath}
-use Rattle.dict_tree.specs.Tree.{Source, Sources, SourceCase, SourceCases, literal, read, switch, many, one, two, pick, no_trees, tree, no_cases, a_case}
-use Rattle.dict_tree.specs.Facts.{Fact}
-use Rattle.dict_tree.specs.Dictionary.{Dictionary as Tree}
-use Rattle.dict_tree.specs.Finding.{fact_at}
-use Rattle.dict_tree.specs.Mentions.{case_mentions, condition_base, conditional_mentions, is_same, mention_of, mentions, option_mentions, tree_mentions, use_mentions}
-use Rattle.dict_tree.specs.Targets.{targets}
-use Rattle.dict_tree.specs.declared.mentions.Mention.{Mention}
+use Rattle.dict_source.specs.Tree.{Source, Sources, SourceCase, SourceCases, literal, read, switch, many, one, two, pick, no_trees, tree, no_cases, a_case}
+use Rattle.dict_source.specs.Facts.{Fact}
+use Rattle.dict_source.specs.Dictionary.{Dictionary as Tree}
+use Rattle.dict_source.specs.Finding.{fact_at}
+use Rattle.dict_source.specs.Mentions.{case_mentions, condition_base, conditional_mentions, is_same, mention_of, mentions, option_mentions, tree_mentions, use_mentions}
+use Rattle.dict_source.specs.Targets.{targets}
+use Rattle.dict_source.specs.declared.mentions.Mention.{Mention}
 use Rattle.dict_order.specs.Graph.{mentioned}
 use Rattle.dict_order.specs.MentionGraph.{facts_of}
 use Rattle.common_lemmas.proofs.Bools.{and_true}
 use Rattle.evaluation.specs.Order.{has_no_complete_test, is_value_read, reads_pass_in_all, reads_pass_in_cases}
-use Rattle.dictionary.specs.Steady.{bodies_from, body_graph, body_mentions, body_untested, conditional_untested, is_untested, option_untested, steady_over}
+use Rattle.dict_meaning.specs.Steady.{bodies_from, body_graph, body_mentions, body_untested, conditional_untested, is_untested, option_untested, steady_over}
 use Rattle.dictionary.specs.SteadyDependencies.{steady_body, steady_cases, steady_conditional, steady_option, steady_source, steady_target, steady_trees, steady_use}
 
 -- ---- tests in a row

@@ -14,8 +14,8 @@ use Rattle.dict_order.specs.Ranks.{AreRanks, rank_of}
 use Rattle.dict_order.proofs.DictionaryLaws.{length_mention_graph, mentions_facts}
 use Rattle.dict_order.proofs.ListLaws.{at_most_or_above}
 use Rattle.dict_order.proofs.RankLaws.{falls_once}
-use Rattle.dict_tree.specs.Dictionary.{Dictionary as Tree}
-use Rattle.dict_tree.specs.Finding.{IsNumber}
+use Rattle.dict_source.specs.Dictionary.{Dictionary as Tree}
+use Rattle.dict_source.specs.Finding.{IsNumber}
 use Rattle.dictionary.specs.ByRank.{AreByRank}
 
 -- ---- the numbers are sorted before the sort by rank

@@ -7,9 +7,9 @@ use Rattle.serde_json.specs.Find.{get}
 use Rattle.common_lemmas.proofs.Bools.{and_intro, or_neither}
 use Rattle.value_text.specs.Enums.{AreLists, Listed, is_listed}
 use Rattle.dict_tree.specs.DictJson.{SpellEnums, SpellsDictionary, SpellsEnum}
-use Rattle.dict_tree.specs.Dictionary.{Dictionary, IsWithinLimits, is_collection, number_from}
-use Rattle.dict_tree.specs.FactJson.{AreSpelled}
-use Rattle.dict_tree.specs.Facts.{fact_size}
+use Rattle.dict_source.specs.Dictionary.{Dictionary, IsWithinLimits, is_collection, number_from}
+use Rattle.fact_json.specs.FactJson.{AreSpelled}
+use Rattle.dict_source.specs.Facts.{fact_size}
 use Rattle.dict_tree.proofs.EnumJsonLaws.{some_there}
 
 -- the first test of which there are too many isn't the first

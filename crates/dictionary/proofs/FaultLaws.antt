@@ -1,9 +1,9 @@
 -- The faults that the parts of acceptance find are those of the dictionary.
 use Rattle.std.proofs.Common.{◌≡◌, ℕ, List, Ok, sym, subst}
-use Rattle.dict_tree.specs.Dictionary.{Dictionary as Tree}
+use Rattle.dict_source.specs.Dictionary.{Dictionary as Tree}
 use Rattle.dict_tree.specs.DictParsing.{BytesGive}
-use Rattle.dict_types.specs.declared.fault.TypeFault.{TypeFault}
-use Rattle.dict_types.specs.declared.fault.TypeFault.TheVariants as types
+use Rattle.dict_rules.specs.declared.fault.TypeFault.{TypeFault}
+use Rattle.dict_rules.specs.declared.fault.TypeFault.TheVariants as types
 use Rattle.dict_types.specs.DictFaults.{IsFirstFault}
 use Rattle.dict_types.specs.Typed.{Refuses as RefusesTypes}
 use Rattle.dictionary.specs.Faults.{IsFault, IsFaultOf, Refuses, of_types}

@@ -1,13 +1,13 @@
 -- Bytes have one first fault at most, or they spell one dictionary, which has none.
 use Rattle.std.proofs.Common.{◌≡◌, ℕ, ◌<◌, ◌≤◌, List, length, Some, Result, Ok, Err, ◌⊎◌, inl, inr, refl, sym, ap, subst, ◌∙◌, arith}
 use Rattle.serde_json.specs.Data.{Data}
-use Rattle.dict_tree.specs.Dictionary.{Dictionary as Tree}
+use Rattle.dict_source.specs.Dictionary.{Dictionary as Tree}
 use Rattle.dict_tree.specs.DictParsing.{IsJson, IsOfValue, dictionary_of, max_bytes}
 use Rattle.dict_tree.specs.declared.fault.TreeFault.{TreeFault}
 use Rattle.dict_tree.specs.declared.fault.TreeFault.TheVariants as trees
 use Rattle.dict_tree.proofs.DictJsonLaws.{given_read}
-use Rattle.dict_types.specs.declared.fault.TypeFault.{TypeFault}
-use Rattle.dict_types.specs.declared.fault.TypeFault.TheVariants as types
+use Rattle.dict_rules.specs.declared.fault.TypeFault.{TypeFault}
+use Rattle.dict_rules.specs.declared.fault.TypeFault.TheVariants as types
 use Rattle.dict_types.specs.Typed.{typed_dictionary}
 use Rattle.dict_types.specs.TypedParts.{TypedDictionary}
 use Rattle.dict_types.proofs.FoundLaws.{first_is_named, well_typed_is_found}
@@ -15,11 +15,11 @@ use Rattle.dict_order.specs.Graph.{Graph, HasNoCycle, IsFirstCycle}
 use Rattle.dict_order.specs.MentionGraph.{mention_graph}
 use Rattle.dict_order.proofs.ListLaws.{at_most_or_above}
 use Rattle.dict_order.proofs.RankLaws.{no_cycle}
-use Rattle.dictionary.specs.Accepted.{Accepted, IsAccepted}
+use Rattle.dict_meaning.specs.Accepted.{Accepted, IsAccepted}
 use Rattle.dictionary.specs.Faults.{AreAccepted, HasNoFault, IsFault, IsFaultOf, IsFaultOfRead, Refuses, of_trees, of_types}
 use Rattle.dictionary.specs.declared.fault.DictFault.{DictFault}
 use Rattle.dictionary.specs.declared.fault.DictFault.TheVariants as faults
-use Rattle.dictionary.proofs.AcceptedLaws.{one_accepted}
+use Rattle.dict_meaning.proofs.AcceptedLaws.{one_accepted}
 
 -- ---- bytes give one thing
 

@@ -2,17 +2,18 @@
 use Rattle.std.proofs.Common.{◌≡◌, ℕ, zero, suc, ◌<◌, ◌≤◌, Bool, false, List, [], ◌∷◌, length, map, get_or, slice_get, Result, Ok, Err, refl, sym, ap, subst, ◌∙◌, arith}
 use Rattle.std.specs.Prelude.{◌↔◌, option_and_then, unwrap_or, IfErr, IfOk, IsTrue}
 use Rattle.std.proofs.lemmas.List.{get_or_default, length-map}
-use Rattle.dict_tree.specs.Facts.{Fact}
-use Rattle.dict_tree.specs.Dictionary.{Dictionary as Tree}
+use Rattle.dict_source.specs.Facts.{Fact}
+use Rattle.dict_source.specs.Dictionary.{Dictionary as Tree}
 use Rattle.dict_tree.specs.DictParsing.{BytesGive}
-use Rattle.dict_tree.specs.Finding.{IsNumber}
-use Rattle.dict_tree.specs.Targets.{find_global, member_collection}
+use Rattle.dict_source.specs.Finding.{IsNumber}
+use Rattle.dict_source.specs.Targets.{find_global, member_collection}
 use Rattle.dict_order.specs.Ranks.{rank_of}
 use Rattle.dict_order.proofs.DictionaryLaws.{few_facts, length_mention_graph}
-use Rattle.dictionary.specs.Accepted.{Accepted, IsAccepted, Kept, Named, accepted, names_of}
+use Rattle.dict_meaning.specs.Accepted.{Accepted, IsAccepted}
+use Rattle.dictionary.specs.Kept.{Kept, Named, accepted, names_of}
 use Rattle.dictionary.specs.Faults.{IsFault, IsFaultOf, Refuses}
-use Rattle.dictionary.specs.Homes.{fact_home, home, homes}
-use Rattle.dictionary.specs.Steady.{steady_by_rank}
+use Rattle.dict_meaning.specs.Homes.{fact_home, home, homes}
+use Rattle.dict_meaning.specs.Steady.{steady_by_rank}
 use Rattle.dictionary.specs.SteadyDependencies.{TellsSteady, known_at}
 use Rattle.dictionary.specs.declared.fault.DictFault.{DictFault}
 use Rattle.dictionary.proofs.FaultLaws.{refused_read}

@@ -2,18 +2,18 @@
 use Rattle.std.proofs.Common.{◌≡◌, ℕ, zero, suc, ◌+◌, ◌-◌, ◌<◌, ◌≤◌, Bool, false, List, length, get_or, set, refl, sym, ap, ◌∙◌, inl, inr, arith}
 use Rattle.std.proofs.lemmas.Bool.{cases_eq}
 use Rattle.std.proofs.lemmas.List.{get_or-set_same, get_or-set_other}
-use Rattle.dict_tree.specs.Dictionary.{Dictionary as Tree}
-use Rattle.dict_tree.specs.Finding.{fact_at}
+use Rattle.dict_source.specs.Dictionary.{Dictionary as Tree}
+use Rattle.dict_source.specs.Finding.{fact_at}
 use Rattle.dict_order.specs.Graph.{Mentions}
 use Rattle.dict_order.specs.MentionGraph.{mention_graph}
 use Rattle.dict_order.specs.Ranks.{AreRanks}
 use Rattle.dictionary.specs.ByRank.{AreByRank}
-use Rattle.dictionary.specs.Steady.{body_graph, steady_by_rank}
+use Rattle.dict_meaning.specs.Steady.{body_graph, steady_by_rank}
 use Rattle.dictionary.specs.SteadyDependencies.{TellsSteady, known_at, steady_body}
 use Rattle.dictionary.proofs.BodyLaws.{steady_body_is}
 use Rattle.dict_order.proofs.DictionaryLaws.{length_mention_graph}
 use Rattle.dictionary.proofs.ByRankLaws.{mentioned_first, place_of_fact}
-use Rattle.dictionary.proofs.SteadyLaws.{body_mentioned, step_from}
+use Rattle.dict_meaning.proofs.SteadyLaws.{body_mentioned, step_from}
 
 -- ---- what is written is known
 

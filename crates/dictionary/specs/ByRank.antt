@@ -5,7 +5,7 @@ use Rattle.std.specs.List.Sorted.{IsPermutation}
 use Rattle.dict_order.specs.Graph.{Mentions}
 use Rattle.dict_order.specs.MentionGraph.{mention_graph}
 use Rattle.dict_order.specs.Ranks.{rank_of}
-use Rattle.dictionary.specs.Accepted.{Accepted, IsAccepted}
+use Rattle.dict_meaning.specs.Accepted.{Accepted, IsAccepted}
 
 -- each fact stands once in the list, by rising rank, and those of one rank by rising number
 pub record AreByRank (ranks list : List ℕ) : Type 0 where

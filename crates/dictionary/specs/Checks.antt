@@ -1,9 +1,9 @@
 -- Checks by name and code, and whether a dictionary names any.
 use Rattle.std.specs.Prelude.{◌==◌, ◌&&◌, Bool, true, false, List, [], ◌∷◌, bytes_eq}
 use Rattle.std.specs.List.{list_any}
-use Rattle.dict_tree.specs.Dictionary.{Dictionary as Tree}
-use Rattle.dict_tree.specs.Facts.{Bound, Fact, least, greatest, max_length, check}
-use Rattle.dictionary.specs.Accepted.{Named}
+use Rattle.dict_source.specs.Dictionary.{Dictionary as Tree}
+use Rattle.dict_source.specs.Facts.{Bound, Fact, least, greatest, max_length, check}
+use Rattle.dictionary.specs.Kept.{Named}
 
 abbrev pub is_check : Bound → Bool
 is_check (least text) = false

@@ -2,9 +2,9 @@
 use Rattle.std.specs.Prelude.{◌≡◌, ℕ, ◌+◌, IsTrue}
 use Rattle.fact_values.specs.declared.slot.Slot.{Slot}
 use Rattle.answers.specs.Answered.{Answered}
-use Rattle.dictionary.specs.Accepted.{Accepted}
-use Rattle.dictionary.specs.Slots.{stands}
-use Rattle.dictionary.specs.Touched.{stamped, touched_count}
+use Rattle.dict_meaning.specs.Accepted.{Accepted}
+use Rattle.dict_meaning.specs.Slots.{stands}
+use Rattle.dict_meaning.specs.Touched.{stamped, touched_count}
 
 -- how many changes were made; of each slot that stands, the number of the last change that touched it, and 0 if none did; how
 -- many slots the last change touched

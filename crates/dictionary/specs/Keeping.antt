@@ -1,11 +1,12 @@
 -- What every `Dictionary` keeps.
 use Rattle.std.specs.Prelude.{◌≡◌, ℕ, List, sum_by}
-use Rattle.dict_tree.specs.Dictionary.{Dictionary as Tree}
-use Rattle.dict_tree.specs.Facts.{fact_size}
-use Rattle.dictionary.specs.Accepted.{IsAccepted, Kept, accepted, names_of}
+use Rattle.dict_source.specs.Dictionary.{Dictionary as Tree}
+use Rattle.dict_source.specs.Facts.{fact_size}
+use Rattle.dict_meaning.specs.Accepted.{IsAccepted}
+use Rattle.dictionary.specs.Kept.{Kept, accepted, names_of}
 use Rattle.dictionary.specs.ByRank.{AreByRank}
 use Rattle.dictionary.specs.Checks.{has_check}
-use Rattle.dictionary.specs.Homes.{homes}
+use Rattle.dict_meaning.specs.Homes.{homes}
 use Rattle.dictionary.specs.SteadyDependencies.{TellsSteady}
 use Rattle.dictionary.specs.declared.precomputed.Precomputed.{Precomputed}
 

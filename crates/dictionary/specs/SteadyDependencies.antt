@@ -1,14 +1,14 @@
 -- Whether an expression is steady, where a list tells of the facts that it mentions.
 use Rattle.std.specs.Prelude.{◌≡◌, ℕ, zero, suc, ◌&&◌, Bool, true, false, List, length, slice_index_or, Option, Some, None}
 use Rattle.fact_paths.specs.declared.use_path.UsePath.{UsePath}
-use Rattle.dict_tree.specs.Tree.{Source, Sources, SourceCase, SourceCases, literal, read, switch, many, one, two, pick, no_trees, tree, no_cases, a_case}
-use Rattle.dict_tree.specs.Facts.{Fact}
-use Rattle.dict_tree.specs.Dictionary.{Dictionary as Tree}
-use Rattle.dict_tree.specs.Finding.{IsNumber}
-use Rattle.dict_tree.specs.Mentions.{condition_base}
-use Rattle.dict_tree.specs.Targets.{targets}
+use Rattle.dict_source.specs.Tree.{Source, Sources, SourceCase, SourceCases, literal, read, switch, many, one, two, pick, no_trees, tree, no_cases, a_case}
+use Rattle.dict_source.specs.Facts.{Fact}
+use Rattle.dict_source.specs.Dictionary.{Dictionary as Tree}
+use Rattle.dict_source.specs.Finding.{IsNumber}
+use Rattle.dict_source.specs.Mentions.{condition_base}
+use Rattle.dict_source.specs.Targets.{targets}
 use Rattle.evaluation.specs.Order.{is_value_read}
-use Rattle.dictionary.specs.Steady.{steady_by_rank}
+use Rattle.dict_meaning.specs.Steady.{steady_by_rank}
 
 -- what a list tells of the fact with a number: the first is fact 1's
 abbrev pub known_at : List Bool → ℕ → Bool

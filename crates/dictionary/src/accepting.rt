@@ -1,17 +1,19 @@
 // Accepting a dictionary, or naming its first fault.
 ghost use Rattle.std.specs.Prelude.{◌≡◌, IfErr, IfOk};
 ghost use Rattle.text_checks.specs.Tables.{check_names, named_checks};
-ghost use Rattle.dict_tree.specs.Dictionary.{dictionary_view};
+ghost use Rattle.dict_source.specs.Dictionary.{dictionary_view};
 ghost use Rattle.dict_types.specs.DictFaults.{IsTypedDictionary};
 ghost use Rattle.dict_order.specs.MentionGraph.{mention_graph};
 ghost use Rattle.dict_order.specs.Ranks.{AreRanks};
-ghost use Rattle.dictionary.specs.Accepted.{IsAccepted, accepted};
+ghost use Rattle.dict_meaning.specs.Accepted.{IsAccepted};
+ghost use Rattle.dictionary.specs.Kept.{accepted};
 ghost use Rattle.dictionary.specs.Faults.{AreAccepted, IsCycleOf, IsFault, IsFaultOf, Refuses};
 
 use crate::dictionary::Dictionary;
 use crate::fault::{DictFault, fault_of_trees, fault_of_types};
 use dict_order::{OrderFault, order};
-use dict_tree::{DictSource, read};
+use dict_source::DictSource;
+use dict_tree::read;
 use dict_types::{Typed, check};
 use std::alloc::Global;
 use text_checks::CheckTable;

@@ -1,21 +1,22 @@
 // Dictionaries without a fault.
 ghost use Rattle.std.specs.Prelude.{◌≡◌, ◌↔◌, ◌⊎◌, false, length, IfErr, IfOk, IsTrue};
 ghost use Rattle.text_checks.specs.Tables.{check_names, named_checks};
-ghost use Rattle.dict_tree.specs.Dictionary.{dictionary_view};
-ghost use Rattle.dict_tree.specs.Finding.{IsNumber};
+ghost use Rattle.dict_source.specs.Dictionary.{dictionary_view};
+ghost use Rattle.dict_source.specs.Finding.{IsNumber};
 ghost use Rattle.dict_order.specs.Ranks.{rank_of};
-ghost use Rattle.dictionary.specs.Accepted.{IsAccepted, accepted, names_of};
+ghost use Rattle.dict_meaning.specs.Accepted.{IsAccepted};
+ghost use Rattle.dictionary.specs.Kept.{accepted, names_of};
 ghost use Rattle.dictionary.specs.ByRank.{AreByRank};
 ghost use Rattle.dictionary.specs.Checks.{has_check};
-ghost use Rattle.dictionary.specs.Homes.{home};
+ghost use Rattle.dict_meaning.specs.Homes.{home};
 ghost use Rattle.dictionary.specs.Keeping.{node_count};
-ghost use Rattle.dictionary.specs.Steady.{IsSteady, steady};
+ghost use Rattle.dict_meaning.specs.Steady.{IsSteady, steady};
 ghost use Rattle.dictionary.specs.declared.fault.DictFault.TheVariants.{NoMemory};
 
 use crate::fault::DictFault;
 use crate::kept_check::{KeptCheck, are_of_table, keep_checks};
 use crate::precomputed::{Precomputed, precompute};
-use dict_tree::DictSource;
+use dict_source::DictSource;
 use dict_types::Typed;
 use std::alloc::Global;
 use std::marker::Model;
@@ -33,8 +34,8 @@ pub struct Dictionary {
 
 impl Model for Dictionary {
     ghost use Rattle.std.specs.Coded.{codes};
-    ghost use Rattle.dict_tree.specs.contracts.fact_source.FactSource as fact;
-    ghost use Rattle.dictionary.specs.Accepted.{Kept};
+    ghost use Rattle.dict_source.specs.contracts.fact_source.FactSource as fact;
+    ghost use Rattle.dictionary.specs.Kept.{Kept};
     ghost use Rattle.dictionary.specs.Keeping.{IsKept};
 
     ghost Value = { Kept };

@@ -4,11 +4,12 @@ ghost use Rattle.fact_values.specs.declared.slot.Slot.{Slot};
 ghost use Rattle.answers.specs.Answered.{Answered};
 ghost use Rattle.answers.specs.Change.{Fits, applied};
 ghost use Rattle.answers.specs.Meaning.{answered, change};
-ghost use Rattle.dictionary.specs.Accepted.{Accepted, accepted};
+ghost use Rattle.dict_meaning.specs.Accepted.{Accepted};
+ghost use Rattle.dictionary.specs.Kept.{accepted};
 ghost use Rattle.dictionary.specs.Engines.{AreFresh, AreMarkedBy, AreSameMarks, Marks};
-ghost use Rattle.dictionary.specs.Fits.{AnswersFit};
-ghost use Rattle.dictionary.specs.Plain.{plain};
-ghost use Rattle.dictionary.specs.Slots.{stands};
+ghost use Rattle.dict_meaning.specs.Fits.{AnswersFit};
+ghost use Rattle.dict_meaning.specs.Plain.{plain};
+ghost use Rattle.dict_meaning.specs.Slots.{stands};
 
 use crate::dictionary::Dictionary;
 use answers::{Answers, Edit};

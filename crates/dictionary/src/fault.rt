@@ -2,8 +2,8 @@
 ghost use Rattle.std.specs.Prelude.{◌≡◌};
 ghost use Rattle.dictionary.specs.Faults.{of_trees, of_types};
 
+use dict_rules::TypeFault;
 use dict_tree::TreeFault;
-use dict_types::TypeFault;
 use thiserror::Error;
 
 /// Why a dictionary is refused: its first fault, by kind in this order. Facts are numbered from 1.

@@ -1,14 +1,15 @@
 // A source that is proved to have no fault.
 ghost use Rattle.std.specs.Prelude.{◌≡◌, [], IfOk};
-ghost use Rattle.dict_tree.specs.Dictionary.{dictionary_view};
-ghost use Rattle.dictionary.specs.Accepted.{IsAccepted, accepted};
+ghost use Rattle.dict_source.specs.Dictionary.{dictionary_view};
+ghost use Rattle.dict_meaning.specs.Accepted.{IsAccepted};
+ghost use Rattle.dictionary.specs.Kept.{accepted};
 ghost use Rattle.dictionary.specs.Faults.{HasNoFault};
 ghost use Rattle.dictionary.specs.declared.fault.DictFault.TheVariants as faults;
 
 use crate::accepting::of_source;
 use crate::dictionary::Dictionary;
 use crate::fault::DictFault;
-use dict_tree::DictSource;
+use dict_source::DictSource;
 use fact_values::NoMemory;
 use std::alloc::Global;
 use text_checks::CheckTable;

@@ -2,12 +2,12 @@
 ghost use Rattle.std.specs.Prelude.{◌≡◌, List, ℕ, option_copied, IfOk, Some};
 ghost use Rattle.answers.specs.Meaning.{answered};
 ghost use Rattle.answers.specs.WellFormed.{FromOne, WellFormed};
-ghost use Rattle.dict_tree.specs.Facts.{stated_view};
+ghost use Rattle.dict_source.specs.Facts.{stated_view};
 ghost use Rattle.fact_values.specs.Members.{IsMemberList};
-ghost use Rattle.dictionary.specs.Plain.{answer_result, given_value, open_list};
+ghost use Rattle.dict_meaning.specs.Plain.{answer_result, given_value, open_list};
 
 use answers::Answers;
-use dict_tree::TypeText;
+use dict_source::TypeText;
 use fact_values::{Members, NoMemory, Slot, Value};
 use std::alloc::Global;
 use three_state::Res;

@@ -1,11 +1,11 @@
 // The collection that each fact belongs to.
 ghost use Rattle.std.specs.Prelude.{◌≡◌, IfOk, option_and_then, unwrap_or};
-ghost use Rattle.dict_tree.specs.Dictionary.{dictionary_view};
-ghost use Rattle.dict_tree.specs.Facts.{fact_view};
-ghost use Rattle.dict_tree.specs.Targets.{find_global, member_collection};
-ghost use Rattle.dictionary.specs.Homes.{fact_home, homes};
+ghost use Rattle.dict_source.specs.Dictionary.{dictionary_view};
+ghost use Rattle.dict_source.specs.Facts.{fact_view};
+ghost use Rattle.dict_source.specs.Targets.{find_global, member_collection};
+ghost use Rattle.dict_meaning.specs.Homes.{fact_home, homes};
 
-use dict_tree::{DictSource, FactSource};
+use dict_source::{DictSource, FactSource};
 use fact_paths::FactPath;
 use fact_values::NoMemory;
 use std::alloc::Global;

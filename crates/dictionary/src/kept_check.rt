@@ -2,10 +2,10 @@
 ghost use Rattle.std.specs.Prelude.{◌≡◌, ◌==◌, ◌<◌, ◌^◌, ℕ, List, length, map, IfOk};
 ghost use Rattle.std.specs.List.{list_any};
 ghost use Rattle.text_checks.specs.Tables.{named_checks};
-ghost use Rattle.dict_tree.specs.Facts.{fact_view, limit_view};
+ghost use Rattle.dict_source.specs.Facts.{fact_view, limit_view};
 ghost use Rattle.dictionary.specs.Checks.{fact_has_check, is_check, same_checks, same_named};
 
-use dict_tree::{FactSource, LimitText};
+use dict_source::{FactSource, LimitText};
 use fact_paths::Name;
 use fact_values::NoMemory;
 use std::alloc::Global;
@@ -20,7 +20,7 @@ pub struct KeptCheck {
 }
 
 impl Model for KeptCheck {
-    ghost use Rattle.dictionary.specs.Accepted.{Named};
+    ghost use Rattle.dictionary.specs.Kept.{Named};
 
     ghost Value = { Named };
 

@@ -1,6 +1,6 @@
 // What is computed of a dictionary once, when it is accepted.
 ghost use Rattle.std.specs.Prelude.{◌≤◌, length, IfOk};
-ghost use Rattle.dict_tree.specs.Dictionary.{dictionary_view};
+ghost use Rattle.dict_source.specs.Dictionary.{dictionary_view};
 ghost use Rattle.dict_order.specs.MentionGraph.{mention_graph};
 ghost use Rattle.dict_order.specs.Ranks.{AreRanks};
 ghost use Rattle.dictionary.specs.Keeping.{IsPrecomputed};
@@ -10,7 +10,7 @@ use crate::homes::homes_of;
 use crate::kept_check::name_checks;
 use crate::sizes::count_nodes;
 use crate::steady::steady_facts;
-use dict_tree::DictSource;
+use dict_source::DictSource;
 use fact_values::NoMemory;
 use std::alloc::Global;
 

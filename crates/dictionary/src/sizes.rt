@@ -1,13 +1,13 @@
 // How many nodes there are.
 ghost use Rattle.std.specs.Prelude.{◌≡◌, ◌+◌, ◌≤◌, map, option_map, sum_by};
-ghost use Rattle.dict_tree.specs.Tree.{size, size_of_cases, size_of_trees};
-ghost use Rattle.dict_tree.specs.View.{cases_view, trees_view, view};
-ghost use Rattle.dict_tree.specs.Facts.{conditional_size, conditional_view, fact_size, fact_view, option_size};
+ghost use Rattle.dict_source.specs.Tree.{size, size_of_cases, size_of_trees};
+ghost use Rattle.dict_source.specs.View.{cases_view, trees_view, view};
+ghost use Rattle.dict_source.specs.Facts.{conditional_size, conditional_view, fact_size, fact_view, option_size};
 
-use dict_tree::{Case, Conditional, Expr, FactSource};
+use dict_source::{Case, Conditional, Expr, FactSource};
 
 #[cycle(sizes)]
-#[tactic(auto, using(dict_tree::proofs::Views::views))]
+#[tactic(auto, using(dict_source::proofs::Views::views))]
 fn with_expr(so_far: u32, expr: &Expr) -> u32
     requires { so_far + size (view expr.now) ≤ 40000 }
     ensures { result ≡ so_far + size (view expr.now) }

@@ -1,8 +1,8 @@
 // The paths of slots, printed.
 ghost use Rattle.std.specs.Prelude.{◌≡◌, ◌+◌, ◌≤◌, ◌++◌, codes, decimal, length, option_map};
 ghost use Rattle.fact_paths.specs.Paths.{slot_path_text};
-ghost use Rattle.dictionary.specs.Accepted.{accepted};
-ghost use Rattle.dictionary.specs.SlotText.{IsSlot, slot_path_of, slot_text, text_of_path};
+ghost use Rattle.dictionary.specs.Kept.{accepted};
+ghost use Rattle.dict_meaning.specs.SlotText.{IsSlot, slot_path_of, slot_text, text_of_path};
 
 use crate::dictionary::Dictionary;
 use fact_paths::{FactPath, Name};

@@ -1,17 +1,17 @@
 // Which facts are steady.
 ghost use Rattle.std.specs.Prelude.{◌≡◌, ◌-◌, ◌<◌, ◌≤◌, ℕ, List, length, slice_index, slice_set, option_map, IfOk};
-ghost use Rattle.dict_tree.specs.Dictionary.{dictionary_view};
-ghost use Rattle.dict_tree.specs.Facts.{conditional_view, fact_view};
-ghost use Rattle.dict_tree.specs.Mentions.{condition_base};
-ghost use Rattle.dict_tree.specs.Finding.{IsNumber, fact_at};
-ghost use Rattle.dict_tree.specs.View.{cases_view, trees_view, use_view, view};
+ghost use Rattle.dict_source.specs.Dictionary.{dictionary_view};
+ghost use Rattle.dict_source.specs.Facts.{conditional_view, fact_view};
+ghost use Rattle.dict_source.specs.Mentions.{condition_base};
+ghost use Rattle.dict_source.specs.Finding.{IsNumber, fact_at};
+ghost use Rattle.dict_source.specs.View.{cases_view, trees_view, use_view, view};
 ghost use Rattle.dict_order.specs.MentionGraph.{mention_graph};
 ghost use Rattle.dict_order.specs.Ranks.{AreRanks};
 ghost use Rattle.evaluation.specs.Order.{is_value_read};
 ghost use Rattle.dictionary.specs.ByRank.{AreByRank};
 ghost use Rattle.dictionary.specs.SteadyDependencies.{TellsSteady, known_at, steady_body, steady_cases, steady_conditional, steady_option, steady_source, steady_target, steady_trees, steady_use};
 
-use dict_tree::{Case, Conditional, DictSource, Expr, FactSource, PathUse, ReadOp};
+use dict_source::{Case, Conditional, DictSource, Expr, FactSource, PathUse, ReadOp};
 use fact_paths::UsePath;
 use fact_values::NoMemory;
 use std::alloc::Global;
@@ -76,7 +76,7 @@ fn reads_value(op: ReadOp) -> bool
 }
 
 #[cycle(steady)]
-#[tactic(auto, using(dict_tree::proofs::Views::views))]
+#[tactic(auto, using(dict_source::proofs::Views::views))]
 fn is_steady(source: &DictSource, known: &[bool], fact: u32, base: u32, expr: &Expr) -> bool
     ensures { result ≡ steady_source (dictionary_view source.now) (known_at known.now) fact base (view expr.now) }
 {

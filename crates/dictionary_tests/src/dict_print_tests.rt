@@ -1,6 +1,7 @@
 //! Tests of `dict_print`: what is printed of a dictionary, and how it is laid out.
 use dict_print::{print, print_facts};
-use dict_tree::{DictSource, TreeFault, read};
+use dict_source::DictSource;
+use dict_tree::{TreeFault, read};
 use std::alloc::Global;
 use std::test::Fail;
 

@@ -2,7 +2,8 @@
 ghost use Rattle.std.specs.Prelude.{◌≡◌, IfSome, length};
 
 use crate::checks::table;
-use dict_tree::{DictSource, read};
+use dict_source::DictSource;
+use dict_tree::read;
 use dict_types::{Limit, Typed, check};
 use fact_values::{FactType, Value, same};
 use std::alloc::Global;

@@ -1,5 +1,5 @@
 //! Tests of `operations` on values that no accepted dictionary has in these places.
-use dict_tree::TwoOp;
+use dict_source::TwoOp;
 use fact_values::{Dollar, Rational, Value, ValueFault, Whole};
 use operations::{CaseStep, ItemStep, case_step, item_step, members, size, two};
 use three_state::{Res, down};

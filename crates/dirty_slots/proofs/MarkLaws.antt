@@ -1,7 +1,9 @@
 -- Slots that have a place, and marks at places.
 use Rattle.std.proofs.Common.{◌≡◌, ℕ, zero, suc, ◌-◌, ◌<◌, ◌≤◌, Bool, true, false, not, ◌&&◌, ◌||◌, nat_eq, nat_lt, IsTrue, [], ◌∷◌, ◌++◌, length, Option, Some, None, refl, sym, ap, subst, ◌∙◌, arith}
 use Rattle.std.specs.List.{slice_get}
+use Rattle.std.proofs.lemmas.Bool.{and_right}
 use Rattle.std.proofs.lemmas.Bool.Decides.{nat_tests}
+use Rattle.common_lemmas.proofs.Bools.{and_true, both_right, or_assoc}
 use Rattle.std.proofs.lemmas.List.Folds.{list_any-append}
 use Rattle.std.specs.Prelude.{if◌then◌else◌, IfNone, IfSome}
 use Rattle.dirty_slots.specs.Places.{AreRising, Each, is_before, marked}
@@ -40,14 +42,6 @@ next_other i = grind (arith, nat_tests)
 
 zero_other : (p : ℕ) → nat_eq 0 (suc p) ≡ false
 zero_other p = grind (arith, nat_tests)
-
-and_all : (b : Bool) → (b && true) ≡ b
-and_all true = refl
-and_all false = refl
-
-and_none : (b : Bool) → (b && false) ≡ false
-and_none true = refl
-and_none false = refl
 
 all_at : (P : DirtySlot → Type 0) (ss : DirtySlots) (p : ℕ) (d : DirtySlot) → Each P ss → slice_get ss p ≡ Some d → P d
 all_at P [] p d all there = absurd cc
@@ -124,24 +118,20 @@ less_there : (a r y : Bool) → (IsTrue a → y ≡ false) → (a || (r && not y
 less_there true r y h = sym (ap not (h refl))
 less_there false r y h = refl
 
-both_second : (a b : Bool) → IsTrue (a && b) → IsTrue b
-both_second true b h = h
-both_second false b h = absurd cc
-
 pub marked_less : (marks fewer : ℕ → Bool) (ss : DirtySlots) (p : ℕ) (dirty : DirtySlot) → AreRising ss → slice_get ss p ≡ Some dirty
     → ((i : ℕ) → fewer i ≡ (marks i && not (nat_eq i p))) → (q : DirtySlot) → is_marked fewer ss q ≡ (is_marked marks ss q && not (dirty_same q dirty))
 marked_less marks fewer [] p dirty rising there is q = absurd cc
 marked_less marks fewer (s ∷ ss) zero dirty rising there is q =
     subst (λ d. is_marked fewer (s ∷ ss) q ≡ (is_marked marks (s ∷ ss) q && not (dirty_same q d))) (some_is there)
-    (rw (is 0 ∙ ap (λ b. marks 0 && not b) zero_same ∙ and_none (marks 0), same_marks (λ i. fewer (suc i)) (λ i. marks (suc i)) ss q (λ i. is (suc i) ∙ ap (λ b. marks (suc i) && not b) (next_other i) ∙ and_all (marks (suc i))))
+    (rw (is 0 ∙ ap (λ b. marks 0 && not b) zero_same ∙ and_right (marks 0) false refl, same_marks (λ i. fewer (suc i)) (λ i. marks (suc i)) ss q (λ i. is (suc i) ∙ ap (λ b. marks (suc i) && not b) (next_other i) ∙ and_true (marks (suc i))))
     (less_here (marks 0) (dirty_same q s) (is_marked (λ i. marks (suc i)) ss q) (none_same (λ i. marks (suc i)) s ss q rising.0)))
   where
     some_is : Some s ≡ Some dirty → s ≡ dirty
     some_is e = cc
 marked_less marks fewer (s ∷ ss) (suc p) dirty rising there is q =
-    rw (is 0 ∙ ap (λ b. marks 0 && not b) (zero_other p) ∙ and_all (marks 0), marked_less (λ i. marks (suc i)) (λ i. fewer (suc i)) ss p dirty rising.1 there (λ i. is (suc i) ∙ ap (λ b. marks (suc i) && not b) (next_same i p)) q)
+    rw (is 0 ∙ ap (λ b. marks 0 && not b) (zero_other p) ∙ and_true (marks 0), marked_less (λ i. marks (suc i)) (λ i. fewer (suc i)) ss p dirty rising.1 there (λ i. is (suc i) ∙ ap (λ b. marks (suc i) && not b) (next_same i p)) q)
     (less_there (marks 0 && dirty_same q s) (is_marked (λ i. marks (suc i)) ss q) (dirty_same q dirty)
-    (λ h. apart q s dirty (all_at (λ t. IsTrue (is_before s t)) ss p dirty rising.0 there) (both_second (marks 0) (dirty_same q s) h)))
+    (λ h. apart q s dirty (all_at (λ t. IsTrue (is_before s t)) ss p dirty rising.0 there) (both_right (marks 0) (dirty_same q s) h)))
 
 pub marked_at : (marks : ℕ → Bool) (ss : DirtySlots) (p : ℕ) (dirty : DirtySlot) → slice_get ss p ≡ Some dirty → marks p ≡ true → is_marked marks ss dirty ≡ true
 marked_at marks [] p dirty there mark = absurd cc
@@ -193,10 +183,6 @@ module _ (marks : ℕ → Bool) (ss others : DirtySlots) where
   placed_added more p dirty there is q =
       waits_either more ss others q ∙ ap (λ b. b || waits others q) (marked_more marks more ss p dirty there is q)
       ∙ or_assoc (dirty_same q dirty) (is_marked marks ss q) (waits others q) ∙ ap (λ b. dirty_same q dirty || b) (sym (waits_either marks ss others q))
-    where
-      or_assoc : (a b c : Bool) → ((a || b) || c) ≡ (a || (b || c))
-      or_assoc true b c = refl
-      or_assoc false b c = refl
 
   -- one more is among the others
   pub other_added : (more : DirtySlots) (dirty q : DirtySlot) → waits more q ≡ (dirty_same q dirty || waits others q)

@@ -1,9 +1,9 @@
 -- What is noted is waits, also once one more waits and noted.
-use Rattle.std.proofs.Common.{◌≡◌, ℕ, zero, suc, Bool, true, false, not, ◌&&◌, ◌||◌, IsTrue, [], ◌∷◌, Option, Some, None, refl, sym, ap, subst, ◌∙◌, ◌⊎◌, inl, inr}
+use Rattle.std.proofs.Common.{◌≡◌, ℕ, zero, suc, not, ◌&&◌, ◌||◌, IsTrue, [], ◌∷◌, Option, Some, None, sym, ap, subst, ◌∙◌, ◌⊎◌, inl, inr}
 use Rattle.std.specs.Prelude.{slice_index_or, slice_set}
 use Rattle.std.proofs.lemmas.Bool.{cases_eq}
 use Rattle.std.proofs.lemmas.List.{get_or-set_other}
-use Rattle.common_lemmas.proofs.Bools.{or_left, or_right}
+use Rattle.common_lemmas.proofs.Bools.{both_left, both_right, or_left, or_right}
 use Rattle.dirty_slots.specs.Waiting.{dirty_same, DirtySlots, is_dirty, is_noted, Notes, NotedWait, waits}
 use Rattle.dirty_slots.specs.declared.dirty_slot.DirtySlot.{DirtySlot}
 use Rattle.dirty_slots.proofs.DirtyLaws.{dirty_turn}
@@ -25,20 +25,12 @@ noted_added old new last dirty wait adds q h = adds q ∙ at (cases_eq q.fact di
     at (inl e) = or_left (dirty_same q dirty) (waits old q) (dirty_turn q dirty ∙ at_written last dirty.fact (Some dirty) q (subst (λ n. IsTrue (is_dirty (slice_index_or (slice_set last dirty.fact (Some dirty)) n None) q)) e h))
     at (inr other) = or_right (dirty_same q dirty) (waits old q) (wait q (sym (elsewhere last dirty.fact (Some dirty) q other) ∙ h))
 
-first_of : (a b : Bool) → IsTrue (a && b) → IsTrue a
-first_of true b h = refl
-first_of false b h = absurd cc
-
-second_of : (a b : Bool) → IsTrue (a && b) → IsTrue b
-second_of true b h = h
-second_of false b h = absurd cc
-
 -- and once one is taken out, and noted no more
 pub noted_less : (old new : DirtySlots) (last fewer : Notes) (dirty : DirtySlot) → NotedWait old last
     → ((q : DirtySlot) → is_noted fewer q ≡ (is_noted last q && not (dirty_same q dirty)))
     → ((q : DirtySlot) → waits new q ≡ (waits old q && not (dirty_same q dirty))) → NotedWait new fewer
 noted_less old new last fewer dirty wait notes takes q h =
     let both = sym (notes q) ∙ h in
-    let waited = wait q (first_of (is_noted last q) (not (dirty_same q dirty)) both) in
-    let other = second_of (is_noted last q) (not (dirty_same q dirty)) both in
+    let waited = wait q (both_left (is_noted last q) (not (dirty_same q dirty)) both) in
+    let other = both_right (is_noted last q) (not (dirty_same q dirty)) both in
     takes q ∙ (λ i. waited i && other i)

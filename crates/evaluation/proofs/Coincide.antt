@@ -1,12 +1,12 @@
 -- Two environments that agree on what an expression reads give it one result, and one weight.
-use Rattle.std.proofs.Common.{◌≡◌, ℕ, suc, true, nat_eq, List, [], ◌∷◌, map, sum_by, Ok, refl, sym, ap, ◌∙◌}
+use Rattle.std.proofs.Common.{◌≡◌, ℕ, suc, nat_eq, List, [], ◌∷◌, map, sum_by, Ok, refl, sym, ap, ◌∙◌}
 use Rattle.std.specs.List.{list_any}
 use Rattle.std.proofs.lemmas.List.Sums.{sum_by-cons}
-use Rattle.std.specs.Cmp.{unsigned_Decides}
+use Rattle.std.proofs.lemmas.Bool.{eq-eqb}
 use Rattle.fact_values.specs.declared.value.Value.TheVariants.{Members}
-use Rattle.dict_tree.specs.Tree.{Tree, literal, read, switch, many, one, two, pick, Trees, no_trees, tree, Cases, no_cases, a_case}
-use Rattle.dict_tree.specs.declared.operators.PickOp.{PickOp}
-use Rattle.dict_tree.specs.declared.operators.PickOp.TheVariants.{Filter, Find}
+use Rattle.dict_source.specs.Tree.{Tree, literal, read, switch, many, one, two, pick, Trees, no_trees, tree, Cases, no_cases, a_case}
+use Rattle.dict_source.specs.declared.operators.PickOp.{PickOp}
+use Rattle.dict_source.specs.declared.operators.PickOp.TheVariants.{Filter, Find}
 use Rattle.three_state.specs.declared.res.Res.{Res}
 use Rattle.three_state.specs.declared.res.Res.TheVariants.{Complete, Placeholder, Incomplete, Fault}
 use Rattle.three_state.specs.Results.{down, filter_members, find_cases, find_member, kept, members_in, members_of, strict, switch_of, through}
@@ -16,11 +16,8 @@ use Rattle.common_lemmas.proofs.Bools.{or_left, or_right}
 
 -- ---- members of a list
 
-nat_eq-self : (m : ℕ) → nat_eq m m ≡ true
-nat_eq-self m = (unsigned_Decides m m).1 refl
-
 pub is_head : (m : ℕ) (ms : List ℕ) → IsIn (m ∷ ms) m
-is_head m ms = or_left (nat_eq m m) (list_any (nat_eq m) ms) (nat_eq-self m)
+is_head m ms = or_left (nat_eq m m) (list_any (nat_eq m) ms) (eq-eqb m m refl)
 
 pub is_behind : (m : ℕ) (ms : List ℕ) (k : ℕ) → IsIn ms k → IsIn (m ∷ ms) k
 is_behind m ms k i = or_right (nat_eq k m) (list_any (nat_eq k) ms) i

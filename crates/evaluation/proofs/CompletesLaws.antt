@@ -6,13 +6,13 @@ use Rattle.fact_values.specs.declared.fact_type.FactType.TheVariants as types
 use Rattle.fact_values.specs.declared.fault.ValueFault.{ValueFault}
 use Rattle.fact_values.specs.declared.value.Value.{Value}
 use Rattle.fact_values.specs.declared.value.Value.TheVariants.{Boolean, Int, Item, Members}
-use Rattle.dict_tree.specs.Tree.{Tree, Trees, Cases, switch, many, one, two, pick}
-use Rattle.dict_tree.specs.declared.operators.ManyOp.{ManyOp}
-use Rattle.dict_tree.specs.declared.operators.ManyOp.TheVariants.{All, Any, Add, Subtract, GreaterOf, LesserOf}
-use Rattle.dict_tree.specs.declared.operators.OneOp.{OneOp}
-use Rattle.dict_tree.specs.declared.operators.TwoOp.{TwoOp}
-use Rattle.dict_tree.specs.declared.operators.PickOp.{PickOp}
-use Rattle.dict_tree.specs.declared.operators.PickOp.TheVariants.{Filter, Find}
+use Rattle.dict_source.specs.Tree.{Tree, Trees, Cases, switch, many, one, two, pick}
+use Rattle.dict_source.specs.declared.operators.ManyOp.{ManyOp}
+use Rattle.dict_source.specs.declared.operators.ManyOp.TheVariants.{All, Any, Add, Subtract, GreaterOf, LesserOf}
+use Rattle.dict_source.specs.declared.operators.OneOp.{OneOp}
+use Rattle.dict_source.specs.declared.operators.TwoOp.{TwoOp}
+use Rattle.dict_source.specs.declared.operators.PickOp.{PickOp}
+use Rattle.dict_source.specs.declared.operators.PickOp.TheVariants.{Filter, Find}
 use Rattle.three_state.specs.declared.res.Res.{Res}
 use Rattle.three_state.specs.declared.res.Res.TheVariants.{Complete, Placeholder, Incomplete, Fault}
 use Rattle.three_state.specs.Laws.{AreComplete}

@@ -1,9 +1,9 @@
 -- From what holds of each thing that an expression names to what it can read from its place.
 use Rattle.std.proofs.Common.{◌≡◌, ℕ, List, [], ◌∷◌, ◌++◌}
-use Rattle.dict_tree.specs.Tree.{Tree, literal, read, switch, many, one, two, pick, Trees, no_trees, tree, Cases, no_cases, a_case}
+use Rattle.dict_source.specs.Tree.{Tree, literal, read, switch, many, one, two, pick, Trees, no_trees, tree, Cases, no_cases, a_case}
 use Rattle.three_state.specs.Order.{Keeps}
 use Rattle.evaluation.specs.Agreement.{Agree, AgreeInAll, AgreeInCases}
-use Rattle.dict_tree.specs.Typing.{HasType, HaveTypes, HaveCaseTypes, Types}
+use Rattle.dict_source.specs.Typing.{HasType, HaveTypes, HaveCaseTypes, Types}
 use Rattle.fact_values.specs.declared.fact_type.FactType.{FactType}
 use Rattle.fact_values.specs.declared.fact_type.FactType.TheVariants as types
 use Rattle.evaluation.specs.ByBases.{AgreeIn, KeepsIn}

@@ -14,7 +14,7 @@ use Rattle.fact_values.specs.declared.fact_type.FactType.TheVariants as types
 use Rattle.fact_values.specs.declared.value.Value.{Value}
 use Rattle.fact_values.specs.Rationals.{IsRational, Ratio}
 use Rattle.fact_values.specs.Values.{order_of, ratio_cmp}
-use Rattle.dict_tree.specs.Typing.{IsOrdered}
+use Rattle.dict_source.specs.Typing.{IsOrdered}
 use Rattle.evaluation.specs.Extremes.{AreOfType, IsAmong, IsNotGreater, IsNotLess}
 use Rattle.evaluation.specs.Mentioned.{AllOf}
 use Rattle.evaluation.specs.Operations.{greater, greatest, least, lesser}

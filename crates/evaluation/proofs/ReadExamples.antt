@@ -3,9 +3,9 @@ use Rattle.std.proofs.Common.{◌≡◌, ℕ, true, false, List, [], ◌∷◌, 
 use Rattle.fact_values.specs.declared.fault.ValueFault.TheVariants.{Overflow}
 use Rattle.fact_values.specs.declared.value.Value.{Value}
 use Rattle.fact_values.specs.declared.value.Value.TheVariants.{Boolean, Members, Item}
-use Rattle.dict_tree.specs.Tree.{Tree, read, switch, many, pick, no_trees, tree, no_cases, a_case}
-use Rattle.dict_tree.specs.declared.operators.ManyOp.TheVariants.{All}
-use Rattle.dict_tree.specs.declared.operators.PickOp.TheVariants.{Filter, Find}
+use Rattle.dict_source.specs.Tree.{Tree, read, switch, many, pick, no_trees, tree, no_cases, a_case}
+use Rattle.dict_source.specs.declared.operators.ManyOp.TheVariants.{All}
+use Rattle.dict_source.specs.declared.operators.PickOp.TheVariants.{Filter, Find}
 use Rattle.three_state.specs.declared.res.Res.{Res}
 use Rattle.three_state.specs.declared.res.Res.TheVariants.{Complete, Placeholder, Incomplete, Fault}
 use Rattle.evaluation.specs.Over.{Env}

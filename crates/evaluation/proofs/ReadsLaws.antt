@@ -3,9 +3,9 @@ use Rattle.std.proofs.Common.{◌≡◌, ℕ, Bool, true, false, ◌||◌, nat_e
 use Rattle.std.specs.List.{list_any, list_all}
 use Rattle.std.proofs.lemmas.Bool.{eqb-true}
 use Rattle.fact_values.specs.declared.value.Value.TheVariants.{Item}
-use Rattle.dict_tree.specs.Tree.{Tree, literal, read, switch, many, one, two, pick, Trees, no_trees, tree, Cases, no_cases, a_case}
-use Rattle.dict_tree.specs.declared.operators.PickOp.{PickOp}
-use Rattle.dict_tree.specs.declared.operators.PickOp.TheVariants.{Filter, Find}
+use Rattle.dict_source.specs.Tree.{Tree, literal, read, switch, many, one, two, pick, Trees, no_trees, tree, Cases, no_cases, a_case}
+use Rattle.dict_source.specs.declared.operators.PickOp.{PickOp}
+use Rattle.dict_source.specs.declared.operators.PickOp.TheVariants.{Filter, Find}
 use Rattle.three_state.specs.declared.res.Res.{Res}
 use Rattle.three_state.specs.declared.res.Res.TheVariants.{Complete, Placeholder, Incomplete, Fault}
 use Rattle.three_state.specs.Results.{down, find_member, members_of, switch_case, switch_of, truth}

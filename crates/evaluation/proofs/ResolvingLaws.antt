@@ -1,6 +1,6 @@
 -- A resolved tree gives what its source gives, weighs as much and reads the same.
 use Rattle.std.proofs.Common.{◌≡◌, ℕ, suc, ◌++◌, sum_by, flat_map, refl, ap, ◌∙◌}
-use Rattle.dict_tree.specs.Tree.{Tree, literal, read, switch, many, one, two, pick, Trees, no_trees, tree, Cases, no_cases, a_case}
+use Rattle.dict_source.specs.Tree.{Tree, literal, read, switch, many, one, two, pick, Trees, no_trees, tree, Cases, no_cases, a_case}
 use Rattle.three_state.specs.Results.{members_of, switch_of}
 use Rattle.evaluation.specs.Over.{Env, over, over_all, over_cases, many_of, one_of, pick_of, weight, weight_of_all, weight_of_cases}
 use Rattle.evaluation.specs.Resolving.{Names, resolved, resolved_all, resolved_cases, resolving_env, resolving_reads}

@@ -2,10 +2,10 @@
 use Rattle.std.proofs.Common.{◌≡◌, ℕ, ℤ, pos, Bool, true, not, ◌&&◌, if◌then◌else◌, List, [], ◌∷◌, filter, refl}
 use Rattle.fact_values.specs.declared.value.Value.{Value}
 use Rattle.fact_values.specs.declared.value.Value.TheVariants.{Boolean, Dollar, Members}
-use Rattle.dict_tree.specs.Tree.{Tree, literal, read, switch, many, one, pick, no_trees, tree, no_cases, a_case}
-use Rattle.dict_tree.specs.declared.operators.ManyOp.TheVariants.{All}
-use Rattle.dict_tree.specs.declared.operators.OneOp.TheVariants.{Not}
-use Rattle.dict_tree.specs.declared.operators.PickOp.TheVariants.{Filter}
+use Rattle.dict_source.specs.Tree.{Tree, literal, read, switch, many, one, pick, no_trees, tree, no_cases, a_case}
+use Rattle.dict_source.specs.declared.operators.ManyOp.TheVariants.{All}
+use Rattle.dict_source.specs.declared.operators.OneOp.TheVariants.{Not}
+use Rattle.dict_source.specs.declared.operators.PickOp.TheVariants.{Filter}
 use Rattle.three_state.specs.declared.res.Res.TheVariants.{Complete}
 use Rattle.evaluation.specs.Over.{over}
 use Rattle.evaluation.specs.Sure.{IsKnown, KnownValues, is_sure, worth}

@@ -7,7 +7,7 @@ use Rattle.std.proofs.lemmas.List.Elements.{All-cons, All-filter, All-head, All-
 use Rattle.fact_values.specs.declared.value.Value.{Value}
 use Rattle.law_arithmetic.specs.declared.table.Row.{Row}
 use Rattle.law_arithmetic.specs.Tables.{has_begun, key_of, last_begun}
-use Rattle.dict_tree.specs.Tables.{LookupTable, table_values, value_for}
+use Rattle.dict_source.specs.Tables.{LookupTable, table_values, value_for}
 
 of_rows : (P : Value → Type 0) (rows : List Row) → All P (map (λ row. row.value) rows) → All (λ row. P row.value) rows
 of_rows P [] h = All-nil (λ (row : Row). P row.value)

@@ -5,15 +5,15 @@ use Rattle.fact_values.specs.declared.fact_type.FactType.{FactType}
 use Rattle.fact_values.specs.declared.fact_type.FactType.TheVariants.{Boolean, Int, Dollar, Rational, Day, Text, Enum, Collection, Item}
 use Rattle.fact_values.specs.declared.value.Value.{Value}
 use Rattle.fact_values.specs.declared.value.Value.TheVariants as values
-use Rattle.dict_tree.specs.OperandTypes.{many_type, one_type}
-use Rattle.dict_tree.specs.Tables.{LookupTable, is_fit}
-use Rattle.dict_tree.specs.Tree.{Tree, Trees, literal, read, switch, many, one, two, pick, no_trees, tree, no_cases, a_case}
-use Rattle.dict_tree.specs.Typing.{HasType, HaveTypes, ReadType, Types}
-use Rattle.dict_tree.specs.declared.operators.ReadOp.TheVariants as read_op
-use Rattle.dict_tree.specs.declared.operators.ManyOp.TheVariants.{All, Add, Subtract, GreaterOf}
-use Rattle.dict_tree.specs.declared.operators.OneOp.TheVariants.{Not, Round, YearOf, MonthOf, DayOf, Lookup}
-use Rattle.dict_tree.specs.declared.operators.TwoOp.TheVariants.{Multiply, Divide, AddDays, AddMonths, AddYears, AgeOn, DaysBetween, RoundUp, RoundDown, Equal, LessThan}
-use Rattle.dict_tree.specs.declared.operators.PickOp.TheVariants.{Filter, Find}
+use Rattle.dict_source.specs.OperandTypes.{many_type, one_type}
+use Rattle.dict_source.specs.Tables.{LookupTable, is_fit}
+use Rattle.dict_source.specs.Tree.{Tree, Trees, literal, read, switch, many, one, two, pick, no_trees, tree, no_cases, a_case}
+use Rattle.dict_source.specs.Typing.{HasType, HaveTypes, ReadType, Types}
+use Rattle.dict_source.specs.declared.operators.ReadOp.TheVariants as read_op
+use Rattle.dict_source.specs.declared.operators.ManyOp.TheVariants.{All, Add, Subtract, GreaterOf}
+use Rattle.dict_source.specs.declared.operators.OneOp.TheVariants.{Not, Round, YearOf, MonthOf, DayOf, Lookup}
+use Rattle.dict_source.specs.declared.operators.TwoOp.TheVariants.{Multiply, Divide, AddDays, AddMonths, AddYears, AgeOn, DaysBetween, RoundUp, RoundDown, Equal, LessThan}
+use Rattle.dict_source.specs.declared.operators.PickOp.TheVariants.{Filter, Find}
 
 -- ---- expressions whose constants and reads are types themselves, and whose collections are bases.
 -- Each list has two options.

@@ -8,16 +8,16 @@ use Rattle.fact_values.specs.declared.fault.ValueFault.{ValueFault}
 use Rattle.fact_values.specs.declared.value.Value.{Value}
 use Rattle.fact_values.specs.declared.value.Value.TheVariants.{Boolean, Int, Members, Item}
 use Rattle.fact_values.specs.Members.{IsMemberList, is_member}
-use Rattle.dict_tree.specs.Tree.{Tree, literal, read, switch, many, one, two, pick, Trees, no_trees, tree, Cases, no_cases, a_case}
-use Rattle.dict_tree.specs.declared.operators.ManyOp.{ManyOp}
-use Rattle.dict_tree.specs.declared.operators.ManyOp.TheVariants.{All, Any, Add, Subtract, GreaterOf, LesserOf}
-use Rattle.dict_tree.specs.declared.operators.OneOp.{OneOp}
-use Rattle.dict_tree.specs.declared.operators.TwoOp.{TwoOp}
-use Rattle.dict_tree.specs.declared.operators.PickOp.{PickOp}
-use Rattle.dict_tree.specs.declared.operators.PickOp.TheVariants.{Filter, Find}
-use Rattle.dict_tree.specs.Tables.{LookupTable}
-use Rattle.dict_tree.specs.OperandTypes.{many_type, one_type, pick_type, two_type}
-use Rattle.dict_tree.specs.Typing.{HasType, HaveTypes, HaveCaseTypes, IsSummed, Types}
+use Rattle.dict_source.specs.Tree.{Tree, literal, read, switch, many, one, two, pick, Trees, no_trees, tree, Cases, no_cases, a_case}
+use Rattle.dict_source.specs.declared.operators.ManyOp.{ManyOp}
+use Rattle.dict_source.specs.declared.operators.ManyOp.TheVariants.{All, Any, Add, Subtract, GreaterOf, LesserOf}
+use Rattle.dict_source.specs.declared.operators.OneOp.{OneOp}
+use Rattle.dict_source.specs.declared.operators.TwoOp.{TwoOp}
+use Rattle.dict_source.specs.declared.operators.PickOp.{PickOp}
+use Rattle.dict_source.specs.declared.operators.PickOp.TheVariants.{Filter, Find}
+use Rattle.dict_source.specs.Tables.{LookupTable}
+use Rattle.dict_source.specs.OperandTypes.{many_type, one_type, pick_type, two_type}
+use Rattle.dict_source.specs.Typing.{HasType, HaveTypes, HaveCaseTypes, IsSummed, Types}
 use Rattle.three_state.specs.declared.res.Res.{Res}
 use Rattle.three_state.specs.declared.res.Res.TheVariants.{Complete, Placeholder, Incomplete, Fault}
 use Rattle.three_state.specs.Results.{count_of, down, fault_else, field_operands, fields_in, filter_members, find_member, first_fault, is_complete, is_complete_at, is_incomplete, is_placeholder, is_placeholder_at, is_true, junction, kept, members_in, outcome, strict, switch_case, switch_of, through, truth, value_before, values_of}

@@ -25,15 +25,15 @@ use Rattle.fact_values.specs.Values.{order_of}
 use Rattle.law_arithmetic.specs.Ages.{age_on}
 use Rattle.law_arithmetic.specs.Months.{months_after, years_after}
 use Rattle.law_arithmetic.specs.Multiples.{cents_of, multiple_above, multiple_below, multiple_near, rounded_down, rounded_nearest, rounded_up}
-use Rattle.dict_tree.specs.declared.operators.ManyOp.{ManyOp}
-use Rattle.dict_tree.specs.declared.operators.ManyOp.TheVariants as many_op
-use Rattle.dict_tree.specs.declared.operators.OneOp.{OneOp}
-use Rattle.dict_tree.specs.declared.operators.OneOp.TheVariants as one_op
-use Rattle.dict_tree.specs.declared.operators.TwoOp.{TwoOp}
-use Rattle.dict_tree.specs.declared.operators.TwoOp.TheVariants as two_op
-use Rattle.dict_tree.specs.Tables.{LookupTable, value_for}
-use Rattle.dict_tree.specs.OperandTypes.{between_type, common_type, is_compared, is_ordered, later_day_type, many_type, multiple_type, one_type, product_type, quotient_type, same_type, two_type, type_of_many}
-use Rattle.dict_tree.proofs.TypeLaws.{same_is}
+use Rattle.dict_source.specs.declared.operators.ManyOp.{ManyOp}
+use Rattle.dict_source.specs.declared.operators.ManyOp.TheVariants as many_op
+use Rattle.dict_source.specs.declared.operators.OneOp.{OneOp}
+use Rattle.dict_source.specs.declared.operators.OneOp.TheVariants as one_op
+use Rattle.dict_source.specs.declared.operators.TwoOp.{TwoOp}
+use Rattle.dict_source.specs.declared.operators.TwoOp.TheVariants as two_op
+use Rattle.dict_source.specs.Tables.{LookupTable, value_for}
+use Rattle.dict_source.specs.OperandTypes.{between_type, common_type, is_compared, is_ordered, later_day_type, many_type, multiple_type, one_type, product_type, quotient_type, same_type, two_type, type_of_many}
+use Rattle.dict_source.proofs.TypeLaws.{same_is}
 use Rattle.evaluation.specs.Extremes.{AreOfType}
 use Rattle.evaluation.specs.Operations.{day_in, difference_of, dollar_in, greater, greatest, greatest_of, increment_of, int_in, least, least_of, lesser, many_value, number_in, number_value, one_value, rounded_by, sum_of, to_multiple, total, two_value, value_as}
 use Rattle.evaluation.specs.Typed.{Domains, IsOfType, TablesAreTyped}

@@ -1,10 +1,10 @@
 -- How many nodes are visited, by example.
 use Rattle.std.proofs.Common.{◌≡◌, ℕ, true, false, List, [], ◌∷◌, map, nat_eq, if◌then◌else◌, refl}
 use Rattle.fact_values.specs.declared.value.Value.TheVariants.{Boolean, Members}
-use Rattle.dict_tree.specs.Tree.{many, one, read, switch, pick, no_cases, a_case}
-use Rattle.dict_tree.specs.declared.operators.ManyOp.TheVariants.{All}
-use Rattle.dict_tree.specs.declared.operators.OneOp.TheVariants.{Not}
-use Rattle.dict_tree.specs.declared.operators.PickOp.TheVariants.{Filter, Find}
+use Rattle.dict_source.specs.Tree.{many, one, read, switch, pick, no_cases, a_case}
+use Rattle.dict_source.specs.declared.operators.ManyOp.TheVariants.{All}
+use Rattle.dict_source.specs.declared.operators.OneOp.TheVariants.{Not}
+use Rattle.dict_source.specs.declared.operators.PickOp.TheVariants.{Filter, Find}
 use Rattle.three_state.specs.declared.res.Res.{Res}
 use Rattle.three_state.specs.declared.res.Res.TheVariants.{Complete, Placeholder, Incomplete}
 use Rattle.evaluation.specs.Visits.{visits}

@@ -1,7 +1,7 @@
 -- When two environments agree on all that an expression can read from its place.
 use Rattle.std.specs.Prelude.{◌≡◌, ℕ, IsTrue, nat_eq, List}
 use Rattle.std.specs.List.{list_any}
-use Rattle.dict_tree.specs.Tree.{Tree, literal, read, switch, many, one, two, pick, Trees, no_trees, tree, Cases, no_cases, a_case}
+use Rattle.dict_source.specs.Tree.{Tree, literal, read, switch, many, one, two, pick, Trees, no_trees, tree, Cases, no_cases, a_case}
 use Rattle.three_state.specs.Results.{members_of}
 use Rattle.evaluation.specs.Over.{Env, over, weight}
 

@@ -1,6 +1,6 @@
 -- Agreement and order of two environments, by what an expression names and by the places that an evaluation may reach under each base.
 use Rattle.std.specs.Prelude.{◌≡◌, ℕ, Bool, IsTrue}
-use Rattle.dict_tree.specs.Tree.{Tree}
+use Rattle.dict_source.specs.Tree.{Tree}
 use Rattle.three_state.specs.Order.{Keeps}
 use Rattle.three_state.specs.Results.{members_of}
 use Rattle.evaluation.specs.Over.{Env, over, weight}

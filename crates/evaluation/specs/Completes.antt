@@ -3,13 +3,13 @@ use Rattle.std.specs.Prelude.{◌≡◌, ◌⊎◌, ℕ, Bool, true, false, ◌&
 use Rattle.std.specs.List.{list_any}
 use Rattle.fact_values.specs.declared.fact_type.FactType.{FactType}
 use Rattle.fact_values.specs.declared.value.Value.TheVariants.{Item}
-use Rattle.dict_tree.specs.Tree.{Tree, Trees, Cases, switch, many, one, two, pick}
-use Rattle.dict_tree.specs.declared.operators.ManyOp.{ManyOp}
-use Rattle.dict_tree.specs.declared.operators.ManyOp.TheVariants as many_op
-use Rattle.dict_tree.specs.declared.operators.OneOp.{OneOp}
-use Rattle.dict_tree.specs.declared.operators.TwoOp.{TwoOp}
-use Rattle.dict_tree.specs.declared.operators.PickOp.{PickOp}
-use Rattle.dict_tree.specs.declared.operators.PickOp.TheVariants as pick_op
+use Rattle.dict_source.specs.Tree.{Tree, Trees, Cases, switch, many, one, two, pick}
+use Rattle.dict_source.specs.declared.operators.ManyOp.{ManyOp}
+use Rattle.dict_source.specs.declared.operators.ManyOp.TheVariants as many_op
+use Rattle.dict_source.specs.declared.operators.OneOp.{OneOp}
+use Rattle.dict_source.specs.declared.operators.TwoOp.{TwoOp}
+use Rattle.dict_source.specs.declared.operators.PickOp.{PickOp}
+use Rattle.dict_source.specs.declared.operators.PickOp.TheVariants as pick_op
 use Rattle.three_state.specs.declared.res.Res.{Res}
 use Rattle.three_state.specs.declared.res.Res.TheVariants.{Complete}
 use Rattle.three_state.specs.Laws.{AreComplete}

@@ -4,7 +4,7 @@ use Rattle.std.specs.Ordering.{is_gt, is_lt}
 use Rattle.fact_values.specs.declared.fact_type.FactType.{FactType}
 use Rattle.fact_values.specs.declared.value.Value.{Value}
 use Rattle.fact_values.specs.Values.{order_of}
-use Rattle.dict_tree.specs.Typing.{IsOrdered}
+use Rattle.dict_source.specs.Typing.{IsOrdered}
 use Rattle.evaluation.specs.Mentioned.{AllOf}
 use Rattle.evaluation.specs.Operations.{greatest_of, least_of}
 use Rattle.evaluation.specs.Typed.{Domains, IsOfType}

@@ -8,6 +8,7 @@ pub mod Order
 pub mod Over
 pub mod Reads
 pub mod Resolving
+pub mod Results
 pub mod SlotsRead
 pub mod Sure
 pub mod Typed

@@ -2,8 +2,8 @@
 -- A read and a collection stand under a base: that of the innermost condition, of type B.
 use Rattle.std.specs.Prelude.{◌≡◌, ℕ, List, [], ◌∷◌, ◌++◌, Some, unwrap_or}
 use Rattle.fact_values.specs.declared.fact_type.FactType.{FactType}
-use Rattle.dict_tree.specs.Tree.{Tree, literal, read, switch, many, one, two, pick, Trees, no_trees, tree, Cases, no_cases, a_case}
-use Rattle.dict_tree.specs.Typing.{Types}
+use Rattle.dict_source.specs.Tree.{Tree, literal, read, switch, many, one, two, pick, Trees, no_trees, tree, Cases, no_cases, a_case}
+use Rattle.dict_source.specs.Typing.{Types}
 
 -- Q of each read, W of each collection. A condition's base is `on` of the base that its node stands under, and its collection
 abbrev mutual

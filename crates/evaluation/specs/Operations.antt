@@ -19,13 +19,13 @@ use Rattle.law_arithmetic.specs.Ages.{age_on}
 use Rattle.law_arithmetic.specs.Dates.{day_of, month_of}
 use Rattle.law_arithmetic.specs.Months.{months_after, years_after}
 use Rattle.law_arithmetic.specs.Multiples.{rounded_down, rounded_nearest, rounded_up}
-use Rattle.dict_tree.specs.declared.operators.ManyOp.{ManyOp}
-use Rattle.dict_tree.specs.declared.operators.ManyOp.TheVariants as many_op
-use Rattle.dict_tree.specs.declared.operators.OneOp.{OneOp}
-use Rattle.dict_tree.specs.declared.operators.OneOp.TheVariants as one_op
-use Rattle.dict_tree.specs.declared.operators.TwoOp.{TwoOp}
-use Rattle.dict_tree.specs.declared.operators.TwoOp.TheVariants as two_op
-use Rattle.dict_tree.specs.Tables.{value_for}
+use Rattle.dict_source.specs.declared.operators.ManyOp.{ManyOp}
+use Rattle.dict_source.specs.declared.operators.ManyOp.TheVariants as many_op
+use Rattle.dict_source.specs.declared.operators.OneOp.{OneOp}
+use Rattle.dict_source.specs.declared.operators.OneOp.TheVariants as one_op
+use Rattle.dict_source.specs.declared.operators.TwoOp.{TwoOp}
+use Rattle.dict_source.specs.declared.operators.TwoOp.TheVariants as two_op
+use Rattle.dict_source.specs.Tables.{value_for}
 use Rattle.three_state.specs.Equality.{value_same}
 use Rattle.three_state.specs.Results.{members_in, truth}
 

@@ -1,9 +1,9 @@
 -- When an environment keeps what is complete in another, for an expression at its place.
 use Rattle.std.specs.Prelude.{◌≡◌, ℕ, Bool, true, false, ◌&&◌, IsTrue}
 use Rattle.fact_values.specs.declared.value.Value.{Value}
-use Rattle.dict_tree.specs.declared.operators.ReadOp.{ReadOp}
-use Rattle.dict_tree.specs.declared.operators.ReadOp.TheVariants as read_op
-use Rattle.dict_tree.specs.Tree.{Source, Tree, literal, read, switch, many, one, two, pick, Trees, no_trees, tree, Cases, no_cases, a_case}
+use Rattle.dict_source.specs.declared.operators.ReadOp.{ReadOp}
+use Rattle.dict_source.specs.declared.operators.ReadOp.TheVariants as read_op
+use Rattle.dict_source.specs.Tree.{Source, Tree, literal, read, switch, many, one, two, pick, Trees, no_trees, tree, Cases, no_cases, a_case}
 use Rattle.three_state.specs.declared.res.Res.TheVariants.{Complete}
 use Rattle.three_state.specs.Order.{Keeps}
 use Rattle.evaluation.specs.Over.{Env, over}

@@ -1,13 +1,13 @@
 -- The result of an expression, and how much work it is.
 use Rattle.std.specs.Prelude.{ℕ, suc, ◌+◌, List, [], ◌∷◌, sum_by}
 use Rattle.fact_values.specs.declared.value.Value.{Value}
-use Rattle.dict_tree.specs.Tree.{Tree, literal, read, switch, many, one, two, pick, Trees, no_trees, tree, Cases, no_cases, a_case}
-use Rattle.dict_tree.specs.declared.operators.ManyOp.{ManyOp}
-use Rattle.dict_tree.specs.declared.operators.ManyOp.TheVariants as many_op
-use Rattle.dict_tree.specs.declared.operators.OneOp.{OneOp}
-use Rattle.dict_tree.specs.declared.operators.TwoOp.{TwoOp}
-use Rattle.dict_tree.specs.declared.operators.PickOp.{PickOp}
-use Rattle.dict_tree.specs.declared.operators.PickOp.TheVariants as pick_op
+use Rattle.dict_source.specs.Tree.{Tree, literal, read, switch, many, one, two, pick, Trees, no_trees, tree, Cases, no_cases, a_case}
+use Rattle.dict_source.specs.declared.operators.ManyOp.{ManyOp}
+use Rattle.dict_source.specs.declared.operators.ManyOp.TheVariants as many_op
+use Rattle.dict_source.specs.declared.operators.OneOp.{OneOp}
+use Rattle.dict_source.specs.declared.operators.TwoOp.{TwoOp}
+use Rattle.dict_source.specs.declared.operators.PickOp.{PickOp}
+use Rattle.dict_source.specs.declared.operators.PickOp.TheVariants as pick_op
 use Rattle.three_state.specs.declared.res.Res.{Res}
 use Rattle.three_state.specs.declared.res.Res.TheVariants.{Complete}
 use Rattle.three_state.specs.Results.{all_of, any_of, filter_of, find_of, members_of, strict, switch_of}

@@ -1,6 +1,6 @@
 -- A tree with its constants, reads and collections replaced: names become what they stand for.
 use Rattle.std.specs.Prelude.{◌≡◌}
-use Rattle.dict_tree.specs.Tree.{Tree, literal, read, switch, many, one, two, pick, Trees, no_trees, tree, Cases, no_cases, a_case}
+use Rattle.dict_source.specs.Tree.{Tree, literal, read, switch, many, one, two, pick, Trees, no_trees, tree, Cases, no_cases, a_case}
 use Rattle.evaluation.specs.Over.{Env, over, weight}
 use Rattle.evaluation.specs.SlotsRead.{ReadBy, slots_read}
 

@@ -10,9 +10,9 @@ use Rattle.fact_values.specs.Members.{IsMemberList, is_member}
 use Rattle.fact_values.specs.Range.{IsInRange}
 use Rattle.fact_values.specs.Rationals.{IsRational}
 use Rattle.fact_values.specs.Texts.{IsPlainText}
-use Rattle.dict_tree.specs.Tables.{LookupTable, table_values}
-use Rattle.dict_tree.specs.Tree.{Tree}
-use Rattle.dict_tree.specs.Typing.{HasType, IsSummed, Types}
+use Rattle.dict_source.specs.Tables.{LookupTable, table_values}
+use Rattle.dict_source.specs.Tree.{Tree}
+use Rattle.dict_source.specs.Typing.{HasType, IsSummed, Types}
 use Rattle.three_state.specs.declared.res.Res.{Res}
 use Rattle.three_state.specs.declared.res.Res.TheVariants.{Complete, Placeholder, Incomplete, Fault}
 use Rattle.three_state.specs.Results.{count_of}

@@ -5,15 +5,15 @@ use Rattle.fact_paths.specs.declared.use_path.UsePath.TheVariants.{Global, Sibli
 use Rattle.fact_values.specs.declared.slot.Slot.{Slot}
 use Rattle.fact_values.specs.declared.value.Value.{Value}
 use Rattle.fact_values.specs.declared.value.Value.TheVariants.{Item}
-use Rattle.dict_tree.specs.declared.mentions.Mention.{Mention}
-use Rattle.dict_tree.specs.declared.operators.ReadOp.{ReadOp}
-use Rattle.dict_tree.specs.declared.operators.ReadOp.TheVariants as read_op
-use Rattle.dict_tree.specs.declared.targets.Targets.{Targets}
-use Rattle.dict_tree.specs.Dictionary.{Dictionary as Tree}
-use Rattle.dict_tree.specs.Facts.{Fact}
-use Rattle.dict_tree.specs.Mentions.{condition_base, use_mentions}
-use Rattle.dict_tree.specs.Targets.{targets}
-use Rattle.dict_tree.specs.Tree.{Source}
+use Rattle.dict_source.specs.declared.mentions.Mention.{Mention}
+use Rattle.dict_source.specs.declared.operators.ReadOp.{ReadOp}
+use Rattle.dict_source.specs.declared.operators.ReadOp.TheVariants as read_op
+use Rattle.dict_source.specs.declared.targets.Targets.{Targets}
+use Rattle.dict_source.specs.Dictionary.{Dictionary as Tree}
+use Rattle.dict_source.specs.Facts.{Fact}
+use Rattle.dict_source.specs.Mentions.{condition_base, use_mentions}
+use Rattle.dict_source.specs.Targets.{targets}
+use Rattle.dict_source.specs.Tree.{Source}
 use Rattle.three_state.specs.declared.res.Res.{Res}
 use Rattle.three_state.specs.declared.res.Res.TheVariants.{Complete, Placeholder, Incomplete, Fault}
 use Rattle.three_state.specs.Results.{is_incomplete, members_of}
@@ -22,13 +22,14 @@ use Rattle.evaluation.specs.Mentioned.{AllOf}
 use Rattle.evaluation.specs.SlotsRead.{item_read, member_named, member_read}
 use Rattle.answers.specs.Answered.{Answered, value_of}
 use Rattle.answers.specs.declared.edit.Side.TheVariants.{Override}
-use Rattle.dictionary.specs.Plain.{body, main_result}
-use Rattle.dictionary.specs.Dependencies.{Results, EvalPosition, collection, entered, outermost, result_at, source_env, source_result}
-use Rattle.dictionary.proofs.FactMentions.{EachUse}
-use Rattle.dictionary.proofs.MentionedLaws.{ReadIs, SourceIs, base_under}
-use Rattle.dictionary.proofs.ReadAgreement.{first_member, listed_in, names}
-use Rattle.dictionary.proofs.FinalLaws.{all_join}
-use Rattle.plain_table.specs.NodeReads.{dependency_reads, field_reads, node_reads, reads_by, reads_of_op, source_reads, target_slot}
+use Rattle.dict_meaning.specs.Plain.{body, main_result}
+use Rattle.dict_meaning.specs.Dependencies.{EvalPosition, collection, entered, outermost, source_env, source_result}
+use Rattle.evaluation.specs.Results.{Results, result_at}
+use Rattle.dict_meaning.proofs.FactMentions.{EachUse}
+use Rattle.dict_meaning.proofs.MentionedLaws.{ReadIs, SourceIs, base_under}
+use Rattle.dict_meaning.proofs.ReadAgreement.{first_member, listed_in, names}
+use Rattle.dict_meaning.proofs.FinalLaws.{all_join}
+use Rattle.source_eval.specs.NodeReads.{dependency_reads, field_reads, node_reads, reads_by, reads_of_op, source_reads, target_slot}
 use Rattle.explain.specs.Reads.{expression_reads, fact_reads, main_reads, placeholder_reads}
 use Rattle.explain.proofs.AllReads.{AllRead, all_flat, all_read}
 

@@ -10,14 +10,14 @@ use Rattle.fact_values.specs.declared.fact_type.FactType.{FactType}
 use Rattle.fact_values.specs.declared.fact_type.FactType.TheVariants as types
 use Rattle.fact_values.specs.declared.value.Value.{Value}
 use Rattle.fact_values.specs.declared.value.Value.TheVariants.{Item}
-use Rattle.dict_tree.specs.declared.operators.ReadOp.{ReadOp}
-use Rattle.dict_tree.specs.declared.operators.ReadOp.TheVariants as read_op
-use Rattle.dict_tree.specs.declared.targets.Targets.{Targets}
-use Rattle.dict_tree.specs.Dictionary.{Dictionary as Tree}
-use Rattle.dict_tree.specs.Facts.{Fact, Stated, scalar, enum_of, writable_list, list_of, item_of}
-use Rattle.dict_tree.specs.Finding.{fact_at}
-use Rattle.dict_tree.specs.Targets.{targets}
-use Rattle.dict_tree.specs.Tree.{Source}
+use Rattle.dict_source.specs.declared.operators.ReadOp.{ReadOp}
+use Rattle.dict_source.specs.declared.operators.ReadOp.TheVariants as read_op
+use Rattle.dict_source.specs.declared.targets.Targets.{Targets}
+use Rattle.dict_source.specs.Dictionary.{Dictionary as Tree}
+use Rattle.dict_source.specs.Facts.{Fact, Stated, scalar, enum_of, writable_list, list_of, item_of}
+use Rattle.dict_source.specs.Finding.{fact_at}
+use Rattle.dict_source.specs.Targets.{targets}
+use Rattle.dict_source.specs.Tree.{Source}
 use Rattle.three_state.specs.declared.res.Res.{Res}
 use Rattle.three_state.specs.declared.res.Res.TheVariants.{Complete, Placeholder, Incomplete, Fault}
 use Rattle.three_state.specs.Equality.{res_same}
@@ -33,19 +33,20 @@ use Rattle.answers.specs.Answered.{Answered, value_of}
 use Rattle.answers.specs.declared.edit.Side.TheVariants.{Override}
 use Rattle.common_lemmas.proofs.Bools.{and_intro, both}
 use Rattle.common_lemmas.proofs.Lists.{all_parts}
-use Rattle.dictionary.specs.Accepted.{Accepted, IsAccepted}
-use Rattle.dictionary.specs.Extension.{Extends, IsExtension, both_same}
-use Rattle.dictionary.specs.Fits.{is_writable}
-use Rattle.dictionary.specs.Plain.{answer_result, at_fact, body, conditional_body, expression, given_value, main_result, open_list, or_override, or_placeholder, plain, rank, slot_result}
-use Rattle.dictionary.specs.Dependencies.{Results, EvalPosition, collection, dependency, field_type, outermost, read_by, read_result, result_at, source_env, source_result, slot}
-use Rattle.dictionary.specs.Slots.{standing, stands}
-use Rattle.dictionary.proofs.ExtensionLaws.{equal_same, same_option}
-use Rattle.dictionary.proofs.PlainLaws.{plain_is_recursive}
-use Rattle.dictionary.proofs.FinalLaws.{standing_stays}
-use Rattle.dictionary.proofs.SlotLaws.{fact_of_standing, listed_stand}
-use Rattle.dictionary.proofs.UntouchedLaws.{step_is}
+use Rattle.dict_meaning.specs.Accepted.{Accepted, IsAccepted}
+use Rattle.dict_meaning.specs.Extension.{Extends, IsExtension, both_same}
+use Rattle.dict_meaning.specs.Fits.{is_writable}
+use Rattle.dict_meaning.specs.Plain.{answer_result, at_fact, body, conditional_body, expression, given_value, main_result, open_list, or_override, or_placeholder, plain, rank, slot_result}
+use Rattle.dict_meaning.specs.Dependencies.{EvalPosition, collection, dependency, field_type, outermost, read_by, read_result, source_env, source_result}
+use Rattle.evaluation.specs.Results.{Results, result_at, slot}
+use Rattle.dict_meaning.specs.Slots.{standing, stands}
+use Rattle.dict_meaning.proofs.ExtensionLaws.{equal_same, same_option}
+use Rattle.dict_meaning.proofs.PlainLaws.{plain_is_recursive}
+use Rattle.dict_meaning.proofs.FinalLaws.{standing_stays}
+use Rattle.dict_meaning.proofs.SlotLaws.{fact_of_standing, listed_stand}
+use Rattle.dict_meaning.proofs.UntouchedLaws.{step_is}
 use Rattle.explain.specs.Missing.{MissingKeep, is_missing, is_unanswered, lacks_answer, missing}
-use Rattle.plain_table.specs.NodeReads.{dependency_reads, field_reads, node_reads, reads_by, reads_of_op, source_reads, target_slot}
+use Rattle.source_eval.specs.NodeReads.{dependency_reads, field_reads, node_reads, reads_by, reads_of_op, source_reads, target_slot}
 use Rattle.explain.specs.Reads.{expression_reads, fact_reads, is_in, is_read, main_reads, placeholder_reads, slot_reads, standing_reads}
 use Rattle.explain.proofs.PlacedLaws.{Follows, reads_follow}
 use Rattle.explain.proofs.ReachLaws.{falls, is_standing, reads_by_way, reads_itself}

@@ -6,11 +6,11 @@ use Rattle.std.proofs.lemmas.List.Elements.{filter-append}
 use Rattle.operations.proofs.StepLaws.{next_member}
 use Rattle.fact_values.specs.declared.slot.Slot.{Slot}
 use Rattle.common_lemmas.proofs.Lists.{kept_one}
-use Rattle.dict_tree.specs.Dictionary.{Dictionary as Tree}
+use Rattle.dict_source.specs.Dictionary.{Dictionary as Tree}
 use Rattle.answers.specs.Answered.{Answered}
-use Rattle.dictionary.specs.Dependencies.{slot}
-use Rattle.dictionary.specs.Slots.{slots_of, slots_up_to, standing}
-use Rattle.plain_table.proofs.ReadLaws.{moved_on}
+use Rattle.evaluation.specs.Results.{slot}
+use Rattle.dict_meaning.specs.Slots.{slots_of, slots_up_to, standing}
+use Rattle.source_eval.proofs.ReadLaws.{moved_on}
 
 pub taken_one : (test : Slot → Bool) (s : Slot) (old new : List Slot) (wanted : Bool) → wanted ≡ test s → new ≡ (if wanted then old ++ s ∷ [] else old) → new ≡ old ++ filter test (s ∷ [])
 taken_one test s old new wanted w e =

@@ -4,32 +4,33 @@ use Rattle.fact_paths.specs.declared.use_path.UsePath.{UsePath}
 use Rattle.fact_paths.specs.declared.use_path.UsePath.TheVariants.{Global, Sibling, Inner, Each, Through, SiblingThrough}
 use Rattle.fact_values.specs.declared.fact_type.FactType.TheVariants.{Collection, Item}
 use Rattle.fact_values.specs.declared.slot.Slot.{Slot}
-use Rattle.dict_tree.specs.declared.mentions.Mention.{Mention}
-use Rattle.dict_tree.specs.Facts.{Fact}
-use Rattle.dict_tree.specs.Finding.{fact_at}
-use Rattle.dict_tree.specs.Mentions.{found_mentions}
-use Rattle.dict_tree.specs.Targets.{collection_at, find_global, find_member, first_target, global_at, item_base_at, list_base_at, second_target, targets}
-use Rattle.dict_types.specs.StatedTypes.{base_number}
+use Rattle.dict_source.specs.declared.mentions.Mention.{Mention}
+use Rattle.dict_source.specs.Facts.{Fact}
+use Rattle.dict_source.specs.Finding.{fact_at}
+use Rattle.dict_source.specs.Mentions.{found_mentions}
+use Rattle.dict_source.specs.Targets.{collection_at, find_global, find_member, first_target, global_at, item_base_at, list_base_at, second_target, targets}
+use Rattle.node_types.specs.StatedTypes.{base_number}
 use Rattle.evaluation.specs.Agreement.{IsIn}
 use Rattle.evaluation.specs.Mentioned.{AllOf}
 use Rattle.answers.specs.Answered.{Answered}
 use Rattle.common_lemmas.proofs.Options.{nothing}
-use Rattle.dictionary.specs.Accepted.{Accepted, IsAccepted}
-use Rattle.dictionary.specs.Fits.{AnswersFit}
-use Rattle.dictionary.specs.Homes.{home}
-use Rattle.dictionary.specs.Plain.{at_fact, plain}
-use Rattle.dictionary.specs.Dependencies.{EvalPosition, outermost, result_at, slot}
-use Rattle.dictionary.specs.Slots.{stands, stands_at}
-use Rattle.dictionary.proofs.FactMentions.{uses_of_fact}
-use Rattle.dictionary.proofs.MemberLaws.{member_stands, named_by_item, named_by_list, zero_is_none}
-use Rattle.dictionary.proofs.PlainLaws.{standing_have_results}
-use Rattle.dictionary.proofs.ReadAgreement.{first_member, names}
-use Rattle.dictionary.proofs.ReadTypes.{item_target, list_target}
-use Rattle.dictionary.proofs.SlotLaws.{stands_where}
-use Rattle.dictionary.proofs.TargetAgreement.{IsReached, StaysBy, agree_under, at_once, at_zero}
-use Rattle.dictionary.proofs.TargetHomes.{global_there, member_home, member_there}
-use Rattle.dictionary.proofs.TypedResultLaws.{target_typed}
-use Rattle.plain_table.specs.NodeReads.{target_slot}
+use Rattle.dict_meaning.specs.Accepted.{Accepted, IsAccepted}
+use Rattle.dict_meaning.specs.Fits.{AnswersFit}
+use Rattle.dict_meaning.specs.Homes.{home}
+use Rattle.dict_meaning.specs.Plain.{at_fact, plain}
+use Rattle.dict_meaning.specs.Dependencies.{EvalPosition, outermost}
+use Rattle.evaluation.specs.Results.{result_at, slot}
+use Rattle.dict_meaning.specs.Slots.{stands, stands_at}
+use Rattle.dict_meaning.proofs.FactMentions.{uses_of_fact}
+use Rattle.dict_meaning.proofs.MemberLaws.{member_stands, named_by_item, named_by_list, zero_is_none}
+use Rattle.dict_meaning.proofs.PlainLaws.{standing_have_results}
+use Rattle.dict_meaning.proofs.ReadAgreement.{first_member, names}
+use Rattle.dict_meaning.proofs.ReadTypes.{item_target, list_target}
+use Rattle.dict_meaning.proofs.SlotLaws.{stands_where}
+use Rattle.dict_meaning.proofs.TargetAgreement.{IsReached, StaysBy, agree_under, at_once, at_zero}
+use Rattle.dict_meaning.proofs.TargetHomes.{global_there, member_home, member_there}
+use Rattle.dict_meaning.proofs.TypedResultLaws.{target_typed}
+use Rattle.source_eval.specs.NodeReads.{target_slot}
 use Rattle.explain.specs.Reads.{fact_reads, slot_reads}
 use Rattle.explain.proofs.FactReads.{HoldsUnder, of_fact}
 

@@ -2,22 +2,22 @@
 use Rattle.std.proofs.Common.{◌≡◌, ℕ, zero, suc, ◌<◌, ◌||◌, Bool, true, false, IsTrue, List, [], ◌∷◌, ◌++◌, flat_map, Option, Some, None, refl, sym, ap, subst, ◌∙◌, arith}
 use Rattle.fact_paths.specs.declared.use_path.UsePath.{UsePath}
 use Rattle.fact_values.specs.declared.slot.Slot.{Slot}
-use Rattle.dict_tree.specs.Facts.{Fact}
-use Rattle.dict_tree.specs.Finding.{fact_at}
-use Rattle.dict_tree.specs.Mentions.{is_same, mention_of, use_mentions}
-use Rattle.dict_tree.specs.Targets.{targets}
+use Rattle.dict_source.specs.Facts.{Fact}
+use Rattle.dict_source.specs.Finding.{fact_at}
+use Rattle.dict_source.specs.Mentions.{is_same, mention_of, use_mentions}
+use Rattle.dict_source.specs.Targets.{targets}
 use Rattle.evaluation.specs.Mentioned.{AllOf}
 use Rattle.evaluation.proofs.Mentions.{all-left, all-right}
 use Rattle.answers.specs.Answered.{Answered}
 use Rattle.common_lemmas.proofs.Bools.{and_intro, both, or_right}
-use Rattle.dictionary.specs.Accepted.{Accepted, IsAccepted}
-use Rattle.dictionary.specs.Plain.{at_fact, plain, rank}
-use Rattle.dictionary.specs.Dependencies.{EvalPosition}
-use Rattle.dictionary.specs.Slots.{slot_same, stands}
-use Rattle.dictionary.proofs.RankLaws.{IsLowerMention, lower_uses}
-use Rattle.dictionary.proofs.ReadAgreement.{first_member}
-use Rattle.dictionary.proofs.SlotLaws.{slot_same-equal}
-use Rattle.plain_table.specs.NodeReads.{target_slot}
+use Rattle.dict_meaning.specs.Accepted.{Accepted, IsAccepted}
+use Rattle.dict_meaning.specs.Plain.{at_fact, plain, rank}
+use Rattle.dict_meaning.specs.Dependencies.{EvalPosition}
+use Rattle.dict_meaning.specs.Slots.{slot_same, stands}
+use Rattle.dict_meaning.proofs.RankLaws.{IsLowerMention, lower_uses}
+use Rattle.dict_meaning.proofs.ReadAgreement.{first_member}
+use Rattle.dict_meaning.proofs.SlotLaws.{slot_same-equal}
+use Rattle.source_eval.specs.NodeReads.{target_slot}
 use Rattle.explain.specs.Reads.{all_reads, fact_reads, is_in, is_read, reads_within, slot_reads, standing_reads}
 use Rattle.explain.proofs.FactReads.{HoldsOf, HoldsUnder, of_fact}
 use Rattle.explain.proofs.SlotLists.{all_at, in_filter, in_flat_map, is_head, of_flat_map}

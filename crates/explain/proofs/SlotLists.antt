@@ -6,8 +6,8 @@ use Rattle.std.proofs.lemmas.List.Elements.{All-cons, All-head, All-nil, All-tai
 use Rattle.std.proofs.lemmas.List.Folds.{list_any-append}
 use Rattle.fact_values.specs.declared.slot.Slot.{Slot}
 use Rattle.common_lemmas.proofs.Bools.{and_intro, both, or_assoc, or_left, or_right}
-use Rattle.dictionary.specs.Slots.{slot_same}
-use Rattle.dictionary.proofs.SlotLaws.{slot_same-equal, slot_same-itself}
+use Rattle.dict_meaning.specs.Slots.{slot_same}
+use Rattle.dict_meaning.proofs.SlotLaws.{slot_same-equal, slot_same-itself}
 use Rattle.evaluation.specs.Mentioned.{AllOf}
 use Rattle.explain.specs.Reads.{is_in, new_among}
 

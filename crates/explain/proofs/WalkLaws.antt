@@ -4,12 +4,12 @@ use Rattle.std.specs.Cmp.{both_ways}
 use Rattle.std.proofs.lemmas.List.{append-nil}
 use Rattle.std.proofs.lemmas.List.Elements.{filter-append}
 use Rattle.fact_values.specs.declared.slot.Slot.{Slot}
-use Rattle.dict_tree.specs.Dictionary.{Dictionary as Tree}
+use Rattle.dict_source.specs.Dictionary.{Dictionary as Tree}
 use Rattle.common_lemmas.proofs.Bools.{both, or_false, or_left, or_right}
 use Rattle.answers.specs.Answered.{Answered}
-use Rattle.dictionary.specs.Accepted.{Accepted, IsAccepted}
-use Rattle.dictionary.specs.Slots.{slot_same, standing, stands}
-use Rattle.dictionary.proofs.SlotLaws.{listed_stand, slot_same-equal, slot_same-itself}
+use Rattle.dict_meaning.specs.Accepted.{Accepted, IsAccepted}
+use Rattle.dict_meaning.specs.Slots.{slot_same, standing, stands}
+use Rattle.dict_meaning.proofs.SlotLaws.{listed_stand, slot_same-equal, slot_same-itself}
 use Rattle.explain.specs.declared.found.Found.{Found}
 use Rattle.explain.specs.Found.{has}
 use Rattle.explain.specs.Reads.{is_in, is_read, new_among, slot_reads, standing_reads}

@@ -2,15 +2,15 @@
 use Rattle.std.specs.Prelude.{◌≡◌, ℕ, ◌&&◌, Bool, false, IsTrue, is_none, List, ◌∷◌, filter, flat_map, Option, Some, None}
 use Rattle.std.specs.List.{list_all}
 use Rattle.fact_values.specs.declared.slot.Slot.{Slot}
-use Rattle.dict_tree.specs.Dictionary.{Dictionary as Tree}
-use Rattle.dict_tree.specs.Facts.{Fact}
-use Rattle.dict_tree.specs.Finding.{fact_at}
+use Rattle.dict_source.specs.Dictionary.{Dictionary as Tree}
+use Rattle.dict_source.specs.Facts.{Fact}
+use Rattle.dict_source.specs.Finding.{fact_at}
 use Rattle.answers.specs.Answered.{Answered}
-use Rattle.dictionary.specs.Accepted.{Accepted, IsAccepted}
-use Rattle.dictionary.specs.Extension.{IsExtension}
-use Rattle.dictionary.specs.Fits.{is_writable}
-use Rattle.dictionary.specs.Plain.{given_value, plain}
-use Rattle.dictionary.specs.Slots.{standing, stands}
+use Rattle.dict_meaning.specs.Accepted.{Accepted, IsAccepted}
+use Rattle.dict_meaning.specs.Extension.{IsExtension}
+use Rattle.dict_meaning.specs.Fits.{is_writable}
+use Rattle.dict_meaning.specs.Plain.{given_value, plain}
+use Rattle.dict_meaning.specs.Slots.{standing, stands}
 use Rattle.explain.specs.Reads.{all_reads, is_read, standing_reads}
 
 -- a writable slot that has no answer, or is a collection that isn't open

@@ -2,19 +2,20 @@
 use Rattle.std.specs.Prelude.{ℕ, zero, suc, Bool, false, ◌||◌, if◌then◌else◌, List, [], ◌∷◌, ◌++◌, filter, flat_map, Option, Some, None, is_some}
 use Rattle.std.specs.List.{list_any}
 use Rattle.fact_values.specs.declared.slot.Slot.{Slot}
-use Rattle.dict_tree.specs.Dictionary.{Dictionary as Tree}
-use Rattle.dict_tree.specs.Facts.{Fact}
-use Rattle.dict_tree.specs.Finding.{fact_at}
-use Rattle.dict_tree.specs.Tree.{Source}
+use Rattle.dict_source.specs.Dictionary.{Dictionary as Tree}
+use Rattle.dict_source.specs.Facts.{Fact}
+use Rattle.dict_source.specs.Finding.{fact_at}
+use Rattle.dict_source.specs.Tree.{Source}
 use Rattle.three_state.specs.Results.{is_incomplete}
 use Rattle.evaluation.specs.SlotsRead.{slots_read}
 use Rattle.answers.specs.Answered.{Answered, value_of}
 use Rattle.answers.specs.declared.edit.Side.TheVariants.{Override}
-use Rattle.dictionary.specs.Accepted.{Accepted}
-use Rattle.dictionary.specs.Plain.{at_fact, body, main_result, plain, rank}
-use Rattle.dictionary.specs.Dependencies.{Results, outermost, source_env}
-use Rattle.dictionary.specs.Slots.{slot_same, stands}
-use Rattle.plain_table.specs.NodeReads.{reads_by}
+use Rattle.dict_meaning.specs.Accepted.{Accepted}
+use Rattle.dict_meaning.specs.Plain.{at_fact, body, main_result, plain, rank}
+use Rattle.dict_meaning.specs.Dependencies.{outermost, source_env}
+use Rattle.evaluation.specs.Results.{Results}
+use Rattle.dict_meaning.specs.Slots.{slot_same, stands}
+use Rattle.source_eval.specs.NodeReads.{reads_by}
 
 -- ---- what a slot reads
 

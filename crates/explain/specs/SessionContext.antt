@@ -1,11 +1,11 @@
 -- What an expression of a fact is evaluated over: the results of a session.
 use Rattle.std.specs.Prelude.{ℕ}
-use Rattle.dict_tree.specs.Dictionary.{Dictionary as Tree}
-use Rattle.dictionary.specs.Accepted.{accepted}
-use Rattle.dictionary.specs.Plain.{plain}
-use Rattle.dictionary.specs.Dependencies.{Results}
+use Rattle.dict_source.specs.Dictionary.{Dictionary as Tree}
+use Rattle.dictionary.specs.Kept.{accepted}
+use Rattle.dict_meaning.specs.Plain.{plain}
+use Rattle.evaluation.specs.Results.{Results}
 use Rattle.graph_session.specs.SessionView.{SessionView}
-use Rattle.plain_table.specs.Context.{Context}
+use Rattle.source_eval.specs.Context.{Context}
 
 abbrev pub tree_of : SessionView → Tree
 tree_of s = (accepted s.dict).tree

@@ -1,14 +1,14 @@
 // What an expression of a fact is evaluated over: the results of a session.
 ghost use Rattle.std.specs.Prelude.{◌≡◌, true};
-ghost use Rattle.dictionary.specs.Dependencies.{result_at};
+ghost use Rattle.evaluation.specs.Results.{result_at};
 ghost use Rattle.three_state.specs.declared.res.Res.TheVariants.{Incomplete};
 ghost use Rattle.explain.specs.SessionContext.{context_at};
 
-use dict_tree::DictSource;
+use dict_source::DictSource;
 use dictionary::FactEngine;
 use fact_values::{NoMemory, Slot};
 use graph_session::Session;
-use plain_table::{EvalContext, Notes};
+use source_eval::{EvalContext, Notes};
 use three_state::Res;
 
 /// The results of a session, for the expressions of a fact.

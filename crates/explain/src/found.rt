@@ -1,7 +1,7 @@
 // The slots that a walk has found.
 ghost use Rattle.std.specs.Prelude.{◌≡◌, ◌||◌, [], ◌∷◌, ◌++◌, false, not, if◌then◌else◌, IfOk, OnOk};
 ghost use Rattle.fact_values.specs.declared.slot.Slot.{Slot};
-ghost use Rattle.dictionary.specs.Slots.{slot_same};
+ghost use Rattle.dict_meaning.specs.Slots.{slot_same};
 
 use fact_values::{NoMemory, Slot};
 use std::alloc::Global;

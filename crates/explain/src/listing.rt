@@ -1,14 +1,14 @@
 // The slots that stand, in order, of which those are taken that were found and are unanswered.
 ghost use Rattle.std.specs.Prelude.{◌≡◌, ◌++◌, ◌∷◌, [], IfOk, OnOk, filter, map};
-ghost use Rattle.dict_tree.specs.Finding.{IsNumber};
-ghost use Rattle.dictionary.specs.Dependencies.{slot as slot_at};
-ghost use Rattle.dictionary.specs.Slots.{slots_of, standing};
+ghost use Rattle.dict_source.specs.Finding.{IsNumber};
+ghost use Rattle.evaluation.specs.Results.{slot as slot_at};
+ghost use Rattle.dict_meaning.specs.Slots.{slots_of, standing};
 ghost use Rattle.explain.specs.SessionContext.{tree_of};
 ghost use Rattle.explain.specs.Listing.{is_listed as listed};
 
 use crate::found::{Found, push_if};
 use crate::slots::is_unanswered;
-use dictionary::FactEngine;
+use dictionary::{FactEngine, members_of_home};
 use fact_values::{NoMemory, Slot};
 use graph_session::Session;
 use std::alloc::Global;
@@ -66,13 +66,8 @@ fn take_fact<E: FactEngine>(
         (slots_of (tree_of session.now) session.now.timeline.now fact)) }
 {
     let home = session.dict().home(fact);
-    if home == 0 {
-        return take_members(session, found, fact, &[0], taken);
-    }
-    match session.answers().members(home) {
-        None => Ok(()),
-        Some(members) => take_members(session, found, fact, members, taken),
-    }
+    let members = members_of_home(session.answers(), home);
+    take_members(session, found, fact, members, taken)
 }
 
 /// Those that were found and are unanswered, by fact, and of a fact in the order of the members.

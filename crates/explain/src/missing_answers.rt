@@ -1,8 +1,8 @@
 // The missing answers of a slot.
 ghost use Rattle.std.specs.Prelude.{◌≡◌, ◌<◌, IfOk, IsTrue};
 ghost use Rattle.fact_values.specs.declared.slot.Slot.{Slot};
-ghost use Rattle.dictionary.specs.Accepted.{accepted};
-ghost use Rattle.dictionary.specs.Slots.{stands};
+ghost use Rattle.dictionary.specs.Kept.{accepted};
+ghost use Rattle.dict_meaning.specs.Slots.{stands};
 ghost use Rattle.explain.specs.Found.{has};
 ghost use Rattle.explain.specs.Missing.{Keeps, missing as missing_of};
 ghost use Rattle.explain.specs.Reads.{is_read};

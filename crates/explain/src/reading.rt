@@ -1,7 +1,7 @@
 // The slots that a slot reads, without those that these read.
 ghost use Rattle.std.specs.Prelude.{◌≡◌, ◌<◌, All, IfOk, IsTrue};
-ghost use Rattle.dictionary.specs.Accepted.{accepted};
-ghost use Rattle.dictionary.specs.Slots.{stands};
+ghost use Rattle.dictionary.specs.Kept.{accepted};
+ghost use Rattle.dict_meaning.specs.Slots.{stands};
 ghost use Rattle.explain.specs.Reads.{reads as reads_of};
 
 use crate::found::Found;

@@ -7,9 +7,9 @@ use Rattle.fg_io.specs.Sent.{Sent}
 use Rattle.script_lines.specs.Lines.{ScriptLine, whole, long}
 use Rattle.graph_session.specs.Refusals.{SameChecks}
 use Rattle.graph_session.specs.Rules.{rules}
-use Rattle.dictionary.specs.Accepted.{Kept, Named, accepted}
+use Rattle.dictionary.specs.Kept.{Kept, Named, accepted}
 use Rattle.dictionary.specs.Checks.{has_check}
-use Rattle.dictionary.specs.Fits.{AnswersFit}
+use Rattle.dict_meaning.specs.Fits.{AnswersFit}
 use Rattle.graph_session.specs.SessionView.{SessionState, SessionView, session_state}
 use Rattle.fact_watch.specs.Watching.{Watching}
 use Rattle.session_lines.specs.Answering.{line_state_of}

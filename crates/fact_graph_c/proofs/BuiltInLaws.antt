@@ -8,7 +8,7 @@ use Rattle.std.proofs.lemmas.Slice.Eq.{bytes_eq-Decides}
 use Rattle.std.proofs.lemmas.Str.{IsUtf8-append, IsUtf8-from_ascii}
 use Rattle.std.proofs.lemmas.Str.Ascii.{IsAscii-cons, IsAscii-nil}
 use Rattle.common_lemmas.proofs.Bools.{both}
-use Rattle.dict_tree.specs.Names.{under_name}
+use Rattle.fact_json.specs.Names.{under_name}
 use Rattle.fact_paths.specs.Cuts.{after}
 use Rattle.fact_paths.proofs.CutLaws.{after_some}
 use Rattle.tax_2023.specs.Years.{year_of_word, year_words}

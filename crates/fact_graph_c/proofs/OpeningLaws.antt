@@ -2,8 +2,8 @@
 use Rattle.std.proofs.Common.{Box, ◌≡◌, ℕ, true, false, List, [], Result, Ok, Err, IfErr, IfOk, refl, sym, ap, subst}
 use Rattle.std.specs.declared.alloc.Global.{Global}
 use Rattle.answers.specs.Answered.{Answered, start}
-use Rattle.dictionary.specs.Accepted.{Kept}
-use Rattle.dictionary.specs.Fits.{AnswersFit}
+use Rattle.dictionary.specs.Kept.{Kept}
+use Rattle.dict_meaning.specs.Fits.{AnswersFit}
 use Rattle.dictionary.specs.declared.fault.DictFault.TheVariants.{NoMemory}
 use Rattle.graph_session.specs.Rules.{Rules, rules, tree_of}
 use Rattle.graph_session.specs.SessionView.{SessionView, session_state, start_at}

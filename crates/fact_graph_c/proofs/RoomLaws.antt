@@ -9,12 +9,13 @@ use Rattle.script_lines.specs.declared.command.Command.{Command}
 use Rattle.script_lines.specs.declared.command.Command.TheVariants as commands
 use Rattle.fact_values.specs.declared.slot.Slot.{Slot}
 use Rattle.answers.specs.WellFormed.{WellFormed}
-use Rattle.dictionary.specs.Accepted.{IsAccepted, Named, names_of}
-use Rattle.dictionary.specs.Fits.{AnswersFit}
-use Rattle.dictionary.specs.Plain.{plain}
-use Rattle.dictionary.specs.Dependencies.{Results}
-use Rattle.dictionary.specs.SlotText.{slot_text}
-use Rattle.dictionary.proofs.SlotTextLaws.{slot_short, standing_slot}
+use Rattle.dict_meaning.specs.Accepted.{IsAccepted}
+use Rattle.dictionary.specs.Kept.{Named, names_of}
+use Rattle.dict_meaning.specs.Fits.{AnswersFit}
+use Rattle.dict_meaning.specs.Plain.{plain}
+use Rattle.evaluation.specs.Results.{Results}
+use Rattle.dict_meaning.specs.SlotText.{slot_text}
+use Rattle.dict_meaning.proofs.SlotTextLaws.{slot_short, standing_slot}
 use Rattle.graph_session.specs.Refusals.{decided, slot_found}
 use Rattle.graph_session.specs.Rules.{Rules, tree_of}
 use Rattle.graph_session.specs.SessionView.{SessionState}

@@ -1,6 +1,6 @@
 -- The checks of a session's dictionary.
 use Rattle.std.specs.Prelude.{◌≡◌, IsTrue}
-use Rattle.dictionary.specs.Accepted.{Kept, accepted}
+use Rattle.dictionary.specs.Kept.{Kept, accepted}
 use Rattle.dictionary.specs.Checks.{has_check}
 use Rattle.session_lines.specs.Tables.{standard_checks}
 

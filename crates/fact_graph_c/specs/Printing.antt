@@ -2,8 +2,8 @@
 use Rattle.std.specs.Prelude.{◌≡◌, ◌≤◌, ℕ, List, [], ◌∷◌, length, Option, Some, None, Ok, refl}
 use Rattle.serde_json.specs.Read.{read}
 use Rattle.dict_tree.specs.DictParsing.{BytesGive, max_bytes}
-use Rattle.dict_tree.specs.Facts.{Fact}
-use Rattle.dict_tree.specs.Finding.{fact_at}
+use Rattle.dict_source.specs.Facts.{Fact}
+use Rattle.dict_source.specs.Finding.{fact_at}
 use Rattle.dict_print.specs.DictionaryJson.{dictionary_json}
 use Rattle.dict_print.specs.FactsText.{facts_text}
 use Rattle.graph_session.specs.Rules.{Rules, tree_of}

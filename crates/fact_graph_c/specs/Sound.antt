@@ -1,7 +1,8 @@
 -- What is true of every engine.
 use Rattle.std.specs.Prelude.{◌≤◌, length}
-use Rattle.dictionary.specs.Accepted.{IsAccepted, accepted, names_of}
-use Rattle.dictionary.specs.Fits.{AnswersFit}
+use Rattle.dict_meaning.specs.Accepted.{IsAccepted}
+use Rattle.dictionary.specs.Kept.{accepted, names_of}
+use Rattle.dict_meaning.specs.Fits.{AnswersFit}
 use Rattle.fact_graph_c.specs.declared.engine.Engine.{Engine}
 
 -- its dictionary is accepted, its answers fit, and it watches at most 1,000 slots

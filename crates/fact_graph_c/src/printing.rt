@@ -1,6 +1,6 @@
 // Says the dictionary of a session.
 ghost use Rattle.std.specs.Prelude.{◌≡◌, [], IfErr, IfOk, option_map, string_bytes};
-ghost use Rattle.dict_tree.specs.Finding.{fact_at};
+ghost use Rattle.dict_source.specs.Finding.{fact_at};
 ghost use Rattle.graph_session.specs.Rules.{rules, tree_of};
 ghost use Rattle.fact_graph_c.specs.Answering.{rules_of};
 ghost use Rattle.fact_graph_c.specs.Printing.{IsDescription, IsDictionaryText, IsFactsText, description_of as description_of_fact, words_of as the_words_of};

@@ -3,7 +3,7 @@ use Rattle.std.proofs.Common.{◌≡◌, ℕ, ◌<◌, zero, suc, Bool, List, []
 use Rattle.std.specs.Prelude.{IfSome, option_map}
 use Rattle.three_state.specs.declared.res.Res.{Res}
 use Rattle.common_lemmas.proofs.Lists.{one_at}
-use Rattle.dictionary.specs.Dependencies.{Results}
+use Rattle.evaluation.specs.Results.{Results}
 use Rattle.fact_watch.specs.Says.{slot_says, watch_says}
 use Rattle.fact_watch.specs.Watching.{Pair, Watching, code_at, fires_between, fires_now, noted, pair_says}
 

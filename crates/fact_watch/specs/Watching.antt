@@ -5,8 +5,8 @@ use Rattle.std.specs.Coded.{Coded, code_by, coded×, coded_ℕ, coded_list, code
 use Rattle.fact_values.specs.declared.slot.Slot.{Slot}
 use Rattle.three_state.specs.declared.res.Res.{Res}
 use Rattle.three_state.specs.contracts.res.Res as res
-use Rattle.dictionary.specs.Dependencies.{Results}
-use Rattle.dictionary.specs.Slots.{slot_same}
+use Rattle.evaluation.specs.Results.{Results}
+use Rattle.dict_meaning.specs.Slots.{slot_same}
 use Rattle.graph_session.specs.SessionView.{coded_slot}
 use Rattle.fact_watch.specs.Says.{slot_says}
 

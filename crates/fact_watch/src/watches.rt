@@ -2,9 +2,9 @@
 ghost use Rattle.std.specs.Prelude.{◌≡◌, ◌↔◌, ◌<◌, ◌≤◌, ◌^◌, ◌∷◌, [], ◌++◌, Bool, false, ℕ, List, OnOk, OnErr, IfOk, IfSome, IsErrOf, IsTrue, None, length, slice_get, unwrap_or};
 ghost use Rattle.std.specs.Bool.{OnFalse, OnTrue};
 ghost use Rattle.std.specs.Option.{option_copied};
-ghost use Rattle.dictionary.specs.Accepted.{accepted};
-ghost use Rattle.dictionary.specs.Plain.{plain};
-ghost use Rattle.dictionary.specs.Dependencies.{Results};
+ghost use Rattle.dictionary.specs.Kept.{accepted};
+ghost use Rattle.dict_meaning.specs.Plain.{plain};
+ghost use Rattle.evaluation.specs.Results.{Results};
 ghost use Rattle.fact_watch.specs.Says.{slot_says};
 ghost use Rattle.fact_watch.specs.Watching.{code_at, fires_between, fires_now, is_full, is_put, nothing_watched, noted, pair_same, unnoted, without};
 

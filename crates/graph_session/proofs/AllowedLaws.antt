@@ -1,5 +1,5 @@
 -- A command that isn't refused makes a change that can be made and is allowed.
-use Rattle.std.proofs.Common.{◌≡◌, ℕ, ◌<◌, Bool, true, false, not, ◌&&◌, nat_eq, nat_le, if◌then◌else◌, IsTrue, List, [], ◌∷◌, ◌++◌, length, Option, Some, None, is_none, is_some, refl, sym, subst, arith}
+use Rattle.std.proofs.Common.{◌≡◌, ℕ, ◌<◌, Bool, true, false, not, ◌&&◌, nat_le, IsTrue, List, [], ◌∷◌, ◌++◌, length, Option, Some, None, is_none, is_some, refl, sym, subst, arith}
 use Rattle.std.specs.Prelude.{option_and_then, unwrap_or}
 use Rattle.std.specs.FinMap as map
 use Rattle.std.specs.Prelude.{IfOk, Result, Ok, Err}
@@ -14,19 +14,18 @@ use Rattle.fact_values.specs.declared.value.Value.{Value}
 use Rattle.value_text.specs.Values.{value_at}
 use Rattle.value_text.proofs.ParsingLaws.{value_again}
 use Rattle.value_text.proofs.TypeLaws.{of_type}
-use Rattle.dict_tree.specs.Dictionary.{Dictionary as Tree}
-use Rattle.dict_types.specs.StatedTypes.{type_at}
+use Rattle.dict_source.specs.Dictionary.{Dictionary as Tree}
+use Rattle.node_types.specs.StatedTypes.{type_at}
 use Rattle.common_lemmas.proofs.Bools.{and_intro, or_neither}
 use Rattle.common_lemmas.proofs.Options.{nothing}
 use Rattle.answers.specs.declared.edit.Side.{Side}
 use Rattle.answers.specs.declared.edit.Side.TheVariants.{Answer, Override}
 use Rattle.answers.specs.Answered.{Answered, list_of}
-use Rattle.answers.specs.Change.{Change, IsListed, Stands, adds, opens, removes, sets}
-use Rattle.dictionary.specs.Allowed.{IsAllowed}
-use Rattle.dictionary.specs.Fits.{AnswersFit, IsOfFact, is_list, takes}
-use Rattle.dictionary.specs.Homes.{home}
-use Rattle.dictionary.specs.Slots.{is_member, stands}
-use Rattle.dictionary.proofs.SlotLaws.{fact_of_standing}
+use Rattle.answers.specs.Change.{Change, adds, opens, removes, sets}
+use Rattle.dict_meaning.specs.Allowed.{IsAllowed}
+use Rattle.dict_meaning.specs.Fits.{AnswersFit, IsOfFact, is_list, takes}
+use Rattle.dict_meaning.specs.Slots.{is_member, stands}
+use Rattle.dict_meaning.proofs.SlotLaws.{slot_stands}
 use Rattle.graph_session.specs.Changes.{CanBeMade, change_of, change_refusals}
 use Rattle.graph_session.specs.Kinds.{is_full, value_spelled}
 use Rattle.graph_session.specs.Naming.{fact_of, is_unknown, lacks_member, named_fact, slot_of}
@@ -61,14 +60,6 @@ slot_there r a path rest fit h =
     (named_stands d a path (fact_of d path) fit (found_some (named_fact d path) one.0) two.0, two.1)
 
 -- ---- changes
-
--- of a slot that stands at a member, the member is in a list
-pub slot_stands : (d : Tree) (a : Answered) (s : Slot) → IsTrue (stands d a s) → Stands a s.member
-slot_stands d a s h = at (nat_eq (home d s.fact) 0) (fact_of_standing d a s h).2
-  where
-    at : (b : Bool) → (if b then nat_eq s.member 0 else is_member a (home d s.fact) s.member) ≡ true → nat_eq s.member 0 ≡ false → IsListed a s.member
-    at true h out = absurd cc
-    at false h out = (home d s.fact, h)
 
 of_fact : (d : Tree) (a : Answered) (n : ℕ) (text : List ℕ) (v : Value) (o : Option FactType) → type_at d n ≡ o → option_and_then (λ t. value_at d.enums t text) o ≡ Some v → IsOfFact d a n v
 of_fact d a n text v None e h = absurd cc

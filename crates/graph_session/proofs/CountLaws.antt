@@ -4,11 +4,11 @@ use Rattle.std.specs.List.{list_any}
 use Rattle.fact_values.specs.declared.slot.Slot.{Slot}
 use Rattle.common_lemmas.proofs.Bools.{or_left, or_right}
 use Rattle.answers.specs.Answered.{Answered}
-use Rattle.dictionary.specs.Accepted.{Accepted}
+use Rattle.dict_meaning.specs.Accepted.{Accepted}
 use Rattle.dictionary.specs.Engines.{AreFresh, AreMarkedBy, AreSameMarks, Marks}
-use Rattle.dictionary.specs.Slots.{slot_same, standing, stands}
-use Rattle.dictionary.specs.Touched.{stamped, touches, touched_count}
-use Rattle.dictionary.proofs.SlotLaws.{listed_stand, slot_same-equal, slot_same-itself}
+use Rattle.dict_meaning.specs.Slots.{slot_same, standing, stands}
+use Rattle.dict_meaning.specs.Touched.{stamped, touches, touched_count}
+use Rattle.dict_meaning.proofs.SlotLaws.{listed_stand, slot_same-equal, slot_same-itself}
 use Rattle.graph_session.specs.Counts.{Counts, counts_of, next_counts, no_counts, stamp_in, stamp_offered, stamps_of}
 
 counts_by : Accepted → Answered → (Slot → ℕ) → ℕ → Counts

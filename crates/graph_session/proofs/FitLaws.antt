@@ -7,9 +7,10 @@ use Rattle.answers.specs.Answered.{start}
 use Rattle.answers.specs.Change.{applied}
 use Rattle.session_undo.specs.Timeline.{Timeline}
 use Rattle.session_undo.specs.declared.direction.Direction.TheVariants.{Back, Forth}
-use Rattle.dictionary.specs.Accepted.{IsAccepted, names_of}
-use Rattle.dictionary.proofs.FitChangeLaws.{allowed_changes_fit}
-use Rattle.dictionary.proofs.FitStart.{start_fits}
+use Rattle.dict_meaning.specs.Accepted.{IsAccepted}
+use Rattle.dictionary.specs.Kept.{names_of}
+use Rattle.dict_meaning.proofs.FitChangeLaws.{allowed_changes_fit}
+use Rattle.dict_meaning.proofs.FitStart.{start_fits}
 use Rattle.graph_session.specs.Changes.{change_of}
 use Rattle.graph_session.specs.Keeping.{AllFit}
 use Rattle.graph_session.specs.Moves.{timeline_stepped}

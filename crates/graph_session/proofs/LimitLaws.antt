@@ -20,17 +20,18 @@ use Rattle.value_text.specs.Dollars.{dollar_at}
 use Rattle.value_text.specs.Fractions.{rational_at}
 use Rattle.value_text.specs.Wholes.{whole_at}
 use Rattle.text_checks.proofs.PlaceLaws.{place-name}
-use Rattle.dict_tree.specs.Facts.{Bound, Fact, Stated, check, greatest, least, max_length, scalar}
-use Rattle.dict_tree.specs.Dictionary.{Dictionary as Tree, number_from, passed}
-use Rattle.dict_tree.specs.Finding.{IsNumber, fact_at}
+use Rattle.dict_source.specs.Facts.{Bound, Fact, Stated, check, greatest, least, max_length, scalar}
+use Rattle.dict_source.specs.Dictionary.{Dictionary as Tree, number_from, passed}
+use Rattle.dict_source.specs.Finding.{IsNumber, fact_at}
 use Rattle.dict_types.specs.BadLimit.{bound_value, fact_limits, has_twice, length_at, limit_at, limits_at, ordered_value, takes_text}
 use Rattle.dict_types.specs.DictFaults.{AreLimits}
-use Rattle.dict_types.specs.StatedTypes.{stated_type, type_at, type_stated}
-use Rattle.dict_types.specs.UnknownCheck.{check_place, has_unknown_check, is_unknown_check}
+use Rattle.node_types.specs.StatedTypes.{stated_type, type_at, type_stated}
+use Rattle.dict_rules.specs.UnknownCheck.{check_place, has_unknown_check, is_unknown_check}
 use Rattle.dict_types.specs.declared.limit.Limit.{Limit}
 use Rattle.dict_types.specs.declared.limit.Limit.TheVariants.{Min, Max, MaxLength, Check}
-use Rattle.dictionary.proofs.NumberLaws.{fact_there}
-use Rattle.dictionary.specs.Accepted.{Accepted, IsAccepted, Named, names_of}
+use Rattle.dict_meaning.proofs.NumberLaws.{fact_there}
+use Rattle.dict_meaning.specs.Accepted.{Accepted, IsAccepted}
+use Rattle.dictionary.specs.Kept.{Named, names_of}
 use Rattle.dictionary.specs.Checks.{fact_has_check, has_check, is_check}
 use Rattle.graph_session.specs.Kinds.{HasCheck, IsLimitBy, IsMeasured, fails, limits_of, value_spelled}
 use Rattle.graph_session.specs.Refusals.{SameChecks}

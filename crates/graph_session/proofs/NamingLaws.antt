@@ -6,15 +6,15 @@ use Rattle.std.specs.FinMap as map
 use Rattle.std.proofs.lemmas.Bool.{eqb-true}
 use Rattle.fact_paths.specs.declared.slot_path.SlotPath.{SlotPath}
 use Rattle.fact_paths.specs.declared.slot_path.SlotPath.TheVariants.{Global, Member}
-use Rattle.dict_tree.specs.Dictionary.{Dictionary as Tree}
-use Rattle.dict_tree.specs.Finding.{HasPath, IsNumber}
-use Rattle.dict_tree.specs.Targets.{collection_at, find_global, member_collection}
-use Rattle.dict_tree.proofs.FindingLaws.{find_path-first, first_is_there}
+use Rattle.dict_source.specs.Dictionary.{Dictionary as Tree}
+use Rattle.dict_source.specs.Finding.{HasPath, IsNumber}
+use Rattle.dict_source.specs.Targets.{collection_at, find_global, member_collection}
+use Rattle.dict_source.proofs.FindingLaws.{find_path-first, first_is_there}
 use Rattle.answers.specs.Answered.{Answered}
-use Rattle.dictionary.specs.Fits.{AnswersFit, is_list}
-use Rattle.dictionary.specs.Homes.{home}
-use Rattle.dictionary.specs.Dependencies.{slot}
-use Rattle.dictionary.specs.Slots.{is_member, stands, stands_at, stands_of}
+use Rattle.dict_meaning.specs.Fits.{AnswersFit, is_list}
+use Rattle.dict_meaning.specs.Homes.{home}
+use Rattle.evaluation.specs.Results.{slot}
+use Rattle.dict_meaning.specs.Slots.{is_member, stands, stands_at, stands_of}
 use Rattle.graph_session.specs.Naming.{lacks_member, member_of, named_fact, path_of}
 
 -- the collection of a member's path: 0 of another

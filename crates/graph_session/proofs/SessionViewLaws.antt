@@ -4,7 +4,7 @@ use Rattle.std.specs.Prelude.{take}
 use Rattle.answers.specs.Change.{Change, applied, inverse}
 use Rattle.session_undo.specs.UndoState.{UndoState, changed, forgotten}
 use Rattle.session_undo.specs.Timeline.{Timeline}
-use Rattle.dictionary.specs.Accepted.{Kept, accepted}
+use Rattle.dictionary.specs.Kept.{Kept, accepted}
 use Rattle.dictionary.specs.Engines.{AreMarkedBy, AreSameMarks, Marks}
 use Rattle.graph_session.specs.Counts.{counts_of}
 use Rattle.graph_session.specs.SessionView.{SessionView, moved_to}

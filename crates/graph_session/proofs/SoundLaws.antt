@@ -2,7 +2,7 @@
 use Rattle.std.proofs.Common.{◌≡◌, ℕ, ◌+◌, ◌≤◌, false, List, [], ◌∷◌, Option, Some, refl, sym, ap, ◌∙◌, subst}
 use Rattle.std.specs.List.{All}
 use Rattle.std.proofs.lemmas.List.Elements.{All-cons, All-head, All-nil, All-tail, All-take}
-use Rattle.dict_tree.specs.Dictionary.{Dictionary as Tree}
+use Rattle.dict_source.specs.Dictionary.{Dictionary as Tree}
 use Rattle.answers.specs.Answered.{Answered}
 use Rattle.answers.specs.Change.{Change, Fits, applied, inverse}
 use Rattle.answers.specs.WellFormed.{WellFormed}
@@ -17,10 +17,10 @@ use Rattle.session_undo.specs.History.{first, place}
 use Rattle.session_undo.specs.UndoState.{FitInTurn, Kept as IsKeptState, UndoState, changed, forgotten, moved, moved_back, turned}
 use Rattle.session_undo.specs.Timeline.{Timeline, back_to, timeline, timeline_back, timeline_change, timeline_forgotten, timeline_forth, timeline_turned, trace}
 use Rattle.session_undo.proofs.TimelineLaws.{forgotten_timeline, kept_changed, kept_forgotten, kept_moved_back, timeline_changed, timeline_moved_back, timeline_moved_forth}
-use Rattle.dictionary.specs.Accepted.{Kept, accepted, names_of}
-use Rattle.dictionary.specs.Allowed.{IsAllowed}
-use Rattle.dictionary.specs.Fits.{AnswersFit}
-use Rattle.dictionary.proofs.FitChangeLaws.{allowed_changes_fit}
+use Rattle.dictionary.specs.Kept.{Kept, accepted, names_of}
+use Rattle.dict_meaning.specs.Allowed.{IsAllowed}
+use Rattle.dict_meaning.specs.Fits.{AnswersFit}
+use Rattle.dict_meaning.proofs.FitChangeLaws.{allowed_changes_fit}
 use Rattle.graph_session.specs.Counts.{Counts}
 use Rattle.graph_session.specs.Keeping.{AllFit, IsSound}
 use Rattle.graph_session.specs.Moves.{changes_along, is_end, step_command, stepped, timeline_stepped}

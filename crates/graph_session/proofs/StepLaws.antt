@@ -5,13 +5,13 @@ use Rattle.fact_paths.specs.declared.slot_path.SlotPath.{SlotPath}
 use Rattle.fact_values.specs.declared.slot.Slot.{Slot}
 use Rattle.script_lines.specs.declared.command.Command.{Command}
 use Rattle.script_lines.specs.declared.command.Command.TheVariants as commands
-use Rattle.dict_tree.specs.Dictionary.{Dictionary as Tree}
+use Rattle.dict_source.specs.Dictionary.{Dictionary as Tree}
 use Rattle.answers.specs.Answered.{Answered}
 use Rattle.answers.specs.Change.{Change, applied}
 use Rattle.session_undo.specs.Timeline.{Timeline}
 use Rattle.session_undo.specs.declared.direction.Direction.{Direction}
 use Rattle.session_undo.specs.declared.direction.Direction.TheVariants.{Back, Forth}
-use Rattle.dictionary.specs.Fits.{is_answered_by}
+use Rattle.dict_meaning.specs.Fits.{is_answered_by}
 use Rattle.graph_session.specs.Changes.{change_of, change_refusals, change_reply}
 use Rattle.graph_session.specs.Moves.{end_refusal, is_end, step_command, timeline_stepped}
 use Rattle.graph_session.specs.Naming.{fact_of, is_unknown, lacks_member, slot_of}

@@ -12,23 +12,23 @@ use Rattle.fact_values.specs.declared.value.Value.TheVariants as values
 use Rattle.value_text.specs.Enums.{Listed, list_place, names_of, option_at}
 use Rattle.value_text.specs.Values.{IsRead}
 use Rattle.value_text.specs.ValueLaws.{IsValueOf}
-use Rattle.dict_tree.specs.Facts.{Fact, Stated, scalar, enum_of, writable_list, list_of, item_of}
-use Rattle.dict_tree.specs.Dictionary.{Dictionary as Tree}
-use Rattle.dict_tree.specs.Finding.{IsNumber, fact_at}
-use Rattle.dict_tree.specs.Forms.{HasKind, IsScalar}
+use Rattle.dict_source.specs.Facts.{Fact, Stated, scalar, enum_of, writable_list, list_of, item_of}
+use Rattle.dict_source.specs.Dictionary.{Dictionary as Tree}
+use Rattle.dict_source.specs.Finding.{IsNumber, fact_at}
+use Rattle.dict_source.specs.Forms.{HasKind, IsScalar}
 use Rattle.dict_types.specs.DictFaults.{AreTypedFacts}
-use Rattle.dict_types.specs.StatedTypes.{stated_type, type_at, type_stated}
+use Rattle.node_types.specs.StatedTypes.{stated_type, type_at, type_stated}
 use Rattle.dict_types.specs.Typed.{IsThere, numbered}
 use Rattle.dict_types.specs.TypedParts.{TypedFact}
 use Rattle.dict_types.proofs.DictLaws.{facts_length, limits_length}
 use Rattle.evaluation.specs.Typed.{IsOfType}
 use Rattle.answers.specs.Answered.{Answered}
-use Rattle.dictionary.specs.Accepted.{Accepted, IsAccepted}
-use Rattle.dictionary.specs.Fits.{answers_of, domains, overrides_of}
-use Rattle.dictionary.proofs.ConstantTypes.{place_within}
-use Rattle.dict_tree.specs.Forms.{IsWellFormed}
-use Rattle.dictionary.proofs.HomeLaws.{all_facts}
-use Rattle.dictionary.proofs.MemberlessTypes.{IsMemberless, answered, overridden}
+use Rattle.dict_meaning.specs.Accepted.{Accepted, IsAccepted}
+use Rattle.dict_meaning.specs.Fits.{answers_of, domains, overrides_of}
+use Rattle.dict_meaning.proofs.ConstantTypes.{place_within}
+use Rattle.dict_source.specs.Forms.{IsWellFormed}
+use Rattle.dict_meaning.proofs.HomeLaws.{all_facts}
+use Rattle.dict_meaning.proofs.MemberlessTypes.{IsMemberless, answered, overridden}
 use Rattle.graph_session.specs.Kinds.{is_given}
 
 -- ---- what is kept of each fact

@@ -2,10 +2,10 @@
 use Rattle.std.specs.Prelude.{ℕ, Bool, List, [], ◌∷◌, map, Option, Some, None, if◌then◌else◌}
 use Rattle.fact_values.specs.declared.slot.Slot.{Slot}
 use Rattle.answers.specs.Answered.{Answered}
-use Rattle.dictionary.specs.Accepted.{Accepted}
+use Rattle.dict_meaning.specs.Accepted.{Accepted}
 use Rattle.dictionary.specs.Engines.{Marks}
-use Rattle.dictionary.specs.Slots.{slot_same, standing}
-use Rattle.dictionary.specs.Touched.{stamped, touched_count}
+use Rattle.dict_meaning.specs.Slots.{slot_same, standing}
+use Rattle.dict_meaning.specs.Touched.{stamped, touched_count}
 
 -- the stamp of each slot that stands, and how many slots the last change touched
 pub record Counts : Type 0 where

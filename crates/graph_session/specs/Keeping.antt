@@ -1,10 +1,11 @@
 -- What every session keeps.
 use Rattle.std.specs.List.{All}
-use Rattle.dict_tree.specs.Dictionary.{Dictionary as Tree}
+use Rattle.dict_source.specs.Dictionary.{Dictionary as Tree}
 use Rattle.session_undo.specs.UndoState.{UndoState, Kept as IsKeptState}
 use Rattle.session_undo.specs.Timeline.{Timeline, timeline}
-use Rattle.dictionary.specs.Accepted.{IsAccepted, Kept, accepted, names_of}
-use Rattle.dictionary.specs.Fits.{AnswersFit}
+use Rattle.dict_meaning.specs.Accepted.{IsAccepted}
+use Rattle.dictionary.specs.Kept.{Kept, accepted, names_of}
+use Rattle.dict_meaning.specs.Fits.{AnswersFit}
 
 -- the answers at the place fit the dictionary, and so do all before and after it
 pub record AllFit (d : Tree) (t : Timeline) : Type 0 where

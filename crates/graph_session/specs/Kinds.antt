@@ -7,15 +7,15 @@ use Rattle.fact_values.specs.declared.value.Value.{Value}
 use Rattle.fact_values.specs.declared.value.Value.TheVariants.{Text}
 use Rattle.value_text.specs.Values.{value_at}
 use Rattle.text_checks.specs.Checks.{check_says}
-use Rattle.dict_tree.specs.Dictionary.{Dictionary as Tree, number_from}
-use Rattle.dict_types.specs.StatedTypes.{type_at}
+use Rattle.dict_source.specs.Dictionary.{Dictionary as Tree, number_from}
+use Rattle.node_types.specs.StatedTypes.{type_at}
 use Rattle.dict_types.specs.Typed.{numbered}
 use Rattle.dict_types.specs.TypedParts.{TypedDictionary}
 use Rattle.dict_types.specs.declared.limit.Limit.{Limit}
 use Rattle.dict_types.specs.declared.limit.Limit.TheVariants.{Min, Max, MaxLength, Check}
 use Rattle.answers.specs.Answered.{Answered, list_of}
-use Rattle.dictionary.specs.Accepted.{Named}
-use Rattle.dictionary.specs.Fits.{is_answered_by, is_overridden_by}
+use Rattle.dictionary.specs.Kept.{Named}
+use Rattle.dict_meaning.specs.Fits.{is_answered_by, is_overridden_by}
 
 -- ---- values
 

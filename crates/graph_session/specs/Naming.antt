@@ -5,12 +5,12 @@ use Rattle.fact_paths.specs.declared.fact_path.FactPath.TheVariants as facts
 use Rattle.fact_paths.specs.declared.slot_path.SlotPath.{SlotPath}
 use Rattle.fact_paths.specs.declared.slot_path.SlotPath.TheVariants.{Global, Member}
 use Rattle.fact_values.specs.declared.slot.Slot.{Slot}
-use Rattle.dict_tree.specs.Dictionary.{Dictionary as Tree}
-use Rattle.dict_tree.specs.Finding.{find_path}
-use Rattle.dict_tree.specs.Targets.{find_global}
+use Rattle.dict_source.specs.Dictionary.{Dictionary as Tree}
+use Rattle.dict_source.specs.Finding.{find_path}
+use Rattle.dict_source.specs.Targets.{find_global}
 use Rattle.answers.specs.Answered.{Answered}
-use Rattle.dictionary.specs.Dependencies.{slot}
-use Rattle.dictionary.specs.Slots.{is_member}
+use Rattle.evaluation.specs.Results.{slot}
+use Rattle.dict_meaning.specs.Slots.{is_member}
 
 -- the fact's path: `/N` of `/N`, and `/N/*/M` of `/N/#K/M`
 abbrev pub path_of : SlotPath → FactPath

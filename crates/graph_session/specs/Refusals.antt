@@ -8,10 +8,10 @@ use Rattle.fact_values.specs.declared.slot.Slot.{Slot}
 use Rattle.fact_values.specs.declared.value.Value.{Value}
 use Rattle.answers.specs.Answered.{Answered, value_of}
 use Rattle.answers.specs.declared.edit.Side.TheVariants.{Answer, Override}
-use Rattle.dictionary.specs.Accepted.{Named}
+use Rattle.dictionary.specs.Kept.{Named}
 use Rattle.dictionary.specs.Checks.{has_check}
-use Rattle.dictionary.specs.Fits.{is_answered_by, is_list, is_overridden_by}
-use Rattle.dictionary.specs.Slots.{is_member}
+use Rattle.dict_meaning.specs.Fits.{is_answered_by, is_list, is_overridden_by}
+use Rattle.dict_meaning.specs.Slots.{is_member}
 use Rattle.graph_session.specs.Counts.{Counts}
 use Rattle.graph_session.specs.Kinds.{first_broken, first_failed, is_full, limits_of, value_spelled}
 use Rattle.graph_session.specs.Naming.{fact_of, is_unknown, lacks_member, slot_of}

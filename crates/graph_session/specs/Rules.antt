@@ -1,7 +1,8 @@
 -- What a session goes by: an accepted dictionary, and the checks with which it was accepted.
 use Rattle.std.specs.Prelude.{List}
-use Rattle.dict_tree.specs.Dictionary.{Dictionary as Tree}
-use Rattle.dictionary.specs.Accepted.{Accepted, Kept, Named, accepted}
+use Rattle.dict_source.specs.Dictionary.{Dictionary as Tree}
+use Rattle.dict_meaning.specs.Accepted.{Accepted}
+use Rattle.dictionary.specs.Kept.{Kept, Named, accepted}
 
 pub record Rules : Type 0 where
   pub accepted : Accepted

@@ -8,7 +8,8 @@ use Rattle.fact_values.specs.contracts.value.Value as value
 use Rattle.answers.specs.Finite.{Numbered}
 use Rattle.answers.specs.Answered.{Answered, Entry}
 use Rattle.session_undo.specs.Timeline.{Timeline, timeline_forgotten}
-use Rattle.dictionary.specs.Accepted.{Accepted, Kept, accepted}
+use Rattle.dict_meaning.specs.Accepted.{Accepted}
+use Rattle.dictionary.specs.Kept.{Kept, accepted}
 use Rattle.dictionary.specs.contracts.dictionary.Dictionary as dictionary
 use Rattle.graph_session.specs.Counts.{Counts, next_counts, no_counts}
 

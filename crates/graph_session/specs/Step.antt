@@ -4,7 +4,7 @@ use Rattle.script_lines.specs.Kinds as kinds
 use Rattle.script_lines.specs.Kinds.{kind_of}
 use Rattle.script_lines.specs.declared.command.Command.{Command}
 use Rattle.script_lines.specs.declared.command.Command.TheVariants as commands
-use Rattle.dict_tree.specs.Dictionary.{Dictionary as Tree}
+use Rattle.dict_source.specs.Dictionary.{Dictionary as Tree}
 use Rattle.answers.specs.Answered.{Answered}
 use Rattle.answers.specs.Change.{Change, applied}
 use Rattle.session_undo.specs.Timeline.{Timeline, timeline_back, timeline_forth, timeline_change}

@@ -1,11 +1,11 @@
 // Which commands a fact is for.
 ghost use Rattle.std.specs.Prelude.{◌≡◌};
-ghost use Rattle.dict_tree.specs.Dictionary.{is_collection};
-ghost use Rattle.dict_tree.specs.Facts.{fact_view, stated_view};
-ghost use Rattle.dictionary.specs.Fits.{is_answered_by, is_list as is_list_fact, is_overridden_by, is_writable as writable, names_members as names};
+ghost use Rattle.dict_source.specs.Dictionary.{is_collection};
+ghost use Rattle.dict_source.specs.Facts.{fact_view, stated_view};
+ghost use Rattle.dict_meaning.specs.Fits.{is_answered_by, is_list as is_list_fact, is_overridden_by, is_writable as writable, names_members as names};
 ghost use Rattle.graph_session.specs.Rules.{rules, tree_of};
 
-use dict_tree::{FactSource, TypeText};
+use dict_source::{FactSource, TypeText};
 use dictionary::Dictionary;
 
 fn is_list_type(stated: &TypeText) -> bool

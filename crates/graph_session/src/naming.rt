@@ -2,9 +2,9 @@
 ghost use Rattle.std.specs.Prelude.{◌≡◌, IfOk, IfSome, IsTrue, Some};
 ghost use Rattle.answers.specs.Answered.{list_of};
 ghost use Rattle.answers.specs.Meaning.{answered};
-ghost use Rattle.dict_tree.specs.Finding.{IsNumber};
-ghost use Rattle.dictionary.specs.Fits.{AnswersFit};
-ghost use Rattle.dictionary.specs.Slots.{is_member as among_members, stands};
+ghost use Rattle.dict_source.specs.Finding.{IsNumber};
+ghost use Rattle.dict_meaning.specs.Fits.{AnswersFit};
+ghost use Rattle.dict_meaning.specs.Slots.{is_member as among_members, stands};
 ghost use Rattle.graph_session.specs.Naming.{lacks_member as lacks, member_of as member_named, named_fact};
 ghost use Rattle.graph_session.specs.Refusals.{slot_found};
 ghost use Rattle.graph_session.specs.Rules.{rules, tree_of};

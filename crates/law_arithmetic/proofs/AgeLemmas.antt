@@ -1,5 +1,6 @@
 -- The years completed by month and day are the age, and no other number is.
 use Rattle.std.proofs.Common.{◌≡◌, ℕ, ◌≤◌, ◌<◌, ℤ, pos, ◌+ℤ◌, ◌-ℤ◌, ◌≤ℤ◌, ◌<ℤ◌, ◌⊎◌, inl, inr, Bool, true, false, if◌then◌else◌, nat_le, refl, sym, subst, ap, ◌∙◌, arith}
+use Rattle.std.proofs.lemmas.Bool.{leb-false, leb-true}
 use Rattle.std.proofs.lemmas.Bool.Decides.{nat_tests}
 use Rattle.std.proofs.lemmas.Int.{by_lt_z}
 use Rattle.jiff_core.specs.Calendar.{IsYear, IsCivilDate, days_from_civil, days_in_month}
@@ -14,16 +15,10 @@ chosen : (P : ℤ → Type 0) (b : Bool) (x y : ℤ) → (b ≡ true → P x) �
 chosen P true x y f g = f refl
 chosen P false x y f g = g refl
 
-within : (m n : ℕ) → nat_le m n ≡ true → m ≤ n
-within m n e = grind (arith, nat_tests)
-
-beyond : (m n : ℕ) → nat_le m n ≡ false → n < m
-beyond m n e = grind (arith, nat_tests)
-
 -- a birthday is on its date, or on 1 March where the year lacks it
 by_birthday : (P : ℤ → Type 0) (year : ℤ) (born : CivilDate) → (born.day ≤ days_in_month year born.month → P (days_from_civil year born.month born.day)) → (days_in_month year born.month < born.day → P (days_from_civil year 3 1)) → P (birthday_in year born)
 by_birthday P year born f g =
-    chosen P (nat_le born.day (days_in_month year born.month)) _ _ (λ e. f (within _ _ e)) (λ e. g (beyond _ _ e))
+    chosen P (nat_le born.day (days_in_month year born.month)) _ _ (λ e. f (leb-true _ _ e)) (λ e. g (leb-false _ _ e))
 
 -- only 29 February is lacking
 leap_day : (year year2 : ℤ) (month day : ℕ) → day ≤ days_in_month year month → days_in_month year2 month < day → month ≡ 2

@@ -6,24 +6,24 @@ use Rattle.std.proofs.lemmas.Bool.{false_from_ne_true}
 use Rattle.std.proofs.lemmas.List.{map-append}
 use Rattle.std.proofs.lemmas.Option.{slice_get-map}
 use Rattle.fact_values.specs.declared.fact_type.FactType.{FactType}
-use Rattle.dict_tree.specs.Dictionary.{Dictionary as Tree}
-use Rattle.dict_tree.specs.Facts.{Fact, fact_view}
-use Rattle.dict_tree.specs.Finding.{fact_at}
-use Rattle.dict_tree.specs.Tree.{Source, SourceCase}
-use Rattle.dict_tree.specs.declared.fact_source.FactSource.{FactSource}
+use Rattle.dict_source.specs.Dictionary.{Dictionary as Tree}
+use Rattle.dict_source.specs.Facts.{Fact, fact_view}
+use Rattle.dict_source.specs.Finding.{fact_at}
+use Rattle.dict_source.specs.Tree.{Source, SourceCase}
+use Rattle.dict_source.specs.declared.fact_source.FactSource.{FactSource}
 use Rattle.dict_types.specs.DictFaults.{IsTypedDictionary}
-use Rattle.dict_types.specs.NoCollection.{is_list}
-use Rattle.dict_types.specs.StatedTypes.{type_at}
+use Rattle.dict_rules.specs.NoCollection.{is_list}
+use Rattle.node_types.specs.StatedTypes.{type_at}
 use Rattle.dict_types.specs.Typed.{numbered}
 use Rattle.dict_types.specs.TypedParts.{TypedDictionary}
-use Rattle.dict_types.specs.Uses.{conditional_has_use, fact_has_use, has_use, option_has_use}
-use Rattle.dict_types.specs.WrongPlace.{has_wrong_place, is_member_path, is_misplaced}
+use Rattle.dict_rules.specs.Uses.{conditional_has_use, fact_has_use, has_use, option_has_use}
+use Rattle.dict_rules.specs.WrongPlace.{has_wrong_place, is_member_path, is_misplaced}
 use Rattle.evaluation.specs.Mentioned.{AllOf}
 use Rattle.common_lemmas.proofs.Bools.{or_neither}
-use Rattle.dictionary.specs.Plain.{body, conditional_body}
-use Rattle.dictionary.proofs.FactTypes.{HasOptionType, type_of_number, typed_fact}
-use Rattle.dictionary.proofs.NumberLaws.{fact_there}
-use Rattle.dictionary.proofs.PlacedReads.{placed_types}
+use Rattle.dict_meaning.specs.Plain.{body, conditional_body}
+use Rattle.dict_meaning.proofs.FactTypes.{HasOptionType, type_of_number, typed_fact}
+use Rattle.dict_meaning.proofs.NumberLaws.{fact_there}
+use Rattle.dict_meaning.proofs.PlacedReads.{placed_types}
 use Rattle.node_eval.specs.NodeTypes.{IsTypedCell}
 use Rattle.node_eval.specs.SlotsOf.{slots_of}
 use Rattle.node_eval.specs.View.{view}

@@ -3,25 +3,26 @@
 use Rattle.std.proofs.Common.{◌≡◌, ℕ, suc, List, [], ◌∷◌, sum_by, refl, sym, ap, subst, ◌∙◌}
 use Rattle.fact_values.specs.declared.fact_type.FactType.{FactType}
 use Rattle.fact_values.specs.declared.fact_type.FactType.TheVariants as types
-use Rattle.dict_tree.specs.Dictionary.{Dictionary as Tree}
-use Rattle.dict_tree.specs.Mentions.{condition_base}
-use Rattle.dict_tree.specs.Tree.{Source, Sources, SourceCases, literal, read, switch, many, one, two, pick, no_trees, tree, no_cases, a_case}
-use Rattle.dict_tree.specs.Typing.{HasType, HaveTypes, HaveCaseTypes}
-use Rattle.dict_types.specs.FactTyping.{path_type}
+use Rattle.dict_source.specs.Dictionary.{Dictionary as Tree}
+use Rattle.dict_source.specs.Mentions.{condition_base}
+use Rattle.dict_source.specs.Tree.{Source, Sources, SourceCases, literal, read, switch, many, one, two, pick, no_trees, tree, no_cases, a_case}
+use Rattle.dict_source.specs.Typing.{HasType, HaveTypes, HaveCaseTypes}
+use Rattle.node_types.specs.FactTyping.{path_type}
 use Rattle.three_state.specs.Results.{members_of, switch_of}
 use Rattle.evaluation.specs.Over.{over, over_all, over_cases, many_of, one_of, pick_of, weight, weight_of_all, weight_of_cases}
 use Rattle.evaluation.specs.Resolving.{resolved, resolved_all, resolved_cases}
 use Rattle.evaluation.specs.SlotsRead.{members_visited}
 use Rattle.evaluation.specs.Visits.{visits, visits_of_all, visits_of_cases}
 use Rattle.evaluation.proofs.ResolvingLaws.{everywhere}
-use Rattle.dictionary.specs.Dependencies.{Results, source_env, source_result}
-use Rattle.dictionary.proofs.PlacedReads.{placed_types}
+use Rattle.dict_meaning.specs.Dependencies.{source_env, source_result}
+use Rattle.evaluation.specs.Results.{Results}
+use Rattle.dict_meaning.proofs.PlacedReads.{placed_types}
 use Rattle.node_eval.specs.Dependencies.{entered, node_env}
 use Rattle.node_eval.specs.declared.eval_position.EvalPosition.{EvalPosition as NodePlace}
 use Rattle.node_compile.specs.Compiling.{names}
 use Rattle.node_compile.proofs.ReadLaws.{list_by_path, read_by_path, standing}
 use Rattle.node_compile.proofs.TargetLaws.{unsuited}
-use Rattle.dictionary.proofs.ReadTypes.{known_is}
+use Rattle.dict_meaning.proofs.ReadTypes.{known_is}
 
 module _ (d : Tree) (fact : ℕ) (results : Results) where
   -- the result, the weight, and the nodes that are visited

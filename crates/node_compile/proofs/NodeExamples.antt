@@ -8,13 +8,13 @@ use Rattle.fact_paths.specs.declared.use_path.UsePath.{UsePath}
 use Rattle.fact_paths.specs.declared.use_path.UsePath.TheVariants as uses
 use Rattle.fact_values.specs.declared.fact_type.FactType.TheVariants as types
 use Rattle.fact_values.specs.declared.value.Value.TheVariants.{Boolean, Int}
-use Rattle.dict_tree.specs.declared.operators.ManyOp.TheVariants.{All}
-use Rattle.dict_tree.specs.declared.operators.PickOp.TheVariants.{Filter, Find}
-use Rattle.dict_tree.specs.declared.operators.ReadOp.{ReadOp}
-use Rattle.dict_tree.specs.declared.operators.ReadOp.TheVariants as reads
-use Rattle.dict_tree.specs.Tree.{Source, SourceCase, Use, a_case, literal, literal_int, many, no_cases, no_trees, pick, read, switch, tree}
-use Rattle.dict_tree.specs.Facts.{Fact, Stated, item_of, scalar, writable_list}
-use Rattle.dict_tree.specs.Dictionary.{Dictionary as Tree}
+use Rattle.dict_source.specs.declared.operators.ManyOp.TheVariants.{All}
+use Rattle.dict_source.specs.declared.operators.PickOp.TheVariants.{Filter, Find}
+use Rattle.dict_source.specs.declared.operators.ReadOp.{ReadOp}
+use Rattle.dict_source.specs.declared.operators.ReadOp.TheVariants as reads
+use Rattle.dict_source.specs.Tree.{Source, SourceCase, Use, a_case, literal, literal_int, many, no_cases, no_trees, pick, read, switch, tree}
+use Rattle.dict_source.specs.Facts.{Fact, Stated, item_of, scalar, writable_list}
+use Rattle.dict_source.specs.Dictionary.{Dictionary as Tree}
 use Rattle.node_eval.specs.View.{Compiled as NodeTree}
 use Rattle.node_eval.specs.declared.node.NodeRead.TheVariants.{Count, Dependency, IsComplete, SumDollar, SumInt}
 use Rattle.node_eval.specs.declared.node.Reader.TheVariants.{Each, Global, Inner, Same, SameThrough, Through}

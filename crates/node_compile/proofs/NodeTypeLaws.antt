@@ -9,32 +9,32 @@ use Rattle.fact_values.specs.declared.fact_type.FactType.TheVariants.{Boolean, I
 use Rattle.fact_values.specs.declared.value.Value.{Value}
 use Rattle.fact_values.specs.declared.value.Value.TheVariants as values
 use Rattle.value_text.specs.Enums.{Listed}
-use Rattle.dict_tree.specs.declared.operators.OneOp.{OneOp}
-use Rattle.dict_tree.specs.declared.operators.OneOp.TheVariants.{Not, Round, YearOf, MonthOf, DayOf, Lookup}
-use Rattle.dict_tree.specs.declared.operators.PickOp.{PickOp}
-use Rattle.dict_tree.specs.declared.operators.ReadOp.{ReadOp}
-use Rattle.dict_tree.specs.declared.operators.ReadOp.TheVariants.{Dependency, IsComplete, CollectionSize, CollectionSum, Count}
-use Rattle.dict_tree.specs.declared.targets.Targets.{Targets}
-use Rattle.dict_tree.specs.Dictionary.{Dictionary as Tree}
-use Rattle.dict_tree.specs.Finding.{IsNumber}
-use Rattle.dict_tree.specs.Mentions.{condition_base}
-use Rattle.dict_tree.specs.OperandTypes.{one_type, same_type}
-use Rattle.dict_tree.specs.Tables.{LookupTable}
-use Rattle.dict_tree.specs.Targets.{item_base_at, targets}
-use Rattle.dict_tree.specs.Tree.{Literal, Source, Sources, SourceCases, literal, read, switch, many, one, two, pick, no_trees, tree, no_cases, a_case}
-use Rattle.dict_tree.specs.Typing.{HasType, HaveTypes, HaveCaseTypes, IsSomeCase}
-use Rattle.dict_tree.proofs.TargetsLaws.{AreTargets-first_within, AreTargets-second_within, targets-AreTargets}
-use Rattle.dict_types.specs.declared.reader.Reader.TheVariants as uses
-use Rattle.dict_types.specs.Constants.{literal_type, literal_value, value_type}
-use Rattle.dict_types.specs.FactTyping.{count_type, field_sum_type, known, last_target, path_type, size_type, target_type}
-use Rattle.dict_types.specs.StatedTypes.{base_number, type_at}
-use Rattle.dict_types.specs.Uses.{Condition, cases_have_use, condition_under, goes_through_members, has_use, reads_each, reads_fact, some_have_use}
-use Rattle.dict_types.specs.WrongPlace.{is_displaced, is_in_place, is_misplaced}
+use Rattle.dict_source.specs.declared.operators.OneOp.{OneOp}
+use Rattle.dict_source.specs.declared.operators.OneOp.TheVariants.{Not, Round, YearOf, MonthOf, DayOf, Lookup}
+use Rattle.dict_source.specs.declared.operators.PickOp.{PickOp}
+use Rattle.dict_source.specs.declared.operators.ReadOp.{ReadOp}
+use Rattle.dict_source.specs.declared.operators.ReadOp.TheVariants.{Dependency, IsComplete, CollectionSize, CollectionSum, Count}
+use Rattle.dict_source.specs.declared.targets.Targets.{Targets}
+use Rattle.dict_source.specs.Dictionary.{Dictionary as Tree}
+use Rattle.dict_source.specs.Finding.{IsNumber}
+use Rattle.dict_source.specs.Mentions.{condition_base}
+use Rattle.dict_source.specs.OperandTypes.{one_type, same_type}
+use Rattle.dict_source.specs.Tables.{LookupTable}
+use Rattle.dict_source.specs.Targets.{item_base_at, targets}
+use Rattle.dict_source.specs.Tree.{Literal, Source, Sources, SourceCases, literal, read, switch, many, one, two, pick, no_trees, tree, no_cases, a_case}
+use Rattle.dict_source.specs.Typing.{HasType, HaveTypes, HaveCaseTypes, IsSomeCase}
+use Rattle.dict_source.proofs.TargetsLaws.{AreTargets-first_within, AreTargets-second_within, targets-AreTargets}
+use Rattle.dict_rules.specs.declared.reader.Reader.TheVariants as uses
+use Rattle.node_types.specs.Constants.{literal_type, literal_value, value_type}
+use Rattle.node_types.specs.FactTyping.{count_type, field_sum_type, known, last_target, path_type, size_type, target_type}
+use Rattle.node_types.specs.StatedTypes.{base_number, type_at}
+use Rattle.dict_rules.specs.Uses.{Condition, cases_have_use, condition_under, goes_through_members, has_use, reads_each, reads_fact, some_have_use}
+use Rattle.dict_rules.specs.WrongPlace.{is_displaced, is_in_place, is_misplaced}
 use Rattle.evaluation.specs.Resolving.{resolved, resolved_all, resolved_cases}
 use Rattle.common_lemmas.proofs.Bools.{or_neither}
-use Rattle.dictionary.specs.Dependencies.{constant_value}
-use Rattle.dictionary.proofs.PlacedReads.{placed_types}
-use Rattle.dictionary.proofs.ReadTypes.{item_target, known_is, list_target}
+use Rattle.dict_meaning.specs.Dependencies.{constant_value}
+use Rattle.dict_meaning.proofs.PlacedReads.{placed_types}
+use Rattle.dict_meaning.proofs.ReadTypes.{item_target, known_is, list_target}
 use Rattle.node_eval.specs.NodeTypes.{FactTypes, behind, collection_base, constant_type, counted, dependency_type, item_base, node_types, read_type, source_base}
 use Rattle.node_eval.specs.NodeTypes as nodes
 use Rattle.node_eval.specs.declared.node.NodeRead.TheVariants as node_read

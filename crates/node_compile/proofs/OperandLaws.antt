@@ -2,11 +2,11 @@
 use Rattle.std.proofs.Common.{◌≡◌, ℕ, ◌+◌, ◌<◌, List, [], ◌∷◌, ◌++◌, length, get_or, map, take, refl, sym, ap, ◌∙◌, add-one}
 use Rattle.std.proofs.Math.Seq.{take-suc}
 use Rattle.std.proofs.lemmas.List.{map-append}
-use Rattle.dict_tree.specs.Dictionary.{Dictionary as Tree}
-use Rattle.dict_tree.specs.Tree.{Cases, Trees, a_case, tree}
-use Rattle.dict_tree.specs.View.{cases_view, trees_view, view}
-use Rattle.dict_tree.specs.declared.expr.Case.{Case}
-use Rattle.dict_tree.specs.declared.expr.Expr.{Expr}
+use Rattle.dict_source.specs.Dictionary.{Dictionary as Tree}
+use Rattle.dict_source.specs.Tree.{Cases, Trees, a_case, tree}
+use Rattle.dict_source.specs.View.{cases_view, trees_view, view}
+use Rattle.dict_source.specs.declared.expr.Case.{Case}
+use Rattle.dict_source.specs.declared.expr.Expr.{Expr}
 use Rattle.fact_values.specs.declared.value.Value.{Value}
 use Rattle.evaluation.specs.Resolving.{resolved, resolved_all, resolved_cases}
 use Rattle.node_eval.specs.View.{Compiled as NodeTree, CompiledCase as NodeTreeCase, Reading as NodeReading, cases_of, trees_of}

@@ -4,18 +4,19 @@ use Rattle.fact_paths.specs.declared.use_path.UsePath.{UsePath}
 use Rattle.fact_paths.specs.declared.use_path.UsePath.TheVariants.{Global, Sibling, Inner, Each, Through, SiblingThrough}
 use Rattle.fact_values.specs.declared.fact_type.FactType.{FactType}
 use Rattle.fact_values.specs.declared.fact_type.FactType.TheVariants as types
-use Rattle.dict_tree.specs.declared.operators.ReadOp.{ReadOp}
-use Rattle.dict_tree.specs.declared.operators.ReadOp.TheVariants.{Dependency, IsComplete, CollectionSize, CollectionSum, Count}
-use Rattle.dict_tree.specs.declared.targets.Targets.{Targets}
-use Rattle.dict_tree.specs.Dictionary.{Dictionary as Tree}
-use Rattle.dict_tree.specs.Mentions.{condition_base}
-use Rattle.dict_tree.specs.Targets.{targets}
-use Rattle.dict_types.specs.FactTyping.{known, last_target, path_type}
+use Rattle.dict_source.specs.declared.operators.ReadOp.{ReadOp}
+use Rattle.dict_source.specs.declared.operators.ReadOp.TheVariants.{Dependency, IsComplete, CollectionSize, CollectionSum, Count}
+use Rattle.dict_source.specs.declared.targets.Targets.{Targets}
+use Rattle.dict_source.specs.Dictionary.{Dictionary as Tree}
+use Rattle.dict_source.specs.Mentions.{condition_base}
+use Rattle.dict_source.specs.Targets.{targets}
+use Rattle.node_types.specs.FactTyping.{known, last_target, path_type}
 use Rattle.three_state.specs.Results.{count_of}
 use Rattle.evaluation.specs.Reads.{collection_size, complete_test, sum_over}
 use Rattle.evaluation.proofs.ResolvingLaws.{everywhere}
-use Rattle.dictionary.specs.Dependencies as paths
-use Rattle.dictionary.specs.Dependencies.{Results, EvalPosition, field_type}
+use Rattle.dict_meaning.specs.Dependencies as paths
+use Rattle.dict_meaning.specs.Dependencies.{EvalPosition, field_type}
+use Rattle.evaluation.specs.Results.{Results, result_at}
 use Rattle.node_eval.specs.Dependencies as nodes
 use Rattle.node_eval.specs.declared.node.Reader.{Reader}
 use Rattle.node_eval.specs.declared.eval_position.EvalPosition.{EvalPosition as NodePlace}
@@ -56,7 +57,7 @@ module _ (d : Tree) (results : Results) (base : ℕ) (at : NodePlace) where
   list_same : (path : UsePath) (t : Targets) → HasTargets path t → nodes.collection results (reader_of path t) ≡ paths.collection results t
   list_same path t h = let f = first_there path t h in collection_same path t f.0 f.1
 
-  field_same : (path : UsePath) (t : Targets) → HasTargets path t → (m : ℕ) → nodes.field results (reader_of path t) m ≡ paths.result_at results t.second m
+  field_same : (path : UsePath) (t : Targets) → HasTargets path t → (m : ℕ) → nodes.field results (reader_of path t) m ≡ result_at results t.second m
   field_same (Global n) t h m = rw h.second refl
   field_same (Sibling n) t h m = rw h.second refl
   field_same (Inner n) t h m = rw h.second refl

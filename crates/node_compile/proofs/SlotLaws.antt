@@ -2,22 +2,22 @@
 use Rattle.std.proofs.Common.{◌≡◌, ℕ, ◌+◌, if◌then◌else◌, List, Option, Some, None, refl, sym, ap, subst, ◌∙◌}
 use Rattle.std.specs.Prelude.{option_and_then}
 use Rattle.fact_values.specs.declared.slot.Slot.{Slot}
-use Rattle.dict_tree.specs.Dictionary.{Dictionary as Tree}
-use Rattle.dict_tree.specs.Facts.{Fact, Stated}
-use Rattle.dict_tree.specs.Finding.{fact_at}
-use Rattle.dict_tree.specs.Tree.{Source}
+use Rattle.dict_source.specs.Dictionary.{Dictionary as Tree}
+use Rattle.dict_source.specs.Facts.{Fact, Stated}
+use Rattle.dict_source.specs.Finding.{fact_at}
+use Rattle.dict_source.specs.Tree.{Source}
 use Rattle.three_state.specs.Results.{down, is_incomplete}
 use Rattle.three_state.specs.declared.res.Res.{Res}
 use Rattle.three_state.specs.declared.res.Res.TheVariants.{Complete, Placeholder, Incomplete, Fault}
 use Rattle.answers.specs.Answered.{Answered, value_of}
 use Rattle.answers.specs.declared.edit.Side.TheVariants.{Override}
-use Rattle.dictionary.specs.Accepted.{Accepted, IsAccepted}
-use Rattle.dictionary.specs.Fits.{AnswersFit, domains}
-use Rattle.dictionary.specs.Plain.{at_fact, body, main_result, or_override, or_placeholder, plain}
-use Rattle.dictionary.specs.Weights.{expression_weight}
-use Rattle.dictionary.proofs.TypedResultLaws.{plain_typed}
+use Rattle.dict_meaning.specs.Accepted.{Accepted, IsAccepted}
+use Rattle.dict_meaning.specs.Fits.{AnswersFit, domains}
+use Rattle.dict_meaning.specs.Plain.{at_fact, body, main_result, or_override, or_placeholder, plain}
+use Rattle.dict_meaning.specs.Weights.{expression_weight}
+use Rattle.dict_meaning.proofs.TypedResultLaws.{plain_typed}
 use Rattle.visit_counts.specs.SlotVisits.{body_visits, placeholder_visits, unless_given}
-use Rattle.node_eval.specs.Results.{Results}
+use Rattle.evaluation.specs.Results.{Results}
 use Rattle.node_eval.specs.View.{Compiled as NodeTree}
 use Rattle.node_eval.specs.declared.eval_position.EvalPosition.{EvalPosition as NodePlace}
 use Rattle.node_compile.specs.Compiled.{IsCompiled, IsNodeOf, main_of, placeholder_of}

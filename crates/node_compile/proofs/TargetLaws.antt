@@ -5,16 +5,16 @@ use Rattle.fact_paths.specs.declared.use_path.UsePath.{UsePath}
 use Rattle.fact_paths.specs.declared.use_path.UsePath.TheVariants.{Global, Sibling, Inner, Each, Through, SiblingThrough}
 use Rattle.fact_values.specs.declared.fact_type.FactType.{FactType}
 use Rattle.fact_values.specs.declared.fact_type.FactType.TheVariants as types
-use Rattle.dict_tree.specs.declared.operators.ReadOp.{ReadOp}
-use Rattle.dict_tree.specs.declared.targets.Targets.{Targets}
-use Rattle.dict_tree.specs.Dictionary.{Dictionary as Tree}
-use Rattle.dict_tree.specs.Mentions.{condition_base}
-use Rattle.dict_tree.specs.Targets.{find_global, first_target, list_base_at, targets}
-use Rattle.dict_tree.proofs.TargetsLaws.{targets-AreTargets}
-use Rattle.dict_types.specs.FactTyping.{known, last_target, target_type}
-use Rattle.dict_types.specs.StatedTypes.{base_number, type_at}
-use Rattle.dictionary.proofs.PlacedReads.{suited, suits}
-use Rattle.dictionary.proofs.ReadTypes.{known_is, list_target}
+use Rattle.dict_source.specs.declared.operators.ReadOp.{ReadOp}
+use Rattle.dict_source.specs.declared.targets.Targets.{Targets}
+use Rattle.dict_source.specs.Dictionary.{Dictionary as Tree}
+use Rattle.dict_source.specs.Mentions.{condition_base}
+use Rattle.dict_source.specs.Targets.{find_global, first_target, list_base_at, targets}
+use Rattle.dict_source.proofs.TargetsLaws.{targets-AreTargets}
+use Rattle.node_types.specs.FactTyping.{known, last_target, target_type}
+use Rattle.node_types.specs.StatedTypes.{base_number, type_at}
+use Rattle.dict_meaning.proofs.PlacedReads.{suited, suits}
+use Rattle.dict_meaning.proofs.ReadTypes.{known_is, list_target}
 
 -- ---- targets that are there
 

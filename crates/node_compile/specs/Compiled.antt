@@ -1,18 +1,18 @@
 -- What compiled facts are: nodes that give what the facts' expressions give.
 use Rattle.std.specs.Prelude.{◌≡◌, ℕ, Option, Some, None, option_and_then, option_map}
 use Rattle.fact_values.specs.declared.slot.Slot.{Slot}
-use Rattle.dict_tree.specs.Dictionary.{Dictionary as Tree}
-use Rattle.dict_tree.specs.Facts.{Fact}
-use Rattle.dict_tree.specs.Finding.{fact_at}
-use Rattle.dict_tree.specs.Tree.{Source}
-use Rattle.dict_types.specs.StatedTypes.{type_at}
+use Rattle.dict_source.specs.Dictionary.{Dictionary as Tree}
+use Rattle.dict_source.specs.Facts.{Fact}
+use Rattle.dict_source.specs.Finding.{fact_at}
+use Rattle.dict_source.specs.Tree.{Source}
+use Rattle.node_types.specs.StatedTypes.{type_at}
 use Rattle.dict_types.specs.Typed.{numbered}
 use Rattle.evaluation.specs.Over.{over, weight}
 use Rattle.evaluation.specs.Typed.{Domains}
 use Rattle.evaluation.specs.Visits.{visits}
-use Rattle.dictionary.specs.Plain.{body}
-use Rattle.dictionary.specs.Dependencies.{EvalPosition, source_env}
-use Rattle.node_eval.specs.Results.{Results}
+use Rattle.dict_meaning.specs.Plain.{body}
+use Rattle.dict_meaning.specs.Dependencies.{EvalPosition, source_env}
+use Rattle.evaluation.specs.Results.{Results}
 use Rattle.node_eval.specs.NodeTypes.{FactTypes, IsTyped, IsTypedCell}
 use Rattle.node_eval.specs.Dependencies.{node_env}
 use Rattle.node_eval.specs.View.{Compiled as NodeTree, view}

@@ -5,17 +5,17 @@ use Rattle.fact_paths.specs.declared.use_path.UsePath.TheVariants as uses
 use Rattle.fact_values.specs.declared.fact_type.FactType.{FactType}
 use Rattle.fact_values.specs.declared.fact_type.FactType.TheVariants as types
 use Rattle.fact_values.specs.declared.value.Value.{Value}
-use Rattle.dict_tree.specs.declared.operators.ReadOp.{ReadOp}
-use Rattle.dict_tree.specs.declared.operators.ReadOp.TheVariants as reads
-use Rattle.dict_tree.specs.declared.targets.Targets.{Targets}
-use Rattle.dict_tree.specs.Dictionary.{Dictionary as Tree}
-use Rattle.dict_tree.specs.Facts.{Fact}
-use Rattle.dict_tree.specs.Mentions.{condition_base}
-use Rattle.dict_tree.specs.Targets.{targets}
-use Rattle.dict_tree.specs.Tree.{Literal, Reading, Source, Use}
+use Rattle.dict_source.specs.declared.operators.ReadOp.{ReadOp}
+use Rattle.dict_source.specs.declared.operators.ReadOp.TheVariants as reads
+use Rattle.dict_source.specs.declared.targets.Targets.{Targets}
+use Rattle.dict_source.specs.Dictionary.{Dictionary as Tree}
+use Rattle.dict_source.specs.Facts.{Fact}
+use Rattle.dict_source.specs.Mentions.{condition_base}
+use Rattle.dict_source.specs.Targets.{targets}
+use Rattle.dict_source.specs.Tree.{Literal, Reading, Source, Use}
 use Rattle.evaluation.specs.Resolving.{Names, resolved}
-use Rattle.dictionary.specs.Plain.{body}
-use Rattle.dictionary.specs.Dependencies.{constant_value, field_type}
+use Rattle.dict_meaning.specs.Plain.{body}
+use Rattle.dict_meaning.specs.Dependencies.{constant_value, field_type}
 use Rattle.node_eval.specs.View.{Compiled as NodeTree, Reading as NodeReading}
 use Rattle.node_eval.specs.declared.node.NodeRead.{NodeRead}
 use Rattle.node_eval.specs.declared.node.NodeRead.TheVariants.{Dependency, IsComplete, CollectionSize, SumInt, SumDollar, Count}

@@ -1,10 +1,10 @@
 -- Whole facts by their nodes.
 use Rattle.std.specs.Prelude.{◌≡◌, ℕ, ◌+◌, if◌then◌else◌, List, Option, Some, None}
 use Rattle.fact_values.specs.declared.slot.Slot.{Slot}
-use Rattle.dict_tree.specs.Dictionary.{Dictionary as Tree}
-use Rattle.dict_tree.specs.Facts.{Fact, Stated}
-use Rattle.dict_tree.specs.Finding.{fact_at}
-use Rattle.dict_types.specs.StatedTypes.{type_at}
+use Rattle.dict_source.specs.Dictionary.{Dictionary as Tree}
+use Rattle.dict_source.specs.Facts.{Fact, Stated}
+use Rattle.dict_source.specs.Finding.{fact_at}
+use Rattle.node_types.specs.StatedTypes.{type_at}
 use Rattle.three_state.specs.Results.{down, is_incomplete}
 use Rattle.three_state.specs.declared.res.Res.{Res}
 use Rattle.three_state.specs.declared.res.Res.TheVariants.{Complete, Placeholder, Incomplete, Fault}
@@ -12,12 +12,12 @@ use Rattle.evaluation.specs.Over.{over, weight}
 use Rattle.evaluation.specs.Visits.{visits}
 use Rattle.answers.specs.Answered.{Answered, value_of}
 use Rattle.answers.specs.declared.edit.Side.TheVariants.{Override}
-use Rattle.dictionary.specs.Accepted.{Accepted, IsAccepted}
-use Rattle.dictionary.specs.Fits.{AnswersFit, domains}
-use Rattle.dictionary.specs.Plain.{answer_result, given_value, or_override, plain, slot_result}
-use Rattle.dictionary.specs.Weights.{slot_weight}
+use Rattle.dict_meaning.specs.Accepted.{Accepted, IsAccepted}
+use Rattle.dict_meaning.specs.Fits.{AnswersFit, domains}
+use Rattle.dict_meaning.specs.Plain.{answer_result, given_value, or_override, plain, slot_result}
+use Rattle.dict_meaning.specs.Weights.{slot_weight}
 use Rattle.visit_counts.specs.SlotVisits.{unless_given, visits_over}
-use Rattle.node_eval.specs.Results.{Results}
+use Rattle.evaluation.specs.Results.{Results}
 use Rattle.node_eval.specs.NodeTypes.{IsTyped}
 use Rattle.node_eval.specs.Dependencies.{node_env}
 use Rattle.node_eval.specs.View.{Compiled as NodeTree}

@@ -1,15 +1,15 @@
 // The nodes of all facts.
 ghost use Rattle.std.specs.Prelude.{◌≡◌, IfOk, map, option_copied, option_map};
-ghost use Rattle.dict_tree.specs.Dictionary.{dictionary_view};
+ghost use Rattle.dict_source.specs.Dictionary.{dictionary_view};
 ghost use Rattle.dict_types.specs.Typed.{numbered};
-ghost use Rattle.dictionary.specs.Accepted.{accepted};
+ghost use Rattle.dictionary.specs.Kept.{accepted};
 ghost use Rattle.node_eval.specs.View.{view as node_view};
 ghost use Rattle.node_compile.specs.Compiled.{IsCompiled, main_of, placeholder_of};
 ghost use Rattle.node_compile.specs.Compiling.{facts_trees};
 ghost use Rattle.node_compile.specs.FactTrees.{trees_of};
 
 use crate::fact::{FactNodes, compile_fact};
-use dict_tree::DictSource;
+use dict_source::DictSource;
 use dictionary::Dictionary;
 use fact_values::NoMemory;
 use node_eval::Node;

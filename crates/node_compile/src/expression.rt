@@ -1,15 +1,15 @@
 // The node of an expression.
 ghost use Rattle.std.specs.Prelude.{◌≡◌, IfOk};
-ghost use Rattle.dict_tree.specs.Dictionary.{dictionary_view};
-ghost use Rattle.dict_tree.specs.Tree.{literal, one, pick, two};
-ghost use Rattle.dict_tree.specs.View.{cases_view, literal_of, trees_view, view};
-ghost use Rattle.dictionary.specs.Dependencies.{constant_value};
+ghost use Rattle.dict_source.specs.Dictionary.{dictionary_view};
+ghost use Rattle.dict_source.specs.Tree.{literal, one, pick, two};
+ghost use Rattle.dict_source.specs.View.{cases_view, literal_of, trees_view, view};
+ghost use Rattle.dict_meaning.specs.Dependencies.{constant_value};
 ghost use Rattle.evaluation.specs.Resolving.{resolved, resolved_all, resolved_cases};
 ghost use Rattle.node_eval.specs.View.{case_view as node_case_view, cases_view as node_cases_view, trees_view as node_trees_view, view as node_view};
 ghost use Rattle.node_compile.specs.Compiling.{names};
 
 use crate::reading::{base_under, constant, read_path, reader};
-use dict_tree::{Case, Constant, DictSource, Expr, OneOp, PickOp, TwoOp};
+use dict_source::{Case, Constant, DictSource, Expr, OneOp, PickOp, TwoOp};
 use fact_values::NoMemory;
 use node_eval::{Node, NodeCase, Reader};
 use std::alloc::Global;

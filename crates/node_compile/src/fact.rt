@@ -1,17 +1,17 @@
 // The nodes of a fact.
 ghost use Rattle.std.specs.Prelude.{◌≡◌, IfOk, option_map, true};
-ghost use Rattle.dict_tree.specs.Dictionary.{dictionary_view};
-ghost use Rattle.dict_tree.specs.Facts.{conditional_view, fact_view};
-ghost use Rattle.dict_tree.specs.Tree.{a_case, literal, no_cases, switch};
-ghost use Rattle.dict_tree.specs.View.{view};
+ghost use Rattle.dict_source.specs.Dictionary.{dictionary_view};
+ghost use Rattle.dict_source.specs.Facts.{conditional_view, fact_view};
+ghost use Rattle.dict_source.specs.Tree.{a_case, literal, no_cases, switch};
+ghost use Rattle.dict_source.specs.View.{view};
 ghost use Rattle.fact_values.specs.declared.value.Value.TheVariants.{Boolean};
-ghost use Rattle.dictionary.specs.Plain.{body, conditional_body};
+ghost use Rattle.dict_meaning.specs.Plain.{body, conditional_body};
 ghost use Rattle.node_eval.specs.View.{case_view, view as node_view};
 ghost use Rattle.node_compile.specs.Compiling.{fact_trees, node_tree};
 ghost use Rattle.node_compile.specs.FactTrees.{trees_of};
 
 use crate::expression::compile_expr;
-use dict_tree::{Conditional, DictSource, Expr, FactSource};
+use dict_source::{Conditional, DictSource, Expr, FactSource};
 use fact_values::{NoMemory, Value};
 use node_eval::{Node, NodeCase};
 use std::alloc::Global;

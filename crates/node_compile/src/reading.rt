@@ -1,19 +1,19 @@
 // What use paths and constants stand for.
 ghost use Rattle.std.specs.Prelude.{◌≡◌, IfOk, option_and_then};
-ghost use Rattle.dict_tree.specs.Dictionary.{dictionary_view};
-ghost use Rattle.dict_tree.specs.Mentions.{condition_base};
-ghost use Rattle.dict_tree.specs.Tree.{read};
-ghost use Rattle.dict_tree.specs.View.{literal_of};
-ghost use Rattle.dict_types.specs.StatedTypes.{type_at as type_of_fact};
-ghost use Rattle.dictionary.specs.Dependencies.{constant_value as value_of_constant};
+ghost use Rattle.dict_source.specs.Dictionary.{dictionary_view};
+ghost use Rattle.dict_source.specs.Mentions.{condition_base};
+ghost use Rattle.dict_source.specs.Tree.{read};
+ghost use Rattle.dict_source.specs.View.{literal_of};
+ghost use Rattle.node_types.specs.StatedTypes.{type_at as type_of_fact};
+ghost use Rattle.dict_meaning.specs.Dependencies.{constant_value as value_of_constant};
 ghost use Rattle.node_eval.specs.View.{view};
 ghost use Rattle.node_compile.specs.Compiling.{number as number_of, read_of, reader as reader_in, reader_of, reading, sum_read};
 
-use dict_tree::{Constant, DictSource, PathUse, ReadOp, Targets};
-use dict_types::{constant_value, type_at};
+use dict_source::{Constant, DictSource, PathUse, ReadOp, Targets};
 use fact_paths::UsePath;
 use fact_values::{FactType, NoMemory, Value};
 use node_eval::{Node, NodeRead, Reader};
+use node_types::{constant_value, type_at};
 use std::alloc::Global;
 use value_text::EnumLists;
 

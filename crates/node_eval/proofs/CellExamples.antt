@@ -2,14 +2,14 @@
 use Rattle.std.proofs.Common.{◌≡◌, ℕ, pos, negsuc, true, false, nat_eq, if◌then◌else◌, List, [], ◌∷◌, map, Option, Some, None, refl}
 use Rattle.fact_values.specs.declared.fault.ValueFault.TheVariants.{Overflow}
 use Rattle.fact_values.specs.declared.value.Value.TheVariants.{Boolean, Int, Members, Item}
-use Rattle.dict_tree.specs.Tree.{read, switch, many, pick, no_trees, tree, no_cases, a_case}
-use Rattle.dict_tree.specs.declared.operators.ManyOp.TheVariants.{All}
-use Rattle.dict_tree.specs.declared.operators.PickOp.TheVariants.{Filter, Find}
+use Rattle.dict_source.specs.Tree.{read, switch, many, pick, no_trees, tree, no_cases, a_case}
+use Rattle.dict_source.specs.declared.operators.ManyOp.TheVariants.{All}
+use Rattle.dict_source.specs.declared.operators.PickOp.TheVariants.{Filter, Find}
 use Rattle.three_state.specs.declared.res.Res.{Res}
 use Rattle.three_state.specs.declared.res.Res.TheVariants.{Complete, Placeholder, Incomplete, Fault}
 use Rattle.evaluation.specs.Over.{over}
 use Rattle.evaluation.specs.Visits.{visits}
-use Rattle.node_eval.specs.Results.{Results}
+use Rattle.evaluation.specs.Results.{Results}
 use Rattle.node_eval.specs.Dependencies.{node_env}
 use Rattle.node_eval.specs.View.{Compiled}
 use Rattle.node_eval.specs.declared.node.NodeRead.{NodeRead}

@@ -14,7 +14,7 @@ use Rattle.evaluation.specs.Over.{over}
 use Rattle.evaluation.specs.Reads.{collection_size, complete_test, through_item}
 use Rattle.evaluation.specs.SlotsRead.{AnswerAlike, member_read}
 use Rattle.evaluation.proofs.ReadsLaws.{reads-decide}
-use Rattle.node_eval.specs.Results.{Results, result_at, slot}
+use Rattle.evaluation.specs.Results.{Results, result_at, slot}
 use Rattle.node_eval.specs.Dependencies.{collection, dependency, field, first_of, node_env, read_result, second_of}
 use Rattle.node_eval.specs.SlotsOf.{collection_slots, dependency_slots, field_slots, node_reads, read_slots, slot_at, slots_of, through_slots}
 use Rattle.node_eval.specs.View.{Compiled}

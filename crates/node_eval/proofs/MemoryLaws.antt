@@ -7,13 +7,13 @@ use Rattle.fact_values.specs.declared.slot.Slot.{Slot}
 use Rattle.fact_values.specs.declared.value.Value.{Value}
 use Rattle.fact_values.specs.declared.value.Value.TheVariants.{Int, Text, Members, Item}
 use Rattle.fact_values.specs.Values.{HoldsMemory}
-use Rattle.dict_tree.specs.Tree.{literal, read, switch, many, one, two, pick, Trees, no_trees, tree, Cases, no_cases, a_case, nodes, nodes_of_cases, nodes_of_trees}
-use Rattle.dict_tree.specs.OperandTypes.{one_type, same_type}
-use Rattle.dict_tree.specs.Tables.{LookupTable}
-use Rattle.dict_tree.specs.Typing.{HasType, HaveCaseTypes, HaveTypes}
-use Rattle.dict_tree.specs.declared.operators.OneOp.{OneOp}
-use Rattle.dict_tree.specs.declared.operators.OneOp.TheVariants.{Lookup}
-use Rattle.dict_tree.specs.declared.operators.PickOp.TheVariants.{Filter, Find}
+use Rattle.dict_source.specs.Tree.{literal, read, switch, many, one, two, pick, Trees, no_trees, tree, Cases, no_cases, a_case, nodes, nodes_of_cases, nodes_of_trees}
+use Rattle.dict_source.specs.OperandTypes.{one_type, same_type}
+use Rattle.dict_source.specs.Tables.{LookupTable}
+use Rattle.dict_source.specs.Typing.{HasType, HaveCaseTypes, HaveTypes}
+use Rattle.dict_source.specs.declared.operators.OneOp.{OneOp}
+use Rattle.dict_source.specs.declared.operators.OneOp.TheVariants.{Lookup}
+use Rattle.dict_source.specs.declared.operators.PickOp.TheVariants.{Filter, Find}
 use Rattle.three_state.specs.declared.res.Res.{Res}
 use Rattle.three_state.specs.declared.res.Res.TheVariants.{Complete, Placeholder, Incomplete, Fault}
 use Rattle.three_state.specs.Results.{ValueHoldsMemory, after_verdict, field_operands, fields_in, members_of, truth, values_of, verdict_of}
@@ -28,7 +28,7 @@ use Rattle.evaluation.specs.Typed.{Domains, IsOfType, IsResOfType}
 use Rattle.common_lemmas.proofs.Bools.{chosen}
 use Rattle.evaluation.proofs.Mentions.{all-left, all-right}
 use Rattle.evaluation.proofs.TypedLaws.{down-type, sum-typed}
-use Rattle.node_eval.specs.Results.{Results, result_at, slot}
+use Rattle.evaluation.specs.Results.{Results, result_at, slot}
 use Rattle.node_eval.specs.Memory.{AfterCondition, Chosen, SomeOf, TakesInAll, TakesInCases, TakesMemory}
 use Rattle.node_eval.specs.NodeTypes.{FactTypes, IsTextOrList, GivesTextOrList, IsTyped, IsTypedCell, SomeGivesTextOrList, behind, constant_type, dependency_type, item_base, node_types, read_type}
 use Rattle.node_eval.specs.Dependencies.{collection, dependency, entered, field, node_env, read_result}

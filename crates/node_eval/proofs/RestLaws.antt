@@ -4,8 +4,8 @@ use Rattle.std.specs.Prelude.{◌⊎◌}
 use Rattle.std.proofs.lemmas.List.Sums.{sum_by-cons}
 use Rattle.fact_values.specs.declared.value.Value.TheVariants.{Item}
 use Rattle.common_lemmas.proofs.Lists.{kept_one}
-use Rattle.dict_tree.specs.Tree.{Tree}
-use Rattle.dict_tree.proofs.FindingLaws.{drop-view}
+use Rattle.dict_source.specs.Tree.{Tree}
+use Rattle.dict_source.proofs.FindingLaws.{drop-view}
 use Rattle.evaluation.specs.Over.{Env, over, over_all, over_cases, weight, weight_of_all, weight_of_cases}
 use Rattle.evaluation.specs.SlotsRead.{after_condition, up_to_decider}
 use Rattle.operations.specs.CaseSteps.{after_case, case_step, find_from, switch_from, truth_step}

@@ -5,11 +5,11 @@ use Rattle.fact_values.specs.Rationals.{gcd}
 use Rattle.fact_values.specs.declared.fault.ValueFault.TheVariants.{Overflow, ZeroDivide}
 use Rattle.fact_values.specs.declared.value.Value.{Value}
 use Rattle.fact_values.specs.declared.value.Value.TheVariants.{Boolean, Int, Dollar, Rational, Day, Text, Choice, Members, Item}
-use Rattle.dict_tree.specs.Tree.{literal, read, switch, many, one, two, pick, no_cases, a_case}
-use Rattle.dict_tree.specs.declared.operators.ManyOp.TheVariants.{All, Any, Add, Subtract, GreaterOf, LesserOf}
-use Rattle.dict_tree.specs.declared.operators.OneOp.TheVariants.{Not, Round, YearOf}
-use Rattle.dict_tree.specs.declared.operators.TwoOp.TheVariants.{Multiply, Divide, AddDays, Equal, NotEqual, GreaterThan, LessThan, GreaterThanOrEqual, LessThanOrEqual}
-use Rattle.dict_tree.specs.declared.operators.PickOp.TheVariants.{Filter, Find}
+use Rattle.dict_source.specs.Tree.{literal, read, switch, many, one, two, pick, no_cases, a_case}
+use Rattle.dict_source.specs.declared.operators.ManyOp.TheVariants.{All, Any, Add, Subtract, GreaterOf, LesserOf}
+use Rattle.dict_source.specs.declared.operators.OneOp.TheVariants.{Not, Round, YearOf}
+use Rattle.dict_source.specs.declared.operators.TwoOp.TheVariants.{Multiply, Divide, AddDays, Equal, NotEqual, GreaterThan, LessThan, GreaterThanOrEqual, LessThanOrEqual}
+use Rattle.dict_source.specs.declared.operators.PickOp.TheVariants.{Filter, Find}
 use Rattle.three_state.specs.declared.res.Res.{Res}
 use Rattle.three_state.specs.declared.res.Res.TheVariants.{Complete, Placeholder, Incomplete, Fault}
 use Rattle.evaluation.specs.Over.{over}

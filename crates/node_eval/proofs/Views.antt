@@ -1,10 +1,10 @@
 -- The view of each variant.
 use Rattle.std.proofs.Common.{◌≡◌, Vec, Box, Global, rules}
-use Rattle.dict_tree.specs.Tree.{literal, read, switch, many, one, two, pick}
-use Rattle.dict_tree.specs.declared.operators.ManyOp.{ManyOp}
-use Rattle.dict_tree.specs.declared.operators.OneOp.{OneOp}
-use Rattle.dict_tree.specs.declared.operators.TwoOp.{TwoOp}
-use Rattle.dict_tree.specs.declared.operators.PickOp.{PickOp}
+use Rattle.dict_source.specs.Tree.{literal, read, switch, many, one, two, pick}
+use Rattle.dict_source.specs.declared.operators.ManyOp.{ManyOp}
+use Rattle.dict_source.specs.declared.operators.OneOp.{OneOp}
+use Rattle.dict_source.specs.declared.operators.TwoOp.{TwoOp}
+use Rattle.dict_source.specs.declared.operators.PickOp.{PickOp}
 use Rattle.fact_values.specs.declared.value.Value.{Value}
 use Rattle.node_eval.specs.View.{view, trees_view, cases_view}
 use Rattle.node_eval.specs.declared.node.NodeRead.{NodeRead}

@@ -7,7 +7,7 @@ use Rattle.three_state.specs.declared.res.Res.TheVariants.{Incomplete}
 use Rattle.three_state.specs.Results.{count_of}
 use Rattle.evaluation.specs.Over.{Env}
 use Rattle.evaluation.specs.Reads.{collection_size, complete_test, sum_over, through_item}
-use Rattle.node_eval.specs.Results.{Results, result_at}
+use Rattle.evaluation.specs.Results.{Results, result_at}
 use Rattle.node_eval.specs.View.{Reading}
 use Rattle.node_eval.specs.declared.node.NodeRead.{NodeRead}
 use Rattle.node_eval.specs.declared.node.NodeRead.TheVariants as node_read

@@ -2,7 +2,7 @@
 use Rattle.std.specs.Prelude.{ℕ}
 use Rattle.three_state.specs.declared.res.Res.{Res}
 use Rattle.evaluation.specs.Over.{over, weight}
-use Rattle.node_eval.specs.Results.{Results}
+use Rattle.evaluation.specs.Results.{Results}
 use Rattle.node_eval.specs.Memory.{TakesMemory}
 use Rattle.node_eval.specs.Dependencies.{entered, node_env}
 use Rattle.node_eval.specs.View.{Compiled}

@@ -1,5 +1,4 @@
 pub mod Evaluating
-pub mod Results
 pub mod Memory
 pub mod NodeTypes
 pub mod Reached

@@ -5,12 +5,12 @@ use Rattle.fact_values.specs.declared.fact_type.FactType.TheVariants as types
 use Rattle.fact_values.specs.declared.slot.Slot.{Slot}
 use Rattle.fact_values.specs.declared.value.Value.{Value}
 use Rattle.fact_values.specs.declared.value.Value.TheVariants.{Boolean, Int, Dollar, Rational, Day, Text, Choice, Members, Item}
-use Rattle.dict_tree.specs.Tree.{nodes}
-use Rattle.dict_tree.specs.Typing.{HasType, Types}
+use Rattle.dict_source.specs.Tree.{nodes}
+use Rattle.dict_source.specs.Typing.{HasType, Types}
 use Rattle.three_state.specs.declared.res.Res.{Res}
 use Rattle.evaluation.specs.Mentioned.{AllOf}
 use Rattle.evaluation.specs.Typed.{Domains, IsResOfType}
-use Rattle.node_eval.specs.Results.{Results}
+use Rattle.evaluation.specs.Results.{Results}
 use Rattle.node_eval.specs.Memory.{SomeOf, TakesMemory}
 use Rattle.node_eval.specs.Dependencies.{node_env}
 use Rattle.node_eval.specs.SlotsOf.{slots_of}

@@ -4,7 +4,7 @@ use Rattle.std.specs.List.{list_all}
 use Rattle.fact_values.specs.declared.slot.Slot.{Slot}
 use Rattle.evaluation.specs.Over.{over}
 use Rattle.evaluation.specs.SlotsRead.{ReadBy, fields_read, item_read, slots_read}
-use Rattle.node_eval.specs.Results.{Results, result_at, slot}
+use Rattle.evaluation.specs.Results.{Results, result_at, slot}
 use Rattle.node_eval.specs.Dependencies.{collection, first_of, node_env, second_of}
 use Rattle.node_eval.specs.View.{Compiled, Reading}
 use Rattle.node_eval.specs.declared.node.NodeRead.{NodeRead}

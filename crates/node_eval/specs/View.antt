@@ -1,6 +1,6 @@
 -- The tree that a `Node` stands for.
 use Rattle.std.specs.Prelude.{List, [], ◌∷◌, map}
-use Rattle.dict_tree.specs.Tree.{Tree, Trees, Cases, literal, read, switch, many, one, two, pick, no_trees, tree, no_cases, a_case}
+use Rattle.dict_source.specs.Tree.{Tree, Trees, Cases, literal, read, switch, many, one, two, pick, no_trees, tree, no_cases, a_case}
 use Rattle.fact_values.specs.declared.value.Value.{Value}
 use Rattle.node_eval.specs.declared.node.NodeRead.{NodeRead}
 use Rattle.node_eval.specs.declared.node.Reader.{Reader}

@@ -3,7 +3,7 @@ ghost use Rattle.std.specs.Prelude.{◌≡◌, Option, option_copied};
 ghost use Rattle.fact_values.specs.declared.slot.Slot.{Slot};
 ghost use Rattle.three_state.specs.declared.res.Res.{Res};
 ghost use Rattle.three_state.specs.declared.res.Res.TheVariants.{Incomplete};
-ghost use Rattle.node_eval.specs.Results.{result_at};
+ghost use Rattle.evaluation.specs.Results.{result_at};
 
 use fact_values::Slot;
 use three_state::Res;

@@ -20,7 +20,7 @@ use crate::cells::Cells;
 use crate::eval_position::EvalPosition;
 use crate::node::{Node, NodeCase, NodeRead, Reader};
 use crate::reads::{read, read_source, see_dependency};
-use dict_tree::{ManyOp, OneOp, PickOp, TwoOp};
+use dict_source::{ManyOp, OneOp, PickOp, TwoOp};
 use fact_values::{NoMemory, Value};
 use operations::{
     CaseStep, FilterFold, ManyFold, case_step, found, members, one, source_verdict, taken, two,

@@ -1,5 +1,5 @@
 // Compiled nodes: expressions whose paths and constants are resolved.
-use dict_tree::{ManyOp, OneOp, PickOp, TwoOp};
+use dict_source::{ManyOp, OneOp, PickOp, TwoOp};
 use fact_values::Value;
 
 /// An expression with its types settled, its constants read, and its paths resolved to the numbers

@@ -5,7 +5,7 @@ ghost use Rattle.fact_values.specs.declared.fact_type.FactType.{FactType};
 ghost use Rattle.operations.specs.ManyFolds.{saw};
 ghost use Rattle.three_state.specs.Results.{ValueHoldsMemory, count_of};
 ghost use Rattle.three_state.specs.declared.res.Res.TheVariants.{Incomplete};
-ghost use Rattle.node_eval.specs.Results.{result_at};
+ghost use Rattle.evaluation.specs.Results.{result_at};
 ghost use Rattle.node_eval.specs.Reached.{reached};
 ghost use Rattle.node_eval.specs.Dependencies.{collection, dependency, field, first_of, read_result, second_of};
 

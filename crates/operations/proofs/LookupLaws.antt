@@ -6,7 +6,7 @@ use Rattle.fact_values.specs.declared.fact_type.FactType.TheVariants as types
 use Rattle.fact_values.specs.declared.value.Value.{Value}
 use Rattle.fact_values.specs.declared.value.Value.TheVariants.{Text, Members}
 use Rattle.fact_values.specs.Values.{HoldsMemory}
-use Rattle.dict_tree.specs.Tables.{IsLookupTable, LookupTable, is_kind, table_values, value_for}
+use Rattle.dict_source.specs.Tables.{IsLookupTable, LookupTable, is_kind, table_values, value_for}
 use Rattle.evaluation.proofs.TableLaws.{value_for-among}
 
 text_of_kind : (v : Value) (t : FactType) → is_kind t v ≡ true → HoldsMemory v → t ≡ types.Text

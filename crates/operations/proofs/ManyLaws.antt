@@ -2,8 +2,8 @@
 use Rattle.std.proofs.Common.{◌≡◌, ℕ, ◌+◌, true, false, List, [], ◌∷◌, Some, None, Result, Ok, refl, ap₂, ◌∙◌}
 use Rattle.fact_values.specs.declared.fault.ValueFault.{ValueFault}
 use Rattle.fact_values.specs.declared.value.Value.{Value}
-use Rattle.dict_tree.specs.declared.operators.ManyOp.{ManyOp}
-use Rattle.dict_tree.specs.declared.operators.ManyOp.TheVariants as many_op
+use Rattle.dict_source.specs.declared.operators.ManyOp.{ManyOp}
+use Rattle.dict_source.specs.declared.operators.ManyOp.TheVariants as many_op
 use Rattle.three_state.specs.Folds.{junction_next, junction_on, verdict_next, verdict_on}
 use Rattle.three_state.specs.Results.{after_verdict, values_of, verdict_of}
 use Rattle.three_state.specs.declared.res.Res.{Res}

@@ -2,7 +2,7 @@
 use Rattle.std.specs.Prelude.{◌≡◌, ℕ, true, List, [], map}
 use Rattle.fact_values.specs.declared.fact_type.FactType.{FactType}
 use Rattle.fact_values.specs.Members.{IsMemberList}
-use Rattle.dict_tree.specs.declared.operators.ManyOp.{ManyOp}
+use Rattle.dict_source.specs.declared.operators.ManyOp.{ManyOp}
 use Rattle.three_state.specs.Folds.{filter_on}
 use Rattle.three_state.specs.Results.{count_of, filter_of, find_of, kept, members_of, switch_of}
 use Rattle.three_state.specs.declared.res.Res.{Res}

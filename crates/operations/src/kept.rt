@@ -7,7 +7,7 @@ ghost use Rattle.operations.specs.ManyFolds.{calls_kept, calls_of, gathered_afte
 use crate::gathered::Gathered;
 use crate::sum::Summed;
 use crate::verdict::after_verdict;
-use dict_tree::ManyOp;
+use dict_source::ManyOp;
 use fact_values::NoMemory;
 use std::alloc::Global;
 use three_state::{AllFold, AnyFold, Res, Strict};

@@ -1,13 +1,13 @@
 // Nodes with many operands, seen one by one.
 ghost use Rattle.std.specs.Prelude.{◌≡◌, ◌+◌, ◌<◌, ◌^◌, [], ◌∷◌, ◌++◌, List, IsErr, OnErr, OnOk};
-ghost use Rattle.dict_tree.specs.declared.operators.ManyOp.{ManyOp};
+ghost use Rattle.dict_source.specs.declared.operators.ManyOp.{ManyOp};
 ghost use Rattle.evaluation.specs.Over.{many_of};
 ghost use Rattle.operations.specs.ManyFolds.{AreSeen, many_end, many_start, saw};
 ghost use Rattle.three_state.specs.Results.{ValueHoldsMemory};
 ghost use Rattle.three_state.specs.declared.res.Res.{Res};
 
 use crate::kept::Kept;
-use dict_tree::ManyOp;
+use dict_source::ManyOp;
 use fact_values::NoMemory;
 use std::alloc::Global;
 use std::marker::Model;

@@ -1,6 +1,6 @@
 // Nodes with one operand.
 ghost use Rattle.std.specs.Prelude.{◌≡◌, IfOk, IsErr};
-ghost use Rattle.dict_tree.specs.Tables.{value_for};
+ghost use Rattle.dict_source.specs.Tables.{value_for};
 ghost use Rattle.evaluation.specs.Operations.{GivesText, day_in, dollar_in, one_value, value_as};
 ghost use Rattle.evaluation.specs.Over.{one_of};
 ghost use Rattle.fact_values.specs.Days.{year_of};
@@ -9,7 +9,7 @@ ghost use Rattle.fact_values.specs.declared.fact_type.FactType.TheVariants as ty
 ghost use Rattle.three_state.specs.Results.{outcome};
 
 use crate::values::{day_in, dollar_in};
-use dict_tree::{LookupTable, OneOp};
+use dict_source::{LookupTable, OneOp};
 use fact_values::{NoMemory, Value, ValueFault, Whole, round_dollar};
 use law_arithmetic::{day_of, month_of};
 use std::alloc::Global;

@@ -9,7 +9,7 @@ ghost use Rattle.three_state.specs.Results.{outcome};
 
 use crate::numbers::{order, product, quotient};
 use crate::values::{day_in, dollar_in, number_in, whole_in};
-use dict_tree::TwoOp;
+use dict_source::TwoOp;
 use fact_values::{Day, Dollar, Num, Value, ValueFault, add_days, same};
 use law_arithmetic::{
     Increment, add_months, add_years, age_on, days_between, round_down, round_nearest, round_up,

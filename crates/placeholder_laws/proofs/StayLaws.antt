@@ -2,21 +2,21 @@
 use Rattle.std.proofs.Common.{◌≡◌, ℕ, List, ◌||◌, IsTrue, Option, Some, is_some, sym, ◌∙◌}
 use Rattle.fact_values.specs.declared.slot.Slot.{Slot}
 use Rattle.fact_values.specs.declared.value.Value.{Value}
-use Rattle.dict_tree.specs.Dictionary.{Dictionary as Tree}
-use Rattle.dict_tree.specs.Finding.{IsNumber}
+use Rattle.dict_source.specs.Dictionary.{Dictionary as Tree}
+use Rattle.dict_source.specs.Finding.{IsNumber}
 use Rattle.three_state.specs.declared.res.Res.{Res}
 use Rattle.three_state.specs.declared.res.Res.TheVariants.{Complete}
 use Rattle.common_lemmas.proofs.Bools.{both_left}
 use Rattle.answers.specs.Answered.{Answered, value_of}
 use Rattle.answers.specs.declared.edit.Side.TheVariants.{Override}
-use Rattle.dictionary.specs.Accepted.{Accepted, IsAccepted}
-use Rattle.dictionary.specs.Final.{is_complete_in, is_final}
-use Rattle.dictionary.specs.Plain.{plain}
-use Rattle.dictionary.specs.Slots.{stands}
-use Rattle.dictionary.specs.Steady.{steady}
-use Rattle.dictionary.proofs.FinalLaws.{complete_value, final_stays}
-use Rattle.dictionary.proofs.NumberLaws.{fact_within}
-use Rattle.dictionary.proofs.SlotLaws.{fact_of_standing}
+use Rattle.dict_meaning.specs.Accepted.{Accepted, IsAccepted}
+use Rattle.dict_meaning.specs.Final.{is_complete_in, is_final}
+use Rattle.dict_meaning.specs.Plain.{plain}
+use Rattle.dict_meaning.specs.Slots.{stands}
+use Rattle.dict_meaning.specs.Steady.{steady}
+use Rattle.dict_meaning.proofs.FinalLaws.{complete_value, final_stays}
+use Rattle.dict_meaning.proofs.NumberLaws.{fact_within}
+use Rattle.dict_meaning.proofs.SlotLaws.{fact_of_standing}
 use Rattle.placeholder_laws.specs.Stays.{Stays}
 
 -- ---- a slot that stands is one of a fact

@@ -5,9 +5,9 @@ use Rattle.fact_values.specs.declared.value.Value.{Value}
 use Rattle.three_state.specs.declared.res.Res.{Res}
 use Rattle.three_state.specs.declared.res.Res.TheVariants.{Complete, Placeholder, Incomplete, Fault}
 use Rattle.answers.specs.Answered.{Answered}
-use Rattle.dictionary.specs.Accepted.{Accepted}
-use Rattle.dictionary.specs.Extension.{IsExtension}
-use Rattle.dictionary.specs.Plain.{plain}
+use Rattle.dict_meaning.specs.Accepted.{Accepted}
+use Rattle.dict_meaning.specs.Extension.{IsExtension}
+use Rattle.dict_meaning.specs.Plain.{plain}
 
 abbrev pub is_complete : Res → Bool
 is_complete (Complete v) = true

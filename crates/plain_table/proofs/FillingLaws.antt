@@ -1,16 +1,16 @@
 -- The table is filled with plain evaluation.
 use Rattle.std.proofs.Common.{◌≡◌, ℕ, Bool, true, false, IsTrue, if◌then◌else◌, List, Option, Some, None, refl, sym, ap, ◌∙◌}
 use Rattle.fact_values.specs.declared.slot.Slot.{Slot}
-use Rattle.dict_tree.specs.Facts.{Fact}
-use Rattle.dict_tree.specs.Finding.{fact_at}
+use Rattle.dict_source.specs.Facts.{Fact}
+use Rattle.dict_source.specs.Finding.{fact_at}
 use Rattle.three_state.specs.declared.res.Res.{Res}
 use Rattle.answers.specs.Answered.{Answered}
-use Rattle.dictionary.specs.Accepted.{Accepted, IsAccepted}
-use Rattle.dictionary.specs.Plain.{IsPlainBelow, at_fact, plain, rank, slot_result}
-use Rattle.dictionary.specs.Dependencies.{Results, slot}
-use Rattle.dictionary.specs.Slots.{slot_same, stands}
-use Rattle.dictionary.proofs.PlainLaws.{step_over_lower}
-use Rattle.dictionary.proofs.SlotLaws.{slot_same-comm, slot_same-equal}
+use Rattle.dict_meaning.specs.Accepted.{Accepted, IsAccepted}
+use Rattle.dict_meaning.specs.Plain.{IsPlainBelow, at_fact, plain, rank, slot_result}
+use Rattle.evaluation.specs.Results.{Results, slot}
+use Rattle.dict_meaning.specs.Slots.{slot_same, stands}
+use Rattle.dict_meaning.proofs.PlainLaws.{step_over_lower}
+use Rattle.dict_meaning.proofs.SlotLaws.{slot_same-comm, slot_same-equal}
 use Rattle.plain_table.specs.Filling.{IsFilled}
 use Rattle.plain_table.specs.Table.{with_cell}
 

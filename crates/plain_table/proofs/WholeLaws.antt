@@ -1,30 +1,28 @@
 -- Facts in the order of their ranks fill the whole table.
 use Rattle.std.proofs.Common.{eq-eqb, ◌≡◌, ℕ, zero, suc, ◌+◌, ◌<◌, ◌≤◌, ◌++◌, ◌&&◌, ◌||◌, Bool, true, false, nat_eq, if◌then◌else◌, List, [], ◌∷◌, length, take, get_or, Option, Some, None, inl, inr, refl, sym, ap, ◌∙◌, arith}
-use Rattle.std.specs.Prelude.{unwrap_or}
-use Rattle.std.specs.FinMap as map
 use Rattle.std.specs.List.{list_any}
-use Rattle.std.proofs.lemmas.Bool.{eqb-true, ne_eqb}
+use Rattle.std.proofs.lemmas.Bool.{eqb-true}
 use Rattle.std.proofs.lemmas.List.{take_more}
 use Rattle.std.proofs.lemmas.List.Folds.{list_any-append}
 use Rattle.fact_values.specs.declared.slot.Slot.{Slot}
-use Rattle.dict_tree.specs.Facts.{Fact}
-use Rattle.dict_tree.specs.Finding.{fact_at}
+use Rattle.dict_source.specs.Facts.{Fact}
+use Rattle.dict_source.specs.Finding.{fact_at}
 use Rattle.dict_order.specs.Ranks.{rank_of}
 use Rattle.dict_order.proofs.ListLaws.{at_most_or_above}
 use Rattle.three_state.specs.declared.res.Res.{Res}
 use Rattle.common_lemmas.proofs.Bools.{or_false, or_left, or_right}
 use Rattle.common_lemmas.proofs.Options.{something}
 use Rattle.answers.specs.Answered.{Answered, list_of}
-use Rattle.dictionary.specs.Accepted.{Accepted}
+use Rattle.dict_meaning.specs.Accepted.{Accepted}
 use Rattle.dictionary.specs.ByRank.{AreByRank}
-use Rattle.dictionary.specs.Homes.{home}
-use Rattle.dictionary.specs.Plain.{IsPlainBelow, plain, rank}
-use Rattle.dictionary.specs.Dependencies.{Results}
-use Rattle.dictionary.specs.Slots.{is_member, members_of_home, stands, stands_at, stands_of}
+use Rattle.dict_meaning.specs.Homes.{home}
+use Rattle.dict_meaning.specs.Plain.{IsPlainBelow, plain, rank}
+use Rattle.evaluation.specs.Results.{Results}
+use Rattle.dict_meaning.specs.Slots.{is_member, members_of_home, stands, stands_at, stands_of}
 use Rattle.dictionary.proofs.ByRankLaws.{place_of_fact}
-use Rattle.dictionary.proofs.NumberLaws.{fact_within}
-use Rattle.dictionary.proofs.PlainLaws.{no_result}
-use Rattle.dictionary.proofs.SlotLaws.{fact_of_standing}
+use Rattle.dict_meaning.proofs.NumberLaws.{fact_within}
+use Rattle.dict_meaning.proofs.PlainLaws.{no_result}
+use Rattle.dict_meaning.proofs.SlotLaws.{fact_of_standing}
 use Rattle.plain_table.specs.Filling.{HasAll, HasFacts, IsFilled, is_at}
 
 -- ---- which slots stand
@@ -36,13 +34,6 @@ at_members a h m false = refl
 -- at the members of the fact's home
 pub stands_among : (a : Answered) (h m : ℕ) → stands_at a h m ≡ list_any (nat_eq m) (members_of_home a h)
 stands_among a h m = at_members a h m (nat_eq h 0)
-
-pub home_once : (a : Answered) (h : ℕ) → h ≡ 0 → 0 ∷ [] ≡ members_of_home a h
-home_once a h e = sym (ap (members_of_home a) e)
-
-pub home_list : (a : Answered) (h : ℕ) (ms : List ℕ) → (h ≡ 0 → ⊥) → Some ms ≡ map.get a.lists h → ms ≡ members_of_home a h
-home_list a h ms apart e =
-    ap (λ (o : Option (List ℕ)). unwrap_or o []) e ∙ sym (ap (λ (b : Bool). if b then 0 ∷ [] else list_of a h) (ne_eqb h 0 apart))
 
 stands_not : (a : Answered) (h m : ℕ) (o : Option Fact) → stands_at a h m ≡ false → stands_of a h m o ≡ false
 stands_not a h m None e = refl

@@ -5,19 +5,19 @@ use Rattle.std.proofs.lemmas.List.Sums.{sum_by-append, sum_by-cons}
 use Rattle.std.proofs.lemmas.List.Sorted.{sum_by-IsPermutation}
 use Rattle.std.proofs.lemmas.List.FromFn.{sum_by-map-range_with_len_more}
 use Rattle.fact_values.specs.declared.slot.Slot.{Slot}
-use Rattle.dict_tree.specs.Facts.{Fact}
-use Rattle.dict_tree.specs.Finding.{fact_at}
-use Rattle.dict_tree.specs.Tree.{Source}
-use Rattle.dict_tree.specs.Dictionary.{Dictionary as Tree}
+use Rattle.dict_source.specs.Facts.{Fact}
+use Rattle.dict_source.specs.Finding.{fact_at}
+use Rattle.dict_source.specs.Tree.{Source}
+use Rattle.dict_source.specs.Dictionary.{Dictionary as Tree}
 use Rattle.answers.specs.Answered.{Answered}
-use Rattle.dictionary.specs.Accepted.{Accepted, IsAccepted}
+use Rattle.dict_meaning.specs.Accepted.{Accepted, IsAccepted}
 use Rattle.dictionary.specs.ByRank.{AreByRank}
-use Rattle.dictionary.specs.Plain.{IsPlainBelow, at_fact, body, rank}
-use Rattle.dictionary.specs.Dependencies.{slot}
-use Rattle.dictionary.specs.Slots.{slots_of, slots_up_to, standing}
-use Rattle.dictionary.specs.Weights.{slot_weight}
-use Rattle.dictionary.proofs.WeightLaws.{fact_weight, weight_over, weight_over_lower}
-use Rattle.plain_table.specs.Context.{Context, option_weight}
+use Rattle.dict_meaning.specs.Plain.{IsPlainBelow, at_fact, body, rank}
+use Rattle.evaluation.specs.Results.{slot}
+use Rattle.dict_meaning.specs.Slots.{slots_of, slots_up_to, standing}
+use Rattle.dict_meaning.specs.Weights.{slot_weight}
+use Rattle.dict_meaning.proofs.WeightLaws.{fact_weight, weight_over, weight_over_lower}
+use Rattle.source_eval.specs.Context.{Context, option_weight}
 
 -- ---- one slot
 

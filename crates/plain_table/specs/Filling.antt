@@ -3,10 +3,10 @@ use Rattle.std.specs.Prelude.{◌≡◌, ℕ, ◌&&◌, Bool, nat_eq, if◌then�
 use Rattle.std.specs.List.{list_any}
 use Rattle.fact_values.specs.declared.slot.Slot.{Slot}
 use Rattle.answers.specs.Answered.{Answered}
-use Rattle.dictionary.specs.Accepted.{Accepted}
+use Rattle.dict_meaning.specs.Accepted.{Accepted}
 use Rattle.dictionary.specs.Engines.{Marks}
-use Rattle.dictionary.specs.Plain.{plain}
-use Rattle.dictionary.specs.Dependencies.{Results}
+use Rattle.dict_meaning.specs.Plain.{plain}
+use Rattle.evaluation.specs.Results.{Results}
 
 -- the same results, but plain evaluation of the slots that pass a test
 abbrev pub filled : Accepted → Answered → Results → (Slot → Bool) → Results

@@ -3,8 +3,8 @@ use Rattle.std.specs.Prelude.{ℕ, ◌&&◌, Bool, nat_eq, if◌then◌else◌, 
 use Rattle.std.specs.HashMap.{get}
 use Rattle.fact_values.specs.declared.slot.Slot.{Slot}
 use Rattle.three_state.specs.declared.res.Res.{Res}
-use Rattle.dictionary.specs.Dependencies.{Results}
-use Rattle.dictionary.specs.Slots.{slot_same}
+use Rattle.evaluation.specs.Results.{Results}
+use Rattle.dict_meaning.specs.Slots.{slot_same}
 use Rattle.plain_table.specs.declared.table.Table.{Table}
 
 -- a cell's key: a fact and a member

@@ -3,9 +3,10 @@ ghost use Rattle.std.specs.Prelude.{◌≡◌, ◌+◌, ◌<◌, ◌≤◌, fals
 ghost use Rattle.answers.specs.Answered.{Answered};
 ghost use Rattle.answers.specs.Meaning.{answered};
 ghost use Rattle.answers.specs.WellFormed.{FromOne, WellFormed};
-ghost use Rattle.dictionary.specs.Accepted.{Accepted, accepted};
-ghost use Rattle.dictionary.specs.Plain.{plain};
-ghost use Rattle.dictionary.specs.Weights.{whole_weight};
+ghost use Rattle.dict_meaning.specs.Accepted.{Accepted};
+ghost use Rattle.dictionary.specs.Kept.{accepted};
+ghost use Rattle.dict_meaning.specs.Plain.{plain};
+ghost use Rattle.dict_meaning.specs.Weights.{whole_weight};
 ghost use Rattle.visit_counts.specs.SlotVisits.{whole_visits};
 ghost use Rattle.plain_table.specs.Filling.{HasAll, no_marks};
 ghost use Rattle.plain_table.specs.Table.{results_of};

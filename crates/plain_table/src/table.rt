@@ -18,7 +18,7 @@ pub struct Table {
 }
 
 impl Table {
-    ghost use Rattle.dictionary.specs.Dependencies.{result_at};
+    ghost use Rattle.evaluation.specs.Results.{result_at};
     ghost use Rattle.plain_table.specs.Table.{results_of, with_cell};
 
     /// No slot was computed. There is room for so many.

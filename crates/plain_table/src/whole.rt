@@ -2,23 +2,23 @@
 ghost use Rattle.std.specs.Prelude.{◌≡◌, ◌+◌, ◌≤◌, ℕ, IfOk, IsTrue, OnOk, sum_by};
 ghost use Rattle.answers.specs.Meaning.{answered};
 ghost use Rattle.answers.specs.WellFormed.{FromOne, WellFormed};
-ghost use Rattle.dict_tree.specs.Finding.{IsNumber};
+ghost use Rattle.dict_source.specs.Finding.{IsNumber};
 ghost use Rattle.evaluation.specs.Agreement.{IsIn};
-ghost use Rattle.dictionary.specs.Accepted.{accepted};
-ghost use Rattle.dictionary.specs.Homes.{home};
-ghost use Rattle.dictionary.specs.Plain.{IsPlainBelow, rank};
-ghost use Rattle.dictionary.specs.Dependencies.{slot};
-ghost use Rattle.dictionary.specs.Slots.{members_of_home, slot_same, slots_of, stands};
-ghost use Rattle.dictionary.specs.Weights.{slot_weight, whole_weight};
+ghost use Rattle.dictionary.specs.Kept.{accepted};
+ghost use Rattle.dict_meaning.specs.Homes.{home};
+ghost use Rattle.dict_meaning.specs.Plain.{IsPlainBelow, rank};
+ghost use Rattle.evaluation.specs.Results.{slot};
+ghost use Rattle.dict_meaning.specs.Slots.{members_of_home, slot_same, slots_of, stands};
+ghost use Rattle.dict_meaning.specs.Weights.{slot_weight, whole_weight};
 ghost use Rattle.visit_counts.specs.SlotVisits.{slot_visits, whole_visits};
 ghost use Rattle.plain_table.specs.Filling.{HasAll, IsFilled, is_at};
 ghost use Rattle.plain_table.specs.Table.{results_of};
 
-use crate::context::TableContext;
 use crate::slots::slot_result;
 use crate::table::Table;
+use crate::table_context::TableContext;
 use answers::Answers;
-use dictionary::Dictionary;
+use dictionary::{Dictionary, members_of_home};
 use fact_values::{NoMemory, Slot};
 use std::alloc::Global;
 use std::sync::ledger::Ledger;
@@ -113,13 +113,8 @@ fn put_fact<L: Ledger>(
         (slots_of (accepted dict.now).tree (answered answers.now) fact) }
 {
     let home = dict.home(fact);
-    if home == 0 {
-        return put_members(alloc, dict, answers, fact, &[0], table, steps);
-    }
-    match answers.members(home) {
-        None => Ok(()),
-        Some(members) => put_members(alloc, dict, answers, fact, members, table, steps),
-    }
+    let members = members_of_home(answers, home);
+    put_members(alloc, dict, answers, fact, members, table, steps)
 }
 
 /// The results of all slots that stand.

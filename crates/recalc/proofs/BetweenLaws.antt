@@ -10,22 +10,22 @@ use Rattle.evaluation.proofs.ResolvingLaws.{everywhere}
 use Rattle.answers.specs.Answered.{Answered, value_of}
 use Rattle.answers.specs.Change.{Change, applied}
 use Rattle.answers.specs.declared.edit.Side.TheVariants.{Override}
-use Rattle.dictionary.specs.Accepted.{Accepted, IsAccepted}
-use Rattle.dictionary.specs.Extension.{both_same, extends, Extends}
-use Rattle.dictionary.specs.Feeds.{feeds}
-use Rattle.dictionary.specs.Final.{is_complete_in, is_final}
-use Rattle.dictionary.specs.Fits.{AnswersFit}
-use Rattle.dictionary.specs.Plain.{plain}
-use Rattle.dictionary.specs.Slots.{stands, standing}
-use Rattle.dictionary.specs.Steady.{steady}
-use Rattle.dictionary.specs.Touched.{has_moved, same_entry, touched, touches}
-use Rattle.dictionary.specs.Undone.{is_extended, is_touched_first, IsUndone}
-use Rattle.dictionary.proofs.ExtensionLaws.{equal_same, test_tells_extends}
-use Rattle.dictionary.proofs.FeedLaws.{feeds_fall}
-use Rattle.dictionary.proofs.PlainLaws.{standing_have_results}
-use Rattle.dictionary.proofs.SlotLaws.{listed_stand}
-use Rattle.dictionary.proofs.UndoneLaws.{extended_tells, first_tells}
-use Rattle.dictionary.proofs.UntouchedLaws.{untouched_keeps}
+use Rattle.dict_meaning.specs.Accepted.{Accepted, IsAccepted}
+use Rattle.dict_meaning.specs.Extension.{both_same, extends, Extends}
+use Rattle.dict_meaning.specs.Feeds.{feeds}
+use Rattle.dict_meaning.specs.Final.{is_complete_in, is_final}
+use Rattle.dict_meaning.specs.Fits.{AnswersFit}
+use Rattle.dict_meaning.specs.Plain.{plain}
+use Rattle.dict_meaning.specs.Slots.{stands, standing}
+use Rattle.dict_meaning.specs.Steady.{steady}
+use Rattle.dict_meaning.specs.Touched.{has_moved, same_entry, touched, touches}
+use Rattle.dict_meaning.specs.Undone.{is_extended, is_touched_first, IsUndone}
+use Rattle.dict_meaning.proofs.ExtensionLaws.{equal_same, test_tells_extends}
+use Rattle.dict_meaning.proofs.FeedLaws.{feeds_fall}
+use Rattle.dict_meaning.proofs.PlainLaws.{standing_have_results}
+use Rattle.dict_meaning.proofs.SlotLaws.{listed_stand}
+use Rattle.dict_meaning.proofs.UndoneLaws.{extended_tells, first_tells}
+use Rattle.dict_meaning.proofs.UntouchedLaws.{untouched_keeps}
 use Rattle.recalc.specs.Spread.{is_in, is_touched}
 use Rattle.recalc.specs.BetweenAnswers.{AllIsDone, AreBetween, between, ChangesSpread, EditMarks, from_nothing, results_before, SpreadTouches, StartPasses, TouchedWeigh, UndonePasses}
 use Rattle.recalc.specs.Laws.{touched_of}

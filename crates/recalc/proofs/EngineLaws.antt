@@ -12,16 +12,16 @@ use Rattle.answers.specs.Change.{Change, adds, puts_back, applied}
 use Rattle.cell_store.specs.Contents.{Cells, no_cells}
 use Rattle.cell_store.specs.SlotOrder.{slot_cmp}
 use Rattle.cell_store.specs.declared.cell.Cell.{Cell}
-use Rattle.dictionary.specs.Accepted.{Accepted, IsAccepted}
+use Rattle.dict_meaning.specs.Accepted.{Accepted, IsAccepted}
 use Rattle.dictionary.specs.ByRank.{AreByRank}
-use Rattle.dictionary.specs.Fits.{AnswersFit}
-use Rattle.dictionary.specs.Plain.{plain}
-use Rattle.dictionary.specs.Slots.{stands}
-use Rattle.dictionary.specs.Touched.{stamped, touched_count}
-use Rattle.dictionary.specs.Undone.{came, is_touched_first, IsUndone, went}
-use Rattle.dictionary.specs.Weights.{slot_weight, touched_weight}
-use Rattle.dictionary.proofs.PlainLaws.{standing_have_results}
-use Rattle.dictionary.proofs.UndoneLaws.{came_tells, went_tells}
+use Rattle.dict_meaning.specs.Fits.{AnswersFit}
+use Rattle.dict_meaning.specs.Plain.{plain}
+use Rattle.dict_meaning.specs.Slots.{stands}
+use Rattle.dict_meaning.specs.Touched.{stamped, touched_count}
+use Rattle.dict_meaning.specs.Undone.{came, is_touched_first, IsUndone, went}
+use Rattle.dict_meaning.specs.Weights.{slot_weight, touched_weight}
+use Rattle.dict_meaning.proofs.PlainLaws.{standing_have_results}
+use Rattle.dict_meaning.proofs.UndoneLaws.{came_tells, went_tells}
 use Rattle.visit_counts.specs.SlotVisits.{slot_visits, touched_visits, whole_visits}
 use Rattle.recalc.specs.BetweenAnswers.{between, from_nothing, results_before}
 use Rattle.recalc.specs.Marking.{IsMarked}
@@ -34,7 +34,7 @@ use Rattle.recalc.specs.declared.engine_state.EngineState.{EngineState}
 use Rattle.recalc.specs.declared.log.Replaced.{Replaced}
 use Rattle.recalc.proofs.BetweenLaws.{all_is_done, are_between, edit_marks, start_passes, start_touches_all, touched_weigh, undone_passes}
 use Rattle.recalc.proofs.MarkingLaws.{start_marks}
-use Rattle.dictionary.proofs.PlainLaws.{no_result}
+use Rattle.dict_meaning.proofs.PlainLaws.{no_result}
 use Rattle.recalc.proofs.SeedingLaws.{standing_in}
 
 abbrev stamp_of : Option Cell → ℕ

@@ -2,19 +2,19 @@
 -- it weighs.
 use Rattle.std.proofs.Common.{◌≡◌, ℕ, ◌+◌, IsTrue, if◌then◌else◌, List, Option, Some, None, refl, sym, ap, ◌∙◌}
 use Rattle.fact_values.specs.declared.slot.Slot.{Slot}
-use Rattle.dict_tree.specs.Dictionary.{Dictionary as Tree}
-use Rattle.dict_tree.specs.Facts.{Fact}
-use Rattle.dict_tree.specs.Finding.{fact_at}
-use Rattle.dict_tree.specs.Tree.{Source}
+use Rattle.dict_source.specs.Dictionary.{Dictionary as Tree}
+use Rattle.dict_source.specs.Facts.{Fact}
+use Rattle.dict_source.specs.Finding.{fact_at}
+use Rattle.dict_source.specs.Tree.{Source}
 use Rattle.three_state.specs.declared.res.Res.{Res}
 use Rattle.answers.specs.Answered.{Answered}
-use Rattle.dictionary.specs.Accepted.{Accepted, IsAccepted}
-use Rattle.dictionary.specs.Plain.{at_fact, body, IsPlainBelow, plain, rank, slot_result}
-use Rattle.dictionary.specs.Dependencies.{Results}
-use Rattle.dictionary.specs.Slots.{stands}
-use Rattle.dictionary.specs.Weights.{slot_weight}
-use Rattle.dictionary.proofs.PlainLaws.{step_over_lower}
-use Rattle.dictionary.proofs.WeightLaws.{fact_weight, weight_over, weight_over_lower}
+use Rattle.dict_meaning.specs.Accepted.{Accepted, IsAccepted}
+use Rattle.dict_meaning.specs.Plain.{at_fact, body, IsPlainBelow, plain, rank, slot_result}
+use Rattle.evaluation.specs.Results.{Results}
+use Rattle.dict_meaning.specs.Slots.{stands}
+use Rattle.dict_meaning.specs.Weights.{slot_weight}
+use Rattle.dict_meaning.proofs.PlainLaws.{step_over_lower}
+use Rattle.dict_meaning.proofs.WeightLaws.{fact_weight, weight_over, weight_over_lower}
 use Rattle.visit_counts.specs.SlotVisits.{slot_visits}
 use Rattle.visit_counts.proofs.SlotVisitLaws.{visits_over_lower}
 use Rattle.node_eval.specs.View.{Compiled as NodeTree}

@@ -3,8 +3,8 @@ use Rattle.std.proofs.Common.{◌≡◌, ℕ, zero, suc, ◌<◌, ◌≤◌, Boo
 use Rattle.std.proofs.lemmas.List.Folds.{list_any-append}
 use Rattle.common_lemmas.proofs.Bools.{and_intro, both_left, both_right, neither_or, not_true, or_false, or_left, or_neither, or_right, same_test}
 use Rattle.fact_values.specs.declared.slot.Slot.{Slot}
-use Rattle.dictionary.specs.Slots.{slot_same}
-use Rattle.dictionary.proofs.SlotLaws.{slot_same-equal}
+use Rattle.dict_meaning.specs.Slots.{slot_same}
+use Rattle.dict_meaning.proofs.SlotLaws.{slot_same-equal}
 use Rattle.recalc.specs.Spread.{Spread, IsSpread, is_fed_by, is_in, is_touched}
 use Rattle.recalc.specs.Marking.{IsLeast, IsMarked, IsNext}
 use Rattle.recalc.specs.Laws.{DoneAreTouched, LowerSettle, StartMarks, TurnMarks}

@@ -4,16 +4,16 @@ use Rattle.std.specs.List.{list_any}
 use Rattle.common_lemmas.proofs.Bools.{both_left, both_right, or_false}
 use Rattle.common_lemmas.proofs.Numbers.{equal_number, nat_eq-comm, same_number}
 use Rattle.fact_values.specs.declared.slot.Slot.{Slot}
-use Rattle.dict_tree.specs.Facts.{Fact}
-use Rattle.dict_tree.specs.Finding.{fact_at}
-use Rattle.dict_tree.specs.Mentions.{found_mentions}
+use Rattle.dict_source.specs.Facts.{Fact}
+use Rattle.dict_source.specs.Finding.{fact_at}
+use Rattle.dict_source.specs.Mentions.{found_mentions}
 use Rattle.answers.specs.Answered.{Answered, list_of}
-use Rattle.dictionary.specs.Accepted.{Accepted}
-use Rattle.dictionary.specs.Feeds.{speaks_of}
-use Rattle.dictionary.specs.Homes.{home}
-use Rattle.dictionary.specs.Plain.{rank}
-use Rattle.dictionary.specs.Dependencies.{slot}
-use Rattle.dictionary.specs.Slots.{is_member, members_of_home, stands_at, stands_of}
+use Rattle.dict_meaning.specs.Accepted.{Accepted}
+use Rattle.dict_meaning.specs.Feeds.{speaks_of}
+use Rattle.dict_meaning.specs.Homes.{home}
+use Rattle.dict_meaning.specs.Plain.{rank}
+use Rattle.evaluation.specs.Results.{slot}
+use Rattle.dict_meaning.specs.Slots.{is_member, members_of_home, stands_at, stands_of}
 use Rattle.dep_index.specs.Laws.{reads}
 use Rattle.dep_index.specs.declared.row.ReaderOf.{ReaderOf}
 use Rattle.dep_index.proofs.FeedLaws.{feeds_by_readers}

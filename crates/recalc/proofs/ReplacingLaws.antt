@@ -3,8 +3,8 @@ use Rattle.std.proofs.Common.{◌≡◌, Bool, true, false, cond, ◌||◌, List
 use Rattle.std.specs.FinMap as finite
 use Rattle.common_lemmas.proofs.Bools.{neither_or, or_false, or_left, or_neither, or_right}
 use Rattle.fact_values.specs.declared.slot.Slot.{Slot}
-use Rattle.dictionary.specs.Slots.{slot_same}
-use Rattle.dictionary.proofs.SlotLaws.{slot_same-equal, slot_same-itself}
+use Rattle.dict_meaning.specs.Slots.{slot_same}
+use Rattle.dict_meaning.proofs.SlotLaws.{slot_same-equal, slot_same-itself}
 use Rattle.cell_store.specs.Contents.{Cells}
 use Rattle.cell_store.specs.Places.{put_at}
 use Rattle.cell_store.specs.declared.cell.Cell.{Cell}

@@ -7,18 +7,18 @@ use Rattle.common_lemmas.proofs.Bools.{both_left, both_right}
 use Rattle.common_lemmas.proofs.Numbers.{equal_number, nat_eq-comm, same_number}
 use Rattle.fact_values.specs.declared.slot.Slot.{Slot}
 use Rattle.three_state.specs.declared.res.Res.{Res}
-use Rattle.dict_tree.specs.Finding.{IsNumber}
+use Rattle.dict_source.specs.Finding.{IsNumber}
 use Rattle.cell_store.specs.Contents.{Cells}
 use Rattle.cell_store.specs.declared.cell.Cell.{Cell}
 use Rattle.cell_store.proofs.SlotLaws.{get_put_at}
 use Rattle.dep_index.specs.Readers.{AreReaders}
 use Rattle.dep_index.specs.declared.row.ReaderOf.{ReaderOf}
-use Rattle.dictionary.specs.Accepted.{Accepted}
-use Rattle.dictionary.specs.Feeds.{feeds}
-use Rattle.dictionary.specs.Plain.{IsPlainBelow, plain, rank}
-use Rattle.dictionary.specs.Slots.{slot_same, stands}
-use Rattle.dictionary.specs.Weights.{slot_weight}
-use Rattle.dictionary.proofs.SlotLaws.{slot_same-equal}
+use Rattle.dict_meaning.specs.Accepted.{Accepted}
+use Rattle.dict_meaning.specs.Feeds.{feeds}
+use Rattle.dict_meaning.specs.Plain.{IsPlainBelow, plain, rank}
+use Rattle.dict_meaning.specs.Slots.{slot_same, stands}
+use Rattle.dict_meaning.specs.Weights.{slot_weight}
+use Rattle.dict_meaning.proofs.SlotLaws.{slot_same-equal}
 use Rattle.visit_counts.specs.SlotVisits.{slot_visits}
 use Rattle.recalc.specs.Laws.{touched_of}
 use Rattle.recalc.specs.Marking.{IsLeast, IsMarked, IsNext}

@@ -10,7 +10,7 @@ use Rattle.common_lemmas.proofs.Numbers.{equal_number, nat_eq-comm, same_number}
 use Rattle.common_lemmas.proofs.Options.{something}
 use Rattle.fact_values.specs.declared.slot.Slot.{Slot}
 use Rattle.fact_values.specs.declared.value.Value.{Value}
-use Rattle.dict_tree.specs.Finding.{IsNumber}
+use Rattle.dict_source.specs.Finding.{IsNumber}
 use Rattle.three_state.specs.Equality.{value_same}
 use Rattle.answers.specs.Answered.{Answered, list_of, value_of}
 use Rattle.answers.specs.Change.{Change, sets, opens, closes, adds, takes, removes, puts_back, applied}
@@ -20,20 +20,20 @@ use Rattle.answers.specs.declared.edit.Side.TheVariants.{Answer, Override}
 use Rattle.answers.proofs.FiniteLaws.{get_put_own}
 use Rattle.answers.proofs.StandLaws.{elsewhere, entry_stands, list_is, list_there, none_some}
 use Rattle.dict_order.proofs.DictionaryLaws.{length_mention_graph}
-use Rattle.dictionary.specs.Accepted.{Accepted, IsAccepted}
+use Rattle.dict_meaning.specs.Accepted.{Accepted, IsAccepted}
 use Rattle.dictionary.specs.ByRank.{AreByRank}
-use Rattle.dictionary.specs.Extension.{both_same}
-use Rattle.dictionary.specs.Fits.{AnswersFit, is_list}
-use Rattle.dictionary.specs.Homes.{home}
-use Rattle.dictionary.specs.Plain.{rank}
-use Rattle.dictionary.specs.Dependencies.{slot}
-use Rattle.dictionary.specs.Slots.{is_member, members_of_home, slot_same, stands, stands_at}
-use Rattle.dictionary.specs.Undone.{came, differs, is_touched_first, IsUndone}
+use Rattle.dict_meaning.specs.Extension.{both_same}
+use Rattle.dict_meaning.specs.Fits.{AnswersFit, is_list}
+use Rattle.dict_meaning.specs.Homes.{home}
+use Rattle.dict_meaning.specs.Plain.{rank}
+use Rattle.evaluation.specs.Results.{slot}
+use Rattle.dict_meaning.specs.Slots.{is_member, members_of_home, slot_same, stands, stands_at}
+use Rattle.dict_meaning.specs.Undone.{came, differs, is_touched_first, IsUndone}
 use Rattle.dictionary.proofs.ByRankLaws.{facts_by_rank, place_of_fact}
-use Rattle.dictionary.proofs.ExtensionLaws.{is_placed, list_stands}
-use Rattle.dictionary.proofs.NumberLaws.{fact_there, fact_within}
-use Rattle.dictionary.proofs.SetLaws.{set_is}
-use Rattle.dictionary.proofs.SlotLaws.{fact_of_standing, slot_same-equal, slot_same-itself, stands_where}
+use Rattle.dict_meaning.proofs.ExtensionLaws.{is_placed, list_stands}
+use Rattle.dict_meaning.proofs.NumberLaws.{fact_there, fact_within}
+use Rattle.dict_meaning.proofs.SetLaws.{set_is}
+use Rattle.dict_meaning.proofs.SlotLaws.{fact_of_standing, slot_same-equal, slot_same-itself, stands_where}
 use Rattle.recalc.specs.Readers.{dirty_of}
 use Rattle.recalc.specs.Running.{AreWaiting}
 use Rattle.recalc.specs.Seeding.{came_by, field_at, is_anywhere, is_at, is_came, is_field, is_own, is_slot}

@@ -5,8 +5,8 @@ use Rattle.std.proofs.lemmas.List.Folds.{list_any-append}
 use Rattle.std.proofs.lemmas.Map.Views.{any-filter_same}
 use Rattle.common_lemmas.proofs.Bools.{neither_or, or_false, or_left, or_neither, or_right}
 use Rattle.fact_values.specs.declared.slot.Slot.{Slot}
-use Rattle.dictionary.specs.Slots.{slot_same}
-use Rattle.dictionary.proofs.SlotLaws.{slot_same-equal, slot_same-itself}
+use Rattle.dict_meaning.specs.Slots.{slot_same}
+use Rattle.dict_meaning.proofs.SlotLaws.{slot_same-equal, slot_same-itself}
 use Rattle.recalc.specs.Spread.{is_in, NoTwice}
 
 pub other_way : (s t : Slot) → slot_same s t ≡ false → slot_same t s ≡ false

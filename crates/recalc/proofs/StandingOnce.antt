@@ -5,13 +5,13 @@ use Rattle.std.proofs.lemmas.List.Folds.{list_any-append}
 use Rattle.common_lemmas.proofs.Bools.{both_left, neither_or, or_left, or_right}
 use Rattle.common_lemmas.proofs.Numbers.{equal_number, same_number}
 use Rattle.fact_values.specs.declared.slot.Slot.{Slot}
-use Rattle.dict_tree.specs.Dictionary.{Dictionary as Tree}
+use Rattle.dict_source.specs.Dictionary.{Dictionary as Tree}
 use Rattle.answers.specs.Answered.{Answered, list_of}
 use Rattle.answers.specs.Lists.{Once}
-use Rattle.dictionary.specs.Homes.{home}
-use Rattle.dictionary.specs.Dependencies.{slot}
-use Rattle.dictionary.specs.Slots.{slot_same, slots_of, slots_up_to, standing}
-use Rattle.dictionary.proofs.SlotLaws.{slot_same-itself}
+use Rattle.dict_meaning.specs.Homes.{home}
+use Rattle.evaluation.specs.Results.{slot}
+use Rattle.dict_meaning.specs.Slots.{slot_same, slots_of, slots_up_to, standing}
+use Rattle.dict_meaning.proofs.SlotLaws.{slot_same-itself}
 use Rattle.recalc.specs.Spread.{is_in, NoTwice}
 use Rattle.recalc.specs.BetweenAnswers.{StandingOnce}
 use Rattle.recalc.proofs.SlotLists.{either}

@@ -10,18 +10,18 @@ use Rattle.fact_values.specs.declared.fact_type.FactType.{FactType}
 use Rattle.fact_values.specs.declared.fact_type.FactType.TheVariants as types
 use Rattle.fact_values.specs.declared.value.Value.{Value}
 use Rattle.fact_values.specs.declared.value.Value.TheVariants.{Boolean, Int}
-use Rattle.dict_tree.specs.declared.operators.ManyOp.TheVariants.{Add}
-use Rattle.dict_tree.specs.declared.operators.ReadOp.TheVariants.{CollectionSum, Dependency}
-use Rattle.dict_tree.specs.declared.operators.PickOp.TheVariants.{Filter}
-use Rattle.dict_tree.specs.Tree.{Source, Use, many, no_trees, pick, read, tree}
-use Rattle.dict_tree.specs.Facts.{Fact, list_of, scalar, writable_list}
+use Rattle.dict_source.specs.declared.operators.ManyOp.TheVariants.{Add}
+use Rattle.dict_source.specs.declared.operators.ReadOp.TheVariants.{CollectionSum, Dependency}
+use Rattle.dict_source.specs.declared.operators.PickOp.TheVariants.{Filter}
+use Rattle.dict_source.specs.Tree.{Source, Use, many, no_trees, pick, read, tree}
+use Rattle.dict_source.specs.Facts.{Fact, list_of, scalar, writable_list}
 use Rattle.answers.specs.Answered.{Answered, Entry}
 use Rattle.answers.proofs.SmallMaps.{map_at, get_at}
-use Rattle.dictionary.specs.Accepted.{Accepted}
-use Rattle.dictionary.specs.Extension.{extends}
-use Rattle.dictionary.specs.Plain.{plain, table}
-use Rattle.dictionary.specs.Slots.{standing}
-use Rattle.dictionary.specs.Steady.{steady_by_rank}
+use Rattle.dict_meaning.specs.Accepted.{Accepted}
+use Rattle.dict_meaning.specs.Extension.{extends}
+use Rattle.dict_meaning.specs.Plain.{plain, table}
+use Rattle.dict_meaning.specs.Slots.{standing}
+use Rattle.dict_meaning.specs.Steady.{steady_by_rank}
 use Rattle.visit_counts.specs.SlotVisits.{touched_visits}
 
 -- ---- a rate, and a list of members, each with a test, a number, and the sum of that and the rate; those that pass the test, and

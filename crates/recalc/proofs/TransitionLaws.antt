@@ -1,18 +1,18 @@
 -- A loop over the slots that wait gives each its new result.
 use Rattle.std.proofs.Common.{◌≡◌, ◌<◌, ◌≤◌, ℕ, Bool, true, false, not, ◌&&◌, ◌||◌, if◌then◌else◌, IsTrue, List, [], ◌∷◌, ◌++◌, Option, refl, sym, ap, ◌∙◌, arith}
 use Rattle.fact_values.specs.declared.slot.Slot.{Slot}
-use Rattle.dict_tree.specs.Finding.{IsNumber}
+use Rattle.dict_source.specs.Finding.{IsNumber}
 use Rattle.three_state.specs.declared.res.Res.{Res}
 use Rattle.answers.specs.Answered.{Answered}
-use Rattle.dictionary.specs.Accepted.{Accepted, IsAccepted}
-use Rattle.dictionary.specs.Feeds.{feeds}
-use Rattle.dictionary.specs.Plain.{IsPlainBelow, plain, rank}
-use Rattle.dictionary.specs.Dependencies.{Results}
-use Rattle.dictionary.specs.Slots.{slot_same, stands}
-use Rattle.dictionary.proofs.FeedLaws.{feeds_fall}
-use Rattle.dictionary.proofs.NumberLaws.{fact_within}
-use Rattle.dictionary.proofs.PlainLaws.{no_result}
-use Rattle.dictionary.proofs.SlotLaws.{fact_of_standing, slot_same-equal}
+use Rattle.dict_meaning.specs.Accepted.{Accepted, IsAccepted}
+use Rattle.dict_meaning.specs.Feeds.{feeds}
+use Rattle.dict_meaning.specs.Plain.{IsPlainBelow, plain, rank}
+use Rattle.evaluation.specs.Results.{Results}
+use Rattle.dict_meaning.specs.Slots.{slot_same, stands}
+use Rattle.dict_meaning.proofs.FeedLaws.{feeds_fall}
+use Rattle.dict_meaning.proofs.NumberLaws.{fact_within}
+use Rattle.dict_meaning.proofs.PlainLaws.{no_result}
+use Rattle.dict_meaning.proofs.SlotLaws.{fact_of_standing, slot_same-equal}
 use Rattle.recalc.specs.Spread.{Spread, is_in}
 use Rattle.recalc.specs.Marking.{IsLeast, IsMarked}
 use Rattle.recalc.specs.Transitions.{AreResults, IsTransition, is_shielded}

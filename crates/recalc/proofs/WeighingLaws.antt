@@ -4,8 +4,8 @@ use Rattle.std.specs.List.{sum_by}
 use Rattle.std.proofs.lemmas.List.Sums.{sum_by-cons}
 use Rattle.common_lemmas.proofs.Bools.{and_intro, or_left, or_right, both_left, both_right}
 use Rattle.fact_values.specs.declared.slot.Slot.{Slot}
-use Rattle.dictionary.specs.Slots.{slot_same}
-use Rattle.dictionary.proofs.SlotLaws.{slot_same-equal, slot_same-itself}
+use Rattle.dict_meaning.specs.Slots.{slot_same}
+use Rattle.dict_meaning.proofs.SlotLaws.{slot_same-equal, slot_same-itself}
 use Rattle.recalc.specs.Spread.{Spread, IsSpread, is_in, is_touched, NoTwice}
 use Rattle.recalc.specs.Marking.{IsMarked}
 use Rattle.recalc.specs.Laws.{DoneWeighAll, DoneWeighLess, touched_of}

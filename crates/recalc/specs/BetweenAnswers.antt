@@ -3,16 +3,16 @@ use Rattle.std.specs.Prelude.{◌≡◌, ℕ, Bool, true, false, not, ◌&&◌, 
 use Rattle.fact_values.specs.declared.slot.Slot.{Slot}
 use Rattle.answers.specs.Answered.{Answered}
 use Rattle.answers.specs.Change.{Change, applied}
-use Rattle.dictionary.specs.Accepted.{Accepted, IsAccepted}
-use Rattle.dictionary.specs.Extension.{extends}
-use Rattle.dictionary.specs.Feeds.{feeds}
-use Rattle.dictionary.specs.Final.{is_final}
-use Rattle.dictionary.specs.Fits.{AnswersFit}
-use Rattle.dictionary.specs.Plain.{plain, rank}
-use Rattle.dictionary.specs.Dependencies.{Results}
-use Rattle.dictionary.specs.Slots.{stands, standing}
-use Rattle.dictionary.specs.Touched.{has_moved, same_entry, stamped, touched, touched_count, touches}
-use Rattle.dictionary.specs.Undone.{is_extended, is_touched_first, IsUndone}
+use Rattle.dict_meaning.specs.Accepted.{Accepted, IsAccepted}
+use Rattle.dict_meaning.specs.Extension.{extends}
+use Rattle.dict_meaning.specs.Feeds.{feeds}
+use Rattle.dict_meaning.specs.Final.{is_final}
+use Rattle.dict_meaning.specs.Fits.{AnswersFit}
+use Rattle.dict_meaning.specs.Plain.{plain, rank}
+use Rattle.evaluation.specs.Results.{Results}
+use Rattle.dict_meaning.specs.Slots.{stands, standing}
+use Rattle.dict_meaning.specs.Touched.{has_moved, same_entry, stamped, touched, touched_count, touches}
+use Rattle.dict_meaning.specs.Undone.{is_extended, is_touched_first, IsUndone}
 use Rattle.recalc.specs.Spread.{Spread, is_in, is_touched, IsSpread, NoTwice}
 use Rattle.recalc.specs.Marking.{IsMarked}
 use Rattle.recalc.specs.Laws.{touched_of}

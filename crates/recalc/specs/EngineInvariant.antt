@@ -7,13 +7,13 @@ use Rattle.answers.specs.Answered.{Answered}
 use Rattle.cell_store.specs.Contents.{Cells}
 use Rattle.cell_store.specs.declared.cell.Cell.{Cell}
 use Rattle.dep_index.specs.Readers.{IsIndex}
-use Rattle.dictionary.specs.Accepted.{Accepted}
-use Rattle.dictionary.specs.Plain.{plain}
-use Rattle.dictionary.specs.Dependencies.{Results}
+use Rattle.dict_meaning.specs.Accepted.{Accepted}
+use Rattle.dict_meaning.specs.Plain.{plain}
+use Rattle.evaluation.specs.Results.{Results}
 use Rattle.node_compile.specs.Compiled.{IsCompiled}
 use Rattle.answers.specs.Change.{Change}
 use Rattle.dictionary.specs.Engines.{Marks}
-use Rattle.dictionary.specs.Undone.{is_extended}
+use Rattle.dict_meaning.specs.Undone.{is_extended}
 use Rattle.recalc.specs.Replacing.{entries}
 use Rattle.recalc.specs.Running.{Setting}
 use Rattle.dirty_slots.specs.Waiting.{waits}

@@ -1,7 +1,7 @@
 -- What a loop keeps that takes the slots that wait by rank, and lets those wait that a moved one feeds.
 use Rattle.std.specs.Prelude.{◌≡◌, ◌≤◌, ℕ, Bool, false, not, ◌&&◌, ◌||◌, IsTrue, List}
 use Rattle.fact_values.specs.declared.slot.Slot.{Slot}
-use Rattle.dictionary.specs.Slots.{slot_same}
+use Rattle.dict_meaning.specs.Slots.{slot_same}
 use Rattle.recalc.specs.Spread.{Spread, is_fed_by, is_in, is_touched, NoTwice}
 
 -- each slot that waits is of this rank or a higher one

@@ -3,7 +3,8 @@ use Rattle.std.specs.Prelude.{Option, Some, None, option_map}
 use Rattle.answers.specs.Answered.{Answered}
 use Rattle.answers.specs.Change.{Change, applied}
 use Rattle.answers.specs.Meaning.{answered, change}
-use Rattle.dictionary.specs.Accepted.{Accepted, accepted}
+use Rattle.dict_meaning.specs.Accepted.{Accepted}
+use Rattle.dictionary.specs.Kept.{accepted}
 use Rattle.recalc.specs.BetweenAnswers.{between, from_nothing}
 use Rattle.recalc.specs.Running.{Setting}
 use Rattle.recalc.specs.Spread.{Spread}

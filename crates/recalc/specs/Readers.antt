@@ -3,12 +3,12 @@ use Rattle.std.specs.Prelude.{◌≡◌, ℕ, Bool, not, ◌&&◌, ◌||◌, nat
 use Rattle.std.specs.List.{list_any}
 use Rattle.fact_values.specs.declared.slot.Slot.{Slot}
 use Rattle.answers.specs.Answered.{Answered}
-use Rattle.dictionary.specs.Accepted.{Accepted}
-use Rattle.dictionary.specs.Feeds.{feeds}
-use Rattle.dictionary.specs.Homes.{home}
-use Rattle.dictionary.specs.Plain.{rank}
-use Rattle.dictionary.specs.Dependencies.{slot}
-use Rattle.dictionary.specs.Slots.{members_of_home, stands}
+use Rattle.dict_meaning.specs.Accepted.{Accepted}
+use Rattle.dict_meaning.specs.Feeds.{feeds}
+use Rattle.dict_meaning.specs.Homes.{home}
+use Rattle.dict_meaning.specs.Plain.{rank}
+use Rattle.evaluation.specs.Results.{slot}
+use Rattle.dict_meaning.specs.Slots.{members_of_home, stands}
 use Rattle.dep_index.specs.Readers.{AreReaders}
 use Rattle.dep_index.specs.declared.row.ReaderOf.{ReaderOf}
 use Rattle.dirty_slots.specs.Waiting.{dirty_same}

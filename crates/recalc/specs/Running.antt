@@ -7,12 +7,12 @@ use Rattle.answers.specs.Answered.{Answered}
 use Rattle.cell_store.specs.Contents.{Cells}
 use Rattle.cell_store.specs.Places.{put_at}
 use Rattle.cell_store.specs.declared.cell.Cell.{Cell}
-use Rattle.dictionary.specs.Accepted.{Accepted, IsAccepted}
+use Rattle.dict_meaning.specs.Accepted.{Accepted, IsAccepted}
 use Rattle.dep_index.specs.declared.row.ReaderOf.{ReaderOf}
-use Rattle.dictionary.specs.Plain.{plain, rank}
-use Rattle.dictionary.specs.Dependencies.{Results, slot}
-use Rattle.dictionary.specs.Slots.{stands}
-use Rattle.dictionary.specs.Weights.{slot_weight}
+use Rattle.dict_meaning.specs.Plain.{plain, rank}
+use Rattle.evaluation.specs.Results.{Results, slot}
+use Rattle.dict_meaning.specs.Slots.{stands}
+use Rattle.dict_meaning.specs.Weights.{slot_weight}
 use Rattle.visit_counts.specs.SlotVisits.{slot_visits}
 use Rattle.recalc.specs.Laws.{touched_of}
 use Rattle.recalc.specs.Spread.{Spread, is_in}

@@ -2,13 +2,13 @@
 use Rattle.std.specs.Prelude.{ℕ, ◌-◌, Bool, false, nat_eq, if◌then◌else◌, List, [], ◌∷◌, Option, Some, None}
 use Rattle.std.specs.List.{list_any}
 use Rattle.fact_values.specs.declared.slot.Slot.{Slot}
-use Rattle.dict_tree.specs.Dictionary.{Dictionary as Tree}
+use Rattle.dict_source.specs.Dictionary.{Dictionary as Tree}
 use Rattle.answers.specs.Answered.{Answered}
 use Rattle.answers.specs.Change.{Change, takes, removes}
-use Rattle.dictionary.specs.Accepted.{Accepted}
-use Rattle.dictionary.specs.Homes.{home}
-use Rattle.dictionary.specs.Plain.{rank}
-use Rattle.dictionary.specs.Slots.{members_of_home, slot_same}
+use Rattle.dict_meaning.specs.Accepted.{Accepted}
+use Rattle.dict_meaning.specs.Homes.{home}
+use Rattle.dict_meaning.specs.Plain.{rank}
+use Rattle.dict_meaning.specs.Slots.{members_of_home, slot_same}
 use Rattle.recalc.specs.Readers.{dirty_of}
 use Rattle.dirty_slots.specs.Waiting.{dirty_same}
 use Rattle.recalc.specs.declared.undone.Came.{Came}

@@ -2,7 +2,7 @@
 use Rattle.std.specs.Prelude.{◌≡◌, ◌<◌, ℕ, Bool, false, ◌&&◌, ◌||◌, IsTrue, List, [], ◌∷◌}
 use Rattle.std.specs.List.{list_any}
 use Rattle.fact_values.specs.declared.slot.Slot.{Slot}
-use Rattle.dictionary.specs.Slots.{slot_same}
+use Rattle.dict_meaning.specs.Slots.{slot_same}
 
 abbrev pub is_in : List Slot → Slot → Bool
 is_in slots s = list_any (slot_same s) slots

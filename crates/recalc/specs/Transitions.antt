@@ -5,14 +5,14 @@ use Rattle.three_state.specs.declared.res.Res.{Res}
 use Rattle.three_state.specs.Equality.{res_same}
 use Rattle.answers.specs.Answered.{Answered, value_of}
 use Rattle.answers.specs.declared.edit.Side.TheVariants.{Override}
-use Rattle.dictionary.specs.Accepted.{Accepted}
-use Rattle.dictionary.specs.Extension.{both_same}
-use Rattle.dictionary.specs.Feeds.{feeds}
-use Rattle.dictionary.specs.Final.{is_complete_in}
-use Rattle.dictionary.specs.Plain.{plain, rank}
-use Rattle.dictionary.specs.Dependencies.{Results}
-use Rattle.dictionary.specs.Slots.{stands}
-use Rattle.dictionary.specs.Steady.{steady}
+use Rattle.dict_meaning.specs.Accepted.{Accepted}
+use Rattle.dict_meaning.specs.Extension.{both_same}
+use Rattle.dict_meaning.specs.Feeds.{feeds}
+use Rattle.dict_meaning.specs.Final.{is_complete_in}
+use Rattle.dict_meaning.specs.Plain.{plain, rank}
+use Rattle.evaluation.specs.Results.{Results}
+use Rattle.dict_meaning.specs.Slots.{stands}
+use Rattle.dict_meaning.specs.Steady.{steady}
 use Rattle.recalc.specs.Spread.{Spread, is_in, is_touched, IsSpread, NoTwice}
 
 -- a slot that had a result has another one

@@ -3,8 +3,9 @@ use Rattle.std.specs.Prelude.{◌≡◌, ℕ}
 use Rattle.answers.specs.Answered.{Answered}
 use Rattle.answers.specs.Change.{Change, applied}
 use Rattle.answers.specs.Meaning.{answered, change}
-use Rattle.dictionary.specs.Accepted.{Accepted, accepted}
-use Rattle.dictionary.specs.Undone.{IsUndone, went}
+use Rattle.dict_meaning.specs.Accepted.{Accepted}
+use Rattle.dictionary.specs.Kept.{accepted}
+use Rattle.dict_meaning.specs.Undone.{IsUndone, went}
 use Rattle.recalc.specs.BetweenAnswers.{between}
 use Rattle.recalc.specs.EngineInvariant.{setting_from}
 use Rattle.recalc.specs.Running.{Setting, is_that}

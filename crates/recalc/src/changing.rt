@@ -2,9 +2,9 @@
 ghost use Rattle.std.specs.Prelude.{◌≡◌, ◌+◌, ◌<◌, ◌≤◌, OnOk};
 ghost use Rattle.answers.specs.Meaning.{answered};
 ghost use Rattle.cell_store.specs.Contents.{no_cells};
-ghost use Rattle.dictionary.specs.Accepted.{accepted};
-ghost use Rattle.dictionary.specs.Fits.{AnswersFit};
-ghost use Rattle.dictionary.specs.Weights.{touched_weight};
+ghost use Rattle.dictionary.specs.Kept.{accepted};
+ghost use Rattle.dict_meaning.specs.Fits.{AnswersFit};
+ghost use Rattle.dict_meaning.specs.Weights.{touched_weight};
 ghost use Rattle.visit_counts.specs.SlotVisits.{touched_visits, whole_visits};
 ghost use Rattle.recalc.specs.BetweenAnswers.{from_nothing};
 ghost use Rattle.recalc.specs.EngineInvariant.{EngineInvariant, IsGraphOf, IsIdle, start_setting};

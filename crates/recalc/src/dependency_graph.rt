@@ -1,6 +1,6 @@
 // What the engine is over.
 ghost use Rattle.std.specs.Prelude.{IfOk};
-ghost use Rattle.dictionary.specs.Accepted.{accepted};
+ghost use Rattle.dictionary.specs.Kept.{accepted};
 ghost use Rattle.recalc.specs.EngineInvariant.{IsGraphOf};
 
 use dep_index::{Readers, build};

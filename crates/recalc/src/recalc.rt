@@ -3,12 +3,13 @@ ghost use Rattle.std.specs.Prelude.{◌≡◌, ◌+◌, ◌<◌, ◌≤◌, ◌^
 ghost use Rattle.answers.specs.Answered.{Answered};
 ghost use Rattle.answers.specs.Change.{Fits, applied};
 ghost use Rattle.answers.specs.Meaning.{answered, change};
-ghost use Rattle.dictionary.specs.Accepted.{Accepted, accepted};
+ghost use Rattle.dict_meaning.specs.Accepted.{Accepted};
+ghost use Rattle.dictionary.specs.Kept.{accepted};
 ghost use Rattle.dictionary.specs.Engines.{AreFresh, AreMarkedBy, AreSameMarks};
-ghost use Rattle.dictionary.specs.Fits.{AnswersFit};
-ghost use Rattle.dictionary.specs.Plain.{plain};
-ghost use Rattle.dictionary.specs.Slots.{stands};
-ghost use Rattle.dictionary.specs.Weights.{touched_weight};
+ghost use Rattle.dict_meaning.specs.Fits.{AnswersFit};
+ghost use Rattle.dict_meaning.specs.Plain.{plain};
+ghost use Rattle.dict_meaning.specs.Slots.{stands};
+ghost use Rattle.dict_meaning.specs.Weights.{touched_weight};
 ghost use Rattle.visit_counts.specs.SlotVisits.{touched_visits};
 ghost use Rattle.recalc.specs.EngineInvariant.{EngineInvariant, marks_by, stamp_in};
 

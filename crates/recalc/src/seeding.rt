@@ -2,11 +2,11 @@
 ghost use Rattle.std.specs.Prelude.{◌≡◌, ◌||◌, ◌&&◌, ◌∷◌, [], ℕ, false, All, OnOk, Some};
 ghost use Rattle.fact_values.specs.declared.slot.Slot.{Slot as OneSlot};
 ghost use Rattle.answers.specs.Meaning.{answered, change};
-ghost use Rattle.dict_tree.specs.Finding.{IsNumber};
-ghost use Rattle.dictionary.specs.Accepted.{accepted};
-ghost use Rattle.dictionary.specs.Homes.{home};
-ghost use Rattle.dictionary.specs.Slots.{members_of_home, stands};
-ghost use Rattle.dictionary.specs.Undone.{differs, is_touched_first, IsUndone};
+ghost use Rattle.dict_source.specs.Finding.{IsNumber};
+ghost use Rattle.dictionary.specs.Kept.{accepted};
+ghost use Rattle.dict_meaning.specs.Homes.{home};
+ghost use Rattle.dict_meaning.specs.Slots.{members_of_home, stands};
+ghost use Rattle.dict_meaning.specs.Undone.{differs, is_touched_first, IsUndone};
 ghost use Rattle.recalc.specs.Running.{AreWaiting};
 ghost use Rattle.recalc.specs.Seeding.{field_at, is_anywhere, is_at, is_came, is_field, is_own, is_slot};
 ghost use Rattle.dirty_slots.specs.Waiting.{waits};

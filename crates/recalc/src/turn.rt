@@ -3,11 +3,11 @@ ghost use Rattle.std.specs.Prelude.{◌≡◌, ◌+◌, ◌≤◌, ◌&&◌, ◌
 ghost use Rattle.answers.specs.Meaning.{answered};
 ghost use Rattle.answers.specs.WellFormed.{FromOne, WellFormed};
 ghost use Rattle.dep_index.specs.Readers.{row};
-ghost use Rattle.dict_tree.specs.Finding.{IsNumber};
-ghost use Rattle.dictionary.specs.Accepted.{accepted};
-ghost use Rattle.dictionary.specs.Plain.{IsPlainBelow, rank};
-ghost use Rattle.dictionary.specs.Slots.{stands};
-ghost use Rattle.dictionary.specs.Weights.{slot_weight};
+ghost use Rattle.dict_source.specs.Finding.{IsNumber};
+ghost use Rattle.dictionary.specs.Kept.{accepted};
+ghost use Rattle.dict_meaning.specs.Plain.{IsPlainBelow, rank};
+ghost use Rattle.dict_meaning.specs.Slots.{stands};
+ghost use Rattle.dict_meaning.specs.Weights.{slot_weight};
 ghost use Rattle.visit_counts.specs.SlotVisits.{slot_visits};
 ghost use Rattle.recalc.specs.EngineInvariant.{IsGraphOf};
 ghost use Rattle.recalc.specs.Propagations.{setting_of};

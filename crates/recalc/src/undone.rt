@@ -4,9 +4,9 @@ ghost use Rattle.fact_values.specs.declared.slot.Slot.{Slot as OneSlot};
 ghost use Rattle.three_state.specs.Equality.{value_same};
 ghost use Rattle.answers.specs.Change.{Fits};
 ghost use Rattle.answers.specs.Meaning.{answered, change};
-ghost use Rattle.dictionary.specs.Extension.{both_same, is_kept};
-ghost use Rattle.dictionary.specs.Slots.{slot_same};
-ghost use Rattle.dictionary.specs.Undone.{differs, is_extended, went};
+ghost use Rattle.dict_meaning.specs.Extension.{both_same, is_kept};
+ghost use Rattle.dict_meaning.specs.Slots.{slot_same};
+ghost use Rattle.dict_meaning.specs.Undone.{differs, is_extended, went};
 ghost use Rattle.recalc.specs.Running.{is_that};
 ghost use Rattle.recalc.specs.Seeding.{came_by, is_slot};
 

@@ -10,18 +10,18 @@ use Rattle.fact_values.specs.declared.slot.Slot.{Slot}
 use Rattle.fact_values.specs.declared.value.Value.{Value}
 use Rattle.value_text.specs.Enums.{Listed}
 use Rattle.value_text.specs.Values.{printed}
-use Rattle.dict_tree.specs.Dictionary.{Dictionary as Tree}
-use Rattle.dict_tree.specs.Targets.{find_global}
+use Rattle.dict_source.specs.Dictionary.{Dictionary as Tree}
+use Rattle.dict_source.specs.Targets.{find_global}
 use Rattle.three_state.specs.declared.res.Res.{Res}
 use Rattle.three_state.specs.declared.res.Res.TheVariants.{Complete, Placeholder, Incomplete, Fault}
 use Rattle.common_lemmas.proofs.Bools.{both}
 use Rattle.answers.specs.Answered.{Answered, value_of}
 use Rattle.answers.specs.declared.edit.Side.TheVariants.{Override}
-use Rattle.dictionary.specs.Accepted.{Accepted, IsAccepted}
-use Rattle.dictionary.specs.Extension.{Extends, IsExtension}
-use Rattle.dictionary.specs.Final.{is_complete_in, is_final}
-use Rattle.dictionary.specs.Plain.{plain}
-use Rattle.dictionary.specs.Steady.{steady}
+use Rattle.dict_meaning.specs.Accepted.{Accepted, IsAccepted}
+use Rattle.dict_meaning.specs.Extension.{Extends, IsExtension}
+use Rattle.dict_meaning.specs.Final.{is_complete_in, is_final}
+use Rattle.dict_meaning.specs.Plain.{plain}
+use Rattle.dict_meaning.specs.Steady.{steady}
 use Rattle.graph_session.specs.Naming.{is_unknown, lacks_member, slot_of}
 use Rattle.graph_session.specs.Refusals.{decided, first_of, when}
 use Rattle.graph_session.specs.Rules.{Rules, tree_of}

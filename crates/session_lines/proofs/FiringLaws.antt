@@ -2,9 +2,9 @@
 use Rattle.std.proofs.Common.{◌≡◌, ℕ, ◌+◌, ◌<◌, ◌≤◌, zero, suc, Bool, true, false, cond, List, [], ◌∷◌, ◌++◌, length, map, drop, slice_get, Option, Some, None, refl, sym, ap, ◌∙◌, arith, append_assoc}
 use Rattle.std.specs.Prelude.{unwrap_or, option_map}
 use Rattle.script_lines.specs.Joined.{joined}
-use Rattle.dict_tree.specs.Dictionary.{Dictionary as Tree}
-use Rattle.dictionary.specs.Accepted.{Named}
-use Rattle.dictionary.specs.Dependencies.{Results}
+use Rattle.dict_source.specs.Dictionary.{Dictionary as Tree}
+use Rattle.dictionary.specs.Kept.{Named}
+use Rattle.evaluation.specs.Results.{Results}
 use Rattle.three_state.specs.declared.res.Res.{Res}
 use Rattle.fact_watch.specs.Says.{slot_says}
 use Rattle.fact_watch.specs.Watching.{Pair, code_at, pair_says}

@@ -6,11 +6,11 @@ use Rattle.std.proofs.lemmas.List.Elements.{All-cons, All-filter, All-nil}
 use Rattle.script_lines.specs.Joined.{joined}
 use Rattle.fact_values.specs.declared.slot.Slot.{Slot}
 use Rattle.common_lemmas.proofs.Bools.{or_left, or_right}
-use Rattle.dict_tree.specs.Dictionary.{Dictionary as Tree}
+use Rattle.dict_source.specs.Dictionary.{Dictionary as Tree}
 use Rattle.answers.specs.Answered.{Answered}
-use Rattle.dictionary.specs.Accepted.{Accepted}
-use Rattle.dictionary.specs.Slots.{slot_same, standing, stands}
-use Rattle.dictionary.proofs.SlotLaws.{listed_stand, slot_same-itself}
+use Rattle.dict_meaning.specs.Accepted.{Accepted}
+use Rattle.dict_meaning.specs.Slots.{slot_same, standing, stands}
+use Rattle.dict_meaning.proofs.SlotLaws.{listed_stand, slot_same-itself}
 use Rattle.explain.specs.Missing.{is_missing, missing}
 
 -- ---- the slots of the list stand

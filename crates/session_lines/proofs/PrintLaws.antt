@@ -3,20 +3,21 @@ use Rattle.std.proofs.Common.{◌≡◌, ℕ, IsTrue, List, Some, is_some, sym, 
 use Rattle.fact_values.specs.declared.fact_type.FactType.{FactType}
 use Rattle.fact_values.specs.declared.slot.Slot.{Slot}
 use Rattle.value_text.specs.Enums.{Listed}
-use Rattle.dict_tree.specs.Dictionary.{Dictionary as Tree, Written}
+use Rattle.dict_source.specs.Dictionary.{Dictionary as Tree, Written}
 use Rattle.three_state.specs.declared.res.Res.{Res}
 use Rattle.three_state.specs.declared.res.Res.TheVariants.{Complete, Placeholder}
 use Rattle.evaluation.specs.Typed.{IsResOfType}
 use Rattle.answers.specs.Answered.{Answered}
-use Rattle.dictionary.specs.Accepted.{Accepted, IsAccepted, Kept, accepted, names_of}
-use Rattle.dictionary.specs.Fits.{AnswersFit, domains}
-use Rattle.dictionary.specs.Plain.{plain}
-use Rattle.dictionary.specs.Slots.{stands}
-use Rattle.dictionary.proofs.FactTypes.{typed_fact, type_of_number}
-use Rattle.dictionary.proofs.PlainLaws.{standing_have_results}
-use Rattle.dictionary.proofs.TypedResultLaws.{typed_results}
-use Rattle.dictionary.proofs.PrintedLaws.{value_printed}
-use Rattle.dictionary.proofs.SlotLaws.{fact_of_standing}
+use Rattle.dict_meaning.specs.Accepted.{Accepted, IsAccepted}
+use Rattle.dictionary.specs.Kept.{Kept, accepted, names_of}
+use Rattle.dict_meaning.specs.Fits.{AnswersFit, domains}
+use Rattle.dict_meaning.specs.Plain.{plain}
+use Rattle.dict_meaning.specs.Slots.{stands}
+use Rattle.dict_meaning.proofs.FactTypes.{typed_fact, type_of_number}
+use Rattle.dict_meaning.proofs.PlainLaws.{standing_have_results}
+use Rattle.dict_meaning.proofs.TypedResultLaws.{typed_results}
+use Rattle.dict_meaning.proofs.PrintedLaws.{value_printed}
+use Rattle.dict_meaning.proofs.SlotLaws.{fact_of_standing}
 use Rattle.session_lines.specs.Replies.{IsResPrinted}
 
 res_printed : (d : Tree) (a : Answered) (r : Res) (t : FactType) → IsResOfType (domains d a) r t → IsResPrinted d.enums r

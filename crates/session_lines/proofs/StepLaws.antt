@@ -2,7 +2,7 @@
 use Rattle.std.proofs.Common.{◌≡◌, ℕ, ◌+◌, List, [], ◌∷◌, ◌++◌, arith}
 use Rattle.script_lines.specs.Lines.{ScriptLine}
 use Rattle.answers.specs.Answered.{Answered}
-use Rattle.dictionary.specs.Accepted.{Accepted}
+use Rattle.dict_meaning.specs.Accepted.{Accepted}
 use Rattle.graph_session.specs.Rules.{Rules}
 use Rattle.session_lines.specs.Stepping.{State, state_after, step}
 use Rattle.session_lines.specs.Steps.{steps_of_lines}

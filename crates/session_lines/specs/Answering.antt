@@ -9,9 +9,9 @@ use Rattle.graph_session.specs.Rules.{Rules, rules}
 use Rattle.graph_session.specs.Run.{is_memory}
 use Rattle.graph_session.specs.SessionView.{SessionView, session_state}
 use Rattle.script_lines.specs.Joined.{joined}
-use Rattle.dictionary.specs.Accepted.{Named, accepted}
-use Rattle.dictionary.specs.Dependencies.{Results}
-use Rattle.dictionary.specs.Plain.{plain}
+use Rattle.dictionary.specs.Kept.{Named, accepted}
+use Rattle.evaluation.specs.Results.{Results}
+use Rattle.dict_meaning.specs.Plain.{plain}
 use Rattle.fact_watch.specs.Tables.{named_relations}
 use Rattle.fact_watch.specs.Watching.{Pair, Watching}
 use Rattle.fact_watch.specs.declared.relation.WatchTable.{WatchTable}

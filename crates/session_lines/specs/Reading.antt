@@ -2,7 +2,7 @@
 use Rattle.std.specs.Prelude.{List, ℕ, map, Result, Ok, Err}
 use Rattle.script_lines.specs.Joined.{joined}
 use Rattle.fact_values.specs.declared.slot.Slot.{Slot}
-use Rattle.dictionary.specs.SlotText.{slot_text}
+use Rattle.dict_meaning.specs.SlotText.{slot_text}
 use Rattle.explain.specs.Reads.{reads}
 use Rattle.graph_session.specs.Rules.{Rules, tree_of}
 use Rattle.graph_session.specs.SessionView.{SessionState}

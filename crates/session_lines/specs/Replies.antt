@@ -7,9 +7,9 @@ use Rattle.value_text.specs.Enums.{Listed}
 use Rattle.value_text.specs.Values.{IsPrinted, printed}
 use Rattle.three_state.specs.declared.res.Res.{Res}
 use Rattle.three_state.specs.declared.res.Res.TheVariants.{Complete, Placeholder, Incomplete, Fault}
-use Rattle.dictionary.specs.Final.{is_final}
-use Rattle.dictionary.specs.Plain.{plain}
-use Rattle.dictionary.specs.SlotText.{slot_text}
+use Rattle.dict_meaning.specs.Final.{is_final}
+use Rattle.dict_meaning.specs.Plain.{plain}
+use Rattle.dict_meaning.specs.SlotText.{slot_text}
 use Rattle.explain.specs.Missing.{missing}
 use Rattle.graph_session.specs.Rules.{Rules, tree_of}
 use Rattle.graph_session.specs.SessionView.{SessionState}

@@ -4,7 +4,7 @@ use Rattle.script_lines.specs.Lines.{ScriptLine, whole, long}
 use Rattle.script_lines.specs.Parsing.{Heard, nothing, bad_line, command, heard_in}
 use Rattle.script_lines.specs.declared.command.Command.{Command}
 use Rattle.answers.specs.Answered.{Answered}
-use Rattle.dictionary.specs.Accepted.{Accepted}
+use Rattle.dict_meaning.specs.Accepted.{Accepted}
 use Rattle.graph_session.specs.Rules.{Rules}
 use Rattle.graph_session.specs.Step.{most_steps}
 use Rattle.session_lines.specs.Stepping.{LineState, State, step}

@@ -1,10 +1,10 @@
 // Writes the lines of the watches that fire.
 ghost use Rattle.std.specs.Prelude.{◌≡◌, ◌≤◌, ◌+◌, ◌∷◌, ◌++◌, [], IsTrue, IfSome, length, slice_get};
 ghost use Rattle.script_lines.specs.Joined.{joined};
-ghost use Rattle.dictionary.specs.Accepted.{accepted};
-ghost use Rattle.dictionary.specs.Plain.{plain};
-ghost use Rattle.dictionary.specs.Dependencies.{Results};
-ghost use Rattle.dictionary.specs.Slots.{stands};
+ghost use Rattle.dictionary.specs.Kept.{accepted};
+ghost use Rattle.dict_meaning.specs.Plain.{plain};
+ghost use Rattle.evaluation.specs.Results.{Results};
+ghost use Rattle.dict_meaning.specs.Slots.{stands};
 ghost use Rattle.fact_watch.specs.Tables.{named_relations};
 ghost use Rattle.fact_watch.specs.Watching.{code_at, noted, pair_says};
 ghost use Rattle.fg_io.specs.Writing.{Wrote};

@@ -1,9 +1,9 @@
 // Answers which slots are missing of one.
 ghost use Rattle.std.specs.Prelude.{◌≤◌, ◌∷◌, All, IsTrue, codes, map};
 ghost use Rattle.script_lines.specs.Joined.{joined};
-ghost use Rattle.dictionary.specs.Accepted.{accepted};
-ghost use Rattle.dictionary.specs.SlotText.{slot_text};
-ghost use Rattle.dictionary.specs.Slots.{stands};
+ghost use Rattle.dictionary.specs.Kept.{accepted};
+ghost use Rattle.dict_meaning.specs.SlotText.{slot_text};
+ghost use Rattle.dict_meaning.specs.Slots.{stands};
 ghost use Rattle.fg_io.specs.Writing.{Wrote};
 ghost use Rattle.graph_session.specs.Refusals.{slot_found};
 ghost use Rattle.graph_session.specs.Rules.{rules};

@@ -1,8 +1,8 @@
 // Answers which slots a slot reads: why its result is what it is.
 ghost use Rattle.std.specs.Prelude.{◌≡◌, ◌≤◌, IsTrue};
 ghost use Rattle.script_lines.specs.Joined.{joined};
-ghost use Rattle.dictionary.specs.Accepted.{accepted};
-ghost use Rattle.dictionary.specs.Slots.{stands};
+ghost use Rattle.dictionary.specs.Kept.{accepted};
+ghost use Rattle.dict_meaning.specs.Slots.{stands};
 ghost use Rattle.graph_session.specs.Refusals.{slot_found};
 ghost use Rattle.graph_session.specs.Rules.{rules};
 ghost use Rattle.graph_session.specs.SessionView.{session_state};

@@ -1,8 +1,8 @@
 // The texts of replies and refusals. Nothing here takes memory.
 ghost use Rattle.std.specs.Prelude.{◌≡◌, ◌+◌, ◌≤◌, ◌++◌, [], codes, length};
-ghost use Rattle.dictionary.specs.Accepted.{accepted};
-ghost use Rattle.dictionary.specs.Final.{is_final as is_final_in};
-ghost use Rattle.dictionary.specs.Plain.{plain};
+ghost use Rattle.dictionary.specs.Kept.{accepted};
+ghost use Rattle.dict_meaning.specs.Final.{is_final as is_final_in};
+ghost use Rattle.dict_meaning.specs.Plain.{plain};
 ghost use Rattle.graph_session.specs.Rules.{rules, tree_of};
 ghost use Rattle.graph_session.specs.SessionView.{session_state};
 ghost use Rattle.three_state.specs.declared.res.Res.TheVariants.{Complete};

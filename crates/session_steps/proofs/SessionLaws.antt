@@ -2,11 +2,11 @@
 use Rattle.std.proofs.Common.{◌≡◌, ℕ, ◌+◌, Bool, true, false, if◌then◌else◌, IsTrue, Option, Some, None, is_some, option_map, refl, sym, ap, ◌∙◌, subst}
 use Rattle.fact_values.specs.declared.slot.Slot.{Slot}
 use Rattle.session_undo.specs.Timeline.{Timeline}
-use Rattle.dictionary.specs.Accepted.{names_of}
-use Rattle.dictionary.specs.Slots.{stands}
-use Rattle.dictionary.specs.Touched.{stamped, touches}
-use Rattle.dictionary.specs.Weights.{touched_weight}
-use Rattle.dictionary.proofs.UntouchedLaws.{untouched_keeps}
+use Rattle.dictionary.specs.Kept.{names_of}
+use Rattle.dict_meaning.specs.Slots.{stands}
+use Rattle.dict_meaning.specs.Touched.{stamped, touches}
+use Rattle.dict_meaning.specs.Weights.{touched_weight}
+use Rattle.dict_meaning.proofs.UntouchedLaws.{untouched_keeps}
 use Rattle.graph_session.specs.Counts.{Counts, next_counts, stamp_in, stamp_of}
 use Rattle.graph_session.specs.Rules.{Rules, tree_of}
 use Rattle.graph_session.specs.SessionView.{SessionState, moved}

@@ -3,12 +3,13 @@ use Rattle.std.specs.Prelude.{◌≡◌, ℕ, ◌+◌, false, IsTrue, Some, Ok, 
 use Rattle.fact_values.specs.declared.slot.Slot.{Slot}
 use Rattle.script_lines.specs.declared.command.Command.{Command}
 use Rattle.answers.specs.Answered.{Answered}
-use Rattle.dictionary.specs.Accepted.{IsAccepted, names_of}
-use Rattle.dictionary.specs.Fits.{AnswersFit}
-use Rattle.dictionary.specs.Plain.{plain}
-use Rattle.dictionary.specs.Slots.{stands}
-use Rattle.dictionary.specs.Touched.{touches}
-use Rattle.dictionary.specs.Weights.{touched_weight}
+use Rattle.dict_meaning.specs.Accepted.{IsAccepted}
+use Rattle.dictionary.specs.Kept.{names_of}
+use Rattle.dict_meaning.specs.Fits.{AnswersFit}
+use Rattle.dict_meaning.specs.Plain.{plain}
+use Rattle.dict_meaning.specs.Slots.{stands}
+use Rattle.dict_meaning.specs.Touched.{touches}
+use Rattle.dict_meaning.specs.Weights.{touched_weight}
 use Rattle.graph_session.specs.Counts.{Counts, stamp_of}
 use Rattle.graph_session.specs.Rules.{Rules, tree_of}
 use Rattle.graph_session.specs.SessionView.{SessionState}

@@ -2,12 +2,12 @@
 use Rattle.std.proofs.Common.{ℕ, List, [], ◌∷◌, arith}
 use Rattle.std.specs.Prelude.{IsTrue, IfSome, Option, Some, None}
 use Rattle.std.proofs.lemmas.List.Elements.{All-cons}
-use Rattle.dict_tree.specs.Dictionary.{Dictionary as Tree}
+use Rattle.dict_source.specs.Dictionary.{Dictionary as Tree}
 use Rattle.answers.specs.Answered.{Answered}
 use Rattle.answers.specs.GivenLists.{IsOfLists}
 use Rattle.answers.specs.WellFormed.{FromOne, WellFormed}
-use Rattle.dictionary.specs.Fits.{AnswersFit, is_list}
-use Rattle.dictionary.proofs.FitStart.{given_fit}
+use Rattle.dict_meaning.specs.Fits.{AnswersFit, is_list}
+use Rattle.dict_meaning.proofs.FitStart.{given_fit}
 
 pub one_fits : (d : Tree) (c : ℕ) (ms : List ℕ) (next : ℕ) (a : Answered) → WellFormed a → FromOne a → IsOfLists ((c, ms) ∷ []) next a → IsTrue (is_list d c) → AnswersFit d a
 one_fits d c ms next a well from_one is list =

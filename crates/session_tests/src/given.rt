@@ -3,13 +3,13 @@ ghost use Rattle.std.specs.Prelude.{◌≡◌, [], ◌∷◌, IfSome, IsTrue};
 ghost use Rattle.answers.specs.GivenLists.{IsOfLists};
 ghost use Rattle.answers.specs.Meaning.{answered};
 ghost use Rattle.answers.specs.WellFormed.{FromOne, WellFormed};
-ghost use Rattle.dict_tree.specs.Dictionary.{is_collection};
-ghost use Rattle.dict_tree.specs.Facts.{stated_view};
-ghost use Rattle.dictionary.specs.Accepted.{accepted};
-ghost use Rattle.dictionary.specs.Fits.{AnswersFit, is_list as is_list_fact};
+ghost use Rattle.dict_source.specs.Dictionary.{is_collection};
+ghost use Rattle.dict_source.specs.Facts.{stated_view};
+ghost use Rattle.dictionary.specs.Kept.{accepted};
+ghost use Rattle.dict_meaning.specs.Fits.{AnswersFit, is_list as is_list_fact};
 
 use answers::Answers;
-use dict_tree::TypeText;
+use dict_source::TypeText;
 use dictionary::Dictionary;
 use fact_values::Members;
 use std::alloc::Global;

@@ -6,8 +6,8 @@ use Rattle.fact_values.specs.declared.slot.Slot.{Slot}
 use Rattle.script_lines.specs.declared.command.Command.{Command}
 use Rattle.common_lemmas.proofs.Numbers.{nat_eq-comm}
 use Rattle.answers.specs.Answered.{Answered}
-use Rattle.dictionary.specs.Accepted.{Kept, accepted}
-use Rattle.dictionary.specs.Slots.{slot_same}
+use Rattle.dictionary.specs.Kept.{Kept, accepted}
+use Rattle.dict_meaning.specs.Slots.{slot_same}
 use Rattle.graph_session.specs.Naming.{slot_of}
 use Rattle.graph_session.specs.Refusals.{first_of as first_session, slot_found, slot_refusals}
 use Rattle.graph_session.specs.Rules.{rules, tree_of}

@@ -16,14 +16,15 @@ use Rattle.common_lemmas.proofs.Bools.{both_left, both_right, or_neither}
 use Rattle.answers.specs.Answered.{Answered, value_of}
 use Rattle.answers.specs.declared.edit.Side.TheVariants.{Answer, Override}
 use Rattle.session_undo.specs.Timeline.{Timeline}
-use Rattle.dictionary.specs.Accepted.{Accepted, IsAccepted, names_of}
-use Rattle.dictionary.specs.Extension.{both_same, extends}
-use Rattle.dictionary.specs.Final.{is_final}
-use Rattle.dictionary.specs.Fits.{AnswersFit}
-use Rattle.dictionary.specs.Slots.{stands}
-use Rattle.dictionary.specs.Touched.{is_fed, same_entry, touches}
-use Rattle.dictionary.proofs.ExtensionLaws.{same_option}
-use Rattle.dictionary.proofs.UntouchedLaws.{untouched_keeps}
+use Rattle.dict_meaning.specs.Accepted.{Accepted, IsAccepted}
+use Rattle.dictionary.specs.Kept.{names_of}
+use Rattle.dict_meaning.specs.Extension.{both_same, extends}
+use Rattle.dict_meaning.specs.Final.{is_final}
+use Rattle.dict_meaning.specs.Fits.{AnswersFit}
+use Rattle.dict_meaning.specs.Slots.{stands}
+use Rattle.dict_meaning.specs.Touched.{is_fed, same_entry, touches}
+use Rattle.dict_meaning.proofs.ExtensionLaws.{same_option}
+use Rattle.dict_meaning.proofs.UntouchedLaws.{untouched_keeps}
 use Rattle.graph_session.specs.Counts.{stamp_in, stamp_of}
 use Rattle.graph_session.specs.Keeping.{AllFit}
 use Rattle.graph_session.specs.Naming.{slot_of}

@@ -9,8 +9,8 @@ use Rattle.script_lines.specs.declared.command.Command.{Command}
 use Rattle.common_lemmas.proofs.Bools.{neither_or, or_neither}
 use Rattle.answers.specs.Answered.{Answered}
 use Rattle.session_undo.specs.Timeline.{Timeline}
-use Rattle.dictionary.specs.Slots.{stands}
-use Rattle.dictionary.specs.Touched.{touches}
+use Rattle.dict_meaning.specs.Slots.{stands}
+use Rattle.dict_meaning.specs.Touched.{touches}
 use Rattle.graph_session.specs.Counts.{stamp_of}
 use Rattle.graph_session.specs.Naming.{slot_of}
 use Rattle.graph_session.specs.Refusals.{first_of as first_session}

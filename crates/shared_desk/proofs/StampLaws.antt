@@ -5,10 +5,10 @@ use Rattle.fact_values.specs.declared.slot.Slot.{Slot}
 use Rattle.common_lemmas.proofs.Bools.{or_neither}
 use Rattle.session_undo.specs.Timeline.{Timeline}
 use Rattle.answers.specs.Answered.{Answered}
-use Rattle.dictionary.specs.Accepted.{Accepted}
-use Rattle.dictionary.specs.Slots.{slot_same, standing, stands}
-use Rattle.dictionary.specs.Touched.{stamped, touches}
-use Rattle.dictionary.proofs.SlotLaws.{listed_stand}
+use Rattle.dict_meaning.specs.Accepted.{Accepted}
+use Rattle.dict_meaning.specs.Slots.{slot_same, standing, stands}
+use Rattle.dict_meaning.specs.Touched.{stamped, touches}
+use Rattle.dict_meaning.proofs.SlotLaws.{listed_stand}
 use Rattle.graph_session.specs.Counts.{Counts, next_counts, stamp_in, stamp_of, stamps_of}
 use Rattle.graph_session.specs.Rules.{Rules, tree_of}
 use Rattle.graph_session.specs.SessionView.{SessionState, moved}

@@ -5,10 +5,10 @@ use Rattle.std.specs.FinMap as map
 use Rattle.fact_paths.specs.declared.slot_path.SlotPath.{SlotPath}
 use Rattle.script_lines.specs.declared.command.Command.{Command}
 use Rattle.script_lines.specs.declared.command.Command.TheVariants as commands
-use Rattle.dict_tree.specs.Dictionary.{Dictionary as Tree}
+use Rattle.dict_source.specs.Dictionary.{Dictionary as Tree}
 use Rattle.answers.specs.Answered.{Answered, value_of}
 use Rattle.answers.specs.declared.edit.Side.TheVariants.{Answer, Override}
-use Rattle.dictionary.specs.Fits.{is_answered_by, is_list, is_overridden_by}
+use Rattle.dict_meaning.specs.Fits.{is_answered_by, is_list, is_overridden_by}
 use Rattle.session_undo.specs.Timeline.{Timeline}
 use Rattle.graph_session.specs.Kinds.{value_spelled}
 use Rattle.graph_session.specs.Refusals.{first_of as first_session, slot_refusals, value_refusals, when}

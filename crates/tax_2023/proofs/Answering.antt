@@ -1,14 +1,12 @@
 -- Answers that are given one behind the other fit the dictionary, and are those that were given.
-use Rattle.std.proofs.Common.{◌≡◌, ◌<◌, ℕ, Bool, true, false, ◌&&◌, if◌then◌else◌, nat_eq, IsTrue, List, [], ◌∷◌, length, ◌++◌, Option, Some, None, unwrap_or, refl, sym, ap, subst, ◌∙◌, arith}
+use Rattle.std.proofs.Common.{◌≡◌, ◌<◌, ℕ, Bool, true, false, ◌&&◌, if◌then◌else◌, IsTrue, List, [], ◌∷◌, length, ◌++◌, Option, Some, None, unwrap_or, refl, sym, ap, subst, ◌∙◌, arith}
 use Rattle.std.specs.Prelude.{IsSome}
 use Rattle.std.specs.Ordering.{nat_cmp}
 use Rattle.std.specs.FinMap as map
 use Rattle.common_lemmas.proofs.Bools.{both_left}
 use Rattle.fact_values.specs.declared.slot.Slot.{Slot}
 use Rattle.fact_values.specs.declared.value.Value.{Value}
-use Rattle.dict_tree.specs.Facts.{Fact}
-use Rattle.dict_tree.specs.Dictionary.{Dictionary as Tree}
-use Rattle.dict_tree.specs.Finding.{fact_at}
+use Rattle.dict_source.specs.Dictionary.{Dictionary as Tree}
 use Rattle.answers.specs.Answered.{Answered, Entry, blank, entry, of_side, start, value_of}
 use Rattle.answers.specs.Change.{Stands, adds, applied, sets}
 use Rattle.answers.specs.Finite.{Numbered, and_then}
@@ -16,14 +14,14 @@ use Rattle.answers.specs.declared.edit.Side.{Side}
 use Rattle.answers.specs.declared.edit.Side.TheVariants.{Answer, Override}
 use Rattle.answers.proofs.FiniteLaws.{get_put_own}
 use Rattle.answers.proofs.StandLaws.{entry_stands}
-use Rattle.dictionary.specs.Accepted.{Accepted, IsAccepted}
-use Rattle.dictionary.specs.Fits.{AnswersFit, IsOfFact, is_list, takes}
-use Rattle.dictionary.specs.Homes.{home}
-use Rattle.dictionary.specs.Slots.{is_member, slot_same, stands, stands_of}
-use Rattle.dictionary.proofs.ChangedAnswers.{nothing_put}
-use Rattle.dictionary.proofs.FitChangeLaws.{allowed_changes_fit}
-use Rattle.dictionary.proofs.FitStart.{blank_value, given_value, start_fits}
-use Rattle.dictionary.proofs.SetLaws.{set_is}
+use Rattle.dict_meaning.specs.Accepted.{Accepted, IsAccepted}
+use Rattle.dict_meaning.specs.Fits.{AnswersFit, IsOfFact, is_list, takes}
+use Rattle.dict_meaning.specs.Slots.{slot_same, stands}
+use Rattle.dict_meaning.proofs.ChangedAnswers.{nothing_put}
+use Rattle.dict_meaning.proofs.FitChangeLaws.{allowed_changes_fit}
+use Rattle.dict_meaning.proofs.FitStart.{blank_value, given_value, start_fits}
+use Rattle.dict_meaning.proofs.SetLaws.{set_is}
+use Rattle.dict_meaning.proofs.SlotLaws.{slot_stands}
 
 -- ---- one member of a collection, of which nothing is answered
 
@@ -82,25 +80,13 @@ pub same_lists : (es : List Given) (a : Answered) → (with_answers es a).lists 
 same_lists [] a = refl
 same_lists (e ∷ es) a = same_lists es a
 
--- a slot that stands is at a member that stands
-at_member : (d : Tree) (a : Answered) (s : Slot) → IsTrue (stands d a s) → Stands a s.member
-at_member d a s h = by (fact_at d.facts s.fact) h
-  where
-    at : (b : Bool) → IsTrue (if b then nat_eq s.member 0 else is_member a (home d s.fact) s.member) → Stands a s.member
-    at true zero some = let both : true ≡ false = sym zero ∙ some in cc
-    at false listed some = (home d s.fact, listed)
-
-    by : (o : Option Fact) → IsTrue (stands_of a (home d s.fact) s.member o) → Stands a s.member
-    by None h = absurd cc
-    by (Some f) h = at (nat_eq (home d s.fact) 0) h
-
 module _ (names : List (List ℕ)) (d : Accepted) (accepted : IsAccepted names d) (a : Answered) (fit : AnswersFit d.tree a) where
   -- what may be given may be given behind others
   may_behind : (es : List Given) (e : Given) → MayHave d.tree a e → MayHave d.tree (with_answers es a) e
   may_behind es e may = subst (λ lists. MayHave d.tree (with_lists a lists) e) (sym (same_lists es a)) may
 
   can_behind : (es : List Given) (e : Given) → MayHave d.tree a e → Stands (with_answers es a) e.0.member
-  can_behind es e may = at_member d.tree (with_answers es a) e.0 (both_left (stands d.tree (with_answers es a) e.0) (takes Answer d.tree e.0.fact) (may_behind es e may).0)
+  can_behind es e may = slot_stands d.tree (with_answers es a) e.0 (both_left (stands d.tree (with_answers es a) e.0) (takes Answer d.tree e.0.fact) (may_behind es e may).0)
 
   pub answers_fit : (es : List Given) → AllMayHave d.tree a es → AnswersFit d.tree (with_answers es a)
   answers_fit [] may = fit

@@ -1,6 +1,6 @@
 -- Answers of a household are that in the dictionary of the year too, where further facts stand behind its own.
 use Rattle.std.proofs.Common.{List, [], ◌∷◌}
-use Rattle.dict_tree.specs.Facts.{Fact}
+use Rattle.dict_source.specs.Facts.{Fact}
 use Rattle.answers.specs.Answered.{Answered}
 use Rattle.written_facts.specs.Taking.{with_facts}
 use Rattle.tax_2023.specs.Household.{Dependent, Household}

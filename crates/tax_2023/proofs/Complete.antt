@@ -10,17 +10,17 @@ use Rattle.fact_values.specs.declared.fact_type.FactType.TheVariants as types
 use Rattle.fact_values.specs.declared.slot.Slot.{Slot}
 use Rattle.fact_values.specs.declared.value.Value.{Value}
 use Rattle.fact_values.specs.declared.value.Value.TheVariants.{Boolean, Day, Dollar}
-use Rattle.dict_tree.specs.Facts.{Fact}
-use Rattle.dict_tree.specs.Dictionary.{Dictionary as Tree}
-use Rattle.dict_types.specs.StatedTypes.{type_at}
+use Rattle.dict_source.specs.Facts.{Fact}
+use Rattle.dict_source.specs.Dictionary.{Dictionary as Tree}
+use Rattle.node_types.specs.StatedTypes.{type_at}
 use Rattle.three_state.specs.Results.{truth}
 use Rattle.evaluation.specs.Operations.{day_in, dollar_in}
 use Rattle.evaluation.specs.Typed.{Domains, IsOfType}
 use Rattle.answers.specs.Answered.{Answered, list_of, value_of}
 use Rattle.answers.specs.declared.edit.Side.TheVariants.{Answer}
-use Rattle.dictionary.specs.Fits.{AnswersFit, domains}
-use Rattle.dictionary.specs.Dependencies.{slot}
-use Rattle.dictionary.specs.Slots.{is_member}
+use Rattle.dict_meaning.specs.Fits.{AnswersFit, domains}
+use Rattle.evaluation.specs.Results.{slot}
+use Rattle.dict_meaning.specs.Slots.{is_member}
 use Rattle.written_facts.specs.Taking.{with_facts}
 use Rattle.tax_2023.specs.Household.{Household}
 use Rattle.tax_2023.specs.Years.{Year}

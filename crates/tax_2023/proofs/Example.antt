@@ -5,13 +5,13 @@ use Rattle.fact_values.specs.declared.fact_type.FactType.TheVariants as types
 use Rattle.fact_values.specs.declared.slot.Slot.{Slot}
 use Rattle.fact_values.specs.declared.value.Value.{Value}
 use Rattle.fact_values.specs.declared.value.Value.TheVariants.{Boolean, Day, Dollar}
-use Rattle.dict_tree.specs.Facts.{Fact}
-use Rattle.dict_tree.specs.Dictionary.{Dictionary as Tree}
+use Rattle.dict_source.specs.Facts.{Fact}
+use Rattle.dict_source.specs.Dictionary.{Dictionary as Tree}
 use Rattle.answers.specs.Answered.{Answered, value_of}
 use Rattle.answers.specs.declared.edit.Side.TheVariants.{Answer, Override}
-use Rattle.dictionary.specs.Dependencies.{slot}
-use Rattle.dictionary.specs.Fits.{is_list}
-use Rattle.dictionary.specs.Slots.{is_member}
+use Rattle.evaluation.specs.Results.{slot}
+use Rattle.dict_meaning.specs.Fits.{is_list}
+use Rattle.dict_meaning.specs.Slots.{is_member}
 use Rattle.written_facts.specs.Taking.{with_facts}
 use Rattle.tax_2023.specs.Answers.{AreOfHousehold}
 use Rattle.tax_2023.specs.Facts.{dictionary}

@@ -3,11 +3,11 @@ use Rattle.std.proofs.Common.{◌≡◌, ℕ, ◌+◌, ◌-◌, ◌+ℤ◌, ◌-
 use Rattle.std.specs.Prelude.{◌==◌}
 use Rattle.fact_values.specs.declared.value.Value.{Value}
 use Rattle.fact_values.specs.declared.value.Value.TheVariants.{Boolean, Choice, Dollar, Int}
-use Rattle.dict_tree.specs.declared.operators.ManyOp.TheVariants.{Add}
+use Rattle.dict_source.specs.declared.operators.ManyOp.TheVariants.{Add}
 use Rattle.evaluation.specs.Operations.{many_value}
 use Rattle.evaluation.specs.Sure.{value_of}
 use Rattle.answers.specs.Answered.{Answered}
-use Rattle.dictionary.specs.Slots.{is_member}
+use Rattle.dict_meaning.specs.Slots.{is_member}
 use Rattle.tax_2023.specs.Household.{Household, Status, single, separately, jointly, surviving_spouse, head_of_household}
 use Rattle.tax_2023.specs.Years.{Year}
 use Rattle.tax_2023.specs.Figures.{figures}

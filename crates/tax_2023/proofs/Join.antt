@@ -10,25 +10,26 @@ use Rattle.fact_paths.specs.declared.use_path.UsePath.TheVariants.{Global, Sibli
 use Rattle.fact_values.specs.declared.slot.Slot.{Slot}
 use Rattle.fact_values.specs.declared.value.Value.{Value}
 use Rattle.fact_values.specs.declared.value.Value.TheVariants.{Int, Members}
-use Rattle.dict_tree.specs.declared.operators.ReadOp.{ReadOp}
-use Rattle.dict_tree.specs.declared.operators.ReadOp.TheVariants as read_op
-use Rattle.dict_tree.specs.declared.targets.Targets.{Targets}
-use Rattle.dict_tree.specs.Tree.{Source}
-use Rattle.dict_tree.specs.Targets.{targets}
-use Rattle.dict_tree.specs.Facts.{Fact}
-use Rattle.dict_tree.specs.Finding.{fact_at}
+use Rattle.dict_source.specs.declared.operators.ReadOp.{ReadOp}
+use Rattle.dict_source.specs.declared.operators.ReadOp.TheVariants as read_op
+use Rattle.dict_source.specs.declared.targets.Targets.{Targets}
+use Rattle.dict_source.specs.Tree.{Source}
+use Rattle.dict_source.specs.Targets.{targets}
+use Rattle.dict_source.specs.Facts.{Fact}
+use Rattle.dict_source.specs.Finding.{fact_at}
 use Rattle.three_state.specs.declared.res.Res.{Res}
 use Rattle.three_state.specs.declared.res.Res.TheVariants.{Complete, Incomplete}
 use Rattle.three_state.specs.Results.{count_of, fields_in, members_in, truth}
 use Rattle.evaluation.specs.Sure.{IsKnown}
 use Rattle.evaluation.proofs.Sureness.{map_sure, strict_sure, sure}
 use Rattle.answers.specs.Answered.{Answered}
-use Rattle.dictionary.specs.Accepted.{Accepted, IsAccepted}
-use Rattle.dictionary.specs.Plain.{HasKnown, answer_result, at_fact, body, expression, main_result, or_override, or_placeholder, plain, plain_step, rank, slot_result}
-use Rattle.dictionary.specs.Dependencies.{Results, EvalPosition, dependency, outermost, read_by, read_result, result_at, slot, source_result}
-use Rattle.dictionary.specs.Slots.{stands}
-use Rattle.dictionary.proofs.PlainLaws.{joined_by_rank}
-use Rattle.dictionary.proofs.SlotLaws.{fact_of_standing}
+use Rattle.dict_meaning.specs.Accepted.{Accepted, IsAccepted}
+use Rattle.dict_meaning.specs.Plain.{HasKnown, answer_result, at_fact, body, expression, main_result, or_override, or_placeholder, plain, plain_step, rank, slot_result}
+use Rattle.dict_meaning.specs.Dependencies.{EvalPosition, dependency, outermost, read_by, read_result, source_result}
+use Rattle.evaluation.specs.Results.{Results, result_at, slot}
+use Rattle.dict_meaning.specs.Slots.{stands}
+use Rattle.dict_meaning.proofs.PlainLaws.{joined_by_rank}
+use Rattle.dict_meaning.proofs.SlotLaws.{fact_of_standing}
 use Rattle.tax_2023.proofs.Stated.{AllHaveStated, HasBody, HasStated, Stated, both_stated, is_members, known, knows_by, knows_member, knows_path, knows_slot, knows_source, list_of_path, list_stated, member_read, member_stated, stated_at, value_by, value_in, value_of_path}
 
 -- ---- the slots of which something is stated

@@ -7,16 +7,16 @@ use Rattle.std.proofs.Math.Nat.{mul-le-mul_left}
 use Rattle.fact_values.specs.Range.{is_in_range}
 use Rattle.fact_values.specs.declared.value.Value.{Value}
 use Rattle.fact_values.specs.declared.value.Value.TheVariants.{Boolean, Dollar, Int}
-use Rattle.dict_tree.specs.declared.operators.ManyOp.TheVariants.{Add, GreaterOf, LesserOf, Subtract}
-use Rattle.dict_tree.specs.declared.operators.TwoOp.TheVariants.{Multiply}
+use Rattle.dict_source.specs.declared.operators.ManyOp.TheVariants.{Add, GreaterOf, LesserOf, Subtract}
+use Rattle.dict_source.specs.declared.operators.TwoOp.TheVariants.{Multiply}
 use Rattle.value_text.specs.Dollars.{dollar_at}
-use Rattle.dict_tree.specs.Tree.{literal_dollar}
+use Rattle.dict_source.specs.Tree.{literal_dollar}
 use Rattle.evaluation.specs.Operations.{many_value, two_value}
 use Rattle.evaluation.specs.Sure.{value_of}
 use Rattle.answers.specs.Answered.{Answered}
 use Rattle.tax_2023.specs.Household.{Household, Status, single, separately, jointly, surviving_spouse, head_of_household}
 use Rattle.tax_2023.specs.Years.{Year}
-use Rattle.dictionary.specs.Dependencies.{constant_value}
+use Rattle.dict_meaning.specs.Dependencies.{constant_value}
 use Rattle.tax_2023.specs.Figures.{figures, spelled_dollars}
 use Rattle.tax_2023.specs.Tables.{basic_amount, box_amount, boxes, cents, claimed_amount, deduction, greater_of, is_joint, is_old, is_separate, lesser_of, one_if, status, taxable_income}
 use Rattle.tax_2023.specs.Facts as facts

@@ -2,14 +2,15 @@
 use Rattle.std.proofs.Common.{◌≡◌, ℕ, IsTrue, List, [], Result, Ok, Err, is_ok, refl, ap, ◌∙◌}
 use Rattle.std.specs.Prelude.{IfOk}
 use Rattle.fact_values.specs.declared.memory.NoMemory.{NoMemory}
-use Rattle.dict_tree.specs.Dictionary.{Dictionary as Tree, Written, dictionary_view}
+use Rattle.dict_source.specs.Dictionary.{Dictionary as Tree, Written, dictionary_view}
 use Rattle.dict_types.specs.Typed.{typed_dictionary}
 use Rattle.dict_types.specs.TypedParts.{TypedDictionary}
-use Rattle.dict_types.specs.declared.fault.TypeFault.{TypeFault}
+use Rattle.dict_rules.specs.declared.fault.TypeFault.{TypeFault}
 use Rattle.dict_order.specs.MentionGraph.{mention_graph}
 use Rattle.dict_order.specs.Ranks.{are_ranks}
 use Rattle.dict_order.proofs.RankLaws.{no_cycle, test_tells}
-use Rattle.dictionary.specs.Accepted.{IsAccepted, Kept, accepted}
+use Rattle.dict_meaning.specs.Accepted.{IsAccepted}
+use Rattle.dictionary.specs.Kept.{Kept, accepted}
 use Rattle.dictionary.specs.Faults.{HasNoFault}
 use Rattle.dictionary.proofs.FirstLaws.{has_no_fault}
 use Rattle.tax_2023.specs.Facts.{dictionary}

@@ -5,8 +5,8 @@ use Rattle.fact_values.specs.declared.memory.NoMemory.{NoMemory}
 use Rattle.std.specs.List.{All}
 use Rattle.std.proofs.lemmas.List.Elements.{All-cons, All-nil}
 use Rattle.value_text.specs.Enums.{Listed}
-use Rattle.dict_tree.specs.Facts.{Fact}
-use Rattle.dict_tree.specs.Dictionary.{Dictionary as Tree}
+use Rattle.dict_source.specs.Facts.{Fact}
+use Rattle.dict_source.specs.Dictionary.{Dictionary as Tree}
 use Rattle.written_facts.specs.Figures.{Named}
 use Rattle.written_facts.specs.Taking.{takes_all, with_facts}
 use Rattle.tax_2023.specs.Facts.{at_start, counts, dictionary, filed, filer, filing_statuses, persons, tests, with_filer, with_persons, with_return, with_tests}

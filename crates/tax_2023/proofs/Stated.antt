@@ -8,20 +8,21 @@ use Rattle.fact_paths.specs.declared.use_path.UsePath.TheVariants.{Global, Sibli
 use Rattle.fact_values.specs.declared.slot.Slot.{Slot}
 use Rattle.fact_values.specs.declared.value.Value.{Value}
 use Rattle.fact_values.specs.declared.value.Value.TheVariants.{Boolean, Int, Members}
-use Rattle.dict_tree.specs.declared.operators.ReadOp.{ReadOp}
-use Rattle.dict_tree.specs.declared.operators.ReadOp.TheVariants as read_op
-use Rattle.dict_tree.specs.declared.targets.Targets.{Targets}
-use Rattle.dict_tree.specs.Tree.{Literal, Reading, Source, Use}
-use Rattle.dict_tree.specs.Targets.{targets}
-use Rattle.dict_tree.specs.Facts.{Fact}
+use Rattle.dict_source.specs.declared.operators.ReadOp.{ReadOp}
+use Rattle.dict_source.specs.declared.operators.ReadOp.TheVariants as read_op
+use Rattle.dict_source.specs.declared.targets.Targets.{Targets}
+use Rattle.dict_source.specs.Tree.{Literal, Reading, Source, Use}
+use Rattle.dict_source.specs.Targets.{targets}
+use Rattle.dict_source.specs.Facts.{Fact}
 use Rattle.three_state.specs.Results.{members_in, truth}
 use Rattle.evaluation.specs.Sure.{KnownValues, is_sure, worth}
 use Rattle.answers.specs.Answered.{Answered, value_of}
 use Rattle.answers.specs.declared.edit.Side.TheVariants.{Override}
-use Rattle.dictionary.specs.Accepted.{Accepted}
-use Rattle.dictionary.specs.Plain.{body, given_value, rank}
-use Rattle.dictionary.specs.Dependencies.{Results, EvalPosition, outermost, slot, source_env}
-use Rattle.dictionary.specs.Slots.{stands}
+use Rattle.dict_meaning.specs.Accepted.{Accepted}
+use Rattle.dict_meaning.specs.Plain.{body, given_value, rank}
+use Rattle.dict_meaning.specs.Dependencies.{EvalPosition, outermost, source_env}
+use Rattle.evaluation.specs.Results.{Results, slot}
+use Rattle.dict_meaning.specs.Slots.{stands}
 
 -- of a fact, by its number, its value at each member; or nothing
 abbrev pub Stated : Type 0

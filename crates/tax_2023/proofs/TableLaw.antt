@@ -5,10 +5,10 @@ use Rattle.common_lemmas.proofs.Bools.{both}
 use Rattle.fact_values.specs.declared.slot.Slot.{Slot}
 use Rattle.fact_values.specs.declared.value.Value.{Value}
 use Rattle.fact_values.specs.declared.value.Value.TheVariants.{Boolean, Dollar, Int, Members}
-use Rattle.dict_tree.specs.Dictionary.{Dictionary as Tree}
+use Rattle.dict_source.specs.Dictionary.{Dictionary as Tree}
 use Rattle.dict_types.specs.DictFaults.{IsTypedDictionary}
 use Rattle.dict_types.specs.TypedParts.{TypedDictionary}
-use Rattle.dict_types.specs.declared.fault.TypeFault.{TypeFault}
+use Rattle.dict_rules.specs.declared.fault.TypeFault.{TypeFault}
 use Rattle.dict_types.proofs.FoundLaws.{well_typed_is_found}
 use Rattle.dict_order.specs.MentionGraph.{mention_graph}
 use Rattle.dict_order.specs.Ranks.{are_ranks}
@@ -17,11 +17,12 @@ use Rattle.three_state.specs.declared.res.Res.TheVariants.{Complete}
 use Rattle.evaluation.specs.Sure.{first_found}
 use Rattle.evaluation.proofs.Sureness.{sure-find}
 use Rattle.answers.specs.Answered.{Answered}
-use Rattle.dictionary.specs.Accepted.{Accepted, IsAccepted}
-use Rattle.dictionary.specs.Plain.{expression, or_override, plain}
-use Rattle.dictionary.specs.Dependencies.{outermost, slot}
-use Rattle.dictionary.specs.Slots.{is_member}
-use Rattle.dictionary.proofs.PlainLaws.{plain_is_recursive}
+use Rattle.dict_meaning.specs.Accepted.{Accepted, IsAccepted}
+use Rattle.dict_meaning.specs.Plain.{expression, or_override, plain}
+use Rattle.dict_meaning.specs.Dependencies.{outermost}
+use Rattle.evaluation.specs.Results.{slot}
+use Rattle.dict_meaning.specs.Slots.{is_member}
+use Rattle.dict_meaning.proofs.PlainLaws.{plain_is_recursive}
 use Rattle.tax_2023.specs.Household.{Dependent, Household, single, separately, jointly, surviving_spouse, head_of_household}
 use Rattle.tax_2023.specs.Years.{Year, tables_of}
 use Rattle.tax_2023.specs.declared.years.TaxYear.{TaxYear}

@@ -7,7 +7,7 @@ use Rattle.three_state.specs.Results.{truth}
 use Rattle.evaluation.specs.Operations.{day_in, dollar_in}
 use Rattle.answers.specs.Answered.{Answered, value_of}
 use Rattle.answers.specs.declared.edit.Side.TheVariants.{Answer}
-use Rattle.dictionary.specs.Dependencies.{slot}
+use Rattle.evaluation.specs.Results.{slot}
 use Rattle.tax_2023.specs.Household.{Dependent, Household}
 use Rattle.tax_2023.specs.Years.{Year}
 use Rattle.tax_2023.specs.Tables.{basic_amount, box_amount, boxes, deduction, dependents, is_dependent, is_joint, is_qualifying_child, is_qualifying_relative, is_under_age, is_unmarried, is_younger, members, qualifying_children, status, taxable_income}

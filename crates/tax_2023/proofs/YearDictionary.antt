@@ -1,15 +1,15 @@
 -- The dictionary of a year, also where further facts stand behind its own: their ranks, and what its facts are worth.
 use Rattle.std.proofs.Common.{ℕ, IsTrue, List, [], ◌∷◌, ◌++◌, refl}
 use Rattle.fact_values.specs.declared.value.Value.{Value}
-use Rattle.dict_tree.specs.Tree.{Source}
-use Rattle.dict_tree.specs.Facts.{Fact}
-use Rattle.dict_tree.specs.Dictionary.{Dictionary as Tree}
+use Rattle.dict_source.specs.Tree.{Source}
+use Rattle.dict_source.specs.Facts.{Fact}
+use Rattle.dict_source.specs.Dictionary.{Dictionary as Tree}
 use Rattle.dict_types.specs.TypedParts.{TypedDictionary}
 use Rattle.dict_order.specs.MentionGraph.{mention_graph}
 use Rattle.dict_order.specs.Ranks.{are_ranks}
 use Rattle.answers.specs.Answered.{Answered}
-use Rattle.dictionary.specs.Accepted.{Accepted}
-use Rattle.dictionary.specs.Dependencies.{slot}
+use Rattle.dict_meaning.specs.Accepted.{Accepted}
+use Rattle.evaluation.specs.Results.{slot}
 use Rattle.written_facts.specs.Figures.{Named}
 use Rattle.written_facts.specs.Taking.{with_facts}
 use Rattle.tax_2023.specs.Household.{Household}

@@ -7,13 +7,13 @@ use Rattle.common_lemmas.proofs.Numbers.{same_number}
 use Rattle.fact_values.specs.declared.slot.Slot.{Slot}
 use Rattle.fact_values.specs.declared.value.Value.{Value}
 use Rattle.fact_values.specs.declared.value.Value.TheVariants.{Boolean, Day, Dollar, Int, Members}
-use Rattle.dict_tree.specs.Tree.{Source}
-use Rattle.dict_tree.specs.Facts.{Fact}
+use Rattle.dict_source.specs.Tree.{Source}
+use Rattle.dict_source.specs.Facts.{Fact}
 use Rattle.answers.specs.Answered.{Answered, value_of}
 use Rattle.answers.specs.declared.edit.Side.TheVariants.{Answer, Override}
-use Rattle.dictionary.specs.Plain.{open_list}
-use Rattle.dictionary.specs.Dependencies.{slot}
-use Rattle.dictionary.specs.Slots.{is_member}
+use Rattle.dict_meaning.specs.Plain.{open_list}
+use Rattle.evaluation.specs.Results.{slot}
+use Rattle.dict_meaning.specs.Slots.{is_member}
 use Rattle.tax_2023.specs.Household.{Dependent, Household}
 use Rattle.tax_2023.specs.Years.{Year}
 use Rattle.tax_2023.specs.Figures.{figures}

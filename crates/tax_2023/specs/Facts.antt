@@ -2,16 +2,15 @@
 use Rattle.std.specs.Prelude.{ℕ, List, [], ◌∷◌, ◌++◌, codes}
 use Rattle.fact_values.specs.declared.fact_type.FactType.TheVariants as types
 use Rattle.value_text.specs.Enums.{Listed}
-use Rattle.dict_tree.specs.declared.operators.ReadOp.TheVariants.{Count, Dependency}
-use Rattle.dict_tree.specs.declared.operators.ManyOp.TheVariants.{Add, All, Any, GreaterOf, LesserOf, Subtract}
-use Rattle.dict_tree.specs.declared.operators.OneOp.TheVariants.{Not}
-use Rattle.dict_tree.specs.declared.operators.TwoOp.TheVariants.{Equal, GreaterThan, LessThan, Multiply}
-use Rattle.dict_tree.specs.declared.operators.PickOp.TheVariants.{Filter, Find}
-use Rattle.dict_tree.specs.Tree.{Source, SourceCase, Use, literal_true, literal_int, literal_dollar, literal_day, literal_choice, literal, read, switch, many, one, two, pick}
-use Rattle.dict_tree.specs.View.{cases_of, trees_of}
-use Rattle.dict_tree.specs.Parsing.{use_of}
-use Rattle.dict_tree.specs.Facts.{Fact, Stated, enum_of, item_of, list_of, scalar, writable_list}
-use Rattle.dict_tree.specs.Dictionary.{Dictionary}
+use Rattle.dict_source.specs.declared.operators.ReadOp.TheVariants.{Count, Dependency}
+use Rattle.dict_source.specs.declared.operators.ManyOp.TheVariants.{Add, All, Any, GreaterOf, LesserOf, Subtract}
+use Rattle.dict_source.specs.declared.operators.OneOp.TheVariants.{Not}
+use Rattle.dict_source.specs.declared.operators.TwoOp.TheVariants.{Equal, GreaterThan, LessThan, Multiply}
+use Rattle.dict_source.specs.declared.operators.PickOp.TheVariants.{Filter, Find}
+use Rattle.dict_source.specs.Tree.{Source, SourceCase, Use, literal_true, literal_int, literal_dollar, literal_day, literal_choice, literal, read, switch, many, one, two, pick}
+use Rattle.dict_source.specs.View.{cases_of, trees_of, use_of}
+use Rattle.dict_source.specs.Facts.{Fact, Stated, enum_of, item_of, list_of, scalar, writable_list}
+use Rattle.dict_source.specs.Dictionary.{Dictionary}
 use Rattle.written_facts.specs.Figures.{Named, text_under}
 use Rattle.written_facts.specs.Rows.{asked, asked_from, derived, described}
 use Rattle.written_facts.specs.Taking.{with_facts}

@@ -6,9 +6,9 @@ use Rattle.value_text.specs.Enums.{option_at}
 use Rattle.three_state.specs.declared.res.Res.TheVariants.{Complete}
 use Rattle.evaluation.specs.Sure.{first_found}
 use Rattle.answers.specs.Answered.{Answered}
-use Rattle.dictionary.specs.Accepted.{Accepted, IsAccepted}
-use Rattle.dictionary.specs.Fits.{AnswersFit}
-use Rattle.dictionary.specs.Plain.{plain}
+use Rattle.dict_meaning.specs.Accepted.{Accepted, IsAccepted}
+use Rattle.dict_meaning.specs.Fits.{AnswersFit}
+use Rattle.dict_meaning.specs.Plain.{plain}
 use Rattle.tax_2023.specs.Household.{Cents, Dependent, Household, Status, single, separately, jointly, surviving_spouse, head_of_household}
 use Rattle.tax_2023.specs.Years.{Year}
 use Rattle.tax_2023.specs.Tables as tables

@@ -1,6 +1,6 @@
 -- The written tables of each year, in dollars. Their numbers stand in the module `years`, a figure a line.
 use Rattle.std.specs.Prelude.{ℕ, ◌+◌, ◌-◌, ◌*◌, nat_le, ◌&&◌, if◌then◌else◌, List, [], ◌∷◌, map, codes, Option}
-use Rattle.dict_tree.specs.Names.{under_name}
+use Rattle.fact_json.specs.Names.{under_name}
 use Rattle.written_facts.specs.Figures.{Named, text_under}
 use Rattle.tax_2023.specs.Household.{Status, single, separately, jointly, surviving_spouse, head_of_household}
 use Rattle.tax_2023.specs.declared.years.TaxYear.{TaxYear}

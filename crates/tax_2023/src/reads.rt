@@ -1,5 +1,5 @@
 // What the rows read, and their constants, by name.
-use dict_tree::ReadOp::Dependency;
+use dict_source::ReadOp::Dependency;
 use written_facts::Fixed::{Choice, DayOf, Dollar, DollarOf, Int, True};
 use written_facts::Form;
 use written_facts::Form::{Const, Read};

@@ -1,10 +1,10 @@
 // The facts of the dictionary of a year.
 use crate::reads::*;
-use dict_tree::ManyOp::{Add, All, Any, GreaterOf, LesserOf, Subtract};
-use dict_tree::OneName::Not;
-use dict_tree::PickOp::{Filter, Find};
-use dict_tree::ReadOp::Count;
-use dict_tree::TwoOp::{Equal, GreaterThan, LessThan, Multiply};
+use dict_source::ManyOp::{Add, All, Any, GreaterOf, LesserOf, Subtract};
+use dict_source::PickOp::{Filter, Find};
+use dict_source::ReadOp::Count;
+use dict_source::TwoOp::{Equal, GreaterThan, LessThan, Multiply};
+use fact_json::OneName::Not;
 use written_facts::Form::{Many, One, Pick, Read, Switch, Two};
 use written_facts::Row::{Derived, Question, QuestionFrom};
 use written_facts::{Kind, Row, When};

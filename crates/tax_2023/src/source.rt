@@ -1,6 +1,6 @@
 // The source of the dictionary of each year.
 ghost use Rattle.std.specs.Prelude.{◌≡◌, List, IfOk, OnOk};
-ghost use Rattle.dict_tree.specs.Dictionary.{dictionary_view};
+ghost use Rattle.dict_source.specs.Dictionary.{dictionary_view};
 ghost use Rattle.written_facts.specs.Figures.{Named, figures_view};
 ghost use Rattle.written_facts.specs.Rows.{rows_view};
 ghost use Rattle.tax_2023.specs.Facts.{at_start, counts, dictionary, filed, filer, filing_statuses, persons, tests, with_filer, with_persons, with_return, with_tests};
@@ -9,7 +9,7 @@ ghost use Rattle.tax_2023.specs.Years.{tables_of};
 
 use crate::rows::{COUNTS, DEPENDENTS, FILER, FILING_STATUSES, RETURN, TESTS};
 use crate::years::{TaxYear, figures_of};
-use dict_tree::DictSource;
+use dict_source::DictSource;
 use fact_values::NoMemory;
 use std::alloc::Global;
 use value_text::EnumLists;

@@ -1,6 +1,6 @@
 // The years: of each its word, and the amounts and days of its tables, a figure a line.
 ghost use Rattle.std.specs.Prelude.{◌≡◌, IfOk, map};
-ghost use Rattle.dict_tree.specs.Names.{under_name};
+ghost use Rattle.fact_json.specs.Names.{under_name};
 ghost use Rattle.written_facts.specs.Figures.{figures_view};
 ghost use Rattle.tax_2023.specs.Figures.{figures};
 ghost use Rattle.tax_2023.specs.Years.{tables_of, written_for, year_of_word};

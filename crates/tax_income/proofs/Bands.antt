@@ -11,14 +11,14 @@ use Rattle.fact_values.specs.Rounding.{rounded_size}
 use Rattle.fact_values.specs.Totals.{checked}
 use Rattle.fact_values.specs.declared.value.Value.{Value}
 use Rattle.fact_values.specs.declared.value.Value.TheVariants.{Dollar, Rational}
-use Rattle.dict_tree.specs.declared.operators.ManyOp.TheVariants.{GreaterOf, LesserOf, Subtract}
-use Rattle.dict_tree.specs.declared.operators.TwoOp.TheVariants.{Multiply}
-use Rattle.dict_tree.specs.Tree.{literal_rational}
+use Rattle.dict_source.specs.declared.operators.ManyOp.TheVariants.{GreaterOf, LesserOf, Subtract}
+use Rattle.dict_source.specs.declared.operators.TwoOp.TheVariants.{Multiply}
+use Rattle.dict_source.specs.Tree.{literal_rational}
 use Rattle.dict_types.specs.TypedParts.{TypedDictionary}
 use Rattle.evaluation.specs.Operations.{many_value, two_value, value_as}
 use Rattle.evaluation.specs.Sure.{value_of}
 use Rattle.answers.specs.Answered.{Answered}
-use Rattle.dictionary.specs.Dependencies.{constant_value}
+use Rattle.dict_meaning.specs.Dependencies.{constant_value}
 use Rattle.tax_2023.specs.Household.{Cents, Household, Status, single, separately, jointly, surviving_spouse, head_of_household}
 use Rattle.tax_2023.specs.Tables.{cents, deduction, greater_of, lesser_of, status, taxable_income}
 use Rattle.tax_2023.specs.Facts as facts_of_year

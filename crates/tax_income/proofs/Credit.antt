@@ -9,14 +9,14 @@ use Rattle.fact_values.specs.Range.{is_in_range}
 use Rattle.fact_values.specs.Rounding.{rounded_size}
 use Rattle.fact_values.specs.declared.value.Value.{Value}
 use Rattle.fact_values.specs.declared.value.Value.TheVariants.{Boolean, Dollar, Int}
-use Rattle.dict_tree.specs.declared.operators.ManyOp.TheVariants.{Add, GreaterOf, Subtract}
-use Rattle.dict_tree.specs.declared.operators.OneOp.TheVariants.{Round}
-use Rattle.dict_tree.specs.declared.operators.TwoOp.TheVariants.{Divide, Multiply}
+use Rattle.dict_source.specs.declared.operators.ManyOp.TheVariants.{Add, GreaterOf, Subtract}
+use Rattle.dict_source.specs.declared.operators.OneOp.TheVariants.{Round}
+use Rattle.dict_source.specs.declared.operators.TwoOp.TheVariants.{Divide, Multiply}
 use Rattle.dict_types.specs.TypedParts.{TypedDictionary}
 use Rattle.evaluation.specs.Operations.{many_value, one_value, two_value}
 use Rattle.evaluation.specs.Sure.{value_of}
 use Rattle.answers.specs.Answered.{Answered}
-use Rattle.dictionary.specs.Slots.{is_member}
+use Rattle.dict_meaning.specs.Slots.{is_member}
 use Rattle.tax_2023.specs.Household.{Cents, Dependent, Household, Status, single, separately, jointly, surviving_spouse, head_of_household}
 use Rattle.tax_2023.specs.Tables.{cents, greater_of, lesser_of, members, status}
 use Rattle.tax_2023.specs.Laws.{IsModest, status_place}

@@ -3,10 +3,11 @@ use Rattle.std.proofs.Common.{◌≡◌, ℕ, ◌++◌, IsTrue, List, [], ◌∷
 use Rattle.std.specs.Prelude.{IfOk}
 use Rattle.fact_values.specs.Rationals.{gcd}
 use Rattle.fact_values.specs.declared.memory.NoMemory.{NoMemory}
-use Rattle.dict_tree.specs.Dictionary.{Written, dictionary_view}
+use Rattle.dict_source.specs.Dictionary.{Written, dictionary_view}
 use Rattle.dict_order.specs.MentionGraph.{mention_graph}
 use Rattle.dict_order.specs.Ranks.{are_ranks}
-use Rattle.dictionary.specs.Accepted.{IsAccepted, Kept, accepted}
+use Rattle.dict_meaning.specs.Accepted.{IsAccepted}
+use Rattle.dictionary.specs.Kept.{Kept, accepted}
 use Rattle.dictionary.specs.Faults.{HasNoFault}
 use Rattle.written_facts.specs.Figures.{Named}
 use Rattle.tax_2023.specs.Figures.{figures, spelled_day, spelled_dollars}

@@ -6,13 +6,13 @@ use Rattle.fact_values.specs.declared.fact_type.FactType.TheVariants as types
 use Rattle.fact_values.specs.declared.slot.Slot.{Slot}
 use Rattle.fact_values.specs.declared.value.Value.{Value}
 use Rattle.fact_values.specs.declared.value.Value.TheVariants.{Boolean}
-use Rattle.dict_tree.specs.Dictionary.{Dictionary as Tree}
+use Rattle.dict_source.specs.Dictionary.{Dictionary as Tree}
 use Rattle.answers.specs.Answered.{value_of}
 use Rattle.answers.specs.declared.edit.Side.TheVariants.{Answer, Override}
-use Rattle.dictionary.specs.Dependencies.{slot}
-use Rattle.dictionary.specs.Fits.{is_list}
-use Rattle.dictionary.specs.Slots.{slot_same}
-use Rattle.dictionary.proofs.SlotLaws.{slot_same-equal}
+use Rattle.evaluation.specs.Results.{slot}
+use Rattle.dict_meaning.specs.Fits.{is_list}
+use Rattle.dict_meaning.specs.Slots.{slot_same}
+use Rattle.dict_meaning.proofs.SlotLaws.{slot_same-equal}
 use Rattle.tax_2023.specs.Answers.{AreOfHousehold}
 use Rattle.tax_2023.proofs.Answering.{AllMayHave, Given, answers_are, answers_fit, given_to, member_fits, member_listed, nothing_given, or_else, overrides_are, same_lists, with_answers, with_member}
 use Rattle.tax_2023.proofs.Example.{child_listed, couple, couple_answers, couple_may, couples_answers, is_open}

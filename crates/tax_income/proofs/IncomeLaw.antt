@@ -10,19 +10,19 @@ use Rattle.fact_values.specs.declared.fact_type.FactType.TheVariants as types
 use Rattle.fact_values.specs.declared.slot.Slot.{Slot}
 use Rattle.fact_values.specs.declared.value.Value.{Value}
 use Rattle.fact_values.specs.declared.value.Value.TheVariants.{Boolean, Dollar, Int}
-use Rattle.dict_tree.specs.Tree.{Source}
-use Rattle.dict_tree.specs.Facts.{Fact}
-use Rattle.dict_tree.specs.Dictionary.{Dictionary as Tree}
+use Rattle.dict_source.specs.Tree.{Source}
+use Rattle.dict_source.specs.Facts.{Fact}
+use Rattle.dict_source.specs.Dictionary.{Dictionary as Tree}
 use Rattle.dict_types.specs.TypedParts.{TypedDictionary}
 use Rattle.three_state.specs.Results.{truth}
 use Rattle.three_state.specs.declared.res.Res.TheVariants.{Complete}
 use Rattle.answers.specs.Answered.{Answered, list_of, value_of}
 use Rattle.answers.specs.declared.edit.Side.TheVariants.{Answer, Override}
-use Rattle.dictionary.specs.Accepted.{Accepted, IsAccepted}
-use Rattle.dictionary.specs.Fits.{AnswersFit, domains}
-use Rattle.dictionary.specs.Plain.{plain}
-use Rattle.dictionary.specs.Dependencies.{slot}
-use Rattle.dictionary.specs.Slots.{is_member}
+use Rattle.dict_meaning.specs.Accepted.{Accepted, IsAccepted}
+use Rattle.dict_meaning.specs.Fits.{AnswersFit, domains}
+use Rattle.dict_meaning.specs.Plain.{plain}
+use Rattle.evaluation.specs.Results.{slot}
+use Rattle.dict_meaning.specs.Slots.{is_member}
 use Rattle.tax_2023.specs.Household.{Dependent, Household}
 use Rattle.tax_2023.specs.Figures.{figures}
 use Rattle.tax_2023.specs.Facts as facts_of_year

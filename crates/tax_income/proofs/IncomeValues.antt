@@ -3,11 +3,11 @@ use Rattle.std.proofs.Common.{ℕ, ◌-◌, pos, nat_lt, if◌then◌else◌, Li
 use Rattle.std.specs.Prelude.{option_map, unwrap_or}
 use Rattle.fact_values.specs.declared.value.Value.{Value}
 use Rattle.fact_values.specs.declared.value.Value.TheVariants.{Boolean, Dollar, Int}
-use Rattle.dict_tree.specs.Tree.{Source}
+use Rattle.dict_source.specs.Tree.{Source}
 use Rattle.dict_types.specs.TypedParts.{TypedDictionary}
 use Rattle.answers.specs.Answered.{Answered}
-use Rattle.dictionary.specs.Accepted.{Accepted}
-use Rattle.dictionary.specs.Dependencies.{slot}
+use Rattle.dict_meaning.specs.Accepted.{Accepted}
+use Rattle.evaluation.specs.Results.{slot}
 use Rattle.tax_2023.specs.Household.{Cents, Dependent, Household, Status}
 use Rattle.tax_2023.specs.Tables.{cents, status, taxable_income}
 use Rattle.tax_2023.proofs.Stated.{IsWorth, Stated, both_stated}

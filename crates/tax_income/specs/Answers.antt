@@ -1,9 +1,9 @@
 -- When answers say of each person whether it has the number that the credit needs.
 use Rattle.std.specs.Prelude.{◌≡◌, ℕ, IsSome, IsTrue, List, [], ◌∷◌, codes, Some}
 use Rattle.fact_values.specs.declared.value.Value.TheVariants.{Boolean}
-use Rattle.dict_tree.specs.Dictionary.{Dictionary}
+use Rattle.dict_source.specs.Dictionary.{Dictionary}
 use Rattle.answers.specs.Answered.{Answered}
-use Rattle.dictionary.specs.Slots.{is_member}
+use Rattle.dict_meaning.specs.Slots.{is_member}
 use Rattle.tax_2023.specs.Household.{Dependent}
 use Rattle.tax_2023.specs.Answers.{answer_on, global}
 use Rattle.tax_income.specs.Tables.{Numbered}

@@ -1,14 +1,13 @@
 -- The facts of the rate schedule and the child tax credit, behind those of a year. The tables are beside them, in `Tables`.
 use Rattle.std.specs.Prelude.{ℕ, List, [], ◌∷◌, ◌++◌, codes}
-use Rattle.dict_tree.specs.declared.operators.ReadOp.TheVariants.{Count}
-use Rattle.dict_tree.specs.declared.operators.ManyOp.TheVariants.{GreaterOf, LesserOf, Subtract}
-use Rattle.dict_tree.specs.declared.operators.OneOp.TheVariants.{Round}
-use Rattle.dict_tree.specs.declared.operators.TwoOp.TheVariants.{Divide, Equal, GreaterThan, Multiply}
-use Rattle.dict_tree.specs.Tree.{Source, literal_dollar, literal_rational, literal, many, one, read, two}
-use Rattle.dict_tree.specs.View.{trees_of}
-use Rattle.dict_tree.specs.Parsing.{use_of}
-use Rattle.dict_tree.specs.Facts.{Fact}
-use Rattle.dict_tree.specs.Dictionary.{Dictionary}
+use Rattle.dict_source.specs.declared.operators.ReadOp.TheVariants.{Count}
+use Rattle.dict_source.specs.declared.operators.ManyOp.TheVariants.{GreaterOf, LesserOf, Subtract}
+use Rattle.dict_source.specs.declared.operators.OneOp.TheVariants.{Round}
+use Rattle.dict_source.specs.declared.operators.TwoOp.TheVariants.{Divide, Equal, GreaterThan, Multiply}
+use Rattle.dict_source.specs.Tree.{Source, literal_dollar, literal_rational, literal, many, one, read, two}
+use Rattle.dict_source.specs.View.{trees_of, use_of}
+use Rattle.dict_source.specs.Facts.{Fact}
+use Rattle.dict_source.specs.Dictionary.{Dictionary}
 use Rattle.written_facts.specs.Figures.{Named}
 use Rattle.written_facts.specs.Rows.{derived}
 use Rattle.written_facts.specs.Taking.{with_facts}

@@ -1,7 +1,7 @@
 // What the rows read, and their constants, by name.
-use dict_tree::ManyOp::Any;
-use dict_tree::ReadOp::Dependency;
-use dict_tree::TwoOp::Equal;
+use dict_source::ManyOp::Any;
+use dict_source::ReadOp::Dependency;
+use dict_source::TwoOp::Equal;
 use written_facts::Fixed::{Choice, DayOf, Dollar, Int, Rational, True};
 use written_facts::Form;
 use written_facts::Form::{Const, Many, Read, Two};

@@ -1,9 +1,9 @@
 // The facts behind those of the year.
 use crate::reads::*;
-use dict_tree::ManyOp::{Add, All, GreaterOf, LesserOf, Subtract};
-use dict_tree::OneName::{Not, Round};
-use dict_tree::ReadOp::Count;
-use dict_tree::TwoOp::{Divide, GreaterThan, Multiply};
+use dict_source::ManyOp::{Add, All, GreaterOf, LesserOf, Subtract};
+use dict_source::ReadOp::Count;
+use dict_source::TwoOp::{Divide, GreaterThan, Multiply};
+use fact_json::OneName::{Not, Round};
 use written_facts::Fixed::DollarOf;
 use written_facts::Form::{Const, Many, One, Read, Switch, Two};
 use written_facts::Row::{Derived, Question};

@@ -1,6 +1,6 @@
 // The source of the dictionary of each year.
 ghost use Rattle.std.specs.Prelude.{◌≡◌, List, IfOk, OnOk};
-ghost use Rattle.dict_tree.specs.Dictionary.{dictionary_view};
+ghost use Rattle.dict_source.specs.Dictionary.{dictionary_view};
 ghost use Rattle.written_facts.specs.Figures.{Named, figures_view};
 ghost use Rattle.written_facts.specs.Rows.{rows_view};
 ghost use Rattle.tax_2023.specs.Facts.{dictionary};
@@ -9,7 +9,7 @@ ghost use Rattle.tax_income.specs.Years.{income_of};
 
 use crate::figures::figures_of;
 use crate::rows::{CHILDREN, CREDIT, ENDS, TAXES};
-use dict_tree::DictSource;
+use dict_source::DictSource;
 use fact_values::NoMemory;
 use std::alloc::Global;
 use tax_2023::{TaxYear, year_source};

@@ -10,7 +10,7 @@ placed : (b : Bool) (p : ℕ) → cond b (Some (1 + p)) None ≡ option_map (λ 
 placed true p = ap Some (omega arith)
 placed false p = refl
 
-past_first : (p n : ℕ) → ltb (1 + p) (suc n) ≡ ltb p n
+pub past_first : (p n : ℕ) → ltb (1 + p) (suc n) ≡ ltb p n
 past_first p n = grind arith
 
 -- a text is the first of the texts, or stands among the rest

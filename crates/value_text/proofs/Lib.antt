@@ -7,6 +7,7 @@ pub mod EnumLemmas
 pub mod PrintedLaws
 pub mod PrintedTexts
 pub mod ParsingLaws
+pub mod SpelledTexts
 pub mod SpellingLaws
 pub mod TypeLaws
 pub mod ValueExamples

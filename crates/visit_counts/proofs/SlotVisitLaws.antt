@@ -3,23 +3,24 @@
 use Rattle.std.proofs.Common.{◌≡◌, ℕ, ◌+◌, ◌≤◌, Bool, true, false, if◌then◌else◌, Option, Some, None, refl, sym, ap, subst, ◌∙◌, arith}
 use Rattle.fact_values.specs.declared.slot.Slot.{Slot}
 use Rattle.fact_values.specs.declared.value.Value.{Value}
-use Rattle.dict_tree.specs.declared.mentions.Mention.{Mention}
-use Rattle.dict_tree.specs.Dictionary.{Dictionary as Tree}
-use Rattle.dict_tree.specs.Facts.{Fact, Stated}
-use Rattle.dict_tree.specs.Finding.{fact_at}
-use Rattle.dict_tree.specs.Tree.{Source}
+use Rattle.dict_source.specs.declared.mentions.Mention.{Mention}
+use Rattle.dict_source.specs.Dictionary.{Dictionary as Tree}
+use Rattle.dict_source.specs.Facts.{Fact, Stated}
+use Rattle.dict_source.specs.Finding.{fact_at}
+use Rattle.dict_source.specs.Tree.{Source}
 use Rattle.three_state.specs.declared.res.Res.{Res}
 use Rattle.three_state.specs.Results.{is_incomplete}
 use Rattle.evaluation.proofs.VisitLaws.{visits-within-weight}
 use Rattle.answers.specs.Answered.{Answered, value_of}
 use Rattle.answers.specs.declared.edit.Side.TheVariants.{Override}
-use Rattle.dictionary.specs.Plain.{at_fact, body, main_result, or_override, plain}
-use Rattle.dictionary.specs.Dependencies.{Results, EvalPosition, outermost, source_env}
-use Rattle.dictionary.proofs.FactMentions.{EachUse}
-use Rattle.dictionary.proofs.PlainLaws.{agree_under}
-use Rattle.dictionary.proofs.RankLaws.{IsLowerMention, lower_uses}
-use Rattle.dictionary.proofs.ReadAgreement.{AgreeUnder, expression_same, visits_same}
-use Rattle.dictionary.proofs.WeightLaws.{fact_weight, weight_is, weight_over}
+use Rattle.dict_meaning.specs.Plain.{at_fact, body, main_result, or_override, plain}
+use Rattle.dict_meaning.specs.Dependencies.{EvalPosition, outermost, source_env}
+use Rattle.evaluation.specs.Results.{Results}
+use Rattle.dict_meaning.proofs.FactMentions.{EachUse}
+use Rattle.dict_meaning.proofs.PlainLaws.{agree_under}
+use Rattle.dict_meaning.proofs.RankLaws.{IsLowerMention, lower_uses}
+use Rattle.dict_meaning.proofs.ReadAgreement.{AgreeUnder, expression_same, visits_same}
+use Rattle.dict_meaning.proofs.WeightLaws.{fact_weight, weight_is, weight_over}
 use Rattle.visit_counts.specs.SlotVisits.{SlotVisitsWithinWeight, VisitsOverLower, body_visits, placeholder_visits, slot_visits, unless_given, visits_over}
 
 -- ---- over two maps that agree on what the slot's fact reads

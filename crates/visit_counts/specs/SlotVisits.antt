@@ -2,21 +2,22 @@
 use Rattle.std.specs.Prelude.{◌≡◌, ℕ, ◌+◌, ◌≤◌, if◌then◌else◌, List, Option, Some, None, sum_by}
 use Rattle.fact_values.specs.declared.slot.Slot.{Slot}
 use Rattle.fact_values.specs.declared.value.Value.{Value}
-use Rattle.dict_tree.specs.Dictionary.{Dictionary as Tree}
-use Rattle.dict_tree.specs.Facts.{Fact}
-use Rattle.dict_tree.specs.Finding.{fact_at}
-use Rattle.dict_tree.specs.Tree.{Source}
+use Rattle.dict_source.specs.Dictionary.{Dictionary as Tree}
+use Rattle.dict_source.specs.Facts.{Fact}
+use Rattle.dict_source.specs.Finding.{fact_at}
+use Rattle.dict_source.specs.Tree.{Source}
 use Rattle.three_state.specs.declared.res.Res.{Res}
 use Rattle.three_state.specs.Results.{is_incomplete}
 use Rattle.evaluation.specs.Visits.{visits}
 use Rattle.answers.specs.Answered.{Answered, value_of}
 use Rattle.answers.specs.declared.edit.Side.TheVariants.{Override}
-use Rattle.dictionary.specs.Accepted.{Accepted, IsAccepted}
-use Rattle.dictionary.specs.Plain.{IsPlainBelow, at_fact, body, main_result, plain, rank}
-use Rattle.dictionary.specs.Dependencies.{Results, outermost, source_env}
-use Rattle.dictionary.specs.Slots.{standing}
-use Rattle.dictionary.specs.Touched.{touched}
-use Rattle.dictionary.specs.Weights.{slot_weight}
+use Rattle.dict_meaning.specs.Accepted.{Accepted, IsAccepted}
+use Rattle.dict_meaning.specs.Plain.{IsPlainBelow, at_fact, body, main_result, plain, rank}
+use Rattle.dict_meaning.specs.Dependencies.{outermost, source_env}
+use Rattle.evaluation.specs.Results.{Results}
+use Rattle.dict_meaning.specs.Slots.{standing}
+use Rattle.dict_meaning.specs.Touched.{touched}
+use Rattle.dict_meaning.specs.Weights.{slot_weight}
 
 -- ---- over any map of results
 

@@ -1,14 +1,14 @@
 -- The view of each kind of form.
 use Rattle.std.proofs.Common.{◌≡◌, ℕ, List, Bor, rules}
-use Rattle.dict_tree.specs.Tree.{literal, read, switch, many, one, two, pick}
-use Rattle.dict_tree.specs.Parsing.{use_of}
-use Rattle.dict_tree.specs.declared.operators.ReadOp.{ReadOp}
-use Rattle.dict_tree.specs.declared.operators.ManyOp.{ManyOp}
-use Rattle.dict_tree.specs.Names.{op_of_name}
-use Rattle.dict_tree.specs.declared.node_name.OneName.{OneName}
-use Rattle.dict_tree.specs.declared.operators.TwoOp.{TwoOp}
-use Rattle.dict_tree.specs.declared.operators.PickOp.{PickOp}
-use Rattle.dict_tree.proofs.Views.{views}
+use Rattle.dict_source.specs.Tree.{literal, read, switch, many, one, two, pick}
+use Rattle.dict_source.specs.View.{use_of}
+use Rattle.dict_source.specs.declared.operators.ReadOp.{ReadOp}
+use Rattle.dict_source.specs.declared.operators.ManyOp.{ManyOp}
+use Rattle.fact_json.specs.Names.{op_of_name}
+use Rattle.fact_json.specs.declared.node_name.OneName.{OneName}
+use Rattle.dict_source.specs.declared.operators.TwoOp.{TwoOp}
+use Rattle.dict_source.specs.declared.operators.PickOp.{PickOp}
+use Rattle.dict_source.proofs.Views.{views}
 use Rattle.written_facts.specs.Figures.{Named}
 use Rattle.written_facts.specs.Forms.{fixed_view, form_view, forms_view, whens_view}
 use Rattle.written_facts.specs.declared.form.Fixed.{Fixed}

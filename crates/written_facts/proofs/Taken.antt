@@ -13,18 +13,18 @@ use Rattle.fact_paths.specs.declared.use_path.UsePath.TheVariants.{Global, Sibli
 use Rattle.fact_paths.proofs.FactPathLaws.{fact_path_reading}
 use Rattle.fact_values.specs.declared.fact_type.FactType.{FactType}
 use Rattle.fact_values.specs.declared.fact_type.FactType.TheVariants as types
-use Rattle.dict_tree.specs.declared.operators.ManyOp.{ManyOp}
-use Rattle.dict_tree.specs.declared.operators.ManyOp.TheVariants.{All, Any, Add, Subtract, GreaterOf, LesserOf}
-use Rattle.dict_tree.specs.Tree.{Use, Source, Sources, SourceCases, literal, read, switch, many, one, two, pick, no_trees, tree, no_cases, a_case}
-use Rattle.dict_tree.specs.Facts.{Bound, Fact, Stated, enum_of, item_of, list_of, scalar, writable_list}
-use Rattle.dict_tree.specs.Tables.{LookupTable}
-use Rattle.dict_tree.specs.declared.operators.OneOp.{OneOp}
-use Rattle.dict_tree.specs.declared.operators.OneOp.TheVariants as ones
-use Rattle.dict_tree.specs.Forms.{AreCases, AreEnough, AreSome, AreTwo, HasConditionalForm, HasForm, HasKind, HasOptionForm, HasTable, HaveCaseForms, HaveForms, IsDerivedType, IsScalar, IsUse, IsWellFormed, IsWritableType}
-use Rattle.dict_tree.specs.Dictionary.{Dictionary, IsWithinLimits, too_deep, too_many, with_fact}
-use Rattle.dict_tree.proofs.ExprLaws.{is_use}
-use Rattle.dict_tree.proofs.FindingLaws.{is_path-is}
-use Rattle.dict_tree.proofs.UseLaws.{fact_path_from}
+use Rattle.dict_source.specs.declared.operators.ManyOp.{ManyOp}
+use Rattle.dict_source.specs.declared.operators.ManyOp.TheVariants.{All, Any, Add, Subtract, GreaterOf, LesserOf}
+use Rattle.dict_source.specs.Tree.{Use, Source, Sources, SourceCases, literal, read, switch, many, one, two, pick, no_trees, tree, no_cases, a_case}
+use Rattle.dict_source.specs.Facts.{Bound, Fact, Stated, enum_of, item_of, list_of, scalar, writable_list}
+use Rattle.dict_source.specs.Tables.{LookupTable}
+use Rattle.dict_source.specs.declared.operators.OneOp.{OneOp}
+use Rattle.dict_source.specs.declared.operators.OneOp.TheVariants as ones
+use Rattle.dict_source.specs.Forms.{AreCases, AreEnough, AreSome, AreTwo, HasConditionalForm, HasForm, HasKind, HasOptionForm, HasTable, HaveCaseForms, HaveForms, IsDerivedType, IsScalar, IsUse, IsWellFormed, IsWritableType}
+use Rattle.dict_source.specs.Dictionary.{Dictionary, IsWithinLimits, too_deep, too_many, with_fact}
+use Rattle.fact_json.proofs.ExprLaws.{is_use}
+use Rattle.dict_source.proofs.FindingLaws.{is_path-is}
+use Rattle.dict_source.proofs.UseLaws.{fact_path_from}
 use Rattle.written_facts.specs.Taking.{are_cases, are_enough, are_some, are_two, has_form, has_name, has_kind, has_none, has_path, have_case_forms, have_forms, is_derived_type, is_named, is_read_use, is_scalar, is_well_formed, is_within, is_writable_type, same_option, same_path_option, same_use, takes, takes_all, with_facts}
 
 -- ---- uses

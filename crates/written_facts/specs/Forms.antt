@@ -1,9 +1,8 @@
 -- The expression that a form writes.
 use Rattle.std.specs.Prelude.{List, map}
-use Rattle.dict_tree.specs.Names.{op_of_name}
-use Rattle.dict_tree.specs.Tree.{Literal, literal_true, literal_false, literal_int, literal_dollar, literal_rational, literal_day, literal_text, literal_choice, Source, Sources, SourceCase, SourceCases, literal, read, switch, many, one, two, pick}
-use Rattle.dict_tree.specs.View.{trees_of, cases_of}
-use Rattle.dict_tree.specs.Parsing.{use_of}
+use Rattle.fact_json.specs.Names.{op_of_name}
+use Rattle.dict_source.specs.Tree.{Literal, literal_true, literal_false, literal_int, literal_dollar, literal_rational, literal_day, literal_text, literal_choice, Source, Sources, SourceCase, SourceCases, literal, read, switch, many, one, two, pick}
+use Rattle.dict_source.specs.View.{trees_of, cases_of, use_of}
 use Rattle.written_facts.specs.Figures.{Named, text_under}
 use Rattle.written_facts.specs.declared.form.Fixed.{Fixed}
 use Rattle.written_facts.specs.declared.form.Fixed.TheVariants as fixed

@@ -3,9 +3,9 @@ use Rattle.std.specs.Prelude.{ℕ, List, [], ◌∷◌, map, Option, Some, None}
 use Rattle.fact_paths.specs.Parsing.{fact_path_of}
 use Rattle.fact_paths.specs.declared.fact_path.FactPath.{FactPath}
 use Rattle.fact_values.specs.declared.fact_type.FactType.TheVariants as types
-use Rattle.dict_tree.specs.Tree.{Source}
-use Rattle.dict_tree.specs.Parsing.{use_of}
-use Rattle.dict_tree.specs.Facts.{Bound, Fact, Stated, enum_of, item_of, least, list_of, scalar, writable_list}
+use Rattle.dict_source.specs.Tree.{Source}
+use Rattle.dict_source.specs.View.{use_of}
+use Rattle.dict_source.specs.Facts.{Bound, Fact, Stated, enum_of, item_of, least, list_of, scalar, writable_list}
 use Rattle.written_facts.specs.Figures.{Named}
 use Rattle.written_facts.specs.Forms.{form_view}
 use Rattle.written_facts.specs.declared.row.Kind.{Kind}

@@ -7,14 +7,14 @@ use Rattle.fact_paths.specs.declared.use_path.UsePath.{UsePath}
 use Rattle.fact_paths.specs.declared.use_path.UsePath.TheVariants.{Global, Sibling, Inner, Each, Through, SiblingThrough}
 use Rattle.fact_values.specs.declared.fact_type.FactType.{FactType}
 use Rattle.fact_values.specs.declared.fact_type.FactType.TheVariants as types
-use Rattle.dict_tree.specs.declared.operators.ManyOp.{ManyOp}
-use Rattle.dict_tree.specs.declared.operators.ManyOp.TheVariants as many_op
-use Rattle.dict_tree.specs.declared.operators.OneOp.{OneOp}
-use Rattle.dict_tree.specs.declared.operators.OneOp.TheVariants as one_op
-use Rattle.dict_tree.specs.Tree.{Use, Source, Sources, SourceCases, literal, read, switch, many, one, two, pick, no_trees, tree, no_cases, a_case}
-use Rattle.dict_tree.specs.Facts.{Bound, Fact, Stated, enum_of, item_of, list_of, scalar, writable_list}
-use Rattle.dict_tree.specs.Dictionary.{Dictionary, too_deep, too_many, with_fact}
-use Rattle.dict_tree.specs.Finding.{is_path}
+use Rattle.dict_source.specs.declared.operators.ManyOp.{ManyOp}
+use Rattle.dict_source.specs.declared.operators.ManyOp.TheVariants as many_op
+use Rattle.dict_source.specs.declared.operators.OneOp.{OneOp}
+use Rattle.dict_source.specs.declared.operators.OneOp.TheVariants as one_op
+use Rattle.dict_source.specs.Tree.{Use, Source, Sources, SourceCases, literal, read, switch, many, one, two, pick, no_trees, tree, no_cases, a_case}
+use Rattle.dict_source.specs.Facts.{Bound, Fact, Stated, enum_of, item_of, list_of, scalar, writable_list}
+use Rattle.dict_source.specs.Dictionary.{Dictionary, too_deep, too_many, with_fact}
+use Rattle.dict_source.specs.Finding.{is_path}
 
 -- ---- uses: the path is the one that is read from the text
 

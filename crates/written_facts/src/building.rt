@@ -1,14 +1,14 @@
 // Makes expressions of forms.
 ghost use Rattle.std.specs.Prelude.{◌≡◌, IfOk, string_bytes};
-ghost use Rattle.dict_tree.specs.Parsing.{use_of};
-ghost use Rattle.dict_tree.specs.Tree.{pick, two};
-ghost use Rattle.dict_tree.specs.View.{box_view, case_view, cases_view, literal_of, trees_view, view};
+ghost use Rattle.dict_source.specs.View.{use_of, box_view, case_view, cases_view, literal_of, trees_view, view};
+ghost use Rattle.dict_source.specs.Tree.{pick, two};
 ghost use Rattle.written_facts.specs.Figures.{figures_view};
 ghost use Rattle.written_facts.specs.Forms.{fixed_view, form_view, forms_view, when_view, whens_view};
 
 use crate::figure::{Figure, text_of};
 use crate::form::{Fixed, Form, When};
-use dict_tree::{Case, Constant, Expr, PickOp, TwoOp, op_of_name, read_use};
+use dict_source::{Case, Constant, Expr, PickOp, TwoOp, read_use};
+use fact_json::op_of_name;
 use fact_values::NoMemory;
 use std::alloc::Global;
 
@@ -39,7 +39,7 @@ fn constant(alloc: Global, figures: &[Figure<'_>], fixed: &Fixed<'_>) -> Result<
     }
 }
 
-#[tactic(auto, using(dict_tree::proofs::Views::views))]
+#[tactic(auto, using(dict_source::proofs::Views::views))]
 fn pick(alloc: Global, op: PickOp, path: &str, test: Box<Expr>) -> Result<Expr, NoMemory>
     ensures { IfOk result (λ e. view e ≡ pick op (use_of path.now) (box_view test)) }
 {
@@ -47,7 +47,7 @@ fn pick(alloc: Global, op: PickOp, path: &str, test: Box<Expr>) -> Result<Expr, 
     Ok(Expr::Pick(op, path, test))
 }
 
-#[tactic(auto, using(dict_tree::proofs::Views::views))]
+#[tactic(auto, using(dict_source::proofs::Views::views))]
 fn two(op: TwoOp, left: Box<Expr>, right: Box<Expr>) -> Expr
     ensures { view result ≡ two op (box_view left) (box_view right) }
 {

@@ -1,5 +1,6 @@
 // Expressions as rows write them. They take no memory.
-use dict_tree::{ManyOp, OneName, PickOp, ReadOp, TwoOp};
+use dict_source::{ManyOp, PickOp, ReadOp, TwoOp};
+use fact_json::OneName;
 
 /// A constant.
 #[derive(Clone, Copy)]
@@ -19,7 +20,7 @@ pub enum Fixed<'a> {
     Choice(&'a str, &'a str),
 }
 
-/// An expression. Its nodes are those of `dict_tree::Expr`, and paths are written as texts.
+/// An expression. Its nodes are those of `dict_source::Expr`, and paths are written as texts.
 #[derive(Clone, Copy)]
 #[cycle(form)]
 pub enum Form<'a> {

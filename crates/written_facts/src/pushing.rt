@@ -1,7 +1,7 @@
 // Makes a source of rows.
 ghost use Rattle.std.specs.Prelude.{◌≡◌, ◌++◌, ◌∷◌, ◌<◌, [], map, IsTrue, IfOk, OnOk};
-ghost use Rattle.dict_tree.specs.Dictionary.{dictionary_view, with_fact};
-ghost use Rattle.dict_tree.specs.Facts.{fact_view};
+ghost use Rattle.dict_source.specs.Dictionary.{dictionary_view, with_fact};
+ghost use Rattle.dict_source.specs.Facts.{fact_view};
 ghost use Rattle.written_facts.specs.Figures.{figures_view};
 ghost use Rattle.written_facts.specs.Rows.{rows_view};
 ghost use Rattle.written_facts.specs.Taking.{takes, takes_all, with_facts};
@@ -9,7 +9,7 @@ ghost use Rattle.written_facts.specs.Taking.{takes, takes_all, with_facts};
 use crate::figure::Figure;
 use crate::row::Row;
 use crate::stating::fact_of;
-use dict_tree::{DictSource, FactSource};
+use dict_source::{DictSource, FactSource};
 use fact_values::NoMemory;
 use std::alloc::Global;
 

@@ -1,8 +1,8 @@
 // Makes facts of rows.
 ghost use Rattle.std.specs.Prelude.{◌≡◌, IfOk, IsTrue, Some, option_map, map, string_bytes, [], ◌∷◌};
 ghost use Rattle.fact_paths.specs.Parsing.{fact_path_of};
-ghost use Rattle.dict_tree.specs.Facts.{fact_view, least, limit_view, stated_view};
-ghost use Rattle.dict_tree.specs.View.{view};
+ghost use Rattle.dict_source.specs.Facts.{fact_view, least, limit_view, stated_view};
+ghost use Rattle.dict_source.specs.View.{view};
 ghost use Rattle.written_facts.specs.Figures.{figures_view};
 ghost use Rattle.written_facts.specs.Forms.{form_view};
 ghost use Rattle.written_facts.specs.Rows.{asked, asked_from, derived as follows, described, fact_with, kind_view, row_view, with_words};
@@ -13,7 +13,7 @@ use crate::figure::Figure;
 use crate::form::Form;
 use crate::naming::named;
 use crate::row::{Kind, Row};
-use dict_tree::{Expr, FactSource, LimitText, TypeText, read_use};
+use dict_source::{Expr, FactSource, LimitText, TypeText, read_use};
 use fact_paths::{FactPath, PathFault, read_fact_path};
 use fact_values::{FactType, NoMemory};
 use std::alloc::Global;

@@ -1,5 +1,5 @@
 use Rattle.std.proofs.Common.{refl}
-use Rattle.dict_tree.specs.Dictionary.{dictionary_view}
+use Rattle.dict_source.specs.Dictionary.{dictionary_view}
 use Rattle.dict_gen.proofs.Pushing.{one_pushed, one_taken}
 use Rattle.dict_gen.proofs.source.push_one_more.Goals as goal
 

@@ -1,5 +1,5 @@
 use Rattle.std.proofs.Common.{ap, ◌∙◌, arith, add-one}
-use Rattle.dict_tree.specs.Dictionary.{dictionary_view}
+use Rattle.dict_source.specs.Dictionary.{dictionary_view}
 use Rattle.dict_gen.specs.Chain.{sum_path}
 use Rattle.dict_gen.proofs.Pushing.{next_taken}
 use Rattle.dict_gen.proofs.source.push_sum.Goals as goal

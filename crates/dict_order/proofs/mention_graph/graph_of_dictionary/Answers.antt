@@ -1,6 +1,6 @@
 use Rattle.std.proofs.Common.{◌≤◌, ◌<◌, length, arith, ap, add-one, ◌∙◌}
 use Rattle.std.proofs.lemmas.List.{take_all}
-use Rattle.dict_tree.specs.Dictionary.{dictionary_view}
+use Rattle.dict_source.specs.Dictionary.{dictionary_view}
 use Rattle.dict_order.specs.MentionGraph.{mention_graph}
 use Rattle.dict_order.proofs.DictionaryLaws.{few_facts, length_mention_graph, length_of_written, one_list_more}
 use Rattle.dict_order.proofs.MentionLaws.{length_graph}

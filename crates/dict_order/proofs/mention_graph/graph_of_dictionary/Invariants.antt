@@ -1,6 +1,6 @@
 -- The lists so far are the beginning of the graph.
 use Rattle.std.proofs.Common.{◌≡◌, take}
-use Rattle.dict_tree.specs.Dictionary.{dictionary_view}
+use Rattle.dict_source.specs.Dictionary.{dictionary_view}
 use Rattle.dict_order.specs.Graph.{graph_of}
 use Rattle.dict_order.specs.MentionGraph.{mention_graph}
 use Rattle.dict_order.proofs.mention_graph.graph_of_dictionary.Given as goal

@@ -1,6 +1,6 @@
 use Rattle.std.proofs.Common.{◌≡◌, ℕ, List, ap, subst, sym, ◌∙◌}
 use Rattle.std.specs.Prelude.{IfOk}
-use Rattle.dict_tree.specs.Dictionary.{dictionary_view}
+use Rattle.dict_source.specs.Dictionary.{dictionary_view}
 use Rattle.dict_order.specs.Graph.{mentioned}
 use Rattle.dict_order.specs.MentionGraph.{facts_of, mention_graph}
 use Rattle.dict_order.proofs.DictionaryLaws.{mentioned_is}

@@ -1,5 +1,5 @@
 use Rattle.std.proofs.Common.{◌≡◌, length, ap, sym, subst, ◌∙◌, arith}
-use Rattle.dict_tree.specs.Dictionary.{dictionary_view}
+use Rattle.dict_source.specs.Dictionary.{dictionary_view}
 use Rattle.dict_order.specs.Graph.{MentionsFacts, graph_of}
 use Rattle.dict_order.specs.MentionGraph.{mention_graph}
 use Rattle.dict_order.proofs.DictionaryLaws.{mentions_facts}

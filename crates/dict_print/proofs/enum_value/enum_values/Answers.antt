@@ -2,7 +2,7 @@ use Rattle.std.proofs.Common.{refl, ap, ◌∙◌, arith}
 use Rattle.serde_json.specs.Data.{array}
 use Rattle.serde_json.specs.View.{view as json, items_view}
 use Rattle.serde_json.proofs.Views.{view-Array}
-use Rattle.dict_tree.specs.FactJson.{items_from}
+use Rattle.fact_json.specs.FactJson.{items_from}
 use Rattle.dict_print.specs.DictionaryJson.{enum_json}
 use Rattle.dict_print.proofs.JoiningLaws.{found_at, next, at_end}
 use Rattle.dict_print.proofs.enum_value.enum_values.Goals as goal

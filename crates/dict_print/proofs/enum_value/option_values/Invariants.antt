@@ -1,7 +1,7 @@
 use Rattle.std.proofs.Common.{◌≡◌, drop}
 use Rattle.serde_json.specs.Data.{string}
 use Rattle.serde_json.specs.View.{items_view}
-use Rattle.dict_tree.specs.FactJson.{items_from}
+use Rattle.fact_json.specs.FactJson.{items_from}
 use Rattle.dict_print.specs.Joining.{joined}
 use Rattle.dict_print.proofs.enum_value.option_values.Given as goal
 

@@ -3,8 +3,8 @@ use Rattle.std.specs.Prelude.{codes}
 use Rattle.serde_json.specs.Data.{array, item, string}
 use Rattle.serde_json.specs.View.{view as json, items_view}
 use Rattle.serde_json.proofs.Views.{view-Array}
-use Rattle.dict_tree.specs.View.{view, case_view, trees_view, cases_view}
-use Rattle.dict_tree.specs.Json.{json_of, json_of_trees, json_of_cases}
+use Rattle.dict_source.specs.View.{view, case_view, trees_view, cases_view}
+use Rattle.fact_json.specs.Json.{json_of, json_of_trees, json_of_cases}
 use Rattle.dict_print.specs.DictionaryJson.{case_json}
 use Rattle.dict_print.proofs.JoiningLaws.{next, at_end}
 use Rattle.dict_print.proofs.expr_value.+expr.Goals as goal

@@ -2,8 +2,8 @@ use Rattle.std.proofs.Common.{◌≡◌, drop}
 use Rattle.std.specs.Prelude.{codes}
 use Rattle.serde_json.specs.Data.{item, string}
 use Rattle.serde_json.specs.View.{items_view}
-use Rattle.dict_tree.specs.View.{trees_view, cases_view}
-use Rattle.dict_tree.specs.Json.{json_of_trees, json_of_cases}
+use Rattle.dict_source.specs.View.{trees_view, cases_view}
+use Rattle.fact_json.specs.Json.{json_of_trees, json_of_cases}
 use Rattle.dict_print.specs.Joining.{joined}
 use Rattle.dict_print.proofs.expr_value.+expr.Given as goal
 

@@ -1,6 +1,6 @@
 use Rattle.std.proofs.Common.{◌≡◌, ◌++◌, drop, map}
 use Rattle.std.specs.Prelude.{string_bytes}
-use Rattle.dict_tree.specs.Facts.{fact_view}
+use Rattle.dict_source.specs.Facts.{fact_view}
 use Rattle.dict_print.specs.FactsText.{lines_of}
 use Rattle.dict_print.proofs.fact_lines.print_facts.Given as goal
 

@@ -1,8 +1,8 @@
 use Rattle.std.proofs.Common.{◌≡◌, drop, map}
 use Rattle.std.specs.List.{All}
 use Rattle.serde_json.specs.View.{items_view}
-use Rattle.dict_tree.specs.Facts.{fact_view}
-use Rattle.dict_tree.specs.FactJson.{IsNamed, items_from}
+use Rattle.dict_source.specs.Facts.{fact_view}
+use Rattle.fact_json.specs.FactJson.{IsNamed, items_from}
 use Rattle.dict_print.specs.DictionaryJson.{fact_json}
 use Rattle.dict_print.specs.Joining.{joined}
 use Rattle.dict_print.proofs.fact_value.fact_values.Given as goal

@@ -2,8 +2,8 @@ use Rattle.std.proofs.Common.{map, refl, ap, ◌∙◌}
 use Rattle.serde_json.specs.Data.{array}
 use Rattle.serde_json.specs.View.{view as json, items_view}
 use Rattle.serde_json.proofs.Views.{view-Array}
-use Rattle.dict_tree.specs.Facts.{limit_view}
-use Rattle.dict_tree.specs.FactJson.{items_from, limit_json}
+use Rattle.dict_source.specs.Facts.{limit_view}
+use Rattle.fact_json.specs.FactJson.{items_from, limit_json}
 use Rattle.dict_print.proofs.JoiningLaws.{next, at_end}
 use Rattle.dict_print.proofs.limit_value.limit_values.Goals as goal
 

@@ -1,7 +1,7 @@
 use Rattle.std.proofs.Common.{◌≡◌, drop, map}
 use Rattle.serde_json.specs.View.{items_view}
-use Rattle.dict_tree.specs.Facts.{limit_view}
-use Rattle.dict_tree.specs.FactJson.{items_from, limit_json}
+use Rattle.dict_source.specs.Facts.{limit_view}
+use Rattle.fact_json.specs.FactJson.{items_from, limit_json}
 use Rattle.dict_print.specs.Joining.{joined}
 use Rattle.dict_print.proofs.limit_value.limit_values.Given as goal
 

@@ -1,5 +1,5 @@
 use Rattle.serde_json.specs.View.{view as json}
-use Rattle.dict_tree.specs.Dictionary.{dictionary_view}
+use Rattle.dict_source.specs.Dictionary.{dictionary_view}
 use Rattle.dict_print.proofs.PrintedLaws.{printed_reads, printed_gives}
 use Rattle.dict_print.proofs.printing.print.Goals as goal
 

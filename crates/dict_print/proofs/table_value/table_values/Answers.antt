@@ -5,7 +5,7 @@ use Rattle.std.proofs.lemmas.List.Elements.{All-more}
 use Rattle.serde_json.specs.Data.{array}
 use Rattle.serde_json.specs.View.{view as json, items_view}
 use Rattle.serde_json.proofs.Views.{view-Array}
-use Rattle.dict_tree.specs.FactJson.{items_from}
+use Rattle.fact_json.specs.FactJson.{items_from}
 use Rattle.dict_print.specs.DictionaryJson.{IsSound, table_json}
 use Rattle.dict_print.proofs.JoiningLaws.{next, at_end}
 use Rattle.dict_print.proofs.table_value.table_values.Goals as goal

@@ -1,6 +1,6 @@
 use Rattle.std.proofs.Common.{◌≡◌, ◌+◌, ◌++◌, drop, map, Result, Ok, Err}
 use Rattle.serde_json.specs.View.{items_view}
-use Rattle.dict_tree.specs.Facts.{fact_view}
+use Rattle.dict_source.specs.Facts.{fact_view}
 use Rattle.dict_tree.specs.DictParsing.{facts_of}
 use Rattle.dict_tree.specs.declared.fault.TreeFault.{TreeFault}
 use Rattle.dict_tree.proofs.dict_json.read_facts.Given as goal

@@ -1,7 +1,7 @@
 use Rattle.std.proofs.Common.{◌∙◌, ◌++◌, ◌+◌, map, drop, ap, refl, add-one}
 use Rattle.serde_json.specs.View.{view as json, items_view}
 use Rattle.dict_tree.specs.DictParsing.{enum_list, enum_of, listed_view}
-use Rattle.dict_tree.proofs.ParsingLaws.{items_next, one_more, read_next}
+use Rattle.fact_json.proofs.ParsingLaws.{items_next, one_more, read_next}
 use Rattle.dict_tree.proofs.enums_json.read_enum_list.Goals as goal
 
 pub loop-item-preserved : goal.loop-item-preserved

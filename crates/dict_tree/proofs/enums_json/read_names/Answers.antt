@@ -3,7 +3,7 @@ use Rattle.serde_json.specs.Find.{as_str}
 use Rattle.serde_json.specs.View.{view as json, items_view}
 use Rattle.fact_paths.specs.Parsing.{name_of}
 use Rattle.dict_tree.specs.DictParsing.{name_list}
-use Rattle.dict_tree.proofs.ParsingLaws.{items_next, read_next}
+use Rattle.fact_json.proofs.ParsingLaws.{items_next, read_next}
 use Rattle.dict_tree.proofs.enums_json.read_names.Goals as goal
 
 pub loop-item-preserved : goal.loop-item-preserved

@@ -1,6 +1,6 @@
 use Rattle.std.proofs.Common.{◌≡◌, ◌+◌, drop}
-use Rattle.dict_tree.specs.Tree.{size_of_trees, size_of_cases}
-use Rattle.dict_tree.specs.View.{trees_view, cases_view}
+use Rattle.dict_source.specs.Tree.{size_of_trees, size_of_cases}
+use Rattle.dict_source.specs.View.{trees_view, cases_view}
 use Rattle.dict_tree.proofs.limits.+spend.Given as goal
 
 -- the rest, with the nodes so far, is what there was

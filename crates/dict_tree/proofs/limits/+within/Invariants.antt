@@ -1,6 +1,6 @@
 use Rattle.std.proofs.Common.{◌≤◌, drop}
-use Rattle.dict_tree.specs.Tree.{depth_of_trees, depth_of_cases}
-use Rattle.dict_tree.specs.View.{trees_view, cases_view}
+use Rattle.dict_source.specs.Tree.{depth_of_trees, depth_of_cases}
+use Rattle.dict_source.specs.View.{trees_view, cases_view}
 use Rattle.dict_tree.proofs.limits.+within.Given as goal
 
 -- the whole is within the depth just where what is left is

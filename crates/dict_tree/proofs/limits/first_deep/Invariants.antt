@@ -1,7 +1,7 @@
 use Rattle.std.proofs.Common.{◌≡◌, ◌+◌, drop, map}
 use Rattle.std.specs.Prelude.{not}
-use Rattle.dict_tree.specs.Facts.{fact_view, fact_within}
-use Rattle.dict_tree.specs.Dictionary.{number_from}
+use Rattle.dict_source.specs.Facts.{fact_view, fact_within}
+use Rattle.dict_source.specs.Dictionary.{number_from}
 use Rattle.dict_tree.proofs.limits.first_deep.Given as goal
 
 abbrev pub invariant-loop-fact : goal.invariant-loop-fact

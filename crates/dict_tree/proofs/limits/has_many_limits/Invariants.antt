@@ -1,7 +1,7 @@
 use Rattle.std.proofs.Common.{◌≡◌, drop, map, length}
 use Rattle.std.specs.Prelude.{nat_lt}
 use Rattle.std.specs.List.{list_any}
-use Rattle.dict_tree.specs.Facts.{fact_view}
+use Rattle.dict_source.specs.Facts.{fact_view}
 use Rattle.dict_tree.proofs.limits.has_many_limits.Given as goal
 
 abbrev pub invariant-loop-fact : goal.invariant-loop-fact

@@ -1,7 +1,7 @@
 use Rattle.std.proofs.Common.{◌≡◌, ◌+◌, ◌≤◌, drop, map, cond}
 use Rattle.std.specs.List.{fold}
-use Rattle.dict_tree.specs.Facts.{fact_view}
-use Rattle.dict_tree.specs.Dictionary.{is_collection}
+use Rattle.dict_source.specs.Facts.{fact_view}
+use Rattle.dict_source.specs.Dictionary.{is_collection}
 use Rattle.dict_tree.proofs.limits.has_many_lists.Given as goal
 
 -- those so far, and those of what is left, are all

@@ -1,6 +1,6 @@
 use Rattle.std.proofs.Common.{◌≡◌, ◌+◌, ◌-◌, ◌≤◌, drop, map}
 use Rattle.std.specs.List.{fold}
-use Rattle.dict_tree.specs.Facts.{fact_view, fact_size}
+use Rattle.dict_source.specs.Facts.{fact_view, fact_size}
 use Rattle.dict_tree.proofs.limits.has_many_nodes.Given as goal
 
 -- the nodes so far, and those of what is left, are all

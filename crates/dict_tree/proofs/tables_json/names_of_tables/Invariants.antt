@@ -1,5 +1,5 @@
 use Rattle.std.proofs.Common.{◌≡◌, ◌++◌, drop, map}
-use Rattle.dict_tree.specs.Tables.{table_names}
+use Rattle.dict_source.specs.Tables.{table_names}
 use Rattle.dict_tree.proofs.tables_json.names_of_tables.Given as goal
 
 abbrev pub invariant-loop-table : goal.invariant-loop-table

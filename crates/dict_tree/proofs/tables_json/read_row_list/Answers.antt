@@ -2,7 +2,7 @@ use Rattle.std.proofs.Common.{◌∙◌, ◌∷◌, [], ◌++◌, ◌+◌, drop,
 use Rattle.serde_json.specs.View.{view as json, items_view}
 use Rattle.dict_tree.specs.DictParsing.{listed_view}
 use Rattle.dict_tree.specs.TableParsing.{row_list, row_of}
-use Rattle.dict_tree.proofs.ParsingLaws.{items_next, read_next}
+use Rattle.fact_json.proofs.ParsingLaws.{items_next, read_next}
 use Rattle.dict_tree.proofs.tables_json.read_row_list.Goals as goal
 
 pub loop-item-preserved : goal.loop-item-preserved

@@ -1,6 +1,6 @@
 -- A limit stands twice in what is left just where one does in all.
 use Rattle.std.proofs.Common.{◌≡◌, drop, map}
-use Rattle.dict_tree.specs.Facts.{limit_view}
+use Rattle.dict_source.specs.Facts.{limit_view}
 use Rattle.dict_types.specs.BadLimit.{has_twice}
 use Rattle.dict_types.proofs.bad_limit.has_twice.Given as goal
 

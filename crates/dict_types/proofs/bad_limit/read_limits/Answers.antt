@@ -1,8 +1,8 @@
 use Rattle.std.proofs.Common.{◌+◌, drop, map, add-one}
 use Rattle.text_checks.specs.Tables.{check_names}
-use Rattle.dict_tree.specs.Facts.{limit_view, stated_view}
+use Rattle.dict_source.specs.Facts.{limit_view, stated_view}
 use Rattle.dict_types.proofs.LimitLaws.{limit_next}
-use Rattle.dict_types.proofs.OneByOneLaws.{left_next}
+use Rattle.node_types.proofs.OneByOneLaws.{left_next}
 use Rattle.dict_types.proofs.bad_limit.read_limits.Goals as goal
 
 pub loop-limit-preserved : goal.loop-limit-preserved

@@ -1,7 +1,7 @@
 -- The limits so far, and those of what is left, are all.
 use Rattle.std.proofs.Common.{◌≡◌, ◌++◌, drop, map, option_map}
 use Rattle.text_checks.specs.Tables.{check_names}
-use Rattle.dict_tree.specs.Facts.{limit_view, stated_view}
+use Rattle.dict_source.specs.Facts.{limit_view, stated_view}
 use Rattle.dict_types.specs.BadLimit.{limits_at}
 use Rattle.dict_types.proofs.bad_limit.read_limits.Given as goal
 

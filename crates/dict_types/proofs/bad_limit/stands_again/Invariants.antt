@@ -1,7 +1,7 @@
 -- The limit stands again in what is left just where it does in all.
 use Rattle.std.proofs.Common.{◌≡◌, drop, map}
 use Rattle.std.specs.List.{list_any}
-use Rattle.dict_tree.specs.Facts.{limit_view}
+use Rattle.dict_source.specs.Facts.{limit_view}
 use Rattle.dict_types.specs.BadLimit.{is_again}
 use Rattle.dict_types.proofs.bad_limit.stands_again.Given as goal
 

@@ -1,10 +1,10 @@
 use Rattle.std.proofs.Common.{◌+◌, drop, map, refl, add-one}
 use Rattle.text_checks.specs.Tables.{check_names}
-use Rattle.dict_tree.specs.Dictionary.{dictionary_view}
-use Rattle.dict_tree.specs.Facts.{fact_view}
+use Rattle.dict_source.specs.Dictionary.{dictionary_view}
+use Rattle.dict_source.specs.Facts.{fact_view}
 use Rattle.dict_types.specs.BadLimit.{fact_limits}
 use Rattle.dict_types.specs.Typed.{limits_of, or_bad_limit}
-use Rattle.dict_types.proofs.OneByOneLaws.{all_next, left_next}
+use Rattle.node_types.proofs.OneByOneLaws.{all_next, left_next}
 use Rattle.dict_types.proofs.checking.limits_of_facts.Goals as goal
 
 pub loop-i-preserved : goal.loop-i-preserved

@@ -1,9 +1,9 @@
 -- The limits so far, and those of what is left, are all.
 use Rattle.std.proofs.Common.{◌≡◌, ◌+◌, ◌++◌, drop, map, Ok}
 use Rattle.text_checks.specs.Tables.{check_names}
-use Rattle.dict_tree.specs.Dictionary.{dictionary_view}
-use Rattle.dict_tree.specs.Facts.{fact_view}
-use Rattle.dict_types.specs.Inferring.{◌>>=◌}
+use Rattle.dict_source.specs.Dictionary.{dictionary_view}
+use Rattle.dict_source.specs.Facts.{fact_view}
+use Rattle.node_types.specs.Inferring.{◌>>=◌}
 use Rattle.dict_types.specs.Typed.{limits_of}
 use Rattle.dict_types.proofs.checking.limits_of_facts.Given as goal
 

@@ -1,8 +1,8 @@
 use Rattle.std.proofs.Common.{◌+◌, drop, map, refl, add-one}
-use Rattle.dict_tree.specs.Dictionary.{dictionary_view}
-use Rattle.dict_tree.specs.Facts.{fact_view}
+use Rattle.dict_source.specs.Dictionary.{dictionary_view}
+use Rattle.dict_source.specs.Facts.{fact_view}
 use Rattle.dict_types.specs.Typed.{typed_fact, typed_facts}
-use Rattle.dict_types.proofs.OneByOneLaws.{all_next, left_next}
+use Rattle.node_types.proofs.OneByOneLaws.{all_next, left_next}
 use Rattle.dict_types.proofs.SizeLaws.{size_within}
 use Rattle.dict_types.proofs.checking.type_facts.Goals as goal
 

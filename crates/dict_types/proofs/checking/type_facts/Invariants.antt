@@ -1,8 +1,8 @@
 -- What is typed so far, and what is left, is all.
 use Rattle.std.proofs.Common.{◌≡◌, ◌+◌, ◌++◌, drop, map, Ok}
-use Rattle.dict_tree.specs.Dictionary.{dictionary_view}
-use Rattle.dict_tree.specs.Facts.{fact_view}
-use Rattle.dict_types.specs.Inferring.{◌>>=◌}
+use Rattle.dict_source.specs.Dictionary.{dictionary_view}
+use Rattle.dict_source.specs.Facts.{fact_view}
+use Rattle.node_types.specs.Inferring.{◌>>=◌}
 use Rattle.dict_types.specs.Typed.{typed_facts}
 use Rattle.dict_types.proofs.checking.type_facts.Given as goal
 

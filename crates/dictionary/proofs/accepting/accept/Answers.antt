@@ -1,4 +1,4 @@
-use Rattle.dict_tree.specs.Dictionary.{dictionary_view}
+use Rattle.dict_source.specs.Dictionary.{dictionary_view}
 use Rattle.dictionary.proofs.KeptLaws.{err_refused}
 use Rattle.dictionary.proofs.accepting.accept.Goals as goal
 

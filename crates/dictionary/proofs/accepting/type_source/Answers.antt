@@ -1,6 +1,6 @@
 use Rattle.std.proofs.Common.{}
 use Rattle.text_checks.specs.Tables.{check_names}
-use Rattle.dict_tree.specs.Dictionary.{dictionary_view}
+use Rattle.dict_source.specs.Dictionary.{dictionary_view}
 use Rattle.dictionary.proofs.FaultLaws.{refused_of_types}
 use Rattle.dictionary.proofs.accepting.type_source.Goals as goal
 

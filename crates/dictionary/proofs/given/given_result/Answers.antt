@@ -1,7 +1,7 @@
 use Rattle.std.proofs.Common.{[], sym, ◌∙◌}
-use Rattle.dict_tree.specs.Dictionary.{Dictionary}
+use Rattle.dict_source.specs.Dictionary.{Dictionary}
 use Rattle.answers.specs.Meaning.{answered}
-use Rattle.dictionary.proofs.ListTypes.{open_members}
+use Rattle.dict_meaning.proofs.ListTypes.{open_members}
 use Rattle.dictionary.proofs.given.given_result.Goals as goal
 
 pub list_result-requires : goal.list_result-requires

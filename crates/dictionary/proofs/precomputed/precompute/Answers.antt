@@ -1,5 +1,5 @@
 use Rattle.std.proofs.Common.{arith}
-use Rattle.dict_tree.specs.Dictionary.{dictionary_view}
+use Rattle.dict_source.specs.Dictionary.{dictionary_view}
 use Rattle.dict_order.proofs.DictionaryLaws.{few_facts, length_mention_graph}
 use Rattle.dictionary.proofs.ByRankLaws.{facts_by_rank}
 use Rattle.dictionary.proofs.precomputed.precompute.Goals as goal

@@ -1,7 +1,7 @@
 -- The nodes so far, with those of what is left, are all.
 use Rattle.std.proofs.Common.{◌≡◌, ◌+◌, drop}
-use Rattle.dict_tree.specs.Tree.{size_of_cases, size_of_trees}
-use Rattle.dict_tree.specs.View.{cases_view, trees_view}
+use Rattle.dict_source.specs.Tree.{size_of_cases, size_of_trees}
+use Rattle.dict_source.specs.View.{cases_view, trees_view}
 use Rattle.dictionary.proofs.sizes.+sizes.Given as goal
 
 abbrev pub invariant-with_all-loop-expr : goal.invariant-with_all-loop-expr

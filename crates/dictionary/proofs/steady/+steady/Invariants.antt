@@ -1,7 +1,7 @@
 -- What is left is steady just where all is.
 use Rattle.std.proofs.Common.{◌≡◌, drop}
-use Rattle.dict_tree.specs.Dictionary.{dictionary_view}
-use Rattle.dict_tree.specs.View.{cases_view, trees_view}
+use Rattle.dict_source.specs.Dictionary.{dictionary_view}
+use Rattle.dict_source.specs.View.{cases_view, trees_view}
 use Rattle.dictionary.specs.SteadyDependencies.{known_at, steady_cases, steady_trees}
 use Rattle.dictionary.proofs.steady.+steady.Given as goal
 

@@ -1,5 +1,5 @@
 use Rattle.std.proofs.Common.{◌≤◌, Bool, List, length, get_or, ap, arith, length-set, refl, ◌∙◌}
-use Rattle.dict_tree.specs.Dictionary.{dictionary_view}
+use Rattle.dict_source.specs.Dictionary.{dictionary_view}
 use Rattle.dictionary.specs.SteadyDependencies.{known_at}
 use Rattle.dictionary.proofs.SettleLaws.{all_known, settled}
 use Rattle.dictionary.proofs.steady.steady_facts.Goals as goal

@@ -1,10 +1,10 @@
 -- The facts so far are known.
 use Rattle.std.proofs.Common.{◌≡◌, ℕ, ◌<◌, List, length, get_or}
-use Rattle.dict_tree.specs.Dictionary.{dictionary_view}
+use Rattle.dict_source.specs.Dictionary.{dictionary_view}
 use Rattle.dict_order.specs.MentionGraph.{mention_graph}
 use Rattle.dict_order.specs.Ranks.{AreRanks}
 use Rattle.dictionary.specs.ByRank.{AreByRank}
-use Rattle.dictionary.specs.Steady.{steady_by_rank}
+use Rattle.dict_meaning.specs.Steady.{steady_by_rank}
 use Rattle.dictionary.specs.SteadyDependencies.{known_at}
 use Rattle.dictionary.proofs.steady.steady_facts.Given as goal
 

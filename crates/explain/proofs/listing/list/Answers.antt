@@ -1,5 +1,5 @@
 use Rattle.std.proofs.Common.{◌≡◌, ℕ, ◌≤◌, filter, length, ap, arith, ◌∙◌}
-use Rattle.dictionary.specs.Accepted.{Kept, accepted}
+use Rattle.dictionary.specs.Kept.{Kept, accepted}
 use Rattle.explain.specs.SessionContext.{tree_of}
 use Rattle.explain.specs.Listing.{is_listed}
 use Rattle.explain.proofs.ListingLaws.{all_standing, up_to_next}

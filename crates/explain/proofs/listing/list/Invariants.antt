@@ -1,5 +1,5 @@
 use Rattle.std.proofs.Common.{◌≡◌, filter}
-use Rattle.dictionary.specs.Slots.{slots_up_to}
+use Rattle.dict_meaning.specs.Slots.{slots_up_to}
 use Rattle.explain.specs.SessionContext.{tree_of}
 use Rattle.explain.specs.Listing.{is_listed}
 use Rattle.explain.proofs.listing.list.Given as goal

@@ -1,6 +1,6 @@
 use Rattle.std.proofs.Common.{[], ◌++◌, List, ℕ, drop, filter, map, sym, ap, ◌∙◌, ◌≡◌}
 use Rattle.std.proofs.lemmas.List.{append-nil, drop_all}
-use Rattle.dictionary.specs.Dependencies.{slot}
+use Rattle.evaluation.specs.Results.{slot}
 use Rattle.explain.specs.Listing.{is_listed}
 use Rattle.explain.proofs.ListingLaws.{taken_next}
 use Rattle.explain.proofs.listing.take_members.Goals as goal

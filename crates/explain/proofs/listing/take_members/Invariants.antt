@@ -1,5 +1,5 @@
 use Rattle.std.proofs.Common.{◌≡◌, ◌++◌, filter, map, drop}
-use Rattle.dictionary.specs.Dependencies.{slot}
+use Rattle.evaluation.specs.Results.{slot}
 use Rattle.explain.specs.Listing.{is_listed}
 use Rattle.explain.proofs.listing.take_members.Given as goal
 

@@ -2,8 +2,9 @@ use Rattle.std.proofs.Common.{List, ◌≡◌, ◌&&◌, Bool, sym, ap, subst}
 use Rattle.std.specs.Prelude.{IfOk}
 use Rattle.common_lemmas.proofs.Lists.{same_filter}
 use Rattle.fact_values.specs.declared.slot.Slot.{Slot}
-use Rattle.dictionary.specs.Accepted.{IsAccepted, Kept, accepted, names_of}
-use Rattle.dictionary.specs.Slots.{standing}
+use Rattle.dict_meaning.specs.Accepted.{IsAccepted}
+use Rattle.dictionary.specs.Kept.{Kept, accepted, names_of}
+use Rattle.dict_meaning.specs.Slots.{standing}
 use Rattle.explain.specs.Listing.{is_listed}
 use Rattle.explain.specs.Missing.{Keeps, is_missing, is_unanswered}
 use Rattle.explain.proofs.KeepLaws.{missing_keep}

@@ -1,8 +1,8 @@
 use Rattle.std.proofs.Common.{IsTrue, List, false, sym, subst}
 use Rattle.std.specs.Prelude.{All}
 use Rattle.fact_values.specs.declared.slot.Slot.{Slot}
-use Rattle.dictionary.specs.Accepted.{accepted}
-use Rattle.dictionary.specs.Slots.{stands}
+use Rattle.dictionary.specs.Kept.{accepted}
+use Rattle.dict_meaning.specs.Slots.{stands}
 use Rattle.explain.specs.Reads.{slot_reads, standing_reads}
 use Rattle.explain.proofs.ListingLaws.{if_ok}
 use Rattle.explain.proofs.SlotLists.{all_new, all_pass}

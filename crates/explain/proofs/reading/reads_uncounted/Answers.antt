@@ -1,7 +1,7 @@
 use Rattle.std.proofs.Common.{◌≡◌, Bool, false, List, filter, ap, ◌∙◌, ◌++◌}
 use Rattle.fact_values.specs.declared.slot.Slot.{Slot}
-use Rattle.dictionary.specs.Accepted.{accepted}
-use Rattle.dictionary.specs.Slots.{stands}
+use Rattle.dictionary.specs.Kept.{accepted}
+use Rattle.dict_meaning.specs.Slots.{stands}
 use Rattle.explain.specs.Found.{has}
 use Rattle.explain.specs.Reads.{new_among, slot_reads}
 use Rattle.explain.specs.SessionContext.{tree_of}

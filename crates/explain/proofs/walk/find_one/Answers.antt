@@ -1,6 +1,6 @@
 use Rattle.std.proofs.Common.{is_some, sym, ap, ◌∙◌}
-use Rattle.dictionary.specs.Accepted.{accepted}
-use Rattle.dictionary.proofs.PlainLaws.{standing_have_results}
+use Rattle.dictionary.specs.Kept.{accepted}
+use Rattle.dict_meaning.proofs.PlainLaws.{standing_have_results}
 use Rattle.explain.specs.SessionContext.{tree_of}
 use Rattle.explain.proofs.WalkLaws.{added_if, skipped}
 use Rattle.explain.proofs.walk.find_one.Goals as goal

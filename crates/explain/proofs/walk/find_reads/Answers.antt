@@ -1,5 +1,6 @@
 use Rattle.std.proofs.Common.{subst, ◌∙◌}
-use Rattle.dictionary.specs.Accepted.{IsAccepted, Kept, accepted, names_of}
+use Rattle.dict_meaning.specs.Accepted.{IsAccepted}
+use Rattle.dictionary.specs.Kept.{Kept, accepted, names_of}
 use Rattle.explain.proofs.WalkLaws.{emptied, walk_begins, walk_ends, walk_reads_on}
 use Rattle.explain.proofs.walk.find_reads.Goals as goal
 

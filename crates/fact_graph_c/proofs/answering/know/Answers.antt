@@ -1,5 +1,6 @@
 use Rattle.std.proofs.Common.{subst, arith}
-use Rattle.dictionary.specs.Accepted.{IsAccepted, Kept, accepted, names_of}
+use Rattle.dict_meaning.specs.Accepted.{IsAccepted}
+use Rattle.dictionary.specs.Kept.{Kept, accepted, names_of}
 use Rattle.fact_graph_c.proofs.answering.know.Goals as goal
 
 pub returns : goal.returns

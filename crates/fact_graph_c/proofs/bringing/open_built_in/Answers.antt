@@ -1,7 +1,7 @@
 use Rattle.std.proofs.Common.{◌≡◌, true, false, sym, subst, ◌∙◌}
-use Rattle.dictionary.specs.Accepted.{accepted}
-use Rattle.dictionary.specs.Fits.{AnswersFit}
-use Rattle.dictionary.proofs.FitStart.{start_fits}
+use Rattle.dictionary.specs.Kept.{accepted}
+use Rattle.dict_meaning.specs.Fits.{AnswersFit}
+use Rattle.dict_meaning.proofs.FitStart.{start_fits}
 use Rattle.fact_graph_c.proofs.OpeningLaws.{opens_built_in}
 use Rattle.fact_graph_c.proofs.bringing.open_built_in.Goals as goal
 

@@ -1,7 +1,7 @@
 use Rattle.std.proofs.Common.{sym, subst}
-use Rattle.dictionary.specs.Accepted.{accepted}
-use Rattle.dictionary.specs.Fits.{AnswersFit}
-use Rattle.dictionary.proofs.FitStart.{start_fits}
+use Rattle.dictionary.specs.Kept.{accepted}
+use Rattle.dict_meaning.specs.Fits.{AnswersFit}
+use Rattle.dict_meaning.proofs.FitStart.{start_fits}
 use Rattle.graph_session.specs.Rules.{rules}
 use Rattle.fact_graph_c.proofs.StartLaws.{starts_fresh}
 use Rattle.fact_graph_c.proofs.starting.start_over.Goals as goal

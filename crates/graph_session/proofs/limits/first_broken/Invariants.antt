@@ -1,5 +1,5 @@
 use Rattle.std.proofs.Common.{◌≡◌, ◌+◌, drop}
-use Rattle.dict_tree.specs.Dictionary.{number_from}
+use Rattle.dict_source.specs.Dictionary.{number_from}
 use Rattle.graph_session.specs.Kinds.{breaks}
 use Rattle.graph_session.proofs.limits.first_broken.Given as goal
 

@@ -1,6 +1,6 @@
 use Rattle.std.proofs.Common.{ap, sym, ◌∙◌, not}
 use Rattle.answers.specs.Meaning.{answered}
-use Rattle.dictionary.specs.Slots.{is_member}
+use Rattle.dict_meaning.specs.Slots.{is_member}
 use Rattle.graph_session.specs.Naming.{lacks_member, named_fact}
 use Rattle.graph_session.specs.Rules.{rules, tree_of}
 use Rattle.graph_session.proofs.NamingLaws.{found_number, member_home}

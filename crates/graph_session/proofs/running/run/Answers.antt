@@ -2,7 +2,7 @@ use Rattle.std.proofs.Common.{◌≡◌, ◌+◌, ◌∷◌, ◌++◌, List, dro
 use Rattle.std.proofs.lemmas.List.{drop_more}
 use Rattle.std.specs.Prelude.{Result, Ok, IfErr, IfOk}
 use Rattle.script_lines.specs.declared.command.Command.{Command}
-use Rattle.dictionary.specs.Accepted.{Kept}
+use Rattle.dictionary.specs.Kept.{Kept}
 use Rattle.graph_session.specs.Refusals.{Refused}
 use Rattle.graph_session.specs.Rules.{rules}
 use Rattle.graph_session.specs.Run.{IsAfterSome, replies}

@@ -1,4 +1,4 @@
-use Rattle.dict_tree.specs.Dictionary.{dictionary_view}
+use Rattle.dict_source.specs.Dictionary.{dictionary_view}
 use Rattle.node_compile.proofs.FactLaws.{next_fact}
 use Rattle.node_compile.proofs.compiled.compile_facts.Goals as goal
 

@@ -1,7 +1,7 @@
 -- The nodes so far, and those of the facts that are left, are all.
 use Rattle.std.proofs.Common.{◌≡◌, ◌+◌, ◌++◌, drop, map}
-use Rattle.dict_tree.specs.Dictionary.{dictionary_view}
-use Rattle.dict_tree.specs.Facts.{fact_view}
+use Rattle.dict_source.specs.Dictionary.{dictionary_view}
+use Rattle.dict_source.specs.Facts.{fact_view}
 use Rattle.node_compile.specs.Compiling.{facts_trees}
 use Rattle.node_compile.specs.FactTrees.{trees_of}
 use Rattle.node_compile.proofs.compiled.compile_facts.Given as goal

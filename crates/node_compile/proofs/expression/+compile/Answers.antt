@@ -1,6 +1,6 @@
 use Rattle.std.proofs.Common.{map, sym, ap, ◌∙◌}
 use Rattle.std.proofs.lemmas.List.{take_all}
-use Rattle.dict_tree.specs.Dictionary.{dictionary_view}
+use Rattle.dict_source.specs.Dictionary.{dictionary_view}
 use Rattle.node_eval.specs.View.{case_view as node_case_view, cases_of, trees_of, view as node_view}
 use Rattle.node_compile.proofs.OperandLaws.{all_resolved, cases_resolved, next_compiled, node_case_of, node_of}
 use Rattle.node_compile.proofs.expression.+compile.Goals as goal

@@ -1,6 +1,6 @@
 -- What is compiled so far are the nodes of what is passed.
 use Rattle.std.proofs.Common.{◌≡◌, map, take}
-use Rattle.dict_tree.specs.Dictionary.{dictionary_view}
+use Rattle.dict_source.specs.Dictionary.{dictionary_view}
 use Rattle.node_eval.specs.View.{case_view as node_case_view, view as node_view}
 use Rattle.node_compile.proofs.OperandLaws.{node_case_of, node_of}
 use Rattle.node_compile.proofs.expression.+compile.Given as goal

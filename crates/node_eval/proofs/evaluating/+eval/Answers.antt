@@ -1,6 +1,6 @@
 use Rattle.std.proofs.Common.{◌≡◌, ◌+◌, ◌++◌, [], List, ℕ, sum_by, map, drop, refl, sym, ap, ◌∙◌, arith, inl, inr}
 use Rattle.std.proofs.lemmas.List.{append-nil, drop_all, length-map}
-use Rattle.dict_tree.specs.Tree.{pick}
+use Rattle.dict_source.specs.Tree.{pick}
 use Rattle.evaluation.specs.Over.{over, over_all, over_cases, weight}
 use Rattle.evaluation.specs.SlotsRead.{up_to_decider}
 use Rattle.operations.specs.CaseSteps.{after_case, find_after, find_from, switch_from}

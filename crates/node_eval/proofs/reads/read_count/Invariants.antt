@@ -1,7 +1,7 @@
 use Rattle.std.proofs.Common.{◌≡◌, map, drop}
 use Rattle.three_state.specs.Results.{count_of}
 use Rattle.operations.specs.FieldFolds.{count_from}
-use Rattle.node_eval.specs.Results.{result_at}
+use Rattle.evaluation.specs.Results.{result_at}
 use Rattle.node_eval.specs.Dependencies.{collection, field}
 use Rattle.node_eval.proofs.reads.read_count.Given as goal
 

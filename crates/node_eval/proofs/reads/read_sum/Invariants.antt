@@ -1,7 +1,7 @@
 use Rattle.std.proofs.Common.{◌≡◌, map, drop}
 use Rattle.evaluation.specs.Reads.{sum_over}
 use Rattle.operations.specs.FieldFolds.{sum_from}
-use Rattle.node_eval.specs.Results.{result_at}
+use Rattle.evaluation.specs.Results.{result_at}
 use Rattle.node_eval.specs.Dependencies.{collection, field}
 use Rattle.node_eval.proofs.reads.read_sum.Given as goal
 

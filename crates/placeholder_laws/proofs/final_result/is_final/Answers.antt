@@ -1,5 +1,6 @@
 use Rattle.std.proofs.Common.{IsTrue, subst}
-use Rattle.dictionary.specs.Accepted.{IsAccepted, Kept, accepted, names_of}
+use Rattle.dict_meaning.specs.Accepted.{IsAccepted}
+use Rattle.dictionary.specs.Kept.{Kept, accepted, names_of}
 use Rattle.placeholder_laws.proofs.StayLaws.{final_result_stays}
 use Rattle.placeholder_laws.proofs.final_result.is_final.Goals as goal
 

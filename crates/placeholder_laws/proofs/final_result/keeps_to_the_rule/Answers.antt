@@ -1,6 +1,6 @@
 use Rattle.std.proofs.Common.{sym, subst}
-use Rattle.dict_tree.specs.Finding.{IsNumber}
-use Rattle.dictionary.specs.Accepted.{Kept, accepted}
+use Rattle.dict_source.specs.Finding.{IsNumber}
+use Rattle.dictionary.specs.Kept.{Kept, accepted}
 use Rattle.placeholder_laws.proofs.StayLaws.{standing_number}
 use Rattle.placeholder_laws.proofs.final_result.keeps_to_the_rule.Goals as goal
 

@@ -1,10 +1,10 @@
 use Rattle.std.proofs.Common.{◌≡◌, ◌+◌, ◌≤◌, drop, sum_by}
 use Rattle.fact_values.specs.declared.slot.Slot.{Slot}
 use Rattle.answers.specs.Meaning.{answered}
-use Rattle.dictionary.specs.Accepted.{accepted}
-use Rattle.dictionary.specs.Plain.{IsPlainBelow, rank}
-use Rattle.dictionary.specs.Dependencies.{slot}
-use Rattle.dictionary.specs.Weights.{slot_weight}
+use Rattle.dictionary.specs.Kept.{accepted}
+use Rattle.dict_meaning.specs.Plain.{IsPlainBelow, rank}
+use Rattle.evaluation.specs.Results.{slot}
+use Rattle.dict_meaning.specs.Weights.{slot_weight}
 use Rattle.visit_counts.specs.SlotVisits.{slot_visits}
 use Rattle.plain_table.specs.Filling.{filled, is_at}
 use Rattle.plain_table.specs.Table.{results_of}

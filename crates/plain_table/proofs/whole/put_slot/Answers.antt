@@ -1,15 +1,15 @@
 use Rattle.std.proofs.Common.{◌≡◌, ℕ, ◌+◌, ◌≤◌, Some, sym, ap, subst, ◌∙◌}
 use Rattle.std.proofs.lemmas.Result.{on_ok_weaker}
-use Rattle.dict_tree.specs.Dictionary.{Written, dictionary_view}
-use Rattle.dict_tree.specs.Facts.{fact_view}
-use Rattle.dict_tree.specs.Finding.{fact_at}
+use Rattle.dict_source.specs.Dictionary.{Written, dictionary_view}
+use Rattle.dict_source.specs.Facts.{fact_view}
+use Rattle.dict_source.specs.Finding.{fact_at}
 use Rattle.three_state.specs.declared.res.Res.{Res}
 use Rattle.answers.specs.Meaning.{answered}
-use Rattle.dictionary.specs.Accepted.{accepted, names_of}
-use Rattle.dictionary.specs.Plain.{slot_result}
+use Rattle.dictionary.specs.Kept.{accepted, names_of}
+use Rattle.dict_meaning.specs.Plain.{slot_result}
 use Rattle.visit_counts.specs.SlotVisits.{slot_visits, visits_over}
 use Rattle.visit_counts.proofs.SlotVisitLaws.{visits_over_lower}
-use Rattle.plain_table.specs.Context.{Context}
+use Rattle.source_eval.specs.Context.{Context}
 use Rattle.plain_table.specs.Table.{results_of}
 use Rattle.plain_table.proofs.FillingLaws.{put_is_filled, result_is_plain}
 use Rattle.plain_table.proofs.WorkLaws.{slot_weighs}

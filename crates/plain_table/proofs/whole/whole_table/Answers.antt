@@ -1,13 +1,13 @@
 use Rattle.std.proofs.Common.{◌+◌, ap, arith, sum_by}
 use Rattle.answers.specs.Meaning.{answered}
-use Rattle.dictionary.specs.Accepted.{accepted, names_of}
-use Rattle.dictionary.specs.Slots.{slots_of}
-use Rattle.dictionary.specs.Weights.{slot_weight}
+use Rattle.dictionary.specs.Kept.{accepted, names_of}
+use Rattle.dict_meaning.specs.Slots.{slots_of}
+use Rattle.dict_meaning.specs.Weights.{slot_weight}
 use Rattle.dictionary.proofs.ByRankLaws.{fact_at_place}
 use Rattle.dictionary.proofs.KeptLaws.{count_ranks}
 use Rattle.visit_counts.specs.SlotVisits.{slot_visits}
 use Rattle.plain_table.specs.Table.{results_of}
-use Rattle.plain_table.proofs.EvalLaws.{members_weigh}
+use Rattle.source_eval.proofs.EvalLaws.{members_weigh}
 use Rattle.plain_table.proofs.WholeLaws.{all_done, below_next, facts_next}
 use Rattle.plain_table.proofs.WorkLaws.{whole_work}
 use Rattle.plain_table.proofs.whole.whole_table.Goals as goal

@@ -1,8 +1,8 @@
 use Rattle.std.proofs.Common.{◌≡◌, ◌+◌, ◌≤◌, drop, take, sum_by}
 use Rattle.answers.specs.Meaning.{answered}
-use Rattle.dictionary.specs.Accepted.{accepted}
-use Rattle.dictionary.specs.Slots.{slots_of}
-use Rattle.dictionary.specs.Weights.{slot_weight, whole_weight}
+use Rattle.dictionary.specs.Kept.{accepted}
+use Rattle.dict_meaning.specs.Slots.{slots_of}
+use Rattle.dict_meaning.specs.Weights.{slot_weight, whole_weight}
 use Rattle.visit_counts.specs.SlotVisits.{slot_visits, whole_visits}
 use Rattle.plain_table.specs.Filling.{HasFacts}
 use Rattle.plain_table.specs.Table.{results_of}

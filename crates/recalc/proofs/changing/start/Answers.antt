@@ -1,7 +1,7 @@
 use Rattle.std.proofs.Common.{ℕ, ◌≡◌, ◌+◌, subst}
 use Rattle.std.specs.Prelude.{OnOk}
 use Rattle.answers.specs.Meaning.{answered}
-use Rattle.dictionary.specs.Accepted.{accepted, names_of}
+use Rattle.dictionary.specs.Kept.{accepted, names_of}
 use Rattle.recalc.proofs.EngineLaws.{start_propagation, start_running, start_visits}
 use Rattle.recalc.proofs.changing.start.Goals as goal
 

@@ -1,7 +1,7 @@
 use Rattle.std.proofs.Common.{◌≡◌, ◌∙◌, List, false, ap, arith, subst, sym}
 use Rattle.dep_index.specs.Readers.{row}
 use Rattle.dep_index.specs.declared.row.ReaderOf.{ReaderOf}
-use Rattle.dictionary.specs.Weights.{slot_weight}
+use Rattle.dict_meaning.specs.Weights.{slot_weight}
 use Rattle.visit_counts.specs.SlotVisits.{slot_visits}
 use Rattle.recalc.specs.Propagations.{setting_of, spread_of}
 use Rattle.recalc.specs.Running.{IsPopped, IsRunning, slot_of}

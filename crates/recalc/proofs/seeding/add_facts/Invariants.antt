@@ -1,6 +1,6 @@
 use Rattle.std.proofs.Common.{◌≡◌, ◌||◌, drop}
 use Rattle.answers.specs.Meaning.{answered}
-use Rattle.dictionary.specs.Accepted.{accepted}
+use Rattle.dictionary.specs.Kept.{accepted}
 use Rattle.recalc.specs.Seeding.{is_anywhere}
 use Rattle.dirty_slots.specs.Waiting.{waits}
 use Rattle.dirty_slots.specs.declared.dirty_slot.DirtySlot.{DirtySlot}

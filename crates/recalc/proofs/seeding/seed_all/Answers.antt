@@ -1,6 +1,6 @@
 use Rattle.std.proofs.Common.{◌||◌, ap, ◌∙◌}
 use Rattle.answers.specs.Meaning.{answered}
-use Rattle.dictionary.specs.Accepted.{accepted, names_of}
+use Rattle.dictionary.specs.Kept.{accepted, names_of}
 use Rattle.recalc.specs.Seeding.{is_anywhere}
 use Rattle.recalc.proofs.Outcomes.{ok_then}
 use Rattle.recalc.proofs.SeedingLaws.{all_wait, order_numbers}

@@ -1,7 +1,7 @@
 use Rattle.std.proofs.Common.{◌&&◌, ◌||◌, All, List, ap, subst, sym, ◌∙◌}
 use Rattle.answers.specs.Meaning.{answered}
-use Rattle.dict_tree.specs.Finding.{IsNumber}
-use Rattle.dictionary.specs.Accepted.{accepted}
+use Rattle.dict_source.specs.Finding.{IsNumber}
+use Rattle.dictionary.specs.Kept.{accepted}
 use Rattle.dep_index.specs.Readers.{row}
 use Rattle.dep_index.specs.declared.row.ReaderOf.{ReaderOf}
 use Rattle.dep_index.proofs.ReaderNumbers.{readers_are_facts}

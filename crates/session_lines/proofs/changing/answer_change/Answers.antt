@@ -1,6 +1,6 @@
 use Rattle.std.proofs.Common.{◌≡◌, List, sym, ap, subst, ◌∙◌}
-use Rattle.dictionary.specs.Accepted.{accepted}
-use Rattle.dictionary.specs.Plain.{plain}
+use Rattle.dictionary.specs.Kept.{accepted}
+use Rattle.dict_meaning.specs.Plain.{plain}
 use Rattle.fact_watch.specs.Tables.{named_relations}
 use Rattle.fact_watch.specs.Watching.{Pair, Watching, noted}
 use Rattle.graph_session.specs.Rules.{rules}

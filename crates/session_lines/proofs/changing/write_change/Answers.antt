@@ -2,8 +2,8 @@ use Rattle.std.proofs.Common.{}
 use Rattle.script_lines.specs.Joined.{joined}
 use Rattle.graph_session.specs.Rules.{rules}
 use Rattle.graph_session.specs.SessionView.{session_state}
-use Rattle.dictionary.specs.Accepted.{accepted}
-use Rattle.dictionary.specs.Plain.{plain}
+use Rattle.dictionary.specs.Kept.{accepted}
+use Rattle.dict_meaning.specs.Plain.{plain}
 use Rattle.fact_watch.specs.Tables.{named_relations}
 use Rattle.session_lines.specs.Firing.{firing_lines}
 use Rattle.session_lines.specs.Replies.{line_with, reply_text}

@@ -1,7 +1,7 @@
 use Rattle.std.proofs.Common.{◌+◌, drop, slice_get, subst, arith}
 use Rattle.script_lines.specs.Joined.{joined}
-use Rattle.dictionary.specs.Accepted.{accepted}
-use Rattle.dictionary.specs.Plain.{plain}
+use Rattle.dictionary.specs.Kept.{accepted}
+use Rattle.dict_meaning.specs.Plain.{plain}
 use Rattle.fg_io.specs.Sent.{Sent}
 use Rattle.fg_io.proofs.SentLaws.{sent_none, sent_piece}
 use Rattle.fg_io.proofs.WritingLaws.{failed_within}

@@ -1,8 +1,8 @@
 use Rattle.std.proofs.Common.{length, sym, ap, subst, arith}
 use Rattle.std.proofs.Common.{length-append}
-use Rattle.dictionary.specs.Accepted.{Kept, accepted, names_of}
-use Rattle.dictionary.specs.SlotText.{IsSlot, slot_text}
-use Rattle.dictionary.proofs.SlotTextLaws.{slot_short, standing_slot}
+use Rattle.dictionary.specs.Kept.{Kept, accepted, names_of}
+use Rattle.dict_meaning.specs.SlotText.{IsSlot, slot_text}
+use Rattle.dict_meaning.proofs.SlotTextLaws.{slot_short, standing_slot}
 use Rattle.session_lines.proofs.firing.put_line.Goals as goal
 
 pub print_slot-requires-clause-slot : goal.print_slot-requires-clause-slot

@@ -1,7 +1,7 @@
 use Rattle.std.proofs.Common.{ℕ, List, [], ◌∷◌, ◌++◌, map, ap, subst, ◌∙◌}
 use Rattle.script_lines.specs.Joined.{joined}
-use Rattle.dictionary.specs.Accepted.{accepted}
-use Rattle.dictionary.specs.SlotText.{slot_text}
+use Rattle.dictionary.specs.Kept.{accepted}
+use Rattle.dict_meaning.specs.SlotText.{slot_text}
 use Rattle.fg_io.specs.Writing.{Wrote, WrotePart}
 use Rattle.fg_io.proofs.WritingLaws.{failed_before, wrote_behind}
 use Rattle.session_lines.specs.Marks.{marked, marked_lines}

@@ -1,8 +1,8 @@
 use Rattle.std.proofs.Common.{ℕ, ◌+◌, List, map, drop, subst, arith}
 use Rattle.fact_values.specs.declared.slot.Slot.{Slot}
 use Rattle.script_lines.specs.Joined.{joined}
-use Rattle.dictionary.specs.Accepted.{accepted}
-use Rattle.dictionary.specs.SlotText.{slot_text}
+use Rattle.dictionary.specs.Kept.{accepted}
+use Rattle.dict_meaning.specs.SlotText.{slot_text}
 use Rattle.fg_io.specs.Sent.{Sent}
 use Rattle.fg_io.proofs.SentLaws.{sent_piece}
 use Rattle.fg_io.proofs.WritingLaws.{failed_within}

@@ -1,8 +1,8 @@
 use Rattle.std.proofs.Common.{◌≤◌, map, drop}
 use Rattle.fg_io.specs.Sent.{Sent}
 use Rattle.script_lines.specs.Joined.{joined}
-use Rattle.dictionary.specs.Accepted.{accepted}
-use Rattle.dictionary.specs.SlotText.{slot_text}
+use Rattle.dictionary.specs.Kept.{accepted}
+use Rattle.dict_meaning.specs.SlotText.{slot_text}
 use Rattle.session_lines.specs.Marks.{marked}
 use Rattle.session_lines.proofs.listing.put_slots.Given as goal
 

@@ -1,8 +1,8 @@
 use Rattle.std.proofs.Common.{List, sym, subst, ◌∙◌}
 use Rattle.std.specs.Prelude.{All, IsTrue}
 use Rattle.fact_values.specs.declared.slot.Slot.{Slot}
-use Rattle.dictionary.specs.Accepted.{accepted}
-use Rattle.dictionary.specs.Slots.{stands}
+use Rattle.dictionary.specs.Kept.{accepted}
+use Rattle.dict_meaning.specs.Slots.{stands}
 use Rattle.session_lines.proofs.ListingLaws.{missing_stand}
 use Rattle.session_lines.proofs.listing.write_missing.Goals as goal
 

@@ -2,9 +2,9 @@ use Rattle.std.proofs.Common.{List, map, sym, subst, ◌∙◌}
 use Rattle.std.specs.Prelude.{All, IsTrue}
 use Rattle.fact_values.specs.declared.slot.Slot.{Slot}
 use Rattle.script_lines.specs.Joined.{joined}
-use Rattle.dictionary.specs.Accepted.{accepted}
-use Rattle.dictionary.specs.SlotText.{slot_text}
-use Rattle.dictionary.specs.Slots.{stands}
+use Rattle.dictionary.specs.Kept.{accepted}
+use Rattle.dict_meaning.specs.SlotText.{slot_text}
+use Rattle.dict_meaning.specs.Slots.{stands}
 use Rattle.session_lines.specs.Answering.{OutputAs}
 use Rattle.session_lines.proofs.AnsweringLaws.{written_output}
 use Rattle.session_lines.proofs.ProgressLaws.{wrote_written}

@@ -1,5 +1,5 @@
-use Rattle.dictionary.specs.Accepted.{accepted}
-use Rattle.dictionary.specs.Weights.{touched_weight}
+use Rattle.dictionary.specs.Kept.{accepted}
+use Rattle.dict_meaning.specs.Weights.{touched_weight}
 use Rattle.graph_session.specs.Rules.{rules}
 use Rattle.graph_session.specs.SessionView.{session_state}
 use Rattle.session_steps.proofs.SessionLaws.{changes_take_touched, questions_take_none, refused_take_none}

@@ -1,6 +1,6 @@
 use Rattle.std.proofs.Common.{[], ◌∷◌, refl}
 use Rattle.answers.specs.Meaning.{answered}
-use Rattle.dict_tree.specs.Dictionary.{dictionary_view}
+use Rattle.dict_source.specs.Dictionary.{dictionary_view}
 use Rattle.session_tests.proofs.GivenFits.{made_fits}
 use Rattle.session_tests.proofs.given.given_of.Goals as goal
 

@@ -1,5 +1,5 @@
 use Rattle.std.proofs.Common.{[], subst, sym}
-use Rattle.dict_tree.specs.Dictionary.{Dictionary as Tree}
+use Rattle.dict_source.specs.Dictionary.{Dictionary as Tree}
 use Rattle.dictionary.specs.Faults.{HasNoFault}
 use Rattle.tax_2023.specs.Years.{tables_of}
 use Rattle.tax_2023.proofs.NoFault.{is_of_year, year_has_none}

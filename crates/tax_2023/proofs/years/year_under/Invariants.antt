@@ -1,6 +1,6 @@
 -- The years that are left have the word.
 use Rattle.std.proofs.Common.{◌≡◌, drop, map}
-use Rattle.dict_tree.specs.Names.{under_name}
+use Rattle.fact_json.specs.Names.{under_name}
 use Rattle.tax_2023.proofs.years.year_under.Given as goal
 
 abbrev pub invariant-loop-name : goal.invariant-loop-name

@@ -1,5 +1,5 @@
 use Rattle.std.proofs.Common.{[], subst, sym}
-use Rattle.dict_tree.specs.Dictionary.{Dictionary as Tree}
+use Rattle.dict_source.specs.Dictionary.{Dictionary as Tree}
 use Rattle.dictionary.specs.Faults.{HasNoFault}
 use Rattle.tax_income.specs.Years.{income_of}
 use Rattle.tax_income.proofs.IncomeDictionary.{income_has_none, is_of_income}

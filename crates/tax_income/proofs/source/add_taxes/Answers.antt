@@ -1,5 +1,5 @@
 use Rattle.std.proofs.Common.{refl}
-use Rattle.dict_tree.specs.Dictionary.{dictionary_view}
+use Rattle.dict_source.specs.Dictionary.{dictionary_view}
 use Rattle.written_facts.specs.Figures.{figures_view}
 use Rattle.written_facts.specs.Rows.{rows_view}
 use Rattle.tax_2023.proofs.SourceLaws.{grown, taken}

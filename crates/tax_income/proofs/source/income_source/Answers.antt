@@ -1,6 +1,6 @@
 use Rattle.std.proofs.Common.{◌≡◌, List, ap, subst, ◌∙◌}
 use Rattle.std.specs.Prelude.{IfOk}
-use Rattle.dict_tree.specs.Dictionary.{dictionary_view}
+use Rattle.dict_source.specs.Dictionary.{dictionary_view}
 use Rattle.written_facts.specs.Figures.{Named, figures_view}
 use Rattle.tax_2023.specs.Figures.{figures}
 use Rattle.tax_2023.specs.Years.{tables_of}

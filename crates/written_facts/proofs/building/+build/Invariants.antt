@@ -1,5 +1,5 @@
 use Rattle.std.proofs.Common.{◌≡◌, map, take}
-use Rattle.dict_tree.specs.View.{case_view, view}
+use Rattle.dict_source.specs.View.{case_view, view}
 use Rattle.written_facts.specs.Figures.{figures_view}
 use Rattle.written_facts.specs.Forms.{form_view, when_view}
 use Rattle.written_facts.proofs.building.+build.Given as goal

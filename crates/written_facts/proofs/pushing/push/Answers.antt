@@ -1,5 +1,5 @@
-use Rattle.dict_tree.specs.Dictionary.{dictionary_view}
-use Rattle.dict_tree.specs.Facts.{fact_view}
+use Rattle.dict_source.specs.Dictionary.{dictionary_view}
+use Rattle.dict_source.specs.Facts.{fact_view}
 use Rattle.written_facts.proofs.Taken.{taken_form, taken_limits}
 use Rattle.written_facts.proofs.pushing.push.Goals as goal
 

@@ -1,7 +1,7 @@
 use Rattle.std.proofs.Common.{◌≡◌, ◌+◌, IsTrue, drop, sym, ap, ◌∙◌, subst, add-one}
-use Rattle.dict_tree.specs.Dictionary.{Dictionary, dictionary_view, with_fact}
-use Rattle.dict_tree.specs.Facts.{Fact}
-use Rattle.dict_tree.proofs.FindingLaws.{drop-view}
+use Rattle.dict_source.specs.Dictionary.{Dictionary, dictionary_view, with_fact}
+use Rattle.dict_source.specs.Facts.{Fact}
+use Rattle.dict_source.proofs.FindingLaws.{drop-view}
 use Rattle.written_facts.specs.Figures.{figures_view}
 use Rattle.written_facts.specs.Rows.{row_view, rows_view}
 use Rattle.written_facts.specs.Taking.{takes, takes_all, with_facts}

@@ -1,6 +1,6 @@
 -- The source takes the rows that are left, and with them has all.
 use Rattle.std.proofs.Common.{◌≡◌, IsTrue, drop}
-use Rattle.dict_tree.specs.Dictionary.{dictionary_view}
+use Rattle.dict_source.specs.Dictionary.{dictionary_view}
 use Rattle.written_facts.specs.Figures.{figures_view}
 use Rattle.written_facts.specs.Rows.{rows_view}
 use Rattle.written_facts.specs.Taking.{takes_all, with_facts}

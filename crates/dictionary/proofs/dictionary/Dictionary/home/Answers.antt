@@ -1,5 +1,5 @@
 use Rattle.std.proofs.Common.{◌-◌, arith}
-use Rattle.dict_tree.specs.Dictionary.{dictionary_view}
+use Rattle.dict_source.specs.Dictionary.{dictionary_view}
 use Rattle.dictionary.proofs.KeptLaws.{home_of_fact}
 use Rattle.dictionary.proofs.dictionary.Dictionary.home.Goals as goal
 

@@ -1,5 +1,5 @@
 use Rattle.std.proofs.Common.{ℕ, List, subst}
-use Rattle.dict_tree.specs.Dictionary.{dictionary_view}
+use Rattle.dict_source.specs.Dictionary.{dictionary_view}
 use Rattle.dictionary.specs.Keeping.{IsPrecomputed}
 use Rattle.dictionary.proofs.KeptLaws.{kept_with}
 use Rattle.dictionary.proofs.dictionary.Dictionary.keep.Goals as goal

@@ -1,10 +1,10 @@
 use Rattle.std.proofs.Common.{◌≡◌, ◌-◌, subst, arith}
 use Rattle.std.specs.Prelude.{◌↔◌, IsTrue}
-use Rattle.dict_tree.specs.Dictionary.{dictionary_view}
-use Rattle.dictionary.specs.Accepted.{Kept, accepted}
-use Rattle.dictionary.specs.Steady.{IsSteady, steady_by_rank}
+use Rattle.dict_source.specs.Dictionary.{dictionary_view}
+use Rattle.dictionary.specs.Kept.{Kept, accepted}
+use Rattle.dict_meaning.specs.Steady.{IsSteady, steady_by_rank}
 use Rattle.dictionary.proofs.KeptLaws.{steady_of_fact, tells_by}
-use Rattle.dictionary.proofs.SteadyLaws.{tells}
+use Rattle.dict_meaning.proofs.SteadyLaws.{tells}
 use Rattle.dictionary.proofs.dictionary.Dictionary.steady.Goals as goal
 
 value : (c : goal.After-index) → c.index.result.now ≡ steady_by_rank (dictionary_view c.self.inside.source) c.self.inside.ranks.items c.args.fact

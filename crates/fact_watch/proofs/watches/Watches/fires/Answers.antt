@@ -1,5 +1,5 @@
-use Rattle.dictionary.specs.Accepted.{accepted}
-use Rattle.dictionary.specs.Plain.{plain}
+use Rattle.dictionary.specs.Kept.{accepted}
+use Rattle.dict_meaning.specs.Plain.{plain}
 use Rattle.fact_watch.specs.Watching.{code_at}
 use Rattle.fact_watch.proofs.FiringLaws.{fires_since}
 use Rattle.fact_watch.proofs.watches.Watches.fires.Goals as goal

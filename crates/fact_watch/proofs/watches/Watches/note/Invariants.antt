@@ -1,6 +1,6 @@
 use Rattle.std.proofs.Common.{◌≡◌, map, take}
-use Rattle.dictionary.specs.Accepted.{accepted}
-use Rattle.dictionary.specs.Plain.{plain}
+use Rattle.dictionary.specs.Kept.{accepted}
+use Rattle.dict_meaning.specs.Plain.{plain}
 use Rattle.fact_watch.specs.Watching.{Pair}
 use Rattle.fact_watch.proofs.watches.Watches.note.Given as goal
 

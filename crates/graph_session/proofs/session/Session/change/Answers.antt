@@ -6,10 +6,10 @@ use Rattle.session_undo.specs.History.{behind, place}
 use Rattle.session_undo.specs.UndoState.{changed}
 use Rattle.session_undo.specs.Timeline.{timeline}
 use Rattle.session_undo.proofs.TimelineLaws.{timeline_changed}
-use Rattle.dictionary.specs.Accepted.{accepted, names_of}
-use Rattle.dictionary.specs.Allowed.{IsAllowed}
+use Rattle.dictionary.specs.Kept.{accepted, names_of}
+use Rattle.dict_meaning.specs.Allowed.{IsAllowed}
 use Rattle.dictionary.specs.Engines.{AreMarkedBy}
-use Rattle.dictionary.proofs.FitChangeLaws.{allowed_changes_fit}
+use Rattle.dict_meaning.proofs.FitChangeLaws.{allowed_changes_fit}
 use Rattle.graph_session.specs.Keeping.{IsSound}
 use Rattle.graph_session.specs.SessionView.{moved_to}
 use Rattle.graph_session.proofs.SessionViewLaws.{place_changed, shown, shown_moved}

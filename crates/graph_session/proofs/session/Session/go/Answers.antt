@@ -5,9 +5,9 @@ use Rattle.answers.specs.Meaning.{change}
 use Rattle.session_undo.specs.Directions.{reversed}
 use Rattle.session_undo.specs.History.{place}
 use Rattle.session_undo.specs.Timeline.{Timeline, timeline}
-use Rattle.dictionary.specs.Accepted.{accepted}
+use Rattle.dictionary.specs.Kept.{accepted}
 use Rattle.dictionary.specs.Engines.{AreMarkedBy}
-use Rattle.dictionary.specs.Fits.{AnswersFit}
+use Rattle.dict_meaning.specs.Fits.{AnswersFit}
 use Rattle.graph_session.specs.Moves.{step_command, timeline_stepped}
 use Rattle.graph_session.specs.Rules.{rules}
 use Rattle.graph_session.specs.SessionView.{SessionView, session_state, moved_to}

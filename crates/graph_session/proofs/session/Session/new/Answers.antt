@@ -1,4 +1,4 @@
-use Rattle.dictionary.proofs.FitStart.{start_fits}
+use Rattle.dict_meaning.proofs.FitStart.{start_fits}
 use Rattle.graph_session.proofs.session.Session.new.Goals as goal
 
 pub resume-requires : goal.resume-requires

@@ -1,6 +1,6 @@
 use Rattle.std.proofs.Common.{refl}
 use Rattle.answers.specs.Meaning.{answered}
-use Rattle.dictionary.specs.Accepted.{accepted}
+use Rattle.dictionary.specs.Kept.{accepted}
 use Rattle.graph_session.proofs.CountLaws.{fresh_offered}
 use Rattle.graph_session.proofs.session.Session.resume.Goals as goal
 

@@ -1,6 +1,6 @@
 use Rattle.std.proofs.Common.{refl}
 use Rattle.answers.specs.Meaning.{answered}
-use Rattle.dictionary.specs.Accepted.{accepted}
+use Rattle.dictionary.specs.Kept.{accepted}
 use Rattle.recalc.proofs.EngineLaws.{start_stamps}
 use Rattle.recalc.proofs.recalc.RecalcFactEngine.begin.Goals as goal
 

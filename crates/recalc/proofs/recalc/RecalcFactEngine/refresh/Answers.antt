@@ -1,7 +1,7 @@
 use Rattle.std.proofs.Common.{◌+◌, refl, ◌∙◌}
 use Rattle.answers.specs.Meaning.{answered, change}
-use Rattle.dictionary.specs.Accepted.{accepted, names_of}
-use Rattle.dictionary.specs.Undone.{IsUndone}
+use Rattle.dictionary.specs.Kept.{accepted, names_of}
+use Rattle.dict_meaning.specs.Undone.{IsUndone}
 use Rattle.recalc.proofs.EngineLaws.{changed_count, changed_results, changed_stamps}
 use Rattle.recalc.proofs.recalc.RecalcFactEngine.refresh.Goals as goal
 

@@ -1,4 +1,4 @@
-use Rattle.dictionary.proofs.FitStart.{start_fits}
+use Rattle.dict_meaning.proofs.FitStart.{start_fits}
 use Rattle.shared_desk.proofs.desk.Desk.new.Goals as goal
 
 pub resume-requires-clause-fit : goal.resume-requires-clause-fit

@@ -1,0 +1,16 @@
+pub mod Accepted
+pub mod Allowed
+pub mod Dependencies
+pub mod Extension
+pub mod Feeds
+pub mod Final
+pub mod Fits
+pub mod Homes
+pub mod Plain
+pub mod SlotText
+pub mod Slots
+pub mod Steady
+pub mod Touched
+pub mod TypedResults
+pub mod Undone
+pub mod Weights

@@ -1,0 +1,7 @@
+// A law of what a change touches, as the function's contract.
+ghost use Rattle.dict_meaning.specs.Touched.{UntouchedKeeps};
+
+/// A slot that stands and that a change doesn't touch keeps its result.
+pub fn untouched_slots_keep_their_results()
+    ensures { UntouchedKeeps }
+{}

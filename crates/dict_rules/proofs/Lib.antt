@@ -1,0 +1,4 @@
+pub mod FirstLaws
+pub mod PlaceLaws
+pub mod RuleLaws
+pub mod UseLaws

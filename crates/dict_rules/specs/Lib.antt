@@ -1,0 +1,11 @@
+pub mod BadPath
+pub mod DuplicatePath
+pub mod FirstFact
+pub mod NoCollection
+pub mod RuleWords
+pub mod Rules
+pub mod UnknownCheck
+pub mod UnknownPath
+pub mod UseRules
+pub mod Uses
+pub mod WrongPlace

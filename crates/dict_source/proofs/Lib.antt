@@ -1,0 +1,12 @@
+pub mod FindingLaws
+pub mod Guards
+pub mod MentionLaws
+pub mod NamedTables
+pub mod PathIndexLaws
+pub mod SourceExamples
+pub mod SourceLaws
+pub mod TargetsLaws
+pub mod TreeExamples
+pub mod TypeLaws
+pub mod UseLaws
+pub mod Views

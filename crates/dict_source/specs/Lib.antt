@@ -1,0 +1,16 @@
+pub mod Dictionary
+pub mod Facts
+pub mod Finding
+pub mod Forms
+pub mod Mentions
+pub mod OperandTypes
+pub mod Parts
+pub mod PathIndex
+pub mod PathLaws
+pub mod Sources
+pub mod TableView
+pub mod Tables
+pub mod Targets
+pub mod Tree
+pub mod Typing
+pub mod View

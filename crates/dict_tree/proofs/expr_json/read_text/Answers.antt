@@ -1,6 +1,0 @@
-use Rattle.std.proofs.Common.{arith}
-use Rattle.dict_tree.proofs.OperandLaws.{one_text_else}
-use Rattle.dict_tree.proofs.expr_json.read_text.Goals as goal
-
-pub returns-then-items-ne2 : goal.returns-then-items-ne2
-returns-then-items-ne2 c = one_text_else c.args.items.now c.requires (omega arith)

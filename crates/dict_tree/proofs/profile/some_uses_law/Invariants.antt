@@ -1,8 +1,0 @@
-use Rattle.std.proofs.Common.{◌≡◌, drop, map}
-use Rattle.std.specs.List.{list_any}
-use Rattle.dict_tree.specs.Facts.{fact_view}
-use Rattle.dict_tree.specs.Profile.{fact_uses_law}
-use Rattle.dict_tree.proofs.profile.some_uses_law.Given as goal
-
-abbrev pub invariant-loop-fact : goal.invariant-loop-fact
-invariant-loop-fact l = list_any fact_uses_law (map fact_view (drop l.fact-index l.facts)) ≡ list_any fact_uses_law (map fact_view l.facts)

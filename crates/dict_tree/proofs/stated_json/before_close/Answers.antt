@@ -1,5 +1,0 @@
-use Rattle.dict_tree.proofs.StatedParsingLaws.{before_close_from_strip}
-use Rattle.dict_tree.proofs.stated_json.before_close.Goals as goal
-
-pub returns : goal.returns
-returns c = before_close_from_strip c.args.text.now c.strip_suffix.result c.strip_suffix.ensures.cases

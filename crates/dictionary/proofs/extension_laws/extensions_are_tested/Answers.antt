@@ -1,5 +1,0 @@
-use Rattle.dictionary.proofs.ExtensionLaws.{test_tells_extends}
-use Rattle.dictionary.proofs.extension_laws.extensions_are_tested.Goals as goal
-
-pub returns : goal.returns
-returns c = test_tells_extends

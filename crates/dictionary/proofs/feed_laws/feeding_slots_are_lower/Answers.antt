@@ -1,5 +1,0 @@
-use Rattle.dictionary.proofs.FeedLaws.{feeds_fall}
-use Rattle.dictionary.proofs.feed_laws.feeding_slots_are_lower.Goals as goal
-
-pub returns : goal.returns
-returns c = feeds_fall

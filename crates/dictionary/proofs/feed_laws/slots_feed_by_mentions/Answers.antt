@@ -1,5 +1,0 @@
-use Rattle.dictionary.proofs.FeedLaws.{feeds_by_mentions}
-use Rattle.dictionary.proofs.feed_laws.slots_feed_by_mentions.Goals as goal
-
-pub returns : goal.returns
-returns c = feeds_by_mentions

@@ -1,5 +1,0 @@
-use Rattle.dictionary.proofs.PlainLaws.{joined_by_rank}
-use Rattle.dictionary.proofs.plain_laws.known_values_are_joined_by_rank.Goals as goal
-
-pub returns : goal.returns
-returns c = joined_by_rank

@@ -1,5 +1,0 @@
-use Rattle.dictionary.proofs.PlainLaws.{standing_have_results}
-use Rattle.dictionary.proofs.plain_laws.standing_slots_have_results.Goals as goal
-
-pub returns : goal.returns
-returns c = standing_have_results

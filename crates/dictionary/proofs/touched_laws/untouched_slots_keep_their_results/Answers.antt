@@ -1,5 +1,0 @@
-use Rattle.dictionary.proofs.UntouchedLaws.{untouched_keeps}
-use Rattle.dictionary.proofs.touched_laws.untouched_slots_keep_their_results.Goals as goal
-
-pub returns : goal.returns
-returns c = untouched_keeps

@@ -1,5 +1,0 @@
-use Rattle.dictionary.proofs.UndoneLaws.{first_tells}
-use Rattle.dictionary.proofs.undone_laws.undoing_tells_what_is_touched_first.Goals as goal
-
-pub returns : goal.returns
-returns c = first_tells

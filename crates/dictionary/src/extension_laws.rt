@@ -1,7 +1,0 @@
-// When answers extend others. Each function's contract is the theorem.
-ghost use Rattle.dictionary.specs.Extension.{TestTellsExtends};
-
-/// Of answers that fit an accepted dictionary, the test over the slots that stand tells whether some extend others.
-pub fn extensions_are_tested()
-    ensures { TestTellsExtends }
-{}

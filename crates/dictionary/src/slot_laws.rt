@@ -1,7 +1,0 @@
-// A law of the slots that stand, as the function's contract.
-ghost use Rattle.dictionary.specs.Slots.{ListedStand};
-
-/// The list of slots has exactly those that stand.
-pub fn listed_slots_stand()
-    ensures { ListedStand }
-{}

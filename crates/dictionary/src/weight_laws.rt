@@ -1,7 +1,0 @@
-// A law of weights, as the function's contract.
-ghost use Rattle.dictionary.specs.Weights.{PickWeighs};
-
-/// A Filter or a Find weighs 1, and what its condition weighs as often as its collection has members.
-pub fn filters_weigh_by_their_members()
-    ensures { PickWeighs }
-{}

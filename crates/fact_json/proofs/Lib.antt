@@ -1,0 +1,9 @@
+pub mod ExprLaws
+pub mod FactJsonLaws
+pub mod FactLaws
+pub mod MemberLaws
+pub mod NameLaws
+pub mod OperandLaws
+pub mod ParsingLaws
+pub mod StatedLaws
+pub mod StatedParsingLaws

@@ -1,0 +1,9 @@
+pub mod FactJson
+pub mod FactLaws
+pub mod FactParsing
+pub mod Json
+pub mod Names
+pub mod Parsing
+pub mod Profile
+pub mod StatedParsing
+pub mod Versions

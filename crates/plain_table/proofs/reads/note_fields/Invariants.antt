@@ -1,7 +1,0 @@
-use Rattle.std.proofs.Common.{◌≡◌, ◌++◌, IsTrue, flat_map, drop}
-use Rattle.three_state.specs.Results.{members_of}
-use Rattle.plain_table.specs.NodeReads.{target_slot}
-use Rattle.plain_table.proofs.reads.note_fields.Given as goal
-
-abbrev pub invariant-loop-member : goal.invariant-loop-member
-invariant-loop-member g l = IsTrue g.N.Notes.keeps → g.N.Notes.noted l.notes ++ flat_map (target_slot l.field) (drop l.member-index l.member-items) ≡ g.N.Notes.noted l.fn.notes ++ flat_map (target_slot l.field) (members_of l.source)
