@@ -25,7 +25,7 @@ PROGRAM = r"""//! Evaluates nodes over cells, so many times over.
 
 ghost use Rattle.std.specs.Prelude.{◌≡◌, ◌<◌};
 
-use dict_tree::ManyOp;
+use dict_source::ManyOp;
 use fact_values::{NoMemory, Slot, Value, Whole};
 use node_eval::{Cells, Node, NodeRead, Reader, eval};
 use std::alloc::Global;
@@ -173,7 +173,7 @@ fn main(rt: HostRuntime) -> ExitCode {
 def main(argv: list[str]) -> int:
     """Builds the program and times it."""
     words_of(__doc__).parse_args(argv)
-    with built("evaluated_nodes", "fact_values steps dict_tree three_state node_eval", PROGRAM, PROOFS) as it:
+    with built("evaluated_nodes", "fact_values steps dict_source three_state node_eval", PROGRAM, PROOFS) as it:
         for things in ("constants", "fields"):
             it.show(f"sums of {things}, none evaluated", f"{things}-0")
             it.show("evaluated once", f"{things}-1")

@@ -9,7 +9,7 @@ no bytes, so a run can't read it: this shows it of the built program. valgrind's
 begins anew after each call of `write`: standard output has no buffer, so each line of a reply is one write, and what is counted
 before the last is what its command took. The first command asks, so before its reply stands the first evaluation of all slots.
 
-What `missing` walks is evaluated as it is written: a node of it is a call of `plain_table::evaluating::eval`, and of no other command
+What `missing` walks is evaluated as it is written: a node of it is a call of `source_eval::evaluating::eval`, and of no other command
 there is one. A conditional has a Switch and a True of its own, which are no calls.
 
 Each case below has a dictionary, and a script whose lines stand with the reply and the steps that are due, and behind them the nodes
@@ -35,7 +35,7 @@ from typing import Any, NamedTuple
 from harness import Tally, add_program, run, tool, words_of
 
 VISITS = ("node_eval::evaluating::visit", "node_eval::reads::see_dependency")
-WALKED = ("plain_table::evaluating::eval",)
+WALKED = ("source_eval::evaluating::eval",)
 # A command with fewer steps goes through no list of slots.
 FEW = 100
 
