@@ -4,10 +4,12 @@
     tests/count_steps.py [--program PATH]
 
 Nothing is built. A step is a visit of a node: one call of `node_eval::evaluating::visit`, or of `node_eval::reads::see_dependency`
-for an operand that is read where it stands. How many a change takes is proved (`Recalc::refresh`: `visits`), of a counter that has
-no bytes, so a run can't read it: this shows it of the built program. valgrind's callgrind counts the calls of each function, and
-begins anew after each call of `write`: standard output has no buffer, so each line of a reply is one write, and what is counted
-before the last is what its command took. The first command asks, so before its reply stands the first evaluation of all slots.
+for an operand that is read where it stands. The operands of a node that are all facts which stand once are read in one loop,
+without a call each: no dictionary here has such a node, and that each of them is a step is proved alone (`eval_globals`: `steps`).
+How many a change takes is proved (`Recalc::refresh`: `visits`), of a counter that has no bytes, so a run can't read it: this shows
+it of the built program. valgrind's callgrind counts the calls of each function, and begins anew after each call of `write`:
+standard output has no buffer, so each line of a reply is one write, and what is counted before the last is what its command took.
+The first command asks, so before its reply stands the first evaluation of all slots.
 
 What `missing` walks is evaluated as it is written: a node of it is a call of `source_eval::evaluating::eval`, and of no other command
 there is one. A conditional has a Switch and a True of its own, which are no calls.

@@ -136,6 +136,10 @@ pub fn write_node(text: &mut String, node: &Node) -> Result<(), NoMemory> {
             put(text, many_name(*op))?;
             write_operands(text, operands.as_slice())
         }
+        Node::Globals(op, facts) => {
+            put(text, many_name(*op))?;
+            write_globals(text, facts.as_slice())
+        }
         Node::One(op, operand) => {
             write_one(text, op)?;
             write_operand(text, operand)
@@ -167,6 +171,17 @@ fn write_operands(text: &mut String, operands: &[Node]) -> Result<(), NoMemory> 
     for operand in operands {
         put(text, " ")?;
         write_operand(text, operand)?;
+    }
+    Ok(())
+}
+
+// As the Dependencies that they are.
+fn write_globals(text: &mut String, facts: &[u32]) -> Result<(), NoMemory> {
+    for fact in facts {
+        put(text, " [")?;
+        put(text, read_name(NodeRead::Dependency))?;
+        write_reader(text, Reader::Global(*fact))?;
+        put(text, "]")?;
     }
     Ok(())
 }

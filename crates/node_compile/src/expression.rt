@@ -8,6 +8,7 @@ ghost use Rattle.evaluation.specs.Resolving.{resolved, resolved_all, resolved_ca
 ghost use Rattle.node_eval.specs.View.{case_view as node_case_view, cases_view as node_cases_view, trees_view as node_trees_view, view as node_view};
 ghost use Rattle.node_compile.specs.Compiling.{names};
 
+use crate::operands::many_node;
 use crate::reading::{base_under, constant, read_path, reader};
 use dict_source::{Case, Constant, DictSource, Expr, OneOp, PickOp, TwoOp};
 use fact_values::NoMemory;
@@ -37,7 +38,7 @@ pub fn compile_expr(
         }
         Expr::Many(op, operands) => {
             let operands = compile_all(alloc, source, fact, base, operands.as_slice())?;
-            Ok(Node::Many(*op, operands))
+            many_node(alloc, *op, operands)
         }
         Expr::One(op, operand) => {
             let operand = compile_expr(alloc, source, fact, base, operand)?;

@@ -5,6 +5,7 @@ mod compiled;
 mod expression;
 mod fact;
 pub mod laws;
+mod operands;
 mod reading;
 
 pub use compiled::{Compiled, compile};

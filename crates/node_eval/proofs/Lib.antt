@@ -1,4 +1,5 @@
 pub mod DecideLaws
+pub mod GlobalLaws
 pub mod MemoryLaws
 pub mod RestLaws
 pub mod Views

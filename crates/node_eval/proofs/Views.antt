@@ -1,17 +1,17 @@
 -- The view of each variant.
-use Rattle.std.proofs.Common.{◌≡◌, Vec, Box, Global, rules}
+use Rattle.std.proofs.Common.{◌≡◌, ℕ, Vec, Box, Global, rules}
 use Rattle.dict_source.specs.Tree.{literal, read, switch, many, one, two, pick}
 use Rattle.dict_source.specs.declared.operators.ManyOp.{ManyOp}
 use Rattle.dict_source.specs.declared.operators.OneOp.{OneOp}
 use Rattle.dict_source.specs.declared.operators.TwoOp.{TwoOp}
 use Rattle.dict_source.specs.declared.operators.PickOp.{PickOp}
 use Rattle.fact_values.specs.declared.value.Value.{Value}
-use Rattle.node_eval.specs.View.{view, trees_view, cases_view}
+use Rattle.node_eval.specs.View.{view, trees_view, globals_view, cases_view}
 use Rattle.node_eval.specs.declared.node.NodeRead.{NodeRead}
 use Rattle.node_eval.specs.declared.node.Reader.{Reader}
 use Rattle.node_eval.specs.declared.node.NodeCase.{NodeCase}
 use Rattle.node_eval.specs.declared.node.Node.{Node, the_lemmas}
-use Rattle.node_eval.specs.declared.node.Node.TheVariants.{Const, Read, Switch, Many, One, Two, Pick}
+use Rattle.node_eval.specs.declared.node.Node.TheVariants.{Const, Read, Switch, Many, Globals, One, Two, Pick}
 
 pub view-Const : (v : Value) → view (Const v) ≡ literal v
 view-Const v = search (rules, the_lemmas)
@@ -25,6 +25,9 @@ view-Switch cs = search (rules, the_lemmas)
 pub view-Many : (op : ManyOp) (ns : Vec Node Global) → view (Many op ns) ≡ many op (trees_view ns.items)
 view-Many op ns = search (rules, the_lemmas)
 
+pub view-Globals : (op : ManyOp) (facts : Vec ℕ Global) → view (Globals op facts) ≡ many op (globals_view facts.items)
+view-Globals op facts = search (rules, the_lemmas)
+
 pub view-One : (op : OneOp) (a : Box Node Global) → view (One op a) ≡ one op (view a.value)
 view-One op a = search (rules, the_lemmas)
 
@@ -34,4 +37,4 @@ view-Two op a b = search (rules, the_lemmas)
 pub view-Pick : (op : PickOp) (r : Reader) (a : Box Node Global) → view (Pick op r a) ≡ pick op r (view a.value)
 view-Pick op r a = search (rules, the_lemmas)
 
-pub ruleset views = (view-Const, view-Read, view-Switch, view-Many, view-One, view-Two, view-Pick)
+pub ruleset views = (view-Const, view-Read, view-Switch, view-Many, view-Globals, view-One, view-Two, view-Pick)

@@ -1,4 +1,5 @@
 pub mod Evaluating
+pub mod Globals
 pub mod Memory
 pub mod NodeTypes
 pub mod Reached

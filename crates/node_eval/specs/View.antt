@@ -1,9 +1,11 @@
 -- The tree that a `Node` stands for.
-use Rattle.std.specs.Prelude.{List, [], ◌∷◌, map}
+use Rattle.std.specs.Prelude.{ℕ, List, [], ◌∷◌, map}
 use Rattle.dict_source.specs.Tree.{Tree, Trees, Cases, literal, read, switch, many, one, two, pick, no_trees, tree, no_cases, a_case}
 use Rattle.fact_values.specs.declared.value.Value.{Value}
 use Rattle.node_eval.specs.declared.node.NodeRead.{NodeRead}
+use Rattle.node_eval.specs.declared.node.NodeRead.TheVariants.{Dependency}
 use Rattle.node_eval.specs.declared.node.Reader.{Reader}
+use Rattle.node_eval.specs.declared.node.Reader.TheVariants.{Global}
 use Rattle.node_eval.specs.declared.node.Node.{Node, fold-Node}
 use Rattle.node_eval.specs.declared.node.NodeCase.{NodeCase}
 use Rattle.node_eval.specs.declared.node.Node.TheOpen.{Node-F, NodeCase-F}
@@ -31,11 +33,19 @@ cases_of (c ∷ cs) = a_case c.0 c.1 (cases_of cs)
 
 -- ---- nodes
 
+-- a Dependency of a fact that stands once, and a list of them
+abbrev pub global_read : ℕ → Compiled
+global_read fact = read (Dependency, Global fact)
+
+abbrev pub globals_view : List ℕ → Trees Value Reading Reader
+globals_view facts = trees_of (map global_read facts)
+
 abbrev pub view_step : Node-F Compiled CompiledCase → Compiled
 view_step (Node-F.Const v) = literal v
 view_step (Node-F.Read op r) = read (op, r)
 view_step (Node-F.Switch cs) = switch (cases_of cs.items)
 view_step (Node-F.Many op ts) = many op (trees_of ts.items)
+view_step (Node-F.Globals op facts) = many op (globals_view facts.items)
 view_step (Node-F.One op t) = one op t.value
 view_step (Node-F.Two op a b) = two op a.value b.value
 view_step (Node-F.Pick op r t) = pick op r t.value

@@ -18,6 +18,7 @@ ghost use Rattle.evaluation.specs.Visits.{visits, visits_of_all, visits_of_cases
 
 use crate::cells::Cells;
 use crate::eval_position::EvalPosition;
+use crate::globals::eval_globals;
 use crate::node::{Node, NodeCase, NodeRead, Reader};
 use crate::reads::{read, read_source, see_dependency};
 use dict_source::{ManyOp, OneOp, PickOp, TwoOp};
@@ -75,6 +76,7 @@ fn visit<C: Cells, L: Ledger>(
         Node::Read(op, reader) => read(alloc, cells, at, *op, *reader),
         Node::Switch(cases) => eval_cases(alloc, cells, at, cases.as_slice(), steps),
         Node::Many(op, operands) => eval_all(alloc, cells, at, *op, operands.as_slice(), steps),
+        Node::Globals(op, facts) => eval_globals(alloc, cells, *op, facts.as_slice(), steps),
         Node::One(op, operand) => eval_one(alloc, cells, at, op, operand, steps),
         Node::Two(op, left, right) => {
             let first = visit(alloc, cells, at, left, steps)?;

@@ -4,6 +4,7 @@
 mod cells;
 mod eval_position;
 mod evaluating;
+mod globals;
 pub mod laws;
 mod node;
 mod reads;

@@ -12,6 +12,8 @@ pub enum Node {
     /// The outcome of the first case whose test is true.
     Switch(Vec<NodeCase>),
     Many(ManyOp, Vec<Node>),
+    /// The same where each operand is a Dependency of a fact that stands once: the facts, in order.
+    Globals(ManyOp, Vec<u32>),
     One(OneOp, Box<Node>),
     /// A comparison's first operand is on its left.
     Two(TwoOp, Box<Node>, Box<Node>),

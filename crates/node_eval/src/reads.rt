@@ -151,9 +151,9 @@ fn see_missing(fold: &mut ManyFold)
     fold.see(Res::Incomplete);
 }
 
-// Sees what is read of a fact at a member, where it stands.
+/// Sees what is read of a fact at a member, where it stands.
 #[inline(always)]
-fn see_cell<C: Cells>(
+pub fn see_cell<C: Cells>(
     alloc: Global,
     cells: &C,
     fact: u32,

@@ -1,7 +1,8 @@
-use Rattle.std.proofs.Common.{◌≡◌, ◌+◌, ◌++◌, [], List, ℕ, sum_by, map, drop, refl, sym, ap, ◌∙◌, arith, inl, inr}
+use Rattle.std.proofs.Common.{◌≡◌, ◌+◌, ◌++◌, [], List, ℕ, suc, length, sum_by, map, drop, refl, sym, ap, subst, ◌∙◌, arith, inl, inr}
 use Rattle.std.proofs.lemmas.List.{append-nil, drop_all, length-map}
-use Rattle.dict_source.specs.Tree.{pick}
-use Rattle.evaluation.specs.Over.{over, over_all, over_cases, weight}
+use Rattle.std.proofs.lemmas.Result.{on_ok_weaker}
+use Rattle.dict_source.specs.Tree.{many, pick}
+use Rattle.evaluation.specs.Over.{many_of, over, over_all, over_cases, weight}
 use Rattle.evaluation.specs.SlotsRead.{up_to_decider}
 use Rattle.operations.specs.CaseSteps.{after_case, find_after, find_from, switch_from}
 use Rattle.operations.specs.ManyFolds.{many_from}
@@ -14,11 +15,14 @@ use Rattle.three_state.specs.Results.{kept, members_of}
 use Rattle.three_state.specs.declared.strict.Verdict.{Verdict}
 use Rattle.node_eval.specs.Evaluating.{TakesAt, condition_at, visits_at, work_at}
 use Rattle.node_eval.specs.Dependencies.{node_env}
-use Rattle.node_eval.specs.View.{case_view, cases_of, trees_of, view}
+use Rattle.node_eval.specs.Globals.{SomeHoldsMemory, global_result}
+use Rattle.node_eval.specs.Memory.{TakesMemory}
+use Rattle.node_eval.specs.View.{case_view, cases_of, globals_view, trees_of, view}
 use Rattle.evaluation.specs.Visits.{visits, visits_of_all, visits_of_cases}
 use Rattle.node_eval.specs.declared.eval_position.EvalPosition.{EvalPosition}
+use Rattle.node_eval.proofs.GlobalLaws.{globals_give, globals_take, globals_visit, globals_weigh}
 use Rattle.node_eval.proofs.RestLaws.{all_next, all_take, all_visit, all_weigh, case_at, case_takes, case_visit, cases_weigh, filter_next, find_at, find_takes, find_visit, kept_more, member_takes, members_weigh, test_takes}
-use Rattle.node_eval.proofs.Views.{view-Pick}
+use Rattle.node_eval.proofs.Views.{view-Globals, view-Pick}
 use Rattle.node_eval.proofs.evaluating.+eval.Goals as goal
 
 -- ---- a node
@@ -42,6 +46,42 @@ pub visit-returns-in-Pick-clause-memory : goal.visit-returns-in-Pick-clause-memo
 visit-returns-in-Pick-clause-memory g t c =
     let shape : view c.args.node.now ≡ pick c.in-Pick.op c.in-Pick.reader (view c.in-Pick.test.value) = ap view c.in-Pick.is ∙ view-Pick _ _ _ in
     rw (shape, ← c.deref-in-Pick.ensures) c.eval_pick.ensures.memory
+
+-- ---- operands that are all facts which stand once
+
+pub visit-returns-in-Globals-clause-value : goal.visit-returns-in-Globals-clause-value
+visit-returns-in-Globals-clause-value g t c =
+    let results = g.C.Cells.results c.args.cells.now in
+    let shape : view c.args.node.now ≡ many c.in-Globals.op (globals_view c.in-Globals.facts.items) = ap view c.in-Globals.is ∙ view-Globals _ _ in
+    ok_same c.eval_globals.result _ _
+    (ap (many_of c.in-Globals.op) (ap (map (global_result results)) c.as_slice-in-Globals.ensures.value ∙ sym (globals_give results c.args.at c.in-Globals.facts.items))
+    ∙ sym (ap (over (node_env results) c.args.at) shape))
+    c.eval_globals.ensures.value
+
+pub visit-returns-in-Globals-clause-visited : goal.visit-returns-in-Globals-clause-visited
+visit-returns-in-Globals-clause-visited g t c =
+    let results = g.C.Cells.results c.args.cells.now in
+    let shape : view c.args.node.now ≡ many c.in-Globals.op (globals_view c.in-Globals.facts.items) = ap view c.in-Globals.is ∙ view-Globals _ _ in
+    let visit : visits (node_env results) c.args.at (view c.args.node.now) ≡ suc (length c.in-Globals.facts.items) =
+    ap (visits (node_env results) c.args.at) shape ∙ ap suc (globals_visit results c.args.at c.in-Globals.facts.items) in
+    on_ok_weaker c.eval_globals.result
+    (λ (k : c.eval_globals.new.steps ≡ c.tick.new.self + length c.as_slice-in-Globals.result.now). omega (arith, k, c.tick.ensures, visit, ap length c.as_slice-in-Globals.ensures.value))
+    c.eval_globals.ensures.steps
+
+pub visit-returns-in-Globals-clause-most : goal.visit-returns-in-Globals-clause-most
+visit-returns-in-Globals-clause-most g t c =
+    let results = g.C.Cells.results c.args.cells.now in
+    let shape : view c.args.node.now ≡ many c.in-Globals.op (globals_view c.in-Globals.facts.items) = ap view c.in-Globals.is ∙ view-Globals _ _ in
+    let weigh : weight (node_env results) c.args.at (view c.args.node.now) ≡ suc (length c.in-Globals.facts.items) =
+    ap (weight (node_env results) c.args.at) shape ∙ ap suc (globals_weigh results c.args.at c.in-Globals.facts.items) in
+    omega (arith, weigh, c.tick.ensures, c.eval_globals.ensures.most, ap length c.as_slice-in-Globals.ensures.value)
+
+pub visit-returns-in-Globals-clause-memory : goal.visit-returns-in-Globals-clause-memory
+visit-returns-in-Globals-clause-memory g t c =
+    let results = g.C.Cells.results c.args.cells.now in
+    let shape : view c.args.node.now ≡ many c.in-Globals.op (globals_view c.in-Globals.facts.items) = ap view c.in-Globals.is ∙ view-Globals _ _ in
+    λ h. subst (TakesMemory (node_env results) c.args.at) (sym shape)
+    (globals_take results c.args.at c.in-Globals.facts.items (subst (SomeHoldsMemory results) c.as_slice-in-Globals.ensures.value (c.eval_globals.ensures.memory h)))
 
 -- ---- a list of operands
 
