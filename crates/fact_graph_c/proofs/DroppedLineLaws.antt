@@ -4,7 +4,7 @@ use Rattle.std.proofs.lemmas.List.{drop_more}
 use Rattle.std.specs.Prelude.{codes, string_bytes}
 use Rattle.fg_io.specs.Outside.{Output}
 use Rattle.fg_io.specs.Sent.{Sent}
-use Rattle.save_file.proofs.DroppedLaws.{IsLeft, all_left}
+use Rattle.saved_text.proofs.Pieces.{IsLeft, all_left}
 use Rattle.save_file.specs.Resuming.{dropped_line}
 use Rattle.save_file.specs.declared.reason.Dropped.{Dropped}
 use Rattle.fact_graph_c.specs.DroppedLines.{reason_text, dropped_line_text, dropped_lines_text}

@@ -11,9 +11,9 @@ use Rattle.fact_watch.specs.Watching.{nothing_watched}
 use Rattle.save_file.specs.Carrying.{IsCarry}
 use Rattle.save_file.specs.Dropped.{dropped_text}
 use Rattle.save_file.specs.Resuming.{IsResume, DroppedLine}
-use Rattle.save_file.specs.SavedText.{saved}
-use Rattle.save_file.specs.declared.fault.LoadFault.{LoadFault}
-use Rattle.save_file.specs.declared.fault.LoadFault.TheVariants as loads
+use Rattle.saved_text.specs.SavedText.{saved}
+use Rattle.saved_text.specs.declared.fault.LoadFault.{LoadFault}
+use Rattle.saved_text.specs.declared.fault.LoadFault.TheVariants as loads
 use Rattle.fact_graph_c.specs.Answering.{said}
 use Rattle.fact_graph_c.specs.DroppedLines.{dropped_lines_text}
 use Rattle.fact_graph_c.specs.Openings.{Brings, CarriesOver, IsBadText, IsBegun, IsFaultOfText, LoadsOver, NotBrought, OpensBuiltIn, RefusesOver, ResumesOver}

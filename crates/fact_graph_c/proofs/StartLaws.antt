@@ -4,7 +4,7 @@ use Rattle.answers.specs.Answered.{Answered, start}
 use Rattle.dictionary.specs.Kept.{names_of}
 use Rattle.dictionary.specs.Faults.{IsFault, Refuses}
 use Rattle.graph_session.specs.Rules.{Rules, tree_of}
-use Rattle.save_file.specs.CarriedText.{IsCarriedText}
+use Rattle.saved_text.specs.CarriedText.{IsCarriedText}
 use Rattle.save_file.specs.Loading.{IsSavedText}
 use Rattle.session_lines.specs.Tables.{standard_checks}
 use Rattle.fact_graph_c.specs.Openings.{Accepts, IsBegun, NotOpened, NotResumed, RefusesOver}

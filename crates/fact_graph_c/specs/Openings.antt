@@ -9,14 +9,15 @@ use Rattle.dict_meaning.specs.Fits.{AnswersFit}
 use Rattle.dictionary.specs.declared.fault.DictFault.TheVariants.{NoMemory}
 use Rattle.graph_session.specs.Rules.{Rules, tree_of}
 use Rattle.session_lines.specs.Stepping.{Terms, at_start}
-use Rattle.save_file.specs.CarriedText.{IsCarriedText}
+use Rattle.saved_text.specs.CarriedText.{IsCarriedText}
 use Rattle.save_file.specs.Carrying.{IsCarry}
 use Rattle.save_file.specs.Dropped.{dropped_text}
-use Rattle.save_file.specs.Loading.{IsRefusedAt, IsSavedText}
+use Rattle.saved_text.specs.Refused.{IsRefusedAt}
+use Rattle.save_file.specs.Loading.{IsSavedText}
 use Rattle.save_file.specs.Resuming.{IsResume, DroppedLine}
-use Rattle.save_file.specs.SavedText.{saved}
-use Rattle.save_file.specs.declared.fault.LoadFault.{LoadFault}
-use Rattle.save_file.specs.declared.fault.LoadFault.TheVariants as loads
+use Rattle.saved_text.specs.SavedText.{saved}
+use Rattle.saved_text.specs.declared.fault.LoadFault.{LoadFault}
+use Rattle.saved_text.specs.declared.fault.LoadFault.TheVariants as loads
 use Rattle.fact_graph_c.specs.Answering.{rules_of, said, state_of}
 use Rattle.fact_graph_c.specs.DroppedLines.{dropped_lines_text}
 use Rattle.session_lines.specs.Tables.{standard_checks, standard_relations}

@@ -1,7 +1,7 @@
 -- What saving says.
 use Rattle.std.specs.Prelude.{◌≡◌, List, ℕ}
 use Rattle.graph_session.specs.Rules.{tree_of}
-use Rattle.save_file.specs.SavedText.{saved}
+use Rattle.saved_text.specs.SavedText.{saved}
 use Rattle.fact_graph_c.specs.Answering.{rules_of}
 use Rattle.fact_graph_c.specs.declared.engine.Engine.{Engine}
 

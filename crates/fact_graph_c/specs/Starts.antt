@@ -3,7 +3,7 @@ use Rattle.std.specs.Prelude.{◌≡◌, ℕ, List, []}
 use Rattle.answers.specs.Answered.{start}
 use Rattle.dictionary.specs.declared.fault.DictFault.TheVariants.{NoMemory}
 use Rattle.graph_session.specs.Rules.{Rules, tree_of}
-use Rattle.save_file.specs.CarriedText.{IsCarriedText}
+use Rattle.saved_text.specs.CarriedText.{IsCarriedText}
 use Rattle.save_file.specs.Loading.{IsSavedText}
 use Rattle.fact_graph_c.specs.Openings.{Accepts, CarriesOver, IsBegun, LoadsOver, NotCarried, NotLoaded, NotOpened, RefusesOver, ResumesOver}
 use Rattle.fact_graph_c.specs.declared.engine.Engine.{Engine}

@@ -6,7 +6,7 @@ ghost use Rattle.dictionary.specs.Kept.{accepted};
 ghost use Rattle.dict_meaning.specs.Fits.{AnswersFit};
 ghost use Rattle.dictionary.specs.declared.fault.DictFault.TheVariants.{NoMemory as WantsMemory};
 ghost use Rattle.graph_session.specs.Rules.{rules, tree_of};
-ghost use Rattle.save_file.specs.CarriedText.{IsCarriedText};
+ghost use Rattle.saved_text.specs.CarriedText.{IsCarriedText};
 ghost use Rattle.save_file.specs.Carrying.{IsCarry};
 ghost use Rattle.save_file.specs.Dropped.{IsDroppedText};
 ghost use Rattle.save_file.specs.Loading.{IsSavedText};

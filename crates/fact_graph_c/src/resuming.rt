@@ -4,7 +4,7 @@ ghost use Rattle.answers.specs.Meaning.{answered};
 ghost use Rattle.text_checks.specs.Tables.{named_checks};
 ghost use Rattle.dictionary.specs.declared.fault.DictFault.TheVariants.{NoMemory as WantsMemory};
 ghost use Rattle.graph_session.specs.Rules.{rules};
-ghost use Rattle.save_file.specs.CarriedText.{IsCarriedText};
+ghost use Rattle.saved_text.specs.CarriedText.{IsCarriedText};
 ghost use Rattle.save_file.specs.Resuming.{IsResume, dropped_line};
 ghost use Rattle.session_lines.specs.Tables.{standard_checks};
 ghost use Rattle.fact_graph_c.specs.Openings.{RefusesOver, ResumesOver};

@@ -6,12 +6,13 @@ use Rattle.dict_meaning.specs.Accepted.{IsAccepted}
 use Rattle.dict_meaning.specs.Fits.{AnswersFit}
 use Rattle.dict_meaning.proofs.FitStart.{start_fits}
 use Rattle.graph_session.specs.Rules.{Rules, tree_of}
-use Rattle.save_file.specs.CarriedText.{CarriedText, IsCarriedText}
+use Rattle.saved_text.specs.CarriedText.{CarriedText, IsCarriedText}
 use Rattle.save_file.specs.Carrying.{IsCarryOf, dropped_numbers}
 use Rattle.save_file.specs.Dropped.{dropped_text}
 use Rattle.save_file.specs.Loading.{IsSavedText}
-use Rattle.save_file.proofs.CarryLaws.{one_carry, one_text}
-use Rattle.save_file.proofs.RefusedLaws.{refused_at_one}
+use Rattle.save_file.proofs.CarryLaws.{one_carry}
+use Rattle.saved_text.proofs.CarriedTexts.{one_text}
+use Rattle.saved_text.proofs.RefusedLaws.{refused_at_one}
 use Rattle.save_file.proofs.SameTexts.{one_saved}
 use Rattle.interview.specs.Beginnings.{Basis, Brings, IsBadText, IsCarriedAs, IsRefusedStart, IsStart, MayBring, Start, no_text, saved_limit, to_carry, to_load}
 use Rattle.interview.specs.Words.{Beginning, IsFrom, by_carry, by_load, unanswered}

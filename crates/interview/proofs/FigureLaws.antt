@@ -19,8 +19,8 @@ use Rattle.session_lines.specs.Stepping.{at_start, state_after}
 use Rattle.session_lines.proofs.FinalLineLaws.{final_lines_stay}
 use Rattle.desk_lines.specs.DeskStepping.{desk_at_start, desk_state_after}
 use Rattle.desk_lines.proofs.DeskFinalLaws.{desk_final_lines_stay}
-use Rattle.save_file.proofs.Lines.{one_of_all}
-use Rattle.save_file.proofs.TextLaws.{all-append}
+use Rattle.saved_text.proofs.Lines.{one_of_all}
+use Rattle.saved_text.proofs.TextLaws.{all-append}
 use Rattle.tax_2023.specs.Household.{Dependent, Household}
 use Rattle.tax_2023.specs.Laws.{HasPersons, HasTables}
 use Rattle.tax_2023.specs.Years.{Year, tables_of}

@@ -14,10 +14,10 @@ use Rattle.graph_session.specs.Rules.{Rules, tree_of}
 use Rattle.save_file.specs.Carrying.{IsCarry, RefusesCarried}
 use Rattle.save_file.specs.Dropped.{dropped_text}
 use Rattle.save_file.specs.Loading.{RefusesText}
-use Rattle.save_file.specs.SavedText.{saved}
+use Rattle.saved_text.specs.SavedText.{saved}
 use Rattle.save_file.proofs.DroppedLaws.{dropped_of_carry}
-use Rattle.save_file.specs.declared.fault.LoadFault.{LoadFault}
-use Rattle.save_file.specs.declared.fault.LoadFault.TheVariants as loads
+use Rattle.saved_text.specs.declared.fault.LoadFault.{LoadFault}
+use Rattle.saved_text.specs.declared.fault.LoadFault.TheVariants as loads
 use Rattle.interview.specs.declared.resuming.Dropped.TheVariants as dropped
 use Rattle.interview.specs.declared.resuming.Resumed.{Resumed}
 use Rattle.interview.specs.declared.resuming.Resumed.TheVariants as resumed

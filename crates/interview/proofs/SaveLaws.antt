@@ -8,7 +8,7 @@ use Rattle.dictionary.specs.declared.fault.DictFault.{DictFault}
 use Rattle.answers.specs.Answered.{Answered}
 use Rattle.graph_session.specs.Rules.{Rules, tree_of}
 use Rattle.interview.specs.Meanings.{Meaning, silently}
-use Rattle.save_file.specs.SavedText.{saved}
+use Rattle.saved_text.specs.SavedText.{saved}
 use Rattle.interview.specs.declared.status.Status.{Status}
 use Rattle.interview.specs.declared.status.Status.TheVariants.{Done, DictionaryRefused, FetchFault, ReadFault, WriteFault, ScriptTooLong, NoMemory}
 use Rattle.interview.specs.Words.{IsSave, Origin, file, program}

@@ -4,11 +4,12 @@ use Rattle.fg_io.specs.Outside.{MayHold, Contents, holds}
 use Rattle.answers.specs.Answered.{Answered, start}
 use Rattle.dict_meaning.specs.Fits.{AnswersFit}
 use Rattle.graph_session.specs.Rules.{Rules, tree_of}
-use Rattle.save_file.specs.CarriedText.{CarriedText, IsCarried, IsCarriedText, carried}
+use Rattle.saved_text.specs.CarriedText.{CarriedText, IsCarried, IsCarriedText, carried}
 use Rattle.save_file.specs.Carrying.{AreOfKept}
 use Rattle.save_file.specs.Dropped.{dropped_text}
-use Rattle.save_file.specs.Loading.{IsRefusedAt, IsSavedText}
-use Rattle.save_file.specs.SavedText.{saved}
+use Rattle.saved_text.specs.Refused.{IsRefusedAt}
+use Rattle.save_file.specs.Loading.{IsSavedText}
+use Rattle.saved_text.specs.SavedText.{saved}
 use Rattle.interview.specs.Words.{Beginning, by_carry, by_load, unanswered}
 
 -- ---- what they are judged by

@@ -7,7 +7,7 @@ use Rattle.answers.specs.Answered.{Answered, start}
 use Rattle.dictionary.specs.declared.fault.DictFault.{DictFault}
 use Rattle.dictionary.specs.Kept.{Named}
 use Rattle.graph_session.specs.Rules.{Rules, tree_of}
-use Rattle.save_file.specs.SavedText.{saved}
+use Rattle.saved_text.specs.SavedText.{saved}
 use Rattle.interview.specs.declared.status.Status.{Status}
 use Rattle.interview.specs.declared.status.Status.TheVariants.{Done, ReadFault, WriteFault, ScriptTooLong, NoMemory}
 use Rattle.interview.specs.declared.words.Mode.TheVariants.{Incremental}

@@ -16,8 +16,8 @@ use Rattle.graph_session.specs.Rules.{Rules, rules, tree_of}
 use Rattle.answers.specs.Meaning.{answered}
 use Rattle.dict_meaning.specs.Fits.{AnswersFit}
 use Rattle.save_file.specs.Dropped.{IsDroppedText}
-use Rattle.save_file.specs.declared.fault.LoadFault.{LoadFault}
-use Rattle.save_file.specs.declared.fault.LoadFault.TheVariants as loads
+use Rattle.saved_text.specs.declared.fault.LoadFault.{LoadFault}
+use Rattle.saved_text.specs.declared.fault.LoadFault.TheVariants as loads
 use Rattle.interview.specs.Calls.{ByStillFetch, CallsForAccepted, CallsForNone}
 use Rattle.interview.specs.Given.{Did}
 use Rattle.interview.specs.Meanings.{Meaning, meaning_of}

@@ -6,7 +6,7 @@ ghost use Rattle.fact_watch.specs.Tables.{named_relations};
 ghost use Rattle.dictionary.specs.Kept.{accepted};
 ghost use Rattle.graph_session.specs.Refusals.{SameChecks};
 ghost use Rattle.graph_session.specs.Rules.{rules};
-ghost use Rattle.save_file.specs.SavedText.{saved};
+ghost use Rattle.saved_text.specs.SavedText.{saved};
 ghost use Rattle.interview.specs.Calls.{CallsForSave};
 ghost use Rattle.interview.specs.Given.{did_by, given_with};
 ghost use Rattle.interview.specs.Meanings.{of_session, silently};

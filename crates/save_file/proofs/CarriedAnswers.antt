@@ -1,26 +1,24 @@
 -- The answers of the kept lines of a carried text.
-use Rattle.std.proofs.Common.{Bool, Contains, Err, IsSome, List, None, Ok, Option, Result, Some, [], ap, append_assoc, arith, bytes_eq, cond, drop, false, get_or, if◌then◌else◌, inl, inr, is_none, length, length-append, map, nat_eq, not, refl, string_bytes, subst, suc, sym, true, zero, ℕ, ◌&&◌, ◌++◌, ◌+◌, ◌<◌, ◌||◌, ◌∙◌, ◌∷◌, ◌≡◌, ◌≤◌, ◌⊎◌}
-use Rattle.save_file.proofs.Common.{Accepted, All-cons, All-contains_itself, All-from_recursion, All-get_or, All-head, All-nil, All-tail, All-weaker, AllByRecursion, Answer, Answered, AnswersFit, AreApart, AreBelow, ArePlaced, CarriedLine, CarriedRead, CarriedText, Contains-append_left, Contains-push, Contains-push_cases, EntryLine, Fact, FactPath, FactType, FactsRise, FromOne, Global, HasItsForm, HasPath, IfErr, IfOk, IsAccepted, IsAfter, IsBelow, IsBelowNext, IsCarried, IsCarry, IsCarryOf, IsIn, IsMemberList, IsNotIn, IsOfFact, IsOfLists, IsPlaced, IsWithout, LoadFault, Member, NamesOther, NoMember, Numbered, OnOk, Override, Pairs, Refusal, RefusesCarried, Rules, SharesNone, Side, Slot, SlotPath, Stands, TextLine, Tree, UnknownFact, Value, WellFormed, and_intro, and_then, answered, append-nil, applied, both, both_some, carried, carried_lines, chosen, codes, collection, counted, decided, drop_more, dropped_numbers, end_line, entered, entry, entry_at, entry_stands, equal_number, fact_at, fact_of, fact_within, find, find_path-first, first_of, flat_map, get_map_of, given_fit, given_value, has_its_member, home, home_is_collection, is_list, is_member, joined, keeps, kept_collection, kept_value, key_text, lacks_member, length-map, line_of, line_text, list_any, lists_member, lookup, map_of, member_of, members_in, named_fact, nat_tests, none-some, numbers_failing, opened, opened_at, opens_fact, opens_of, option_map, path_of, recursion_from_All, same_Some, same_bytes, same_number, sets, slot, slot_found, slot_of, slot_same, slot_same-equal, slot_same-itself, stands, taken_value, takes, text_of, tree_of, type_at, value_at, value_of, value_refusals, value_spelled, when, ◌↔◌}
-use Rattle.std.specs.FinMap as map
+use Rattle.save_file.proofs.Common.{Accepted, All-cons, All-contains_itself, All-from_recursion, All-get_or, All-head, All-nil, All-tail, All-weaker, AllByRecursion, Answer, Answered, AnswersFit, AreApart, AreBelow, ArePlaced, Bool, CarriedLine, CarriedRead, CarriedText, Contains, Contains-append_left, Contains-push, Contains-push_cases, EntryLine, Err, Fact, FactPath, FactType, FactsRise, FromOne, Global, HasItsForm, HasPath, IfErr, IfOk, IsAccepted, IsAfter, IsBelow, IsBelowNext, IsCarried, IsCarry, IsCarryOf, IsIn, IsMemberList, IsNotIn, IsOfFact, IsOfLists, IsPlaced, IsSome, IsTrue, IsWithout, List, LoadFault, Member, NamesOther, NoMember, None, Numbered, Ok, OnOk, Option, Override, Pairs, Refusal, RefusesCarried, Result, Rules, SharesNone, Side, Slot, SlotPath, Some, Stands, TextLine, Tree, UnknownFact, Value, WellFormed, [], and_intro, and_then, answered, ap, append-nil, append_assoc, applied, arith, both, both_some, bytes_eq, carried, carried_lines, chosen, codes, collection, cond, counted, decided, drop, drop_more, dropped_numbers, end_line, entered, entry, entry_at, entry_stands, equal_number, fact_at, fact_of, fact_within, false, find, find_path-first, first_of, flat_map, get_map_of, get_or, given_fit, given_value, guarded, has_its_member, home, home_is_collection, if◌then◌else◌, inl, inr, is_list, is_member, is_none, joined, keeps, kept_collection, kept_value, key_text, lacks_member, length, length-append, length-map, line_of, line_text, list_any, lists_member, lookup, map, map_of, member_of, members_in, named_fact, nat_eq, nat_tests, none-some, not, numbers_failing, opened, opened_at, opens_fact, opens_of, option_map, path_of, recursion_from_All, refl, same_Some, same_bytes, same_number, sets, slot, slot_found, slot_of, slot_same, slot_same-equal, slot_same-itself, stands, string_bytes, subst, suc, sym, taken_value, takes, text_of, tree_of, true, type_at, unwrap_or, value_at, value_of, value_refusals, value_spelled, when, zero, ℕ, ◌&&◌, ◌++◌, ◌+◌, ◌<◌, ◌||◌, ◌↔◌, ◌∙◌, ◌∷◌, ◌≡◌, ◌≤◌, ◌⊎◌}
 use Rattle.std.specs.List.{All}
-use Rattle.std.specs.Prelude.{IsTrue, unwrap_or}
 use Rattle.answers.specs.GivenLists.{AreMemberLists}
 use Rattle.dict_source.specs.Targets.{find_global}
 use Rattle.dict_rules.specs.NoCollection.{is_written_list}
 use Rattle.dict_meaning.proofs.FitChangeLaws.{allowed_changes_fit}
 use Rattle.dict_meaning.proofs.SetLaws.{is_side, same_side, set_has, set_is}
-use Rattle.fact_paths.specs.declared.fact_path.FactPath.TheVariants as facts_by
 use Rattle.graph_session.proofs.NamingLaws.{fact_found, named_stands}
 use Rattle.graph_session.proofs.TypeLaws.{value_typed}
 use Rattle.value_text.proofs.ParsingLaws.{value_again}
 use Rattle.value_text.proofs.TypeLaws.{of_type}
-use Rattle.save_file.proofs.Lines.{all_of, at_first, chosen_by, either_first, find_some, find_there, found_in_all, later_too, mapped_there, none_there, one_of_all}
-use Rattle.save_file.proofs.SlotTexts.{list_there as list_is_there}
+use Rattle.saved_text.proofs.Lines.{all_of, at_first, either_first, find_some, find_there, found_in_all, later_too, mapped_there, none_there, one_of_all}
+use Rattle.saved_text.proofs.SlotTexts.{list_there as list_is_there}
 use Rattle.save_file.specs.Keeping.{Giving, IsGiven, IsGiving, IsLinePlaced, is_number, noted, opened_by, with_line, with_value}
 use Rattle.save_file.specs.declared.carrying.Carried.{Carried}
-use Rattle.save_file.specs.declared.fault.LoadFault.TheVariants.{NoMemory}
-use Rattle.save_file.proofs.CarriedLines.{pairs_before}
-use Rattle.save_file.proofs.MemberParsing.{in_each}
+use Rattle.saved_text.specs.declared.fault.LoadFault.TheVariants.{NoMemory}
+use Rattle.saved_text.proofs.CarriedLines.{pairs_before}
+use Rattle.saved_text.proofs.MemberParsing.{in_each}
+use Rattle.std.specs.FinMap as map
+use Rattle.fact_paths.specs.declared.fact_path.FactPath.TheVariants as facts_by
 
 -- ==== the collections of the kept lists
 
@@ -226,12 +224,12 @@ side_itself Override = refl
 
 pub kept_takes : (r : Rules) (side : Side) (fact : ℕ) (text : List ℕ) (v : Value) → kept_value r side fact text ≡ Some v → IsTrue (takes side (tree_of r) fact) × (value_spelled (tree_of r) fact text ≡ Some v)
 kept_takes r Answer fact text v e =
-    let parts = chosen_by (takes Answer (tree_of r) fact && is_none (first_of (value_refusals r fact text))) (value_spelled (tree_of r) fact text) v e in
+    let parts = guarded (takes Answer (tree_of r) fact && is_none (first_of (value_refusals r fact text))) (value_spelled (tree_of r) fact text) v e in
     ((both (takes Answer (tree_of r) fact) (is_none (first_of (value_refusals r fact text))) parts.0).0, parts.1)
-kept_takes r Override fact text v e = chosen_by (takes Override (tree_of r) fact) (value_spelled (tree_of r) fact text) v e
+kept_takes r Override fact text v e = guarded (takes Override (tree_of r) fact) (value_spelled (tree_of r) fact text) v e
 
 pub taken_takes : (d : Tree) → IsGiving d (taken_value d)
-taken_takes d side fact text v e = chosen_by (takes side d fact) (value_spelled d fact text) v e
+taken_takes d side fact text v e = guarded (takes side d fact) (value_spelled d fact text) v e
 
 no_fact : (side : Side) (d : Tree) → takes side d 0 ≡ true → ⊥
 no_fact Answer d e = cc
@@ -298,134 +296,110 @@ pub record AreSoFar (d : Tree) (gives : Giving) (lines : List CarriedLine) (a : 
   pub fit : AnswersFit d a
   pub values : (side : Side) (s : Slot) (v : Value) → (value_of side a s ≡ Some v) ↔ IsGiven d gives lines side s v
 
+-- the line gives the slot this value on the side
+abbrev GivesIt : Tree → Giving → CarriedLine → Side → Slot → Value → Type 0
+GivesIt d gives line side s v = (path : SlotPath) × (text : List ℕ) × (line ≡ entry side path text) × (slot_of d path ≡ s) × (gives side s.fact text ≡ Some v)
+
+-- a line that gives what the answers have beside those before is one more
+pushed : (d : Tree) (gives : Giving) (lines : List CarriedLine) (line : CarriedLine) (a b : Answered) → AreSoFar d gives lines a → AnswersFit d b
+    → ((side : Side) (s : Slot) (v : Value) → value_of side b s ≡ Some v → (value_of side a s ≡ Some v) ⊎ GivesIt d gives line side s v)
+    → ((side : Side) (s : Slot) (v : Value) → IsGiven d gives lines side s v ⊎ GivesIt d gives line side s v → value_of side b s ≡ Some v) → AreSoFar d gives (lines ++ line ∷ []) b
+pushed d gives lines line a b so_far fit had has_it = record { fit = fit; values = λ side s v. (λ has. to side s v (had side s v has), λ given. has_it side s v (from side s v given)) }
+  where
+    to : (side : Side) (s : Slot) (v : Value) → (value_of side a s ≡ Some v) ⊎ GivesIt d gives line side s v → IsGiven d gives (lines ++ line ∷ []) side s v
+    to side s v (inl has) = let given = (so_far.values side s v).0 has in (given.0, given.1, Contains-append_left lines (line ∷ []) (entry side given.0 given.1) given.2, given.3, given.4)
+    to side s v (inr new) = (new.0, new.1, subst (Contains (lines ++ line ∷ [])) new.2 (Contains-push lines line), new.3, new.4)
+
+    from : (side : Side) (s : Slot) (v : Value) → IsGiven d gives (lines ++ line ∷ []) side s v → IsGiven d gives lines side s v ⊎ GivesIt d gives line side s v
+    from side s v given = elim (Contains-push_cases lines line (entry side given.0 given.1) given.2) [
+      | inl before ↦ inl (given.0, given.1, before, given.3, given.4)
+      | inr same ↦ inr (given.0, given.1, same, given.3, given.4)
+    ]
+
+-- one that gives nothing changes nothing
+gives_none : (d : Tree) (gives : Giving) (lines : List CarriedLine) (line : CarriedLine) (a : Answered) → AreSoFar d gives lines a → ((side : Side) (s : Slot) (v : Value) → GivesIt d gives line side s v → ⊥) → AreSoFar d gives (lines ++ line ∷ []) a
+gives_none d gives lines line a so_far none = pushed d gives lines line a a so_far so_far.fit (λ side s v has. inl has) at
+  where
+    at : (side : Side) (s : Slot) (v : Value) → IsGiven d gives lines side s v ⊎ GivesIt d gives line side s v → value_of side a s ≡ Some v
+    at side s v (inl given) = (so_far.values side s v).1 given
+    at side s v (inr new) = absurd (none side s v new)
+
 module _ (names : List (List ℕ)) (d : Accepted) (is : IsAccepted names d) (gives : Giving) (giving : IsGiving d.tree gives) (lines : List CarriedLine) (its : Side) (path : SlotPath) (text : List ℕ) (a : Answered) (so_far : AreSoFar d.tree gives lines a)
     (placed : IsPlaced d.tree a path) (once : AllByRecursion (λ x. NamesOther x (entry its path text)) lines) where
-  -- where its line gives a slot a value
-  module _ (side : Side) (s : Slot) (v : Value) (given : IsGiven d.tree gives (lines ++ entry its path text ∷ []) side s v) (same : entry its path text ≡ entry side given.0 given.1) where
-    its_side : its ≡ side
-    its_side = cc
+  abbrev its_slot : Slot
+  its_slot = slot_of d.tree path
 
-    its_slot : slot_of d.tree path ≡ s
-    its_slot = let same_path : path ≡ given.0 = cc in ap (slot_of d.tree) same_path ∙ given.3
-
-    its_worth : gives its (fact_of d.tree path) text ≡ Some v
-    its_worth =
-        let same_text : text ≡ given.1 = cc in
-        ap (λ (k : Side). gives k (fact_of d.tree path) text) its_side
-        ∙ ap (λ (t : Slot). gives side t.fact text) its_slot
-        ∙ ap (λ (t : List ℕ). gives side s.fact t) same_text ∙ given.4
-
-  -- an entry that isn't kept gives nothing
-  not_kept : gives its (fact_of d.tree path) text ≡ None → AreSoFar d.tree gives (lines ++ entry its path text ∷ []) a
-  not_kept none = record {
-    fit = so_far.fit;
-    values = λ side s v. (
-      λ has. (let given = (so_far.values side s v).0 has in (given.0, given.1, Contains-append_left lines (entry its path text ∷ []) (entry side given.0 given.1) given.2, given.3, given.4)),
-      λ given. at side s v given (Contains-push_cases lines (entry its path text) (entry side given.0 given.1) given.2),
-    );
-  }
-    where
-      at : (side : Side) (s : Slot) (v : Value) (given : IsGiven d.tree gives (lines ++ entry its path text ∷ []) side s v) → Contains lines (entry side given.0 given.1) ⊎ (entry its path text ≡ entry side given.0 given.1) → value_of side a s ≡ Some v
-      at side s v given (inl before) = (so_far.values side s v).1 (given.0, given.1, before, given.3, given.4)
-      at side s v given (inr same) = absurd (none-some v (sym none ∙ its_worth side s v given same))
+  -- where it gives a slot a value
+  parts_given : (side : Side) (s : Slot) (v : Value) → GivesIt d.tree gives (entry its path text) side s v → (its ≡ side) × (its_slot ≡ s) × (gives its (fact_of d.tree path) text ≡ Some v)
+  parts_given side s v (p, t, same, at, worth) =
+      let sides : its ≡ side = cc in
+      let slots : its_slot ≡ s = (let paths : path ≡ p = cc in ap (slot_of d.tree) paths ∙ at) in
+      let texts : text ≡ t = cc in
+      (sides, slots, ap (λ (k : Side). gives k (fact_of d.tree path) text) sides ∙ ap (λ (u : Slot). gives side u.fact text) slots ∙ ap (gives side s.fact) texts ∙ worth)
 
   module _ (w : Value) (worth : gives its (fact_of d.tree path) text ≡ Some w) where
+    abbrev after : Answered
+    after = applied (sets its its_slot (Some w)) a
+
     named : named_fact d.tree path ≡ Some (fact_of d.tree path)
     named = given_named d.tree gives giving its path text w worth
 
     may : IsTrue (takes its d.tree (fact_of d.tree path)) × (value_spelled d.tree (fact_of d.tree path) text ≡ Some w)
     may = giving its (fact_of d.tree path) text w worth
 
-    pub can_set : Stands a (member_of path)
+    can_set : Stands a (member_of path)
     can_set = placed_stands d.tree a path (fact_of d.tree path) named placed
 
     there : IsSome (entry_at a (member_of path))
     there = entry_stands a (member_of path) so_far.fit.well can_set
 
-    fit_after : AnswersFit d.tree (applied (sets its (slot_of d.tree path) (Some w)) a)
+    fit_after : AnswersFit d.tree after
     fit_after =
-        allowed_changes_fit names d is a (sets its (slot_of d.tree path) (Some w)) so_far.fit can_set (
-          and_intro (stands d.tree a (slot_of d.tree path)) (takes its d.tree (fact_of d.tree path))
-              (named_stands d.tree a path (fact_of d.tree path) so_far.fit named (placed (fact_of d.tree path) named)) may.0,
+        allowed_changes_fit names d is a (sets its its_slot (Some w)) so_far.fit can_set (
+          and_intro (stands d.tree a its_slot) (takes its d.tree (fact_of d.tree path)) (named_stands d.tree a path (fact_of d.tree path) so_far.fit named (placed (fact_of d.tree path) named)) may.0,
           spelled_fits d.tree a (fact_of d.tree path) text w may.1,
         )
 
-    own : IsGiven d.tree gives (lines ++ entry its path text ∷ []) its (slot_of d.tree path) w
-    own = (path, text, Contains-push lines (entry its path text), refl, worth)
-
-    had : (side : Side) (s : Slot) (v : Value) → value_of side (applied (sets its (slot_of d.tree path) (Some w)) a) s ≡ Some v → IsGiven d.tree gives (lines ++ entry its path text ∷ []) side s v
-    had side s v has = at (set_has its side a (slot_of d.tree path) s (Some w) v there has)
+    had : (side : Side) (s : Slot) (v : Value) → value_of side after s ≡ Some v → (value_of side a s ≡ Some v) ⊎ GivesIt d.tree gives (entry its path text) side s v
+    had side s v has = at (set_has its side a its_slot s (Some w) v there has)
       where
-        at : (value_of side a s ≡ Some v) ⊎ ((its ≡ side) × (slot_of d.tree path ≡ s) × (Some w ≡ Some v)) → IsGiven d.tree gives (lines ++ entry its path text ∷ []) side s v
-        at (inl old) = let given = (so_far.values side s v).0 old in (given.0, given.1, Contains-append_left lines (entry its path text ∷ []) (entry side given.0 given.1) given.2, given.3, given.4)
-        at (inr new) =
-            subst (λ (k : Side). IsGiven d.tree gives (lines ++ entry its path text ∷ []) k s v) new.0
-            (subst (λ (t : Slot). IsGiven d.tree gives (lines ++ entry its path text ∷ []) its t v) new.1
-            (subst (λ (x : Value). IsGiven d.tree gives (lines ++ entry its path text ∷ []) its (slot_of d.tree path) x) (same_Some w v new.2) own))
-
-    own_value : value_of its (applied (sets its (slot_of d.tree path) (Some w)) a) (slot_of d.tree path) ≡ Some w
-    own_value =
-        set_is its its a (slot_of d.tree path) (slot_of d.tree path) (Some w) there
-        ∙ ap (λ (t : Bool). if t && slot_same (slot_of d.tree path) (slot_of d.tree path) then Some w else value_of its a (slot_of d.tree path)) (side_itself its)
-        ∙ ap (λ (t : Bool). if t then Some w else value_of its a (slot_of d.tree path)) (slot_same-itself (slot_of d.tree path))
+        at : (value_of side a s ≡ Some v) ⊎ ((its ≡ side) × (its_slot ≡ s) × (Some w ≡ Some v)) → (value_of side a s ≡ Some v) ⊎ GivesIt d.tree gives (entry its path text) side s v
+        at (inl old) = inl old
+        at (inr new) = inr (path, text, ap (λ (k : Side). entry k path text) new.0, new.1, sym (ap (λ (k : Side). gives k (fact_of d.tree path) text) new.0 ∙ ap (λ (u : Slot). gives side u.fact text) new.1) ∙ worth ∙ new.2)
 
     -- no earlier line names the slot
-    not_twice : (side : Side) (s : Slot) (v : Value) (given : IsGiven d.tree gives lines side s v) → its ≡ side → slot_of d.tree path ≡ s → ⊥
+    not_twice : (side : Side) (s : Slot) (v : Value) → IsGiven d.tree gives lines side s v → its ≡ side → its_slot ≡ s → ⊥
     not_twice side s v given sides slots =
-        let facts : fact_of d.tree given.0 ≡ s.fact = ap (λ (t : Slot). t.fact) given.3 in
-        let kept : gives side (fact_of d.tree given.0) given.1 ≡ Some v = ap (λ (n : ℕ). gives side n given.1) facts ∙ given.4 in
+        let kept : gives side (fact_of d.tree given.0) given.1 ≡ Some v = ap (λ (t : Slot). gives side t.fact given.1) given.3 ∙ given.4 in
         let same_path : given.0 ≡ path =
         one_path_of d.tree given.0 path (fact_of d.tree given.0) (fact_of d.tree path) (given_named d.tree gives giving side given.0 given.1 v kept) named (given.3 ∙ sym slots) in
         one_of_all (λ x. NamesOther x (entry its path text)) lines (entry side given.0 given.1) once given.2
         (ap (λ (p : SlotPath). key_text (entry side p given.1)) same_path ∙ ap (λ (k : Side). key_text (entry k path given.1)) (sym sides))
 
-    has_it : (side : Side) (s : Slot) (v : Value) → IsGiven d.tree gives (lines ++ entry its path text ∷ []) side s v → value_of side (applied (sets its (slot_of d.tree path) (Some w)) a) s ≡ Some v
-    has_it side s v given = at (Contains-push_cases lines (entry its path text) (entry side given.0 given.1) given.2)
+    has_it : (side : Side) (s : Slot) (v : Value) → IsGiven d.tree gives lines side s v ⊎ GivesIt d.tree gives (entry its path text) side s v → value_of side after s ≡ Some v
+    has_it side s v or = set_is its side a its_slot s (Some w) there ∙ at (is_side its side) (slot_same its_slot s) refl refl or
       where
-        before : (x y : Bool) → is_side its side ≡ x → slot_same (slot_of d.tree path) s ≡ y → Contains lines (entry side given.0 given.1) → (if x && y then Some w else value_of side a s) ≡ Some v
-        before true true p q h = absurd (not_twice side s v (given.0, given.1, h, given.3, given.4) (same_side its side p) (slot_same-equal (slot_of d.tree path) s q))
-        before true false p q h = (so_far.values side s v).1 (given.0, given.1, h, given.3, given.4)
-        before false y p q h = (so_far.values side s v).1 (given.0, given.1, h, given.3, given.4)
-
-        at : Contains lines (entry side given.0 given.1) ⊎ (entry its path text ≡ entry side given.0 given.1) → value_of side (applied (sets its (slot_of d.tree path) (Some w)) a) s ≡ Some v
-        at (inl h) =
-            set_is its side a (slot_of d.tree path) s (Some w) there
-            ∙ before (is_side its side) (slot_same (slot_of d.tree path) s) refl refl h
-        at (inr same) =
-            subst (λ (k : Side). value_of k (applied (sets its (slot_of d.tree path) (Some w)) a) s ≡ Some v) (its_side side s v given same)
-            (subst (λ (t : Slot). value_of its (applied (sets its (slot_of d.tree path) (Some w)) a) t ≡ Some v) (its_slot side s v given same)
-            (own_value ∙ sym worth ∙ its_worth side s v given same))
-
-    kept_too : AreSoFar d.tree gives (lines ++ entry its path text ∷ []) (applied (sets its (slot_of d.tree path) (Some w)) a)
-    kept_too = record { fit = fit_after; values = λ side s v. (had side s v, has_it side s v) }
+        at : (x y : Bool) → is_side its side ≡ x → slot_same its_slot s ≡ y → IsGiven d.tree gives lines side s v ⊎ GivesIt d.tree gives (entry its path text) side s v → (if x && y then Some w else value_of side a s) ≡ Some v
+        at true true p q (inl given) = absurd (not_twice side s v given (same_side its side p) (slot_same-equal its_slot s q))
+        at true true p q (inr new) = sym worth ∙ (parts_given side s v new).2
+        at true false p q (inl given) = (so_far.values side s v).1 given
+        at true false p q (inr new) = absurd (let yes : slot_same its_slot s ≡ true = ap (slot_same its_slot) (sym (parts_given side s v new).1) ∙ slot_same-itself its_slot in cc)
+        at false y p q (inl given) = (so_far.values side s v).1 given
+        at false y p q (inr new) = absurd (let yes : is_side its side ≡ true = ap (is_side its) (sym (parts_given side s v new).0) ∙ side_itself its in cc)
 
   pub one_more : AreSoFar d.tree gives (lines ++ entry its path text ∷ []) (with_value d.tree its path (gives its (fact_of d.tree path) text) a) × ((with_value d.tree its path (gives its (fact_of d.tree path) text) a).lists ≡ a.lists) × ((with_value d.tree its path (gives its (fact_of d.tree path) text) a).next ≡ a.next)
   one_more = at (gives its (fact_of d.tree path) text) refl
     where
       at : (o : Option Value) → gives its (fact_of d.tree path) text ≡ o → AreSoFar d.tree gives (lines ++ entry its path text ∷ []) (with_value d.tree its path o a) × ((with_value d.tree its path o a).lists ≡ a.lists) × ((with_value d.tree its path o a).next ≡ a.next)
-      at None none = (not_kept none, refl, refl)
-      at (Some w) worth = (kept_too w worth, refl, refl)
+      at None none = (gives_none d.tree gives lines (entry its path text) a so_far (λ side s v new. none-some v (sym none ∙ (parts_given side s v new).2)), refl, refl)
+      at (Some w) worth = (pushed d.tree gives lines (entry its path text) a (applied (sets its its_slot (Some w)) a) so_far (fit_after w worth) (had w worth) (has_it w worth), refl, refl)
 
 -- ---- all lines
 
 module _ (names : List (List ℕ)) (d : Accepted) (is : IsAccepted names d) (gives : Giving) (giving : IsGiving d.tree gives) where
-  -- a list gives no slot a value
-  list_too : (lines : List CarriedLine) (name ms : List ℕ) (a : Answered) → AreSoFar d.tree gives lines a → AreSoFar d.tree gives (lines ++ collection name ms ∷ []) a
-  list_too lines name ms a so_far = record {
-    fit = so_far.fit;
-    values = λ side s v. (
-      λ has. (let given = (so_far.values side s v).0 has in (given.0, given.1, Contains-append_left lines (collection name ms ∷ []) (entry side given.0 given.1) given.2, given.3, given.4)),
-      λ given. at side s v given (Contains-push_cases lines (collection name ms) (entry side given.0 given.1) given.2),
-    );
-  }
-    where
-      at : (side : Side) (s : Slot) (v : Value) (given : IsGiven d.tree gives (lines ++ collection name ms ∷ []) side s v) → Contains lines (entry side given.0 given.1) ⊎ (collection name ms ≡ entry side given.0 given.1) → value_of side a s ≡ Some v
-      at side s v given (inl before) = (so_far.values side s v).1 (given.0, given.1, before, given.3, given.4)
-      at side s v given (inr same) = absurd (let e : collection name ms ≡ entry side given.0 given.1 = same in cc)
-
   line_too : (lines : List CarriedLine) (line : CarriedLine) (a : Answered) → AreSoFar d.tree gives lines a → IsLinePlaced d.tree a line → AllByRecursion (λ x. NamesOther x line) lines
       → AreSoFar d.tree gives (lines ++ line ∷ []) (with_line d.tree gives a line) × ((with_line d.tree gives a line).lists ≡ a.lists) × ((with_line d.tree gives a line).next ≡ a.next)
-  line_too lines (collection name ms) a so_far placed once = (list_too lines name ms a so_far, refl, refl)
+  line_too lines (collection name ms) a so_far placed once = (gives_none d.tree gives lines (collection name ms) a so_far (λ side s v new. (let list : collection name ms ≡ entry side new.0 new.1 = new.2 in cc)), refl, refl)
   line_too lines (entry side path text) a so_far placed once = one_more names d is gives giving lines side path text a so_far placed once
 
   all_placed : (a b : Answered) → a.lists ≡ b.lists → (xs : List CarriedLine) → AllByRecursion (IsLinePlaced d.tree a) xs → AllByRecursion (IsLinePlaced d.tree b) xs
@@ -471,6 +445,14 @@ slot_named r a path s e = at (named_fact (tree_of r) path) refl (lacks_member (t
     at None h b f = absurd cc
     at (Some n) h true f = absurd cc
     at (Some n) h false f = let same : s ≡ slot n (member_of path) = cc in (ap (λ (t : Slot). Some t.fact) (sym same), same)
+
+-- what its text gives it
+pub worth_found : (value : ℕ → List ℕ → Option Value) (s t : Slot) (text bytes : List ℕ) (o : Option Value) (worth : Option (Slot × Value)) → s ≡ t → text ≡ bytes → o ≡ value s.fact text
+    → worth ≡ option_map (λ (v : Value). (s, v)) o → worth ≡ option_map (λ (v : Value). (t, v)) (value t.fact bytes)
+worth_found value s t text bytes o worth slots texts is e =
+    e
+    ∙ ap (λ (p : Option Value). option_map (λ (v : Value). (s, v)) p) (is ∙ ap (value s.fact) texts)
+    ∙ ap (λ (u : Slot). option_map (λ (v : Value). (u, v)) (value u.fact bytes)) slots
 
 -- ---- the lines that are left
 

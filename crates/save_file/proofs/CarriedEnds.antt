@@ -1,50 +1,10 @@
--- How the lines of a carried text end: with a line that is refused, or behind the last.
-use Rattle.std.proofs.Common.{Bool, Err, List, Ok, Option, Result, [], ap, arith, false, inl, inr, length, map, refl, subst, suc, sym, true, ℕ, ◌++◌, ◌+◌, ◌∙◌, ◌∷◌, ◌≡◌, ◌≢◌, ◌⊎◌}
-use Rattle.save_file.proofs.Common.{AllByRecursion, Answer, BadLine, BadSaved, CarriedLine, CarriedRead, CarriedStage, CarriedText, EndsCarried, EndsNone, GivesLines, HasItsForm, IsCarried, IsCarriedStage, IsOf, IsRefusedAt, JudgesCarried, Kept, Lines, LoadFault, Number, Opening, Override, ReadsCarried, Refuses, Side, Whole, append-nil, carried, carried_lines, codes, collection, decimal, end_line, entry, joined, line_text, lines_of, next_line, opening_line, printed_rest, side_word, slot_path_text, stage_lines, text_of, texts_of, ◌↔◌}
-use Rattle.std.specs.Prelude.{IsTrue}
-use Rattle.save_file.proofs.CarriedSteps.{left, more_left}
-use Rattle.save_file.proofs.LineTexts.{IsLine, decimal_line, line-append, name_line, plain_line, rest_line, slot_line}
-use Rattle.save_file.proofs.SlotTexts.{members_numbered, numbers_of}
-use Rattle.save_file.proofs.TextLaws.{ended_joined, joined_ended}
-use Rattle.save_file.proofs.TextLaws as texts
-
--- ---- the lines of a carried text are UTF-8 without newlines
-
-word_line : (side : Side) → IsLine (side_word side)
-word_line Answer = plain_line (codes "value ") refl
-word_line Override = plain_line (codes "override ") refl
-
-a_line : (line : CarriedLine) → HasItsForm line → IsLine (line_text line)
-a_line (collection name members) form =
-    line-append (codes "list /" ++ name) (printed_rest members) (line-append (codes "list /") name (plain_line (codes "list /") refl) (name_line name form.0))
-    (rest_line members (numbers_of members (members_numbered members form.1)))
-a_line (entry side path text) form =
-    line-append (side_word side ++ slot_path_text path) (32 ∷ text) (line-append (side_word side) (slot_path_text path) (word_line side) (slot_line path form.0))
-    (line-append (codes " ") text (plain_line (codes " ") refl) (record { utf8 = form.1; no_newline = form.2 }))
-
-all_texts : (lines : List CarriedLine) → AllByRecursion HasItsForm lines → AllByRecursion IsLine (map line_text lines)
-all_texts [] all = tt
-all_texts (l ∷ lines) all = (a_line l all.0, all_texts lines all.1)
-
-pub are_lines : (c : CarriedText) → IsCarried c → AllByRecursion IsLine (carried_lines c)
-are_lines c is = (
-  plain_line opening_line refl,
-  (
-    line-append (codes "next ") (decimal c.next) (plain_line (codes "next ") refl) (decimal_line c.next (let low = is.number.1 in omega (arith, low))),
-    texts.all-append IsLine (map line_text c.lines) (end_line ∷ []) (all_texts c.lines is.forms) (plain_line end_line refl, tt),
-  ),
-)
-
--- ---- a line by its bytes
-
-pub no_bytes : (stage : CarriedStage) (line : List ℕ) → (IsLine line → ⊥) → EndsNone stage line
-no_bytes stage line none c more is e = none (texts.next_one IsLine (texts_of stage) line more (subst (AllByRecursion IsLine) e (are_lines c is)))
-
-pub text_taken : (old new : CarriedStage) (line text : List ℕ) (number : ℕ) → text ≡ line → JudgesCarried old text (Ok new) → ReadsCarried old line number (Ok new)
-text_taken old new line text number same judged = subst (λ (l : List ℕ). JudgesCarried old l (Ok new)) same judged
-
-pub text_refused : (old : CarriedStage) (line text : List ℕ) (number : ℕ) → text ≡ line → JudgesCarried old text (Err BadLine) → ReadsCarried old line number (Err (BadSaved number))
-text_refused old line text number same judged = (refl, subst (λ (l : List ℕ). JudgesCarried old l (Err BadLine)) same judged)
+-- Texts of a kind, each of which is a carried text: at which line others are refused, and how they end.
+use Rattle.save_file.proofs.Common.{AllByRecursion, BadSaved, Bool, CarriedRead, CarriedStage, CarriedText, EndsCarried, GivesLines, IsCarried, IsCarriedStage, IsOf, IsRefusedAt, IsTrue, Kept, Lines, List, LoadFault, Number, Opening, Option, Refuses, Result, Whole, [], ap, append-nil, arith, carried, carried_lines, end_line, false, inl, inr, joined, length, line_text, lines_of, map, next_line, opening_line, stage_lines, subst, suc, sym, text_of, texts_of, true, ℕ, ◌++◌, ◌+◌, ◌↔◌, ◌∙◌, ◌∷◌, ◌≡◌, ◌≢◌, ◌⊎◌}
+use Rattle.saved_text.proofs.CarriedSteps.{left, more_left}
+use Rattle.saved_text.proofs.LineTexts.{IsLine}
+use Rattle.saved_text.proofs.TextLaws.{ended_joined, joined_ended}
+use Rattle.saved_text.proofs.CarriedTexts.{are_lines}
+use Rattle.saved_text.proofs.TextLaws as texts
 
 -- ---- texts of a kind, each of which is a carried text
 

@@ -1,26 +1,9 @@
--- A carried text tells its lines, each line is kept or listed, and carrying gives one result.
-use Rattle.std.proofs.Common.{Bool, Contains, List, None, Option, Some, [], ap, arith, cond, false, is_some, map, nat_eq, not, refl, slice_get, subst, suc, sym, true, zero, ℕ, ◌++◌, ◌+◌, ◌<◌, ◌||◌, ◌∙◌, ◌∷◌, ◌≡◌}
-use Rattle.save_file.proofs.Common.{Answered, AreOfKept, CarriedLine, CarriedText, CarriedTextsTellLines, CarryingGivesOne, EachLineIsKeptOrListed, Global, IsCarried, IsCarryOf, IsKept, Rules, append-nil, carried, carried_lines, collection, end_line, entry, equal_number, fact_of, is_list, keeps, kept_value, line_text, lines_of, list_any, nat_tests, numbers_failing, same, same_Some, slot_of, something, tree_of, value_of}
-use Rattle.std.specs.Prelude.{IsTrue, if◌then◌else◌}
+-- Each line of a carried text is kept or listed, and carrying gives one result.
+use Rattle.save_file.proofs.Common.{Answered, AreOfKept, Bool, CarriedLine, CarriedText, CarryingGivesOne, Contains, EachLineIsKeptOrListed, Global, IsCarryOf, IsKept, IsTrue, List, None, Option, Rules, Some, [], ap, arith, collection, cond, entry, equal_number, fact_of, false, if◌then◌else◌, is_list, is_some, keeps, kept_value, list_any, map, nat_eq, nat_tests, not, numbers_failing, refl, same, same_Some, slice_get, slot_of, something, subst, suc, sym, tree_of, true, value_of, zero, ℕ, ◌+◌, ◌<◌, ◌||◌, ◌∙◌, ◌∷◌, ◌≡◌}
+use Rattle.saved_text.proofs.Lines.{at_first, later_too}
+use Rattle.save_file.proofs.SlotsRise.{same_answers}
+use Rattle.saved_text.proofs.CarriedTexts.{one_text}
 use Rattle.std.specs.FinMap as map
-use Rattle.save_file.proofs.CarriedEnds.{are_lines}
-use Rattle.save_file.proofs.CarriedLines.{none_behind_end}
-use Rattle.save_file.proofs.CarriedSteps.{behind_next}
-use Rattle.save_file.proofs.Lines.{at_first, later_too}
-use Rattle.save_file.proofs.SlotsLeft.{same_answers}
-use Rattle.save_file.proofs.TextLaws.{whole_lines}
-
--- ---- lines
-
-pub one_text : CarriedTextsTellLines
-one_text c e is other same =
-    ap (λ (n : ℕ). record { next = n; lines = c.lines }) parts.0
-    ∙ ap (λ (ls : List CarriedLine). record { next = e.next; lines = ls }) (parts.1.1 ∙ ap (λ (ls : List CarriedLine). e.lines ++ ls) (none_behind_end parts.1.0 [] parts.1.2).0 ∙ append-nil e.lines)
-  where
-    parts : (c.next ≡ e.next) × ((rest : List CarriedLine) × (c.lines ≡ e.lines ++ rest) × (map line_text rest ++ end_line ∷ [] ≡ end_line ∷ []))
-    parts =
-        behind_next c e.next e.lines (end_line ∷ []) is other.number.1 other.forms
-        (whole_lines IsCarried carried_lines are_lines c is (carried c) refl ∙ ap lines_of same ∙ sym (whole_lines IsCarried carried_lines are_lines e other (carried e) refl))
 
 -- ---- numbers
 

@@ -1,78 +1,12 @@
--- What is written, and what is said of the lines that carrying drops.
-use Rattle.std.proofs.Common.{All, Bool, Err, List, None, Ok, Option, Result, Some, [], ap, append_assoc, arith, drop, false, filter, inl, inr, length, length-drop, map, not, refl, subst, suc, sym, take, true, ℕ, ◌++◌, ◌+◌, ◌-◌, ◌<◌, ◌∙◌, ◌∷◌, ◌≡◌, ◌≢◌, ◌≤◌}
-use Rattle.save_file.proofs.Common.{AllByRecursion, Answer, Answered, CarriedLine, CarriedText, HasItsForm, IsCarried, IsCarry, IsFirstAt, Lacks, Override, Rules, Sent, Tree, Wrote, WrotePart, append-nil, carried_lines, codes, collection, cut, cut-append, cut-lacks, dropped_numbers, end_line, entries, entry, equal_number, failed_within, flat_map, is_next, joined, joined-append, keeps, line_text, lines_of, lists, name_lacks_blank, nat_tests, next_line, numbers_failing, opening_line, past, printed_rest, said, said_at, said_if, saved, sent_piece, slot_lacks_blank, slot_path_text, take_all}
-use Rattle.std.proofs.lemmas.Result.{err_from_is_err_and}
-use Rattle.std.specs.Prelude.{if◌then◌else◌, unwrap_or}
-use Rattle.std.specs.Result.{IsErrAnd}
+-- What is said of the lines that carrying drops, and how it is written.
+use Rattle.save_file.proofs.Common.{All, AllByRecursion, Answer, Answered, Bool, CarriedLine, CarriedText, Err, HasItsForm, IsCarried, IsCarry, IsFirstAt, Lacks, List, None, Ok, Option, Override, Result, Rules, Sent, Some, Wrote, [], ap, append-nil, append_assoc, arith, carried_lines, codes, collection, cut, cut-append, cut-lacks, drop, dropped_numbers, end_line, entry, equal_number, false, filter, if◌then◌else◌, inl, inr, is_next, joined, joined-append, keeps, length, length-drop, line_text, lines_of, map, name_lacks_blank, nat_tests, next_line, not, numbers_failing, opening_line, past, printed_rest, refl, said, said_at, said_if, slot_lacks_blank, slot_path_text, subst, suc, sym, take, take_all, true, unwrap_or, ℕ, ◌++◌, ◌+◌, ◌-◌, ◌<◌, ◌∙◌, ◌∷◌, ◌≡◌, ◌≢◌, ◌≤◌}
 use Rattle.fact_paths.proofs.CutLaws.{cut-first, cut-none}
-use Rattle.fg_io.proofs.SentLaws.{sent_none}
 use Rattle.fg_io.specs.Outside.{HasCause, Output}
-use Rattle.fg_io.specs.Writing.{WroteAll}
-use Rattle.save_file.proofs.CarriedEnds.{are_lines}
-use Rattle.save_file.proofs.SlotTexts.{Tail, tail_of}
-use Rattle.save_file.proofs.TextLaws.{empty_is, whole_lines}
+use Rattle.saved_text.proofs.CarriedTexts.{are_lines}
+use Rattle.saved_text.proofs.SlotTexts.{Tail, tail_of}
+use Rattle.saved_text.proofs.TextLaws.{empty_is, whole_lines}
 use Rattle.save_file.specs.Dropped.{IsDroppedText, behind_word, dropped_key, dropped_keys, dropped_text, said_of, word_of, words_of}
-
--- ==== a text that is written piece by piece
-
--- ---- joined lines
-
--- the lines of the first, and second those of the rest
-pub joined_each : {X : Type 0} (f : X → List (List ℕ)) (x : X) (xs : List X) → joined (flat_map f (x ∷ xs)) ≡ joined (f x) ++ joined (flat_map f xs)
-joined_each f x xs = joined-append (f x) (flat_map f xs)
-
--- a line in two pieces
-pub entry_pieces : (word slot value : List ℕ) → (word ++ (slot ++ codes " ")) ++ (value ++ 10 ∷ []) ≡ (word ++ (slot ++ (codes " " ++ value))) ++ 10 ∷ []
-entry_pieces word slot value = simp append_assoc
-
--- ---- pieces
-
--- the lines of the next are the piece in front
-pub next_piece : {X : Type 0} (f : X → List (List ℕ)) (a b : Option (List ℕ)) (text : List ℕ) (x : X) (all xs : List X) → all ≡ x ∷ xs
-    → Sent a b text (joined (flat_map f all)) → Sent a b text (joined (f x) ++ joined (flat_map f xs))
-next_piece f a b text x all xs e sent = subst (Sent a b text) (ap (λ l. joined (flat_map f l)) e ∙ joined_each f x xs) sent
-
--- ---- pieces one after another
-
-abbrev pub whole : List (List ℕ) → List ℕ
-whole [] = []
-whole (p ∷ ps) = p ++ whole ps
-
--- these pieces are left of the text
-pub record IsLeft (a b : Output) (text : List ℕ) (pieces : List (List ℕ)) : Type 0 where
-  pub sent : Sent a.taken b.taken text (whole pieces)
-  pub later : a.faults ≤ b.faults
-
-pub all_left : (a : Output) (text : List ℕ) (pieces : List (List ℕ)) → whole pieces ≡ text → IsLeft a a text pieces
-all_left a text pieces e = record { sent = subst (λ (t : List ℕ). Sent a.taken a.taken t (whole pieces)) e (sent_none a.taken (whole pieces)); later = omega arith }
-
-pub wrote_piece : {a b c : Output} {text p : List ℕ} {ps : List (List ℕ)} → IsLeft a b text (p ∷ ps) → WroteAll b c p → IsLeft a c text ps
-wrote_piece {a = a} {b = b} {c = c} {text = text} {p = p} {ps = ps} left wrote =
-    record { sent = sent_piece a.taken b.taken c.taken text p (whole ps) left.sent wrote.0; later = omega (arith, left.later, wrote.1) }
-
-pub failed_piece : {T E : Type 0} {a b c : Output} {text p : List ℕ} {ps : List (List ℕ)} (Q : E → Type 0) (r : Result T E) → IsErrAnd r Q → IsLeft a b text (p ∷ ps) → WrotePart b c p → Wrote a c text r
-failed_piece {a = a} {b = b} {c = c} {text = text} {p = p} {ps = ps} Q r is left wrote =
-    let fault = err_from_is_err_and r is in
-    rw fault.1 (failed_within a b c text p (whole ps) left.sent left.later wrote)
-
-pub last_piece : {T E : Type 0} {a b : Output} {text p : List ℕ} (c : Output) (r : Result T E) → IsLeft a b text (p ∷ []) → Wrote b c p r → Wrote a c text r
-last_piece c (Ok done) left wrote = let all = wrote_piece left wrote in (all.sent, all.later)
-last_piece {a = a} {b = b} {text = text} {p = p} c (Err failed) left wrote = failed_within a b c text p [] left.sent left.later wrote
-
--- of a saved text
-pub saved_left : (d : Tree) (x : Answered) (a : Output) (next : ℕ) → next ≡ x.next
-    → IsLeft a a (saved d x) ((opening_line ++ 10 ∷ []) ∷ (next_line next ++ 10 ∷ []) ∷ joined (lists d x) ∷ joined (entries Answer d x) ∷ joined (entries Override d x) ∷ (end_line ++ 10 ∷ []) ∷ [])
-saved_left d x a next e =
-    all_left a (saved d x) _
-    (ap (λ (t : List ℕ). (opening_line ++ 10 ∷ []) ++ ((next_line next ++ 10 ∷ []) ++ t)) (sym behind)
-    ∙ ap (λ (t : List ℕ). (opening_line ++ 10 ∷ []) ++ t) (append_assoc (next_line next) (10 ∷ []) (joined (lists d x ++ (entries Answer d x ++ (entries Override d x ++ end_line ∷ [])))))
-    ∙ ap (λ (n : ℕ). joined (opening_line ∷ next_line n ∷ (lists d x ++ (entries Answer d x ++ (entries Override d x ++ end_line ∷ []))))) e)
-  where
-    behind : joined (lists d x ++ (entries Answer d x ++ (entries Override d x ++ end_line ∷ []))) ≡ joined (lists d x) ++ (joined (entries Answer d x) ++ (joined (entries Override d x) ++ (end_line ++ 10 ∷ [])))
-    behind =
-        joined-append (lists d x) (entries Answer d x ++ (entries Override d x ++ end_line ∷ []))
-        ∙ ap (λ (t : List ℕ). joined (lists d x) ++ t)
-        (joined-append (entries Answer d x) (entries Override d x ++ end_line ∷ []) ∙ ap (λ (t : List ℕ). joined (entries Answer d x) ++ t) (joined-append (entries Override d x) (end_line ∷ [])))
+use Rattle.saved_text.proofs.Pieces.{IsLeft, all_left}
 
 -- ==== the first words of a line
 
@@ -138,12 +72,6 @@ said_whole kind name = pieces (codes "dropped ") kind (codes " ") name
   where
     pieces : (front word gap next : List ℕ) → (((front ++ word) ++ gap) ++ next) ++ 10 ∷ [] ≡ (front ++ (word ++ (gap ++ next))) ++ 10 ∷ []
     pieces front word gap next = simp append_assoc
-
--- ---- numbers that rise
-
-pub past_other : (n : ℕ) (ns : List ℕ) → is_next n ns ≡ false → ns ≡ past n ns
-past_other n [] e = refl
-past_other n (k ∷ ks) e = sym (ap (λ (b : Bool). if b then ks else k ∷ ks) e)
 
 -- ==== what is said of the lines that carrying drops
 

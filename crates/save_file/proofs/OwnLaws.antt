@@ -1,12 +1,12 @@
 -- Lines of a carried text that are those of a saved text over a dictionary: where they stand, with one more behind them, and those that come first.
-use Rattle.std.proofs.Common.{Bool, Contains, Err, List, None, Ok, Option, Result, Some, [], ap, append_assoc, arith, cond, false, if◌then◌else◌, inl, inr, length, map, refl, slice_get, subst, suc, sym, true, ℕ, ◌*◌, ◌++◌, ◌+◌, ◌-◌, ◌<◌, ◌∙◌, ◌∷◌, ◌≡◌, ◌≢◌, ◌≤◌, ◌⊎◌}
-use Rattle.save_file.proofs.Common.{AllByRecursion, AreOwn, CarriedLine, CarriedRead, CarriedStage, CarriedText, Global, Grows, IfOk, IsCarried, IsCarriedStage, IsHighest, IsNext, IsOf, IsOfUpTo, IsPositionOfLast, IsPrinted, JudgesLast, Kept, Lines, LoadFault, Member, NamesOther, Number, Opening, Pairs, Side, TextLine, Tree, Value, Whole, accepted, carried_lines, codes, collection, counted_from, entry, equal_bytes, fact_of, find, has_its_member, is_list_named, is_own, key_text, line_of, list_any, lists_member, map-append, member_place, members_by, members_in, members_named, nat_lt, nat_tests, none-some, option_map, place_in, position, position_behind, read_lines as lines_of, same_Some, same_bytes, stage_lines, start, taken_value, texts_of, value_printed}
-use Rattle.std.specs.Prelude.{IsTrue}
+use Rattle.save_file.proofs.Common.{AllByRecursion, AreOwn, Bool, CarriedLine, CarriedRead, CarriedStage, CarriedText, Contains, Err, Global, Grows, IfOk, IsCarried, IsCarriedStage, IsHighest, IsNext, IsOf, IsOfUpTo, IsPositionOfLast, IsPrinted, IsTrue, JudgesLast, Kept, Lines, List, LoadFault, Member, NamesOther, None, Number, Ok, Opening, Option, Pairs, Result, Side, Some, TextLine, Tree, Value, Whole, [], accepted, ap, append_assoc, arith, carried_lines, codes, collection, cond, counted_from, entry, equal_bytes, fact_of, false, find, guarded, has_its_member, if◌then◌else◌, inl, inr, is_list_named, is_own, key_text, length, length-append, length-map, line_of, list_any, lists_member, map, member_place, members_by, members_in, members_named, nat_lt, nat_tests, none-some, option_map, place_in, position, position_behind, position_of_last, read_lines as lines_of, refl, same_Some, same_bytes, slice_get, stage_lines, start, subst, suc, sym, taken_value, texts_of, true, value_printed, ℕ, ◌*◌, ◌++◌, ◌+◌, ◌-◌, ◌<◌, ◌∙◌, ◌∷◌, ◌≡◌, ◌≢◌, ◌≤◌, ◌⊎◌}
 use Rattle.save_file.proofs.CarriedAnswers.{any_listed, spelled_fits, taken_takes}
-use Rattle.save_file.proofs.CarriedLines.{pairs-push, pairs_before, pairs_front}
-use Rattle.save_file.proofs.CarriedSteps.{found_of, left, lines_left}
-use Rattle.save_file.proofs.Lines.{all_where, chosen_by, cons_parts, either_first, find_some, find_there, never_empty, pairs_where}
-use Rattle.save_file.proofs.TextLaws.{all-append, ended_is, in_front, next_one, no_last}
+use Rattle.saved_text.proofs.CarriedLines.{pairs-push, pairs_before, pairs_front}
+use Rattle.saved_text.proofs.CarriedSteps.{found_of, left, lines_left}
+use Rattle.saved_text.proofs.Lines.{all_where, either_first, find_some, find_there, pairs_where}
+use Rattle.saved_text.proofs.TextLaws.{all-append, in_front, next_one}
+use Rattle.common_lemmas.proofs.Lists.{get_last}
+use Rattle.std.proofs.lemmas.Option.{slice_get-map}
 
 -- ---- the members of a list
 
@@ -112,8 +112,8 @@ module _ (d : Tree) (xs : List CarriedLine) (members : AllByRecursion (λ line. 
 
     judged : (o : Option ℕ) → o ≡ position_behind d (xs ++ line ∷ []) last line → (p : ℕ) → o ≡ Some p → AreOwn d (xs ++ line ∷ []) × IsHighest d (xs ++ line ∷ []) p
     judged o e p some =
-        let first = chosen_by (is_own d line) (if nat_lt last its then Some its else None) p (sym e ∙ some) in
-        let second = chosen_by (nat_lt last its) (Some its) p first.1 in
+        let first = guarded (is_own d line) (if nat_lt last its then Some its else None) p (sym e ∙ some) in
+        let second = guarded (nat_lt last its) (Some its) p first.1 in
         let test : nat_lt last its ≡ true = second.0 in
         let up : last < its = grind (arith, nat_tests) in
         subst (λ (n : ℕ). AreOwn d (xs ++ line ∷ []) × IsHighest d (xs ++ line ∷ []) n) (same_Some its p second.1) (with_it first.0 up)
@@ -127,30 +127,32 @@ module _ (d : Tree) (xs : List CarriedLine) (members : AllByRecursion (λ line. 
 
 -- ---- the last line
 
-last_same : {X : Type 0} (xs ys : List X) (x y : X) → xs ++ x ∷ [] ≡ ys ++ y ∷ [] → x ≡ y
-last_same [] [] x y e = (cons_parts x y [] [] e).0
-last_same [] (k ∷ ys) x y e = absurd (never_empty ys y (sym (cons_parts x k [] (ys ++ y ∷ []) e).1))
-last_same (k ∷ xs) [] x y e = absurd (never_empty xs x (cons_parts k y (xs ++ x ∷ []) [] e).1)
-last_same (k ∷ xs) (j ∷ ys) x y e = last_same xs ys x y (cons_parts k j (xs ++ x ∷ []) (ys ++ y ∷ []) e).1
+module _ (d : Tree) (r : CarriedRead) (last : ℕ) (items : List TextLine) (same : items ≡ r.lines.items) where
+  of_last : (o : Option TextLine) → o ≡ slice_get items (length items - 1) → position_of_last d (lines_of r) last (option_map line_of o) ≡ position_of_last d (lines_of r) last (slice_get (lines_of r) (length (lines_of r) - 1))
+  of_last o at =
+      ap (position_of_last d (lines_of r) last)
+      (ap (option_map line_of) at
+      ∙ sym (slice_get-map line_of items (length items - 1))
+      ∙ ap (λ (n : ℕ). slice_get (map line_of items) (n - 1)) (sym (length-map items line_of))
+      ∙ ap (λ (xs : List TextLine). slice_get (map line_of xs) (length (map line_of xs) - 1)) same)
 
-module _ (d : Tree) (r : CarriedRead) (last : ℕ) where
-  at_last : (front : List CarriedLine) (x : CarriedLine) → lines_of r ≡ front ++ x ∷ [] → (o : Option ℕ) → o ≡ position_behind d (lines_of r) last x → IsPositionOfLast d (lines_of r) last o
-  at_last front x e o is = record {
-    some = λ other line f. is ∙ ap (position_behind d (lines_of r) last) (last_same front other x line (sym e ∙ f));
-    none = λ none. absurd (never_empty front x (sym e ∙ none));
-  }
+  pub line_last : (line : TextLine) → Some line ≡ slice_get items (length items - 1) → (result : Result (Option ℕ) LoadFault) → IfOk result (λ o. o ≡ position_behind d (lines_of r) last (line_of line)) → IfOk result (IsPositionOfLast d (lines_of r) last)
+  line_last line at (Err fault) is = tt
+  line_last line at (Ok o) is = is ∙ of_last (Some line) at
 
-  module _ (items : List TextLine) (same : items ≡ r.lines.items) where
-    pub line_last : (line : TextLine) → Some line ≡ slice_get items (length items - 1) → (result : Result (Option ℕ) LoadFault) → IfOk result (λ o. o ≡ position_behind d (lines_of r) last (line_of line)) → IfOk result (IsPositionOfLast d (lines_of r) last)
-    line_last line at (Err fault) is = tt
-    line_last line at (Ok o) is =
-        let front = ended_is items line at in
-        at_last (map line_of front.0) (line_of line) (ap (map line_of) (sym same ∙ front.1) ∙ map-append line_of front.0 (line ∷ [])) o is
+  pub none_last : None ≡ slice_get items (length items - 1) → IsPositionOfLast d (lines_of r) last (Some last)
+  none_last at = of_last None at
 
-    pub none_last : None ≡ slice_get items (length items - 1) → IsPositionOfLast d (lines_of r) last (Some last)
-    none_last at =
-        let empty : lines_of r ≡ [] = ap (map line_of) (sym same ∙ no_last items at) in
-        record { some = λ front line e. absurd (never_empty front line (sym e ∙ empty)); none = λ none. refl }
+-- of one more line
+of_pushed : (d : Tree) (last : ℕ) (xs before : List CarriedLine) (line : CarriedLine) → xs ≡ before ++ line ∷ [] → position_of_last d xs last (slice_get xs (length xs - 1)) ≡ position_behind d (before ++ line ∷ []) last line
+of_pushed d last xs before line e =
+    let size : length (before ++ line ∷ []) - 1 ≡ length before = omega (arith, length-append before (line ∷ [])) in
+    ap (λ (ys : List CarriedLine). position_of_last d ys last (slice_get ys (length ys - 1))) e
+    ∙ ap (λ (n : ℕ). position_of_last d (before ++ line ∷ []) last (slice_get (before ++ line ∷ []) n)) size
+    ∙ ap (position_of_last d (before ++ line ∷ []) last) (get_last before line)
+
+of_empty : (d : Tree) (last : ℕ) (xs : List CarriedLine) → xs ≡ [] → position_of_last d xs last (slice_get xs (length xs - 1)) ≡ Some last
+of_empty d last xs e = ap (λ (ys : List CarriedLine). position_of_last d ys last (slice_get ys (length ys - 1))) e
 
 -- ---- the stage after a line
 
@@ -164,16 +166,16 @@ module _ (d : Tree) (old : CarriedStage) (sound : IsCarriedStage old) (last : �
   last_own : Grows old (Lines r) → (o : Option ℕ) → IsPositionOfLast d (lines_of r) last o → (p : ℕ) → o ≡ Some p → AreOwn d (lines_of r) × IsHighest d (lines_of r) p
   last_own (inl none) o of p some =
       subst (λ (xs : List CarriedLine). AreOwn d xs × IsHighest d xs p) (none.1 ∙ sym none.0)
-      (subst (λ (n : ℕ). AreOwn d (stage_lines old) × IsHighest d (stage_lines old) n) (same_Some last p (sym (of.none none.0) ∙ some)) (is, highest))
+      (subst (λ (n : ℕ). AreOwn d (stage_lines old) × IsHighest d (stage_lines old) n) (same_Some last p (sym (of ∙ of_empty d last (lines_of r) none.0) ∙ some)) (is, highest))
   last_own (inr more) o of p some =
       subst (λ (xs : List CarriedLine). AreOwn d xs × IsHighest d xs p) (sym more.1)
-      (judged d (stage_lines old) (members_there old sound) is last highest more.0 o (of.some (stage_lines old) more.0 more.1 ∙ ap (λ (xs : List CarriedLine). position_behind d xs last more.0) more.1) p some)
+      (judged d (stage_lines old) (members_there old sound) is last highest more.0 o (of ∙ of_pushed d last (lines_of r) (stage_lines old) more.0 more.1) p some)
 
   last_not : Grows old (Lines r) → IsPositionOfLast d (lines_of r) last None → AreOwn d (lines_of r) → ⊥
-  last_not (inl none) of all = none-some last (of.none none.0)
+  last_not (inl none) of all = none-some last (of ∙ of_empty d last (lines_of r) none.0)
   last_not (inr more) of all =
       none_judged d (stage_lines old) (members_there old sound) is last highest more.0
-      (sym (of.some (stage_lines old) more.0 more.1 ∙ ap (λ (xs : List CarriedLine). position_behind d xs last more.0) more.1)) (subst (AreOwn d) more.1 all)
+      (sym (of ∙ of_pushed d last (lines_of r) (stage_lines old) more.0 more.1)) (subst (AreOwn d) more.1 all)
 
 kept_up : (d : Tree) (xs ys : List CarriedLine) (last p : ℕ) → ys ≡ xs → Some p ≡ Some last → AreOwn d xs × IsHighest d xs last → AreOwn d ys × IsHighest d ys p
 kept_up d xs ys last p same e is =

@@ -1,22 +1,22 @@
 -- Lines of a carried text that are own and rise are those of a saved text, and of no other.
-use Rattle.std.proofs.Common.{Bool, Contains, Err, List, None, Ok, Option, Result, Some, [], ap, arith, false, if◌then◌else◌, is_some, length, map, nat_eq, refl, subst, suc, sym, true, unwrap_or, ℕ, ◌*◌, ◌++◌, ◌+◌, ◌<◌, ◌∙◌, ◌∷◌, ◌≡◌, ◌≤◌}
-use Rattle.save_file.proofs.Common.{Accepted, AllByRecursion, Answer, Answered, AnswersFit, AreLists, AreOwn, BadSaved, CarriedLine, CarriedRead, CarriedStage, CarriedText, EndsCarried, FactPath, FactsRise, FromOne, GivesLines, Global, HasPath, IfErr, IfOk, IsAccepted, IsCarried, IsCarriedStage, IsOf, IsOfLists, IsOfUpTo, IsSlot, IsSlotPath, IsWhose, Kept, Lines, LoadFault, Member, Number, Opening, Override, Pairs, ReadsNext, Refuses, RefusesText, Rise, Side, Slot, SlotPath, Tree, Value, WellFormed, Whole, accepted, answered, append-nil, both, carried, carried_lines, collection, counted_from, end_line, entered, entries, entry, equal_bytes, fact_of, global_has_none, has_its_member, home, home_is_collection, is_member, is_own, is_printed_of, kept_collection, lines_of, list_any, list_of, lists_lines, member_of, member_place, members_named, members_of_home, named_fact, names_of, next_line, opened, place_in, position, printed, same_Some, same_bytes, same_number, saved, saved_lines, slot, slot_of, slot_path_of, something, stage_lines, stands, start, start_at, start_fits, taken_value, takes, text_of, texts_of, value_of, value_spelled, ◌↔◌}
-use Rattle.std.specs.FinMap as map
-use Rattle.std.specs.Prelude.{IsTrue}
+use Rattle.save_file.proofs.Common.{Accepted, AllByRecursion, Answer, Answered, AnswersFit, AreLists, AreOwn, BadSaved, Bool, CarriedLine, CarriedRead, CarriedStage, CarriedText, Contains, EndsCarried, Err, FactPath, FactsRise, FromOne, GivesLines, Global, HasPath, IfErr, IfOk, IsAccepted, IsCarried, IsCarriedStage, IsOf, IsOfLists, IsOfUpTo, IsSlot, IsSlotPath, IsTrue, IsWhose, Kept, Lines, List, LoadFault, Member, None, Number, Ok, Opening, Option, Override, Pairs, ReadsNext, Refuses, RefusesText, Result, Rise, Side, Slot, SlotPath, Some, Tree, Value, WellFormed, Whole, [], accepted, answered, ap, append-nil, arith, both, carried, carried_lines, collection, counted_from, end_line, entered, entries, entry, equal_bytes, fact_of, false, global_has_none, has_its_member, home, home_is_collection, if◌then◌else◌, is_member, is_own, is_printed_of, is_some, kept_collection, length, lines_of, list_any, list_of, lists_lines, map, member_of, member_place, members_named, members_of_home, named_fact, names_of, nat_eq, next_line, opened, place_in, position, printed, refl, same_Some, same_bytes, same_number, saved, saved_lines, slot, slot_of, slot_path_of, something, stage_lines, stands, start, start_at, start_fits, subst, suc, sym, taken_value, takes, text_of, texts_of, true, value_of, value_spelled, ℕ, ◌*◌, ◌++◌, ◌+◌, ◌<◌, ◌↔◌, ◌∙◌, ◌∷◌, ◌≡◌, ◌≤◌}
+use Rattle.std.proofs.Common.{unwrap_or}
 use Rattle.answers.proofs.OpenedListsLaws.{given_well, of_lists}
 use Rattle.answers.specs.OpenedLists.{with_all}
 use Rattle.answers.specs.declared.parts.Parts.{Parts}
-use Rattle.fact_paths.specs.declared.fact_path.FactPath.TheVariants as facts_by
 use Rattle.save_file.proofs.CarriedAnswers.{AreSoFar, any_listed, given_named, kept_parts, list_within, one_path_of, opened_apart, opened_below, opened_by_lines, opened_members, opened_rise, same_name, taken_takes, whole}
 use Rattle.save_file.proofs.CarriedEnds.{finished, line_refused}
-use Rattle.save_file.proofs.CarriedSteps.{goes_on}
-use Rattle.save_file.proofs.Lines.{across, all_of, all_where, one_of_all, one_rising, pairs-append, pairs_where}
+use Rattle.saved_text.proofs.CarriedSteps.{goes_on}
+use Rattle.saved_text.proofs.Lines.{across, all_of, all_where, one_of_all, one_rising, pairs-append, pairs_where}
 use Rattle.save_file.proofs.OwnLaws.{named_there}
 use Rattle.save_file.proofs.SameTexts.{all_parts, behind, each_there, fact_named, in_home, is_carried, list_named, list_of_all, list_part, name_of, of_all, of_lists as of_each_list, of_side, one_saved, own_text, path_at, same_text, saved_is, side_part, spelled_entry, spelled_slot, two_entries, two_lists, value_of_all}
-use Rattle.save_file.proofs.SlotTexts.{entry_slot, open_list, path_parts, printed_read}
-use Rattle.save_file.proofs.SlotsLeft.{slot_number, slot_place_low}
-use Rattle.save_file.proofs.TextLaws.{all-append}
-use Rattle.save_file.specs.declared.fault.LoadFault.TheVariants.{NoMemory}
+use Rattle.saved_text.proofs.SlotTexts.{entry_slot, open_list, path_parts}
+use Rattle.save_file.proofs.PrintedValues.{printed_read}
+use Rattle.save_file.proofs.SlotsRise.{slot_number, slot_place_low}
+use Rattle.saved_text.proofs.TextLaws.{all-append}
+use Rattle.saved_text.specs.declared.fault.LoadFault.TheVariants.{NoMemory}
+use Rattle.std.specs.FinMap as map
+use Rattle.fact_paths.specs.declared.fact_path.FactPath.TheVariants as facts_by
 
 list_there : (a : Answered) (h k : ℕ) → is_member a h k ≡ true → (ms : List ℕ) × (map.get a.lists h ≡ Some ms)
 list_there a h k i = at (map.get a.lists h) refl

@@ -1,15 +1,14 @@
 -- What is taken of a text that came from outside, and which lines are dropped.
-use Rattle.std.proofs.Common.{Bool, Contains, List, None, Option, Some, [], ap, append_assoc, arith, drop, false, filter, get_or, length, map, not, refl, subst, suc, sym, true, ℕ, ◌&&◌, ◌++◌, ◌+◌, ◌<◌, ◌||◌, ◌∙◌, ◌∷◌, ◌≡◌, ◌≤◌}
-use Rattle.save_file.proofs.Common.{AllByRecursion, Answer, Answered, AreOfKept, BadValue, CarriedLine, CarriedRead, CarriedText, Global, HasItsForm, IsBelowNext, IsCarried, IsCarryOf, IsInOrder, IsPlaced, IsShort, Member, NamesOther, NoMember, Override, Pairs, Refusal, Rules, SharesNone, SlotPath, TextLine, Tree, UnknownFact, Value, WrongKind, both, carried, collection, drop_more, dropped_from, entry, fact_of, first_of, has_its_member, is_answered_by, is_collection, kept_collection, kept_value, lacks_member, limit_refusals, line_of, list_any, lists_member, named_fact, names_of, option_map, overrides, read_lines as lines_of, set_refusals, text_of, tree_of, value_of, value_refusals, value_spelled, when}
+use Rattle.save_file.proofs.Common.{AllByRecursion, Answer, Answered, AreOfKept, BadValue, Bool, CarriedLine, CarriedRead, CarriedText, Contains, Global, HasItsForm, IsBelowNext, IsCarried, IsCarryOf, IsInOrder, IsPlaced, IsShort, IsTrue, List, Member, NamesOther, NoMember, None, Option, Override, Pairs, Refusal, Rules, SharesNone, SlotPath, Some, TextLine, Tree, UnknownFact, Value, WrongKind, [], ap, append_assoc, arith, both, carried, collection, drop, drop_more, dropped_from, entry, fact_of, false, filter, first_of, get_or, guarded, has_its_member, if◌then◌else◌, is_answered_by, is_collection, is_none, is_some, kept_collection, kept_value, lacks_member, length, limit_refusals, line_of, list_any, lists_member, map, named_fact, names_of, not, option_map, overrides, read_lines as lines_of, refl, set_refusals, subst, suc, sym, text_of, tree_of, true, unwrap_or, value_of, value_refusals, value_spelled, when, ℕ, ◌&&◌, ◌++◌, ◌+◌, ◌<◌, ◌||◌, ◌∙◌, ◌∷◌, ◌≡◌, ◌≤◌}
 use Rattle.std.proofs.lemmas.List.Filters.{length-filter_both}
-use Rattle.std.specs.FinMap as map
-use Rattle.std.specs.Prelude.{IsTrue, if◌then◌else◌, is_none, is_some, unwrap_or}
 use Rattle.save_file.proofs.CarriedAnswers.{placed_where}
-use Rattle.save_file.proofs.CarryLaws.{of_one, one_text}
-use Rattle.save_file.proofs.Lines.{chosen_by, one_of_all}
+use Rattle.save_file.proofs.CarryLaws.{of_one}
+use Rattle.saved_text.proofs.CarriedTexts.{one_text}
+use Rattle.saved_text.proofs.Lines.{one_of_all}
 use Rattle.save_file.specs.Resuming.{CarryingGivesTheSame, IsResumeOf, LimitsAllowWhatStands, NoOverrideStands, SetSaysTheReason, DroppedLine, DroppedWhereNotKept, fact_refusals, reason_of, dropped_where, without_overrides}
 use Rattle.save_file.specs.declared.reason.Reason.TheVariants.{NoCollection, Refused as RefusedBy}
 use Rattle.save_file.specs.declared.reason.Reason.{Reason}
+use Rattle.std.specs.FinMap as map
 
 -- ==== lines without overrides
 
@@ -134,7 +133,7 @@ nothing (Some f) e = absurd cc
 
 kept_allowed : (r : Rules) (fact : ℕ) (text : List ℕ) (v : Value) → kept_value r Answer fact text ≡ Some v → IsTrue (is_answered_by (tree_of r) fact) × (first_of (limit_refusals r fact (Some v)) ≡ None)
 kept_allowed r fact text v e =
-    let parts = chosen_by (is_answered_by (tree_of r) fact && is_none (first_of (value_refusals r fact text))) (value_spelled (tree_of r) fact text) v e in
+    let parts = guarded (is_answered_by (tree_of r) fact && is_none (first_of (value_refusals r fact text))) (value_spelled (tree_of r) fact text) v e in
     let tests = both (is_answered_by (tree_of r) fact) (is_none (first_of (value_refusals r fact text))) parts.0 in
     (tests.0, nothing (first_of (limit_refusals r fact (Some v))) (sym (ap (λ (o : Option Value). is_none (first_of (when (is_none o) BadValue ∷ limit_refusals r fact o))) parts.1) ∙ tests.1))
 

@@ -1,21 +1,22 @@
 -- The saved text of answers that fit an accepted dictionary: it is a carried text, it tells its answers, and its own dictionary keeps its lines, but for answers that are refused now.
-use Rattle.std.proofs.Common.{Bool, Contains, IsSome, List, None, Option, Some, [], ap, append_assoc, arith, bytes_eq, cond, false, if◌then◌else◌, inl, inr, is_none, is_some, length, map, nat_eq, refl, slice_get, subst, suc, sym, true, unwrap_or, zero, ℕ, ◌&&◌, ◌++◌, ◌+◌, ◌<◌, ◌∙◌, ◌∷◌, ◌≡◌, ◌≤◌, ◌⊎◌}
-use Rattle.save_file.proofs.Common.{Accepted, AllByRecursion, Answer, Answered, AnswersFit, AreLists, BadValue, CarriedLine, CarriedText, Fact, FactPath, Global, HasItsForm, HasPath, IsAccepted, IsBelowNext, IsCarried, IsCarry, IsCarryOf, IsIn, IsInOrder, IsKeptOrListed, IsName, IsRefusedAnswer, IsShort, IsSlot, IsSlotPath, NamesOther, Override, OwnLinesAreKept, Pairs, Refusal, Rules, SavedTextsAreCarried, SavedTextsTellAnswers, SharesNone, Side, Slot, SlotPath, Tree, Value, and_intro, both, carried, carried_lines, codes, collection, count_by, end_line, entries, entry, entry_line, entry_lines, entry_lines_of, equal_bytes, fact_at, fact_of, fact_of_standing, fact_size, facts, false_from_ne_true, first_of, has_its_member, home, home_is_collection, is_collection_type, is_list, is_member, joined, keeps, kept_collection, key_text, limit_refusals, line_text, list_any, list_any-append, list_line, list_lines, list_lines_of, list_of, lists, lists_member, lists_member_of, ltb-false, map-append, mapped, member_below, member_list-length, name_short, named_fact, names_of, nat_lt, next_line, none-some, opening_line, opens_of, option_map, or_left, path_of, printed, printed_rest, rank, same, same_Some, same_number, saved, saved_lines, side_word, slot, slot_path, slot_path_of, slot_path_text, slot_same, slot_short, slot_text, slots, stands, sum_by, takes, text_spells, too_many, tree_of, value_of, value_refusals, value_spelled, when}
+use Rattle.save_file.proofs.Common.{Accepted, AllByRecursion, Answer, Answered, AnswersFit, AreLists, BadValue, Bool, CarriedLine, CarriedText, Contains, Fact, FactPath, Global, HasItsForm, HasPath, IsAccepted, IsBelowNext, IsCarried, IsCarry, IsCarryOf, IsIn, IsInOrder, IsKeptOrListed, IsName, IsRefusedAnswer, IsShort, IsSlot, IsSlotPath, IsSome, IsTrue, List, NamesOther, None, Option, Override, OwnLinesAreKept, Pairs, Refusal, Rules, SavedTextsAreCarried, SavedTextsTellAnswers, SharesNone, Side, Slot, SlotPath, Some, Tree, Value, [], and_intro, ap, append_assoc, arith, both, bytes_eq, carried, carried_lines, codes, collection, cond, count_by, end_line, entries, entry, entry_line, entry_lines, entry_lines_of, equal_bytes, fact_at, fact_of, fact_of_standing, fact_size, facts, false, false_from_ne_true, first_of, has_its_member, home, home_is_collection, if◌then◌else◌, inl, inr, is_collection_type, is_list, is_member, is_none, is_some, joined, keeps, kept_collection, key_text, length, limit_refusals, line_text, list_any, list_any-append, list_line, list_lines, list_lines_of, list_of, lists, lists_member, lists_member_of, ltb-false, map, map-append, mapped, member_below, member_list-length, name_short, named_fact, names_of, nat_eq, nat_lt, next_line, none-some, opening_line, opens_of, option_map, or_left, path_of, printed, printed_rest, rank, refl, same, same_Some, same_number, saved, saved_lines, side_word, slice_get, slot, slot_path, slot_path_of, slot_path_text, slot_same, slot_short, slot_text, slots, stands, subst, suc, sum_by, sym, takes, text_spells, too_many, tree_of, true, value_of, value_refusals, value_spelled, when, zero, ℕ, ◌&&◌, ◌++◌, ◌+◌, ◌<◌, ◌∙◌, ◌∷◌, ◌≡◌, ◌≤◌, ◌⊎◌}
+use Rattle.std.proofs.Common.{unwrap_or}
 use Rattle.save_file.specs.SavedLines.{EachAnswerIsKeptOrListed, HasALineEach, IsOnlyAt, IsSaid, KeepsOrListsAll, SavedTextsHaveALineEach}
+use Rattle.save_file.proofs.CarriedAnswers.{list_within, named_kept}
+use Rattle.saved_text.proofs.CarriedLines.{entry_pieces, few_lists, higher, in_order, names_other, shares_none}
+use Rattle.save_file.proofs.CarryLaws.{kept_or_listed, same_options, there_at}
+use Rattle.saved_text.proofs.CarriedTexts.{one_text}
+use Rattle.saved_text.proofs.LineTexts.{entry_short, list_short, rest_short, value_short}
+use Rattle.saved_text.proofs.Lines.{across, all_of, all_shown, any_counted, at_counted, counted_rise, each_shown, everywhere, few_shown, first_or, map_shown, mapped_at, none_there, one_of_all, onto, pairs-append, pairs_shown, shown}
+use Rattle.saved_text.proofs.SlotTexts.{entry_slot, found_at, list_slot, members_numbered, numbers_of, one_slot, open_list, open_list_members, path_parts, same_behind}
+use Rattle.save_file.proofs.PrintedValues.{of_type, printed_line, printed_read}
+use Rattle.save_file.proofs.SlotsRise.{at_one, none_outside, same_answers, slot_number, slots_rise}
+use Rattle.saved_text.proofs.TextLaws.{all-append, all_behind, in_front}
+use Rattle.value_text.proofs.PrintedTexts.{value_spelled as printed_spelled}
+use Rattle.saved_text.proofs.MemberParsing.{each_in}
 use Rattle.std.specs.FinMap as map
-use Rattle.std.specs.Prelude.{IsTrue}
 use Rattle.fact_paths.specs.declared.fact_path.FactPath.TheVariants as facts_by
 use Rattle.fact_paths.specs.declared.slot_path.SlotPath.TheVariants as paths
-use Rattle.save_file.proofs.CarriedAnswers.{list_within, named_kept}
-use Rattle.save_file.proofs.CarriedLines.{entry_pieces, few_lists, higher, in_order, names_other, shares_none}
-use Rattle.save_file.proofs.CarryLaws.{kept_or_listed, one_text, same_options, there_at}
-use Rattle.save_file.proofs.LineTexts.{entry_short, list_short, rest_short, value_short}
-use Rattle.save_file.proofs.Lines.{across, all_of, all_shown, any_counted, at_counted, counted_rise, each_shown, everywhere, few_shown, first_or, map_shown, mapped_at, none_there, one_of_all, onto, pairs-append, pairs_shown, shown}
-use Rattle.save_file.proofs.SlotTexts.{entry_slot, found_at, list_slot, members_numbered, numbers_of, of_type, one_slot, open_list, open_list_members, path_parts, printed_line, printed_read, same_behind}
-use Rattle.save_file.proofs.SlotsLeft.{at_one, none_outside, same_answers, slot_number, slots_rise}
-use Rattle.save_file.proofs.TextLaws.{all-append, all_behind, in_front}
-use Rattle.value_text.proofs.PrintedTexts.{value_spelled as printed_spelled}
-use Rattle.save_file.proofs.MemberParsing.{each_in}
 
 -- ==== the saved text of answers that fit an accepted dictionary is a carried text
 

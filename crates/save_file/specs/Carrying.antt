@@ -1,6 +1,5 @@
 -- Which lines of a carried text are kept over a dictionary, which answers they give, and what is said of the others.
 use Rattle.std.specs.Prelude.{◌≡◌, ◌↔◌, ℕ, suc, ◌+◌, ◌&&◌, Bool, not, IsTrue, nat_eq, List, [], ◌∷◌, Option, Some, None, IsSome, false, is_none, is_some, slice_get, Contains, if◌then◌else◌}
-use Rattle.std.specs.FinMap as map
 use Rattle.std.specs.List.{list_any}
 use Rattle.fact_paths.specs.declared.slot_path.SlotPath.{SlotPath}
 use Rattle.fact_paths.specs.declared.slot_path.SlotPath.TheVariants.{Global}
@@ -18,11 +17,12 @@ use Rattle.graph_session.specs.Kinds.{value_spelled}
 use Rattle.graph_session.specs.Naming.{fact_of, slot_of}
 use Rattle.graph_session.specs.Refusals.{first_of, limit_refusals, value_refusals}
 use Rattle.graph_session.specs.Rules.{Rules, tree_of}
-use Rattle.save_file.specs.CarriedText.{CarriedLine, CarriedText, IsCarried, IsCarriedText, carried, collection, entry}
-use Rattle.save_file.specs.Loading.{IsRefusedAt}
-use Rattle.save_file.specs.SavedText.{saved}
-use Rattle.save_file.specs.declared.fault.LoadFault.{LoadFault}
-use Rattle.save_file.specs.declared.fault.LoadFault.TheVariants.{BadSaved, NoMemory}
+use Rattle.saved_text.specs.CarriedText.{CarriedLine, CarriedText, IsCarried, IsCarriedText, carried, collection, entry}
+use Rattle.saved_text.specs.Refused.{IsRefusedAt}
+use Rattle.saved_text.specs.SavedText.{saved}
+use Rattle.saved_text.specs.declared.fault.LoadFault.{LoadFault}
+use Rattle.saved_text.specs.declared.fault.LoadFault.TheVariants.{BadSaved, NoMemory}
+use Rattle.std.specs.FinMap as map
 
 -- ---- which lines are kept
 

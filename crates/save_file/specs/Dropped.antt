@@ -5,7 +5,7 @@ use Rattle.fact_paths.specs.declared.slot_path.SlotPath.TheVariants.{Global}
 use Rattle.answers.specs.declared.edit.Side.TheVariants.{Override}
 use Rattle.graph_session.specs.Rules.{Rules}
 use Rattle.script_lines.specs.Joined.{joined}
-use Rattle.save_file.specs.CarriedText.{CarriedLine, CarriedText, IsCarried, carried, collection, entry, key_text}
+use Rattle.saved_text.specs.CarriedText.{CarriedLine, CarriedText, IsCarried, carried, collection, entry, key_text}
 use Rattle.save_file.specs.Carrying.{dropped_numbers, keeps}
 
 -- ---- their text

@@ -1,13 +1,8 @@
-pub mod CarriedParsing
-pub mod CarriedText
 pub mod Carrying
-pub mod Cursors
 pub mod Dropped
-pub mod EntryKeys
 pub mod Keeping
 pub mod Loading
 pub mod OwnLines
-pub mod Parsing
 pub mod Resuming
 pub mod SavedLines
-pub mod SavedText
+pub mod WhoseText

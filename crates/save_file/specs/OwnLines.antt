@@ -1,5 +1,5 @@
 -- Which lines of a carried text a saved text over a dictionary has, and in which order.
-use Rattle.std.specs.Prelude.{◌≡◌, ◌<◌, ◌≤◌, ℕ, suc, ◌+◌, ◌*◌, Bool, false, IsTrue, nat_eq, nat_lt, bytes_eq, List, [], ◌∷◌, ◌++◌, length, Option, Some, None, is_some, if◌then◌else◌, refl, codes}
+use Rattle.std.specs.Prelude.{◌≡◌, ◌<◌, ◌≤◌, ℕ, suc, ◌+◌, ◌-◌, ◌*◌, Bool, false, IsTrue, nat_eq, nat_lt, bytes_eq, List, [], ◌∷◌, length, slice_get, Option, Some, None, is_some, if◌then◌else◌, refl, codes}
 use Rattle.std.specs.List.{AllByRecursion, find}
 use Rattle.fact_paths.specs.declared.slot_path.SlotPath.{SlotPath}
 use Rattle.fact_paths.specs.declared.slot_path.SlotPath.TheVariants.{Global, Member}
@@ -9,7 +9,7 @@ use Rattle.dict_source.specs.Dictionary.{Dictionary as Tree}
 use Rattle.answers.specs.declared.edit.Side.{Side}
 use Rattle.answers.specs.declared.edit.Side.TheVariants.{Answer, Override}
 use Rattle.graph_session.specs.Naming.{fact_of}
-use Rattle.save_file.specs.CarriedText.{CarriedLine, Pairs, collection, entry, members_in}
+use Rattle.saved_text.specs.CarriedText.{CarriedLine, Pairs, collection, entry, members_in}
 use Rattle.save_file.specs.Carrying.{kept_collection}
 use Rattle.save_file.specs.Keeping.{taken_value}
 
@@ -81,9 +81,12 @@ abbrev pub position_behind : Tree → List CarriedLine → ℕ → CarriedLine �
 position_behind d lines last line = if is_own d line then if nat_lt last (position d lines line) then Some (position d lines line) else None else None
 
 -- so of the last of these lines; without any the position stays
-pub record IsPositionOfLast (d : Tree) (lines : List CarriedLine) (last : ℕ) (new : Option ℕ) : Type 0 where
-  pub some : (front : List CarriedLine) (line : CarriedLine) → lines ≡ front ++ line ∷ [] → new ≡ position_behind d lines last line
-  pub none : lines ≡ [] → new ≡ Some last
+abbrev pub position_of_last : Tree → List CarriedLine → ℕ → Option CarriedLine → Option ℕ
+position_of_last d lines last None = Some last
+position_of_last d lines last (Some line) = position_behind d lines last line
+
+abbrev pub IsPositionOfLast : Tree → List CarriedLine → ℕ → Option ℕ → Type 0
+IsPositionOfLast d lines last new = new ≡ position_of_last d lines last (slice_get lines (length lines - 1))
 
 -- worked examples
 place_in-second : place_in 7 (3 ∷ 7 ∷ 9 ∷ []) ≡ 1

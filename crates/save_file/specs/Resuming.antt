@@ -15,7 +15,7 @@ use Rattle.graph_session.specs.Refusals.{first_of, limit_refusals, set_refusals,
 use Rattle.graph_session.specs.Rules.{Rules, tree_of}
 use Rattle.graph_session.specs.declared.reply.Refusal.{Refusal}
 use Rattle.graph_session.specs.declared.reply.Refusal.TheVariants.{UnknownFact, WrongKind}
-use Rattle.save_file.specs.CarriedText.{CarriedLine, CarriedText, IsCarried, carried, collection, entry, key_text}
+use Rattle.saved_text.specs.CarriedText.{CarriedLine, CarriedText, IsCarried, carried, collection, entry, key_text}
 use Rattle.save_file.specs.Carrying.{AreOfKept, IsCarry, keeps, kept_collection}
 use Rattle.save_file.specs.declared.reason.Dropped.{Dropped}
 use Rattle.save_file.specs.declared.reason.Reason.{Reason}

@@ -1,6 +1,5 @@
 -- The lines of a saved text, as carrying sees them: one for each list, answer and override; so each is kept or listed.
 use Rattle.std.specs.Prelude.{◌≡◌, ℕ, ◌+◌, List, slice_get, Contains, Some}
-use Rattle.std.specs.FinMap as map
 use Rattle.fact_paths.specs.declared.slot_path.SlotPath.{SlotPath}
 use Rattle.fact_paths.specs.declared.slot_path.SlotPath.TheVariants.{Global}
 use Rattle.fact_values.specs.declared.slot.Slot.{Slot}
@@ -15,9 +14,10 @@ use Rattle.evaluation.specs.Results.{slot}
 use Rattle.dict_meaning.specs.Fits.{AnswersFit}
 use Rattle.dict_meaning.specs.SlotText.{slot_path}
 use Rattle.graph_session.specs.Rules.{Rules}
-use Rattle.save_file.specs.CarriedText.{CarriedLine, CarriedText, IsCarried, carried, collection, entry, key_text}
+use Rattle.saved_text.specs.CarriedText.{CarriedLine, CarriedText, IsCarried, carried, collection, entry, key_text}
 use Rattle.save_file.specs.Carrying.{IsCarry, IsKeptOrListed}
-use Rattle.save_file.specs.SavedText.{entry_line, list_line, saved, saved_lines}
+use Rattle.saved_text.specs.SavedText.{entry_line, list_line, saved, saved_lines}
+use Rattle.std.specs.FinMap as map
 
 -- ---- one line each
 

@@ -1,25 +1,14 @@
 // Reads the lines of a carried text, whatever the dictionary, or of a saved text over one.
-ghost use Rattle.std.specs.Prelude.{◌≡◌, ◌↔◌, ◌<◌, ◌∷◌, [], ◌++◌, ℕ, List, IsTrue, length, option_copied};
+ghost use Rattle.std.specs.Prelude.{◌<◌, length, option_copied};
 ghost use Rattle.script_lines.specs.Lines.{HasNoNewline};
-ghost use Rattle.save_file.specs.CarriedParsing.{EndsCarried, GivesLines, IsCarriedStage, IsOfUpTo, IsWhose, ReadsNext, stage_lines};
+ghost use Rattle.save_file.specs.WhoseText.{GivesLines, IsOfUpTo, IsWhose, ReadsNext};
+ghost use Rattle.saved_text.specs.CarriedParsing.{IsCarriedStage, stage_lines};
 
-use crate::carried_read::CarriedRead;
-use crate::carried_stage::{CarriedStage, read_carried};
-use crate::fault::LoadFault;
 use crate::own_lines::judge;
 use dictionary::Dictionary;
+use saved_text::{CarriedRead, CarriedStage, LoadFault, end_with, is_ended, read_carried};
 use script_lines::cut_line;
 use std::alloc::Global;
-
-// Whether the last byte is a newline.
-fn is_ended(bytes: &[u8]) -> bool
-    ensures { IsTrue result ↔ ((front : List ℕ) × (bytes.now ≡ front ++ 10 ∷ [])) }
-{
-    match bytes.last() {
-        None => false,
-        Some(last) => *last == b'\n',
-    }
-}
 
 // Takes the line of this number.
 fn read_next(
@@ -48,24 +37,6 @@ fn read_next(
             }
             Ok(Some(position)) => Ok((new, position)),
         },
-    }
-}
-
-// The lines of a whole text, of which `ended` says whether its last line has its newline.
-fn end_with(stage: CarriedStage, ended: bool, number: u32) -> Result<CarriedRead, LoadFault>
-    ensures { EndsCarried stage ended number result }
-{
-    match stage {
-        CarriedStage::Opening => Err(LoadFault::BadSaved(number)),
-        CarriedStage::Number => Err(LoadFault::BadSaved(number)),
-        CarriedStage::Lines(_) => Err(LoadFault::BadSaved(number)),
-        CarriedStage::Whole(read) => {
-            if ended {
-                Ok(read)
-            } else {
-                Err(LoadFault::BadSaved(number))
-            }
-        }
     }
 }
 

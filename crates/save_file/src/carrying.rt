@@ -5,21 +5,19 @@ ghost use Rattle.text_checks.specs.Tables.{named_checks};
 ghost use Rattle.graph_session.specs.Naming.{fact_of};
 ghost use Rattle.graph_session.specs.Refusals.{SameChecks};
 ghost use Rattle.graph_session.specs.Rules.{rules, tree_of};
-ghost use Rattle.save_file.specs.CarriedParsing.{line_of, text_of};
-ghost use Rattle.save_file.specs.CarriedText.{IsCarried};
+ghost use Rattle.saved_text.specs.CarriedParsing.{line_of, text_of};
+ghost use Rattle.saved_text.specs.CarriedText.{IsCarried};
 ghost use Rattle.save_file.specs.Carrying.{IsCarry, IsCarryOf, RefusesCarried, keeps, kept_collection, kept_value, numbers_failing};
 ghost use Rattle.save_file.specs.Keeping.{ArePlaced, IsLinePlaced, IsPlaced, entered, noted, with_line, with_value};
-ghost use Rattle.save_file.specs.declared.fault.LoadFault.TheVariants.{NoMemory};
+ghost use Rattle.saved_text.specs.declared.fault.LoadFault.TheVariants.{NoMemory};
 
-use crate::carried_line::{EntryLine, ListLine, TextLine};
-use crate::carried_read::CarriedRead;
 use crate::carried_text::read_lines;
 use crate::entering::set_value;
-use crate::fault::LoadFault;
 use crate::keeping::{collection_of, worth_of};
 use crate::opening::open_kept;
 use answers::Answers;
 use dictionary::Dictionary;
+use saved_text::{CarriedRead, EntryLine, ListLine, LoadFault, TextLine};
 use std::alloc::Global;
 use text_checks::CheckTable;
 

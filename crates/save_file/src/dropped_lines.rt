@@ -3,15 +3,13 @@ ghost use Rattle.std.specs.Prelude.{◌≡◌, ◌+◌, ◌<◌, ◌++◌, ◌�
 ghost use Rattle.text_checks.specs.Tables.{named_checks};
 ghost use Rattle.graph_session.specs.Refusals.{SameChecks};
 ghost use Rattle.graph_session.specs.Rules.{rules};
-ghost use Rattle.save_file.specs.CarriedParsing.{line_of, lines_of};
+ghost use Rattle.saved_text.specs.CarriedParsing.{line_of, lines_of};
 ghost use Rattle.save_file.specs.Resuming.{all_dropped, dropped_line, dropped_where, reason_of};
-ghost use Rattle.save_file.specs.declared.fault.LoadFault.TheVariants.{NoMemory};
+ghost use Rattle.saved_text.specs.declared.fault.LoadFault.TheVariants.{NoMemory};
 
-use crate::carried_line::TextLine;
-use crate::carried_read::{CarriedRead, key_of};
-use crate::fault::LoadFault;
 use crate::reason::{Dropped, Reason, reason_of_line};
 use dictionary::Dictionary;
+use saved_text::{CarriedRead, LoadFault, TextLine, key_of};
 use std::alloc::Global;
 use text_checks::CheckTable;
 

@@ -4,16 +4,15 @@ ghost use Rattle.answers.specs.Change.{Fits, applied, sets};
 ghost use Rattle.answers.specs.Meaning.{answered, change};
 ghost use Rattle.graph_session.specs.Naming.{fact_of};
 ghost use Rattle.graph_session.specs.Rules.{rules, tree_of};
-ghost use Rattle.save_file.specs.CarriedParsing.{line_of};
+ghost use Rattle.saved_text.specs.CarriedParsing.{line_of};
 ghost use Rattle.save_file.specs.Keeping.{ArePlaced, IsLinePlaced, IsPlaced, entered, taken_value, with_line, with_value};
-ghost use Rattle.save_file.specs.declared.fault.LoadFault.TheVariants.{NoMemory};
+ghost use Rattle.saved_text.specs.declared.fault.LoadFault.TheVariants.{NoMemory};
 
-use crate::carried_line::{EntryLine, TextLine};
-use crate::fault::LoadFault;
 use crate::keeping::taken_worth;
 use answers::{Answers, Edit, Side};
 use dictionary::Dictionary;
 use fact_values::{Slot, Value};
+use saved_text::{EntryLine, LoadFault, TextLine};
 use std::alloc::Global;
 
 // The edit that gives a slot a value.

@@ -10,10 +10,8 @@ ghost use Rattle.graph_session.specs.Refusals.{SameChecks};
 ghost use Rattle.graph_session.specs.Rules.{rules, tree_of};
 ghost use Rattle.save_file.specs.Carrying.{kept_collection, kept_value};
 ghost use Rattle.save_file.specs.Keeping.{IsPlaced, taken_value as value_taken};
-ghost use Rattle.save_file.specs.declared.fault.LoadFault.TheVariants as faults;
+ghost use Rattle.saved_text.specs.declared.fault.LoadFault.TheVariants as faults;
 
-use crate::carried_line::{EntryLine, ListLine};
-use crate::fault::LoadFault;
 use answers::{Answers, Side};
 use dictionary::Dictionary;
 use fact_paths::SlotPath;
@@ -21,6 +19,7 @@ use fact_values::{Slot, Value};
 use graph_session::{
     find_slot, is_answered, is_list, is_overridden, is_want_of_memory, judge_value, read_value,
 };
+use saved_text::{EntryLine, ListLine, LoadFault};
 use std::alloc::Global;
 use text_checks::CheckTable;
 use value_text::TextFault;

@@ -4,20 +4,19 @@ ghost use Rattle.answers.specs.Answered.{Answered};
 ghost use Rattle.answers.specs.Meaning.{answered};
 ghost use Rattle.dictionary.specs.Kept.{accepted};
 ghost use Rattle.dict_meaning.specs.Fits.{AnswersFit};
-ghost use Rattle.save_file.specs.CarriedParsing.{lines_of, text_of};
-ghost use Rattle.save_file.specs.CarriedText.{IsCarried, carried};
+ghost use Rattle.saved_text.specs.CarriedParsing.{lines_of, text_of};
+ghost use Rattle.saved_text.specs.CarriedText.{IsCarried, carried};
 ghost use Rattle.save_file.specs.Loading.{RefusesText};
 ghost use Rattle.save_file.specs.OwnLines.{AreOwn};
-ghost use Rattle.save_file.specs.SavedText.{saved};
-ghost use Rattle.save_file.specs.declared.fault.LoadFault.TheVariants.{NoMemory};
+ghost use Rattle.saved_text.specs.SavedText.{saved};
+ghost use Rattle.saved_text.specs.declared.fault.LoadFault.TheVariants.{NoMemory};
 
-use crate::carried_read::CarriedRead;
 use crate::carried_text::read_lines;
 use crate::entering::enter_all;
-use crate::fault::LoadFault;
 use crate::opening::open_kept;
 use answers::Answers;
 use dictionary::Dictionary;
+use saved_text::{CarriedRead, LoadFault};
 use std::alloc::Global;
 
 // The answers that lines of a saved text give.

@@ -5,20 +5,18 @@ ghost use Rattle.answers.specs.GivenLists.{IsOfLists};
 ghost use Rattle.answers.specs.Meaning.{answered};
 ghost use Rattle.answers.specs.WellFormed.{FromOne, WellFormed};
 ghost use Rattle.graph_session.specs.Rules.{rules, tree_of};
-ghost use Rattle.save_file.specs.CarriedParsing.{line_of, lines_of, text_of};
+ghost use Rattle.saved_text.specs.CarriedParsing.{line_of, lines_of, text_of};
 ghost use Rattle.fact_values.specs.Members.{IsMemberList};
-ghost use Rattle.save_file.specs.CarriedText.{IsCarried, members_in};
+ghost use Rattle.saved_text.specs.CarriedText.{IsCarried, members_in};
 ghost use Rattle.save_file.specs.Keeping.{opened, opened_at, opened_by, opens_fact};
-ghost use Rattle.save_file.specs.declared.fault.LoadFault.TheVariants.{NoMemory};
+ghost use Rattle.saved_text.specs.declared.fault.LoadFault.TheVariants.{NoMemory};
 
-use crate::carried_line::{TextLine, members_of};
-use crate::carried_read::CarriedRead;
-use crate::fault::LoadFault;
 use crate::keeping::collection_of;
 use answers::Answers;
 use dictionary::Dictionary;
 use fact_values::Members;
 use graph_session::is_list;
+use saved_text::{CarriedRead, LoadFault, TextLine, members_of};
 use std::alloc::Global;
 
 // Whether the line opens this collection.

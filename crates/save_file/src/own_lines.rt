@@ -4,21 +4,19 @@ ghost use Rattle.std.specs.List.{find};
 ghost use Rattle.dict_source.specs.Finding.{IsNumber};
 ghost use Rattle.value_text.specs.Values.{IsPrinted, printed};
 ghost use Rattle.graph_session.specs.Rules.{rules, tree_of};
-ghost use Rattle.save_file.specs.CarriedParsing.{JudgesLast, line_of, lines_of};
-ghost use Rattle.save_file.specs.CarriedText.{CarriedLine, collection, entry, members_in};
+ghost use Rattle.save_file.specs.WhoseText.{JudgesLast};
+ghost use Rattle.saved_text.specs.CarriedParsing.{line_of, lines_of};
+ghost use Rattle.saved_text.specs.CarriedText.{CarriedLine, collection, entry, members_in};
 ghost use Rattle.save_file.specs.Keeping.{taken_value as value_taken};
 ghost use Rattle.save_file.specs.OwnLines.{IsPositionOfLast, counted_from as facts_counted_from, is_list_named, is_printed_of, member_place as place_of_member, members_named as named_members, place_in as place_among, position_behind};
-ghost use Rattle.save_file.specs.declared.fault.LoadFault.TheVariants.{NoMemory};
+ghost use Rattle.saved_text.specs.declared.fault.LoadFault.TheVariants.{NoMemory};
 
-use crate::carried_line::{EntryLine, ListLine, TextLine, members_of};
-use crate::carried_read::CarriedRead;
-use crate::carried_stage::CarriedStage;
-use crate::fault::LoadFault;
 use crate::keeping::{collection_of, find_fact, taken_value};
 use answers::Side;
 use dictionary::Dictionary;
 use fact_paths::{Name, SlotPath};
 use fact_values::Value;
+use saved_text::{CarriedRead, CarriedStage, EntryLine, ListLine, LoadFault, TextLine, members_of};
 use std::alloc::Global;
 use value_text::{Line, print};
 

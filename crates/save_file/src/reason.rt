@@ -5,19 +5,18 @@ ghost use Rattle.dict_source.specs.Finding.{IsNumber};
 ghost use Rattle.answers.specs.declared.edit.Side.TheVariants.{Answer};
 ghost use Rattle.graph_session.specs.Refusals.{SameChecks, first_of};
 ghost use Rattle.graph_session.specs.Rules.{rules, tree_of};
-ghost use Rattle.save_file.specs.CarriedParsing.{line_of};
-ghost use Rattle.save_file.specs.CarriedText.{collection, entry};
+ghost use Rattle.saved_text.specs.CarriedParsing.{line_of};
+ghost use Rattle.saved_text.specs.CarriedText.{collection, entry};
 ghost use Rattle.save_file.specs.Resuming.{fact_refusals, reason_of};
-ghost use Rattle.save_file.specs.declared.fault.LoadFault.TheVariants as faults;
 ghost use Rattle.save_file.specs.declared.reason.Reason.TheVariants.{Refused as RefusedBy};
+ghost use Rattle.saved_text.specs.declared.fault.LoadFault.TheVariants as faults;
 
-use crate::carried_line::{EntryLine, ListLine, TextLine};
-use crate::fault::LoadFault;
 use crate::keeping::{collection_of, find_fact};
 use answers::Side;
 use dictionary::Dictionary;
 use fact_paths::SlotPath;
 use graph_session::{Refusal, is_answered, is_want_of_memory, judge_value};
+use saved_text::{EntryLine, ListLine, LoadFault, TextLine};
 use std::alloc::Global;
 use text_checks::CheckTable;
 

@@ -5,21 +5,19 @@ ghost use Rattle.text_checks.specs.Tables.{named_checks};
 ghost use Rattle.dict_meaning.specs.Fits.{AnswersFit};
 ghost use Rattle.graph_session.specs.Refusals.{SameChecks};
 ghost use Rattle.graph_session.specs.Rules.{rules, tree_of};
-ghost use Rattle.save_file.specs.CarriedParsing.{line_of, text_of};
-ghost use Rattle.save_file.specs.CarriedText.{IsCarried};
+ghost use Rattle.saved_text.specs.CarriedParsing.{line_of, text_of};
+ghost use Rattle.saved_text.specs.CarriedText.{IsCarried};
 ghost use Rattle.save_file.specs.Carrying.{AreOfKept, RefusesCarried};
 ghost use Rattle.save_file.specs.Resuming.{IsResume, IsResumeOf, dropped_line, overrides, without_overrides};
-ghost use Rattle.save_file.specs.declared.fault.LoadFault.TheVariants.{NoMemory};
+ghost use Rattle.saved_text.specs.declared.fault.LoadFault.TheVariants.{NoMemory};
 
-use crate::carried_line::TextLine;
-use crate::carried_read::CarriedRead;
 use crate::carried_text::read_lines;
 use crate::carrying::carry_lines;
 use crate::dropped_lines::lines_dropped;
-use crate::fault::LoadFault;
 use crate::reason::Dropped;
 use answers::{Answers, Side};
 use dictionary::Dictionary;
+use saved_text::{CarriedRead, LoadFault, TextLine};
 use std::alloc::Global;
 use text_checks::CheckTable;
 

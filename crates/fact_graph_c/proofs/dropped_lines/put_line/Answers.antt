@@ -1,5 +1,5 @@
 use Rattle.std.proofs.Common.{refl}
-use Rattle.save_file.proofs.DroppedLaws.{failed_piece, last_piece, wrote_piece}
+use Rattle.saved_text.proofs.Pieces.{failed_piece, last_piece, wrote_piece}
 use Rattle.fact_graph_c.proofs.DroppedLineLaws.{line_left}
 use Rattle.fact_graph_c.proofs.dropped_lines.put_line.Goals as goal
 

@@ -1,5 +1,5 @@
 use Rattle.std.proofs.Common.{inl, inr, refl, subst, arith}
-use Rattle.save_file.specs.CarriedText.{IsCarriedText}
+use Rattle.saved_text.specs.CarriedText.{IsCarriedText}
 use Rattle.save_file.specs.Carrying.{RefusesCarried}
 use Rattle.fact_graph_c.proofs.OpeningLaws.{memory_refuses, refuses_over}
 use Rattle.fact_graph_c.proofs.opening.begin_carried.Goals as goal

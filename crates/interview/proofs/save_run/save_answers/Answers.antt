@@ -3,7 +3,7 @@ use Rattle.std.specs.Io.KnownBytes.{Appends}
 use Rattle.fg_io.proofs.SentLaws.{sent_whole}
 use Rattle.answers.specs.Meaning.{answered}
 use Rattle.dictionary.specs.Kept.{accepted}
-use Rattle.save_file.specs.SavedText.{saved}
+use Rattle.saved_text.specs.SavedText.{saved}
 use Rattle.interview.proofs.save_run.save_answers.Goals as goal
 
 pub returns-in-Ok : goal.returns-in-Ok

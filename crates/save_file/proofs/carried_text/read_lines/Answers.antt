@@ -1,7 +1,6 @@
-use Rattle.std.proofs.Common.{List, [], ap, append_assoc, arith, length, length-append, refl, subst, sym, true, ℕ, ◌++◌, ◌∙◌, ◌∷◌, ◌≡◌, ◌≤◌}
-use Rattle.save_file.proofs.Common.{AllByRecursion, HasNoNewline, eqb-true, lines_of, option_copied, texts_of}
+use Rattle.save_file.proofs.Common.{AllByRecursion, HasNoNewline, List, [], ap, append_assoc, arith, eqb-true, length, length-append, lines_of, option_copied, refl, subst, sym, texts_of, true, ℕ, ◌++◌, ◌∙◌, ◌∷◌, ◌≡◌, ◌≤◌}
 use Rattle.save_file.proofs.OwnTexts.{ends, none_read, refused_next}
-use Rattle.save_file.proofs.TextLaws.{empty_is, lines_have_none}
+use Rattle.saved_text.proofs.TextLaws.{empty_is, lines_have_none}
 use Rattle.save_file.proofs.carried_text.read_lines.Goals as goal
 
 pub loop-rest-init : goal.loop-rest-init

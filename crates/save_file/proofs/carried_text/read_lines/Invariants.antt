@@ -1,5 +1,4 @@
-use Rattle.std.proofs.Common.{length, ◌++◌, ◌+◌, ◌≡◌, ◌≤◌}
-use Rattle.save_file.proofs.Common.{IsCarriedStage, IsOfUpTo, lines_of, option_copied, stage_lines, texts_of}
+use Rattle.save_file.proofs.Common.{IsCarriedStage, IsOfUpTo, length, lines_of, option_copied, stage_lines, texts_of, ◌++◌, ◌+◌, ◌≡◌, ◌≤◌}
 use Rattle.save_file.proofs.carried_text.read_lines.Given as goal
 
 abbrev pub invariant-loop-rest : goal.invariant-loop-rest

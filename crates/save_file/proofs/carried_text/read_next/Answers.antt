@@ -1,5 +1,4 @@
-use Rattle.std.proofs.Common.{refl}
-use Rattle.save_file.proofs.Common.{option_copied}
+use Rattle.save_file.proofs.Common.{option_copied, refl}
 use Rattle.save_file.proofs.OwnLaws.{next_of, none_goes_on}
 use Rattle.save_file.proofs.carried_text.read_next.Goals as goal
 

@@ -1,5 +1,4 @@
-use Rattle.std.proofs.Common.{arith}
-use Rattle.graph_session.specs.Rules.{rules}
+use Rattle.save_file.proofs.Common.{arith, rules}
 use Rattle.save_file.proofs.CarriedAnswers.{carry_refused, carry_result, few_lines}
 use Rattle.save_file.proofs.carrying.carry.Goals as goal
 

@@ -1,6 +1,4 @@
-use Rattle.std.proofs.Common.{List, ap, length, map, subst, sym, ℕ, ◌++◌, ◌+◌, ◌<◌, ◌∙◌}
-use Rattle.save_file.proofs.Common.{ArePlaced, TextLine, accepted, answered, dropped_numbers, entered, kept_value, line_of, names_of, text_of, tree_of}
-use Rattle.graph_session.specs.Rules.{rules}
+use Rattle.save_file.proofs.Common.{ArePlaced, List, TextLine, accepted, answered, ap, dropped_numbers, entered, kept_value, length, line_of, map, names_of, rules, subst, sym, text_of, tree_of, ℕ, ◌++◌, ◌+◌, ◌<◌, ◌∙◌}
 use Rattle.save_file.proofs.CarriedAnswers.{entries_placed, is_carried, kept_takes}
 use Rattle.save_file.proofs.carrying.carry_lines.Goals as goal
 

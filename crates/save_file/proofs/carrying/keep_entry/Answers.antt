@@ -1,5 +1,4 @@
-use Rattle.save_file.proofs.Common.{answered, kept_value, tree_of}
-use Rattle.graph_session.specs.Rules.{rules}
+use Rattle.save_file.proofs.Common.{answered, kept_value, rules, tree_of}
 use Rattle.save_file.proofs.CarriedAnswers.{entry_set, kept_takes, stands_there}
 use Rattle.save_file.proofs.carrying.keep_entry.Goals as goal
 

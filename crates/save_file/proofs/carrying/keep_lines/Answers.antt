@@ -1,6 +1,4 @@
-use Rattle.std.proofs.Common.{arith, suc, ◌+◌, ◌∙◌, ◌≡◌}
-use Rattle.save_file.proofs.Common.{answered, kept_value, tree_of}
-use Rattle.graph_session.specs.Rules.{rules}
+use Rattle.save_file.proofs.Common.{answered, arith, kept_value, rules, suc, tree_of, ◌+◌, ◌∙◌, ◌≡◌}
 use Rattle.save_file.proofs.CarriedAnswers.{entered_on, item_placed, lists_on, numbers_on}
 use Rattle.save_file.proofs.carrying.keep_lines.Goals as goal
 

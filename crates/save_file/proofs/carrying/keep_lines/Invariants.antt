@@ -1,7 +1,5 @@
 -- What the lines that are left make of the answers and of the numbers is what all make.
-use Rattle.std.proofs.Common.{drop, map, ◌++◌, ◌+◌, ◌≡◌}
-use Rattle.save_file.proofs.Common.{answered, entered, keeps, kept_value, line_of, numbers_failing, tree_of}
-use Rattle.graph_session.specs.Rules.{rules}
+use Rattle.save_file.proofs.Common.{answered, drop, entered, keeps, kept_value, line_of, map, numbers_failing, rules, tree_of, ◌++◌, ◌+◌, ◌≡◌}
 use Rattle.save_file.proofs.carrying.keep_lines.Given as goal
 
 abbrev pub invariant-loop-line : goal.invariant-loop-line

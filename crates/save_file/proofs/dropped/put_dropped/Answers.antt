@@ -1,5 +1,4 @@
-use Rattle.std.proofs.Common.{List, subst, ℕ}
-use Rattle.save_file.proofs.Common.{Wrote}
+use Rattle.save_file.proofs.Common.{List, Wrote, subst, ℕ}
 use Rattle.save_file.proofs.DroppedLaws.{cause_of, said_text}
 use Rattle.save_file.proofs.dropped.put_dropped.Goals as goal
 

@@ -1,5 +1,4 @@
-use Rattle.std.proofs.Common.{arith, length, refl, sym, true, ◌+◌, ◌∙◌, ◌≡◌, ◌≤◌}
-use Rattle.save_file.proofs.Common.{eqb-true, failed_within, is_next, joined, lines_of, past, said_at, said_if, sent_piece}
+use Rattle.save_file.proofs.Common.{arith, eqb-true, failed_within, is_next, joined, length, lines_of, past, refl, said_at, said_if, sent_piece, sym, true, ◌+◌, ◌∙◌, ◌≡◌, ◌≤◌}
 use Rattle.save_file.proofs.DroppedLaws.{next_dropped, none_left}
 use Rattle.save_file.proofs.dropped.put_lines.Goals as goal
 

@@ -1,5 +1,4 @@
-use Rattle.std.proofs.Common.{length, ◌+◌, ◌≤◌}
-use Rattle.save_file.proofs.Common.{Sent, joined, lines_of, said_at}
+use Rattle.save_file.proofs.Common.{Sent, joined, length, lines_of, said_at, ◌+◌, ◌≤◌}
 use Rattle.save_file.proofs.dropped.put_lines.Given as goal
 
 abbrev pub invariant-loop-rest : goal.invariant-loop-rest

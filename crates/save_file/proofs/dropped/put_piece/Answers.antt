@@ -1,5 +1,4 @@
-use Rattle.std.proofs.Common.{[], ◌++◌, ◌∷◌, ◌≡◌}
-use Rattle.save_file.proofs.Common.{said}
+use Rattle.save_file.proofs.Common.{[], said, ◌++◌, ◌∷◌, ◌≡◌}
 use Rattle.save_file.proofs.DroppedLaws.{said_whole}
 use Rattle.save_file.proofs.dropped.put_piece.Goals as goal
 

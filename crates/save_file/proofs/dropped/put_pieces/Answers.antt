@@ -1,4 +1,5 @@
-use Rattle.save_file.proofs.DroppedLaws.{failed_piece, last_piece, said_left, wrote_piece}
+use Rattle.saved_text.proofs.Pieces.{failed_piece, last_piece, wrote_piece}
+use Rattle.save_file.proofs.DroppedLaws.{said_left}
 use Rattle.save_file.proofs.dropped.put_pieces.Goals as goal
 
 pub returns-in_err-put_text : goal.returns-in_err-put_text

@@ -1,6 +1,4 @@
-use Rattle.std.proofs.Common.{arith, map, suc, ◌+◌, ◌∙◌, ◌≡◌}
-use Rattle.save_file.proofs.Common.{dropped_line, line_of}
-use Rattle.graph_session.specs.Rules.{rules}
+use Rattle.save_file.proofs.Common.{arith, dropped_line, line_of, map, rules, suc, ◌+◌, ◌∙◌, ◌≡◌}
 use Rattle.save_file.proofs.ResumeLaws.{dropped_on}
 use Rattle.save_file.proofs.dropped_lines.note_lines.Goals as goal
 

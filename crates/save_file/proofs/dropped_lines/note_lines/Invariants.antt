@@ -1,7 +1,5 @@
 -- What is noted so far, with what is dropped of the lines that are left, is all.
-use Rattle.std.proofs.Common.{drop, map, ◌++◌, ◌+◌, ◌≡◌}
-use Rattle.save_file.proofs.Common.{dropped_from, dropped_line, line_of}
-use Rattle.graph_session.specs.Rules.{rules}
+use Rattle.save_file.proofs.Common.{drop, dropped_from, dropped_line, line_of, map, rules, ◌++◌, ◌+◌, ◌≡◌}
 use Rattle.save_file.proofs.dropped_lines.note_lines.Given as goal
 
 abbrev pub invariant-loop-line : goal.invariant-loop-line

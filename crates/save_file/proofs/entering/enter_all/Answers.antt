@@ -1,6 +1,4 @@
-use Rattle.std.proofs.Common.{◌∙◌}
-use Rattle.save_file.proofs.Common.{answered, taken_value, tree_of}
-use Rattle.graph_session.specs.Rules.{rules}
+use Rattle.save_file.proofs.Common.{answered, rules, taken_value, tree_of, ◌∙◌}
 use Rattle.save_file.proofs.CarriedAnswers.{entered_on, item_placed, lists_on}
 use Rattle.save_file.proofs.entering.enter_all.Goals as goal
 

@@ -1,7 +1,5 @@
 -- What the lines that are left make of the answers is what all make.
-use Rattle.std.proofs.Common.{drop, map, ◌≡◌}
-use Rattle.save_file.proofs.Common.{answered, entered, line_of, taken_value, tree_of}
-use Rattle.graph_session.specs.Rules.{rules}
+use Rattle.save_file.proofs.Common.{answered, drop, entered, line_of, map, rules, taken_value, tree_of, ◌≡◌}
 use Rattle.save_file.proofs.entering.enter_all.Given as goal
 
 abbrev pub invariant-loop-line : goal.invariant-loop-line

@@ -1,5 +1,4 @@
-use Rattle.save_file.proofs.Common.{answered, taken_value, tree_of}
-use Rattle.graph_session.specs.Rules.{rules}
+use Rattle.save_file.proofs.Common.{answered, rules, taken_value, tree_of}
 use Rattle.save_file.proofs.CarriedAnswers.{entry_set, stands_there, taken_takes}
 use Rattle.save_file.proofs.entering.enter_entry.Goals as goal
 

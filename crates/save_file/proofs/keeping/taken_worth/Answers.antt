@@ -1,19 +1,13 @@
-use Rattle.std.proofs.Common.{List, Option, ap, ℕ, ◌∙◌}
-use Rattle.save_file.proofs.Common.{Slot, Value, answered, found_number, option_map, taken_value, tree_of}
-use Rattle.std.specs.Prelude.{string_bytes}
-use Rattle.graph_session.specs.Rules.{rules}
-use Rattle.save_file.proofs.CarriedAnswers.{slot_named}
+use Rattle.save_file.proofs.Common.{answered, found_number, rules, taken_value, tree_of}
+use Rattle.save_file.proofs.CarriedAnswers.{slot_named, worth_found}
 use Rattle.save_file.proofs.keeping.taken_worth.Goals as goal
 
 pub taken_value-requires : goal.taken_value-requires
 taken_value-requires c =
-    found_number (tree_of (rules c.args.dict.now)) c.args.line.now.path c.in-Ok.slot.fact (slot_named (rules c.args.dict.now) (answered c.args.answers.now) c.args.line.now.path c.in-Ok.slot c.in-Ok.ensures).0
+    let r = rules c.args.dict.now in
+    found_number (tree_of r) c.args.line.now.path c.in-Ok.slot.fact (slot_named r (answered c.args.answers.now) c.args.line.now.path c.in-Ok.slot c.in-Ok.ensures).0
 
 pub returns-in-Ok-taken_value-clause-worth : goal.returns-in-Ok-taken_value-clause-worth
 returns-in-Ok-taken_value-clause-worth c =
-    let d = tree_of (rules c.args.dict.now) in
     let slot = (slot_named (rules c.args.dict.now) (answered c.args.answers.now) c.args.line.now.path c.in-Ok.slot c.in-Ok.ensures).1 in
-    c.at_slot.ensures
-    ∙ ap (λ (o : Option Value). option_map (λ (v : Value). (c.in-Ok.slot, v)) o) c.in-Ok-taken_value.ensures.value
-    ∙ ap (λ (t : List ℕ). option_map (λ (v : Value). (c.in-Ok.slot, v)) (taken_value d c.args.line.now.side c.in-Ok.slot.fact t)) c.as_str.ensures.value
-    ∙ ap (λ (s : Slot). option_map (λ (v : Value). (s, v)) (taken_value d c.args.line.now.side s.fact (string_bytes c.args.line.now.text))) slot
+    worth_found (taken_value (tree_of (rules c.args.dict.now)) c.args.line.now.side) c.in-Ok.slot _ _ _ _ _ slot c.as_str.ensures.value c.in-Ok-taken_value.ensures.value c.at_slot.ensures

@@ -1,5 +1,4 @@
-use Rattle.std.proofs.Common.{List, ap, map, subst, sym, ◌∙◌, ◌≡◌}
-use Rattle.save_file.proofs.Common.{AnswersFit, AreLists, ArePlaced, TextLine, accepted, answered, entered, line_of, names_of, saved, taken_value, text_of}
+use Rattle.save_file.proofs.Common.{AnswersFit, AreLists, ArePlaced, List, TextLine, accepted, answered, ap, entered, line_of, map, names_of, saved, subst, sym, taken_value, text_of, ◌∙◌, ◌≡◌}
 use Rattle.save_file.proofs.CarriedAnswers.{entries_placed, taken_takes}
 use Rattle.save_file.proofs.OwnTexts.{fits, saved_so}
 use Rattle.save_file.proofs.loading.answers_of.Goals as goal

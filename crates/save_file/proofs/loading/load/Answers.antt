@@ -1,5 +1,4 @@
-use Rattle.std.proofs.Common.{subst, ◌≡◌}
-use Rattle.save_file.proofs.Common.{AreLists, accepted, names_of}
+use Rattle.save_file.proofs.Common.{AreLists, accepted, names_of, subst, ◌≡◌}
 use Rattle.save_file.proofs.OwnTexts.{load_only, load_refused, loaded}
 use Rattle.save_file.proofs.loading.load.Goals as goal
 

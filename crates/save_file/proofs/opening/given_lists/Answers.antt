@@ -1,7 +1,5 @@
-use Rattle.std.proofs.Common.{List, ap, append_assoc, arith, map, suc, sym, ℕ, ◌++◌, ◌+◌, ◌-◌, ◌∙◌, ◌∷◌, ◌≡◌}
-use Rattle.save_file.proofs.Common.{counted, flat_map, line_of, opened_at, tree_of}
-use Rattle.graph_session.specs.Rules.{rules}
-use Rattle.save_file.proofs.SlotsLeft.{counted_more}
+use Rattle.save_file.proofs.Common.{List, ap, append_assoc, arith, counted, flat_map, line_of, map, opened_at, rules, suc, sym, tree_of, ℕ, ◌++◌, ◌+◌, ◌-◌, ◌∙◌, ◌∷◌, ◌≡◌}
+use Rattle.saved_text.proofs.SlotsLeft.{counted_more}
 use Rattle.save_file.proofs.opening.given_lists.Goals as goal
 
 pub loop-done-preserved : goal.loop-done-preserved

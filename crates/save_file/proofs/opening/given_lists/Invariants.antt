@@ -1,7 +1,5 @@
 -- What is given so far, with what the other facts are given, is all.
-use Rattle.std.proofs.Common.{map, suc, ◌++◌, ◌-◌, ◌≡◌}
-use Rattle.save_file.proofs.Common.{counted, flat_map, line_of, opened, opened_at, tree_of}
-use Rattle.graph_session.specs.Rules.{rules}
+use Rattle.save_file.proofs.Common.{counted, flat_map, line_of, map, opened, opened_at, rules, suc, tree_of, ◌++◌, ◌-◌, ◌≡◌}
 use Rattle.save_file.proofs.opening.given_lists.Given as goal
 
 abbrev pub invariant-loop-done : goal.invariant-loop-done

@@ -1,6 +1,4 @@
-use Rattle.std.proofs.Common.{List, ap, map, subst, sym, ◌∙◌}
-use Rattle.save_file.proofs.Common.{AreApart, AreBelow, FactsRise, TextLine, line_of, opened, tree_of}
-use Rattle.graph_session.specs.Rules.{rules}
+use Rattle.save_file.proofs.Common.{AreApart, AreBelow, FactsRise, List, TextLine, ap, line_of, map, opened, rules, subst, sym, tree_of, ◌∙◌}
 use Rattle.save_file.proofs.CarriedAnswers.{opened_apart, opened_below, opened_rise}
 use Rattle.save_file.proofs.opening.open_kept.Goals as goal
 

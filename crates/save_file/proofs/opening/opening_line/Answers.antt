@@ -1,8 +1,6 @@
-use Rattle.std.proofs.Common.{ap, map, sym, ◌∙◌}
-use Rattle.save_file.proofs.Common.{line_of, opens_fact, option_map, tree_of}
-use Rattle.graph_session.specs.Rules.{rules}
+use Rattle.save_file.proofs.Common.{ap, line_of, map, opens_fact, option_map, rules, sym, tree_of, ◌∙◌}
 use Rattle.save_file.proofs.CarriedAnswers.{none_opens}
-use Rattle.save_file.proofs.CarriedSteps.{found_of}
+use Rattle.saved_text.proofs.CarriedSteps.{found_of}
 use Rattle.save_file.proofs.opening.opening_line.Goals as goal
 
 pub returns-then-not-is_list : goal.returns-then-not-is_list

@@ -1,6 +1,4 @@
-use Rattle.std.proofs.Common.{sym}
-use Rattle.save_file.proofs.Common.{found_number, tree_of}
-use Rattle.graph_session.specs.Rules.{rules}
+use Rattle.save_file.proofs.Common.{found_number, rules, sym, tree_of}
 use Rattle.save_file.proofs.own_lines.entry_behind.Goals as goal
 
 pub is_own_value-requires : goal.is_own_value-requires

@@ -1,6 +1,4 @@
-use Rattle.std.proofs.Common.{ap, sym, ◌∙◌}
-use Rattle.save_file.proofs.Common.{is_printed_of, tree_of}
-use Rattle.graph_session.specs.Rules.{rules}
+use Rattle.save_file.proofs.Common.{ap, is_printed_of, rules, sym, tree_of, ◌∙◌}
 use Rattle.save_file.proofs.OwnLaws.{taken_printed}
 use Rattle.save_file.proofs.own_lines.is_own_value.Goals as goal
 

@@ -1,5 +1,4 @@
-use Rattle.save_file.proofs.Common.{tree_of}
-use Rattle.graph_session.specs.Rules.{rules}
+use Rattle.save_file.proofs.Common.{rules, tree_of}
 use Rattle.save_file.proofs.OwnLaws.{line_last, none_last}
 use Rattle.save_file.proofs.own_lines.judge_last.Goals as goal
 

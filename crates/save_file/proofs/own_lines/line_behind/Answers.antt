@@ -1,6 +1,4 @@
-use Rattle.std.proofs.Common.{ap, sym, ◌∙◌}
-use Rattle.save_file.proofs.Common.{line_of, position_behind, read_lines, tree_of}
-use Rattle.graph_session.specs.Rules.{rules}
+use Rattle.save_file.proofs.Common.{ap, line_of, position_behind, read_lines, rules, sym, tree_of, ◌∙◌}
 use Rattle.save_file.proofs.own_lines.line_behind.Goals as goal
 
 pub returns-in-Collection-clause-position : goal.returns-in-Collection-clause-position

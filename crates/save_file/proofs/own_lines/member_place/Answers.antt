@@ -1,5 +1,4 @@
-use Rattle.std.proofs.Common.{ap, sym, ◌∙◌}
-use Rattle.save_file.proofs.Common.{member_place, place_in, read_lines}
+use Rattle.save_file.proofs.Common.{ap, member_place, place_in, read_lines, sym, ◌∙◌}
 use Rattle.save_file.proofs.own_lines.member_place.Goals as goal
 
 pub returns-in-Member-clause-place : goal.returns-in-Member-clause-place

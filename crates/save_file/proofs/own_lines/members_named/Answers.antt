@@ -1,4 +1,4 @@
-use Rattle.std.proofs.Common.{None, Some, ◌∙◌}
+use Rattle.save_file.proofs.Common.{None, Some, ◌∙◌}
 use Rattle.save_file.proofs.OwnLaws.{named_of}
 use Rattle.save_file.proofs.own_lines.members_named.Goals as goal
 

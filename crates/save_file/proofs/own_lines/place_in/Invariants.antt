@@ -1,6 +1,5 @@
 -- What is left has the member as many places behind.
-use Rattle.std.proofs.Common.{drop, ◌+◌, ◌≡◌}
-use Rattle.save_file.proofs.Common.{place_in}
+use Rattle.save_file.proofs.Common.{drop, place_in, ◌+◌, ◌≡◌}
 use Rattle.save_file.proofs.own_lines.place_in.Given as goal
 
 abbrev pub invariant-loop-other : goal.invariant-loop-other

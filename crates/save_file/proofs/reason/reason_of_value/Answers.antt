@@ -1,6 +1,4 @@
-use Rattle.std.proofs.Common.{sym}
-use Rattle.save_file.proofs.Common.{found_number, tree_of}
-use Rattle.graph_session.specs.Rules.{rules}
+use Rattle.save_file.proofs.Common.{found_number, rules, sym, tree_of}
 use Rattle.save_file.proofs.reason.reason_of_value.Goals as goal
 
 pub refusal_of-requires-clause-number : goal.refusal_of-requires-clause-number

@@ -1,6 +1,4 @@
-use Rattle.std.proofs.Common.{subst, sym}
-use Rattle.save_file.proofs.Common.{AreOfKept, CarriedText, IsCarried, answered, text_of}
-use Rattle.graph_session.specs.Rules.{rules}
+use Rattle.save_file.proofs.Common.{AreOfKept, CarriedText, IsCarried, answered, rules, subst, sym, text_of}
 use Rattle.save_file.proofs.ResumeLaws.{carried_left, few_left, text_left}
 use Rattle.save_file.proofs.resuming.answers_of.Goals as goal
 

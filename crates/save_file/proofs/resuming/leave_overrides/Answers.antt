@@ -1,5 +1,5 @@
-use Rattle.std.proofs.Common.{not, rules}
-use Rattle.save_file.proofs.Common.{TextLine, line_of, overrides}
+use Rattle.save_file.proofs.Common.{TextLine, line_of, not, overrides}
+use Rattle.std.proofs.Common.{rules}
 use Rattle.std.proofs.lemmas.Fn.{filter_same}
 use Rattle.save_file.proofs.resuming.leave_overrides.Goals as goal
 

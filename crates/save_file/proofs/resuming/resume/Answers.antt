@@ -1,4 +1,4 @@
-use Rattle.std.proofs.Common.{arith}
+use Rattle.save_file.proofs.Common.{arith}
 use Rattle.save_file.proofs.CarriedAnswers.{few_lines}
 use Rattle.save_file.proofs.resuming.resume.Goals as goal
 

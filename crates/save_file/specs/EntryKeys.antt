@@ -1,7 +1,0 @@
--- Which texts a set has.
-use Rattle.std.specs.Prelude.{ℕ, Bool, List}
-use Rattle.std.specs.HashSet.{contains_text}
-use Rattle.save_file.specs.declared.entry_keys.EntryKeys.{EntryKeys}
-
-abbrev pub has : EntryKeys → List ℕ → Bool
-has h text = contains_text h.texts text

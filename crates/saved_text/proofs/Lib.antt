@@ -1,0 +1,12 @@
+pub mod CarriedLines
+pub mod CarriedSteps
+pub mod CarriedTexts
+pub mod Common
+pub mod LineTexts
+pub mod Lines
+pub mod MemberParsing
+pub mod Pieces
+pub mod RefusedLaws
+pub mod SlotTexts
+pub mod SlotsLeft
+pub mod TextLaws

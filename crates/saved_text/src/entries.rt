@@ -1,0 +1,123 @@
+// The lines of answers and overrides.
+ghost use Rattle.std.specs.Prelude.{◌≡◌, ◌+◌, ◌≤◌, ◌++◌, ◌∷◌, [], codes, length, option_copied, Some};
+ghost use Rattle.answers.specs.Answered.{value_of};
+ghost use Rattle.answers.specs.Meaning.{answered};
+ghost use Rattle.script_lines.specs.Joined.{joined};
+ghost use Rattle.value_text.specs.Values.{IsPrinted, printed};
+ghost use Rattle.dictionary.specs.Kept.{accepted};
+ghost use Rattle.dict_meaning.specs.Fits.{AnswersFit};
+ghost use Rattle.dict_meaning.specs.SlotText.{IsSlot, slot_text};
+ghost use Rattle.saved_text.specs.SavedText.{entries, entry_line, entry_lines, side_word as word_of_side};
+ghost use Rattle.fg_io.specs.Writing.{Wrote};
+
+use crate::cursor::Cursor;
+use answers::{Answers, Side};
+use dictionary::Dictionary;
+use fact_values::{Slot, Value};
+use fg_io::{Failed, Sink, put_text};
+use value_text::{Line, print};
+
+/// The first word of an entry's line, with its blank.
+pub fn side_word(side: Side) -> &'static str
+    ensures word { result.now ≡ word_of_side side }
+    ensures short { length result.now ≤ 9 }
+{
+    match side {
+        Side::Answer => "value ",
+        Side::Override => "override ",
+    }
+}
+
+fn entry_at(answers: &Answers, side: Side, slot: Slot) -> Option<&Value>
+    ensures { option_copied result ≡ value_of side (answered answers.now) slot }
+{
+    match side {
+        Side::Answer => answers.value(slot),
+        Side::Override => answers.override_of(slot),
+    }
+}
+
+// Puts a line up to its value.
+fn put_slot<K: Sink>(dict: &Dictionary, side: Side, slot: Slot, out: &mut K) -> Result<(), Failed>
+    requires { IsSlot (accepted dict.now).tree slot }
+    ensures { Wrote (K.output out.old) (K.output out.new)
+        (word_of_side side ++ (slot_text (accepted dict.now).tree slot ++ codes " ")) result }
+{
+    let _accepted = dict.source();
+    let mut line = Line::new();
+    line.push(side_word(side).as_bytes());
+    dict.print_slot(slot, &mut line);
+    line.push(b" ");
+    put_text(line.bytes(), out)
+}
+
+// Puts a value and its newline.
+fn put_value<K: Sink>(dict: &Dictionary, value: &Value, out: &mut K) -> Result<(), Failed>
+    requires { IsPrinted (accepted dict.now).tree.enums value.now }
+    ensures { Wrote (K.output out.old) (K.output out.new) (printed (accepted dict.now).tree.enums value.now ++ 10 ∷ [])
+        result }
+{
+    let mut line = Line::new();
+    print(value, dict.source().enums(), &mut line);
+    line.push(b"\n");
+    put_text(line.bytes(), out)
+}
+
+// Puts the line of a slot with this value.
+fn put_both<K: Sink>(
+    dict: &Dictionary,
+    side: Side,
+    slot: Slot,
+    value: &Value,
+    out: &mut K,
+) -> Result<(), Failed>
+    requires slot { IsSlot (accepted dict.now).tree slot }
+    requires listed { IsPrinted (accepted dict.now).tree.enums value.now }
+    ensures { Wrote (K.output out.old) (K.output out.new) (entry_line side (accepted dict.now).tree slot
+        value.now ++ 10 ∷ []) result }
+{
+    match put_slot(dict, side, slot, out) {
+        Err(failed) => Err(failed),
+        Ok(()) => put_value(dict, value, out),
+    }
+}
+
+// Puts the line of a slot that has an answer, or an override.
+fn put_entry<K: Sink>(
+    dict: &Dictionary,
+    answers: &Answers,
+    side: Side,
+    slot: Slot,
+    out: &mut K,
+) -> Result<(), Failed>
+    requires { AnswersFit (accepted dict.now).tree (answered answers.now) }
+    ensures { Wrote (K.output out.old) (K.output out.new)
+        (joined (entry_lines side (accepted dict.now).tree (answered answers.now) slot)) result }
+{
+    let _accepted = dict.source();
+    match entry_at(answers, side, slot) {
+        None => Ok(()),
+        Some(value) => put_both(dict, side, slot, value, out),
+    }
+}
+
+/// Puts the lines of all answers, or of all overrides.
+pub fn put_entries<K: Sink>(
+    dict: &Dictionary,
+    answers: &Answers,
+    side: Side,
+    out: &mut K,
+) -> Result<(), Failed>
+    requires { AnswersFit (accepted dict.now).tree (answered answers.now) }
+    ensures { Wrote (K.output out.old) (K.output out.new)
+        (joined (entries side (accepted dict.now).tree (answered answers.now))) result }
+{
+    let mut cursor = Cursor::new(dict, answers);
+    while let Some(slot) = cursor.next(dict, answers) {
+        match put_entry(dict, answers, side, slot, out) {
+            Err(failed) => return Err(failed),
+            Ok(()) => {}
+        }
+    }
+    Ok(())
+}
