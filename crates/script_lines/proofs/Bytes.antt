@@ -1,7 +1,12 @@
--- The lines of bytes, by the byte or the text in front.
-use Rattle.std.proofs.Common.{◌≡◌, ◌≢◌, ℕ, ◌+◌, ◌-◌, ◌<◌, List, [], ◌∷◌, ◌++◌, length, take, drop, refl, sym, ◌∙◌, ap, arith, length-append, length-drop}
+-- The lines of bytes, by the byte or the text in front, and bytes that are all ASCII.
+use Rattle.std.proofs.Common.{◌≡◌, ◌≢◌, ℕ, zero, suc, true, ◌+◌, ◌-◌, ◌<◌, List, [], ◌∷◌, ◌++◌, length, take, drop, refl, sym, ◌∙◌, ap, arith, length-append, length-drop}
+use Rattle.std.specs.Char.{is_ascii}
+use Rattle.std.specs.List.{list_all, slice_index}
+use Rattle.std.specs.Str.{IsUtf8}
 use Rattle.std.specs.Prelude.{map, if◌then◌else◌, ◌==◌}
+use Rattle.std.proofs.lemmas.Bool.{and_parts}
 use Rattle.std.proofs.lemmas.Bool.Decides.{nat_tests}
+use Rattle.std.proofs.lemmas.Str.{IsUtf8-from_ascii}
 use Rattle.std.proofs.lemmas.List.{append-nil, drop_more, take-append-drop, take_all}
 use Rattle.std.proofs.lemmas.List.Elements.{All-append, All-head, All-tail}
 use Rattle.script_lines.specs.Joined.{last_line}
@@ -105,3 +110,13 @@ cut_at bytes at newline =
 pub uncut : (bytes : List ℕ) → 0 < length bytes → HasNoNewline bytes → lines_of bytes ≡ bytes ∷ lines_of []
 uncut [] some none = absurd (omega arith)
 uncut (b ∷ bytes) some none = lines_of-last (b ∷ bytes) none
+
+-- ---- bytes that are all ASCII
+
+ascii_at : (bytes : List ℕ) → list_all is_ascii bytes ≡ true → (i : ℕ) → slice_index bytes i < 128
+ascii_at [] all i = omega arith
+ascii_at (b ∷ bytes) all zero = let first = (and_parts (is_ascii b) _ all).0 in grind (arith, nat_tests)
+ascii_at (b ∷ bytes) all (suc i) = ascii_at bytes (and_parts (is_ascii b) _ all).1 i
+
+pub ascii_is_utf8 : (bytes : List ℕ) → list_all is_ascii bytes ≡ true → IsUtf8 bytes
+ascii_is_utf8 bytes all = IsUtf8-from_ascii bytes (ascii_at bytes all)

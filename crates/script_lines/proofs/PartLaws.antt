@@ -3,7 +3,7 @@ use Rattle.std.proofs.Common.{◌≡◌, ℕ, List, ◌∷◌, ◌++◌, Option,
 use Rattle.std.specs.Prelude.{codes, decimal}
 use Rattle.std.proofs.lemmas.Option.{cond_some, same_Some}
 use Rattle.common_lemmas.proofs.Options.{both_some}
-use Rattle.fact_paths.specs.Cuts.{Lacks, cut, after}
+use Rattle.fact_paths.specs.Cuts.{Lacks, after}
 use Rattle.fact_paths.specs.Names.{is_name, IsName}
 use Rattle.fact_paths.specs.Paths.{IsMemberNumber, IsSlotPath, SpellsSlotPath, slot_path_text}
 use Rattle.fact_paths.specs.Parsing.{◌>>=◌, name_of, member_number_of}

@@ -4,5 +4,4 @@ pub mod Kept
 pub mod Kinds
 pub mod Lines
 pub mod Pieces
-pub mod Verbs
 pub mod Parsing

@@ -47,6 +47,7 @@ fn read_name(alloc: Global, text: &str) -> Result<Name, LineFault>
     }
 }
 
+#[inline(always)]
 fn copy_value(alloc: Global, text: &str) -> Result<ValueText, LineFault>
     ensures copied { IfOk result (λ value. value ≡ text.now) }
     ensures memory { IfErr result (λ fault. fault ≡ NoMemory) }

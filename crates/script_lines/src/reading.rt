@@ -1,5 +1,8 @@
 // Reads a line as a command.
-ghost use Rattle.std.specs.Prelude.{◌≡◌, ◌≤◌, length};
+ghost use Rattle.std.specs.Prelude.{◌≡◌, ◌≤◌, length, MatchOption};
+ghost use Rattle.std.specs.Char.{is_ascii};
+ghost use Rattle.std.specs.List.{list_all};
+ghost use Rattle.std.specs.Str.{IsUtf8};
 ghost use Rattle.script_lines.specs.Commands.{without_return as shorn, ReadsLine};
 ghost use Rattle.script_lines.specs.Parsing.{Gives, GivesHeard, command_alone, command_of_text, heard, heard_in};
 
@@ -45,6 +48,24 @@ fn without_return(line: &[u8]) -> &[u8]
     if *last == b'\r' { front } else { line }
 }
 
+// Whether all bytes are ASCII. It goes byte by byte, which takes less for a short line than std's test does.
+fn are_ascii(line: &[u8]) -> bool
+    ensures { result ≡ list_all is_ascii line.now }
+{
+    line.iter().all(|byte| byte.is_ascii())
+}
+
+// The line as a text, where it is UTF-8. Nearly all lines are ASCII.
+#[inline(always)]
+fn text_of(line: &[u8]) -> Option<&str>
+    ensures { MatchOption result (¬ (IsUtf8 line.now)) (λ text. (text.now ≡ line.now) × IsUtf8 line.now) }
+{
+    if are_ascii(line) {
+        return Some(unsafe { str::from_utf8_unchecked(line) });
+    }
+    str::from_utf8(line).ok()
+}
+
 // Reads a line without its final byte 13.
 fn read_shorn(alloc: Global, line: &[u8]) -> Result<Option<Command>, LineFault>
     ensures { GivesHeard (heard line.now) result }
@@ -55,7 +76,7 @@ fn read_shorn(alloc: Global, line: &[u8]) -> Result<Option<Command>, LineFault>
     if *first == b'#' {
         return Ok(None);
     }
-    let Ok(text) = str::from_utf8(line) else {
+    let Some(text) = text_of(line) else {
         return Err(LineFault::BadLine);
     };
     let command = read_text(alloc, text)?;
