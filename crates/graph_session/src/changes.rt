@@ -18,6 +18,7 @@ use script_lines::{Command, ValueText};
 use std::alloc::Global;
 use text_checks::CheckTable;
 
+#[inline(always)]
 fn edit_set(
     alloc: Global,
     dict: &Dictionary,

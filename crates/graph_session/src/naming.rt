@@ -26,6 +26,7 @@ fn find_fact(dict: &Dictionary, path: &SlotPath) -> Option<u32>
 }
 
 /// Whether the member is one of the collection.
+#[inline(never)]
 pub fn is_member(answers: &Answers, list: u32, member: u32) -> bool
     ensures { result ≡ among_members (answered answers.now) list member }
 {
@@ -36,6 +37,7 @@ pub fn is_member(answers: &Answers, list: u32, member: u32) -> bool
 }
 
 // Whether the path has a member that isn't in its collection; it is the path of this fact.
+#[inline(always)]
 fn lacks_member(dict: &Dictionary, answers: &Answers, path: &SlotPath, fact: u32) -> bool
     requires { named_fact (tree_of (rules dict.now)) path.now ≡ Some fact }
     ensures { result ≡ lacks (tree_of (rules dict.now)) (answered answers.now) path.now }

@@ -111,6 +111,7 @@ pub fn judge_release(dict: &Dictionary, answers: &Answers, path: &SlotPath) -> R
 }
 
 /// The slot that is to be answered, and the value.
+#[inline(always)]
 pub fn judge_set(
     alloc: Global,
     dict: &Dictionary,

@@ -13,6 +13,7 @@ use dictionary::Dictionary;
 use fact_paths::SlotPath;
 
 /// Asks for the slot's result.
+#[inline(always)]
 pub fn ask_answer(dict: &Dictionary, answers: &Answers, path: &SlotPath) -> Result<Reply, Refusal>
     ensures { result ≡ decided (first_of (slot_refusals (rules dict.now) (answered answers.now) path.now))
         (Answer (slot_of (tree_of (rules dict.now)) path.now)) }
@@ -22,6 +23,7 @@ pub fn ask_answer(dict: &Dictionary, answers: &Answers, path: &SlotPath) -> Resu
 }
 
 /// Asks whether the slot's result is final.
+#[inline(always)]
 pub fn ask_final(dict: &Dictionary, answers: &Answers, path: &SlotPath) -> Result<Reply, Refusal>
     ensures { result ≡ decided (first_of (slot_refusals (rules dict.now) (answered answers.now) path.now))
         (FinalAsked (slot_of (tree_of (rules dict.now)) path.now)) }

@@ -285,6 +285,7 @@ impl<E: FactEngine> Session<E> {
     }
 
     // The answer to a command that makes no change.
+    #[inline(always)]
     fn ask(&self, command: &Command) -> Result<Reply, Refusal>
         requires { timeline_by (tree_of (rules self.now.dict)) self.now.timeline command.now ≡ None }
         ensures { result ≡ decided (refusal (rules self.now.dict) (session_state self.now) command.now)
@@ -314,6 +315,7 @@ impl<E: FactEngine> Session<E> {
     /// Carries out a command: the reply, or the first refusal that holds. After a refusal, want of memory included, nothing
     /// has changed. For `set`, which alone asks checks, the table has those with which the dictionary was accepted, or no fact of it
     /// has a check.
+    #[inline(always)]
     pub fn command<L: Ledger>(
         &mut self,
         command: &Command,
