@@ -59,6 +59,7 @@ fn write_change<E: FactEngine, K: Sink>(
 }
 
 // Writes the reply of a command, and behind that of a change the watches that fire.
+#[inline(always)]
 fn write_said<E: FactEngine, K: Sink>(
     session: &Session<E>,
     watches: &Watches,
@@ -81,6 +82,7 @@ fn write_said<E: FactEngine, K: Sink>(
 }
 
 // Answers a command. Before a change what is watched was noted.
+#[inline(always)]
 fn answer_noted<E: FactEngine, L: Ledger, K: Sink>(
     session: &mut Session<E>,
     watches: &Watches,

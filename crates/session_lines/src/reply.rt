@@ -27,6 +27,7 @@ fn fault_text(fault: ValueFault) -> &'static str
 }
 
 // Prints a result into an empty line.
+#[inline(always)]
 fn print_res(res: &Res, lists: &EnumLists, line: &mut Line)
     requires listed { IsResPrinted lists.now res.now }
     requires empty { line.old ≡ [] }

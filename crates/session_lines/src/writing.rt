@@ -36,6 +36,7 @@ pub fn write_text<K: Sink>(text: &[u8], out: &mut K) -> Progress
 }
 
 /// Puts a printed text as a line: behind its mark, and with a newline.
+#[inline(always)]
 pub fn put_line<K: Sink>(mark: Mark, text: &mut Line, out: &mut K) -> Result<(), Failed>
     requires { length text.old ≤ 1050 }
     ensures { Wrote (K.output out.old) (K.output out.new) (line_with (marked mark text.old)) result }
@@ -56,6 +57,7 @@ pub fn put_line<K: Sink>(mark: Mark, text: &mut Line, out: &mut K) -> Result<(),
 }
 
 /// Writes a printed text as a line, and says how the script goes on behind it.
+#[inline(always)]
 pub fn write_line<K: Sink>(mark: Mark, text: &mut Line, out: &mut K) -> Progress
     requires { length text.old ≤ 1050 }
     ensures written { WrittenAs (K.output out.old) (K.output out.new) (line_with (marked mark text.old)) result }
