@@ -1,5 +1,5 @@
 -- Worked examples: what lines of several parties answer.
-use Rattle.std.proofs.Common.{◌≡◌, [], ◌∷◌, ◌++◌, refl}
+use Rattle.std.proofs.Common.{◌≡◌, [], ◌∷◌, refl}
 use Rattle.std.specs.Prelude.{codes}
 use Rattle.std.specs.Fmt.{digits}
 use Rattle.std.specs.Str.{is_utf8, chars}
@@ -11,21 +11,21 @@ use Rattle.shared_desk.specs.declared.refusal.DeskRefusal.TheVariants.{Stale, No
 use Rattle.desk_lines.specs.DeskStepping.{desk_open, desk_quit, desk_refusal_text, desk_replies, desk_state_after, marked_lines}
 
 -- each line has the mark
-marked_each : marked_lines 3 (codes "missing 1" ∷ codes "/a" ∷ []) ≡ codes "@3 missing 1" ++ 10 ∷ codes "@3 /a" ++ 10 ∷ []
+marked_each : marked_lines 3 (codes "missing 1" ∷ codes "/a" ∷ []) ≡ codes "@3 missing 1" ∷ codes "@3 /a" ∷ []
 unfolding digits
 marked_each = refl
 
-stale : marked_lines 2 (desk_refusal_text (Stale 1) ∷ []) ≡ codes "@2 refused 20 Stale 1" ++ 10 ∷ []
+stale : marked_lines 2 (desk_refusal_text (Stale 1) ∷ []) ≡ codes "@2 refused 20 Stale 1" ∷ []
 unfolding digits
 stale = refl
 
-not_yours : marked_lines 1 (desk_refusal_text (NotYours 2) ∷ []) ≡ codes "@1 refused 21 NotYours 2" ++ 10 ∷ []
+not_yours : marked_lines 1 (desk_refusal_text (NotYours 2) ∷ []) ≡ codes "@1 refused 21 NotYours 2" ∷ []
 unfolding digits
 not_yours = refl
 
 -- what isn't a command is told to the party, where there is one; behind `quit` nothing is answered
 output : (r : Rules) (d : Desk) → desk_replies r (desk_open d) (whole (codes "# note") ∷ long ∷ whole (codes "quit") ∷ whole (codes "@3 stop") ∷ whole (codes "@4 quit") ∷ whole (codes "@3 stop") ∷ [])
-    ≡ codes "refused 2 LongLine" ++ 10 ∷ codes "refused 1 BadLine" ++ 10 ∷ codes "@3 refused 1 BadLine" ++ 10 ∷ []
+    ≡ codes "refused 2 LongLine" ∷ codes "refused 1 BadLine" ∷ codes "@3 refused 1 BadLine" ∷ []
 unfolding digits is_utf8 chars encode
 output r d = refl
 

@@ -1,10 +1,10 @@
 -- How a line of a party is answered: what was written, and what stands behind it.
 use Rattle.std.specs.Prelude.{◌≡◌, ℕ, Bool, true, false, List, [], ◌∷◌}
-use Rattle.fg_io.specs.Outside.{Output, Rose}
-use Rattle.fg_io.specs.Sent.{Sent}
+use Rattle.fg_io.specs.Outside.{Output}
 use Rattle.script_lines.specs.Lines.{ScriptLine}
 use Rattle.graph_session.specs.Rules.{Rules}
 use Rattle.session_lines.specs.Answering.{EndsOrWrites}
+use Rattle.session_lines.specs.Writing.{WroteLines, WroteSome}
 use Rattle.session_lines.specs.declared.progress.Progress.{Progress}
 use Rattle.session_lines.specs.declared.progress.Progress.TheVariants.{More, Over, Unwritten, OutOfMemory}
 use Rattle.shared_desk.specs.Desk.{Desk}
@@ -17,15 +17,14 @@ use Rattle.desk_lines.specs.DeskStepping.{DeskState, desk_open, desk_refusal_tex
 abbrev pub StandsAt : DeskView → DeskState → Bool → Type 0
 StandsAt v state over = StandsFor v state.desk × (state.over ≡ over)
 
--- A text was told and a state left: the text was written whole, and the script goes on or is over; or it was written in part, after
--- a fault, and the state is left all the same; or there was no memory for it, and then nothing was written, and what is kept is as
+-- Lines were told and a state left: the lines were written whole, and the script goes on or is over; or they were written in part,
+-- after a fault, and the state is left all the same; or there was no memory for them, and then nothing was put, and what is kept is as
 -- before.
-abbrev pub DeskOutput : Output → Output → DeskView → DeskView → List ℕ → DeskState → Progress → Type 0
-DeskOutput sink sink_now v v_now text state More = Sent sink.taken sink_now.taken text [] × StandsAt v_now state false
-DeskOutput sink sink_now v v_now text state Over = Sent sink.taken sink_now.taken text [] × StandsAt v_now state true
-DeskOutput sink sink_now v v_now text state Unwritten =
-    (Rose sink.faults sink_now.faults × ((rest : List ℕ) × Sent sink.taken sink_now.taken text rest)) × StandsAt v_now state false
-DeskOutput sink sink_now v v_now text state OutOfMemory = (sink_now.taken ≡ sink.taken) × (v_now ≡ v)
+abbrev pub DeskOutput : Output → Output → DeskView → DeskView → List (List ℕ) → DeskState → Progress → Type 0
+DeskOutput sink sink_now v v_now lines state More = WroteLines sink sink_now lines × StandsAt v_now state false
+DeskOutput sink sink_now v v_now lines state Over = WroteLines sink sink_now lines × StandsAt v_now state true
+DeskOutput sink sink_now v v_now lines state Unwritten = WroteSome sink sink_now lines × StandsAt v_now state false
+DeskOutput sink sink_now v v_now lines state OutOfMemory = (sink_now ≡ sink) × (v_now ≡ v)
 
 -- a line, or none, was answered
 abbrev pub DeskAnsweredAs : Rules → Output → Output → DeskView → DeskView → Desk → List ScriptLine → Progress → Type 0

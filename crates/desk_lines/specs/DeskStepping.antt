@@ -13,7 +13,7 @@ use Rattle.graph_session.specs.declared.reply.Reply.{Reply}
 use Rattle.shared_desk.specs.Desk.{Desk, desk_begun, desk_step}
 use Rattle.shared_desk.specs.declared.refusal.DeskRefusal.{DeskRefusal}
 use Rattle.shared_desk.specs.declared.refusal.DeskRefusal.TheVariants as desk
-use Rattle.session_lines.specs.Replies.{bad_line_text, line_with, long_line_text, missing_output, numbered, refusal_text, reply_text}
+use Rattle.session_lines.specs.Replies.{bad_line_text, long_line_text, missing_output, numbered, refusal_text, reply_text}
 use Rattle.session_lines.specs.Marks as marks
 use Rattle.session_lines.specs.declared.mark.Mark.TheVariants.{Party}
 use Rattle.desk_lines.specs.PartyLines.{party_said_in}
@@ -34,13 +34,14 @@ abbrev pub desk_quit : Desk → DeskState
 desk_quit d = record { desk = d; over = true }
 
 pub record DeskStep : Type 0 where
-  pub text : List ℕ
+  -- the lines that are written, each without its newline
+  pub lines : List (List ℕ)
   pub state : DeskState
 
 -- ---- texts
 
 -- the party's mark stands before each line
-abbrev pub marked_lines : ℕ → List (List ℕ) → List ℕ
+abbrev pub marked_lines : ℕ → List (List ℕ) → List (List ℕ)
 marked_lines p lines = marks.marked_lines (Party p) lines
 
 abbrev pub desk_refusal_text : DeskRefusal → List ℕ
@@ -52,11 +53,11 @@ desk_refusal_text (desk.NotYours party) = numbered (codes "refused 21 NotYours "
 
 -- these lines are told to the party, and nothing changes
 abbrev pub step_telling : Desk → ℕ → List (List ℕ) → DeskStep
-step_telling d p lines = record { text = marked_lines p lines; state = desk_open d }
+step_telling d p lines = record { lines = marked_lines p lines; state = desk_open d }
 
 -- a desk's reply and the desk after it, or its refusal
 abbrev pub step_decided : Rules → Desk → ℕ → Result (Reply × Desk) DeskRefusal → DeskStep
-step_decided r d p (Ok answer) = record { text = marked_lines p (reply_text r answer.1.session_state answer.0 ∷ []); state = desk_open answer.1 }
+step_decided r d p (Ok answer) = record { lines = marked_lines p (reply_text r answer.1.session_state answer.0 ∷ []); state = desk_open answer.1 }
 step_decided r d p (Err refusal) = step_telling d p (desk_refusal_text refusal ∷ [])
 
 -- the desk itself answers it
@@ -71,31 +72,31 @@ abbrev pub is_session_command : Command → Bool
 is_session_command asked = is_session_kind (kind_of asked)
 
 abbrev pub step_asked : Rules → Desk → ℕ → Command → DeskStep
-step_asked r d p commands.Quit = record { text = []; state = desk_quit d }
+step_asked r d p commands.Quit = record { lines = []; state = desk_quit d }
 step_asked r d p (commands.Missing path) = step_telling d p (missing_output r d.session_state (slot_found r d.session_state.timeline.now path))
 step_asked r d p asked = step_decided r d p (desk_step r d p asked)
 
 -- ---- lines in order
 
 abbrev pub step_said : Rules → Desk → PartyLine → DeskStep
-step_said r d Silent = record { text = []; state = desk_open d }
-step_said r d NoParty = record { text = line_with bad_line_text; state = desk_open d }
+step_said r d Silent = record { lines = []; state = desk_open d }
+step_said r d NoParty = record { lines = bad_line_text ∷ []; state = desk_open d }
 step_said r d (NoCommand p) = step_telling d p (bad_line_text ∷ [])
 step_said r d (Asks p asked) = step_asked r d p asked
 
 -- `party_said_in` reads the line: the law `a_line_is_of_one_party` ties it to what the line spells
 abbrev pub step_party_line : Rules → Desk → ScriptLine → DeskStep
 step_party_line r d (whole line) = step_said r d (party_said_in line)
-step_party_line r d long = record { text = line_with long_line_text; state = desk_open d }
+step_party_line r d long = record { lines = long_line_text ∷ []; state = desk_open d }
 
 -- what follows `quit` has no effect
 abbrev pub desk_line_step : Rules → DeskState → ScriptLine → DeskStep
-desk_line_step r state line = if state.over then record { text = []; state = state } else step_party_line r state.desk line
+desk_line_step r state line = if state.over then record { lines = []; state = state } else step_party_line r state.desk line
 
--- the replies to lines in order, and the state behind them
-abbrev pub desk_replies : Rules → DeskState → List ScriptLine → List ℕ
+-- the lines of the replies to lines in order, and the state behind them
+abbrev pub desk_replies : Rules → DeskState → List ScriptLine → List (List ℕ)
 desk_replies r state [] = []
-desk_replies r state (line ∷ lines) = (desk_line_step r state line).text ++ desk_replies r (desk_line_step r state line).state lines
+desk_replies r state (line ∷ lines) = (desk_line_step r state line).lines ++ desk_replies r (desk_line_step r state line).state lines
 
 abbrev pub desk_state_after : Rules → DeskState → List ScriptLine → DeskState
 desk_state_after r state [] = state

@@ -16,7 +16,7 @@ use dictionary::FactEngine;
 use fact_values::NoMemory;
 use fg_io::Sink;
 use script_lines::Ready;
-use session_lines::{Mark, Progress, write_line, write_text};
+use session_lines::{Mark, Progress, write_ended, write_line};
 use shared_desk::Desk;
 use std::alloc::Global;
 use std::sync::ledger::Ledger;
@@ -36,7 +36,7 @@ fn answer_said<E: FactEngine, L: Ledger, K: Sink>(
     requires same_checks { SameChecks (rules_of desk.old) (named_checks checks.now) }
     requires few { desk.old.session.changes < 2 ^ 63 }
     ensures output { (d : Defined) → StandsFor desk.old d → DeskOutput (K.output out.old) (K.output out.new) desk.old
-        desk.new (step_said (rules_of desk.old) d said.now).text (step_said (rules_of desk.old) d said.now).state
+        desk.new (step_said (rules_of desk.old) d said.now).lines (step_said (rules_of desk.old) d said.now).state
         result }
     ensures dict { desk.new.session.dict ≡ desk.old.session.dict }
     ensures few { desk.new.session.changes ≤ desk.old.session.changes + 1 }
@@ -46,7 +46,7 @@ fn answer_said<E: FactEngine, L: Ledger, K: Sink>(
 {
     match said {
         PartyLine::Silent => Progress::More,
-        PartyLine::NoParty => write_text(b"refused 1 BadLine\n", out),
+        PartyLine::NoParty => write_ended(b"refused 1 BadLine\n", out),
         PartyLine::NoCommand(party) => {
             let mut text = Line::new();
             text.push(b"refused 1 BadLine");
@@ -112,6 +112,6 @@ pub fn answer_ready<E: FactEngine, L: Ledger, K: Sink>(
     match ready {
         Ready::NotYet => Progress::More,
         Ready::Whole => answer_line(alloc, desk, checks, line, out, steps),
-        Ready::Long => write_text(b"refused 2 LongLine\n", out),
+        Ready::Long => write_ended(b"refused 2 LongLine\n", out),
     }
 }

@@ -42,7 +42,7 @@ fn answer_session_command<E: FactEngine, L: Ledger, K: Sink>(
     requires same_checks { SameChecks (rules_of desk.old) (named_checks checks.now) }
     requires few { desk.old.session.changes < 2 ^ 63 }
     ensures output { (d : Defined) → StandsFor desk.old d → DeskOutput (K.output out.old) (K.output out.new) desk.old
-        desk.new (step_decided (rules_of desk.old) d party (desk_step (rules_of desk.old) d party command.now)).text
+        desk.new (step_decided (rules_of desk.old) d party (desk_step (rules_of desk.old) d party command.now)).lines
         (step_decided (rules_of desk.old) d party (desk_step (rules_of desk.old) d party command.now)).state result }
     ensures dict { desk.new.session.dict ≡ desk.old.session.dict }
     ensures few { desk.new.session.changes ≤ desk.old.session.changes + 1 }
@@ -66,7 +66,7 @@ fn answer_host_command<E: FactEngine, K: Sink>(
 ) -> Progress
     requires { known command.now ≡ false }
     ensures output { (d : Defined) → StandsFor desk.now d → DeskOutput (K.output out.old) (K.output out.new) desk.now
-        desk.now (step_asked (rules_of desk.now) d party command.now).text
+        desk.now (step_asked (rules_of desk.now) d party command.now).lines
         (step_asked (rules_of desk.now) d party command.now).state result }
     ensures later { (K.output out.old).faults ≤ (K.output out.new).faults }
 {
@@ -91,7 +91,7 @@ pub fn answer_command<E: FactEngine, L: Ledger, K: Sink>(
     requires same_checks { SameChecks (rules_of desk.old) (named_checks checks.now) }
     requires few { desk.old.session.changes < 2 ^ 63 }
     ensures output { (d : Defined) → StandsFor desk.old d → DeskOutput (K.output out.old) (K.output out.new) desk.old
-        desk.new (step_asked (rules_of desk.old) d party command.now).text
+        desk.new (step_asked (rules_of desk.old) d party command.now).lines
         (step_asked (rules_of desk.old) d party command.now).state result }
     ensures dict { desk.new.session.dict ≡ desk.old.session.dict }
     ensures few { desk.new.session.changes ≤ desk.old.session.changes + 1 }

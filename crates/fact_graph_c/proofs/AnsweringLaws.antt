@@ -2,8 +2,9 @@
 use Rattle.std.proofs.Common.{◌≡◌, inl, inr, refl, Option, None, ℕ, ◌<◌, ◌≤◌, Bool, true, false, nat_le, if◌then◌else◌, List, [], ◌∷◌, ◌++◌, length, length-append, Some, sym, ap, subst, ◌∙◌, arith}
 use Rattle.std.proofs.lemmas.Bool.Decides.{nat_tests}
 use Rattle.std.proofs.lemmas.List.{append-nil}
-use Rattle.fg_io.specs.Outside.{Rose}
+use Rattle.fg_io.specs.Outside.{RoseByOne}
 use Rattle.fg_io.specs.Sent.{Sent}
+use Rattle.script_lines.specs.Joined.{joined}
 use Rattle.script_lines.specs.Lines.{ScriptLine, whole, long}
 use Rattle.graph_session.specs.Refusals.{SameChecks}
 use Rattle.graph_session.specs.Rules.{rules}
@@ -13,7 +14,7 @@ use Rattle.dict_meaning.specs.Fits.{AnswersFit}
 use Rattle.graph_session.specs.SessionView.{SessionState, SessionView, session_state}
 use Rattle.fact_watch.specs.Watching.{Watching}
 use Rattle.session_lines.specs.Answering.{line_state_of}
-use Rattle.session_lines.specs.Stepping.{LineState, State, Step, open_at, replies, state_after, step}
+use Rattle.session_lines.specs.Stepping.{LineState, State, Step, open_at, replies, state_after, step, text_of}
 use Rattle.fact_graph_c.specs.Answering.{Stays, TakesStep, line_given, rules_of, said, state_of}
 use Rattle.fact_graph_c.specs.Checks.{HasStandardChecks}
 use Rattle.fact_graph_c.specs.Consulting.{Serves}
@@ -56,9 +57,9 @@ module _ (old new : Engine) (line : List ℕ) where
 
   -- the reply from such a place was taken whole, and a step from it is the line's but for the relations
   behind : (over : Bool) (relations : List Named) (lines : List ScriptLine) (st : State)
-      → here relations ≡ st → (made st).text ≡ (made (state_of old)).text → by_standard (made st).state ≡ (made (state_of old)).state
+      → here relations ≡ st → text_of (made st) ≡ text_of (made (state_of old)) → by_standard (made st).state ≡ (made (state_of old)).state
       → lines ≡ line_given line ∷ [] → said old ≡ [] → new.over ≡ over
-      → Sent (Some (old.text.room ∷ said old)) (Some (new.text.room ∷ said new)) (replies (rules_of old) (here relations) lines) []
+      → Sent (Some (old.text.room ∷ said old)) (Some (new.text.room ∷ said new)) (joined (replies (rules_of old) (here relations) lines)) []
       → state_after (rules_of old) (here relations) lines ≡ record { standing = line_state_of new.session relations new.watches; over = over }
       → TakesStep old new line over
   behind over relations lines st stands text state given empty ends sent left =
@@ -66,8 +67,8 @@ module _ (old new : Engine) (line : List ℕ) where
       let state_here : state_after (rules_of old) (here relations) lines ≡ (made st).state = λ i. state_after (rules_of old) (stands i) (given i) in
       let now : state_of new ≡ by_standard (record { standing = line_state_of new.session relations new.watches; over = over }) = λ i. record { standing = line_state_of new.session standard_relations new.watches; over = ends i } in
       record {
-        text = put_whole old.text.room new.text.room (said old) (said new) (replies (rules_of old) (here relations) lines) sent ∙ ap (λ (t : List ℕ). t ++ replies (rules_of old) (here relations) lines) empty
-            ∙ text_here ∙ append-nil (made st).text ∙ text;
+        text = put_whole old.text.room new.text.room (said old) (said new) (joined (replies (rules_of old) (here relations) lines)) sent ∙ ap (λ (t : List ℕ). t ++ joined (replies (rules_of old) (here relations) lines)) empty
+            ∙ ap joined (text_here ∙ append-nil (made st).lines) ∙ text;
         state = now ∙ ap by_standard (sym left ∙ state_here) ∙ state;
         ends = ends;
       }
@@ -76,7 +77,7 @@ module _ (old new : Engine) (line : List ℕ) where
   pub takes_step : (over : Bool) (relations : List Named) (lines : List ScriptLine)
       → Serves relations old.watches.pairs line → lines ≡ line_given line ∷ []
       → old.over ≡ false → said old ≡ [] → new.over ≡ over
-      → Sent (Some (old.text.room ∷ said old)) (Some (new.text.room ∷ said new)) (replies (rules_of old) (here relations) lines) []
+      → Sent (Some (old.text.room ∷ said old)) (Some (new.text.room ∷ said new)) (joined (replies (rules_of old) (here relations) lines)) []
       → state_after (rules_of old) (here relations) lines ≡ record { standing = line_state_of new.session relations new.watches; over = over }
       → TakesStep old new line over
   takes_step over relations lines (inl standard) given goes_on empty ends sent left =
@@ -91,17 +92,17 @@ module _ (old new : Engine) (line : List ℕ) where
       let standard : state_of old ≡ open_at (unwatched c standard_relations) = λ i. record { standing = record { session_state = c; relations = standard_relations; watched = none.1.0 i }; over = goes_on i } in
       let same = alike (rules_of old) c line none.1.1 in
       behind over relations lines (open_at (unwatched c [])) stands
-      (sym same.0 ∙ sym (ap (λ (st : State). (made st).text) standard)) (sym same.1 ∙ sym (ap (λ (st : State). (made st).state) standard)) given empty ends sent left
+      (ap joined (sym same.0) ∙ sym (ap (λ (st : State). text_of (made st)) standard)) (sym same.1 ∙ sym (ap (λ (st : State). (made st).state) standard)) given empty ends sent left
 
   -- nothing follows `quit`
   pub stays_over : old.over ≡ true → said new ≡ [] → new.session ≡ old.session → new.watches ≡ old.watches → new.over ≡ true → TakesStep old new line true
   stays_over quit empty session watches ends =
       let here : State = record { standing = line_state_of old.session standard_relations old.watches; over = true } in
-      let stays : step (rules_of old) (state_of old) (line_given line) ≡ record { text = []; state = here } =
+      let stays : step (rules_of old) (state_of old) (line_given line) ≡ record { lines = []; state = here } =
       λ i. step (rules_of old) (record { standing = line_state_of old.session standard_relations old.watches; over = quit i }) (line_given line) in
       let now : state_of new ≡ here = λ i. record { standing = line_state_of (session i) standard_relations (watches i); over = ends i } in
       record {
-        text = empty ∙ sym (ap (λ (s : Step). s.text) stays);
+        text = empty ∙ sym (ap text_of stays);
         state = now ∙ sym (ap (λ (s : Step). s.state) stays);
         ends = ends;
       }
@@ -115,8 +116,8 @@ stays old new relations empty kept over = record { text = empty; state = λ i. r
 -- the text was longer than the room for it, so that its step changes nothing
 pub stays_full : (old : Engine) (line : List ℕ) (session : SessionView) (watches : Watching) (text : Text) (relations : List Named) (lines : List ScriptLine) (rest : List ℕ)
     → IsSound old → room_for (length old.watches.pairs) ≤ old.text.room → AnswersFit (accepted session.dict).tree session.timeline.now → session.dict ≡ old.session.dict
-    → Serves relations old.watches.pairs line → lines ≡ line_given line ∷ [] → said old ≡ [] → Rose old.text.faults text.faults
-    → Sent (Some (old.text.room ∷ said old)) (Some (text.room ∷ text.bytes.items)) (replies (rules_of old) (open_at (line_state_of old.session relations old.watches)) lines) rest
+    → Serves relations old.watches.pairs line → lines ≡ line_given line ∷ [] → said old ≡ [] → RoseByOne old.text.faults text.faults
+    → Sent (Some (old.text.room ∷ said old)) (Some (text.room ∷ text.bytes.items)) (joined (replies (rules_of old) (open_at (line_state_of old.session relations old.watches)) lines)) rest
     → state_after (rules_of old) (open_at (line_state_of old.session relations old.watches)) lines ≡ open_at (line_state_of session relations watches)
     → line_state_of session relations watches ≡ line_state_of old.session relations old.watches
 stays_full old line session watches text relations lines rest sound roomy fit same serves given empty rose sent left =
@@ -124,8 +125,8 @@ stays_full old line session watches text relations lines rest sound roomy fit sa
     let here : LineState = line_state_of old.session relations old.watches in
     let made : Step = step r (open_at here) (line_given line) in
     let fits : AnswersFit (accepted old.session.dict).tree session.timeline.now = subst (λ (k : Kept). AnswersFit (accepted k).tree session.timeline.now) same fit in
-    let whole_text : replies r (open_at here) lines ≡ made.text = ap (replies r (open_at here)) given ∙ append-nil made.text in
-    let filled : text.room ≤ length text.bytes.items = text.full (omega (arith, rose)) in
+    let whole_text : joined (replies r (open_at here) lines) ≡ text_of made = ap (λ (ls : List ScriptLine). joined (replies r (open_at here) ls)) given ∙ ap joined (append-nil made.lines) in
+    let filled : text.room ≤ length text.bytes.items = text.full (omega (arith, rose.0)) in
     let roomy_still : room_for (length old.watches.pairs) ≤ text.room = subst (λ (n : ℕ). room_for (length old.watches.pairs) ≤ n) (sym (room_stays _ _ _ _ _ rest sent)) roomy in
-    let long_text : text.room ≤ length made.text = omega (arith, filled, ap length (put_behind _ _ _ _ _ rest sent), length-append (said old) sent.front, ap length empty, ap length sent.split, length-append sent.front rest, ap length whole_text) in
+    let long_text : text.room ≤ length (text_of made) = omega (arith, filled, ap length (put_behind _ _ _ _ _ rest sent), length-append (said old) sent.front, ap length empty, ap length sent.split, length-append sent.front rest, ap length whole_text) in
     fills_still r here (line_state_of session relations watches) sound.is_accepted sound.fit.well fits (short_names relations old.watches.pairs line serves) text.room roomy_still (line_given line) (ap (state_after r (open_at here)) (sym given) ∙ left) long_text

@@ -95,9 +95,9 @@ asks_no_check line none = by (heard_in line) (heard_exactly line)
 abbrev pub by_standard : State → State
 by_standard st = record { standing = record st.standing { relations = standard_relations }; over = st.over }
 
--- the texts are one, and so are the places, but for the relations
+-- the lines are the same, and so are the places, but for the relations
 abbrev pub Alike : Step → Step → Type 0
-Alike made other = (made.text ≡ other.text) × (made.state ≡ by_standard other.state)
+Alike made other = (made.lines ≡ other.lines) × (made.state ≡ by_standard other.state)
 
 abbrev pub unwatched : SessionState → List Named → LineState
 unwatched c relations = record { session_state = c; relations = relations; watched = [] }

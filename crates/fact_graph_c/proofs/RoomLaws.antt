@@ -27,8 +27,8 @@ use Rattle.fact_watch.specs.Says.{slot_says}
 use Rattle.fact_watch.specs.Watching.{Pair, code_at, without}
 use Rattle.fact_watch.specs.declared.commands.WatchRefusal.{WatchRefusal}
 use Rattle.session_lines.specs.Firing.{firing, firing_lines, name_at, watch_line}
-use Rattle.session_lines.specs.Replies.{bad_line_text, line_with, long_line_text, refusal_text, reply_text, watch_refusal_text}
-use Rattle.session_lines.specs.Stepping.{LineState, State, Step, fired, open_at, place_in, put_watch, cut_watch, said, step, step_answered, step_command, step_heard, step_writing, missing_answer, watch_decided}
+use Rattle.session_lines.specs.Replies.{bad_line_text, long_line_text, missing_output, refusal_text, reply_text, watch_refusal_text}
+use Rattle.session_lines.specs.Stepping.{LineState, State, Step, fired, open_at, place_in, put_watch, cut_watch, said, step, step_answered, step_command, step_heard, step_writing, text_of, watch_decided}
 use Rattle.session_lines.proofs.FiringLaws.{said_stands}
 use Rattle.session_lines.proofs.PrintLaws.{stands_with}
 use Rattle.fact_graph_c.specs.Room.{room_for}
@@ -110,25 +110,25 @@ module _ (r : Rules) (s now : LineState) (is_accepted : IsAccepted (names_of r.c
 
   -- a text that has as many bytes as there is room for leaves all as it was
   abbrev FillsStill : Step → Type 0
-  FillsStill made = made.state ≡ open_at now → room ≤ length made.text → now ≡ s
+  FillsStill made = made.state ≡ open_at now → room ≤ length (text_of made) → now ≡ s
 
-  still : (text : List ℕ) → FillsStill (record { text = text; state = open_at s })
+  still : (text : List (List ℕ)) → FillsStill (record { lines = text; state = open_at s })
   still text is full = sym (ap (λ (t : State). t.standing) is)
 
   writing : (text : List ℕ) → FillsStill (step_writing s text)
-  writing text = still (line_with text)
+  writing text = still (text ∷ [])
 
   answered : (asked : Command) (o : Option Refusal) (reply : Reply) (c : SessionState) → (session.is_change asked ≡ false → c ≡ s.session_state) → (session.is_change asked ≡ true → length (reply_text r c reply) ≤ 11)
       → FillsStill (step_answered r s asked (decided o (reply, c)))
   answered asked (Some refusal) reply c same short = writing (refusal_text refusal)
   answered asked None reply c same short = λ is full. by (ap (λ (t : State). t.standing) is) full (session.is_change asked) refl
     where
-      by : record s { session_state = c } ≡ now → room ≤ length (said r s asked (reply_text r c reply) c) → (b : Bool) → session.is_change asked ≡ b → now ≡ s
+      by : record s { session_state = c } ≡ now → room ≤ length (joined (said r s asked (reply_text r c reply) c)) → (b : Bool) → session.is_change asked ≡ b → now ≡ s
       by at full true change =
           let here : c ≡ now.session_state = ap (λ (t : LineState). t.session_state) at in
-          let lines_here : length (fired r s c) ≤ 161 * length s.watched = subst (λ (d : SessionState). length (fired r s d) ≤ 161 * length s.watched) (sym here) (lines_short s.watched) in
-          let whole_text : said r s asked (reply_text r c reply) c ≡ line_with (reply_text r c reply) ++ fired r s c = ap (λ (b : Bool). if b then line_with (reply_text r c reply) ++ fired r s c else line_with (reply_text r c reply)) change in
-          absurd (omega (arith, full, ap length whole_text, length-append (line_with (reply_text r c reply)) (fired r s c), length-append (reply_text r c reply) (10 ∷ []), short change, lines_here, roomy))
+          let lines_here : length (joined (fired r s c)) ≤ 161 * length s.watched = subst (λ (d : SessionState). length (joined (fired r s d)) ≤ 161 * length s.watched) (sym here) (lines_short s.watched) in
+          let whole_text : joined (said r s asked (reply_text r c reply) c) ≡ reply_text r c reply ++ 10 ∷ joined (fired r s c) = ap (λ (b : Bool). joined (if b then reply_text r c reply ∷ fired r s c else reply_text r c reply ∷ [])) change in
+          absurd (omega (arith, full, ap length whole_text, length-append (reply_text r c reply) (10 ∷ joined (fired r s c)), short change, lines_here, roomy))
       by at full false question = sym at ∙ ap (λ (d : SessionState). record s { session_state = d }) (same question)
 
   -- of a watch
@@ -146,7 +146,7 @@ module _ (r : Rules) (s now : LineState) (is_accepted : IsAccepted (names_of r.c
 
   commanded : (asked : Command) → FillsStill (step_command r s asked)
   commanded commands.Quit = λ is full. absurd (let over : true ≡ false = ap (λ (t : State). t.over) is in cc)
-  commanded (commands.Missing path) = still (missing_answer r s.session_state (slot_found r s.session_state.timeline.now path))
+  commanded (commands.Missing path) = still (missing_output r s.session_state (slot_found r s.session_state.timeline.now path))
   commanded (commands.Watch name path) = put name (slot_found r s.session_state.timeline.now path)
   commanded (commands.Unwatch name path) = cut name (slot_found r s.session_state.timeline.now path)
   commanded asked =
@@ -159,6 +159,6 @@ module _ (r : Rules) (s now : LineState) (is_accepted : IsAccepted (names_of r.c
   heard (command asked) = commanded asked
 
   -- of a line
-  pub fills_still : (line : ScriptLine) → (step r (open_at s) line).state ≡ open_at now → room ≤ length (step r (open_at s) line).text → now ≡ s
+  pub fills_still : (line : ScriptLine) → (step r (open_at s) line).state ≡ open_at now → room ≤ length (text_of (step r (open_at s) line)) → now ≡ s
   fills_still (whole line) = heard (heard_in line)
   fills_still long = writing long_line_text

@@ -3,7 +3,7 @@ use Rattle.std.specs.Prelude.{◌≡◌, ℕ, Bool, true, false, nat_le, List, [
 use Rattle.script_lines.specs.Lines.{ScriptLine, whole, long}
 use Rattle.graph_session.specs.Rules.{Rules, rules}
 use Rattle.session_lines.specs.Answering.{line_state_of}
-use Rattle.session_lines.specs.Stepping.{State, step}
+use Rattle.session_lines.specs.Stepping.{State, step, text_of}
 use Rattle.session_lines.specs.Tables.{standard_relations}
 use Rattle.fact_graph_c.specs.declared.engine.Engine.{Engine}
 use Rattle.fact_graph_c.specs.declared.outcome.Outcome.{Outcome}
@@ -29,7 +29,7 @@ line_given line = if nat_le (length line) 4096 then whole line else long
 
 -- the step of the line was taken: its text is said, and behind it the script goes on, or is over
 pub record TakesStep (old new : Engine) (line : List ℕ) (over : Bool) : Type 0 where
-  pub text : said new ≡ (step (rules_of old) (state_of old) (line_given line)).text
+  pub text : said new ≡ text_of (step (rules_of old) (state_of old) (line_given line))
   pub state : state_of new ≡ (step (rules_of old) (state_of old) (line_given line)).state
   pub ends : new.over ≡ over
 

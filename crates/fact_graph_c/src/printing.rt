@@ -12,7 +12,7 @@ use crate::text::Text;
 use dict_print::{print, print_facts};
 use dictionary::Dictionary;
 use fact_values::NoMemory;
-use session_lines::{Progress, write_text};
+use fg_io::{Failed, put_text};
 use std::alloc::Global;
 
 // Says the bytes.
@@ -20,9 +20,9 @@ fn say(bytes: &[u8], text: &mut Text) -> Outcome
     ensures { SaysText (λ said. said ≡ bytes.now) result text.new.bytes.items }
 {
     text.clear();
-    match write_text(bytes, text) {
-        Progress::More => Outcome::Said,
-        _ => {
+    match put_text(bytes, text) {
+        Ok(()) => Outcome::Said,
+        Err(Failed) => {
             text.clear();
             Outcome::NoMemory
         }

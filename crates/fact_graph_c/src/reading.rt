@@ -15,7 +15,7 @@ use fact_values::NoMemory;
 use graph_session::Session;
 use recalc::Recalc;
 use script_lines::{Command, LineFault, command_of};
-use session_lines::{Progress, answer_reads, write_text};
+use session_lines::{Progress, answer_reads, write_ended};
 use std::alloc::Global;
 use value_text::Line;
 
@@ -74,7 +74,7 @@ fn put_reads(
 {
     match path {
         Some(path) => is_more(answer_reads(alloc, session, &path, text)),
-        None => is_more(write_text(b"refused 1 BadLine\n", text)),
+        None => is_more(write_ended(b"refused 1 BadLine\n", text)),
     }
 }
 

@@ -76,9 +76,10 @@ impl Text {
 impl Sink for Text {
     ghost use Rattle.std.specs.Prelude.{◌∷◌};
     ghost use Rattle.std.specs.declared.option.Option.TheVariants.{Some};
+    ghost use Rattle.fg_io.specs.Outside.{follows_any};
 
     // Its room stands before the bytes, so that whoever puts bytes is known to leave it.
-    ghost output = { λ text. record { taken = Some (text.room ∷ text.bytes.items); faults = text.faults } };
+    ghost output = { λ text. record { taken = Some (text.room ∷ text.bytes.items); faults = text.faults; follows = follows_any } };
 
     fn put(&mut self, piece: &[u8]) -> Result<usize, Failed> {
         if self.bytes.len() < self.room {

@@ -1,6 +1,6 @@
 -- The definitions at small values.
 use Rattle.std.proofs.Common.{◌≡◌, ◌-◌, ◌^◌, [], ◌∷◌, Some, refl}
-use Rattle.fg_io.specs.Calls.{next_count}
+use Rattle.fg_io.specs.Outside.{next_count}
 use Rattle.fg_io.specs.Sent.{Sent}
 
 count_stands_at_the_end : next_count (2 ^ 64 - 1) ≡ 2 ^ 64 - 1

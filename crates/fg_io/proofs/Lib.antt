@@ -3,6 +3,7 @@ pub mod Cuts
 mod Examples
 pub mod Fetched
 pub mod KeptFiles
+pub mod PutLaws
 pub mod Rising
 pub mod SentLaws
 pub mod WritingLaws

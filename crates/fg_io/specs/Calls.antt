@@ -1,10 +1,6 @@
 -- The numbers of calls, from 1.
-use Rattle.std.specs.Prelude.{◌≡◌, ℕ, ◌+◌, ◌-◌, ◌^◌, min, List, Contains}
-use Rattle.fg_io.specs.Outside.{Pulled, gave, faulted}
-
--- a count, one higher; it stands still at the greatest u64
-abbrev pub next_count : ℕ → ℕ
-next_count count = min (count + 1) (2 ^ 64 - 1)
+use Rattle.std.specs.Prelude.{◌≡◌, ℕ, List, Contains}
+use Rattle.fg_io.specs.Outside.{Pulled, gave, faulted, next_count}
 
 -- the call after so many is one of those that fail
 abbrev pub Fails : List ℕ → ℕ → Type 0

@@ -2,6 +2,7 @@ pub mod Calls
 pub mod FolderState
 pub mod Laws
 pub mod Outside
+pub mod Puts
 pub mod Sent
 pub mod ShelfState
 pub mod SinkState

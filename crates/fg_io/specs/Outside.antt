@@ -1,15 +1,22 @@
 -- What the outside tells of itself, and when it may say that it failed.
-use Rattle.std.specs.Prelude.{◌≡◌, ℕ, ◌+◌, ◌-◌, ◌^◌, ◌<◌, ◌≤◌, min, List, length, take, Vec, Result, Ok, Err, OnErr, IfOk, IsErrOf, Option, None, Some}
+use Rattle.std.specs.Prelude.{◌≡◌, ℕ, ◌+◌, ◌-◌, ◌^◌, ◌<◌, ◌≤◌, min, Bool, true, IsTrue, List, ◌++◌, length, take, Vec, Result, Ok, Err, OnErr, IfOk, IsErrOf, Option, None, Some}
 use Rattle.std.specs.declared.alloc.Global.{Global}
 use Rattle.fg_io.specs.declared.error.FetchFault.{FetchFault}
 use Rattle.fg_io.specs.declared.error.FetchFault.TheVariants.{Failed, TooLong}
 
 -- ---- what each tells of itself
 
--- a stream to write: the bytes taken, where it tells them, and how often it has failed
+-- one put: of this piece the first so many bytes were taken, or it failed
+pub data Put : Type 0 where
+  took : List ℕ → ℕ → Put
+  put_failed : List ℕ → Put
+
+-- a stream to write: the bytes taken, where it tells them, how often it has failed, and whether it may stand so behind these puts, in
+-- their order
 pub record Output : Type 0 where
   pub taken : Option (List ℕ)
   pub faults : ℕ
+  pub follows : List Put → Bool
 
 -- a stream to read: the bytes left, where it tells them, and how often it has failed
 pub record Input : Type 0 where
@@ -33,6 +40,19 @@ pub record Files : Type 0 where
 -- a count rose in a call: it grew, or stands at the greatest u64 after it
 abbrev pub Rose : ℕ → ℕ → Type 0
 Rose before now = min (before + 1) (2 ^ 64 - 1) ≤ now
+
+-- a count, one higher; it stands still at the greatest u64
+abbrev pub next_count : ℕ → ℕ
+next_count count = min (count + 1) (2 ^ 64 - 1)
+
+-- a count rose by one, or stands still at the greatest u64
+abbrev pub RoseByOne : ℕ → ℕ → Type 0
+RoseByOne before now = (now ≡ next_count before) × (before ≤ now)
+
+-- a call that fails counts one fault, and any other none
+abbrev pub Counts : {T E : Type 0} → ℕ → ℕ → Result T E → Type 0
+Counts before now (Ok done) = now ≡ before
+Counts before now (Err fault) = RoseByOne before now
 
 -- a call fails only where the count rose, and the count never falls
 pub record HasCause {T E : Type 0} (before now : ℕ) (result : Result T E) : Type 0 where
@@ -79,6 +99,19 @@ pub data Pulled : Type 0 where
 abbrev pub pulled_as : {E : Type 0} → Result ℕ E → List ℕ → Pulled
 pulled_as (Ok count) buf = gave (take count buf)
 pulled_as (Err failed) buf = faulted
+
+-- These puts were made between the one state of a sink and the other: behind whatever puts it may have stood before, it may stand behind
+-- these too. A sink may say so of one list of puts alone.
+abbrev pub Follows : Output → Output → List Put → Type 0
+Follows sink sink_now puts = (before : List Put) → IsTrue (sink.follows before) → IsTrue (sink_now.follows (before ++ puts))
+
+abbrev pub put_as : {E : Type 0} → Result ℕ E → List ℕ → Put
+put_as (Ok count) piece = took piece count
+put_as (Err fault) piece = put_failed piece
+
+-- one that tells nothing of them
+abbrev pub follows_any : List Put → Bool
+follows_any puts = true
 
 -- A source before a pull, the sink as it stood, the most bytes, what it came to, and the source after it.
 abbrev pub ByPull : Type 0 → Type 0 → Type 1

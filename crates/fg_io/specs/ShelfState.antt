@@ -6,8 +6,8 @@ use Rattle.std.specs.Coded.{Coded, code_by, coded×, coded_ℕ, coded_list}
 use Rattle.std.specs.FinMap.{FinMap, code, get, from_entries}
 use Rattle.std.specs.Ordering.{nat_cmp}
 use Rattle.std.specs.declared.alloc.Global.{Global}
-use Rattle.fg_io.specs.Calls.{next_count, Fails}
-use Rattle.fg_io.specs.Outside.{Contents, Files, missing, holds}
+use Rattle.fg_io.specs.Calls.{Fails}
+use Rattle.fg_io.specs.Outside.{Contents, Files, missing, holds, next_count}
 use Rattle.fg_io.specs.declared.error.FetchFault.{FetchFault}
 use Rattle.fg_io.specs.declared.error.FetchFault.TheVariants.{Failed, TooLong, NoMemory}
 

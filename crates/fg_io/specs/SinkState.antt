@@ -1,7 +1,6 @@
 -- A sink in memory.
-use Rattle.std.specs.Prelude.{ℕ, ◌-◌, min, List, ◌++◌, length, take, Some}
-use Rattle.fg_io.specs.Calls.{next_count}
-use Rattle.fg_io.specs.Outside.{Output}
+use Rattle.std.specs.Prelude.{ℕ, ◌-◌, ◌^◌, min, nat_eq, List, ◌++◌, length, take, Some}
+use Rattle.fg_io.specs.Outside.{Output, next_count}
 
 pub record SinkState : Type 0 where
   -- the bytes taken
@@ -14,9 +13,9 @@ pub record SinkState : Type 0 where
   pub calls : ℕ
   pub faults : ℕ
 
--- what the sink tells
+-- what the sink tells: it may stand so behind as many puts as it counted
 abbrev pub output_shown : SinkState → Output
-output_shown sink = record { taken = Some sink.taken; faults = sink.faults }
+output_shown sink = record { taken = Some sink.taken; faults = sink.faults; follows = λ puts. nat_eq sink.calls (min (length puts) (2 ^ 64 - 1)) }
 
 -- how many bytes a sink has room for
 abbrev pub room : ℕ

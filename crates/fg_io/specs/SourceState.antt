@@ -1,7 +1,7 @@
 -- A source in memory.
 use Rattle.std.specs.Prelude.{◌≡◌, ℕ, min, List, length, drop, Some}
-use Rattle.fg_io.specs.Calls.{Fails, next_count}
-use Rattle.fg_io.specs.Outside.{Input, Pulled, gave, faulted}
+use Rattle.fg_io.specs.Calls.{Fails}
+use Rattle.fg_io.specs.Outside.{Input, Pulled, gave, faulted, next_count}
 
 pub record SourceState : Type 0 where
   -- the bytes left

@@ -1,9 +1,8 @@
 // The shelf of the system: the files of the folder in which the program runs.
 ghost use Rattle.std.specs.Prelude.{◌≡◌, ◌+◌, ◌≤◌, [], IfOk, IsErrOf, length};
 ghost use Rattle.std.specs.Io.KnownBytes.{Consumes};
-ghost use Rattle.fg_io.specs.Calls.{next_count};
 ghost use Rattle.fg_io.specs.FolderState.{files_hidden};
-ghost use Rattle.fg_io.specs.Outside.{hidden, MayBe, Fetches, FetchCause};
+ghost use Rattle.fg_io.specs.Outside.{hidden, MayBe, Fetches, FetchCause, next_count};
 
 use crate::{Failed, FetchFault, Shelf};
 use std::alloc::{AllocError, Global};

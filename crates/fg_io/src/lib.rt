@@ -20,7 +20,7 @@ pub use folder_shelf::FolderShelf;
 pub use mem_shelf::MemShelf;
 pub use mem_sink::MemSink;
 pub use mem_source::MemSource;
-pub use put::put_text;
+pub use put::{put_piece, put_text};
 pub use shelf::Shelf;
 pub use sink::Sink;
 pub use source::Source;

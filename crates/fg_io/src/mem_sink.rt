@@ -2,7 +2,7 @@
 ghost use Rattle.std.specs.Prelude.{◌≡◌, ◌⊎◌, ◌↔◌, ◌<◌, ◌≤◌, length, [], Contains, IsTrue, IsErr, IfOk, OnErr};
 ghost use Rattle.std.specs.Io.{WritesAtMost};
 ghost use Rattle.std.specs.Io.KnownBytes.{WriteAppends};
-ghost use Rattle.fg_io.specs.Outside.{HasCause};
+ghost use Rattle.fg_io.specs.Outside.{Counts};
 ghost use Rattle.fg_io.specs.Calls.{Fails};
 ghost use Rattle.fg_io.specs.SinkState.{room, taken_count, after_taking, after_failing};
 
@@ -89,7 +89,7 @@ impl Sink for MemSink {
         ensures bound { WritesAtMost result piece.now }
         ensures some { IfOk result (λ count. 0 < count) }
         ensures bytes { WriteAppends (Some self.old.taken) (Some self.new.taken) result piece.now }
-        ensures cause { HasCause self.old.faults self.new.faults result }
+        ensures cause { Counts self.old.faults self.new.faults result }
         // The calls that fail are those with a failing number, and each once the sink is full.
         ensures fails { IsErr result ↔ ((room ≤ length self.old.taken) ⊎ Fails self.old.failing self.old.calls) }
         ensures err { OnErr result (self.new ≡ after_failing self.old) }

@@ -2,7 +2,7 @@
 ghost use Rattle.std.specs.Prelude.{◌≡◌, ◌↔◌, ◌<◌, ◌++◌, length, take, drop, IsErr, IfOk, OnErr};
 ghost use Rattle.std.specs.Io.{ReadsAtMost};
 ghost use Rattle.std.specs.Io.KnownBytes.{ReadConsumes};
-ghost use Rattle.fg_io.specs.Outside.{HasCause};
+ghost use Rattle.fg_io.specs.Outside.{Counts};
 ghost use Rattle.fg_io.specs.Calls.{Fails};
 ghost use Rattle.fg_io.specs.SourceState.{given_count, after_giving, after_failing};
 
@@ -72,7 +72,7 @@ impl<K> Source<K> for MemSource {
         requires { 0 < length buf.old }
         ensures bound { ReadsAtMost result buf.new }
         ensures bytes { ReadConsumes (Some self.old.left) (Some self.new.left) result buf.new }
-        ensures cause { HasCause self.old.faults self.new.faults result }
+        ensures cause { Counts self.old.faults self.new.faults result }
         // The calls that fail are those with a failing number.
         ensures fails { IsErr result ↔ Fails self.old.failing self.old.calls }
         ensures err { OnErr result (self.new ≡ after_failing self.old) }

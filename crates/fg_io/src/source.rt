@@ -2,7 +2,7 @@
 ghost use Rattle.std.specs.Prelude.{◌<◌, length};
 ghost use Rattle.std.specs.Io.{ReadsAtMost};
 ghost use Rattle.std.specs.Io.KnownBytes.{ReadConsumes};
-ghost use Rattle.fg_io.specs.Outside.{ByPull, HasCause, Input, pulled_as};
+ghost use Rattle.fg_io.specs.Outside.{ByPull, Counts, Input, pulled_as};
 
 use crate::Failed;
 
@@ -20,6 +20,6 @@ pub trait Source<K> {
         requires { 0 < length buf.old }
         ensures bound { ReadsAtMost result buf.new }
         ensures bytes { ReadConsumes (input self.old).left (input self.new).left result buf.new }
-        ensures cause { HasCause (input self.old).faults (input self.new).faults result }
+        ensures cause { Counts (input self.old).faults (input self.new).faults result }
         ensures call { pulled self.old out.now (length buf.old) (pulled_as result buf.new) self.new };
 }

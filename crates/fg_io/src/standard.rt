@@ -2,8 +2,7 @@
 ghost use Rattle.std.specs.Prelude.{◌≡◌, ◌<◌, None, IfOk, MatchResult, length};
 ghost use Rattle.std.specs.Io.{ReadsAtMost, WritesAtMost};
 ghost use Rattle.std.specs.Io.KnownBytes.{ReadConsumes, WriteAppends};
-ghost use Rattle.fg_io.specs.Calls.{next_count};
-ghost use Rattle.fg_io.specs.Outside.{HasCause};
+ghost use Rattle.fg_io.specs.Outside.{Counts, next_count};
 
 use crate::{Failed, Sink, Source};
 use std::io::{Read, Stdin, Stdout, Write};
@@ -44,7 +43,7 @@ impl<K> Source<K> for StdinSource {
         requires { 0 < length buf.old }
         ensures bound { ReadsAtMost result buf.new }
         ensures bytes { ReadConsumes None None result buf.new }
-        ensures cause { HasCause self.old self.new result }
+        ensures cause { Counts self.old self.new result }
         ensures counts { MatchResult result (λ _. self.new ≡ self.old) (λ _. self.new ≡ next_count self.old) }
     {
         match self.stdin.read(buf) {
@@ -83,15 +82,16 @@ impl StdoutSink {
 
 impl Sink for StdoutSink {
     ghost use Rattle.std.specs.declared.option.Option.TheVariants.{None};
+    ghost use Rattle.fg_io.specs.Outside.{follows_any};
 
-    ghost output = { λ count. record { taken = None; faults = count } };
+    ghost output = { λ count. record { taken = None; faults = count; follows = follows_any } };
 
     fn put(&mut self, piece: &[u8]) -> Result<usize, Failed>
         requires { 0 < length piece.now }
         ensures bound { WritesAtMost result piece.now }
         ensures some { IfOk result (λ count. 0 < count) }
         ensures bytes { WriteAppends None None result piece.now }
-        ensures cause { HasCause self.old self.new result }
+        ensures cause { Counts self.old self.new result }
         ensures counts { MatchResult result (λ _. self.new ≡ self.old) (λ _. self.new ≡ next_count self.old) }
     {
         match self.stdout.write(piece) {

@@ -1,21 +1,21 @@
 -- The calls that an interview makes: what is known of the one form that the words have is known of every form.
-use Rattle.std.proofs.Common.{◌≡◌, ◌⊎◌, ℕ, List, inl, inr, refl, sym, subst}
+use Rattle.std.proofs.Common.{◌≡◌, ◌⊎◌, ℕ, List, inl, inr, refl, ap, subst}
 use Rattle.fg_io.specs.Outside.{ByFetch, ByPull, Contents, Output}
 use Rattle.answers.specs.Answered.{Answered}
 use Rattle.answers.specs.Meaning.{answered}
 use Rattle.dictionary.specs.Kept.{Named}
 use Rattle.graph_session.specs.Rules.{Rules}
-use Rattle.interview.specs.Beginnings.{MayBring}
 use Rattle.interview.specs.Calls.{ByStillFetch, Calls, CallsForDictionary, CallsForNone, CallsForRun, CallsForSave, CallsInVain, TalksFrom, beside}
 use Rattle.interview.specs.declared.resuming.Ready.{Ready}
 use Rattle.interview.specs.declared.resuming.Resumed.TheVariants as resumed
 use Rattle.interview.specs.declared.status.Status.{Status}
-use Rattle.interview.specs.declared.status.Status.TheVariants.{Done, NoMemory, ReadFault}
+use Rattle.interview.specs.declared.status.Status.TheVariants.{Done, NoMemory, ReadFault, WriteFault}
 use Rattle.interview.specs.declared.words.Mode.{Mode}
 use Rattle.interview.specs.Given.{Given}
+use Rattle.interview.specs.LastLines.{PutsOneLine}
 use Rattle.interview.specs.Meanings.{Meaning, meaning_of}
 use Rattle.interview.specs.StepEnds.{Gives, ResumedAs}
-use Rattle.interview.specs.Talk.{MayTalk, Talk, TalkBehind}
+use Rattle.interview.specs.Talk.{MayBegin, Talk}
 use Rattle.interview.specs.Words.{Beginning, HasNoForm, IsCheck, IsGen, IsRun, IsSave, Origin, file}
 use Rattle.interview.proofs.WordLaws.{gen_is_no_check, gen_is_no_run, gen_is_no_save, not_both, same_beginning, same_check, same_mode, same_origin, same_save, save_is_no_check, save_is_no_run}
 
@@ -28,7 +28,7 @@ in_vain fetched checks origin status shelf shelf_now (inr wanting) called = inr 
 
 -- ---- a script
 
-module _ {S K : Type 0} (pulled : ByPull S K) (output : K → Output) (out : K) (script script_now : S) where
+module _ {S K : Type 0} (pulled : ByPull S K) (output : K → Output) (out out_now : K) (script script_now : S) where
   none_failed : {A B C : Type 0} → A ⊎ ((Done ≡ ReadFault) × B) → A ⊎ C
   none_failed (inl all) = inl all
   none_failed (inr (wrong, call)) = absurd cc
@@ -43,29 +43,33 @@ module _ {S K : Type 0} (pulled : ByPull S K) (output : K → Output) (out : K) 
   }
 
   module _ (contents : List ℕ → Contents) (beginning : Beginning) (r : Rules) (mode : Mode) (relations : List Named) (status : Status) where
+    unbegun : (out_now ≡ out) ⊎ (status ≡ WriteFault) → PutsOneLine (output out) (output out_now) status ⊎ (status ≡ WriteFault)
+    unbegun (inl same) = inl (inl (ap output same))
+    unbegun (inr fault) = inr fault
+
     -- behind the answers that a run begins with
     pub talks_from : (ready : Ready) → ResumedAs contents beginning r (resumed.Begins ready)
-        → ((front : List ℕ) → Gives ready.dropped front → MayTalk pulled output (meaning_of r mode relations (answered ready.answers)) front out script script_now status)
-        → TalksFrom pulled output contents beginning r mode relations status script script_now out
+        → ((front : List ℕ) → Gives ready.dropped front → MayBegin pulled output (meaning_of r mode relations (answered ready.answers)) front out out_now script script_now status)
+        → TalksFrom pulled output contents beginning r mode relations status script script_now out out_now
     talks_from ready (basis, brought, (s, is, begun)) talks =
-        elim (subst (λ (a : Answered). MayTalk pulled output (meaning_of r mode relations a) s.front out script script_now status) begun.answers (talks s.front begun.front)) [
-          | inl still ↦ inl still
+        elim (subst (λ (a : Answered). MayBegin pulled output (meaning_of r mode relations a) s.front out out_now script script_now status) begun.answers (talks s.front begun.front)) [
+          | inl still ↦ inl (still.0, unbegun still.1)
           | inr talk ↦ inr (basis, brought, (s, is, talk))
         ]
 
     -- by what the shelf told before
-    pub talks_same : (before : List ℕ → Contents) → contents ≡ before → TalksFrom pulled output contents beginning r mode relations status script script_now out
-        → TalksFrom pulled output before beginning r mode relations status script script_now out
-    talks_same before same talks = subst (λ (t : List ℕ → Contents). TalksFrom pulled output t beginning r mode relations status script script_now out) same talks
+    pub talks_same : (before : List ℕ → Contents) → contents ≡ before → TalksFrom pulled output contents beginning r mode relations status script script_now out out_now
+        → TalksFrom pulled output before beginning r mode relations status script script_now out out_now
+    talks_same before same talks = subst (λ (t : List ℕ → Contents). TalksFrom pulled output t beginning r mode relations status script script_now out out_now) same talks
 
 -- ---- the form that the words have
 
-module _ {H S K : Type 0} (fetched : ByFetch H S K) (pulled : ByPull S K) (output : K → Output) (given : Given) (status : Status) (shelf shelf_now : H) (script script_now : S) (out : K) where
+module _ {H S K : Type 0} (fetched : ByFetch H S K) (pulled : ByPull S K) (output : K → Output) (given : Given) (status : Status) (shelf shelf_now : H) (script script_now : S) (out out_now : K) where
   abbrev Made : Type 0
-  Made = Calls fetched pulled output given status shelf shelf_now script script_now out
+  Made = Calls fetched pulled output given status shelf shelf_now script script_now out out_now
 
   abbrev RunMade : Origin → Beginning → Mode → Type 0
-  RunMade origin beginning mode = CallsForRun fetched pulled output given origin beginning mode status shelf shelf_now script script_now out
+  RunMade origin beginning mode = CallsForRun fetched pulled output given origin beginning mode status shelf shelf_now script script_now out out_now
 
   pub calls_of_run : (origin : Origin) (asked : IsRun given.words origin) → RunMade origin asked.beginning asked.mode → Made
   calls_of_run origin asked made = record {
@@ -79,27 +83,27 @@ module _ {H S K : Type 0} (fetched : ByFetch H S K) (pulled : ByPull S K) (outpu
     no_form = λ none. absurd (none.0 origin asked);
   }
 
-  pub calls_of_check : (name : List ℕ) → IsCheck given.words name → CallsForDictionary (beside fetched script out) (file name) shelf shelf_now → script_now ≡ script → Made
-  calls_of_check name asked made still = record {
+  pub calls_of_check : (name : List ℕ) → IsCheck given.words name → CallsForDictionary (beside fetched script out) (file name) shelf shelf_now → script_now ≡ script → PutsOneLine (output out) (output out_now) status → Made
+  calls_of_check name asked made still put = record {
     run = λ o run. absurd (not_both given.words o name run asked);
-    check = λ other check. (subst (λ n. CallsForDictionary (beside fetched script out) (file n) shelf shelf_now) (same_check given.words name other asked check) made, still);
+    check = λ other check. (subst (λ n. CallsForDictionary (beside fetched script out) (file n) shelf shelf_now) (same_check given.words name other asked check) made, still, put);
     save = λ o save. absurd (save_is_no_check given.words o name save asked);
     gen = λ n gen. absurd (gen_is_no_check given.words n name gen asked);
     no_form = λ none. absurd (none.1 name asked);
   }
 
-  pub calls_of_save : (origin : Origin) → IsSave given.words origin → CallsForSave fetched pulled output given origin status shelf shelf_now script script_now out → Made
+  pub calls_of_save : (origin : Origin) → IsSave given.words origin → CallsForSave fetched pulled output given origin status shelf shelf_now script script_now out out_now → Made
   calls_of_save origin asked made = record {
     run = λ o run. absurd (save_is_no_run given.words origin o asked run);
     check = λ name check. absurd (save_is_no_check given.words origin name asked check);
-    save = λ o save. subst (λ p. CallsForSave fetched pulled output given p status shelf shelf_now script script_now out) (same_save given.words origin o asked save) made;
+    save = λ o save. subst (λ p. CallsForSave fetched pulled output given p status shelf shelf_now script script_now out out_now) (same_save given.words origin o asked save) made;
     gen = λ n gen. absurd (gen_is_no_save given.words n origin gen asked);
     no_form = λ none. absurd (none.3 origin asked);
   }
 
-module _ {H S K : Type 0} (fetched : ByFetch H S K) (pulled : ByPull S K) (output : K → Output) (given : Given) (status : Status) (shelf : H) (script : S) (out : K) where
+module _ {H S K : Type 0} (fetched : ByFetch H S K) (pulled : ByPull S K) (output : K → Output) (given : Given) (status : Status) (shelf : H) (script : S) (out out_now : K) where
   abbrev NoneMade : Type 0
-  NoneMade = Calls fetched pulled output given status shelf shelf script script out
+  NoneMade = Calls fetched pulled output given status shelf shelf script script out out_now
 
   pub calls_of_gen : (n : ℕ) → IsGen given.words n → NoneMade
   calls_of_gen n asked = record {
@@ -107,14 +111,14 @@ module _ {H S K : Type 0} (fetched : ByFetch H S K) (pulled : ByPull S K) (outpu
     check = λ name check. absurd (gen_is_no_check given.words n name asked check);
     save = λ o save. absurd (gen_is_no_save given.words n o asked save);
     gen = λ m gen. (refl, refl);
-    no_form = λ none. (refl, refl);
+    no_form = λ none. absurd (none.2 n asked);
   }
 
-  pub calls_of_none : HasNoForm given.words → NoneMade
-  calls_of_none none = record {
+  pub calls_of_none : HasNoForm given.words → PutsOneLine (output out) (output out_now) status → NoneMade
+  calls_of_none none put = record {
     run = λ o run. absurd (none.0 o run);
     check = λ name check. absurd (none.1 name check);
     save = λ o save. absurd (none.3 o save);
     gen = λ n gen. (refl, refl);
-    no_form = λ none. (refl, refl);
+    no_form = λ none. (refl, refl, put);
   }

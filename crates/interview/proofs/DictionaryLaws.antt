@@ -3,14 +3,13 @@ use Rattle.std.proofs.Common.{◌≡◌, ℕ, List, [], Result, Ok, Err, inl, sy
 use Rattle.std.specs.Prelude.{IfOk}
 use Rattle.dictionary.specs.declared.fault.DictFault.{DictFault}
 use Rattle.dict_meaning.specs.Accepted.{Accepted, IsAccepted}
-use Rattle.dictionary.specs.Kept.{Named, accepted, names_of}
+use Rattle.dictionary.specs.Kept.{Named, names_of}
 use Rattle.dictionary.specs.Faults.{IsFaultOf}
 use Rattle.dictionary.proofs.FirstLaws.{accepted_has_none, one_dictionary, one_fault}
 use Rattle.dict_meaning.specs.Fits.{AnswersFit}
 use Rattle.graph_session.specs.Rules.{Rules, tree_of}
 use Rattle.tax_2023.proofs.NoFault.{year_has_none}
 use Rattle.tax_2023.proofs.TableLaw.{one_of_year, year_tables_hold}
-use Rattle.tax_2023.specs.Facts.{dictionary}
 use Rattle.tax_2023.specs.Years.{tables_of}
 use Rattle.tax_income.proofs.IncomeDictionary.{income_has_none}
 use Rattle.tax_income.proofs.IncomeLaw.{income_year_tables_hold}

@@ -3,6 +3,7 @@ use Rattle.std.proofs.Common.{◌≡◌, ◌⊎◌, ℕ, Bool, true, false, List
 use Rattle.std.specs.Prelude.{All, Result, Ok, Err, nat_le, if◌then◌else◌}
 use Rattle.std.proofs.Math.Seq.{take-append_seam}
 use Rattle.std.proofs.lemmas.List.Elements.{All-head, All-tail, All-take}
+use Rattle.script_lines.specs.Joined.{joined}
 use Rattle.script_lines.specs.Lines.{ScriptLine, whole, long, script_lines, ended_lines}
 use Rattle.script_lines.specs.Parsing.{Heard, nothing, bad_line, command, heard_in}
 use Rattle.script_lines.specs.declared.command.Command.{Command}
@@ -30,8 +31,8 @@ use Rattle.interview.specs.Meanings.{meaning_of}
 use Rattle.interview.specs.declared.words.Mode.{Mode}
 use Rattle.interview.specs.declared.words.Mode.TheVariants.{Incremental, Plain}
 use Rattle.interview.proofs.RunLaws.{one_run}
-use Rattle.session_lines.specs.Replies.{reply_text}
-use Rattle.session_lines.specs.Stepping.{LineState, State, Step, at_start, cut_watch, missing_answer, open_at, place_in, put_watch, replies, said, state_after, step, step_answered, step_command, step_heard, step_line, watch_decided}
+use Rattle.session_lines.specs.Replies.{missing_output, reply_text}
+use Rattle.session_lines.specs.Stepping.{LineState, State, Step, at_start, cut_watch, open_at, place_in, put_watch, replies, said, state_after, step, step_answered, step_command, step_heard, step_line, watch_decided}
 use Rattle.fact_watch.specs.Refusals.{unwatch_refusal, watch_refusal}
 use Rattle.fact_watch.specs.Watching.{Pair}
 use Rattle.fact_watch.specs.declared.commands.WatchRefusal.{WatchRefusal}
@@ -48,7 +49,7 @@ abbrev plain_state : State → State
 plain_state s = record { standing = plain_line_state s.standing; over = s.over }
 
 abbrev plain_step : Step → Step
-plain_step s = record { text = s.text; state = plain_state s.state }
+plain_step s = record { lines = s.lines; state = plain_state s.state }
 
 -- ---- one command
 
@@ -74,11 +75,11 @@ answered_same r s asked (Some refusal) reply t = refl
 answered_same r s asked None reply t =
     let d = session.moved_by r s.session_state t in
     ap (λ (e : SessionState). step_answered r (plain_line_state s) asked (Ok (reply, e))) (moved_same r s.session_state t)
-    ∙ ap {A = List ℕ} {B = Step} (λ text. record { text = said r (plain_line_state s) asked text (plain_session_state d); state = open_at (record s { session_state = plain_session_state d }) }) (text_same r d reply)
+    ∙ ap {A = List ℕ} {B = Step} (λ text. record { lines = said r (plain_line_state s) asked text (plain_session_state d); state = open_at (record s { session_state = plain_session_state d }) }) (text_same r d reply)
 
 -- what a session doesn't answer itself
 
-missing_same : (r : Rules) (c : SessionState) (o : Result Slot Refusal) → missing_answer r (plain_session_state c) o ≡ missing_answer r c o
+missing_same : (r : Rules) (c : SessionState) (o : Result Slot Refusal) → missing_output r (plain_session_state c) o ≡ missing_output r c o
 missing_same r c (Ok slot) = refl
 missing_same r c (Err refusal) = refl
 
@@ -109,7 +110,7 @@ command_same r s (Get path) none = answered_same r s (Get path) (session.refusal
 command_same r s (Final path) none = answered_same r s (Final path) (session.refusal r s.session_state (Final path)) _ None
 command_same r s (Stamp path) none = absurd cc
 command_same r s Touched none = absurd cc
-command_same r s (Missing path) none = ap {A = List ℕ} {B = Step} (λ text. record { text = text; state = open_at (plain_line_state s) }) (missing_same r s.session_state (slot_found r s.session_state.timeline.now path))
+command_same r s (Missing path) none = ap {A = List (List ℕ)} {B = Step} (λ lines. record { lines = lines; state = open_at (plain_line_state s) }) (missing_same r s.session_state (slot_found r s.session_state.timeline.now path))
 command_same r s (Watch name path) none = put_same s name (slot_found r s.session_state.timeline.now path)
 command_same r s (Unwatch name path) none = cut_same s name (slot_found r s.session_state.timeline.now path)
 command_same r s Quit none = refl
@@ -128,7 +129,7 @@ line_same r s long none = refl
 step_same : (r : Rules) (s : State) (line : ScriptLine) → line_asks_counts line ≡ false → step r (plain_state s) line ≡ plain_step (step r s line)
 step_same r s line none = by s.over
   where
-    by : (over : Bool) → (if over then record { text = []; state = plain_state s } else step_line r (plain_line_state s.standing) line) ≡ plain_step (if over then record { text = []; state = s } else step_line r s.standing line)
+    by : (over : Bool) → (if over then record { lines = []; state = plain_state s } else step_line r (plain_line_state s.standing) line) ≡ plain_step (if over then record { lines = []; state = s } else step_line r s.standing line)
     by true = refl
     by false = line_same r s.standing line none
 
@@ -138,7 +139,7 @@ lines_same r s [] none = (refl, refl)
 lines_same r s (line ∷ lines) none =
     let one = step_same r s line (All-head (λ l. line_asks_counts l ≡ false) line lines none) in
     let rest = lines_same r (step r s line).state lines (All-tail (λ l. line_asks_counts l ≡ false) line lines none) in (
-      ap (λ (t : Step). t.text ++ replies r t.state lines) one ∙ ap (λ l. (step r s line).text ++ l) rest.0,
+      ap (λ (t : Step). t.lines ++ replies r t.state lines) one ∙ ap (λ l. (step r s line).lines ++ l) rest.0,
       ap (λ (t : Step). state_after r t.state lines) one ∙ rest.1,
     )
 
@@ -165,7 +166,7 @@ script_same r relations a script none =
     let same = lines_same r (at_start r (record { answers = a; stamps = true; relations = relations })) (answered_lines script) (answered_ask_none script none) in
     let over : (meaning_of r Plain relations a).over (answered_lines script) ≡ (meaning_of r Incremental relations a).over (answered_lines script) = ap (λ (s : State). s.over) same.1 in
     λ i. record {
-      text = sym same.0 i;
+      text = joined (sym same.0 i);
       status = if nat_le (length script) script_limit then Done else if sym over i then Done else ScriptTooLong;
     }
 
@@ -221,7 +222,7 @@ line_leaves r s long = refl
 step_leaves : (r : Rules) (s : State) (line : ScriptLine) → (step r (plain_state s) line).state ≡ plain_state (step r s line).state
 step_leaves r s line = by s.over
   where
-    by : (over : Bool) → (if over then record { text = []; state = plain_state s } else step_line r (plain_line_state s.standing) line).state ≡ plain_state (if over then record { text = []; state = s } else step_line r s.standing line).state
+    by : (over : Bool) → (if over then record { lines = []; state = plain_state s } else step_line r (plain_line_state s.standing) line).state ≡ plain_state (if over then record { lines = []; state = s } else step_line r s.standing line).state
     by true = refl
     by false = line_leaves r s.standing line
 
@@ -232,7 +233,7 @@ lines_lead r s (line ∷ lines) = ap (λ t. state_after r t lines) (step_leaves 
 pub lines_agree : LinesAgree
 lines_agree r relations a lines line none =
     let s = at_start r (record { answers = a; stamps = true; relations = relations }) in
-    sym (ap (λ (t : State). (step r t line).text) (lines_lead r s lines) ∙ ap (λ (t : Step). t.text) (step_same r (state_after r s lines) line none))
+    sym (ap (λ (t : State). (step r t line).lines) (lines_lead r s lines) ∙ ap (λ (t : Step). t.lines) (step_same r (state_after r s lines) line none))
 
 -- ---- two runs
 

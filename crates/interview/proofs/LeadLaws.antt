@@ -73,7 +73,7 @@ module _ (r : Rules) where
     state_fits : (state : State) (line : ScriptLine) → Fit state → Fit (step r state line).state
     state_fits state line all = at state.over
       where
-        at : (over : Bool) → Fit (if over then record { text = []; state = state } else step_line r state.standing line).state
+        at : (over : Bool) → Fit (if over then record { lines = []; state = state } else step_line r state.standing line).state
         at true = all
         at false = line_fits state.standing line all
 

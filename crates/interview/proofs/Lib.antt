@@ -10,6 +10,7 @@ pub mod FigureLaws
 pub mod FinalLaws
 pub mod FirstWords
 pub mod GenLaws
+pub mod LastLineLaws
 pub mod LeadLaws
 pub mod LoadLaws
 pub mod MeaningLaws

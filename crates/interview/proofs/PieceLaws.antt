@@ -1,8 +1,9 @@
 -- Lines that end in a piece of a script, one behind another.
-use Rattle.std.proofs.Common.{◌≡◌, ℕ, ◌+◌, ◌-◌, ◌≤◌, List, [], ◌∷◌, ◌++◌, length, take, drop, Option, refl, sym, ap, subst, ◌∙◌, arith, append_assoc, length-drop}
+use Rattle.std.proofs.Common.{◌≡◌, ℕ, ◌+◌, ◌-◌, ◌≤◌, List, [], ◌∷◌, ◌++◌, length, take, drop, refl, sym, ap, subst, ◌∙◌, arith, append_assoc, length-drop}
 use Rattle.std.proofs.lemmas.List.{append-nil, take_all}
-use Rattle.fg_io.specs.Sent.{Sent}
-use Rattle.fg_io.proofs.SentLaws.{sent_none, sent_on}
+use Rattle.fg_io.specs.Outside.{Output}
+use Rattle.session_lines.specs.Writing.{WroteLines}
+use Rattle.session_lines.proofs.WritingLaws.{lines_none}
 use Rattle.script_lines.specs.Lines.{ScriptLine, ended_lines, ready_lines, script_lines}
 use Rattle.script_lines.specs.declared.lines.Ready.{Ready}
 use Rattle.script_lines.proofs.EndedLaws.{ended_follows}
@@ -22,11 +23,11 @@ no_bytes [] e = refl
 no_bytes (b ∷ bytes) e = absurd (omega (arith, e))
 
 -- no line was answered yet
-pub output_none : (m : Meaning) → IsBeginning m → (taken : Option (List ℕ)) (held bytes : List ℕ) → LinesOutput m taken taken held bytes m held bytes []
-output_none m begins taken held bytes = record {
+pub output_none : (m : Meaning) → IsBeginning m → (sink : Output) (held bytes : List ℕ) → LinesOutput m (WroteLines sink sink) held bytes m held bytes
+output_none m begins sink held bytes = record {
   lines = [];
   cut = λ more. refl;
-  wrote = subst (λ t. Sent taken taken t []) (sym begins.texts) (sent_none taken []);
+  wrote = subst (WroteLines sink sink) (sym begins.replies) (lines_none sink);
   left = behind_none m begins;
 }
 
@@ -39,18 +40,19 @@ module _ (there : Meaning) (held rest held_next next line line_now : List ℕ) (
   stream_now : (more : List ℕ) → script_lines (held ++ (rest ++ more)) ≡ fed ++ script_lines (held_next ++ (next ++ more))
   stream_now more = stream more ∙ ap (λ l. ready_lines ready l ++ script_lines (held_next ++ (next ++ more))) (sym same_line)
 
-  -- and answered as far as `left`
-  module _ (m : Meaning) (a b c : Option (List ℕ)) (before bytes : List ℕ) (output : LinesOutput m a b before bytes there held rest []) where
-    pub output_fed : (after : Meaning) (left : List ℕ) → Behind there fed after → Sent b c (there.texts fed) left → LinesOutput m a c before bytes after held_next next left
-    output_fed after left behind wrote = record {
+  -- and its reply was written so
+  module _ (m : Meaning) (a b : Output) (before bytes : List ℕ) (output : LinesOutput m (WroteLines a b) before bytes there held rest)
+      (Next All : List (List ℕ) → Type 0) (compose : (xs ys : List (List ℕ)) → WroteLines a b xs → Next ys → All (xs ++ ys)) where
+    pub output_fed : (after : Meaning) → Behind there fed after → Next (there.replies fed) → LinesOutput m All before bytes after held_next next
+    output_fed after behind wrote = record {
       lines = output.lines ++ fed;
       cut = λ more. output.cut more ∙ ap (λ l. output.lines ++ l) (stream_now more) ∙ sym (append_assoc output.lines fed (script_lines (held_next ++ (next ++ more))));
-      wrote = subst (λ t. Sent a c t left) (sym (output.left.texts fed)) (sent_on a b c (m.texts output.lines) (there.texts fed) left output.wrote wrote);
+      wrote = subst All (sym (output.left.replies fed)) (compose (m.replies output.lines) (there.replies fed) output.wrote wrote);
       left = behind_on m there after output.lines fed output.left behind;
     }
 
-    abbrev pub some_fed : (after : Meaning) (left : List ℕ) → Behind there fed after → Sent b c (there.texts fed) left → SomeOutput m a c before bytes left
-    some_fed after left behind wrote = record { there = after; held_now = held_next; behind = next; output = output_fed after left behind wrote }
+    abbrev pub some_fed : (after : Meaning) → Behind there fed after → Next (there.replies fed) → SomeOutput m All before bytes
+    some_fed after behind wrote = record { there = after; held_now = held_next; behind = next; output = output_fed after behind wrote }
 
   -- of the lines that end in a piece it is the first
   fed_first : ended_lines (held ++ rest) ≡ fed ++ ended_lines (held_next ++ next)

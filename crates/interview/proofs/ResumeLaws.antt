@@ -30,7 +30,7 @@ use Rattle.interview.specs.Words.{Beginning, unanswered}
 -- ---- what is written before the replies
 
 pub nothing_put : (sink : Output) (front : List ℕ) → front ≡ [] → WroteAll sink sink front
-nothing_put sink front is = rw is (sent_none sink.taken [], omega arith)
+nothing_put sink front is = rw is (record { sent = sent_none sink.taken []; later = omega arith })
 
 -- ---- a text that is loaded
 

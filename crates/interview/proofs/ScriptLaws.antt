@@ -6,20 +6,22 @@ use Rattle.std.proofs.lemmas.List.{append-nil}
 use Rattle.std.proofs.Math.Seq.{take-append-add, take-append_seam}
 use Rattle.std.specs.Io.KnownBytes.{Appends, Consumes}
 use Rattle.fg_io.specs.Outside.{MayBe, Output}
-use Rattle.fg_io.specs.Sent.{Sent}
 use Rattle.std.proofs.KnownBytes.{Appends-kept}
-use Rattle.fg_io.proofs.SentLaws.{appends_none, sent_none, sent_on, sent_whole}
+use Rattle.fg_io.proofs.SentLaws.{appends_none}
+use Rattle.script_lines.specs.Joined.{joined}
+use Rattle.session_lines.specs.Writing.{WroteLines}
+use Rattle.session_lines.proofs.WritingLaws.{lines_none, lines_on}
 use Rattle.fg_io.proofs.ConsumedLaws.{consumes_more, consumes_none, may_go_on}
 use Rattle.script_lines.specs.Lines.{ScriptLine, script_lines, ended_lines, HasNoNewline}
 use Rattle.script_lines.proofs.EndedLaws.{ended_follows, ended_goes_on, lines_go_on}
 use Rattle.interview.specs.declared.status.Status.TheVariants.{Done, ScriptTooLong, NoMemory}
-use Rattle.interview.specs.Meanings.{Behind, IsBeginning, IsQuit, Meaning}
+use Rattle.interview.specs.Meanings.{Behind, IsBeginning, IsQuit, Meaning, texts}
 use Rattle.interview.specs.Telling.{LinesOutput}
 use Rattle.interview.specs.SoFar.{AnsweredSoFar}
 use Rattle.interview.specs.Devices.{Around, SentNothing, SentPart, SentWhole}
 use Rattle.interview.specs.ScriptEnds.{ScriptDid, RepliedFirst, ScriptEnds}
 use Rattle.interview.specs.Interview.{script_limit, answered_lines, defined_script}
-use Rattle.interview.proofs.MeaningLaws.{behind_none, behind_on}
+use Rattle.interview.proofs.MeaningLaws.{behind_none, behind_on, texts_behind}
 
 -- ---- a script by the lines of its front
 
@@ -49,7 +51,7 @@ long_lines front more full long =
     ∙ ap ended_lines (ap (λ n. take n (front ++ more)) (sym full) ∙ take-append_seam front more)
 
 module _ (m : Meaning) (script : List ℕ) where
-  pub defined_text : (defined_script m script).text ≡ m.texts (answered_lines script)
+  pub defined_text : (defined_script m script).text ≡ texts m (answered_lines script)
   unfolding defined_script
   defined_text = refl
 
@@ -75,45 +77,45 @@ module _ (m : Meaning) (script : List ℕ) where
 
 -- ---- a piece behind the bytes that were answered
 
-pub output_then : (m there next : Meaning) (a b c : Option (List ℕ)) (bytes held chunk chunk_now held_next behind rest : List ℕ)
-    → LinesOutput m a b [] bytes there held [] [] → chunk_now ≡ chunk → LinesOutput there b c held chunk_now next held_next behind rest
-    → LinesOutput m a c [] (bytes ++ chunk) next held_next behind rest
-output_then m there next a b c bytes held chunk chunk_now held_next behind rest output same_chunk more = joined (subst (λ l. LinesOutput there b c held l next held_next behind rest) same_chunk more)
+pub output_then : (m there next : Meaning) (a b : Output) (Next All : List (List ℕ) → Type 0) → ((xs ys : List (List ℕ)) → WroteLines a b xs → Next ys → All (xs ++ ys)) → (bytes held chunk chunk_now held_next behind : List ℕ)
+    → LinesOutput m (WroteLines a b) [] bytes there held [] → chunk_now ≡ chunk → LinesOutput there Next held chunk_now next held_next behind
+    → LinesOutput m All [] (bytes ++ chunk) next held_next behind
+output_then m there next a b Next All compose bytes held chunk chunk_now held_next behind output same_chunk more = both (subst (λ l. LinesOutput there Next held l next held_next behind) same_chunk more)
   where
-    joined : LinesOutput there b c held chunk next held_next behind rest → LinesOutput m a c [] (bytes ++ chunk) next held_next behind rest
-    joined piece = record {
+    both : LinesOutput there Next held chunk next held_next behind → LinesOutput m All [] (bytes ++ chunk) next held_next behind
+    both piece = record {
       lines = output.lines ++ piece.lines;
       cut = λ l.
           ap script_lines (append_assoc bytes chunk l)
           ∙ output.cut (chunk ++ l)
           ∙ ap (λ k. output.lines ++ k) (piece.cut l)
           ∙ sym (append_assoc output.lines piece.lines (script_lines (held_next ++ (behind ++ l))));
-      wrote = subst (λ t. Sent a c t rest) (sym (output.left.texts piece.lines)) (sent_on a b c (m.texts output.lines) (there.texts piece.lines) rest output.wrote piece.wrote);
+      wrote = subst All (sym (output.left.replies piece.lines)) (compose (m.replies output.lines) (there.replies piece.lines) output.wrote piece.wrote);
       left = behind_on m there next output.lines piece.lines output.left piece.left;
     }
 
 -- before the first byte
-unfoldable pub none_so_far : (m : Meaning) → IsBeginning m → (left taken : Option (List ℕ)) → AnsweredSoFar m left left taken taken 0 m []
-none_so_far m begins left taken = record {
+unfoldable pub none_so_far : (m : Meaning) → IsBeginning m → (left : Option (List ℕ)) (sink : Output) → AnsweredSoFar m left left sink sink 0 m []
+none_so_far m begins left sink = record {
   bytes = [];
   read = consumes_none left;
   counted = refl;
-  output = record { lines = []; cut = λ more. refl; wrote = subst (λ t. Sent taken taken t []) (sym begins.texts) (sent_none taken []); left = behind_none m begins };
+  output = record { lines = []; cut = λ more. refl; wrote = subst (WroteLines sink sink) (sym begins.replies) (lines_none sink); left = behind_none m begins };
   unquit = begins.over;
   unended = λ k d h. absurd (omega (arith, h));
 }
 
 -- these bytes more
-pub more_so_far : (m there next : Meaning) (a b c left left_now left_next : Option (List ℕ)) (count n : ℕ) (held held_next chunk chunk_now : List ℕ)
+pub more_so_far : (m there next : Meaning) (a b c : Output) (left left_now left_next : Option (List ℕ)) (count n : ℕ) (held held_next chunk chunk_now : List ℕ)
     → (so_far : AnsweredSoFar m left left_now a b count there held) → Consumes left_now left_next chunk → n ≡ length chunk → chunk_now ≡ chunk
-    → LinesOutput there b c held chunk_now next held_next [] [] → next.over [] ≡ false → HasNoNewline held_next
+    → LinesOutput there (WroteLines b c) held chunk_now next held_next [] → next.over [] ≡ false → HasNoNewline held_next
     → (now : AnsweredSoFar m left left_next a c (count + n) next held_next) × (now.bytes ≡ so_far.bytes ++ chunk)
 more_so_far m there next a b c left left_now left_next count n held held_next chunk chunk_now so_far read long same_chunk output unquit unended = (
   record {
     bytes = so_far.bytes ++ chunk;
     read = consumes_more left left_now left_next so_far.bytes chunk so_far.read read;
     counted = omega (arith, so_far.counted, long, length-append so_far.bytes chunk);
-    output = output_then m there next a b c so_far.bytes held chunk chunk_now held_next [] [] so_far.output same_chunk output;
+    output = output_then m there next a b (WroteLines b c) (WroteLines a c) (lines_on a b c) so_far.bytes held chunk chunk_now held_next [] so_far.output same_chunk output;
     unquit = unquit;
     unended = unended;
   },
@@ -133,14 +135,14 @@ nothing_part output text kept =
 
 -- the replies to the first lines that are answered are a part of what is defined
 module _ (m : Meaning) (script : List ℕ) (lines others : List ScriptLine) (rest : Meaning) (left : Behind m lines rest) (answers : answered_lines script ≡ lines ++ others) where
-  pub first_lines : (defined_script m script).text ≡ m.texts lines ++ rest.texts others
-  first_lines = defined_text m script ∙ ap m.texts answers ∙ left.texts others
+  pub first_lines : (defined_script m script).text ≡ texts m lines ++ texts rest others
+  first_lines = defined_text m script ∙ ap (texts m) answers ∙ texts_behind m rest lines others left
 
-  pub part_by_lines : (output : Around Output) → SentWhole output (m.texts lines) → SentPart output (defined_script m script).text
-  part_by_lines output wrote = part_of output (m.texts lines) (rest.texts others) (defined_script m script).text first_lines wrote
+  pub part_by_lines : (output : Around Output) → SentWhole output (texts m lines) → SentPart output (defined_script m script).text
+  part_by_lines output wrote = part_of output (texts m lines) (texts rest others) (defined_script m script).text first_lines wrote
 
 -- the replies to the first lines of a script were written
-pub replied_first : (m : Meaning) (did : ScriptDid) (script : List ℕ) (lines others : List ScriptLine) → MayBe did.input.before.left script → answered_lines script ≡ lines ++ others → SentWhole did.output (m.texts lines) → RepliedFirst m did
+pub replied_first : (m : Meaning) (did : ScriptDid) (script : List ℕ) (lines others : List ScriptLine) → MayBe did.input.before.left script → answered_lines script ≡ lines ++ others → SentWhole did.output (texts m lines) → RepliedFirst m did
 replied_first m did script lines others read answers wrote = record {
   script = script;
   read = read;
@@ -149,12 +151,9 @@ replied_first m did script lines others read answers wrote = record {
 }
 
 -- what was written of a script whose front was answered
-module _ (m : Meaning) (did : ScriptDid) (front rest : List ℕ) (there : Meaning) (held_now behind : List ℕ) (output : LinesOutput m did.output.before.taken did.output.after.taken [] front there held_now behind rest) (short : length front ≤ script_limit) where
+module _ (m : Meaning) (did : ScriptDid) (Wrote : List (List ℕ) → Type 0) (front : List ℕ) (there : Meaning) (held_now behind : List ℕ) (output : LinesOutput m Wrote [] front there held_now behind) (short : length front ≤ script_limit) where
   abbrev text : List ℕ
-  text = m.texts output.lines
-
-  whole : rest ≡ [] → SentWhole did.output text
-  whole none = sent_whole did.output.before.taken did.output.after.taken text (subst (λ l. Sent did.output.before.taken did.output.after.taken text l) none output.wrote)
+  text = texts m output.lines
 
   -- the lines that ended in the front are those that were answered, and those that stand behind
   front_ended : ended_lines front ≡ output.lines ++ ended_lines (held_now ++ behind)
@@ -167,15 +166,15 @@ module _ (m : Meaning) (did : ScriptDid) (front rest : List ℕ) (there : Meanin
       (ended_lines (held_now ++ behind) ++ ended.0, ended.1 ∙ ap (λ l. l ++ ended.0) front_ended ∙ append_assoc output.lines (ended_lines (held_now ++ behind)) ended.0)
 
   -- a part of it
-  pub part_written : (more : List ℕ) → SentPart did.output (defined_script m (front ++ more)).text
-  part_written more =
+  pub part_written : (more : List ℕ) → SentPart did.output text → SentPart did.output (defined_script m (front ++ more)).text
+  part_written more (rest, sent) =
       let answered = front_answered more in
-      let others = there.texts answered.0 in (
+      let others = texts there answered.0 in (
         rest ++ others,
         record {
-          front = output.wrote.front;
-          took = output.wrote.took;
-          split = first_lines m (front ++ more) output.lines answered.0 there output.left answered.1 ∙ ap (λ l. l ++ others) output.wrote.split ∙ append_assoc output.wrote.front rest others;
+          front = sent.front;
+          took = sent.took;
+          split = first_lines m (front ++ more) output.lines answered.0 there output.left answered.1 ∙ ap (λ l. l ++ others) sent.split ∙ append_assoc sent.front rest others;
         },
       )
 
@@ -198,17 +197,17 @@ module _ (m : Meaning) (did : ScriptDid) (front rest : List ℕ) (there : Meanin
     pub over_in_front : m.over (ended_lines front) ≡ true
     over_in_front = ap m.over front_ended ∙ over_behind (ended_lines (held_now ++ behind))
 
-    pub over_written : (more : List ℕ) → rest ≡ [] → ((defined_script m (front ++ more)).status ≡ Done) × SentWhole did.output (defined_script m (front ++ more)).text
-    over_written more none =
+    pub over_written : (more : List ℕ) → SentWhole did.output text → ((defined_script m (front ++ more)).status ≡ Done) × SentWhole did.output (defined_script m (front ++ more)).text
+    over_written more whole =
         let answered = front_answered more in
         let same : (defined_script m (front ++ more)).text ≡ text =
-        first_lines m (front ++ more) output.lines answered.0 there output.left answered.1 ∙ ap (λ l. text ++ l) (quit.texts answered.0) ∙ append-nil text in
-        (done_behind more, subst (λ t. Appends did.output.before.taken did.output.after.taken t) (sym same) (whole none))
+        first_lines m (front ++ more) output.lines answered.0 there output.left answered.1 ∙ ap (λ (ls : List (List ℕ)). text ++ joined ls) (quit.replies answered.0) ∙ append-nil text in
+        (done_behind more, subst (λ t. Appends did.output.before.taken did.output.after.taken t) (sym same) whole)
 
-  pub first_written : (more : List ℕ) → MayBe did.input.before.left (front ++ more) → rest ≡ [] → RepliedFirst m did
-  first_written more read none =
+  pub first_written : (more : List ℕ) → MayBe did.input.before.left (front ++ more) → SentWhole did.output text → RepliedFirst m did
+  first_written more read whole =
       let answered = front_answered more in
-      replied_first m did (front ++ more) output.lines answered.0 read answered.1 (whole none)
+      replied_first m did (front ++ more) output.lines answered.0 read answered.1 whole
 
 -- ---- a script that isn't begun
 
@@ -219,5 +218,5 @@ not_begun m begins did still =
       script = some.0;
       read = some.1;
       count = 0;
-      replied = subst (λ t. Appends did.output.before.taken did.output.after.taken t) (sym begins.texts) (subst (λ now. Appends did.output.before.taken now []) still (appends_none did.output.before.taken));
+      replied = subst (λ (ls : List (List ℕ)). Appends did.output.before.taken did.output.after.taken (joined ls)) (sym begins.replies) (subst (λ now. Appends did.output.before.taken now []) still (appends_none did.output.before.taken));
     }

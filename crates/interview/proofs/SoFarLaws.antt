@@ -2,9 +2,8 @@
 use Rattle.std.proofs.Common.{◌≡◌, ℕ, ◌<◌, ◌≤◌, false, List, [], ◌∷◌, ◌++◌, length, Option, inl, inr, refl, sym, ap, subst, ◌∙◌, arith}
 use Rattle.std.proofs.lemmas.List.{append-nil}
 use Rattle.std.proofs.lemmas.List.Elements.{All-nil, All-cons}
-use Rattle.std.specs.Io.KnownBytes.{Appends}
 use Rattle.fg_io.specs.Outside.{ByPull, Output, Pulled, gave, faulted}
-use Rattle.fg_io.proofs.SentLaws.{sent_whole}
+use Rattle.session_lines.specs.Writing.{WroteLines}
 use Rattle.script_lines.specs.Lines.{ended_lines}
 use Rattle.script_lines.proofs.EndedLaws.{ready_lines_are_ended}
 use Rattle.interview.specs.declared.status.Status.{Status}
@@ -12,11 +11,11 @@ use Rattle.interview.specs.declared.status.Status.TheVariants.{ReadFault}
 use Rattle.interview.specs.Interview.{script_limit}
 use Rattle.interview.specs.Meanings.{Meaning}
 use Rattle.interview.specs.SoFar.{AnsweredSoFar, TalkedSoFar}
-use Rattle.interview.specs.Talk.{Came, IsToGoOn, PiecesFollowReplies, PulledBehind, Talk, asked_behind}
+use Rattle.interview.specs.Talk.{bytes_of, IsToGoOn, PiecesFollowReplies, PulledBehind, Told, WholeTalk, asked_behind}
 
 -- ---- its lines
 
-module _ (m : Meaning) (left left_now taken taken_now : Option (List ℕ)) (count : ℕ) (there : Meaning) (held : List ℕ) (so_far : AnsweredSoFar m left left_now taken taken_now count there held) where
+module _ (m : Meaning) (left left_now : Option (List ℕ)) (sink sink_now : Output) (count : ℕ) (there : Meaning) (held : List ℕ) (so_far : AnsweredSoFar m left left_now sink sink_now count there held) where
   pub ended_so_far : so_far.output.lines ≡ ended_lines so_far.bytes
   ended_so_far = ready_lines_are_ended so_far.bytes held so_far.output.lines so_far.unended so_far.output.cut
 
@@ -25,8 +24,8 @@ module _ (m : Meaning) (left left_now taken taken_now : Option (List ℕ)) (coun
   unquit_so_far = ap m.over (sym ended_so_far ∙ sym (append-nil so_far.output.lines)) ∙ so_far.output.left.over [] ∙ so_far.unquit
 
   -- the replies were written whole
-  pub replied_so_far : Appends taken taken_now (m.texts (ended_lines so_far.bytes))
-  replied_so_far = subst (λ l. Appends taken taken_now (m.texts l)) ended_so_far (sent_whole taken taken_now (m.texts so_far.output.lines) so_far.output.wrote)
+  pub replied_so_far : WroteLines sink sink_now (m.replies (ended_lines so_far.bytes))
+  replied_so_far = subst (λ l. WroteLines sink sink_now (m.replies l)) ended_so_far so_far.output.wrote
 
 -- ---- the pulls
 
@@ -35,15 +34,15 @@ module _ {S K : Type 0} (pulled : ByPull S K) (output : K → Output) (m : Meani
   pub talked_none : TalkedSoFar pulled output m out script [] script
   talked_none = record { pieces = []; came = refl; same = refl; unended = All-nil _ }
 
-  module _ (left left_now : Option (List ℕ)) (out_now : K) (count : ℕ) (there : Meaning) (held : List ℕ) (so_far : AnsweredSoFar m left left_now (output out).taken (output out_now).taken count there held)
+  module _ (left left_now : Option (List ℕ)) (out_now : K) (count : ℕ) (there : Meaning) (held : List ℕ) (so_far : AnsweredSoFar m left left_now (output out) (output out_now) count there held)
       (script_now : S) (talked : TalkedSoFar pulled output m out script so_far.bytes script_now) (short : count ≤ script_limit) where
     goes_on : IsToGoOn output m out talked.pieces out_now
     goes_on = record {
       unended = talked.unended;
       within = omega (arith, so_far.counted, ap length talked.same, short);
-      unquit = ap (λ (bytes : List ℕ). m.over (ended_lines bytes)) talked.same ∙ unquit_so_far m left left_now (output out).taken (output out_now).taken count there held so_far;
-      replied = subst (λ (bytes : List ℕ). Appends (output out).taken (output out_now).taken (m.texts (ended_lines bytes))) (sym talked.same)
-          (replied_so_far m left left_now (output out).taken (output out_now).taken count there held so_far);
+      unquit = ap (λ (bytes : List ℕ). m.over (ended_lines bytes)) talked.same ∙ unquit_so_far m left left_now (output out) (output out_now) count there held so_far;
+      replied = subst (λ (bytes : List ℕ). WroteLines (output out) (output out_now) (m.replies (ended_lines bytes))) (sym talked.same)
+          (replied_so_far m left left_now (output out) (output out_now) count there held so_far);
     }
 
     module _ (room : ℕ) (script_next : S) where
@@ -65,12 +64,19 @@ module _ {S K : Type 0} (pulled : ByPull S K) (output : K → Output) (m : Meani
         }
 
         -- the last
-        pub talk_ends : (status : Status) → Talk pulled output m out script script_next status
-        talk_ends status = record { pieces = piece ∷ talked.pieces; between = script_next; came = (script_now, talked.came, behind (gave piece) call asked); last = inl refl }
+        pub talk_ends : (status : Status) (out_end : K) → Told (output out) (output out_end) m (so_far.bytes ++ piece) status → WholeTalk pulled output m out out_end script script_next status
+        talk_ends status out_end told = record {
+          talk = record { pieces = piece ∷ talked.pieces; between = script_next; came = (script_now, talked.came, behind (gave piece) call asked); last = inl refl };
+          told = subst (λ (bytes : List ℕ). Told (output out) (output out_end) m bytes status) (sym (ap (λ (earlier : List ℕ). earlier ++ piece) talked.same)) told;
+        }
 
       -- it failed
-      pub talk_fails : pulled script_now out_now room faulted script_next → room ≡ asked_behind count → Talk pulled output m out script script_next ReadFault
-      talk_fails call asked = record { pieces = talked.pieces; between = script_now; came = talked.came; last = inr (refl, behind faulted call asked) }
+      pub talk_fails : pulled script_now out_now room faulted script_next → room ≡ asked_behind count → ((bytes : List ℕ) → bytes ≡ so_far.bytes → Told (output out) (output out_now) m bytes ReadFault)
+          → WholeTalk pulled output m out out_now script script_next ReadFault
+      talk_fails call asked told = record {
+        talk = record { pieces = talked.pieces; between = script_now; came = talked.came; last = inr (refl, behind faulted call asked) };
+        told = told (bytes_of talked.pieces) talked.same;
+      }
 
 -- ---- each piece
 

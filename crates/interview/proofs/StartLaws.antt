@@ -40,37 +40,37 @@ pub read_behind : (m : Meaning) (did : ScriptDid) (now : Option (List ℕ)) → 
 read_behind m did now (inl to_end) = inl to_end
 read_behind m did now (inr to_quit) = inr (record { earlier = to_quit.earlier; piece = to_quit.piece; read = to_quit.read; short = to_quit.short; unquit = to_quit.unquit; quit = to_quit.quit })
 
--- ---- a script with a later count of the faults of the sink
+-- ---- a script from a later state of the sink
 
-abbrev pub counted_from : ScriptDid → ℕ → ScriptDid
-counted_from did faults = record { input = did.input; output = record { before = record did.output.before { faults = faults }; after = did.output.after } }
+abbrev pub from_sink : ScriptDid → Output → ScriptDid
+from_sink did sink = record { input = did.input; output = record { before = sink; after = did.output.after } }
 
 -- what is read is the same
-read_same : (m : Meaning) (did : ScriptDid) (faults : ℕ) → ReadThrough m (counted_from did faults) → ReadThrough m did
-read_same m did faults (inl to_end) = inl to_end
-read_same m did faults (inr to_quit) = inr (record { earlier = to_quit.earlier; piece = to_quit.piece; read = to_quit.read; short = to_quit.short; unquit = to_quit.unquit; quit = to_quit.quit })
+read_same : (m : Meaning) (did : ScriptDid) (sink : Output) → ReadThrough m (from_sink did sink) → ReadThrough m (did_behind did sink.taken)
+read_same m did sink (inl to_end) = inl to_end
+read_same m did sink (inr to_quit) = inr (record { earlier = to_quit.earlier; piece = to_quit.piece; read = to_quit.read; short = to_quit.short; unquit = to_quit.unquit; quit = to_quit.quit })
 
-pub counts_before : (m : Meaning) (did : ScriptDid) (faults : ℕ) (status : Status) → did.output.before.faults ≤ faults → ScriptEnds m (counted_from did faults) status → ScriptEnds m did status
-counts_before m did faults Done later ends = (ends.0, read_same m did faults ends.1)
-counts_before m did faults ReadFault later ends = (ends.0, record { bytes = ends.1.bytes; read = ends.1.read; within = ends.1.within; unquit = ends.1.unquit; replied = ends.1.replied })
-counts_before m did faults WriteFault later ends = (rose_before did.output.before.faults faults did.output.after.faults later ends.0, ends.1)
-counts_before m did faults ScriptTooLong later ends = ends
-counts_before m did faults NoMemory later ends = record { script = ends.script; read = ends.read; count = ends.count; replied = ends.replied }
-counts_before m did faults status later ends = absurd ends
+counts_before : (m : Meaning) (did : ScriptDid) (sink : Output) (status : Status) → did.output.before.faults ≤ sink.faults → ScriptEnds m (from_sink did sink) status → ScriptEnds m (did_behind did sink.taken) status
+counts_before m did sink Done later ends = (ends.0, read_same m did sink ends.1)
+counts_before m did sink ReadFault later ends = (ends.0, record { bytes = ends.1.bytes; read = ends.1.read; within = ends.1.within; unquit = ends.1.unquit; replied = ends.1.replied })
+counts_before m did sink WriteFault later ends = (rose_before did.output.before.faults sink.faults did.output.after.faults later ends.0, ends.1)
+counts_before m did sink ScriptTooLong later ends = ends
+counts_before m did sink NoMemory later ends = record { script = ends.script; read = ends.read; count = ends.count; replied = ends.replied }
+counts_before m did sink status later ends = absurd ends
 
 -- ---- how it ends
 
 module _ (m : Meaning) (front : List ℕ) (did : ScriptDid) where
   -- the text was written whole
-  pub ends_behind : (taken : Option (List ℕ)) (faults : ℕ) (status : Status) → Sent did.output.before.taken taken front [] → did.output.before.faults ≤ faults → ScriptEnds m (counted_from (did_behind did taken) faults) status → StartEnds m front did status
-  ends_behind taken faults status sent later ends = inl (taken, (sent_all, counts_before m (did_behind did taken) faults status later ends))
+  pub ends_behind : (sink : Output) (status : Status) → Sent did.output.before.taken sink.taken front [] → did.output.before.faults ≤ sink.faults → ScriptEnds m (from_sink did sink) status → StartEnds m front did status
+  ends_behind sink status sent later ends = inl (sink.taken, (sent_all, counts_before m did sink status later ends))
     where
-      sent_all : Appends did.output.before.taken taken front
-      sent_all = sent_whole did.output.before.taken taken front sent
+      sent_all : Appends did.output.before.taken sink.taken front
+      sent_all = sent_whole did.output.before.taken sink.taken front sent
 
   -- a part of it was
   pub ends_before : WrotePart did.output.before did.output.after front → UnreadScript did → StartEnds m front did WriteFault
-  ends_before part unread = inr (part.1, part.0, unread)
+  ends_before part unread = inr (part.rose, part.part, unread)
 
   -- nothing was
   pub ends_without : did.output.before.taken ≡ did.output.after.taken → UnreadScript did → StartEnds m front did NoMemory

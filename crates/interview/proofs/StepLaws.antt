@@ -3,6 +3,7 @@ use Rattle.std.proofs.Common.{◌≡◌, ℕ, ◌+◌, ◌≤◌, List, [], ◌+
 use Rattle.std.proofs.lemmas.List.{append-nil}
 use Rattle.std.specs.Io.KnownBytes.{Consumes, Keeps}
 use Rattle.std.proofs.KnownBytes.{Consumes-kept}
+use Rattle.fg_io.specs.Outside.{Output}
 use Rattle.fg_io.proofs.ConsumedLaws.{consumes_more}
 use Rattle.script_lines.specs.Lines.{ScriptLine, ended_lines, script_lines}
 use Rattle.script_lines.proofs.EndedLaws.{ended_follows, lines_go_on}
@@ -21,9 +22,9 @@ module _ (most : Accepted → Answered → Answered → ℕ) (m : Meaning) (begi
       let sum = ap (m.steps most) is ∙ rest.1.steps most others in
       omega (arith, sum)
 
-  module _ (left left_now taken taken_now : Option (List ℕ)) (count : ℕ) (there : Meaning) (held : List ℕ) (so_far : AnsweredSoFar m left left_now taken taken_now count there held) where
+  module _ (left left_now : Option (List ℕ)) (sink sink_now : Output) (count : ℕ) (there : Meaning) (held : List ℕ) (so_far : AnsweredSoFar m left left_now sink sink_now count there held) where
     abbrev ended : so_far.output.lines ≡ ended_lines so_far.bytes
-    ended = ended_so_far m left left_now taken taken_now count there held so_far
+    ended = ended_so_far m left left_now sink sink_now count there held so_far
 
     -- lines behind those that ended so far
     steps_behind : (lines : List ScriptLine) → m.steps most (ended_lines so_far.bytes ++ lines) ≡ m.steps most (ended_lines so_far.bytes) + there.steps most lines

@@ -1,7 +1,7 @@
 -- What a session and a desk answered, as what their lines mean.
-use Rattle.std.proofs.Common.{◌≡◌, ◌≢◌, ℕ, ◌+◌, ◌≤◌, Bool, true, false, List, [], None, refl, sym, ap, subst, arith}
-use Rattle.fg_io.specs.Outside.{Output}
-use Rattle.fg_io.proofs.SentLaws.{sent_none}
+use Rattle.std.proofs.Common.{◌≡◌, ◌≢◌, ℕ, ◌+◌, ◌≤◌, Bool, true, false, List, None, refl, sym, ap, subst, arith}
+use Rattle.fg_io.specs.Outside.{Output, follows_any}
+use Rattle.session_lines.proofs.WritingLaws.{lines_none}
 use Rattle.script_lines.specs.Lines.{ScriptLine}
 use Rattle.answers.specs.Answered.{Answered}
 use Rattle.dict_meaning.specs.Accepted.{Accepted}
@@ -65,7 +65,7 @@ module _ (relations : List Named) (s s_now : SessionView) (w w_now : Watching) (
       session_quit r (state_after r (open_at here) lines) (ap (λ (t : State). t.over) answered.1),
     ),
   )
-  session_line lines Unwritten answered kept = (answered.0, answered.1, session_goes_on lines kept)
+  session_line lines Unwritten answered kept = (answered, session_goes_on lines kept)
   session_line lines OutOfMemory answered kept = (answered, λ i. of_session (rules (sym same i)) (open_at (sym kept i)))
 
   pub session_output : (lines : List ScriptLine) (progress : Progress) → AnsweredAs r sink sink_now here here_now lines progress → KeptAs (state_after r (open_at here) lines) here here_now progress
@@ -113,7 +113,7 @@ module _ (v v_now : DeskView) (sink sink_now : Output) (same : v_now.session.dic
         → LineOutputAs (desk_means v_now) sink sink_now (of_desk by (desk_open d)) v_now.session.timeline.now lines progress
     desk_line More stands answered = (answered.0, stood answered.1.0, desk_goes_on answered.1)
     desk_line Over stands answered = (answered.0, stood answered.1.0, (of_desk by after, desk_behind by (desk_open d) lines, desk_quit by after answered.1.1))
-    desk_line Unwritten stands answered = (answered.0.0, answered.0.1, desk_goes_on answered.1)
+    desk_line Unwritten stands answered = (answered.0, desk_goes_on answered.1)
     desk_line OutOfMemory stands answered = (answered.0, subst (λ (u : DeskView). desk_means u (of_desk by (desk_open d))) (sym answered.1) (d, stands, refl))
 
   pub desk_output : (lines : List ScriptLine) (progress : Progress) → ((d : Defined) → StandsFor v d → DeskAnsweredAs by sink sink_now v v_now d lines progress)
@@ -129,7 +129,7 @@ desk_begun_means k a v stands same = (desk_begun (rules k) a, stands, ap (λ q. 
 
 -- what a sink tells that keeps nothing
 abbrev silent : Output
-silent = record { taken = None; faults = 0 }
+silent = record { taken = None; faults = 0; follows = follows_any }
 
 abbrev pub silently_means : (Meaning → Type 0) → Meaning → Type 0
 silently_means Means m = (told : Meaning) × Means told × (m ≡ silently told)
@@ -138,11 +138,11 @@ module _ (MeansNow : Meaning → Type 0) (sink : Output) (answers : Answered) (l
   silent_line : (told : Meaning) (progress : Progress) → LineOutputAs MeansNow silent silent told answers lines progress → LineOutputAs (silently_means MeansNow) sink sink (silently told) answers lines progress
   silent_line told More output =
       let on = output.2 in
-      (sent_none sink.taken [], output.1, record { there = silently on.there; means = (on.there, on.means, refl); begins = silently_begins on.there on.begins; left = silently_behind told lines on.there on.left })
+      (lines_none sink, output.1, record { there = silently on.there; means = (on.there, on.means, refl); begins = silently_begins on.there on.begins; left = silently_behind told lines on.there on.left })
   silent_line told Over output =
       let quit = output.2 in
-      (sent_none sink.taken [], output.1, (silently quit.0, silently_behind told lines quit.0 quit.1, silently_quits quit.0 quit.2))
-  silent_line told Unwritten output = absurd (omega (arith, output.0))
+      (lines_none sink, output.1, (silently quit.0, silently_behind told lines quit.0 quit.1, silently_quits quit.0 quit.2))
+  silent_line told Unwritten output = absurd (omega (arith, output.0.puts.counted.0))
   silent_line told OutOfMemory output = (refl, (told, output.1, refl))
 
   pub silent_output : (Means : Meaning → Type 0) (progress : Progress) → ((told : Meaning) → Means told → LineOutputAs MeansNow silent silent told answers lines progress)
@@ -154,7 +154,7 @@ module _ (MeansNow : Meaning → Type 0) (sink : Output) (answers : Answered) (l
   pub silent_is_unfailing : (told : Meaning) (progress : Progress) → LineOutputAs MeansNow silent silent told answers lines progress → progress ≢ Unwritten
   silent_is_unfailing told More output = λ e. cc
   silent_is_unfailing told Over output = λ e. cc
-  silent_is_unfailing told Unwritten output = absurd (omega (arith, output.0))
+  silent_is_unfailing told Unwritten output = absurd (omega (arith, output.0.puts.counted.0))
   silent_is_unfailing told OutOfMemory output = λ e. cc
 
 -- ---- steps

@@ -1,7 +1,7 @@
 -- The calls that an interview makes, for each form of the words. What a shelf says of a fetch is `fetched`: it leads from the shelf before
 -- to the shelf after only by a call of this name and limit with this answer, where source and sink stood so; and a source says the same
 -- of a pull. So where devices came to others by these calls, they were called so, in this order, and for nothing else.
-use Rattle.std.specs.Prelude.{◌≡◌, ◌⊎◌, ℕ, List, [], Result, Ok, Err, Vec}
+use Rattle.std.specs.Prelude.{◌≡◌, ◌⊎◌, ℕ, List, Result, Ok, Err, Vec}
 use Rattle.std.specs.declared.alloc.Global.{Global}
 use Rattle.fg_io.specs.Outside.{ByFetch, ByPull, Contents, Output}
 use Rattle.fg_io.specs.declared.error.FetchFault.{FetchFault}
@@ -13,12 +13,13 @@ use Rattle.graph_session.specs.Rules.{Rules}
 use Rattle.interview.specs.Beginnings.{Basis, IsStart, MayBring, Start, saved_limit}
 use Rattle.interview.specs.Dictionaries.{IsAcceptedAs, brought, spelled}
 use Rattle.interview.specs.Given.{Given}
+use Rattle.interview.specs.LastLines.{PutsOneLine}
 use Rattle.interview.specs.Meanings.{meaning_of, silently}
 use Rattle.interview.specs.Save.{save_meaning}
 use Rattle.interview.specs.Talk.{MayTalk, TalkBehind}
 use Rattle.interview.specs.Words.{Beginning, HasNoForm, IsCheck, IsGen, IsRun, IsSave, Origin, by_carry, by_load, file, program, unanswered}
 use Rattle.interview.specs.declared.status.Status.{Status}
-use Rattle.interview.specs.declared.status.Status.TheVariants.{NoMemory}
+use Rattle.interview.specs.declared.status.Status.TheVariants.{NoMemory, WriteFault}
 use Rattle.interview.specs.declared.words.Mode.{Mode}
 
 -- ---- one fetch
@@ -74,44 +75,45 @@ CallsForSaved fetched (by_carry name) shelf shelf_now = CallsOnce fetched name s
 
 -- ---- for a script
 
--- it wasn't pulled, or with a start that it may have been given, over these rules, as a run talks that begins so
-abbrev pub TalksFrom : {S K : Type 0} → ByPull S K → (K → Output) → (List ℕ → Contents) → Beginning → Rules → Mode → List Named → Status → S → S → K → Type 0
-TalksFrom pulled output contents beginning r mode relations status script script_now out =
-    (script_now ≡ script)
+-- It wasn't pulled, and one line was put, or nothing, or the lines before the replies as far as a put that failed; or with a start that it
+-- may have been given, over these rules, as a run talks that begins so.
+abbrev pub TalksFrom : {S K : Type 0} → ByPull S K → (K → Output) → (List ℕ → Contents) → Beginning → Rules → Mode → List Named → Status → S → S → K → K → Type 0
+TalksFrom pulled output contents beginning r mode relations status script script_now out out_now =
+    ((script_now ≡ script) × (PutsOneLine (output out) (output out_now) status ⊎ (status ≡ WriteFault)))
     ⊎ ((basis : Basis) × MayBring contents beginning basis × ((s : Start) × IsStart r basis s
-    × TalkBehind pulled output (meaning_of r mode relations s.answers) s.front out script script_now status))
+    × TalkBehind pulled output (meaning_of r mode relations s.answers) s.front out out_now script script_now status))
 
 -- ---- for a run
 
 -- It was called for the dictionary, and then, where an accepted one came of it, for the saved text; and then the script was pulled as this
 -- dictionary means it. Behind the dictionary memory may have been wanting.
-abbrev pub CallsForRun : {H S K : Type 0} → ByFetch H S K → ByPull S K → (K → Output) → Given → Origin → Beginning → Mode → Status → H → H → S → S → K → Type 0
-CallsForRun {H} fetched pulled output given origin beginning mode status shelf shelf_now script script_now out =
+abbrev pub CallsForRun : {H S K : Type 0} → ByFetch H S K → ByPull S K → (K → Output) → Given → Origin → Beginning → Mode → Status → H → H → S → S → K → K → Type 0
+CallsForRun {H} fetched pulled output given origin beginning mode status shelf shelf_now script script_now out out_now =
     ((r : Rules) × (between : H) × CallsForAccepted (beside fetched script out) given.checks origin r shelf between
     × CallsForSaved (beside fetched script out) beginning between shelf_now
-    × TalksFrom pulled output given.contents beginning r mode given.relations status script script_now out)
-    ⊎ (CallsInVain (beside fetched script out) given.checks origin status shelf shelf_now × (script_now ≡ script))
+    × TalksFrom pulled output given.contents beginning r mode given.relations status script script_now out out_now)
+    ⊎ (CallsInVain (beside fetched script out) given.checks origin status shelf shelf_now × (script_now ≡ script) × PutsOneLine (output out) (output out_now) status)
 
 -- ---- for a save
 
 -- It was called for the dictionary, and then, where an accepted one came of it, the script was pulled as this dictionary means it, without
 -- a reply.
-abbrev pub CallsForSave : {H S K : Type 0} → ByFetch H S K → ByPull S K → (K → Output) → Given → Origin → Status → H → H → S → S → K → Type 0
-CallsForSave fetched pulled output given origin status shelf shelf_now script script_now out =
+abbrev pub CallsForSave : {H S K : Type 0} → ByFetch H S K → ByPull S K → (K → Output) → Given → Origin → Status → H → H → S → S → K → K → Type 0
+CallsForSave fetched pulled output given origin status shelf shelf_now script script_now out out_now =
     ((r : Rules) × CallsForAccepted (beside fetched script out) given.checks origin r shelf shelf_now
-    × MayTalk pulled output (silently (save_meaning r given.relations)) [] out script script_now status)
-    ⊎ (CallsInVain (beside fetched script out) given.checks origin status shelf shelf_now × (script_now ≡ script))
+    × MayTalk pulled output (silently (save_meaning r given.relations)) out script script_now status)
+    ⊎ (CallsInVain (beside fetched script out) given.checks origin status shelf shelf_now × (script_now ≡ script) × PutsOneLine (output out) (output out_now) status)
 
 -- ---- for an interview
 
--- how these words, with this status, led from the one shelf and source to the others, where the sink stood so
-pub record Calls {H S K : Type 0} (fetched : ByFetch H S K) (pulled : ByPull S K) (output : K → Output) (given : Given) (status : Status) (shelf shelf_now : H) (script script_now : S) (out : K) : Type 0 where
+-- how these words, with this status, led from the one shelf, source and sink to the others
+pub record Calls {H S K : Type 0} (fetched : ByFetch H S K) (pulled : ByPull S K) (output : K → Output) (given : Given) (status : Status) (shelf shelf_now : H) (script script_now : S) (out out_now : K) : Type 0 where
   -- a run calls for its dictionary, and over an accepted one for its saved text and its script
-  pub run : (origin : Origin) (asked : IsRun given.words origin) → CallsForRun fetched pulled output given origin asked.beginning asked.mode status shelf shelf_now script script_now out
-  -- a check calls for its dictionary
-  pub check : (name : List ℕ) → IsCheck given.words name → CallsForDictionary (beside fetched script out) (file name) shelf shelf_now × (script_now ≡ script)
+  pub run : (origin : Origin) (asked : IsRun given.words origin) → CallsForRun fetched pulled output given origin asked.beginning asked.mode status shelf shelf_now script script_now out out_now
+  -- a check calls for its dictionary, and puts one line
+  pub check : (name : List ℕ) → IsCheck given.words name → CallsForDictionary (beside fetched script out) (file name) shelf shelf_now × (script_now ≡ script) × PutsOneLine (output out) (output out_now) status
   -- a save calls for its dictionary, and over an accepted one for its script
-  pub save : (origin : Origin) → IsSave given.words origin → CallsForSave fetched pulled output given origin status shelf shelf_now script script_now out
-  -- `gen` calls for nothing, and neither do words without a form
+  pub save : (origin : Origin) → IsSave given.words origin → CallsForSave fetched pulled output given origin status shelf shelf_now script script_now out out_now
+  -- `gen` calls for nothing, and neither do words without a form, for which one line is put
   pub gen : (n : ℕ) → IsGen given.words n → (shelf_now ≡ shelf) × (script_now ≡ script)
-  pub no_form : HasNoForm given.words → (shelf_now ≡ shelf) × (script_now ≡ script)
+  pub no_form : HasNoForm given.words → (shelf_now ≡ shelf) × (script_now ≡ script) × PutsOneLine (output out) (output out_now) status

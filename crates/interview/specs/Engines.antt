@@ -51,9 +51,9 @@ abbrev pub EnginesAgree : Type 0
 EnginesAgree = (relations : List Named) (script : List ℕ) → AsksNoCounts script → AgreeOn relations script
 
 -- what a line is answered behind these lines, with stamps or without
-abbrev pub reply_behind : Rules → Bool → List Named → Answered → List ScriptLine → ScriptLine → List ℕ
+abbrev pub reply_behind : Rules → Bool → List Named → Answered → List ScriptLine → ScriptLine → List (List ℕ)
 reply_behind r stamps relations a lines line =
-    (step r (state_after r (at_start r (record { answers = a; stamps = stamps; relations = relations })) lines) line).text
+    (step r (state_after r (at_start r (record { answers = a; stamps = stamps; relations = relations })) lines) line).lines
 
 -- Behind whatever lines, one that asks for no counts is answered the same by both.
 abbrev pub LinesAgree : Type 0

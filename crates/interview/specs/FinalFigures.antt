@@ -110,11 +110,11 @@ IsFigureOf (built_ins.Income y) r all figure = IsIncomeFigureOf (income_of y) r 
 -- where these lines lead from the answers, `final PATH` prints this value
 abbrev pub PrintsAsFinal : Rules → Mode → List Named → Answered → List ScriptLine → SlotPath → List ℕ → Type 0
 PrintsAsFinal r Incremental relations a lines path text =
-    (step_command r (state_after r (at_start r (record { answers = a; stamps = true; relations = relations })) lines).standing (Final path)).text ≡ final_line text
+    (step_command r (state_after r (at_start r (record { answers = a; stamps = true; relations = relations })) lines).standing (Final path)).lines ≡ final_line text ∷ []
 PrintsAsFinal r Plain relations a lines path text =
-    (step_command r (state_after r (at_start r (record { answers = a; stamps = false; relations = relations })) lines).standing (Final path)).text ≡ final_line text
+    (step_command r (state_after r (at_start r (record { answers = a; stamps = false; relations = relations })) lines).standing (Final path)).lines ≡ final_line text ∷ []
 PrintsAsFinal r Desk relations a lines path text =
-    (p : ℕ) × ((step_asked r (desk_state_after r (desk_at_start r a) lines).desk p (Final path)).text ≡ final_output p text)
+    (p : ℕ) × ((step_asked r (desk_state_after r (desk_at_start r a) lines).desk p (Final path)).lines ≡ final_output p text)
 
 -- The text is that of the tables' figure, for every household that has the answers given there, however it answers the rest.
 abbrev pub FinalsAreFigures : BuiltIn → Rules → Mode → List Named → Answered → List ScriptLine → Type 0

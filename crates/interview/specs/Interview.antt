@@ -23,7 +23,7 @@ use Rattle.answers.specs.Answered.{Answered}
 use Rattle.built_in.specs.declared.built_in.BuiltIn.{BuiltIn}
 use Rattle.built_in.specs.declared.built_in.BuiltIn.TheVariants.{Year, Income}
 use Rattle.interview.specs.declared.words.Mode.{Mode}
-use Rattle.interview.specs.Meanings.{Meaning, meaning_of}
+use Rattle.interview.specs.Meanings.{Meaning, meaning_of, texts}
 use Rattle.interview.specs.Beginnings.{Basis, IsRefusedStart, IsStart, Start}
 use Rattle.interview.specs.Dictionaries.{Content, HasFault, IsAcceptedAs}
 
@@ -52,7 +52,7 @@ answered_lines script = if nat_le (length script) script_limit then script_lines
 -- `quit`.
 unfoldable pub defined_script : Meaning → List ℕ → Defined
 defined_script m script = record {
-  text = m.texts (answered_lines script);
+  text = texts m (answered_lines script);
   status = if nat_le (length script) script_limit then Done else if m.over (answered_lines script) then Done else ScriptTooLong;
 }
 

@@ -19,6 +19,7 @@ pub mod FinalFigures
 pub mod Ends
 pub mod GenEnds
 pub mod Given
+pub mod LastLines
 pub mod Load
 pub mod Save
 pub mod SaveEnds

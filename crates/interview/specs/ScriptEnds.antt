@@ -9,7 +9,7 @@ use Rattle.interview.specs.declared.status.Status.{Status}
 use Rattle.interview.specs.declared.status.Status.TheVariants.{Done, ReadFault, WriteFault, ScriptTooLong, NoMemory}
 use Rattle.interview.specs.Devices.{Around, SentNothing, SentPart, SentWhole, SinkFailed, SourceFailed}
 use Rattle.interview.specs.Interview.{answered_lines, defined_script, script_limit}
-use Rattle.interview.specs.Meanings.{Meaning}
+use Rattle.interview.specs.Meanings.{Meaning, texts}
 
 -- what a script did to its source and its sink
 pub record ScriptDid : Type 0 where
@@ -24,7 +24,7 @@ script_did source source_now sink sink_now = record {
 
 -- the replies to these first lines, whole
 abbrev pub RepliedTo : Meaning → ScriptDid → List ℕ → Type 0
-RepliedTo m did bytes = SentWhole did.output (m.texts (ended_lines bytes))
+RepliedTo m did bytes = SentWhole did.output (texts m (ended_lines bytes))
 
 -- it ended as defined for some script that it may have been given, with the text whole
 abbrev pub ScriptEndsAs : Meaning → ScriptDid → Status → Type 0
@@ -44,7 +44,7 @@ pub record RepliedFirst (m : Meaning) (did : ScriptDid) : Type 0 where
   pub script : List ℕ
   pub read : MayBe did.input.before.left script
   pub count : ℕ
-  pub replied : SentWhole did.output (m.texts (take count (answered_lines script)))
+  pub replied : SentWhole did.output (texts m (take count (answered_lines script)))
 
 -- it was read, and nothing is left of it
 abbrev pub ReadToEnd : ScriptDid → Type 0

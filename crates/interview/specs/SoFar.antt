@@ -3,16 +3,17 @@ use Rattle.std.specs.Prelude.{◌≡◌, ℕ, ◌<◌, false, List, [], All, len
 use Rattle.std.specs.Io.KnownBytes.{Consumes}
 use Rattle.fg_io.specs.Outside.{ByPull, Output}
 use Rattle.script_lines.specs.Lines.{HasNoNewline}
+use Rattle.session_lines.specs.Writing.{WroteLines}
 use Rattle.interview.specs.Meanings.{Meaning}
 use Rattle.interview.specs.Talk.{Came, bytes_of}
 use Rattle.interview.specs.Telling.{LinesOutput}
 
 -- what follows means this from here on
-pub record AnsweredSoFar (m : Meaning) (left left_now taken taken_now : Option (List ℕ)) (count : ℕ) (there : Meaning) (held : List ℕ) : Type 0 where
+pub record AnsweredSoFar (m : Meaning) (left left_now : Option (List ℕ)) (sink sink_now : Output) (count : ℕ) (there : Meaning) (held : List ℕ) : Type 0 where
   pub bytes : List ℕ
   pub read : Consumes left left_now bytes
   pub counted : count ≡ length bytes
-  pub output : LinesOutput m taken taken_now [] bytes there held [] []
+  pub output : LinesOutput m (WroteLines sink sink_now) [] bytes there held []
   pub unquit : there.over [] ≡ false
   pub unended : HasNoNewline held
 

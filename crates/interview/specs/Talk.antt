@@ -1,13 +1,15 @@
--- The talk with a script, pull by pull: what stood at each pull, and what came of it. What a source says of a pull is `pulled`: it leads
--- from the source before to the source after only by a call with this sink, for so many bytes, which came to this. So where a source
--- came to another by these pulls, it was called so, in this order, and not else, and the sinks are those that stood.
+-- The talk with a script, pull by pull and put by put: what stood at each pull, and what came of it. What a source says of a pull is
+-- `pulled`: it leads from the source before to the source after only by a call with this sink, for so many bytes, which came to this. So
+-- where a source came to another by these pulls, it was called so, in this order, and not else, and the sinks are those that stood. By
+-- which puts a sink came to the next one, `WroteLines` says.
 use Rattle.std.specs.Prelude.{◌≡◌, ◌⊎◌, ℕ, ◌-◌, ◌<◌, ◌≤◌, min, max, false, List, [], ◌∷◌, ◌++◌, All, length}
 use Rattle.std.specs.Io.KnownBytes.{Appends}
 use Rattle.fg_io.specs.Outside.{ByPull, Output, Pulled, gave, faulted}
 use Rattle.script_lines.specs.Lines.{ended_lines}
+use Rattle.session_lines.specs.Writing.{WroteLines, WroteSome}
 use Rattle.interview.specs.declared.status.Status.{Status}
-use Rattle.interview.specs.declared.status.Status.TheVariants.{ReadFault}
-use Rattle.interview.specs.Interview.{script_limit}
+use Rattle.interview.specs.declared.status.Status.TheVariants.{Done, NoMemory, ReadFault, ScriptTooLong, WriteFault}
+use Rattle.interview.specs.Interview.{answered_lines, script_limit}
 use Rattle.interview.specs.Meanings.{Meaning}
 use Rattle.interview.specs.ScriptEnds.{piece_limit}
 
@@ -25,12 +27,12 @@ asked_behind count = max 1 (min piece_limit (script_limit - count))
 -- ---- one pull
 
 -- The script goes on behind these pieces, where the sink stands so: none of them was the end, they keep within the limit, no `quit` ended
--- in them, and the replies to all lines that ended in them were put whole.
+-- in them, and the replies to all lines that ended in them were put, each line of them whole as one piece, and nothing else.
 pub record IsToGoOn {K : Type 0} (output : K → Output) (m : Meaning) (out : K) (pieces : List (List ℕ)) (out_now : K) : Type 0 where
   pub unended : All (λ piece. 0 < length piece) pieces
   pub within : length (bytes_of pieces) ≤ script_limit
   pub unquit : m.over (ended_lines (bytes_of pieces)) ≡ false
-  pub replied : Appends (output out).taken (output out_now).taken (m.texts (ended_lines (bytes_of pieces)))
+  pub replied : WroteLines (output out) (output out_now) (m.replies (ended_lines (bytes_of pieces)))
 
 -- behind these pieces the script was pulled, once, and it came to this
 pub record PulledBehind {S K : Type 0} (pulled : ByPull S K) (output : K → Output) (m : Meaning) (out : K) (pieces : List (List ℕ)) (script script_now : S) (came : Pulled) : Type 0 where
@@ -53,14 +55,36 @@ pub record Talk {S K : Type 0} (pulled : ByPull S K) (output : K → Output) (m 
   pub came : Came pulled output m out script pieces between
   pub last : (script_now ≡ between) ⊎ ((status ≡ ReadFault) × PulledBehind pulled output m out pieces between script_now faulted)
 
--- a text was put whole, and then the talk began
-abbrev pub TalkBehind : {S K : Type 0} → ByPull S K → (K → Output) → Meaning → List ℕ → K → S → S → Status → Type 0
-TalkBehind {S} {K} pulled output m front out script script_now status =
-    (begun : K) × Appends (output out).taken (output begun).taken front × Talk pulled output m begun script script_now status
-
 -- or the script wasn't pulled
-abbrev pub MayTalk : {S K : Type 0} → ByPull S K → (K → Output) → Meaning → List ℕ → K → S → S → Status → Type 0
-MayTalk pulled output m front out script script_now status = (script_now ≡ script) ⊎ TalkBehind pulled output m front out script script_now status
+abbrev pub MayTalk : {S K : Type 0} → ByPull S K → (K → Output) → Meaning → K → S → S → Status → Type 0
+MayTalk pulled output m out script script_now status = (script_now ≡ script) ⊎ Talk pulled output m out script script_now status
+
+-- ---- all puts
+
+-- What was put in all of a script of which these bytes came, by the status: the replies to the lines that are answered, each line as one
+-- piece, in order. A put that failed was the last. A failed read leaves a last line unanswered, and want of memory all from some line on.
+abbrev pub Told : Output → Output → Meaning → List ℕ → Status → Type 0
+Told sink sink_now m bytes Done = WroteLines sink sink_now (m.replies (answered_lines bytes))
+Told sink sink_now m bytes ScriptTooLong = WroteLines sink sink_now (m.replies (answered_lines bytes))
+Told sink sink_now m bytes ReadFault = WroteLines sink sink_now (m.replies (ended_lines bytes))
+Told sink sink_now m bytes WriteFault = WroteSome sink sink_now (m.replies (answered_lines bytes))
+Told sink sink_now m bytes NoMemory = (first : List (List ℕ)) × ((rest : List (List ℕ)) × ((m.replies (answered_lines bytes) ≡ first ++ rest) × WroteLines sink sink_now first))
+Told sink sink_now m bytes other = ⊥
+
+-- these are all pulls, and all puts
+pub record WholeTalk {S K : Type 0} (pulled : ByPull S K) (output : K → Output) (m : Meaning) (out out_now : K) (script script_now : S) (status : Status) : Type 0 where
+  pub talk : Talk pulled output m out script script_now status
+  pub told : Told (output out) (output out_now) m (bytes_of talk.pieces) status
+
+-- a text was put whole, and then the talk began
+abbrev pub TalkBehind : {S K : Type 0} → ByPull S K → (K → Output) → Meaning → List ℕ → K → K → S → S → Status → Type 0
+TalkBehind {S} {K} pulled output m front out out_now script script_now status =
+    (begun : K) × Appends (output out).taken (output begun).taken front × WholeTalk pulled output m begun out_now script script_now status
+
+-- or it didn't begin: nothing was put, or the text as far as a put that failed, and the script wasn't pulled
+abbrev pub MayBegin : {S K : Type 0} → ByPull S K → (K → Output) → Meaning → List ℕ → K → K → S → S → Status → Type 0
+MayBegin pulled output m front out out_now script script_now status =
+    ((script_now ≡ script) × ((out_now ≡ out) ⊎ (status ≡ WriteFault))) ⊎ TalkBehind pulled output m front out out_now script script_now status
 
 -- ---- laws
 

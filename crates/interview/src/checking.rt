@@ -4,6 +4,7 @@ ghost use Rattle.text_checks.specs.Tables.{named_checks};
 ghost use Rattle.dictionary.specs.Kept.{accepted};
 ghost use Rattle.interview.specs.Calls.{CallsForDictionary, beside};
 ghost use Rattle.interview.specs.Interview.{defined_accepted};
+ghost use Rattle.interview.specs.LastLines.{PutAtEnd, PutsOneLine};
 ghost use Rattle.interview.specs.StepEnds.{CheckEnds, EndedBy, check_did};
 ghost use Rattle.interview.specs.Words.{file};
 ghost use Rattle.interview.specs.declared.status.Status.TheVariants.{Done};
@@ -20,7 +21,9 @@ use value_text::Line;
 
 // Writes that a dictionary is accepted, which ends the interview.
 fn end_accepted<K: Sink>(out: &mut K, dictionary: &Dictionary) -> Status
-    ensures { EndedBy (K.output out.old) (K.output out.new) (defined_accepted (accepted dictionary.now)).text Done
+    ensures text { EndedBy (K.output out.old) (K.output out.new) (defined_accepted (accepted dictionary.now)).text Done
+        result }
+    ensures puts { PutAtEnd (K.output out.old) (K.output out.new) (defined_accepted (accepted dictionary.now)).text Done
         result }
 {
     let mut line = Line::new();
@@ -40,6 +43,7 @@ pub fn check<H: Shelf<S, K>, S, K: Sink>(
     ensures ends { CheckEnds ((H.files shelf.old).contents name.now) (named_checks checks.now) name.now
         (check_did (H.files shelf.old) (H.files shelf.new) (K.output out.old) (K.output out.new)) result }
     ensures calls { CallsForDictionary (beside H.fetched script.now out.old) (file name.now) shelf.old shelf.new }
+    ensures puts { PutsOneLine (K.output out.old) (K.output out.new) result }
 {
     match fetch(alloc, name, checks, shelf, script, out) {
         Ok(Fetched::Accepted(dictionary)) => {

@@ -1,7 +1,8 @@
 // Texts that end an interview.
 ghost use Rattle.std.specs.Prelude.{[], List, ℕ, OnOk};
-ghost use Rattle.fg_io.specs.Outside.{HasCause};
+ghost use Rattle.fg_io.specs.Outside.{Counts};
 ghost use Rattle.fg_io.specs.Sent.{Sent};
+ghost use Rattle.interview.specs.LastLines.{PutAtEnd};
 ghost use Rattle.interview.specs.StepEnds.{EndedBy};
 ghost use Rattle.interview.specs.FaultLines.{fault_line, saved_refused_line};
 ghost use Rattle.interview.specs.declared.status.Status.TheVariants.{DictionaryRefused, SavedRefused};
@@ -13,9 +14,10 @@ use fg_io::{Failed, Sink, put_all};
 use script_lines::cut_line;
 use value_text::Line;
 
-/// Writes a text that ends the interview with this status.
+/// Writes a text that ends the interview with this status, as one piece.
 pub fn end_by<K: Sink>(out: &mut K, text: &[u8], status: Status) -> Status
-    ensures { EndedBy (K.output out.old) (K.output out.new) text.now status result }
+    ensures text { EndedBy (K.output out.old) (K.output out.new) text.now status result }
+    ensures puts { PutAtEnd (K.output out.old) (K.output out.new) text.now status result }
 {
     match put_all(out, text) {
         Ok(()) => status,
@@ -27,7 +29,7 @@ pub fn end_by<K: Sink>(out: &mut K, text: &[u8], status: Status) -> Status
 fn put_lines<K: Sink>(out: &mut K, text: &[u8]) -> Result<(), Failed>
     ensures whole { OnOk result (Sent (K.output out.old).taken (K.output out.new).taken text.now []) }
     ensures part { (rest : List ℕ) × Sent (K.output out.old).taken (K.output out.new).taken text.now rest }
-    ensures cause { HasCause (K.output out.old).faults (K.output out.new).faults result }
+    ensures cause { Counts (K.output out.old).faults (K.output out.new).faults result }
 {
     let mut rest = text;
     while !rest.is_empty() {
@@ -52,7 +54,8 @@ pub fn end_by_lines<K: Sink>(out: &mut K, text: &[u8], status: Status) -> Status
 
 /// Writes the line of a dictionary's first fault, which ends the interview.
 pub fn end_by_fault<K: Sink>(out: &mut K, fault: DictFault) -> Status
-    ensures { EndedBy (K.output out.old) (K.output out.new) (fault_line fault) DictionaryRefused result }
+    ensures text { EndedBy (K.output out.old) (K.output out.new) (fault_line fault) DictionaryRefused result }
+    ensures puts { PutAtEnd (K.output out.old) (K.output out.new) (fault_line fault) DictionaryRefused result }
 {
     let mut line = Line::new();
     print_fault(fault, &mut line);
@@ -61,7 +64,8 @@ pub fn end_by_fault<K: Sink>(out: &mut K, fault: DictFault) -> Status
 
 /// Writes the line at which a saved text is refused, which ends the interview.
 pub fn end_by_refused_line<K: Sink>(out: &mut K, number: u32) -> Status
-    ensures { EndedBy (K.output out.old) (K.output out.new) (saved_refused_line number) SavedRefused result }
+    ensures text { EndedBy (K.output out.old) (K.output out.new) (saved_refused_line number) SavedRefused result }
+    ensures puts { PutAtEnd (K.output out.old) (K.output out.new) (saved_refused_line number) SavedRefused result }
 {
     let mut line = Line::new();
     print_saved_refused(number, &mut line);

@@ -1,5 +1,5 @@
 // Runs a script without its replies, and saves the answers that stand at its end.
-ghost use Rattle.std.specs.Prelude.{◌≡◌, ◌<◌, ℕ, List, []};
+ghost use Rattle.std.specs.Prelude.{◌≡◌, ◌<◌, ℕ, List};
 ghost use Rattle.session_lines.specs.Answering.{state_by};
 ghost use Rattle.text_checks.specs.Tables.{named_checks};
 ghost use Rattle.fact_watch.specs.Tables.{named_relations};
@@ -100,7 +100,7 @@ fn save_over<L: Ledger, S: Source<K>, K: Sink>(
         (save_meaning (rules dictionary) (named_relations tables.now.relations.now))
         (script_did (S.input script.old) (S.input script.new) (K.output out.old) (K.output out.new)) result }
     ensures calls { MayTalk S.pulled K.output (silently (save_meaning (rules dictionary)
-        (named_relations tables.now.relations.now))) [] out.old script.old script.new result }
+        (named_relations tables.now.relations.now))) out.old script.old script.new result }
 {
     let mut steps = Steps::<L>::new(blank);
     match WatchedSession::<Recalc>::new(alloc, dictionary) {
@@ -130,7 +130,7 @@ pub fn run_and_save<H: Shelf<S, K>, S: Source<K>, K: Sink>(
         (K.output out.new)) result }
     ensures calls { (words : List (List ℕ)) → CallsForSave H.fetched S.pulled K.output (given_with words
         (named_checks checks.now) (named_relations table.now) (H.files shelf.old) (S.input script.old))
-        (origin_of origin.entry) result shelf.old shelf.new script.old script.new out.old }
+        (origin_of origin.entry) result shelf.old shelf.new script.old script.new out.old out.new }
 {
     match obtain(alloc, origin, checks, shelf, script, out) {
         Ok(Fetched::Accepted(dictionary)) => {

@@ -18,7 +18,9 @@ use steps::Steps;
 pub struct Silent;
 
 impl Sink for Silent {
-    ghost output = { λ sink. record { taken = None; faults = 0 } };
+    ghost use Rattle.fg_io.specs.Outside.{follows_any};
+
+    ghost output = { λ sink. record { taken = None; faults = 0; follows = follows_any } };
 
     fn put(&mut self, piece: &[u8]) -> Result<usize, Failed> {
         Ok(piece.len())

@@ -10,7 +10,7 @@ ghost use Rattle.fact_watch.specs.Tables.{named_relations};
 ghost use Rattle.interview.specs.ScriptEnds.{script_did};
 ghost use Rattle.interview.specs.StepEnds.{Gives, RunEnds, StartEnds};
 ghost use Rattle.interview.specs.Calls.{Calls, CallsForSaved, TalksFrom, beside};
-ghost use Rattle.interview.specs.Talk.{MayTalk};
+ghost use Rattle.interview.specs.Talk.{MayBegin};
 ghost use Rattle.interview.specs.Ends.{Interviewed};
 ghost use Rattle.interview.specs.Given.{did_by, given_by};
 ghost use Rattle.interview.specs.Meanings.{IsBeginning, Meaning, meaning_of};
@@ -63,8 +63,8 @@ fn run_behind<T: LineHandler, L: Ledger, S: Source<K>, K: Sink>(
         (named_relations tables.now.relations.now) m → StartEnds m front (script_did (S.input script.old)
         (S.input script.new) (K.output out.old) (K.output out.new)) result }
     ensures calls { (front : List ℕ) → Gives dropped.now front → (m : Meaning) → IsBeginning m → T.means handler.old
-        (named_relations tables.now.relations.now) m → MayTalk S.pulled K.output m front out.old script.old script.new
-        result }
+        (named_relations tables.now.relations.now) m → MayBegin S.pulled K.output m front out.old out.new script.old
+        script.new result }
 {
     let mut steps = Steps::<L>::new(blank);
     match put_front(dropped, out) {
@@ -90,8 +90,8 @@ fn run_as<T: LineHandler, S: Source<K>, K: Sink>(
         → StartEnds (T.meaning (rules dictionary) (named_relations tables.now.relations.now) (answered ready.answers)) front
         (script_did (S.input script.old) (S.input script.new) (K.output out.old) (K.output out.new)) result }
     ensures calls { (front : List ℕ) → Gives ready.dropped front
-        → MayTalk S.pulled K.output (T.meaning (rules dictionary) (named_relations tables.now.relations.now)
-        (answered ready.answers)) front out.old script.old script.new result }
+        → MayBegin S.pulled K.output (T.meaning (rules dictionary) (named_relations tables.now.relations.now)
+        (answered ready.answers)) front out.old out.new script.old script.new result }
 {
     match T::begin(alloc, dictionary, ready.answers) {
         Ok(mut handler) => {
@@ -129,8 +129,8 @@ fn run_by<S: Source<K>, K: Sink>(
         (answered ready.answers)) front (script_did (S.input script.old) (S.input script.new) (K.output out.old)
         (K.output out.new)) result }
     ensures calls { (front : List ℕ) → Gives ready.dropped front
-        → MayTalk S.pulled K.output (meaning_of (rules dictionary) mode (named_relations tables.now.relations.now)
-        (answered ready.answers)) front out.old script.old script.new result }
+        → MayBegin S.pulled K.output (meaning_of (rules dictionary) mode (named_relations tables.now.relations.now)
+        (answered ready.answers)) front out.old out.new script.old script.new result }
 {
     match mode {
         Mode::Incremental => {
@@ -165,7 +165,7 @@ fn run_from<H: Shelf<S, K>, S: Source<K>, K: Sink>(
     ensures fetches { CallsForSaved (beside H.fetched script.old out.old) (beginning_of beginning.entry) shelf.old
         shelf.new }
     ensures pulls { TalksFrom S.pulled K.output (H.files shelf.old).contents (beginning_of beginning.entry)
-        (rules dictionary) mode (named_relations tables.now.relations.now) result script.old script.new out.old }
+        (rules dictionary) mode (named_relations tables.now.relations.now) result script.old script.new out.old out.new }
 {
     match resume(
         alloc,
@@ -210,7 +210,7 @@ pub fn interview<H: Shelf<S, K>, S: Source<K>, K: Sink>(
         (S.input script.new) (K.output out.old) (K.output out.new)) result }
     ensures calls { Calls H.fetched S.pulled K.output (given_by words.now (named_checks checks.now)
         (named_relations table.now) (H.files shelf.old) (S.input script.old)) result shelf.old shelf.new script.old
-        script.new out.old }
+        script.new out.old out.new }
 {
     let tables = Tables {
         checks,

@@ -164,5 +164,5 @@ dropped_of_carry r bytes a dropped carry = (r, carry.0, carry.1, carry.2, carry.
 -- ---- the cause of a failure
 
 pub cause_of : {T E : Type 0} (a b : Output) (text : List ℕ) (result : Result T E) → Wrote a b text result → HasCause a.faults b.faults result
-cause_of a b text (Ok done) wrote = record { later = wrote.1; failed = tt }
-cause_of a b text (Err failed) wrote = record { later = wrote.2; failed = wrote.1 }
+cause_of a b text (Ok done) wrote = record { later = wrote.later; failed = tt }
+cause_of a b text (Err failed) wrote = record { later = wrote.later; failed = wrote.rose }

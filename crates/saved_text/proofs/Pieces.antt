@@ -39,7 +39,7 @@ all_left a text pieces e = record { sent = subst (λ (t : List ℕ). Sent a.take
 
 pub wrote_piece : {a b c : Output} {text p : List ℕ} {ps : List (List ℕ)} → IsLeft a b text (p ∷ ps) → WroteAll b c p → IsLeft a c text ps
 wrote_piece {a = a} {b = b} {c = c} {text = text} {p = p} {ps = ps} left wrote =
-    record { sent = sent_piece a.taken b.taken c.taken text p (whole ps) left.sent wrote.0; later = omega (arith, left.later, wrote.1) }
+    record { sent = sent_piece a.taken b.taken c.taken text p (whole ps) left.sent wrote.sent; later = omega (arith, left.later, wrote.later) }
 
 pub failed_piece : {T E : Type 0} {a b c : Output} {text p : List ℕ} {ps : List (List ℕ)} (Q : E → Type 0) (r : Result T E) → IsErrAnd r Q → IsLeft a b text (p ∷ ps) → WrotePart b c p → Wrote a c text r
 failed_piece {a = a} {b = b} {c = c} {text = text} {p = p} {ps = ps} Q r is left wrote =
@@ -47,7 +47,7 @@ failed_piece {a = a} {b = b} {c = c} {text = text} {p = p} {ps = ps} Q r is left
     rw fault.1 (failed_within a b c text p (whole ps) left.sent left.later wrote)
 
 pub last_piece : {T E : Type 0} {a b : Output} {text p : List ℕ} (c : Output) (r : Result T E) → IsLeft a b text (p ∷ []) → Wrote b c p r → Wrote a c text r
-last_piece c (Ok done) left wrote = let all = wrote_piece left wrote in (all.sent, all.later)
+last_piece c (Ok done) left wrote = let all = wrote_piece left wrote in record { sent = all.sent; later = all.later }
 last_piece {a = a} {b = b} {text = text} {p = p} c (Err failed) left wrote = failed_within a b c text p [] left.sent left.later wrote
 
 -- of a saved text

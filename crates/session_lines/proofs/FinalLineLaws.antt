@@ -1,7 +1,7 @@
 -- A line `final V` stays.
 use Rattle.std.proofs.Common.{◌≡◌, ℕ, Bool, true, false, not, ◌||◌, IsTrue, List, [], ◌∷◌, ◌++◌, Option, Some, None, is_some, unwrap_or, refl, sym, ap, ◌∙◌, arith}
 use Rattle.std.specs.Prelude.{codes, nat_eq}
-use Rattle.std.proofs.lemmas.List.{append_cancel_left, append_cancel_right}
+use Rattle.std.proofs.lemmas.List.{append_cancel_left}
 use Rattle.std.specs.FinMap as map
 use Rattle.std.specs.List.{list_any}
 use Rattle.fact_paths.specs.declared.slot_path.SlotPath.{SlotPath}
@@ -31,7 +31,7 @@ use Rattle.graph_session.specs.declared.reply.Reply.TheVariants.{FinalAsked}
 use Rattle.placeholder_laws.specs.Stays.{Stays}
 use Rattle.placeholder_laws.proofs.StayLaws.{final_result_stays}
 use Rattle.session_lines.specs.Laws.{FinalLinesStay, final_line}
-use Rattle.session_lines.specs.Replies.{asked_text, final_text, line_with}
+use Rattle.session_lines.specs.Replies.{asked_text, final_text}
 use Rattle.session_lines.specs.Stepping.{LineState, Step, step_answered}
 
 -- ---- texts that begin with another byte
@@ -40,6 +40,10 @@ abbrev first_byte : List ℕ → ℕ
 first_byte [] = 0
 first_byte (b ∷ bs) = b
 
+abbrev only_line : List (List ℕ) → List ℕ
+only_line [] = []
+only_line (line ∷ lines) = line
+
 -- what is answered where the path is unknown, or has a member that isn't there
 abbrev answered_by : Rules → LineState → SlotPath → Slot → Bool → Bool → Step
 answered_by r t path s unknown lacks = step_answered r t (Final path) (decided (first_of (when unknown UnknownFact ∷ when lacks NoMember ∷ [])) (FinalAsked s, t.session_state))
@@ -47,7 +51,7 @@ answered_by r t path s unknown lacks = step_answered r t (Final path) (decided (
 -- ---- what a value that is printed says
 
 -- the result is final and complete
-final_where_printed : (lists : List Listed) (final : Bool) (o : Option Res) (value : List ℕ) → line_with (asked_text (final_text lists final) o (codes "open")) ≡ final_line value
+final_where_printed : (lists : List Listed) (final : Bool) (o : Option Res) (value : List ℕ) → asked_text (final_text lists final) o (codes "open") ≡ final_line value
     → IsTrue final
 final_where_printed lists true o value is = refl
 final_where_printed lists false None value is = absurd (omega (arith, ap first_byte is))
@@ -79,31 +83,31 @@ final_still d a b ext s v is final =
 
 -- the text of a value behind the same words
 value_text : (v w : List ℕ) → final_line v ≡ final_line w → w ≡ v
-value_text v w is = sym (append_cancel_left (codes "final ") v w (append_cancel_right (codes "final " ++ v) (codes "final " ++ w) (10 ∷ []) is))
+value_text v w is = sym (append_cancel_left (codes "final ") v w is)
 
 module _ (names : List (List ℕ)) (r : Rules) (accepted : IsAccepted names r.accepted) (c : LineState) (s : Slot) where
   abbrev line_in : LineState → List ℕ
-  line_in e = line_with (asked_text (final_text (tree_of r).enums (is_final r.accepted e.session_state.timeline.now s)) (plain r.accepted e.session_state.timeline.now s) (codes "open"))
+  line_in e = asked_text (final_text (tree_of r).enums (is_final r.accepted e.session_state.timeline.now s)) (plain r.accepted e.session_state.timeline.now s) (codes "open")
 
   module _ (final : IsTrue (is_final r.accepted c.session_state.timeline.now s)) where
     stays : Stays r.accepted c.session_state.timeline.now s
     stays = final_result_stays names r.accepted accepted c.session_state.timeline.now s final
 
     line_now : line_in c ≡ final_line (printed (tree_of r).enums stays.0)
-    line_now = ap line_with (final_text_is (tree_of r).enums (is_final r.accepted c.session_state.timeline.now s) (plain r.accepted c.session_state.timeline.now s) stays.0 final stays.1)
+    line_now = final_text_is (tree_of r).enums (is_final r.accepted c.session_state.timeline.now s) (plain r.accepted c.session_state.timeline.now s) stays.0 final stays.1
 
     line_again : (d : LineState) → IsExtension (tree_of r) c.session_state.timeline.now d.session_state.timeline.now → line_in d ≡ final_line (printed (tree_of r).enums stays.0)
     line_again d ext =
         let there = stays.2 d.session_state.timeline.now ext in
         let still = final_still r.accepted c.session_state.timeline.now d.session_state.timeline.now ext.extends s stays.0 there final in
-        ap line_with (final_text_is (tree_of r).enums (is_final r.accepted d.session_state.timeline.now s) (plain r.accepted d.session_state.timeline.now s) stays.0 still there)
+        final_text_is (tree_of r).enums (is_final r.accepted d.session_state.timeline.now s) (plain r.accepted d.session_state.timeline.now s) stays.0 still there
 
   -- what a value that is printed says: the result is final, the path is known, and its member is there
-  known_where_printed : (path : SlotPath) (unknown lacks : Bool) (text : List ℕ) → (answered_by r c path s unknown lacks).text ≡ final_line text
+  known_where_printed : (path : SlotPath) (unknown lacks : Bool) (text : List ℕ) → (answered_by r c path s unknown lacks).lines ≡ final_line text ∷ []
       → IsTrue (is_final r.accepted c.session_state.timeline.now s) × (line_in c ≡ final_line text) × (unknown ≡ false) × (lacks ≡ false)
-  known_where_printed path true lacks text is = absurd (omega (arith, ap first_byte is))
-  known_where_printed path false true text is = absurd (omega (arith, ap first_byte is))
-  known_where_printed path false false text is = (final_where_printed (tree_of r).enums (is_final r.accepted c.session_state.timeline.now s) (plain r.accepted c.session_state.timeline.now s) text is, is, refl, refl)
+  known_where_printed path true lacks text is = absurd (omega (arith, ap first_byte (ap only_line is)))
+  known_where_printed path false true text is = absurd (omega (arith, ap first_byte (ap only_line is)))
+  known_where_printed path false false text is = (final_where_printed (tree_of r).enums (is_final r.accepted c.session_state.timeline.now s) (plain r.accepted c.session_state.timeline.now s) text (ap only_line is), ap only_line is, refl, refl)
 
 pub final_lines_stay : FinalLinesStay
 final_lines_stay names r accepted c path text is =
@@ -115,6 +119,6 @@ final_lines_stay names r accepted c path text is =
       stays = stays names r accepted c s final;
       printed_so = same;
       again = λ d ext.
-          (λ i. (answered_by r d path s (known.2 i) (there_still (tree_of r) c.session_state.timeline.now d.session_state.timeline.now ext.extends path known.3 i)).text)
-          ∙ line_again names r accepted c s final d ext ∙ ap final_line (sym same);
+          (λ i. (answered_by r d path s (known.2 i) (there_still (tree_of r) c.session_state.timeline.now d.session_state.timeline.now ext.extends path known.3 i)).lines)
+          ∙ ap (λ (line : List ℕ). line ∷ []) (line_again names r accepted c s final d ext ∙ ap final_line (sym same));
     }

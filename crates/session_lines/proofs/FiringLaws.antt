@@ -1,7 +1,6 @@
 -- Which watches fire, by their places in a table and in the list.
-use Rattle.std.proofs.Common.{◌≡◌, ℕ, ◌+◌, ◌<◌, ◌≤◌, zero, suc, Bool, true, false, cond, List, [], ◌∷◌, ◌++◌, length, map, drop, slice_get, Option, Some, None, refl, sym, ap, ◌∙◌, arith, append_assoc}
+use Rattle.std.proofs.Common.{◌≡◌, ℕ, ◌+◌, ◌<◌, ◌≤◌, zero, suc, Bool, true, false, cond, List, [], ◌∷◌, ◌++◌, length, map, drop, slice_get, Option, Some, None, refl, ap, ◌∙◌, arith}
 use Rattle.std.specs.Prelude.{unwrap_or, option_map}
-use Rattle.script_lines.specs.Joined.{joined}
 use Rattle.dict_source.specs.Dictionary.{Dictionary as Tree}
 use Rattle.dictionary.specs.Kept.{Named}
 use Rattle.evaluation.specs.Results.{Results}
@@ -62,27 +61,27 @@ unplaced rs name code o p e past before after =
 -- ---- the lines one behind another
 
 module _ (d : Tree) (relations : List Named) (before after : Results) where
-  abbrev text : List Pair → List ℕ
-  text pairs = joined (firing_lines d relations before after pairs)
+  abbrev text : List Pair → List (List ℕ)
+  text pairs = firing_lines d relations before after pairs
 
   lines_cons : (p : Pair) (ps : List Pair) → text (p ∷ ps) ≡ text (p ∷ []) ++ text ps
   lines_cons p ps = by (slot_says (code_at (λ (r : Named). r.1) relations p.0) (before p.1) (after p.1))
     where
-      by : (b : Bool) → joined (map (watch_line d relations) (cond b (p ∷ firing relations before after ps) (firing relations before after ps)))
-          ≡ joined (map (watch_line d relations) (cond b (p ∷ []) [])) ++ text ps
-      by true = sym (append_assoc (watch_line d relations p) (10 ∷ []) (text ps))
+      by : (b : Bool) → map (watch_line d relations) (cond b (p ∷ firing relations before after ps) (firing relations before after ps))
+          ≡ map (watch_line d relations) (cond b (p ∷ []) []) ++ text ps
+      by true = refl
       by false = refl
 
-  at_place : (n : ℕ) (pairs : List Pair) → n < length pairs → text (drop n pairs) ≡ joined (firing_lines_at d relations before after (slice_get pairs n)) ++ text (drop (suc n) pairs)
+  at_place : (n : ℕ) (pairs : List Pair) → n < length pairs → text (drop n pairs) ≡ firing_lines_at d relations before after (slice_get pairs n) ++ text (drop (suc n) pairs)
   at_place n [] low = absurd (omega (arith, low))
   at_place zero (p ∷ ps) low = lines_cons p ps
   at_place (suc n) (p ∷ ps) low = at_place n ps (omega (arith, low))
 
   -- the one at n, and those behind it
-  pub lines_at : (n : ℕ) (pairs : List Pair) → n < length pairs → text (drop n pairs) ≡ joined (firing_lines_at d relations before after (slice_get pairs n)) ++ text (drop (n + 1) pairs)
+  pub lines_at : (n : ℕ) (pairs : List Pair) → n < length pairs → text (drop n pairs) ≡ firing_lines_at d relations before after (slice_get pairs n) ++ text (drop (n + 1) pairs)
   lines_at n pairs low =
       let next : suc n ≡ n + 1 = omega arith in
-      at_place n pairs low ∙ ap (λ (k : ℕ). joined (firing_lines_at d relations before after (slice_get pairs n)) ++ text (drop k pairs)) next
+      at_place n pairs low ∙ ap (λ (k : ℕ). firing_lines_at d relations before after (slice_get pairs n) ++ text (drop k pairs)) next
 
   pub lines_end : (n : ℕ) (pairs : List Pair) → length pairs ≤ n → text (drop n pairs) ≡ []
   lines_end n [] past = at n
@@ -94,11 +93,11 @@ module _ (d : Tree) (relations : List Named) (before after : Results) where
   lines_end (suc n) (p ∷ ps) past = lines_end n ps (omega (arith, past))
 
   -- of one pair: its line where its relation says yes, and else none
-  pub line_said : (o : Option Pair) (p : Pair) → o ≡ Some p → pair_says (code_at (λ (r : Named). r.1) relations) o before after ≡ true → joined (firing_lines_at d relations before after o) ≡ watch_line d relations p ++ 10 ∷ []
+  pub line_said : (o : Option Pair) (p : Pair) → o ≡ Some p → pair_says (code_at (λ (r : Named). r.1) relations) o before after ≡ true → firing_lines_at d relations before after o ≡ watch_line d relations p ∷ []
   line_said None p e says = absurd cc
   line_said (Some q) p e says =
-      ap (λ (b : Bool). joined (map (watch_line d relations) (cond b (q ∷ []) []))) says
-      ∙ ap (λ (o : Option Pair). watch_line d relations (unwrap_or o q) ++ 10 ∷ []) e
+      ap (λ (b : Bool). map (watch_line d relations) (cond b (q ∷ []) [])) says
+      ∙ ap (λ (o : Option Pair). watch_line d relations (unwrap_or o q) ∷ []) e
 
   -- and a slot of which it says yes has a result
   pub said_stands : (p : Pair) → pair_says (code_at (λ (r : Named). r.1) relations) (Some p) before after ≡ true → (r : Res) × (after p.1 ≡ Some r)

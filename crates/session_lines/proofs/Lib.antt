@@ -8,3 +8,4 @@ pub mod ProgressLaws
 pub mod StepLaws
 pub mod UndoLaws
 pub mod WatchLaws
+pub mod WritingLaws

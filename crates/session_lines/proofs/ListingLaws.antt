@@ -3,7 +3,6 @@ use Rattle.std.proofs.Common.{◌≡◌, ℕ, ◌+◌, ◌<◌, zero, suc, Bool,
 use Rattle.std.specs.Prelude.{All}
 use Rattle.std.specs.List.{list_any}
 use Rattle.std.proofs.lemmas.List.Elements.{All-cons, All-filter, All-nil}
-use Rattle.script_lines.specs.Joined.{joined}
 use Rattle.fact_values.specs.declared.slot.Slot.{Slot}
 use Rattle.common_lemmas.proofs.Bools.{or_left, or_right}
 use Rattle.dict_source.specs.Dictionary.{Dictionary as Tree}
@@ -33,17 +32,13 @@ missing_stand d a s = All-filter (is_missing d a s) (λ t. IsTrue (stands d.tree
 -- ---- lines of a list
 
 module _ {X : Type 0} (f : X → List ℕ) where
-  at_place : (xs : List X) (i : ℕ) (x : X) → i < length xs → joined (map f (drop i xs)) ≡ (f (get_or xs i x) ++ 10 ∷ []) ++ joined (map f (drop (suc i) xs))
+  at_place : (xs : List X) (i : ℕ) (x : X) → i < length xs → map f (drop i xs) ≡ f (get_or xs i x) ∷ map f (drop (suc i) xs)
   at_place [] i x low = absurd (omega (arith, low))
-  at_place (y ∷ ys) zero x low = sym (append_assoc (f y) (10 ∷ []) (joined (map f ys)))
+  at_place (y ∷ ys) zero x low = refl
   at_place (y ∷ ys) (suc i) x low = at_place ys i x (omega (arith, low))
 
   -- the one at i, and those behind it
-  pub next_line : (xs : List X) (i : ℕ) (x : X) → i < length xs → joined (map f (drop i xs)) ≡ (f (get_or xs i x) ++ 10 ∷ []) ++ joined (map f (drop (i + 1) xs))
+  pub next_line : (xs : List X) (i : ℕ) (x : X) → i < length xs → map f (drop i xs) ≡ f (get_or xs i x) ∷ map f (drop (i + 1) xs)
   next_line xs i x low =
       let next : suc i ≡ i + 1 = omega arith in
-      at_place xs i x low ∙ ap (λ (k : ℕ). (f (get_or xs i x) ++ 10 ∷ []) ++ joined (map f (drop k xs))) next
-
--- the first of some lines, and those behind it
-pub first_line : (line : List ℕ) (lines : List (List ℕ)) → (line ++ 10 ∷ []) ++ joined lines ≡ joined (line ∷ lines)
-first_line line lines = append_assoc line (10 ∷ []) (joined lines)
+      at_place xs i x low ∙ ap (λ (k : ℕ). f (get_or xs i x) ∷ map f (drop k xs)) next

@@ -12,7 +12,7 @@ use Rattle.fact_watch.specs.declared.commands.WatchRefusal.TheVariants as watche
 use Rattle.fg_io.specs.Outside.{Output}
 use Rattle.session_lines.specs.declared.progress.Progress.{Progress}
 use Rattle.session_lines.specs.Answering.{KeptAs, SteppedAs, WatchRefusedAs, WrittenAs}
-use Rattle.session_lines.specs.Replies.{is_watch_memory, line_with, watch_refusal_text}
+use Rattle.session_lines.specs.Replies.{is_watch_memory, watch_refusal_text}
 use Rattle.session_lines.specs.Stepping.{LineState, open_at, place_in, watch_decided}
 use Rattle.session_lines.proofs.AnsweringLaws.{ends_or_steps, keeps_refused, keeps_written, text_step}
 
@@ -40,12 +40,12 @@ refused_is watches.NotWatched o refused known = refused
 
 module _ (sink sink_now : Output) (s : LineState) (pairs : List Pair) (now : List Pair) (progress : Progress) where
   -- what was decided
-  pub allowed_steps : (o : Option WatchRefusal) → o ≡ None → now ≡ pairs → WrittenAs sink sink_now (line_with (codes "ok")) progress
+  pub allowed_steps : (o : Option WatchRefusal) → o ≡ None → now ≡ pairs → WrittenAs sink sink_now (codes "ok" ∷ []) progress
       → SteppedAs sink sink_now (watch_decided s pairs o) (record s { watched = now }) progress
   allowed_steps o none same written =
       subst (λ (p : Option WatchRefusal). SteppedAs sink sink_now (watch_decided s pairs p) (record s { watched = now }) progress) (sym none)
       (subst (λ (ps : List Pair). SteppedAs sink sink_now (watch_decided s pairs None) (record s { watched = ps }) progress) (sym same)
-      (text_step sink sink_now (line_with (codes "ok")) (record s { watched = pairs }) progress written))
+      (text_step sink sink_now (codes "ok" ∷ []) (record s { watched = pairs }) progress written))
 
   pub refused_steps : (o : Option WatchRefusal) (refusal : WatchRefusal) → Refused refusal o → now ≡ s.watched → WatchRefusedAs sink sink_now refusal progress
       → SteppedAs sink sink_now (watch_decided s pairs o) (record s { watched = now }) progress
@@ -55,14 +55,14 @@ module _ (sink sink_now : Output) (s : LineState) (pairs : List Pair) (now : Lis
       (λ known. ap (watch_decided s pairs) (refused_is refusal o refused known)) written)
 
   -- and what stands behind it
-  pub allowed_keeps : (o : Option WatchRefusal) → o ≡ None → now ≡ pairs → WrittenAs sink sink_now (line_with (codes "ok")) progress
+  pub allowed_keeps : (o : Option WatchRefusal) → o ≡ None → now ≡ pairs → WrittenAs sink sink_now (codes "ok" ∷ []) progress
       → KeptAs (watch_decided s pairs o).state s (record s { watched = now }) progress
   allowed_keeps o none same written =
-      keeps_written sink sink_now s (record s { watched = now }) (watch_decided s pairs o).state (line_with (codes "ok")) progress
+      keeps_written sink sink_now s (record s { watched = now }) (watch_decided s pairs o).state (codes "ok" ∷ []) progress
       (ap (λ (p : Option WatchRefusal). (watch_decided s pairs p).state) none ∙ ap (λ (ps : List Pair). open_at (record s { watched = ps })) (sym same)) written
 
   pub refused_keeps : (o : Option WatchRefusal) (refusal : WatchRefusal) → Refused refusal o → now ≡ s.watched → WatchRefusedAs sink sink_now refusal progress
       → KeptAs (watch_decided s pairs o).state s (record s { watched = now }) progress
   refused_keeps o refusal refused same written =
-      keeps_refused sink sink_now s (record s { watched = now }) (watch_decided s pairs o).state (line_with (watch_refusal_text refusal)) (is_watch_memory refusal) progress (ap (λ (ps : List Pair). record s { watched = ps }) same)
+      keeps_refused sink sink_now s (record s { watched = now }) (watch_decided s pairs o).state (watch_refusal_text refusal ∷ []) (is_watch_memory refusal) progress (ap (λ (ps : List Pair). record s { watched = ps }) same)
       (λ known. ap (λ (p : Option WatchRefusal). (watch_decided s pairs p).state) (refused_is refusal o refused known)) written

@@ -1,14 +1,12 @@
 -- How a line is answered: what was written, and where the session stands behind it.
-use Rattle.std.specs.Prelude.{◌≡◌, ℕ, Bool, true, false, List, [], ◌++◌, Result, Ok, Err}
-use Rattle.fg_io.specs.Outside.{Output, Rose}
-use Rattle.fg_io.specs.Sent.{Sent}
+use Rattle.std.specs.Prelude.{◌≡◌, ℕ, Bool, true, false, List, [], ◌∷◌, Result, Ok, Err}
+use Rattle.fg_io.specs.Outside.{Output}
 use Rattle.script_lines.specs.Lines.{ScriptLine}
 use Rattle.session_lines.specs.declared.progress.Progress.{Progress}
 use Rattle.session_lines.specs.declared.progress.Progress.TheVariants.{More, Over, Unwritten, OutOfMemory}
 use Rattle.graph_session.specs.Rules.{Rules, rules}
 use Rattle.graph_session.specs.Run.{is_memory}
 use Rattle.graph_session.specs.SessionView.{SessionView, session_state}
-use Rattle.script_lines.specs.Joined.{joined}
 use Rattle.dictionary.specs.Kept.{Named, accepted}
 use Rattle.evaluation.specs.Results.{Results}
 use Rattle.dict_meaning.specs.Plain.{plain}
@@ -19,8 +17,9 @@ use Rattle.fact_watch.specs.declared.commands.WatchRefusal.{WatchRefusal}
 use Rattle.graph_session.specs.declared.reply.Refusal.{Refusal}
 use Rattle.graph_session.specs.declared.reply.Reply.{Reply}
 use Rattle.session_lines.specs.Firing.{firing_lines}
-use Rattle.session_lines.specs.Replies.{is_watch_memory, line_with, refusal_text, reply_text, watch_refusal_text}
+use Rattle.session_lines.specs.Replies.{is_watch_memory, refusal_text, reply_text, watch_refusal_text}
 use Rattle.session_lines.specs.Stepping.{LineState, State, Step, open_at, quit_at, replies, state_after}
+use Rattle.session_lines.specs.Writing.{WroteLines, WroteSome}
 
 -- where the session stands, with these relations and watches
 abbrev pub line_state_of : SessionView → List Named → Watching → LineState
@@ -32,20 +31,20 @@ state_by session table watches = line_state_of session (named_relations table) w
 
 -- the line of a reply, as the session stands
 abbrev pub replied : SessionView → Reply → List ℕ
-replied session reply = line_with (reply_text (rules session.dict) (session_state session) reply)
+replied session reply = reply_text (rules session.dict) (session_state session) reply
 
 -- and behind it the watches that fire, where what is watched had these results before
-abbrev pub replied_and_fired : SessionView → List Named → Results → List Pair → Reply → List ℕ
+abbrev pub replied_and_fired : SessionView → List Named → Results → List Pair → Reply → List (List ℕ)
 replied_and_fired session relations before pairs reply =
-    replied session reply ++ joined (firing_lines (accepted session.dict).tree relations before (plain (accepted session.dict) session.timeline.now) pairs)
+    replied session reply ∷ firing_lines (accepted session.dict).tree relations before (plain (accepted session.dict) session.timeline.now) pairs
 
--- A step was taken: its text was written whole and the script goes on or is over, or it wasn't written whole, or there was no
--- memory for it.
+-- A step was taken: its lines were written whole and the script goes on or is over, or they weren't written whole, or there was no
+-- memory for it, and nothing was put.
 abbrev pub SteppedAs : Output → Output → Step → LineState → Progress → Type 0
-SteppedAs sink sink_now step here_now More = Sent sink.taken sink_now.taken step.text [] × (step.state ≡ open_at here_now)
-SteppedAs sink sink_now step here_now Over = (sink_now.taken ≡ sink.taken) × (step.text ≡ []) × (step.state ≡ quit_at here_now)
-SteppedAs sink sink_now step here_now Unwritten = Rose sink.faults sink_now.faults × ((rest : List ℕ) × Sent sink.taken sink_now.taken step.text rest)
-SteppedAs sink sink_now step here_now OutOfMemory = sink_now.taken ≡ sink.taken
+SteppedAs sink sink_now step here_now More = WroteLines sink sink_now step.lines × (step.state ≡ open_at here_now)
+SteppedAs sink sink_now step here_now Over = (sink_now ≡ sink) × (step.lines ≡ []) × (step.state ≡ quit_at here_now)
+SteppedAs sink sink_now step here_now Unwritten = WroteSome sink sink_now step.lines
+SteppedAs sink sink_now step here_now OutOfMemory = sink_now ≡ sink
 
 -- Where there was no memory all stands as before; and behind a text that wasn't written whole stands the state that its step leaves.
 abbrev pub KeptAs : State → LineState → LineState → Progress → Type 0
@@ -58,37 +57,36 @@ KeptAs state here here_now OutOfMemory = here_now ≡ here
 -- written whole, or there was no memory for the command.
 abbrev pub AnsweredAs : Rules → Output → Output → LineState → LineState → List ScriptLine → Progress → Type 0
 AnsweredAs r sink sink_now here here_now lines More =
-    Sent sink.taken sink_now.taken (replies r (open_at here) lines) [] × (state_after r (open_at here) lines ≡ open_at here_now)
+    WroteLines sink sink_now (replies r (open_at here) lines) × (state_after r (open_at here) lines ≡ open_at here_now)
 AnsweredAs r sink sink_now here here_now lines Over =
-    Sent sink.taken sink_now.taken (replies r (open_at here) lines) [] × (state_after r (open_at here) lines ≡ quit_at here_now)
-AnsweredAs r sink sink_now here here_now lines Unwritten =
-    Rose sink.faults sink_now.faults × ((rest : List ℕ) × Sent sink.taken sink_now.taken (replies r (open_at here) lines) rest)
-AnsweredAs r sink sink_now here here_now lines OutOfMemory = sink_now.taken ≡ sink.taken
+    WroteLines sink sink_now (replies r (open_at here) lines) × (state_after r (open_at here) lines ≡ quit_at here_now)
+AnsweredAs r sink sink_now here here_now lines Unwritten = WroteSome sink sink_now (replies r (open_at here) lines)
+AnsweredAs r sink sink_now here here_now lines OutOfMemory = sink_now ≡ sink
 
--- a reply was written whole, or in part after a fault
-abbrev pub WrittenAs : Output → Output → List ℕ → Progress → Type 0
-WrittenAs sink sink_now text More = Sent sink.taken sink_now.taken text []
-WrittenAs sink sink_now text Over = ⊥
-WrittenAs sink sink_now text Unwritten = Rose sink.faults sink_now.faults × ((rest : List ℕ) × Sent sink.taken sink_now.taken text rest)
-WrittenAs sink sink_now text OutOfMemory = ⊥
+-- the lines of a reply were written whole, or in part after a fault
+abbrev pub WrittenAs : Output → Output → List (List ℕ) → Progress → Type 0
+WrittenAs sink sink_now lines More = WroteLines sink sink_now lines
+WrittenAs sink sink_now lines Over = ⊥
+WrittenAs sink sink_now lines Unwritten = WroteSome sink sink_now lines
+WrittenAs sink sink_now lines OutOfMemory = ⊥
 
 -- or there was no memory for it
-abbrev pub OutputAs : Output → Output → List ℕ → Progress → Type 0
-OutputAs sink sink_now text More = Sent sink.taken sink_now.taken text []
-OutputAs sink sink_now text Over = ⊥
-OutputAs sink sink_now text Unwritten = Rose sink.faults sink_now.faults × ((rest : List ℕ) × Sent sink.taken sink_now.taken text rest)
-OutputAs sink sink_now text OutOfMemory = sink_now.taken ≡ sink.taken
+abbrev pub OutputAs : Output → Output → List (List ℕ) → Progress → Type 0
+OutputAs sink sink_now lines More = WroteLines sink sink_now lines
+OutputAs sink sink_now lines Over = ⊥
+OutputAs sink sink_now lines Unwritten = WroteSome sink sink_now lines
+OutputAs sink sink_now lines OutOfMemory = sink_now ≡ sink
 
 -- want of memory ends the script, and every other refusal is written
-abbrev pub EndsOrWrites : Bool → Output → Output → List ℕ → Progress → Type 0
-EndsOrWrites true sink sink_now text progress = (sink_now.taken ≡ sink.taken) × (progress ≡ OutOfMemory)
-EndsOrWrites false sink sink_now text progress = WrittenAs sink sink_now text progress
+abbrev pub EndsOrWrites : Bool → Output → Output → List (List ℕ) → Progress → Type 0
+EndsOrWrites true sink sink_now lines progress = (sink_now ≡ sink) × (progress ≡ OutOfMemory)
+EndsOrWrites false sink sink_now lines progress = WrittenAs sink sink_now lines progress
 
 abbrev pub RefusedAs : Output → Output → Refusal → Progress → Type 0
-RefusedAs sink sink_now refusal progress = EndsOrWrites (is_memory refusal) sink sink_now (line_with (refusal_text refusal)) progress
+RefusedAs sink sink_now refusal progress = EndsOrWrites (is_memory refusal) sink sink_now (refusal_text refusal ∷ []) progress
 
 abbrev pub WatchRefusedAs : Output → Output → WatchRefusal → Progress → Type 0
-WatchRefusedAs sink sink_now refusal progress = EndsOrWrites (is_watch_memory refusal) sink sink_now (line_with (watch_refusal_text refusal)) progress
+WatchRefusedAs sink sink_now refusal progress = EndsOrWrites (is_watch_memory refusal) sink sink_now (watch_refusal_text refusal ∷ []) progress
 
 -- how the script goes on behind a text
 abbrev pub progress_of : {T E : Type 0} → Result T E → Progress

@@ -1,5 +1,5 @@
 -- What holds of the replies of a session, wherever it came from.
-use Rattle.std.specs.Prelude.{◌≡◌, ℕ, List, ◌++◌, codes, IsSome, None}
+use Rattle.std.specs.Prelude.{◌≡◌, ℕ, List, [], ◌∷◌, ◌++◌, codes, IsSome, None}
 use Rattle.fact_paths.specs.declared.slot_path.SlotPath.{SlotPath}
 use Rattle.value_text.specs.Values.{printed}
 use Rattle.dict_meaning.specs.Accepted.{IsAccepted}
@@ -11,12 +11,11 @@ use Rattle.graph_session.specs.Naming.{slot_of}
 use Rattle.graph_session.specs.Rules.{Rules, tree_of}
 use Rattle.graph_session.specs.Step.{refusal}
 use Rattle.placeholder_laws.specs.Stays.{Stays}
-use Rattle.session_lines.specs.Replies.{line_with}
 use Rattle.session_lines.specs.Stepping.{LineState, fired, step_command}
 
 -- the line of a value that is final
 abbrev pub final_line : List ℕ → List ℕ
-final_line text = line_with (codes "final " ++ text)
+final_line text = codes "final " ++ text
 
 -- ---- what is printed as final
 
@@ -25,11 +24,11 @@ final_line text = line_with (codes "final " ++ text)
 pub record HoldsAsFinal (r : Rules) (s : LineState) (path : SlotPath) (text : List ℕ) : Type 0 where
   pub stays : Stays r.accepted s.session_state.timeline.now (slot_of (tree_of r) path)
   pub printed_so : text ≡ printed (tree_of r).enums stays.0
-  pub again : (t : LineState) → IsExtension (tree_of r) s.session_state.timeline.now t.session_state.timeline.now → (step_command r t (Final path)).text ≡ final_line text
+  pub again : (t : LineState) → IsExtension (tree_of r) s.session_state.timeline.now t.session_state.timeline.now → (step_command r t (Final path)).lines ≡ final_line text ∷ []
 
 -- what is printed as final by a session that stands so
 abbrev pub FinalsHold : Rules → LineState → Type 0
-FinalsHold r s = (path : SlotPath) (text : List ℕ) → (step_command r s (Final path)).text ≡ final_line text → HoldsAsFinal r s path text
+FinalsHold r s = (path : SlotPath) (text : List ℕ) → (step_command r s (Final path)).lines ≡ final_line text ∷ [] → HoldsAsFinal r s path text
 
 -- wherever the session came from, and however it goes on
 abbrev pub FinalLinesStay : Type 0
@@ -44,6 +43,6 @@ UndoRestores =
     (r : Rules) (s : LineState) (asked : Command) → IsSome (change_of (tree_of r) asked) → refusal r s.session_state asked ≡ None
     → let changed = (step_command r s asked).state.standing in
     let undone = step_command r changed Undo in
-    (undone.text ≡ line_with (codes "ok") ++ fired r changed undone.state.standing.session_state)
+    (undone.lines ≡ codes "ok" ∷ fired r changed undone.state.standing.session_state)
     × (undone.state.standing.session_state.timeline.now ≡ s.session_state.timeline.now)
     × (undone.state.standing.watched ≡ s.watched)

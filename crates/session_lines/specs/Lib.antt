@@ -6,4 +6,5 @@ pub mod Steps
 pub mod Laws
 pub mod Answering
 pub mod Tables
+pub mod Writing
 pub mod Reading

@@ -1,6 +1,5 @@
 -- What stands before each line of a reply: nothing in a session, and at a desk the mark of the party that it is told to.
 use Rattle.std.specs.Prelude.{ℕ, List, [], ◌++◌, codes, decimal, map}
-use Rattle.script_lines.specs.Joined.{joined}
 use Rattle.session_lines.specs.declared.mark.Mark.{Mark}
 use Rattle.session_lines.specs.declared.mark.Mark.TheVariants.{Unmarked, Party}
 
@@ -15,5 +14,5 @@ mark_text (Party p) = party_mark p
 abbrev pub marked : Mark → List ℕ → List ℕ
 marked mark line = mark_text mark ++ line
 
-abbrev pub marked_lines : Mark → List (List ℕ) → List ℕ
-marked_lines mark lines = joined (map (marked mark) lines)
+abbrev pub marked_lines : Mark → List (List ℕ) → List (List ℕ)
+marked_lines mark lines = map (marked mark) lines

@@ -25,7 +25,7 @@ use Rattle.fact_watch.specs.Refusals.{pair_of, unwatch_refusal, watch_refusal}
 use Rattle.fact_watch.specs.Watching.{Pair, without}
 use Rattle.fact_watch.specs.declared.commands.WatchRefusal.{WatchRefusal}
 use Rattle.session_lines.specs.Firing.{firing_lines}
-use Rattle.session_lines.specs.Replies.{bad_line_text, line_with, long_line_text, missing_output, refusal_text, reply_text, watch_refusal_text}
+use Rattle.session_lines.specs.Replies.{bad_line_text, long_line_text, missing_output, refusal_text, reply_text, watch_refusal_text}
 
 -- ---- where a script stands
 
@@ -48,28 +48,33 @@ abbrev pub quit_at : LineState → State
 quit_at s = record { standing = s; over = true }
 
 pub record Step : Type 0 where
-  pub text : List ℕ
+  -- the lines that are written, each without its newline
+  pub lines : List (List ℕ)
   pub state : State
+
+-- their bytes, with the newlines
+abbrev pub text_of : Step → List ℕ
+text_of made = joined made.lines
 
 -- a line is written, and nothing changes
 abbrev pub step_writing : LineState → List ℕ → Step
-step_writing s text = record { text = line_with text; state = open_at s }
+step_writing s text = record { lines = text ∷ []; state = open_at s }
 
 -- ---- commands of the session
 
 -- the lines of the watches that fire between two states
-abbrev pub fired : Rules → LineState → SessionState → List ℕ
-fired r s after = joined (firing_lines (tree_of r) s.relations (plain r.accepted s.session_state.timeline.now) (plain r.accepted after.timeline.now) s.watched)
+abbrev pub fired : Rules → LineState → SessionState → List (List ℕ)
+fired r s after = firing_lines (tree_of r) s.relations (plain r.accepted s.session_state.timeline.now) (plain r.accepted after.timeline.now) s.watched
 
 -- behind the reply of a change stand the watches that fire
-abbrev pub said : Rules → LineState → Command → List ℕ → SessionState → List ℕ
-said r s asked text after = if is_change asked then line_with text ++ fired r s after else line_with text
+abbrev pub said : Rules → LineState → Command → List ℕ → SessionState → List (List ℕ)
+said r s asked text after = if is_change asked then text ∷ fired r s after else text ∷ []
 
 -- a session's reply and the state that it leaves, or its refusal
 -- its step reads a value by `value_at`: value_text's law `reads_spelled_values` ties that to what the text spells
 abbrev pub step_answered : Rules → LineState → Command → Result (Reply × SessionState) Refusal → Step
 step_answered r s asked (Ok answer) = record {
-  text = said r s asked (reply_text r answer.1 answer.0) answer.1;
+  lines = said r s asked (reply_text r answer.1 answer.0) answer.1;
   state = open_at (record s { session_state = answer.1 });
 }
 step_answered r s asked (Err refusal) = step_writing s (refusal_text refusal)
@@ -80,11 +85,8 @@ step_session_command r s asked = step_answered r s asked (session.step r s.sessi
 -- ---- commands that the session itself doesn't answer
 
 -- what is missing of a slot, or why the slot isn't there
-abbrev pub missing_answer : Rules → SessionState → Result Slot Refusal → List ℕ
-missing_answer r c found = joined (missing_output r c found)
-
 abbrev pub step_missing : Rules → LineState → SlotPath → Step
-step_missing r s path = record { text = missing_answer r s.session_state (slot_found r s.session_state.timeline.now path); state = open_at s }
+step_missing r s path = record { lines = missing_output r s.session_state (slot_found r s.session_state.timeline.now path); state = open_at s }
 
 -- the place of a relation's name
 abbrev pub place_in : List Named → List ℕ → Option ℕ
@@ -92,7 +94,7 @@ place_in relations name = place_of relations (λ (n : Named). n.0) name
 
 -- these are watched from now on, or the refusal is told
 abbrev pub watch_decided : LineState → List Pair → Option WatchRefusal → Step
-watch_decided s pairs None = record { text = line_with (codes "ok"); state = open_at (record s { watched = pairs }) }
+watch_decided s pairs None = record { lines = codes "ok" ∷ []; state = open_at (record s { watched = pairs }) }
 watch_decided s pairs (Some refusal) = step_writing s (watch_refusal_text refusal)
 
 abbrev pub put_watch : LineState → List ℕ → Result Slot Refusal → Step
@@ -121,7 +123,7 @@ abbrev pub is_session_command : Command → Bool
 is_session_command asked = is_session_kind (kind_of asked)
 
 abbrev pub step_command : Rules → LineState → Command → Step
-step_command r s commands.Quit = record { text = []; state = quit_at s }
+step_command r s commands.Quit = record { lines = []; state = quit_at s }
 step_command r s (commands.Missing path) = step_missing r s path
 step_command r s (commands.Watch name path) = put_watch s name (slot_found r s.session_state.timeline.now path)
 step_command r s (commands.Unwatch name path) = cut_watch s name (slot_found r s.session_state.timeline.now path)
@@ -130,7 +132,7 @@ step_command r s asked = step_session_command r s asked
 -- ---- lines in order
 
 abbrev pub step_heard : Rules → LineState → Heard → Step
-step_heard r s nothing = record { text = []; state = open_at s }
+step_heard r s nothing = record { lines = []; state = open_at s }
 step_heard r s bad_line = step_writing s bad_line_text
 step_heard r s (command asked) = step_command r s asked
 
@@ -141,12 +143,12 @@ step_line r s long = step_writing s long_line_text
 
 -- what follows `quit` has no effect
 abbrev pub step : Rules → State → ScriptLine → Step
-step r state line = if state.over then record { text = []; state = state } else step_line r state.standing line
+step r state line = if state.over then record { lines = []; state = state } else step_line r state.standing line
 
--- the replies to lines in order, and the state behind them
-abbrev pub replies : Rules → State → List ScriptLine → List ℕ
+-- the lines of the replies to lines in order, and the state behind them
+abbrev pub replies : Rules → State → List ScriptLine → List (List ℕ)
 replies r state [] = []
-replies r state (line ∷ lines) = (step r state line).text ++ replies r (step r state line).state lines
+replies r state (line ∷ lines) = (step r state line).lines ++ replies r (step r state line).state lines
 
 abbrev pub state_after : Rules → State → List ScriptLine → State
 state_after r state [] = state

@@ -13,7 +13,7 @@ ghost use Rattle.session_lines.specs.Tables.{heard_asks_checks, line_asks_checks
 use crate::command::answer_command;
 use crate::progress::Progress;
 use crate::tables::Tables;
-use crate::writing::write_text;
+use crate::writing::write_ended;
 use dictionary::FactEngine;
 use fact_watch::Watches;
 use fg_io::Sink;
@@ -55,7 +55,7 @@ fn answer_line<E: FactEngine, L: Ledger, K: Sink>(
             drop(command);
             progress
         }
-        Err(LineFault::BadLine) => write_text(b"refused 1 BadLine\n", out),
+        Err(LineFault::BadLine) => write_ended(b"refused 1 BadLine\n", out),
         Err(LineFault::NoMemory) => Progress::OutOfMemory,
     }
 }
@@ -89,6 +89,6 @@ pub fn answer_ready<E: FactEngine, L: Ledger, K: Sink>(
     match ready {
         Ready::NotYet => Progress::More,
         Ready::Whole => answer_line(alloc, session, watches, tables, line, out, steps),
-        Ready::Long => write_text(b"refused 2 LongLine\n", out),
+        Ready::Long => write_ended(b"refused 2 LongLine\n", out),
     }
 }

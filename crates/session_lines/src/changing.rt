@@ -1,5 +1,5 @@
 // Answers the commands of the session, and tells the watches that fire behind a change.
-ghost use Rattle.std.specs.Prelude.{◌≡◌, ◌≤◌, ◌<◌, ◌+◌, ◌^◌, true, if◌then◌else◌, IsTrue};
+ghost use Rattle.std.specs.Prelude.{◌≡◌, ◌≤◌, ◌<◌, ◌+◌, ◌^◌, ◌∷◌, [], true, if◌then◌else◌, IsTrue};
 ghost use Rattle.text_checks.specs.Tables.{named_checks};
 ghost use Rattle.dictionary.specs.Kept.{accepted};
 ghost use Rattle.dict_meaning.specs.Plain.{plain};
@@ -71,7 +71,7 @@ fn write_said<E: FactEngine, K: Sink>(
     requires noted { changes command.now ≡ true → (before : Results) × (watches.now ≡ noted watches.now.pairs before) }
     ensures written { (before : Results) → (changes command.now ≡ true → watches.now ≡ noted watches.now.pairs before)
         → WrittenAs (K.output out.old) (K.output out.new) (if changes command.now then replied_and_fired session.now
-        (named_relations table.now) before watches.now.pairs reply else replied session.now reply) result }
+        (named_relations table.now) before watches.now.pairs reply else replied session.now reply ∷ []) result }
     ensures later { (K.output out.old).faults ≤ (K.output out.new).faults }
 {
     if is_change(command) {

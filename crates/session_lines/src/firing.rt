@@ -1,22 +1,21 @@
 // Writes the lines of the watches that fire.
 ghost use Rattle.std.specs.Prelude.{◌≡◌, ◌≤◌, ◌+◌, ◌∷◌, ◌++◌, [], IsTrue, IfSome, length, slice_get};
-ghost use Rattle.script_lines.specs.Joined.{joined};
 ghost use Rattle.dictionary.specs.Kept.{accepted};
 ghost use Rattle.dict_meaning.specs.Plain.{plain};
 ghost use Rattle.evaluation.specs.Results.{Results};
 ghost use Rattle.dict_meaning.specs.Slots.{stands};
 ghost use Rattle.fact_watch.specs.Tables.{named_relations};
 ghost use Rattle.fact_watch.specs.Watching.{code_at, noted, pair_says};
-ghost use Rattle.fg_io.specs.Writing.{Wrote};
 ghost use Rattle.session_lines.specs.Answering.{WrittenAs};
 ghost use Rattle.session_lines.specs.Firing.{firing_lines, firing_lines_at, name_at, watch_line};
+ghost use Rattle.session_lines.specs.Writing.{WroteAs};
 
 use crate::progress::Progress;
-use crate::writing::as_progress;
+use crate::writing::{as_progress, put_printed};
 use dictionary::FactEngine;
 use fact_values::Slot;
 use fact_watch::{WatchTable, Watches};
-use fg_io::{Failed, Sink, put_text};
+use fg_io::{Failed, Sink};
 use graph_session::Session;
 use value_text::Line;
 
@@ -42,8 +41,8 @@ fn put_line<E: FactEngine, K: Sink>(
     out: &mut K,
 ) -> Result<(), Failed>
     requires { IsTrue (stands (accepted session.now.dict).tree session.now.timeline.now slot) }
-    ensures { Wrote (K.output out.old) (K.output out.new) (watch_line (accepted session.now.dict).tree
-        (named_relations table.now) (place, slot) ++ 10 ∷ []) result }
+    ensures { WroteAs (K.output out.old) (K.output out.new) (watch_line (accepted session.now.dict).tree
+        (named_relations table.now) (place, slot) ∷ []) result }
 {
     let dict = session.dict();
     let _accepted = dict.source();
@@ -53,8 +52,7 @@ fn put_line<E: FactEngine, K: Sink>(
     print_relation(table, place, &mut line);
     line.push(b" ");
     dict.print_slot(slot, &mut line);
-    line.push(b"\n");
-    put_text(line.bytes(), out)
+    put_printed(&mut line, out)
 }
 
 // Whether the watch at n fires, of what was noted and the result now.
@@ -78,9 +76,9 @@ fn put_at<E: FactEngine, K: Sink>(
     out: &mut K,
 ) -> Result<(), Failed>
     requires noted { (before : Results) × (watches.now ≡ noted watches.now.pairs before) }
-    ensures { (before : Results) → watches.now ≡ noted watches.now.pairs before → Wrote (K.output out.old)
-        (K.output out.new) (joined (firing_lines_at (accepted session.now.dict).tree (named_relations table.now) before
-        (plain (accepted session.now.dict) session.now.timeline.now) (slice_get watches.now.pairs n))) result }
+    ensures { (before : Results) → watches.now ≡ noted watches.now.pairs before → WroteAs (K.output out.old)
+        (K.output out.new) (firing_lines_at (accepted session.now.dict).tree (named_relations table.now) before
+        (plain (accepted session.now.dict) session.now.timeline.now) (slice_get watches.now.pairs n)) result }
 {
     if !fires(session, watches, table, n) {
         return Ok(());
@@ -99,9 +97,9 @@ fn put_fired<E: FactEngine, K: Sink>(
     out: &mut K,
 ) -> Result<(), Failed>
     requires noted { (before : Results) × (watches.now ≡ noted watches.now.pairs before) }
-    ensures { (before : Results) → watches.now ≡ noted watches.now.pairs before → Wrote (K.output out.old)
-        (K.output out.new) (joined (firing_lines (accepted session.now.dict).tree (named_relations table.now) before
-        (plain (accepted session.now.dict) session.now.timeline.now) watches.now.pairs)) result }
+    ensures { (before : Results) → watches.now ≡ noted watches.now.pairs before → WroteAs (K.output out.old)
+        (K.output out.new) (firing_lines (accepted session.now.dict).tree (named_relations table.now) before
+        (plain (accepted session.now.dict) session.now.timeline.now) watches.now.pairs) result }
 {
     for n in 0..watches.len() {
         match put_at(session, watches, table, n, out) {
@@ -121,8 +119,8 @@ pub fn write_fired<E: FactEngine, K: Sink>(
 ) -> Progress
     requires noted { (before : Results) × (watches.now ≡ noted watches.now.pairs before) }
     ensures written { (before : Results) → watches.now ≡ noted watches.now.pairs before → WrittenAs (K.output out.old)
-        (K.output out.new) (joined (firing_lines (accepted session.now.dict).tree (named_relations table.now) before
-        (plain (accepted session.now.dict) session.now.timeline.now) watches.now.pairs)) result }
+        (K.output out.new) (firing_lines (accepted session.now.dict).tree (named_relations table.now) before
+        (plain (accepted session.now.dict) session.now.timeline.now) watches.now.pairs) result }
     ensures later { (K.output out.old).faults ≤ (K.output out.new).faults }
 {
     as_progress(put_fired(session, watches, table, out))

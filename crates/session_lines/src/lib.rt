@@ -25,4 +25,4 @@ pub use progress::Progress;
 pub use reading::answer_reads;
 pub use reply::{print_refusal, print_reply};
 pub use tables::{Tables, add_check, add_relation};
-pub use writing::{write_line, write_reply, write_text};
+pub use writing::{write_ended, write_line, write_reply};

@@ -1,16 +1,15 @@
 // Answers which slots are missing of one.
-ghost use Rattle.std.specs.Prelude.{◌≤◌, ◌∷◌, All, IsTrue, codes, map};
-ghost use Rattle.script_lines.specs.Joined.{joined};
+ghost use Rattle.std.specs.Prelude.{◌≤◌, ◌∷◌, [], All, IsTrue, codes, map};
 ghost use Rattle.dictionary.specs.Kept.{accepted};
 ghost use Rattle.dict_meaning.specs.SlotText.{slot_text};
 ghost use Rattle.dict_meaning.specs.Slots.{stands};
-ghost use Rattle.fg_io.specs.Writing.{Wrote};
 ghost use Rattle.graph_session.specs.Refusals.{slot_found};
 ghost use Rattle.graph_session.specs.Rules.{rules};
 ghost use Rattle.graph_session.specs.SessionView.{session_state};
 ghost use Rattle.session_lines.specs.Answering.{OutputAs};
-ghost use Rattle.session_lines.specs.Replies.{line_with, missing_count, missing_lines, missing_output, numbered};
+ghost use Rattle.session_lines.specs.Replies.{missing_count, missing_lines, missing_output, numbered};
 ghost use Rattle.session_lines.specs.Marks.{marked, marked_lines};
+ghost use Rattle.session_lines.specs.Writing.{WroteAs};
 
 use crate::mark::Mark;
 use crate::numbered::print_numbered;
@@ -33,8 +32,8 @@ fn put_slot<E: FactEngine, K: Sink>(
     out: &mut K,
 ) -> Result<(), Failed>
     requires { IsTrue (stands (accepted session.now.dict).tree session.now.timeline.now slot) }
-    ensures { Wrote (K.output out.old) (K.output out.new)
-        (line_with (marked mark (slot_text (accepted session.now.dict).tree slot))) result }
+    ensures { WroteAs (K.output out.old) (K.output out.new)
+        (marked mark (slot_text (accepted session.now.dict).tree slot) ∷ []) result }
 {
     let dict = session.dict();
     let _accepted = dict.source();
@@ -52,8 +51,8 @@ pub fn put_slots<E: FactEngine, K: Sink>(
     out: &mut K,
 ) -> Result<(), Failed>
     requires { All (λ s. IsTrue (stands (accepted session.now.dict).tree session.now.timeline.now s)) slots.now }
-    ensures { Wrote (K.output out.old) (K.output out.new)
-        (joined (map (λ s. marked mark (slot_text (accepted session.now.dict).tree s)) slots.now)) result }
+    ensures { WroteAs (K.output out.old) (K.output out.new)
+        (map (λ s. marked mark (slot_text (accepted session.now.dict).tree s)) slots.now) result }
 {
     for slot in slots {
         match put_slot(session, mark, *slot, out) {
@@ -66,8 +65,7 @@ pub fn put_slots<E: FactEngine, K: Sink>(
 
 // Puts how many they are.
 fn put_count<K: Sink>(mark: Mark, count: usize, out: &mut K) -> Result<(), Failed>
-    ensures { Wrote (K.output out.old) (K.output out.new) (line_with (marked mark (numbered (codes "missing ") count)))
-        result }
+    ensures { WroteAs (K.output out.old) (K.output out.new) (marked mark (numbered (codes "missing ") count) ∷ []) result }
 {
     let mut line = Line::new();
     print_numbered("missing ", count as u64, &mut line);
@@ -82,7 +80,7 @@ fn put_missing<E: FactEngine, K: Sink>(
     out: &mut K,
 ) -> Result<(), Failed>
     requires { All (λ s. IsTrue (stands (accepted session.now.dict).tree session.now.timeline.now s)) slots.now }
-    ensures { Wrote (K.output out.old) (K.output out.new)
+    ensures { WroteAs (K.output out.old) (K.output out.new)
         (marked_lines mark (missing_count slots.now ∷ map (slot_text (accepted session.now.dict).tree) slots.now))
         result }
 {

@@ -1,6 +1,5 @@
 // Answers which slots a slot reads: why its result is what it is.
 ghost use Rattle.std.specs.Prelude.{◌≡◌, ◌≤◌, IsTrue};
-ghost use Rattle.script_lines.specs.Joined.{joined};
 ghost use Rattle.dictionary.specs.Kept.{accepted};
 ghost use Rattle.dict_meaning.specs.Slots.{stands};
 ghost use Rattle.graph_session.specs.Refusals.{slot_found};
@@ -30,7 +29,7 @@ fn write_reads<E: FactEngine, K: Sink>(
 ) -> Progress
     requires { IsTrue (stands (accepted session.now.dict).tree session.now.timeline.now slot) }
     ensures output { OutputAs (K.output out.old) (K.output out.new)
-        (joined (read_lines (rules session.now.dict) (session_state session.now) slot)) result }
+        (read_lines (rules session.now.dict) (session_state session.now) slot) result }
     ensures later { (K.output out.old).faults ≤ (K.output out.new).faults }
 {
     match reads(alloc, session, slot) {

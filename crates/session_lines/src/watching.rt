@@ -9,7 +9,7 @@ ghost use Rattle.std.specs.Prelude.{Ok};
 
 use crate::mark::Mark;
 use crate::progress::Progress;
-use crate::writing::{write_refusal, write_text};
+use crate::writing::{write_ended, write_line, write_refusal};
 use dictionary::FactEngine;
 use fact_paths::{Name, SlotPath};
 use fact_values::Slot;
@@ -54,8 +54,7 @@ fn write_watch_refusal<K: Sink>(refusal: WatchRefusal, out: &mut K) -> Progress
     let mut line = Line::new();
     line.push(b"refused ");
     line.push(refusal_name(refusal).as_bytes());
-    line.push(b"\n");
-    write_text(line.bytes(), out)
+    write_line(Mark::Unmarked, &mut line, out)
 }
 
 // Puts a watch on a slot that stands.
@@ -75,7 +74,7 @@ fn watch_slot<E: FactEngine, K: Sink>(
     ensures later { (K.output out.old).faults ≤ (K.output out.new).faults }
 {
     match watch(watches, table, name, slot) {
-        Ok(()) => write_text(b"ok\n", out),
+        Ok(()) => write_ended(b"ok\n", out),
         Err(refusal) => write_watch_refusal(refusal, out),
     }
 }
@@ -120,7 +119,7 @@ fn unwatch_slot<E: FactEngine, K: Sink>(
     ensures later { (K.output out.old).faults ≤ (K.output out.new).faults }
 {
     match unwatch(watches, table, name, slot) {
-        Ok(()) => write_text(b"ok\n", out),
+        Ok(()) => write_ended(b"ok\n", out),
         Err(refusal) => write_watch_refusal(refusal, out),
     }
 }

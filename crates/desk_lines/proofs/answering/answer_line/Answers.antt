@@ -11,4 +11,4 @@ pub returns-in-Ok-clause-answered : goal.returns-in-Ok-clause-answered
 returns-in-Ok-clause-answered g c = λ d stands.
     let r = rules_of c.args.desk.now in
     line_output _ _ c.args.desk.now c.answer_said-progress.new.desk r d (whole c.args.line.now) c.answer_said-progress.result
-    (subst (λ (s : PartyLine). DeskOutput (g.K.Sink.output c.args.out.now) (g.K.Sink.output c.answer_said-progress.new.out) c.args.desk.now c.answer_said-progress.new.desk (step_said r d s).text (step_said r d s).state c.answer_said-progress.result) c.in-Ok.ensures (c.answer_said-progress.ensures.output d stands))
+    (subst (λ (s : PartyLine). DeskOutput (g.K.Sink.output c.args.out.now) (g.K.Sink.output c.answer_said-progress.new.out) c.args.desk.now c.answer_said-progress.new.desk (step_said r d s).lines (step_said r d s).state c.answer_said-progress.result) c.in-Ok.ensures (c.answer_said-progress.ensures.output d stands))

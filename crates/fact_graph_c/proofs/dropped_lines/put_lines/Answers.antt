@@ -23,6 +23,6 @@ loop-line-preserved g c =
     record {
       sent = sent_piece _ _ _ (dropped_lines_text (map dropped_line items)) (dropped_line_text (dropped_line item) ++ 10 ∷ []) (dropped_lines_text (map dropped_line (drop (i + 1) items)))
           (next_dropped _ _ _ items i item c.loop-line-test.true c.line-item.is c.loop-line.invariant.sent)
-          c.in-Ok.ensures.0;
-      later = omega (arith, c.loop-line.invariant.later, c.in-Ok.ensures.1);
+          c.in-Ok.ensures.sent;
+      later = omega (arith, c.loop-line.invariant.later, c.in-Ok.ensures.later);
     }

@@ -8,4 +8,4 @@ pub returns : goal.returns
 returns g c =
     let text : c.bytes.result.now ≡ (defined_accepted (accepted c.args.dictionary.now)).text =
     c.bytes.ensures.value ∙ c.print_accepted.ensures ∙ (λ i. accepted_line (c.fact_count.ensures i) (c.node_count.ensures i)) in
-    rw text at c.end_by.ensures
+    record { text = rw text at c.end_by.ensures.text; puts = rw text at c.end_by.ensures.puts }

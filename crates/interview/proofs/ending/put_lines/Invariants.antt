@@ -1,11 +1,11 @@
-use Rattle.std.proofs.Common.{◌≤◌, length}
+use Rattle.std.proofs.Common.{◌≡◌, length}
 use Rattle.fg_io.specs.Sent.{Sent}
 use Rattle.interview.proofs.ending.put_lines.Given as goal
 
 abbrev pub invariant-loop-rest : goal.invariant-loop-rest
 invariant-loop-rest g l = record {
   sent : Sent (g.K.Sink.output l.fn.out).taken (g.K.Sink.output l.out).taken l.fn.text l.rest;
-  later : (g.K.Sink.output l.fn.out).faults ≤ (g.K.Sink.output l.out).faults;
+  counted : (g.K.Sink.output l.out).faults ≡ (g.K.Sink.output l.fn.out).faults;
 }
 
 abbrev pub decreases-loop-rest : goal.decreases-loop-rest

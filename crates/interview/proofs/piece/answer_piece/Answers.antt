@@ -1,6 +1,8 @@
-use Rattle.std.proofs.Common.{ℕ, ◌≡◌, ◌+◌, ◌<◌, ◌≤◌, List, [], ◌++◌, length, drop, rules as the_rules, refl, sym, subst, arith, ◌∙◌, length-drop}
+use Rattle.std.proofs.Common.{ℕ, ◌≡◌, ◌+◌, ◌<◌, ◌≤◌, List, ◌++◌, length, drop, rules as the_rules, refl, sym, subst, arith, ◌∙◌, length-drop}
 use Rattle.std.proofs.lemmas.List.{length-take}
 use Rattle.script_lines.specs.Lines.{ended_lines}
+use Rattle.session_lines.specs.Writing.{WroteLines, WroteSome}
+use Rattle.session_lines.proofs.WritingLaws.{lines_on, some_on}
 use Rattle.interview.specs.Telling.{LinesOutput}
 use Rattle.interview.proofs.PieceLaws.{behind_is, no_bytes, output_fed, output_none, quit_answers, some_fed, steps_on, steps_within}
 use Rattle.interview.proofs.piece.answer_piece.Goals as goal
@@ -26,8 +28,8 @@ loop-rest-preserved g c =
             on.there,
             on.means,
             on.begins,
-            subst (λ (l : List ℕ). LinesOutput m (g.K.Sink.output c.args.out.now).taken (g.K.Sink.output c.answer_ready.new.out).taken c.args.lines.now.so_far c.args.bytes.now on.there c.feed-fed.new.self.so_far l []) (sym left)
-                (output_fed so_far.0 c.loop-rest.lines.so_far c.loop-rest.rest.now c.feed-fed.new.self.so_far (drop c.feed-fed.result.taken c.loop-rest.rest.now) c.feed-fed.new.self.line c.line.result.now c.feed-fed.result.ready c.feed-fed.ensures.stream c.line.ensures.line m _ _ _ _ _ so_far.3 on.there [] on.left output.0),
+            subst (λ (l : List ℕ). LinesOutput m (WroteLines (g.K.Sink.output c.args.out.now) (g.K.Sink.output c.answer_ready.new.out)) c.args.lines.now.so_far c.args.bytes.now on.there c.feed-fed.new.self.so_far l) (sym left)
+                (output_fed so_far.0 c.loop-rest.lines.so_far c.loop-rest.rest.now c.feed-fed.new.self.so_far (drop c.feed-fed.result.taken c.loop-rest.rest.now) c.feed-fed.new.self.line c.line.result.now c.feed-fed.result.ready c.feed-fed.ensures.stream c.line.ensures.line m (g.K.Sink.output c.args.out.now) (g.K.Sink.output c.loop-rest.out) _ _ so_far.3 (WroteLines (g.K.Sink.output c.loop-rest.out) (g.K.Sink.output c.answer_ready.new.out)) _ (lines_on _ _ _) on.there on.left output.0),
             subst (λ (l : List ℕ). c.answer_ready.new.steps + on.there.steps g.T.LineHandler.most (ended_lines (c.feed-fed.new.self.so_far ++ l)) ≤ c.args.steps.now + m.steps g.T.LineHandler.most (ended_lines (c.args.lines.now.so_far ++ c.args.bytes.now))) (sym left)
                 (steps_on so_far.0 c.loop-rest.lines.so_far c.loop-rest.rest.now c.feed-fed.new.self.so_far (drop c.feed-fed.result.taken c.loop-rest.rest.now) c.feed-fed.new.self.line c.line.result.now c.feed-fed.result.ready c.feed-fed.ensures.stream c.line.ensures.line g.T.LineHandler.most _ _ _ so_far.4 (c.answer_ready.ensures.steps so_far.0 so_far.1) on.there on.left),
           );
@@ -45,7 +47,7 @@ returns-in-Over-clause-output g c = λ m begins means.
     let so_far = c.loop-rest.invariant.output m begins means in
     let output = c.in-Over.ensures.output so_far.0 so_far.1 in
     let quit = output.2 in (
-      some_fed so_far.0 c.loop-rest.lines.so_far c.loop-rest.rest.now c.feed-fed.new.self.so_far (drop c.feed-fed.result.taken c.loop-rest.rest.now) c.feed-fed.new.self.line c.line.result.now c.feed-fed.result.ready c.feed-fed.ensures.stream c.line.ensures.line m _ _ _ _ _ so_far.3 quit.0 [] quit.1 output.0,
+      some_fed so_far.0 c.loop-rest.lines.so_far c.loop-rest.rest.now c.feed-fed.new.self.so_far (drop c.feed-fed.result.taken c.loop-rest.rest.now) c.feed-fed.new.self.line c.line.result.now c.feed-fed.result.ready c.feed-fed.ensures.stream c.line.ensures.line m (g.K.Sink.output c.args.out.now) (g.K.Sink.output c.loop-rest.out) _ _ so_far.3 (WroteLines (g.K.Sink.output c.loop-rest.out) (g.K.Sink.output c.answer_ready.new.out)) _ (lines_on _ _ _) quit.0 quit.1 output.0,
       quit.2,
       quit_answers so_far.0 quit.0 _ _ quit.1 output.1,
     )
@@ -54,13 +56,9 @@ pub returns-in-Unwritten-clause-output : goal.returns-in-Unwritten-clause-output
 returns-in-Unwritten-clause-output g c = λ m begins means.
     let so_far = c.loop-rest.invariant.output m begins means in
     let output = c.in-Unwritten.ensures.output so_far.0 so_far.1 in
-    let on = output.2 in (
-      omega (arith, output.0, c.loop-rest.invariant.later),
-      (
-        output.1.0,
-        some_fed so_far.0 c.loop-rest.lines.so_far c.loop-rest.rest.now c.feed-fed.new.self.so_far (drop c.feed-fed.result.taken c.loop-rest.rest.now) c.feed-fed.new.self.line c.line.result.now c.feed-fed.result.ready c.feed-fed.ensures.stream c.line.ensures.line m _ _ _ _ _ so_far.3 on.there output.1.0 on.left output.1.1,
-        on.means,
-      ),
+    let on = output.1 in (
+      some_fed so_far.0 c.loop-rest.lines.so_far c.loop-rest.rest.now c.feed-fed.new.self.so_far (drop c.feed-fed.result.taken c.loop-rest.rest.now) c.feed-fed.new.self.line c.line.result.now c.feed-fed.result.ready c.feed-fed.ensures.stream c.line.ensures.line m (g.K.Sink.output c.args.out.now) (g.K.Sink.output c.loop-rest.out) _ _ so_far.3 (WroteSome (g.K.Sink.output c.loop-rest.out) (g.K.Sink.output c.answer_ready.new.out)) _ (some_on _ _ _) on.there on.left output.0,
+      on.means,
     )
 
 pub returns-in-OutOfMemory-clause-output : goal.returns-in-OutOfMemory-clause-output
@@ -84,7 +82,7 @@ returns-clause-output g c = λ m begins means.
         so_far.0,
         so_far.1,
         so_far.2,
-        subst (λ (l : List ℕ). LinesOutput m (g.K.Sink.output c.args.out.now).taken (g.K.Sink.output c.loop-rest.out).taken c.args.lines.now.so_far c.args.bytes.now so_far.0 c.loop-rest.lines.so_far l []) (no_bytes c.loop-rest.rest.now none) so_far.3,
+        subst (λ (l : List ℕ). LinesOutput m (WroteLines (g.K.Sink.output c.args.out.now) (g.K.Sink.output c.loop-rest.out)) c.args.lines.now.so_far c.args.bytes.now so_far.0 c.loop-rest.lines.so_far l) (no_bytes c.loop-rest.rest.now none) so_far.3,
       ),
       c.loop-rest.invariant.unended,
     )

@@ -1,4 +1,7 @@
-use Rattle.std.proofs.Common.{inl, inr, refl}
+use Rattle.std.proofs.Common.{◌++◌, codes, inl, inr, refl}
+use Rattle.interview.specs.FaultLines.{fault_name, fault_place}
+use Rattle.interview.specs.declared.status.Status.TheVariants.{DictionaryRefused}
+use Rattle.interview.proofs.LastLineLaws.{puts_line}
 use Rattle.text_checks.specs.Tables.{named_checks}
 use Rattle.graph_session.specs.Rules.{rules}
 use Rattle.interview.specs.Calls.{beside}
@@ -19,12 +22,17 @@ pub returns-in-Ok-Refused : goal.returns-in-Ok-Refused
 returns-in-Ok-Refused g c =
     let had = rw c.in-Ok-Refused.field-0-is at c.in-Ok-Refused.ensures.obtained in
     record {
-      ends = λ words asked. save_ends_refused _ (did_by (g.H.Shelf.files c.args.shelf.now) (g.H.Shelf.files c.obtain.new.shelf) (g.S.Source.input c.args.script.now) (g.S.Source.input c.args.script.now) (g.K.Sink.output c.args.out.now) (g.K.Sink.output c.end_by_fault.new.out)) _ asked had.0 had.1 _ had.2 (refl, refl) c.end_by_fault.result c.end_by_fault.ensures;
-      calls = λ words. inr (inl (rw c.in-Ok-Refused.field-0-is at c.in-Ok-Refused.ensures.by_calls), refl);
+      ends = λ words asked. save_ends_refused _ (did_by (g.H.Shelf.files c.args.shelf.now) (g.H.Shelf.files c.obtain.new.shelf) (g.S.Source.input c.args.script.now) (g.S.Source.input c.args.script.now) (g.K.Sink.output c.args.out.now) (g.K.Sink.output c.end_by_fault.new.out)) _ asked had.0 had.1 _ had.2 (refl, refl) c.end_by_fault.result c.end_by_fault.ensures.text;
+      calls = λ words.
+          inr (
+            inl (rw c.in-Ok-Refused.field-0-is at c.in-Ok-Refused.ensures.by_calls),
+            refl,
+            puts_line _ _ (codes "dictionary refused " ++ fault_name c.in-Ok-Refused.fault ++ fault_place c.in-Ok-Refused.fault) DictionaryRefused _ (λ e. cc) c.end_by_fault.ensures.puts,
+          );
     }
 
 pub returns-in-Err : goal.returns-in-Err
 returns-in-Err g c = record {
   ends = λ words asked. save_ends_unobtained _ (did_by (g.H.Shelf.files c.args.shelf.now) (g.H.Shelf.files c.obtain.new.shelf) (g.S.Source.input c.args.script.now) (g.S.Source.input c.args.script.now) (g.K.Sink.output c.args.out.now) (g.K.Sink.output c.args.out.now)) _ asked c.in-Err.status refl (refl, refl) c.in-Err.ensures.not_obtained;
-  calls = λ words. inr (in_vain (beside g.H.Shelf.fetched c.args.script.now c.args.out.now) (named_checks c.args.checks.now) _ c.in-Err.status c.args.shelf.now c.obtain.new.shelf c.in-Err.ensures.by_calls c.obtain.ensures.calls, refl);
+  calls = λ words. inr (in_vain (beside g.H.Shelf.fetched c.args.script.now c.args.out.now) (named_checks c.args.checks.now) _ c.in-Err.status c.args.shelf.now c.obtain.new.shelf c.in-Err.ensures.by_calls c.obtain.ensures.calls, refl, inl refl);
 }

@@ -1,5 +1,4 @@
 use Rattle.std.proofs.Common.{ap, inl, inr, refl}
-use Rattle.fg_io.proofs.SentLaws.{appends_none}
 use Rattle.graph_session.specs.SessionView.{SessionView}
 use Rattle.interview.proofs.SaveLaws.{nothing}
 use Rattle.interview.proofs.save_run.save_over.Goals as goal
@@ -16,5 +15,5 @@ returns g c = record { saves = nothing _ _ refl; calls = inl refl }
 pub returns-in-Ok : goal.returns-in-Ok
 returns-in-Ok g c = record {
   saves = rw (c.in-Ok.ensures.session, c.in-Ok.ensures.watches) at c.save_session-status.ensures.saves;
-  calls = inr (c.args.out.now, appends_none _, rw (c.in-Ok.ensures.session, c.in-Ok.ensures.watches) at c.save_session-status.ensures.calls);
+  calls = inr (rw (c.in-Ok.ensures.session, c.in-Ok.ensures.watches) at c.save_session-status.ensures.calls);
 }

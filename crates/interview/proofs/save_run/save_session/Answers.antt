@@ -19,53 +19,53 @@ returns-in-Done g c = record {
       (rw c.in-Done.is at c.run.ensures.ends (silently (of_session (rules c.args.silenced.now.handler.session.dict) (open_at (line_state_of c.args.silenced.now.handler.session (named_relations c.args.tables.now.relations.now) c.args.silenced.now.handler.watches)))) (silently_begins _ (session_begins (rules c.args.silenced.now.handler.session.dict) (line_state_of c.args.silenced.now.handler.session (named_relations c.args.tables.now.relations.now) c.args.silenced.now.handler.watches))) ((of_session (rules c.args.silenced.now.handler.session.dict) (open_at (line_state_of c.args.silenced.now.handler.session (named_relations c.args.tables.now.relations.now) c.args.silenced.now.handler.watches))), refl, refl))
       (rw c.in-Done.is at c.run.ensures.leaves (silently (of_session (rules c.args.silenced.now.handler.session.dict) (open_at (line_state_of c.args.silenced.now.handler.session (named_relations c.args.tables.now.relations.now) c.args.silenced.now.handler.watches)))) (silently_begins _ (session_begins (rules c.args.silenced.now.handler.session.dict) (line_state_of c.args.silenced.now.handler.session (named_relations c.args.tables.now.relations.now) c.args.silenced.now.handler.watches))) ((of_session (rules c.args.silenced.now.handler.session.dict) (open_at (line_state_of c.args.silenced.now.handler.session (named_relations c.args.tables.now.relations.now) c.args.silenced.now.handler.watches))), refl, refl))
       c.save_answers.result c.save_answers.ensures;
-  calls = talk_done g.S.Source.pulled g.K.Sink.output c.args.out.now c.args.script.now c.run.new.script (silently (of_session (rules c.args.silenced.now.handler.session.dict) (open_at (line_state_of c.args.silenced.now.handler.session (named_relations c.args.tables.now.relations.now) c.args.silenced.now.handler.watches)))) (rw c.in-Done.is at c.run.ensures.calls (silently (of_session (rules c.args.silenced.now.handler.session.dict) (open_at (line_state_of c.args.silenced.now.handler.session (named_relations c.args.tables.now.relations.now) c.args.silenced.now.handler.watches)))) (silently_begins _ (session_begins (rules c.args.silenced.now.handler.session.dict) (line_state_of c.args.silenced.now.handler.session (named_relations c.args.tables.now.relations.now) c.args.silenced.now.handler.watches))) ((of_session (rules c.args.silenced.now.handler.session.dict) (open_at (line_state_of c.args.silenced.now.handler.session (named_relations c.args.tables.now.relations.now) c.args.silenced.now.handler.watches))), refl, refl)) c.save_answers.result;
+  calls = talk_done g.S.Source.pulled g.K.Sink.output c.args.out.now c.args.out.now c.args.script.now c.run.new.script (silently (of_session (rules c.args.silenced.now.handler.session.dict) (open_at (line_state_of c.args.silenced.now.handler.session (named_relations c.args.tables.now.relations.now) c.args.silenced.now.handler.watches)))) (rw c.in-Done.is at c.run.ensures.calls (silently (of_session (rules c.args.silenced.now.handler.session.dict) (open_at (line_state_of c.args.silenced.now.handler.session (named_relations c.args.tables.now.relations.now) c.args.silenced.now.handler.watches)))) (silently_begins _ (session_begins (rules c.args.silenced.now.handler.session.dict) (line_state_of c.args.silenced.now.handler.session (named_relations c.args.tables.now.relations.now) c.args.silenced.now.handler.watches))) ((of_session (rules c.args.silenced.now.handler.session.dict) (open_at (line_state_of c.args.silenced.now.handler.session (named_relations c.args.tables.now.relations.now) c.args.silenced.now.handler.watches))), refl, refl)).talk c.save_answers.result;
 }
 
 pub returns-in-DictionaryRefused : goal.returns-in-DictionaryRefused
 returns-in-DictionaryRefused g c = record {
   saves = saves_nothing (rules c.args.silenced.now.handler.session.dict) (of_session (rules c.args.silenced.now.handler.session.dict) (open_at (line_state_of c.args.silenced.now.handler.session (named_relations c.args.tables.now.relations.now) c.args.silenced.now.handler.watches))) (g.S.Source.input c.args.script.now) (g.S.Source.input c.run.new.script) (g.K.Sink.output c.args.out.now) (g.K.Sink.output c.run.new.out) (ap g.K.Sink.output (c.run.ensures.quiet refl)) DictionaryRefused (λ e. cc) (rw c.in-DictionaryRefused.is at c.run.ensures.unfailing refl) (rw c.in-DictionaryRefused.is at c.run.ensures.ends (silently (of_session (rules c.args.silenced.now.handler.session.dict) (open_at (line_state_of c.args.silenced.now.handler.session (named_relations c.args.tables.now.relations.now) c.args.silenced.now.handler.watches)))) (silently_begins _ (session_begins (rules c.args.silenced.now.handler.session.dict) (line_state_of c.args.silenced.now.handler.session (named_relations c.args.tables.now.relations.now) c.args.silenced.now.handler.watches))) ((of_session (rules c.args.silenced.now.handler.session.dict) (open_at (line_state_of c.args.silenced.now.handler.session (named_relations c.args.tables.now.relations.now) c.args.silenced.now.handler.watches))), refl, refl));
-  calls = rw c.in-DictionaryRefused.is at c.run.ensures.calls (silently (of_session (rules c.args.silenced.now.handler.session.dict) (open_at (line_state_of c.args.silenced.now.handler.session (named_relations c.args.tables.now.relations.now) c.args.silenced.now.handler.watches)))) (silently_begins _ (session_begins (rules c.args.silenced.now.handler.session.dict) (line_state_of c.args.silenced.now.handler.session (named_relations c.args.tables.now.relations.now) c.args.silenced.now.handler.watches))) ((of_session (rules c.args.silenced.now.handler.session.dict) (open_at (line_state_of c.args.silenced.now.handler.session (named_relations c.args.tables.now.relations.now) c.args.silenced.now.handler.watches))), refl, refl);
+  calls = (rw c.in-DictionaryRefused.is at c.run.ensures.calls (silently (of_session (rules c.args.silenced.now.handler.session.dict) (open_at (line_state_of c.args.silenced.now.handler.session (named_relations c.args.tables.now.relations.now) c.args.silenced.now.handler.watches)))) (silently_begins _ (session_begins (rules c.args.silenced.now.handler.session.dict) (line_state_of c.args.silenced.now.handler.session (named_relations c.args.tables.now.relations.now) c.args.silenced.now.handler.watches))) ((of_session (rules c.args.silenced.now.handler.session.dict) (open_at (line_state_of c.args.silenced.now.handler.session (named_relations c.args.tables.now.relations.now) c.args.silenced.now.handler.watches))), refl, refl)).talk;
 }
 
 pub returns-in-Usage : goal.returns-in-Usage
 returns-in-Usage g c = record {
   saves = saves_nothing (rules c.args.silenced.now.handler.session.dict) (of_session (rules c.args.silenced.now.handler.session.dict) (open_at (line_state_of c.args.silenced.now.handler.session (named_relations c.args.tables.now.relations.now) c.args.silenced.now.handler.watches))) (g.S.Source.input c.args.script.now) (g.S.Source.input c.run.new.script) (g.K.Sink.output c.args.out.now) (g.K.Sink.output c.run.new.out) (ap g.K.Sink.output (c.run.ensures.quiet refl)) Usage (λ e. cc) (rw c.in-Usage.is at c.run.ensures.unfailing refl) (rw c.in-Usage.is at c.run.ensures.ends (silently (of_session (rules c.args.silenced.now.handler.session.dict) (open_at (line_state_of c.args.silenced.now.handler.session (named_relations c.args.tables.now.relations.now) c.args.silenced.now.handler.watches)))) (silently_begins _ (session_begins (rules c.args.silenced.now.handler.session.dict) (line_state_of c.args.silenced.now.handler.session (named_relations c.args.tables.now.relations.now) c.args.silenced.now.handler.watches))) ((of_session (rules c.args.silenced.now.handler.session.dict) (open_at (line_state_of c.args.silenced.now.handler.session (named_relations c.args.tables.now.relations.now) c.args.silenced.now.handler.watches))), refl, refl));
-  calls = rw c.in-Usage.is at c.run.ensures.calls (silently (of_session (rules c.args.silenced.now.handler.session.dict) (open_at (line_state_of c.args.silenced.now.handler.session (named_relations c.args.tables.now.relations.now) c.args.silenced.now.handler.watches)))) (silently_begins _ (session_begins (rules c.args.silenced.now.handler.session.dict) (line_state_of c.args.silenced.now.handler.session (named_relations c.args.tables.now.relations.now) c.args.silenced.now.handler.watches))) ((of_session (rules c.args.silenced.now.handler.session.dict) (open_at (line_state_of c.args.silenced.now.handler.session (named_relations c.args.tables.now.relations.now) c.args.silenced.now.handler.watches))), refl, refl);
+  calls = (rw c.in-Usage.is at c.run.ensures.calls (silently (of_session (rules c.args.silenced.now.handler.session.dict) (open_at (line_state_of c.args.silenced.now.handler.session (named_relations c.args.tables.now.relations.now) c.args.silenced.now.handler.watches)))) (silently_begins _ (session_begins (rules c.args.silenced.now.handler.session.dict) (line_state_of c.args.silenced.now.handler.session (named_relations c.args.tables.now.relations.now) c.args.silenced.now.handler.watches))) ((of_session (rules c.args.silenced.now.handler.session.dict) (open_at (line_state_of c.args.silenced.now.handler.session (named_relations c.args.tables.now.relations.now) c.args.silenced.now.handler.watches))), refl, refl)).talk;
 }
 
 pub returns-in-FetchFault : goal.returns-in-FetchFault
 returns-in-FetchFault g c = record {
   saves = saves_nothing (rules c.args.silenced.now.handler.session.dict) (of_session (rules c.args.silenced.now.handler.session.dict) (open_at (line_state_of c.args.silenced.now.handler.session (named_relations c.args.tables.now.relations.now) c.args.silenced.now.handler.watches))) (g.S.Source.input c.args.script.now) (g.S.Source.input c.run.new.script) (g.K.Sink.output c.args.out.now) (g.K.Sink.output c.run.new.out) (ap g.K.Sink.output (c.run.ensures.quiet refl)) FetchFault (λ e. cc) (rw c.in-FetchFault.is at c.run.ensures.unfailing refl) (rw c.in-FetchFault.is at c.run.ensures.ends (silently (of_session (rules c.args.silenced.now.handler.session.dict) (open_at (line_state_of c.args.silenced.now.handler.session (named_relations c.args.tables.now.relations.now) c.args.silenced.now.handler.watches)))) (silently_begins _ (session_begins (rules c.args.silenced.now.handler.session.dict) (line_state_of c.args.silenced.now.handler.session (named_relations c.args.tables.now.relations.now) c.args.silenced.now.handler.watches))) ((of_session (rules c.args.silenced.now.handler.session.dict) (open_at (line_state_of c.args.silenced.now.handler.session (named_relations c.args.tables.now.relations.now) c.args.silenced.now.handler.watches))), refl, refl));
-  calls = rw c.in-FetchFault.is at c.run.ensures.calls (silently (of_session (rules c.args.silenced.now.handler.session.dict) (open_at (line_state_of c.args.silenced.now.handler.session (named_relations c.args.tables.now.relations.now) c.args.silenced.now.handler.watches)))) (silently_begins _ (session_begins (rules c.args.silenced.now.handler.session.dict) (line_state_of c.args.silenced.now.handler.session (named_relations c.args.tables.now.relations.now) c.args.silenced.now.handler.watches))) ((of_session (rules c.args.silenced.now.handler.session.dict) (open_at (line_state_of c.args.silenced.now.handler.session (named_relations c.args.tables.now.relations.now) c.args.silenced.now.handler.watches))), refl, refl);
+  calls = (rw c.in-FetchFault.is at c.run.ensures.calls (silently (of_session (rules c.args.silenced.now.handler.session.dict) (open_at (line_state_of c.args.silenced.now.handler.session (named_relations c.args.tables.now.relations.now) c.args.silenced.now.handler.watches)))) (silently_begins _ (session_begins (rules c.args.silenced.now.handler.session.dict) (line_state_of c.args.silenced.now.handler.session (named_relations c.args.tables.now.relations.now) c.args.silenced.now.handler.watches))) ((of_session (rules c.args.silenced.now.handler.session.dict) (open_at (line_state_of c.args.silenced.now.handler.session (named_relations c.args.tables.now.relations.now) c.args.silenced.now.handler.watches))), refl, refl)).talk;
 }
 
 pub returns-in-ReadFault : goal.returns-in-ReadFault
 returns-in-ReadFault g c = record {
   saves = saves_nothing (rules c.args.silenced.now.handler.session.dict) (of_session (rules c.args.silenced.now.handler.session.dict) (open_at (line_state_of c.args.silenced.now.handler.session (named_relations c.args.tables.now.relations.now) c.args.silenced.now.handler.watches))) (g.S.Source.input c.args.script.now) (g.S.Source.input c.run.new.script) (g.K.Sink.output c.args.out.now) (g.K.Sink.output c.run.new.out) (ap g.K.Sink.output (c.run.ensures.quiet refl)) ReadFault (λ e. cc) (rw c.in-ReadFault.is at c.run.ensures.unfailing refl) (rw c.in-ReadFault.is at c.run.ensures.ends (silently (of_session (rules c.args.silenced.now.handler.session.dict) (open_at (line_state_of c.args.silenced.now.handler.session (named_relations c.args.tables.now.relations.now) c.args.silenced.now.handler.watches)))) (silently_begins _ (session_begins (rules c.args.silenced.now.handler.session.dict) (line_state_of c.args.silenced.now.handler.session (named_relations c.args.tables.now.relations.now) c.args.silenced.now.handler.watches))) ((of_session (rules c.args.silenced.now.handler.session.dict) (open_at (line_state_of c.args.silenced.now.handler.session (named_relations c.args.tables.now.relations.now) c.args.silenced.now.handler.watches))), refl, refl));
-  calls = rw c.in-ReadFault.is at c.run.ensures.calls (silently (of_session (rules c.args.silenced.now.handler.session.dict) (open_at (line_state_of c.args.silenced.now.handler.session (named_relations c.args.tables.now.relations.now) c.args.silenced.now.handler.watches)))) (silently_begins _ (session_begins (rules c.args.silenced.now.handler.session.dict) (line_state_of c.args.silenced.now.handler.session (named_relations c.args.tables.now.relations.now) c.args.silenced.now.handler.watches))) ((of_session (rules c.args.silenced.now.handler.session.dict) (open_at (line_state_of c.args.silenced.now.handler.session (named_relations c.args.tables.now.relations.now) c.args.silenced.now.handler.watches))), refl, refl);
+  calls = (rw c.in-ReadFault.is at c.run.ensures.calls (silently (of_session (rules c.args.silenced.now.handler.session.dict) (open_at (line_state_of c.args.silenced.now.handler.session (named_relations c.args.tables.now.relations.now) c.args.silenced.now.handler.watches)))) (silently_begins _ (session_begins (rules c.args.silenced.now.handler.session.dict) (line_state_of c.args.silenced.now.handler.session (named_relations c.args.tables.now.relations.now) c.args.silenced.now.handler.watches))) ((of_session (rules c.args.silenced.now.handler.session.dict) (open_at (line_state_of c.args.silenced.now.handler.session (named_relations c.args.tables.now.relations.now) c.args.silenced.now.handler.watches))), refl, refl)).talk;
 }
 
 pub returns-in-WriteFault : goal.returns-in-WriteFault
 returns-in-WriteFault g c = record {
   saves = saves_nothing (rules c.args.silenced.now.handler.session.dict) (of_session (rules c.args.silenced.now.handler.session.dict) (open_at (line_state_of c.args.silenced.now.handler.session (named_relations c.args.tables.now.relations.now) c.args.silenced.now.handler.watches))) (g.S.Source.input c.args.script.now) (g.S.Source.input c.run.new.script) (g.K.Sink.output c.args.out.now) (g.K.Sink.output c.run.new.out) (ap g.K.Sink.output (c.run.ensures.quiet refl)) WriteFault (λ e. cc) (rw c.in-WriteFault.is at c.run.ensures.unfailing refl) (rw c.in-WriteFault.is at c.run.ensures.ends (silently (of_session (rules c.args.silenced.now.handler.session.dict) (open_at (line_state_of c.args.silenced.now.handler.session (named_relations c.args.tables.now.relations.now) c.args.silenced.now.handler.watches)))) (silently_begins _ (session_begins (rules c.args.silenced.now.handler.session.dict) (line_state_of c.args.silenced.now.handler.session (named_relations c.args.tables.now.relations.now) c.args.silenced.now.handler.watches))) ((of_session (rules c.args.silenced.now.handler.session.dict) (open_at (line_state_of c.args.silenced.now.handler.session (named_relations c.args.tables.now.relations.now) c.args.silenced.now.handler.watches))), refl, refl));
-  calls = rw c.in-WriteFault.is at c.run.ensures.calls (silently (of_session (rules c.args.silenced.now.handler.session.dict) (open_at (line_state_of c.args.silenced.now.handler.session (named_relations c.args.tables.now.relations.now) c.args.silenced.now.handler.watches)))) (silently_begins _ (session_begins (rules c.args.silenced.now.handler.session.dict) (line_state_of c.args.silenced.now.handler.session (named_relations c.args.tables.now.relations.now) c.args.silenced.now.handler.watches))) ((of_session (rules c.args.silenced.now.handler.session.dict) (open_at (line_state_of c.args.silenced.now.handler.session (named_relations c.args.tables.now.relations.now) c.args.silenced.now.handler.watches))), refl, refl);
+  calls = (rw c.in-WriteFault.is at c.run.ensures.calls (silently (of_session (rules c.args.silenced.now.handler.session.dict) (open_at (line_state_of c.args.silenced.now.handler.session (named_relations c.args.tables.now.relations.now) c.args.silenced.now.handler.watches)))) (silently_begins _ (session_begins (rules c.args.silenced.now.handler.session.dict) (line_state_of c.args.silenced.now.handler.session (named_relations c.args.tables.now.relations.now) c.args.silenced.now.handler.watches))) ((of_session (rules c.args.silenced.now.handler.session.dict) (open_at (line_state_of c.args.silenced.now.handler.session (named_relations c.args.tables.now.relations.now) c.args.silenced.now.handler.watches))), refl, refl)).talk;
 }
 
 pub returns-in-ScriptTooLong : goal.returns-in-ScriptTooLong
 returns-in-ScriptTooLong g c = record {
   saves = saves_nothing (rules c.args.silenced.now.handler.session.dict) (of_session (rules c.args.silenced.now.handler.session.dict) (open_at (line_state_of c.args.silenced.now.handler.session (named_relations c.args.tables.now.relations.now) c.args.silenced.now.handler.watches))) (g.S.Source.input c.args.script.now) (g.S.Source.input c.run.new.script) (g.K.Sink.output c.args.out.now) (g.K.Sink.output c.run.new.out) (ap g.K.Sink.output (c.run.ensures.quiet refl)) ScriptTooLong (λ e. cc) (rw c.in-ScriptTooLong.is at c.run.ensures.unfailing refl) (rw c.in-ScriptTooLong.is at c.run.ensures.ends (silently (of_session (rules c.args.silenced.now.handler.session.dict) (open_at (line_state_of c.args.silenced.now.handler.session (named_relations c.args.tables.now.relations.now) c.args.silenced.now.handler.watches)))) (silently_begins _ (session_begins (rules c.args.silenced.now.handler.session.dict) (line_state_of c.args.silenced.now.handler.session (named_relations c.args.tables.now.relations.now) c.args.silenced.now.handler.watches))) ((of_session (rules c.args.silenced.now.handler.session.dict) (open_at (line_state_of c.args.silenced.now.handler.session (named_relations c.args.tables.now.relations.now) c.args.silenced.now.handler.watches))), refl, refl));
-  calls = rw c.in-ScriptTooLong.is at c.run.ensures.calls (silently (of_session (rules c.args.silenced.now.handler.session.dict) (open_at (line_state_of c.args.silenced.now.handler.session (named_relations c.args.tables.now.relations.now) c.args.silenced.now.handler.watches)))) (silently_begins _ (session_begins (rules c.args.silenced.now.handler.session.dict) (line_state_of c.args.silenced.now.handler.session (named_relations c.args.tables.now.relations.now) c.args.silenced.now.handler.watches))) ((of_session (rules c.args.silenced.now.handler.session.dict) (open_at (line_state_of c.args.silenced.now.handler.session (named_relations c.args.tables.now.relations.now) c.args.silenced.now.handler.watches))), refl, refl);
+  calls = (rw c.in-ScriptTooLong.is at c.run.ensures.calls (silently (of_session (rules c.args.silenced.now.handler.session.dict) (open_at (line_state_of c.args.silenced.now.handler.session (named_relations c.args.tables.now.relations.now) c.args.silenced.now.handler.watches)))) (silently_begins _ (session_begins (rules c.args.silenced.now.handler.session.dict) (line_state_of c.args.silenced.now.handler.session (named_relations c.args.tables.now.relations.now) c.args.silenced.now.handler.watches))) ((of_session (rules c.args.silenced.now.handler.session.dict) (open_at (line_state_of c.args.silenced.now.handler.session (named_relations c.args.tables.now.relations.now) c.args.silenced.now.handler.watches))), refl, refl)).talk;
 }
 
 pub returns-in-NoMemory : goal.returns-in-NoMemory
 returns-in-NoMemory g c = record {
   saves = saves_nothing (rules c.args.silenced.now.handler.session.dict) (of_session (rules c.args.silenced.now.handler.session.dict) (open_at (line_state_of c.args.silenced.now.handler.session (named_relations c.args.tables.now.relations.now) c.args.silenced.now.handler.watches))) (g.S.Source.input c.args.script.now) (g.S.Source.input c.run.new.script) (g.K.Sink.output c.args.out.now) (g.K.Sink.output c.run.new.out) (ap g.K.Sink.output (c.run.ensures.quiet refl)) NoMemory (λ e. cc) (rw c.in-NoMemory.is at c.run.ensures.unfailing refl) (rw c.in-NoMemory.is at c.run.ensures.ends (silently (of_session (rules c.args.silenced.now.handler.session.dict) (open_at (line_state_of c.args.silenced.now.handler.session (named_relations c.args.tables.now.relations.now) c.args.silenced.now.handler.watches)))) (silently_begins _ (session_begins (rules c.args.silenced.now.handler.session.dict) (line_state_of c.args.silenced.now.handler.session (named_relations c.args.tables.now.relations.now) c.args.silenced.now.handler.watches))) ((of_session (rules c.args.silenced.now.handler.session.dict) (open_at (line_state_of c.args.silenced.now.handler.session (named_relations c.args.tables.now.relations.now) c.args.silenced.now.handler.watches))), refl, refl));
-  calls = rw c.in-NoMemory.is at c.run.ensures.calls (silently (of_session (rules c.args.silenced.now.handler.session.dict) (open_at (line_state_of c.args.silenced.now.handler.session (named_relations c.args.tables.now.relations.now) c.args.silenced.now.handler.watches)))) (silently_begins _ (session_begins (rules c.args.silenced.now.handler.session.dict) (line_state_of c.args.silenced.now.handler.session (named_relations c.args.tables.now.relations.now) c.args.silenced.now.handler.watches))) ((of_session (rules c.args.silenced.now.handler.session.dict) (open_at (line_state_of c.args.silenced.now.handler.session (named_relations c.args.tables.now.relations.now) c.args.silenced.now.handler.watches))), refl, refl);
+  calls = (rw c.in-NoMemory.is at c.run.ensures.calls (silently (of_session (rules c.args.silenced.now.handler.session.dict) (open_at (line_state_of c.args.silenced.now.handler.session (named_relations c.args.tables.now.relations.now) c.args.silenced.now.handler.watches)))) (silently_begins _ (session_begins (rules c.args.silenced.now.handler.session.dict) (line_state_of c.args.silenced.now.handler.session (named_relations c.args.tables.now.relations.now) c.args.silenced.now.handler.watches))) ((of_session (rules c.args.silenced.now.handler.session.dict) (open_at (line_state_of c.args.silenced.now.handler.session (named_relations c.args.tables.now.relations.now) c.args.silenced.now.handler.watches))), refl, refl)).talk;
 }
 
 pub returns-in-SavedRefused : goal.returns-in-SavedRefused
 returns-in-SavedRefused g c = record {
   saves = saves_nothing (rules c.args.silenced.now.handler.session.dict) (of_session (rules c.args.silenced.now.handler.session.dict) (open_at (line_state_of c.args.silenced.now.handler.session (named_relations c.args.tables.now.relations.now) c.args.silenced.now.handler.watches))) (g.S.Source.input c.args.script.now) (g.S.Source.input c.run.new.script) (g.K.Sink.output c.args.out.now) (g.K.Sink.output c.run.new.out) (ap g.K.Sink.output (c.run.ensures.quiet refl)) SavedRefused (λ e. cc) (rw c.in-SavedRefused.is at c.run.ensures.unfailing refl) (rw c.in-SavedRefused.is at c.run.ensures.ends (silently (of_session (rules c.args.silenced.now.handler.session.dict) (open_at (line_state_of c.args.silenced.now.handler.session (named_relations c.args.tables.now.relations.now) c.args.silenced.now.handler.watches)))) (silently_begins _ (session_begins (rules c.args.silenced.now.handler.session.dict) (line_state_of c.args.silenced.now.handler.session (named_relations c.args.tables.now.relations.now) c.args.silenced.now.handler.watches))) ((of_session (rules c.args.silenced.now.handler.session.dict) (open_at (line_state_of c.args.silenced.now.handler.session (named_relations c.args.tables.now.relations.now) c.args.silenced.now.handler.watches))), refl, refl));
-  calls = rw c.in-SavedRefused.is at c.run.ensures.calls (silently (of_session (rules c.args.silenced.now.handler.session.dict) (open_at (line_state_of c.args.silenced.now.handler.session (named_relations c.args.tables.now.relations.now) c.args.silenced.now.handler.watches)))) (silently_begins _ (session_begins (rules c.args.silenced.now.handler.session.dict) (line_state_of c.args.silenced.now.handler.session (named_relations c.args.tables.now.relations.now) c.args.silenced.now.handler.watches))) ((of_session (rules c.args.silenced.now.handler.session.dict) (open_at (line_state_of c.args.silenced.now.handler.session (named_relations c.args.tables.now.relations.now) c.args.silenced.now.handler.watches))), refl, refl);
+  calls = (rw c.in-SavedRefused.is at c.run.ensures.calls (silently (of_session (rules c.args.silenced.now.handler.session.dict) (open_at (line_state_of c.args.silenced.now.handler.session (named_relations c.args.tables.now.relations.now) c.args.silenced.now.handler.watches)))) (silently_begins _ (session_begins (rules c.args.silenced.now.handler.session.dict) (line_state_of c.args.silenced.now.handler.session (named_relations c.args.tables.now.relations.now) c.args.silenced.now.handler.watches))) ((of_session (rules c.args.silenced.now.handler.session.dict) (open_at (line_state_of c.args.silenced.now.handler.session (named_relations c.args.tables.now.relations.now) c.args.silenced.now.handler.watches))), refl, refl)).talk;
 }

@@ -1,10 +1,10 @@
-use Rattle.std.proofs.Common.{◌≡◌, ℕ, ◌<◌, length, refl, ◌∙◌, arith}
-use Rattle.std.proofs.lemmas.List.{take-append-le, length-take}
+use Rattle.std.proofs.Common.{◌≡◌, ℕ, ◌<◌, ◌++◌, length, take, refl, ap, ◌∙◌, arith}
+use Rattle.std.proofs.lemmas.List.{append-nil, take-append-le, length-take}
 use Rattle.interview.specs.ScriptEnds.{script_did}
 use Rattle.interview.proofs.ScriptLaws.{none_so_far, more_so_far}
 use Rattle.interview.proofs.SoFarLaws.{talk_ends, talk_fails, talked_more, talked_none}
 use Rattle.interview.proofs.StepLaws.{steps_more, within_all, within_kept, within_piece, within_so_far}
-use Rattle.interview.proofs.EndLaws.{ends_at, ends_over, ends_unwritten, ends_out_of_memory, ends_unread, ends_too_long, leaves_at, leaves_over, quiet_at_end}
+use Rattle.interview.proofs.EndLaws.{ends_at, ends_over, ends_unwritten, ends_out_of_memory, ends_unread, ends_too_long, leaves_at, leaves_over, quiet_at_end, told_at_end, told_first, told_over, told_part, told_too_long, told_unread}
 use Rattle.interview.proofs.script.run.Goals as goal
 
 pub loop-taken-init : goal.loop-taken-init
@@ -36,7 +36,7 @@ loop-taken-preserved g c =
           (output.0.0, output.0.1, output.0.2, (more.0, rw more.1 steps, talked)),
       omega (arith, c.in-Ok.ensures.bound.0, length-take {A = ℕ}),
       omega (arith, c.loop-taken.invariant.2, c.answer_piece.ensures.later),
-      omega (arith, c.loop-taken.invariant.3, c.in-Ok.ensures.cause.later),
+      omega (arith, c.loop-taken.invariant.3, c.in-Ok.ensures.cause),
       c.answer_piece.ensures.same_rules ∙ c.loop-taken.invariant.4,
       omega (arith, c.loop-taken.invariant.5, c.answer_piece.ensures.few, length-take {A = ℕ}),
       (c.in-More.ensures.output before.0 before.2 before.1).1,
@@ -52,13 +52,15 @@ returns-in-Ok-eq0 g c =
     record {
       ends = λ m begins means.
           let so_far = c.loop-taken.invariant.0 m begins means in
-          ends_at m (script_did (g.S.Source.input c.args.script.now) (g.S.Source.input c.pull.new.self) (g.K.Sink.output c.args.out.now) (g.K.Sink.output c.finish.new.out)) (g.S.Source.input c.loop-taken.script) (g.K.Sink.output c.loop-taken.out) _ so_far.0 _ so_far.3.0 _ _ (omega arith) read end c.finish.result _ c.status_at_end.ensures c.loop-taken.invariant.2 (c.finish.ensures.output so_far.0 so_far.1);
+          ends_at m (script_did (g.S.Source.input c.args.script.now) (g.S.Source.input c.pull.new.self) (g.K.Sink.output c.args.out.now) (g.K.Sink.output c.finish.new.out)) (g.S.Source.input c.loop-taken.script) (g.K.Sink.output c.loop-taken.out) _ so_far.0 _ so_far.3.0 _ _ (omega arith) read end c.finish.result _ c.status_at_end.ensures (c.finish.ensures.output so_far.0 so_far.1);
       leaves = λ m begins means.
           let so_far = c.loop-taken.invariant.0 m begins means in
           leaves_at m (script_did (g.S.Source.input c.args.script.now) (g.S.Source.input c.pull.new.self) (g.K.Sink.output c.args.out.now) (g.K.Sink.output c.finish.new.out)) (g.S.Source.input c.loop-taken.script) (g.K.Sink.output c.loop-taken.out) _ so_far.0 _ so_far.3.0 _ _ (omega arith) read end c.finish.result _ c.status_at_end.ensures (c.finish.ensures.output so_far.0 so_far.1);
       calls = λ m begins means.
           let so_far = c.loop-taken.invariant.0 m begins means in
-          talk_ends g.S.Source.pulled g.K.Sink.output m c.args.out.now c.args.script.now _ _ c.loop-taken.out _ so_far.0 _ so_far.3.0 c.loop-taken.script so_far.3.2 (omega arith) _ c.pull.new.self _ c.in-Ok-eq0.ensures.call (omega (arith, length-take {A = ℕ})) _;
+          talk_ends g.S.Source.pulled g.K.Sink.output m c.args.out.now c.args.script.now _ _ c.loop-taken.out _ so_far.0 _ so_far.3.0 c.loop-taken.script so_far.3.2 (omega arith) _ c.pull.new.self _ c.in-Ok-eq0.ensures.call (omega (arith, length-take {A = ℕ})) _ c.finish.new.out
+          (told_at_end m (script_did (g.S.Source.input c.args.script.now) (g.S.Source.input c.pull.new.self) (g.K.Sink.output c.args.out.now) (g.K.Sink.output c.finish.new.out)) (g.S.Source.input c.loop-taken.script) (g.K.Sink.output c.loop-taken.out) _ so_far.0 _ so_far.3.0 _ _ (omega arith) c.finish.result _ c.status_at_end.ensures (c.finish.ensures.output so_far.0 so_far.1) _
+          (ap (λ (n : ℕ). so_far.3.0.bytes ++ take n c.pull.new.buf) zero ∙ append-nil so_far.3.0.bytes));
       quiet = λ q. c.finish.ensures.quiet q ∙ c.loop-taken.invariant.7 q;
       unfailing = λ q.
           let begun = c.requires.meant in
@@ -84,7 +86,9 @@ returns-in-Over g c =
           leaves_over m (script_did (g.S.Source.input c.args.script.now) (g.S.Source.input c.pull.new.self) (g.K.Sink.output c.args.out.now) (g.K.Sink.output c.answer_piece.new.out)) (g.S.Source.input c.loop-taken.script) (g.K.Sink.output c.loop-taken.out) _ so_far.0 _ so_far.3.0 _ _ c.in-Ok.count c.in-Ok.ensures.bytes.0 c.in-Ok.ensures.bound.1 same (omega (arith, c.in-Ok.ensures.bound.0, length-take {A = ℕ})) output.0 output.1 _ output.2;
       calls = λ m begins means.
           let so_far = c.loop-taken.invariant.0 m begins means in
-          talk_ends g.S.Source.pulled g.K.Sink.output m c.args.out.now c.args.script.now _ _ c.loop-taken.out _ so_far.0 _ so_far.3.0 c.loop-taken.script so_far.3.2 (omega (arith, c.in-Ok.ensures.bound.0, length-take {A = ℕ})) _ c.pull.new.self _ c.in-Ok.ensures.call (omega (arith, length-take {A = ℕ})) _;
+          let output = c.in-Over.ensures.output so_far.0 so_far.2 so_far.1 in
+          talk_ends g.S.Source.pulled g.K.Sink.output m c.args.out.now c.args.script.now _ _ c.loop-taken.out _ so_far.0 _ so_far.3.0 c.loop-taken.script so_far.3.2 (omega (arith, c.in-Ok.ensures.bound.0, length-take {A = ℕ})) _ c.pull.new.self _ c.in-Ok.ensures.call (omega (arith, length-take {A = ℕ})) _ c.answer_piece.new.out
+          (told_over m (script_did (g.S.Source.input c.args.script.now) (g.S.Source.input c.pull.new.self) (g.K.Sink.output c.args.out.now) (g.K.Sink.output c.answer_piece.new.out)) (g.S.Source.input c.loop-taken.script) (g.K.Sink.output c.loop-taken.out) _ so_far.0 _ so_far.3.0 _ _ c.in-Ok.count c.in-Ok.ensures.bytes.0 c.in-Ok.ensures.bound.1 same (omega (arith, c.in-Ok.ensures.bound.0, length-take {A = ℕ})) output.0 output.1);
       quiet = λ q. c.answer_piece.ensures.quiet q ∙ c.loop-taken.invariant.7 q;
       unfailing = λ q e. cc;
       same_rules = c.answer_piece.ensures.same_rules ∙ c.loop-taken.invariant.4;
@@ -100,11 +104,13 @@ returns-in-Unwritten g c =
       ends = λ m begins means.
           let so_far = c.loop-taken.invariant.0 m begins means in
           let output = c.in-Unwritten.ensures.output so_far.0 so_far.2 so_far.1 in
-          ends_unwritten m (script_did (g.S.Source.input c.args.script.now) (g.S.Source.input c.pull.new.self) (g.K.Sink.output c.args.out.now) (g.K.Sink.output c.answer_piece.new.out)) (g.S.Source.input c.loop-taken.script) (g.K.Sink.output c.loop-taken.out) _ so_far.0 _ so_far.3.0 _ _ c.in-Ok.count c.in-Ok.ensures.bytes.0 c.in-Ok.ensures.bound.1 same (omega (arith, c.in-Ok.ensures.bound.0, length-take {A = ℕ})) _ c.loop-taken.invariant.2 output.0 output.1.1;
+          ends_unwritten m (script_did (g.S.Source.input c.args.script.now) (g.S.Source.input c.pull.new.self) (g.K.Sink.output c.args.out.now) (g.K.Sink.output c.answer_piece.new.out)) (g.S.Source.input c.loop-taken.script) (g.K.Sink.output c.loop-taken.out) _ so_far.0 _ so_far.3.0 _ _ c.in-Ok.count c.in-Ok.ensures.bytes.0 c.in-Ok.ensures.bound.1 same (omega (arith, c.in-Ok.ensures.bound.0, length-take {A = ℕ})) output.0;
       leaves = λ m begins means. tt;
       calls = λ m begins means.
           let so_far = c.loop-taken.invariant.0 m begins means in
-          talk_ends g.S.Source.pulled g.K.Sink.output m c.args.out.now c.args.script.now _ _ c.loop-taken.out _ so_far.0 _ so_far.3.0 c.loop-taken.script so_far.3.2 (omega (arith, c.in-Ok.ensures.bound.0, length-take {A = ℕ})) _ c.pull.new.self _ c.in-Ok.ensures.call (omega (arith, length-take {A = ℕ})) _;
+          let output = c.in-Unwritten.ensures.output so_far.0 so_far.2 so_far.1 in
+          talk_ends g.S.Source.pulled g.K.Sink.output m c.args.out.now c.args.script.now _ _ c.loop-taken.out _ so_far.0 _ so_far.3.0 c.loop-taken.script so_far.3.2 (omega (arith, c.in-Ok.ensures.bound.0, length-take {A = ℕ})) _ c.pull.new.self _ c.in-Ok.ensures.call (omega (arith, length-take {A = ℕ})) _ c.answer_piece.new.out
+          (told_part m (script_did (g.S.Source.input c.args.script.now) (g.S.Source.input c.pull.new.self) (g.K.Sink.output c.args.out.now) (g.K.Sink.output c.answer_piece.new.out)) (g.S.Source.input c.loop-taken.script) (g.K.Sink.output c.loop-taken.out) _ so_far.0 _ so_far.3.0 _ _ c.in-Ok.count c.in-Ok.ensures.bytes.0 c.in-Ok.ensures.bound.1 same (omega (arith, c.in-Ok.ensures.bound.0, length-take {A = ℕ})) output.0);
       quiet = λ q. c.answer_piece.ensures.quiet q ∙ c.loop-taken.invariant.7 q;
       unfailing = λ q e.
           let begun = c.requires.meant in
@@ -127,7 +133,9 @@ returns-in-OutOfMemory g c =
       leaves = λ m begins means. tt;
       calls = λ m begins means.
           let so_far = c.loop-taken.invariant.0 m begins means in
-          talk_ends g.S.Source.pulled g.K.Sink.output m c.args.out.now c.args.script.now _ _ c.loop-taken.out _ so_far.0 _ so_far.3.0 c.loop-taken.script so_far.3.2 (omega (arith, c.in-Ok.ensures.bound.0, length-take {A = ℕ})) _ c.pull.new.self _ c.in-Ok.ensures.call (omega (arith, length-take {A = ℕ})) _;
+          let output = c.in-OutOfMemory.ensures.output so_far.0 so_far.2 so_far.1 in
+          talk_ends g.S.Source.pulled g.K.Sink.output m c.args.out.now c.args.script.now _ _ c.loop-taken.out _ so_far.0 _ so_far.3.0 c.loop-taken.script so_far.3.2 (omega (arith, c.in-Ok.ensures.bound.0, length-take {A = ℕ})) _ c.pull.new.self _ c.in-Ok.ensures.call (omega (arith, length-take {A = ℕ})) _ c.answer_piece.new.out
+          (told_first m (script_did (g.S.Source.input c.args.script.now) (g.S.Source.input c.pull.new.self) (g.K.Sink.output c.args.out.now) (g.K.Sink.output c.answer_piece.new.out)) (g.S.Source.input c.loop-taken.script) (g.K.Sink.output c.loop-taken.out) _ so_far.0 _ so_far.3.0 _ _ c.in-Ok.count c.in-Ok.ensures.bytes.0 c.in-Ok.ensures.bound.1 same (omega (arith, c.in-Ok.ensures.bound.0, length-take {A = ℕ})) output.0);
       quiet = λ q. c.answer_piece.ensures.quiet q ∙ c.loop-taken.invariant.7 q;
       unfailing = λ q e. cc;
       same_rules = c.answer_piece.ensures.same_rules ∙ c.loop-taken.invariant.4;
@@ -141,11 +149,12 @@ returns-in-Err g c =
     record {
       ends = λ m begins means.
           let so_far = c.loop-taken.invariant.0 m begins means in
-          ends_unread m (script_did (g.S.Source.input c.args.script.now) (g.S.Source.input c.pull.new.self) (g.K.Sink.output c.args.out.now) (g.K.Sink.output c.loop-taken.out)) (g.S.Source.input c.loop-taken.script) (g.K.Sink.output c.loop-taken.out) _ so_far.0 _ so_far.3.0 c.loop-taken.invariant.1 refl c.in-Err.ensures.bytes (omega (arith, c.loop-taken.invariant.3, c.in-Err.ensures.cause.failed));
+          ends_unread m (script_did (g.S.Source.input c.args.script.now) (g.S.Source.input c.pull.new.self) (g.K.Sink.output c.args.out.now) (g.K.Sink.output c.loop-taken.out)) (g.S.Source.input c.loop-taken.script) (g.K.Sink.output c.loop-taken.out) _ so_far.0 _ so_far.3.0 c.loop-taken.invariant.1 refl c.in-Err.ensures.bytes (omega (arith, c.loop-taken.invariant.3, c.in-Err.ensures.cause.0));
       leaves = λ m begins means. tt;
       calls = λ m begins means.
           let so_far = c.loop-taken.invariant.0 m begins means in
-          talk_fails g.S.Source.pulled g.K.Sink.output m c.args.out.now c.args.script.now _ _ c.loop-taken.out _ so_far.0 _ so_far.3.0 c.loop-taken.script so_far.3.2 c.loop-taken.invariant.1 _ c.pull.new.self c.in-Err.ensures.call (omega (arith, length-take {A = ℕ}));
+          talk_fails g.S.Source.pulled g.K.Sink.output m c.args.out.now c.args.script.now _ _ c.loop-taken.out _ so_far.0 _ so_far.3.0 c.loop-taken.script so_far.3.2 c.loop-taken.invariant.1 _ c.pull.new.self c.in-Err.ensures.call (omega (arith, length-take {A = ℕ}))
+          (told_unread m (script_did (g.S.Source.input c.args.script.now) (g.S.Source.input c.pull.new.self) (g.K.Sink.output c.args.out.now) (g.K.Sink.output c.loop-taken.out)) (g.S.Source.input c.loop-taken.script) (g.K.Sink.output c.loop-taken.out) _ so_far.0 _ so_far.3.0);
       quiet = λ q. c.loop-taken.invariant.7 q;
       unfailing = λ q e. cc;
       same_rules = c.loop-taken.invariant.4;
@@ -163,13 +172,15 @@ returns-in-Ok-eq0-pull g c =
     record {
       ends = λ m begins means.
           let so_far = c.loop-taken.invariant.0 m begins means in
-          ends_at m (script_did (g.S.Source.input c.args.script.now) (g.S.Source.input c.pull-2.new.self) (g.K.Sink.output c.args.out.now) (g.K.Sink.output c.finish-in-Ok-eq0-pull.new.out)) (g.S.Source.input c.loop-taken.script) (g.K.Sink.output c.loop-taken.out) _ so_far.0 _ so_far.3.0 _ _ c.loop-taken.invariant.1 read end c.finish-in-Ok-eq0-pull.result _ c.status_at_end-in-Ok-eq0-pull.ensures c.loop-taken.invariant.2 (c.finish-in-Ok-eq0-pull.ensures.output so_far.0 so_far.1);
+          ends_at m (script_did (g.S.Source.input c.args.script.now) (g.S.Source.input c.pull-2.new.self) (g.K.Sink.output c.args.out.now) (g.K.Sink.output c.finish-in-Ok-eq0-pull.new.out)) (g.S.Source.input c.loop-taken.script) (g.K.Sink.output c.loop-taken.out) _ so_far.0 _ so_far.3.0 _ _ c.loop-taken.invariant.1 read end c.finish-in-Ok-eq0-pull.result _ c.status_at_end-in-Ok-eq0-pull.ensures (c.finish-in-Ok-eq0-pull.ensures.output so_far.0 so_far.1);
       leaves = λ m begins means.
           let so_far = c.loop-taken.invariant.0 m begins means in
           leaves_at m (script_did (g.S.Source.input c.args.script.now) (g.S.Source.input c.pull-2.new.self) (g.K.Sink.output c.args.out.now) (g.K.Sink.output c.finish-in-Ok-eq0-pull.new.out)) (g.S.Source.input c.loop-taken.script) (g.K.Sink.output c.loop-taken.out) _ so_far.0 _ so_far.3.0 _ _ c.loop-taken.invariant.1 read end c.finish-in-Ok-eq0-pull.result _ c.status_at_end-in-Ok-eq0-pull.ensures (c.finish-in-Ok-eq0-pull.ensures.output so_far.0 so_far.1);
       calls = λ m begins means.
           let so_far = c.loop-taken.invariant.0 m begins means in
-          talk_ends g.S.Source.pulled g.K.Sink.output m c.args.out.now c.args.script.now _ _ c.loop-taken.out _ so_far.0 _ so_far.3.0 c.loop-taken.script so_far.3.2 c.loop-taken.invariant.1 _ c.pull-2.new.self _ c.in-Ok-eq0-pull.ensures.call (omega (arith, length-take {A = ℕ})) _;
+          talk_ends g.S.Source.pulled g.K.Sink.output m c.args.out.now c.args.script.now _ _ c.loop-taken.out _ so_far.0 _ so_far.3.0 c.loop-taken.script so_far.3.2 c.loop-taken.invariant.1 _ c.pull-2.new.self _ c.in-Ok-eq0-pull.ensures.call (omega (arith, length-take {A = ℕ})) _ c.finish-in-Ok-eq0-pull.new.out
+          (told_at_end m (script_did (g.S.Source.input c.args.script.now) (g.S.Source.input c.pull-2.new.self) (g.K.Sink.output c.args.out.now) (g.K.Sink.output c.finish-in-Ok-eq0-pull.new.out)) (g.S.Source.input c.loop-taken.script) (g.K.Sink.output c.loop-taken.out) _ so_far.0 _ so_far.3.0 _ _ c.loop-taken.invariant.1 c.finish-in-Ok-eq0-pull.result _ c.status_at_end-in-Ok-eq0-pull.ensures (c.finish-in-Ok-eq0-pull.ensures.output so_far.0 so_far.1) _
+          (ap (λ (n : ℕ). so_far.3.0.bytes ++ take n c.pull-2.new.buf) zero ∙ append-nil so_far.3.0.bytes));
       quiet = λ q. c.finish-in-Ok-eq0-pull.ensures.quiet q ∙ c.loop-taken.invariant.7 q;
       unfailing = λ q.
           let begun = c.requires.meant in
@@ -190,7 +201,8 @@ returns-in-Ok-pull g c =
       leaves = λ m begins means. tt;
       calls = λ m begins means.
           let so_far = c.loop-taken.invariant.0 m begins means in
-          talk_ends g.S.Source.pulled g.K.Sink.output m c.args.out.now c.args.script.now _ _ c.loop-taken.out _ so_far.0 _ so_far.3.0 c.loop-taken.script so_far.3.2 c.loop-taken.invariant.1 _ c.pull-2.new.self _ c.in-Ok-pull.ensures.call (omega (arith, length-take {A = ℕ})) _;
+          talk_ends g.S.Source.pulled g.K.Sink.output m c.args.out.now c.args.script.now _ _ c.loop-taken.out _ so_far.0 _ so_far.3.0 c.loop-taken.script so_far.3.2 c.loop-taken.invariant.1 _ c.pull-2.new.self _ c.in-Ok-pull.ensures.call (omega (arith, length-take {A = ℕ})) _ c.loop-taken.out
+          (told_too_long m (script_did (g.S.Source.input c.args.script.now) (g.S.Source.input c.pull-2.new.self) (g.K.Sink.output c.args.out.now) (g.K.Sink.output c.loop-taken.out)) (g.S.Source.input c.loop-taken.script) (g.K.Sink.output c.loop-taken.out) _ so_far.0 _ so_far.3.0 _ (omega arith) (omega (arith, c.in-Ok-pull.ensures.bound.1)));
       quiet = λ q. c.loop-taken.invariant.7 q;
       unfailing = λ q e. cc;
       same_rules = c.loop-taken.invariant.4;
@@ -204,11 +216,12 @@ returns-in-Err-pull g c =
     record {
       ends = λ m begins means.
           let so_far = c.loop-taken.invariant.0 m begins means in
-          ends_unread m (script_did (g.S.Source.input c.args.script.now) (g.S.Source.input c.pull-2.new.self) (g.K.Sink.output c.args.out.now) (g.K.Sink.output c.loop-taken.out)) (g.S.Source.input c.loop-taken.script) (g.K.Sink.output c.loop-taken.out) _ so_far.0 _ so_far.3.0 c.loop-taken.invariant.1 refl c.in-Err-pull.ensures.bytes (omega (arith, c.loop-taken.invariant.3, c.in-Err-pull.ensures.cause.failed));
+          ends_unread m (script_did (g.S.Source.input c.args.script.now) (g.S.Source.input c.pull-2.new.self) (g.K.Sink.output c.args.out.now) (g.K.Sink.output c.loop-taken.out)) (g.S.Source.input c.loop-taken.script) (g.K.Sink.output c.loop-taken.out) _ so_far.0 _ so_far.3.0 c.loop-taken.invariant.1 refl c.in-Err-pull.ensures.bytes (omega (arith, c.loop-taken.invariant.3, c.in-Err-pull.ensures.cause.0));
       leaves = λ m begins means. tt;
       calls = λ m begins means.
           let so_far = c.loop-taken.invariant.0 m begins means in
-          talk_fails g.S.Source.pulled g.K.Sink.output m c.args.out.now c.args.script.now _ _ c.loop-taken.out _ so_far.0 _ so_far.3.0 c.loop-taken.script so_far.3.2 c.loop-taken.invariant.1 _ c.pull-2.new.self c.in-Err-pull.ensures.call (omega (arith, length-take {A = ℕ}));
+          talk_fails g.S.Source.pulled g.K.Sink.output m c.args.out.now c.args.script.now _ _ c.loop-taken.out _ so_far.0 _ so_far.3.0 c.loop-taken.script so_far.3.2 c.loop-taken.invariant.1 _ c.pull-2.new.self c.in-Err-pull.ensures.call (omega (arith, length-take {A = ℕ}))
+          (told_unread m (script_did (g.S.Source.input c.args.script.now) (g.S.Source.input c.pull-2.new.self) (g.K.Sink.output c.args.out.now) (g.K.Sink.output c.loop-taken.out)) (g.S.Source.input c.loop-taken.script) (g.K.Sink.output c.loop-taken.out) _ so_far.0 _ so_far.3.0);
       quiet = λ q. c.loop-taken.invariant.7 q;
       unfailing = λ q e. cc;
       same_rules = c.loop-taken.invariant.4;

@@ -9,7 +9,7 @@ abbrev pub invariant-loop-taken : goal.invariant-loop-taken
 invariant-loop-taken g l =
     ((m : Meaning) → IsBeginning m → g.T.LineHandler.means l.fn.handler (named_relations l.tables.relations.now) m
     → (there : Meaning) × g.T.LineHandler.means l.handler (named_relations l.tables.relations.now) there × IsBeginning there
-    × ((so_far : AnsweredSoFar m (g.S.Source.input l.fn.script).left (g.S.Source.input l.script).left (g.K.Sink.output l.fn.out).taken (g.K.Sink.output l.out).taken l.taken there l.lines.so_far)
+    × ((so_far : AnsweredSoFar m (g.S.Source.input l.fn.script).left (g.S.Source.input l.script).left (g.K.Sink.output l.fn.out) (g.K.Sink.output l.out) l.taken there l.lines.so_far)
     × (l.steps ≤ l.fn.steps + m.steps g.T.LineHandler.most (ended_lines so_far.bytes))
     × TalkedSoFar g.S.Source.pulled g.K.Sink.output m l.fn.out l.fn.script so_far.bytes l.script))
     × (l.taken ≤ 67108864) × ((g.K.Sink.output l.fn.out).faults ≤ (g.K.Sink.output l.out).faults) × ((g.S.Source.input l.fn.script).faults ≤ (g.S.Source.input l.script).faults)

@@ -29,4 +29,4 @@ returns-in-Ok g c =
     }
 
 pub returns : goal.returns
-returns g c = record { ends = λ front gives. ends_without _ front _ refl (refl, refl); calls = λ front gives. inl refl }
+returns g c = record { ends = λ front gives. ends_without _ front _ refl (refl, refl); calls = λ front gives. inl (refl, inl refl) }

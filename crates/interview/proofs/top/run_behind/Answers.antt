@@ -13,14 +13,14 @@ pub returns-in-Ok : goal.returns-in-Ok
 returns-in-Ok g c = record {
   ends = λ front gives m begins means.
       let put = c.in-Ok.ensures front gives in
-      ends_behind m front _ (g.K.Sink.output c.put_front.new.out).taken (g.K.Sink.output c.put_front.new.out).faults c.run.result put.0 put.1 (c.run.ensures.ends m begins means);
+      ends_behind m front _ (g.K.Sink.output c.put_front.new.out) c.run.result put.sent put.later (c.run.ensures.ends m begins means);
   calls = λ front gives m begins means.
       let put = c.in-Ok.ensures front gives in
-      inr (c.put_front.new.out, sent_whole _ _ front put.0, c.run.ensures.calls m begins means);
+      inr (c.put_front.new.out, sent_whole _ _ front put.sent, c.run.ensures.calls m begins means);
 }
 
 pub returns : goal.returns
 returns g c = record {
   ends = λ front gives m begins means. ends_before m front _ (c.in-Err.ensures front gives) (refl, refl);
-  calls = λ front gives m begins means. inl refl;
+  calls = λ front gives m begins means. inl (refl, inr refl);
 }

@@ -1,4 +1,7 @@
-use Rattle.std.proofs.Common.{inl, inr, refl}
+use Rattle.std.proofs.Common.{codes, inl, inr, refl}
+use Rattle.session_lines.specs.Replies.{numbered}
+use Rattle.interview.specs.declared.status.Status.TheVariants.{SavedRefused}
+use Rattle.interview.proofs.LastLineLaws.{puts_line}
 use Rattle.interview.proofs.CallLaws.{talks_from}
 use Rattle.interview.proofs.StartLaws.{begins_and_ends}
 use Rattle.interview.proofs.top.run_from.Goals as goal
@@ -15,13 +18,13 @@ returns-in-Ok-Begins g c =
     record {
       ends = begins_and_ends _ _ _ c.args.mode _ _ c.in-Ok-Begins.ready c.run_by.result had c.run_by.ensures.ends;
       fetches = c.resume.ensures.calls;
-      pulls = talks_from g.S.Source.pulled g.K.Sink.output c.args.out.now c.args.script.now c.run_by.new.script _ _ _ c.args.mode _ c.run_by.result c.in-Ok-Begins.ready had c.run_by.ensures.calls;
+      pulls = talks_from g.S.Source.pulled g.K.Sink.output c.args.out.now c.run_by.new.out c.args.script.now c.run_by.new.script _ _ _ c.args.mode _ c.run_by.result c.in-Ok-Begins.ready had c.run_by.ensures.calls;
     }
 
 pub returns-in-Ok-Refused : goal.returns-in-Ok-Refused
 returns-in-Ok-Refused g c =
     let had = rw c.in-Ok-Refused.field-0-is at c.in-Ok-Refused.ensures.resumed in
-    record { ends = inr (inl (had.0, had.1, (c.in-Ok-Refused.line, had.2, c.end_by_refused_line.ensures, (refl, refl)))); fetches = c.resume.ensures.calls; pulls = inl refl }
+    record { ends = inr (inl (had.0, had.1, (c.in-Ok-Refused.line, had.2, c.end_by_refused_line.ensures.text, (refl, refl)))); fetches = c.resume.ensures.calls; pulls = inl (refl, inl (puts_line _ _ (numbered (codes "saved refused line ") c.in-Ok-Refused.line) SavedRefused _ (λ e. cc) c.end_by_refused_line.ensures.puts)) }
 
 pub returns-in-Err : goal.returns-in-Err
-returns-in-Err g c = record { ends = inr (inr (c.in-Err.ensures.not_resumed, refl, (refl, refl))); fetches = c.resume.ensures.calls; pulls = inl refl }
+returns-in-Err g c = record { ends = inr (inr (c.in-Err.ensures.not_resumed, refl, (refl, refl))); fetches = c.resume.ensures.calls; pulls = inl (refl, inl (inl refl)) }

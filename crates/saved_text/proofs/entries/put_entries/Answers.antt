@@ -21,6 +21,6 @@ loop-slot-preserved g c =
     record {
       sent = sent_piece _ _ _ (joined (entries c.args.side d a)) (joined (f c.in-Some.slot)) (joined (flat_map f rest))
           (next_piece f _ _ _ c.in-Some.slot (slots_left d a c.loop-slot.cursor) rest c.in-Some.ensures c.loop-slot.invariant.sent)
-          c.in-Ok.ensures.0;
-      later = omega (arith, c.loop-slot.invariant.later, c.in-Ok.ensures.1);
+          c.in-Ok.ensures.sent;
+      later = omega (arith, c.loop-slot.invariant.later, c.in-Ok.ensures.later);
     }

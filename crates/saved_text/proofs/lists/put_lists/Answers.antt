@@ -28,6 +28,6 @@ loop-done-preserved g c =
     record {
       sent = sent_piece _ _ _ (joined (lists d a)) (joined (f (done + 1))) (joined (flat_map f rest))
           (next_piece f _ _ _ (done + 1) (counted (suc done) (count - done)) rest (counted_more done count c.loop-done-test.true ∙ ap (λ (n : ℕ). n ∷ counted (suc n) (count - n)) one) c.loop-done.invariant.sent)
-          c.in-Ok.ensures.0;
-      later = omega (arith, c.loop-done.invariant.later, c.in-Ok.ensures.1);
+          c.in-Ok.ensures.sent;
+      later = omega (arith, c.loop-done.invariant.later, c.in-Ok.ensures.later);
     }

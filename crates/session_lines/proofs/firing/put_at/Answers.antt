@@ -3,7 +3,7 @@ use Rattle.dictionary.specs.Kept.{accepted}
 use Rattle.dict_meaning.specs.Plain.{plain}
 use Rattle.fact_watch.specs.Tables.{named_relations}
 use Rattle.fact_watch.specs.Watching.{code_at, pair_says}
-use Rattle.fg_io.specs.Writing.{Wrote}
+use Rattle.session_lines.specs.Writing.{WroteAs}
 use Rattle.session_lines.proofs.FiringLaws.{line_said, said_stands}
 use Rattle.session_lines.proofs.PrintLaws.{stands_with}
 use Rattle.session_lines.proofs.firing.put_at.Goals as goal
@@ -22,5 +22,5 @@ returns-in-Some g c = λ before noted.
     let d = accepted c.args.session.now.dict in
     let now = plain d c.args.session.now.timeline.now in
     let says = sym (c.fires.ensures before noted) ∙ c.if-not-fires.false in
-    subst (λ (t : List ℕ). Wrote (g.K.Sink.output c.args.out.now) (g.K.Sink.output c.put_line.new.out) t c.put_line.result)
+    subst (λ (t : List (List ℕ)). WroteAs (g.K.Sink.output c.args.out.now) (g.K.Sink.output c.put_line.new.out) t c.put_line.result)
     (sym (line_said d.tree (named_relations c.args.table.now) before now (slice_get c.args.watches.now.pairs c.args.n) c.in-Some.pair (sym c.in-Some.ensures) says)) c.put_line.ensures

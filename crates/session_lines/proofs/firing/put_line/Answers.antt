@@ -1,5 +1,4 @@
-use Rattle.std.proofs.Common.{length, sym, ap, subst, arith}
-use Rattle.std.proofs.Common.{length-append}
+use Rattle.std.proofs.Common.{length, sym, ap, subst, arith, length-append}
 use Rattle.dictionary.specs.Kept.{Kept, accepted, names_of}
 use Rattle.dict_meaning.specs.SlotText.{IsSlot, slot_text}
 use Rattle.dict_meaning.proofs.SlotTextLaws.{slot_short, standing_slot}
@@ -10,8 +9,8 @@ print_slot-requires-clause-slot g c =
     let slot_is = standing_slot (accepted c.args.session.now.dict).tree c.args.session.now.timeline.now c.answers-fit.ensures.fit.well c.answers-fit.ensures.fit.from_one c.args.slot c.requires in
     subst (λ (k : Kept). IsSlot (accepted k).tree c.args.slot) (sym c.dict-dict.ensures) slot_is
 
-pub push-requires-3 : goal.push-requires-3
-push-requires-3 g c =
+pub put_printed-requires : goal.put_printed-requires
+put_printed-requires g c =
     let k = c.dict-dict.result.now in
     let slot_is = standing_slot (accepted c.args.session.now.dict).tree c.args.session.now.timeline.now c.answers-fit.ensures.fit.well c.answers-fit.ensures.fit.from_one c.args.slot c.requires in
     let short = slot_short (names_of k.checks) (accepted k) c.source-accepted.ensures.is_accepted c.args.slot (subst (λ (k : Kept). IsSlot (accepted k).tree c.args.slot) (sym c.dict-dict.ensures) slot_is) in

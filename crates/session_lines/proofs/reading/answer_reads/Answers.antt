@@ -1,9 +1,9 @@
-use Rattle.std.proofs.Common.{subst}
+use Rattle.std.proofs.Common.{[], ◌∷◌, subst}
 use Rattle.graph_session.specs.Rules.{rules}
 use Rattle.graph_session.specs.Run.{is_memory}
 use Rattle.graph_session.specs.SessionView.{session_state}
 use Rattle.session_lines.specs.Answering.{OutputAs}
-use Rattle.session_lines.specs.Replies.{line_with, refusal_text}
+use Rattle.session_lines.specs.Replies.{refusal_text}
 use Rattle.session_lines.specs.Reading.{read_answer}
 use Rattle.session_lines.proofs.AnsweringLaws.{refusal_output}
 use Rattle.session_lines.proofs.reading.answer_reads.Goals as goal
@@ -16,4 +16,4 @@ returns-in-Ok-clause-output g c =
 pub returns-in-Err-clause-output : goal.returns-in-Err-clause-output
 returns-in-Err-clause-output g c =
     subst (λ o. OutputAs (g.K.Sink.output c.args.out.now) (g.K.Sink.output c.write_refusal.new.out) (read_answer (rules c.args.session.now.dict) (session_state c.args.session.now) o) c.write_refusal.result)
-    c.in-Err.ensures.found (refusal_output _ _ (line_with (refusal_text c.in-Err.refusal)) (is_memory c.in-Err.refusal) c.write_refusal.result c.write_refusal.ensures.written)
+    c.in-Err.ensures.found (refusal_output _ _ (refusal_text c.in-Err.refusal ∷ []) (is_memory c.in-Err.refusal) c.write_refusal.result c.write_refusal.ensures.written)

@@ -1,7 +1,6 @@
 use Rattle.std.proofs.Common.{List, map, sym, subst, ◌∙◌}
 use Rattle.std.specs.Prelude.{All, IsTrue}
 use Rattle.fact_values.specs.declared.slot.Slot.{Slot}
-use Rattle.script_lines.specs.Joined.{joined}
 use Rattle.dictionary.specs.Kept.{accepted}
 use Rattle.dict_meaning.specs.SlotText.{slot_text}
 use Rattle.dict_meaning.specs.Slots.{stands}
@@ -19,5 +18,5 @@ put_slots-requires g c =
 pub returns-in-Ok-clause-output : goal.returns-in-Ok-clause-output
 returns-in-Ok-clause-output g c =
     let f = slot_text (accepted c.args.session.now.dict).tree in
-    subst (λ (l : List Slot). OutputAs (g.K.Sink.output c.args.out.now) (g.K.Sink.output c.put_slots.new.out) (joined (map f l)) c.as_progress.result) (c.deref.ensures.value ∙ c.in-Ok.ensures.value)
-    (written_output _ _ (joined (map f c.deref.result.now)) c.as_progress.result (wrote_written _ _ _ c.put_slots.result c.as_progress.result c.as_progress.ensures c.put_slots.ensures))
+    subst (λ (l : List Slot). OutputAs (g.K.Sink.output c.args.out.now) (g.K.Sink.output c.put_slots.new.out) (map f l) c.as_progress.result) (c.deref.ensures.value ∙ c.in-Ok.ensures.value)
+    (written_output _ _ (map f c.deref.result.now) c.as_progress.result (wrote_written _ _ _ c.put_slots.result c.as_progress.result c.as_progress.ensures c.put_slots.ensures))

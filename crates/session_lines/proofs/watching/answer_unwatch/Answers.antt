@@ -1,8 +1,8 @@
-use Rattle.std.proofs.Common.{refl, sym, ap, subst}
+use Rattle.std.proofs.Common.{[], ◌∷◌, refl, sym, ap, subst}
 use Rattle.graph_session.specs.Run.{is_memory}
 use Rattle.fact_watch.specs.Tables.{named_relations}
 use Rattle.session_lines.specs.Answering.{KeptAs, SteppedAs, line_state_of}
-use Rattle.session_lines.specs.Replies.{line_with, refusal_text}
+use Rattle.session_lines.specs.Replies.{refusal_text}
 use Rattle.session_lines.specs.Stepping.{cut_watch}
 use Rattle.session_lines.proofs.AnsweringLaws.{ends_or_steps, keeps_refused}
 use Rattle.session_lines.proofs.watching.answer_unwatch.Goals as goal
@@ -28,5 +28,5 @@ returns-in-Ok-clause-kept g c =
 pub returns-in-Err-clause-kept : goal.returns-in-Err-clause-kept
 returns-in-Err-clause-kept g c =
     let here = line_state_of c.args.session.now (named_relations c.args.table.now) c.args.watches.now in
-    keeps_refused _ _ here here _ (line_with (refusal_text c.in-Err.refusal)) (is_memory c.in-Err.refusal) c.write_refusal.result refl
+    keeps_refused _ _ here here _ (refusal_text c.in-Err.refusal ∷ []) (is_memory c.in-Err.refusal) c.write_refusal.result refl
     (λ _. ap (λ o. (cut_watch here c.args.name.now o).state) (sym c.in-Err.ensures.found)) c.write_refusal.ensures.written

@@ -1,4 +1,4 @@
-use Rattle.std.proofs.Common.{[], ◌∷◌, ◌++◌, sym, ap, subst, ◌∙◌}
+use Rattle.std.proofs.Common.{[], ◌∷◌, ◌++◌, sym, ap, subst, ◌∙◌, codes, refl}
 use Rattle.fact_watch.specs.Refusals.{Refused, pair_of, watch_refusal}
 use Rattle.fact_watch.specs.Tables.{named_relations}
 use Rattle.fact_watch.specs.Watching.{Watching}
@@ -13,10 +13,10 @@ returns-in-Ok-clause-stepped g c =
     let pairs = c.args.watches.now.pairs in
     let place = place_in (named_relations c.args.table.now) c.args.name.now in
     let same = place_by_names c.args.table.now.relations.items (λ r. r.name) (λ r. r.code) c.args.name.now in
-    allowed_steps _ _ (line_state_of c.args.session.now _ c.args.watches.now) (pairs ++ pair_of place slot ∷ []) c.watch.new.watches.pairs c.write_text.result
+    allowed_steps _ _ (line_state_of c.args.session.now _ c.args.watches.now) (pairs ++ pair_of place slot ∷ []) c.watch.new.watches.pairs c.write_ended.result
     (watch_refusal place pairs slot) (ap (λ p. watch_refusal p pairs slot) same ∙ c.in-Ok.ensures.allowed)
     (ap (λ (w : Watching). w.pairs) c.in-Ok.ensures.put ∙ ap (λ p. pairs ++ pair_of p slot ∷ []) (sym same))
-    c.write_text.ensures.written
+    (c.write_ended.ensures.written (codes "ok") refl)
 
 pub returns-in-Err-clause-stepped : goal.returns-in-Err-clause-stepped
 returns-in-Err-clause-stepped g c =
@@ -35,10 +35,10 @@ returns-in-Ok-clause-kept g c =
     let pairs = c.args.watches.now.pairs in
     let place = place_in (named_relations c.args.table.now) c.args.name.now in
     let same = place_by_names c.args.table.now.relations.items (λ r. r.name) (λ r. r.code) c.args.name.now in
-    allowed_keeps _ _ (line_state_of c.args.session.now _ c.args.watches.now) (pairs ++ pair_of place slot ∷ []) c.watch.new.watches.pairs c.write_text.result
+    allowed_keeps _ _ (line_state_of c.args.session.now _ c.args.watches.now) (pairs ++ pair_of place slot ∷ []) c.watch.new.watches.pairs c.write_ended.result
     (watch_refusal place pairs slot) (ap (λ p. watch_refusal p pairs slot) same ∙ c.in-Ok.ensures.allowed)
     (ap (λ (w : Watching). w.pairs) c.in-Ok.ensures.put ∙ ap (λ p. pairs ++ pair_of p slot ∷ []) (sym same))
-    c.write_text.ensures.written
+    (c.write_ended.ensures.written (codes "ok") refl)
 
 pub returns-in-Err-clause-kept : goal.returns-in-Err-clause-kept
 returns-in-Err-clause-kept g c =
