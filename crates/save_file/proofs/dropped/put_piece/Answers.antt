@@ -1,8 +1,0 @@
-use Rattle.save_file.proofs.Common.{[], said, ◌++◌, ◌∷◌, ◌≡◌}
-use Rattle.save_file.proofs.DroppedLaws.{said_whole}
-use Rattle.save_file.proofs.dropped.put_piece.Goals as goal
-
-pub returns : goal.returns
-returns g c =
-    let piece : c.bytes.result.now ≡ said c.args.kind.now c.args.name.now ++ 10 ∷ [] = rw (c.bytes.ensures.value, c.push-5.ensures.appended, c.push-4.ensures.appended, c.push-3.ensures.appended, c.push-2.ensures.appended, c.push.ensures.appended, c.new-piece.ensures) (said_whole c.args.kind.now c.args.name.now) in
-    rw piece at c.put_text.ensures
