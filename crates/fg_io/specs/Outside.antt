@@ -76,10 +76,9 @@ pub record Fetches (contents : Contents) (at_most : ℕ) (result : Result (Vec �
   pub fits : IfOk result (λ v. length v.items ≤ at_most)
   pub too_long : IsErrOf result TooLong → (bytes : List ℕ) × MayHold contents bytes × (at_most < length bytes)
 
--- a fetch says that it failed only where the count rose, and the failed name is then this one; any other answer leaves both
+-- a fetch that says that it failed counts one fault, and the failed name is then this one; any other answer leaves both
 pub record FetchCause {T : Type 0} (name : List ℕ) (files files_now : Files) (result : Result T FetchFault) : Type 0 where
-  pub later : files.faults ≤ files_now.faults
-  pub failed : IsErrOf result Failed → Rose files.faults files_now.faults × (files_now.failed_name ≡ name)
+  pub failed : IsErrOf result Failed → RoseByOne files.faults files_now.faults × (files_now.failed_name ≡ name)
   pub others : (IsErrOf result Failed → ⊥) → (files_now.faults ≡ files.faults) × (files_now.failed_name ≡ files.failed_name)
 
 -- ---- what a call makes of a device

@@ -8,7 +8,7 @@ use Rattle.dict_meaning.proofs.FitStart.{start_fits}
 use Rattle.graph_session.specs.Rules.{Rules, tree_of}
 use Rattle.saved_text.specs.CarriedText.{CarriedText, IsCarriedText}
 use Rattle.save_file.specs.Carrying.{IsCarryOf, dropped_numbers}
-use Rattle.save_file.specs.Dropped.{dropped_text}
+use Rattle.save_file.specs.Dropped.{dropped_keys}
 use Rattle.save_file.specs.Loading.{IsSavedText}
 use Rattle.save_file.proofs.CarryLaws.{one_carry}
 use Rattle.saved_text.proofs.CarriedTexts.{one_text}
@@ -80,7 +80,7 @@ carried_one : (r : Rules) (bytes : List ℕ) (s t : Start) → IsCarriedAs r byt
 carried_one r bytes s t h k =
     let text = one_text h.text k.text h.is_carried k.is_carried (sym h.spelled ∙ k.spelled) in
     let both = one_carry r bytes s.answers t.answers (dropped_numbers r h.text.lines) (dropped_numbers r k.text.lines) (h.text, h.is_carried, h.spelled, carry_of r bytes s h) (k.text, k.is_carried, k.spelled, carry_of r bytes t k) in
-    same_start s t both.0 (h.front ∙ ap (λ (c : CarriedText). dropped_text r c.lines) text ∙ sym k.front)
+    same_start s t both.0 (h.front ∙ ap (λ (c : CarriedText). dropped_keys r c.lines) text ∙ sym k.front)
 
 pub one_start : (names : List (List ℕ)) (r : Rules) → IsAccepted names r.accepted → AreLists (tree_of r).enums → (basis : Basis) (s t : Start) → IsStart r basis s → IsStart r basis t → s ≡ t
 one_start names r is enums no_text s t h k = h ∙ sym k

@@ -14,7 +14,7 @@ use Rattle.interview.specs.declared.status.Status.{Status}
 use Rattle.interview.specs.declared.status.Status.TheVariants.{Done, ReadFault, WriteFault, ScriptTooLong, NoMemory}
 use Rattle.answers.specs.Answered.{Answered}
 use Rattle.interview.specs.Meanings.{IsQuit, Meaning, texts}
-use Rattle.interview.specs.Talk.{Told}
+use Rattle.interview.specs.Talk.{Leaves, Told}
 use Rattle.interview.specs.Interview.{script_limit, answered_lines, defined_script}
 use Rattle.interview.specs.Telling.{LineOutputAs, LinesOutput, SomeOutput}
 use Rattle.interview.specs.Save.{LeavesAnswers}
@@ -83,6 +83,19 @@ module _ (m : Meaning) (did : ScriptDid) (source_now : Input) (sink_now : Output
       → LineOutputAs MeansNow sink_now did.output.after there answers (script_lines held) progress → (bytes : List ℕ) → bytes ≡ so_far.bytes → Told did.output.before did.output.after m bytes status
   told_at_end MeansNow answers short progress status is output bytes same =
       subst (Told did.output.before did.output.after m bytes) (sym is) (subst (λ (b : List ℕ). Told did.output.before did.output.after m b (ending_of progress)) (sym same) (told_by MeansNow answers short progress output))
+
+  -- and what it leaves
+  left_by : (MeansNow : Meaning → Type 0) (answers : Answered) → count ≤ script_limit → (progress : Progress) → LineOutputAs MeansNow sink_now did.output.after there answers (script_lines held) progress
+      → Leaves m so_far.bytes answers (ending_of progress)
+  left_by MeansNow answers short More output = ap m.answers (all_lines short) ∙ so_far.output.left.answers (script_lines held) ∙ output.1
+  left_by MeansNow answers short Over output = ap m.answers (all_lines short) ∙ so_far.output.left.answers (script_lines held) ∙ output.1
+  left_by MeansNow answers short Unwritten output = tt
+  left_by MeansNow answers short OutOfMemory output = tt
+
+  pub left_at_end : (MeansNow : Meaning → Type 0) (answers : Answered) → count ≤ script_limit → (progress : Progress) (status : Status) → status ≡ ending_of progress
+      → LineOutputAs MeansNow sink_now did.output.after there answers (script_lines held) progress → (bytes : List ℕ) → bytes ≡ so_far.bytes → Leaves m bytes answers status
+  left_at_end MeansNow answers short progress status is output bytes same =
+      subst (Leaves m bytes answers) (sym is) (subst (λ (b : List ℕ). Leaves m b answers (ending_of progress)) (sym same) (left_by MeansNow answers short progress output))
 
   module _ (MeansNow : Meaning → Type 0) (answers : Answered) (short : count ≤ script_limit) (read : Consumes source_now.left did.input.after.left []) (end : IsAtEnd did.input.after.left) where
     ends_by : (progress : Progress) → LineOutputAs MeansNow sink_now did.output.after there answers (script_lines held) progress → ScriptEnds m did (ending_of progress)
@@ -201,6 +214,13 @@ module _ (m : Meaning) (did : ScriptDid) (source_now : Input) (sink_now : Output
             done_behind m did Whole (so_far.bytes ++ chunk) some.there some.held_now some.behind (whole some) short_so_far quit more.0,
             answers_behind m did Whole (so_far.bytes ++ chunk) some.there some.held_now some.behind (whole some) short_so_far quit more.0 ∙ left,
           )
+
+      -- in the piece alone
+      pub left_over : (answers : Answered) → some.there.answers [] ≡ answers → Leaves m (so_far.bytes ++ chunk) answers Done
+      left_over answers left =
+          ap (λ (b : List ℕ). m.answers (answered_lines b)) (sym (append-nil (so_far.bytes ++ chunk)))
+          ∙ answers_behind m did Whole (so_far.bytes ++ chunk) some.there some.held_now some.behind (whole some) short_so_far quit []
+          ∙ left
 
     pub ends_unwritten : SomeOutput there (WroteSome sink_now did.output.after) held chunk_now → ScriptEnds m did WriteFault
     ends_unwritten some =

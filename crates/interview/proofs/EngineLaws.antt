@@ -176,7 +176,7 @@ behind front given = record { text = front ++ given.text; status = given.status 
 
 goes_on : (e f : Mode) (relations : List Named) (script : List ℕ) → ((r : Rules) (a : Answered) → defined_script (meaning_of r e relations a) script ≡ defined_script (meaning_of r f relations a) script) → (r : Rules) (basis : Basis) (d : Defined)
     → GoesOnTo r basis e relations script d → GoesOnTo r basis f relations script d
-goes_on e f relations script same r basis d (inl (s, begins, to)) = inl (s, begins, to ∙ ap (behind s.front) (same r s.answers))
+goes_on e f relations script same r basis d (inl (s, begins, to)) = inl (s, begins, to ∙ ap (behind (joined s.front)) (same r s.answers))
 goes_on e f relations script same r basis d (inr refused) = inr refused
 
 to_other : (e f : Mode) (relations : List Named) (script : List ℕ) → ((r : Rules) (a : Answered) → defined_script (meaning_of r e relations a) script ≡ defined_script (meaning_of r f relations a) script)

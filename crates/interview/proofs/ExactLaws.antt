@@ -6,6 +6,7 @@ use Rattle.std.proofs.lemmas.List.{append-nil}
 use Rattle.fg_io.specs.Outside.{Contents, MayBe, MayHold, Output, holds, missing}
 use Rattle.dictionary.specs.declared.fault.DictFault.{DictFault}
 use Rattle.fg_io.proofs.ConsumedLaws.{consumes_none, may_go_on}
+use Rattle.script_lines.specs.Joined.{joined}
 use Rattle.script_lines.specs.Lines.{ScriptLine, ended_lines}
 use Rattle.dictionary.specs.Kept.{names_of}
 use Rattle.dictionary.specs.Faults.{IsFault}
@@ -204,11 +205,11 @@ module _ (given : Given) where
     abbrev refused_run : RefusedRun given → Run
     refused_run run = record { origin = run.origin; content = run.content; outcome = defined_fault run.fault; asked = run.asked; gave = run.gave; came = inr (run.fault, run.is_fault, refl) }
 
-    run_ended : (run : BegunRun given) (taken : Option (List ℕ)) → Appends did.script.output.before.taken taken run.start.front → (status : Status) → ScriptEndsAs (meaning_in given run) (did_behind did.script taken) status → RunEndsAs status
+    run_ended : (run : BegunRun given) (taken : Option (List ℕ)) → Appends did.script.output.before.taken taken (joined run.start.front) → (status : Status) → ScriptEndsAs (meaning_in given run) (did_behind did.script taken) status → RunEndsAs status
     run_ended run taken front status ends = (
       begun_run run ends.0 ends.1,
       ends.2,
-      whole_behind did.script.output taken run.start.front (defined_script (meaning_in given run) ends.0).text front ends.3,
+      whole_behind did.script.output taken (joined run.start.front) (defined_script (meaning_in given run) ends.0).text front ends.3,
     )
 
     done_ended : Ends given did Done → EndsAs Done
@@ -436,10 +437,10 @@ module _ (given : Given) where
     ended_part status ends k d runs = let run = ran status ends k.origin k.asked in run_part k d runs run.0 (whole_part run.0.outcome.text run.0.outcome.text refl run.2)
 
     -- the front of a script that begins so, and a part of the replies
-    replies_part : (k : KnownRun given) (d : Defined) → ComesTo given k d → (run : BegunRun given) (taken : Option (List ℕ)) → Appends did.script.output.before.taken taken run.start.front
+    replies_part : (k : KnownRun given) (d : Defined) → ComesTo given k d → (run : BegunRun given) (taken : Option (List ℕ)) → Appends did.script.output.before.taken taken (joined run.start.front)
         → (script : List ℕ) → MayBe did.script.input.before.left script → SentPart (taken_from did.script.output taken) (defined_script (meaning_in given run) script).text → SentPart did.script.output d.text
     replies_part k d runs run taken front script read part =
-        run_part k d runs (begun_run run script read) (part_behind did.script.output taken run.start.front (defined_script (meaning_in given run) script).text front part)
+        run_part k d runs (begun_run run script read) (part_behind did.script.output taken (joined run.start.front) (defined_script (meaning_in given run) script).text front part)
 
     line_part : LinePart given did → (k : KnownRun given) (d : Defined) → ComesTo given k d → SentPart did.script.output d.text
     line_part (inl part) k d runs = absurd (part.0.0 k.origin k.asked)
@@ -449,7 +450,7 @@ module _ (given : Given) where
     line_part (inr (inr (inr (inr part)))) k d runs =
         let some = may_go_on did.script.input.before.left did.script.input.before.left [] (consumes_none did.script.input.before.left) in
         let run = part.0 in
-        run_part k d runs (begun_run run some.0 some.1) (front_part run.start.front (defined_script (meaning_in given run) some.0).text part.1)
+        run_part k d runs (begun_run run some.0 some.1) (front_part (joined run.start.front) (defined_script (meaning_in given run) some.0).text part.1)
 
     -- the replies to the first lines
     part_by_first : (run : BegunRun given) (script : List ℕ) (lines others : List ScriptLine) → answered_lines script ≡ lines ++ others → (output : Around Output) → SentWhole output (texts (meaning_in given run) lines)

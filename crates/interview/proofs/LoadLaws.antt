@@ -7,8 +7,9 @@ use Rattle.std.specs.Io.KnownBytes.{Appends}
 use Rattle.std.proofs.lemmas.Fmt.{decimal_injective}
 use Rattle.fact_paths.specs.Paths.{SpellsMemberNumber}
 use Rattle.fg_io.specs.Outside.{MayBe, Output}
-use Rattle.fg_io.specs.Sent.{Sent}
+use Rattle.script_lines.specs.Joined.{joined}
 use Rattle.script_lines.specs.Lines.{lines_of}
+use Rattle.session_lines.specs.Writing.{pieces_of}
 use Rattle.answers.specs.Answered.{start}
 use Rattle.dictionary.specs.Kept.{Named}
 use Rattle.dictionary.specs.Keeping.{node_count}
@@ -22,10 +23,12 @@ use Rattle.interview.specs.Devices.{Around}
 use Rattle.interview.specs.Interview.{defined_script}
 use Rattle.interview.specs.Meanings.{Meaning, meaning_of}
 use Rattle.interview.specs.StepEnds.{EndedBy}
-use Rattle.interview.specs.Summary.{summary}
+use Rattle.interview.specs.Summary.{summary, texts_in}
 use Rattle.dict_meaning.proofs.AcceptedLaws.{one_accepted}
 use Rattle.interview.proofs.WordLaws.{no_number, same_number}
-use Rattle.interview.specs.Load.{GeneratedAs, IsOfLoad, OneEndOfGen, defined_gen}
+use Rattle.interview.specs.Calls.{PutsSummary}
+use Rattle.interview.specs.LastLines.{PutLinesAtEnd}
+use Rattle.interview.specs.Load.{GeneratedAs, IsOfLoad, OneEndOfGen, defined_gen, gen_lines}
 
 -- ---- words
 
@@ -70,24 +73,27 @@ output_replies m left before after script taken contents none took ends =
     let wrote : taken ≡ text = subst (λ (o : Option (List ℕ)). Appends (Some []) o text) took (subst (λ (o : Option (List ℕ)). Appends o after text) none ends.3) in
     wrote ∙ ap (λ s. (defined_script m s).text) (sym same)
 
-pub summed : (r : Rules) (relations : List Named) (n facts nodes lines : ℕ) (made_script replies text : List ℕ)
+pub summed : (r : Rules) (relations : List Named) (n facts nodes lines : ℕ) (made_script replies : List ℕ) (texts : List (List ℕ))
     → facts ≡ length (tree_of r).facts → nodes ≡ node_count (tree_of r) → lines ≡ length (lines_of made_script) → made_script ≡ script n → replies ≡ (defined_script (meaning_of r Incremental relations start) made_script).text
-    → text ≡ summary n facts nodes lines (lines_of replies) → text ≡ (defined_gen r relations n).text
-summed r relations n facts nodes lines made_script replies text a b c same replied is =
+    → texts ≡ pieces_of (summary n facts nodes lines (lines_of replies)) → texts ≡ pieces_of (gen_lines r relations n)
+summed r relations n facts nodes lines made_script replies texts a b c same replied is =
     let count = c ∙ ap (λ (s : List ℕ). length (lines_of s)) same in
     let whole = replied ∙ ap (λ (s : List ℕ). (defined_script (meaning_of r Incremental relations start) s).text) same in
-    is ∙ (λ i. summary n (a i) (b i) (count i) (lines_of (whole i)))
+    is ∙ (λ i. pieces_of (summary n (a i) (b i) (count i) (lines_of (whole i))))
 
 pub summed_of_load : (r : Rules) (relations : List Named) (n facts nodes lines : ℕ) (made_script replies : List ℕ) → IsOfLoad n r
     → facts ≡ length (tree_of r).facts → nodes ≡ node_count (tree_of r) → lines ≡ length (lines_of made_script) → made_script ≡ script n → replies ≡ (defined_script (meaning_of r Incremental relations start) made_script).text
-    → (result : Result (Vec ℕ Global) NoMemory) → IfOk result (λ text. text.items ≡ summary n facts nodes lines (lines_of replies))
-    → IfOk result (λ text. (q : Rules) × IsOfLoad n q × (text.items ≡ (defined_gen q relations n).text))
-summed_of_load r relations n facts nodes lines made_script replies is a b c same replied (Ok text) sum = (r, is, summed r relations n facts nodes lines made_script replies text.items a b c same replied sum)
+    → (result : Result (Vec (Vec ℕ Global) Global) NoMemory) → IfOk result (λ texts. texts_in texts.items ≡ pieces_of (summary n facts nodes lines (lines_of replies)))
+    → IfOk result (λ texts. (q : Rules) × IsOfLoad n q × (texts_in texts.items ≡ pieces_of (gen_lines q relations n)))
+summed_of_load r relations n facts nodes lines made_script replies is a b c same replied (Ok texts) sum = (r, is, summed r relations n facts nodes lines made_script replies (texts_in texts.items) a b c same replied sum)
 summed_of_load r relations n facts nodes lines made_script replies is a b c same replied (Err fault) sum = tt
 
-pub generated_by : (relations : List Named) (n : ℕ) (output : Around Output) (r : Rules) (text : List ℕ) → IsOfLoad n r → text ≡ (defined_gen r relations n).text
-    → (status : Status) → EndedBy output.before output.after text Done status → GeneratedAs relations n output status
-generated_by relations n output r text is same status (inl (ended, wrote)) =
-    subst (GeneratedAs relations n output) (sym ended) (defined_gen r relations n, (r, is, refl), subst (Appends output.before.taken output.after.taken) same wrote)
-generated_by relations n output r text is same status (inr (ended, rose, part)) =
-    subst (GeneratedAs relations n output) (sym ended) (rose, (defined_gen r relations n, (r, is, refl), subst (λ t. (rest : List ℕ) × Sent output.before.taken output.after.taken t rest) same part))
+module _ (relations : List Named) (n : ℕ) (r : Rules) (is : IsOfLoad n r) where
+  pub generated_by : (output : Around Output) (status : Status) → EndedBy output.before output.after (joined (gen_lines r relations n)) Done status → GeneratedAs relations n output status
+  generated_by output status (inl (ended, wrote)) = subst (GeneratedAs relations n output) (sym ended) (defined_gen r relations n, (r, is, refl), wrote)
+  generated_by output status (inr (ended, rose, part)) = subst (GeneratedAs relations n output) (sym ended) (rose, (defined_gen r relations n, (r, is, refl), part))
+
+  -- and by which puts
+  pub summary_put : {K : Type 0} (output : K → Output) (out out_now : K) (status : Status) → PutLinesAtEnd (output out) (output out_now) (gen_lines r relations n) Done status → PutsSummary output relations n status out out_now
+  summary_put output out out_now status (inl (ended, wrote)) = subst (λ s. PutsSummary output relations n s out out_now) (sym ended) (r, is, wrote)
+  summary_put output out out_now status (inr (ended, part)) = subst (λ s. PutsSummary output relations n s out out_now) (sym ended) (r, is, part)

@@ -3,8 +3,6 @@ use Rattle.std.proofs.Common.{◌≡◌, ℕ, ◌≤◌, List, [], length, Resul
 use Rattle.std.specs.Prelude.{Vec}
 use Rattle.std.specs.declared.alloc.Global.{Global}
 use Rattle.fg_io.specs.Outside.{Contents, Output}
-use Rattle.fg_io.specs.Writing.{WroteAll}
-use Rattle.fg_io.proofs.SentLaws.{sent_none}
 use Rattle.answers.specs.Answered.{start}
 use Rattle.answers.specs.Meaning.{answered}
 use Rattle.answers.specs.declared.parts.Parts.{Parts}
@@ -12,10 +10,12 @@ use Rattle.dict_meaning.specs.Fits.{AnswersFit}
 use Rattle.dict_meaning.proofs.FitStart.{start_fits}
 use Rattle.graph_session.specs.Rules.{Rules, tree_of}
 use Rattle.save_file.specs.Carrying.{IsCarry, RefusesCarried}
-use Rattle.save_file.specs.Dropped.{dropped_text}
+use Rattle.save_file.specs.Dropped.{dropped_keys}
 use Rattle.save_file.specs.Loading.{RefusesText}
+use Rattle.saved_text.proofs.LinesLeft.{wrote_none}
 use Rattle.saved_text.specs.SavedText.{saved}
-use Rattle.save_file.proofs.DroppedLaws.{dropped_of_carry}
+use Rattle.saved_text.specs.Writing.{WroteAs}
+use Rattle.save_file.proofs.DroppedLaws.{lines_of_carry}
 use Rattle.saved_text.specs.declared.fault.LoadFault.{LoadFault}
 use Rattle.saved_text.specs.declared.fault.LoadFault.TheVariants as loads
 use Rattle.interview.specs.declared.resuming.Dropped.TheVariants as dropped
@@ -29,8 +29,8 @@ use Rattle.interview.specs.Words.{Beginning, unanswered}
 
 -- ---- what is written before the replies
 
-pub nothing_put : (sink : Output) (front : List ℕ) → front ≡ [] → WroteAll sink sink front
-nothing_put sink front is = rw is (record { sent = sent_none sink.taken []; later = omega arith })
+pub nothing_put : {T E : Type 0} (sink : Output) (front : List (List ℕ)) (done : T) → front ≡ [] → WroteAs {T = T} {E = E} sink sink front (Ok done)
+nothing_put sink front done is = rw is (wrote_none sink done)
 
 -- ---- a text that is loaded
 
@@ -59,9 +59,9 @@ module _ (r : Rules) (bytes : List ℕ) (short : length bytes ≤ saved_limit) w
 pub carry_begins : (r : Rules) (text numbers : Vec ℕ Global) (b : Parts) → length text.items ≤ saved_limit → IsCarry r text.items (answered b) numbers.items
     → ResumesAs r (to_carry text.items) (resumed.Begins (record { answers = b; dropped = dropped.Lines text numbers }))
 carry_begins r text numbers b short carry = (
-  record { answers = answered b; front = dropped_text r carry.0.lines },
+  record { answers = answered b; front = dropped_keys r carry.0.lines },
   (short, record { text = carry.0; is_carried = carry.1; spelled = carry.2; kept = carry.3.kept; fit = carry.3.fit; front = refl }),
-  record { fit = carry.3.fit; answers = refl; front = (dropped_of_carry r text.items (answered b) numbers.items carry, omega (arith, short)) },
+  record { fit = carry.3.fit; answers = refl; front = (lines_of_carry r text.items (answered b) numbers.items carry, omega (arith, short)) },
 )
 
 -- ---- no answers

@@ -4,6 +4,7 @@ use Rattle.std.proofs.lemmas.List.{append-nil}
 use Rattle.std.proofs.lemmas.List.Elements.{All-nil, All-cons}
 use Rattle.fg_io.specs.Outside.{ByPull, Output, Pulled, gave, faulted}
 use Rattle.session_lines.specs.Writing.{WroteLines}
+use Rattle.answers.specs.Answered.{Answered}
 use Rattle.script_lines.specs.Lines.{ended_lines}
 use Rattle.script_lines.proofs.EndedLaws.{ready_lines_are_ended}
 use Rattle.interview.specs.declared.status.Status.{Status}
@@ -11,7 +12,7 @@ use Rattle.interview.specs.declared.status.Status.TheVariants.{ReadFault}
 use Rattle.interview.specs.Interview.{script_limit}
 use Rattle.interview.specs.Meanings.{Meaning}
 use Rattle.interview.specs.SoFar.{AnsweredSoFar, TalkedSoFar}
-use Rattle.interview.specs.Talk.{bytes_of, IsToGoOn, PiecesFollowReplies, PulledBehind, Told, WholeTalk, asked_behind}
+use Rattle.interview.specs.Talk.{bytes_of, IsToGoOn, Leaves, PiecesFollowReplies, PulledBehind, TalkLeaves, Told, asked_behind}
 
 -- ---- its lines
 
@@ -64,19 +65,29 @@ module _ {S K : Type 0} (pulled : ByPull S K) (output : K → Output) (m : Meani
         }
 
         -- the last
-        pub talk_ends : (status : Status) (out_end : K) → Told (output out) (output out_end) m (so_far.bytes ++ piece) status → WholeTalk pulled output m out out_end script script_next status
-        talk_ends status out_end told = record {
-          talk = record { pieces = piece ∷ talked.pieces; between = script_next; came = (script_now, talked.came, behind (gave piece) call asked); last = inl refl };
-          told = subst (λ (bytes : List ℕ). Told (output out) (output out_end) m bytes status) (sym (ap (λ (earlier : List ℕ). earlier ++ piece) talked.same)) told;
-        }
+        pub talk_ends : (status : Status) (out_end : K) (answers : Answered) → Told (output out) (output out_end) m (so_far.bytes ++ piece) status → Leaves m (so_far.bytes ++ piece) answers status
+            → TalkLeaves pulled output m out out_end script script_next answers status
+        talk_ends status out_end answers told left = (
+          record {
+            talk = record { pieces = piece ∷ talked.pieces; between = script_next; came = (script_now, talked.came, behind (gave piece) call asked); last = inl refl };
+            told = subst (λ (bytes : List ℕ). Told (output out) (output out_end) m bytes status) (sym same_bytes) told;
+          },
+          subst (λ (bytes : List ℕ). Leaves m bytes answers status) (sym same_bytes) left,
+        )
+          where
+            same_bytes : bytes_of talked.pieces ++ piece ≡ so_far.bytes ++ piece
+            same_bytes = ap (λ (earlier : List ℕ). earlier ++ piece) talked.same
 
       -- it failed
       pub talk_fails : pulled script_now out_now room faulted script_next → room ≡ asked_behind count → ((bytes : List ℕ) → bytes ≡ so_far.bytes → Told (output out) (output out_now) m bytes ReadFault)
-          → WholeTalk pulled output m out out_now script script_next ReadFault
-      talk_fails call asked told = record {
-        talk = record { pieces = talked.pieces; between = script_now; came = talked.came; last = inr (refl, behind faulted call asked) };
-        told = told (bytes_of talked.pieces) talked.same;
-      }
+          → (answers : Answered) → TalkLeaves pulled output m out out_now script script_next answers ReadFault
+      talk_fails call asked told answers = (
+        record {
+          talk = record { pieces = talked.pieces; between = script_now; came = talked.came; last = inr (refl, behind faulted call asked) };
+          told = told (bytes_of talked.pieces) talked.same;
+        },
+        tt,
+      )
 
 -- ---- each piece
 

@@ -11,6 +11,7 @@ use Rattle.fg_io.specs.Sent.{Sent}
 use Rattle.fg_io.specs.Writing.{WrotePart}
 use Rattle.fg_io.proofs.SentLaws.{appends_more, rose_before, sent_on, sent_whole, whole_sent}
 use Rattle.graph_session.specs.Rules.{Rules}
+use Rattle.script_lines.specs.Joined.{joined}
 use Rattle.interview.specs.Meanings.{Meaning, meaning_of}
 use Rattle.interview.specs.declared.status.Status.{Status}
 use Rattle.interview.specs.declared.status.Status.TheVariants.{Done, ReadFault, WriteFault, ScriptTooLong, NoMemory}
@@ -80,6 +81,6 @@ module _ (m : Meaning) (front : List ℕ) (did : ScriptDid) where
 
 module _ (contents : List ℕ → Contents) (b : Beginning) (r : Rules) (mode : Mode) (relations : List Named) (did : Did) where
   pub begins_and_ends : (ready : Ready) (status : Status) → ResumedAs contents b r (resumed.Begins ready)
-      → ((front : List ℕ) → Gives ready.dropped front → StartEnds (meaning_of r mode relations (answered ready.answers)) front did.script status) → RunEnds contents b r mode relations did status
+      → ((front : List (List ℕ)) → Gives ready.dropped front → StartEnds (meaning_of r mode relations (answered ready.answers)) (joined front) did.script status) → RunEnds contents b r mode relations did status
   begins_and_ends ready status (basis, brought, (s, is, begun)) ends =
-      inl (basis, brought, (s, is, subst (λ (a : Answered). StartEnds (meaning_of r mode relations a) s.front did.script status) begun.answers (ends s.front begun.front)))
+      inl (basis, brought, (s, is, subst (λ (a : Answered). StartEnds (meaning_of r mode relations a) (joined s.front) did.script status) begun.answers (ends s.front begun.front)))

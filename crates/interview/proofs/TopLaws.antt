@@ -1,9 +1,10 @@
 -- The ends of an interview from those of its steps.
-use Rattle.std.proofs.Common.{◌≡◌, ℕ, ◌≤◌, List, inl, inr, refl, sym, subst}
+use Rattle.std.proofs.Common.{◌≡◌, ℕ, List, inl, inr, refl, sym, subst}
 use Rattle.fg_io.specs.Outside.{Contents, Files}
 use Rattle.std.specs.Io.KnownBytes.{Keeps}
 use Rattle.std.proofs.KnownBytes.{Keeps-refl}
-use Rattle.fg_io.proofs.SentLaws.{rose_before}
+use Rattle.fg_io.proofs.PutLaws.{rose_behind}
+use Rattle.script_lines.specs.Joined.{joined}
 use Rattle.dictionary.specs.declared.fault.DictFault.{DictFault}
 use Rattle.graph_session.specs.Rules.{Rules}
 use Rattle.interview.specs.declared.status.Status.{Status}
@@ -40,7 +41,7 @@ module _ (given : Given) (did : Did) where
       abbrev begun : (s : Start) → IsStart over.rules basis s → BegunRun given
       begun s is = record { over = over; basis = basis; start = s; brought = brought; is_start = is }
 
-      ends_script : (s : Start) (is : IsStart over.rules basis s) (status : Status) → EndsBehind (meaning_in given (begun s is)) s.front did.script status → Ends given did status
+      ends_script : (s : Start) (is : IsStart over.rules basis s) (status : Status) → EndsBehind (meaning_in given (begun s is)) (joined s.front) did.script status → Ends given did status
       ends_script s is Done ends = inl (begun s is, ends)
       ends_script s is ReadFault ends = (begun s is, ends)
       ends_script s is WriteFault ends = inl (begun s is, ends)
@@ -48,12 +49,12 @@ module _ (given : Given) (did : Did) where
       ends_script s is NoMemory ends = inr (begun s is, ends)
       ends_script s is status ends = absurd ends.1.1
 
-      ends_front : (s : Start) (is : IsStart over.rules basis s) (status : Status) → EndsBefore s.front did.script status → Ends given did status
+      ends_front : (s : Start) (is : IsStart over.rules basis s) (status : Status) → EndsBefore (joined s.front) did.script status → Ends given did status
       ends_front s is WriteFault ends = inr (ends.0, inr (inr (inr (inr (begun s is, ends.1, ends.2)))))
       ends_front s is NoMemory ends = inl ends
       ends_front s is status ends = absurd ends
 
-      ends_begun : (s : Start) (is : IsStart over.rules basis s) (status : Status) → StartEnds (meaning_in given (begun s is)) s.front did.script status → Ends given did status
+      ends_begun : (s : Start) (is : IsStart over.rules basis s) (status : Status) → StartEnds (meaning_in given (begun s is)) (joined s.front) did.script status → Ends given did status
       ends_begun s is status (inl ends) = ends_script s is status ends
       ends_begun s is status (inr ends) = ends_front s is status ends
 
@@ -67,9 +68,9 @@ module _ (given : Given) (did : Did) where
           by_end run unread status (inr (same, rose, part)) = subst (Ends given did) (sym same) (inr (rose, inr (inr (inr (inl (run, part, unread))))))
 
     -- no saved text was had
-    module _ (now : Files) (later : did.files.before.faults ≤ now.faults) (still : did.script.output.before.taken ≡ did.script.output.after.taken) (unread : Unread did) where
+    module _ (now : Files) (same : now.faults ≡ did.files.before.faults) (still : did.script.output.before.taken ≡ did.script.output.after.taken) (unread : Unread did) where
       ends_unfetched_text : (name : List ℕ) (status : Status) → IsFrom over.asked.beginning name → NotFetched name now did.files.after status → Ends given did status
-      ends_unfetched_text name FetchFault from not = (rose_before did.files.before.faults now.faults did.files.after.faults later not.0, inr (over, subst (IsFrom over.asked.beginning) (sym not.1) from), ends_kept still, unread)
+      ends_unfetched_text name FetchFault from not = (rose_behind did.files.before.faults now.faults did.files.after.faults same not.0, inr (over, subst (IsFrom over.asked.beginning) (sym not.1) from), ends_kept still, unread)
       ends_unfetched_text name NoMemory from not = inl (ends_kept still, unread)
       ends_unfetched_text name status from not = absurd not
 
@@ -82,10 +83,10 @@ module _ (given : Given) (did : Did) where
   of_run now = record { files = record { before = now; after = did.files.after }; script = did.script }
 
   -- with what the shelf told before the saved text was fetched
-  pub ends_run : (over : AcceptedRun given) (now : Files) (status : Status) → did.files.before.faults ≤ now.faults → now.contents ≡ given.contents → RunEnds now.contents over.asked.beginning over.rules over.asked.mode given.relations (of_run now) status → Ends given did status
-  ends_run over now status later same (inl (basis, brought, (s, is, ends))) = ends_begun over basis (subst (λ (t : List ℕ → Contents). MayBring t over.asked.beginning basis) same brought) s is status ends
-  ends_run over now status later same (inr (inl (basis, brought, (n, is, ended, unread)))) = ends_saved_refused over basis (subst (λ (t : List ℕ → Contents). MayBring t over.asked.beginning basis) same brought) n is unread status ended
-  ends_run over now status later same (inr (inr (not, still, unread))) = ends_unresumed over now later still unread over.asked.beginning refl status not
+  pub ends_run : (over : AcceptedRun given) (now : Files) (status : Status) → now.faults ≡ did.files.before.faults → now.contents ≡ given.contents → RunEnds now.contents over.asked.beginning over.rules over.asked.mode given.relations (of_run now) status → Ends given did status
+  ends_run over now status uncounted same (inl (basis, brought, (s, is, ends))) = ends_begun over basis (subst (λ (t : List ℕ → Contents). MayBring t over.asked.beginning basis) same brought) s is status ends
+  ends_run over now status uncounted same (inr (inl (basis, brought, (n, is, ended, unread)))) = ends_saved_refused over basis (subst (λ (t : List ℕ → Contents). MayBring t over.asked.beginning basis) same brought) n is unread status ended
+  ends_run over now status uncounted same (inr (inr (not, still, unread))) = ends_unresumed over now uncounted still unread over.asked.beginning refl status not
 
   -- ---- words without a form
 

@@ -6,7 +6,7 @@ use Rattle.dict_meaning.specs.Fits.{AnswersFit}
 use Rattle.graph_session.specs.Rules.{Rules, tree_of}
 use Rattle.saved_text.specs.CarriedText.{CarriedText, IsCarried, IsCarriedText, carried}
 use Rattle.save_file.specs.Carrying.{AreOfKept}
-use Rattle.save_file.specs.Dropped.{dropped_text}
+use Rattle.save_file.specs.Dropped.{dropped_keys}
 use Rattle.saved_text.specs.Refused.{IsRefusedAt}
 use Rattle.save_file.specs.Loading.{IsSavedText}
 use Rattle.saved_text.specs.SavedText.{saved}
@@ -39,10 +39,10 @@ Brings contents beginning basis = ⊥
 abbrev pub saved_limit : ℕ
 saved_limit = 67108864
 
--- the answers, and what is written before the replies
+-- the answers, and the lines that are written before the replies
 pub record Start : Type 0 where
   pub answers : Answered
-  pub front : List ℕ
+  pub front : List (List ℕ)
 
 -- no answers, and nothing is written
 abbrev pub start_of_none : Start
@@ -62,7 +62,7 @@ pub record IsCarriedAs (r : Rules) (bytes : List ℕ) (s : Start) : Type 0 where
   pub spelled : bytes ≡ carried text
   pub kept : AreOfKept r text s.answers
   pub fit : AnswersFit (tree_of r) s.answers
-  pub front : s.front ≡ dropped_text r text.lines
+  pub front : s.front ≡ dropped_keys r text.lines
 
 -- a script over these rules begins so
 abbrev pub IsStart : Rules → Basis → Start → Type 0

@@ -1,7 +1,7 @@
 -- What devices tell before a call and after it.
 use Rattle.std.specs.Prelude.{List, ℕ}
 use Rattle.std.specs.Io.KnownBytes.{Appends, Keeps}
-use Rattle.fg_io.specs.Outside.{Files, Input, Output, Rose}
+use Rattle.fg_io.specs.Outside.{Files, Input, Output, Rose, RoseByOne}
 use Rattle.fg_io.specs.Sent.{Sent}
 
 -- what a device tells before a call, and after it
@@ -9,7 +9,7 @@ pub record Around (D : Type 0) : Type 0 where
   pub before : D
   pub after : D
 
--- a put, a pull, a fetch failed
+-- a put, a pull failed, and one fetch
 abbrev pub SinkFailed : Around Output → Type 0
 SinkFailed output = Rose output.before.faults output.after.faults
 
@@ -17,7 +17,7 @@ abbrev pub SourceFailed : Around Input → Type 0
 SourceFailed input = Rose input.before.faults input.after.faults
 
 abbrev pub ShelfFailed : Around Files → Type 0
-ShelfFailed files = Rose files.before.faults files.after.faults
+ShelfFailed files = RoseByOne files.before.faults files.after.faults
 
 -- the text was written whole
 abbrev pub SentWhole : Around Output → List ℕ → Type 0

@@ -1,6 +1,7 @@
 -- How an interview ends: for each status, what was written and why it came.
 use Rattle.std.specs.Prelude.{◌≡◌, ◌⊎◌, ℕ, List, [], ◌∷◌, Some}
 use Rattle.fg_io.specs.Outside.{MayHold, holds, missing as not_there}
+use Rattle.script_lines.specs.Joined.{joined}
 use Rattle.script_lines.specs.Lines.{ScriptLine}
 use Rattle.dictionary.specs.declared.fault.DictFault.{DictFault}
 use Rattle.dictionary.specs.Kept.{names_of}
@@ -46,7 +47,7 @@ meaning_in given run = meaning_of run.over.rules run.over.asked.mode given.relat
 
 -- its script ended with this status, behind what is written before the replies
 abbrev pub BegunEnds : Given → Did → Status → Type 0
-BegunEnds given did status = (run : BegunRun given) × EndsBehind (meaning_in given run) run.start.front did.script status
+BegunEnds given did status = (run : BegunRun given) × EndsBehind (meaning_in given run) (joined run.start.front) did.script status
 
 -- a dictionary that it may have been given to run, with its fault
 pub record RefusedRun (given : Given) : Type 0 where
@@ -93,7 +94,7 @@ LinePart given did =
     ⊎ (((run : RefusedRun given) × SentPart did.script.output (defined_fault run.fault).text × Unread did)
     ⊎ (((check : Check given) × SentPart did.script.output check.outcome.text × Unread did)
     ⊎ (((run : SavedRefusedRun given) × SentPart did.script.output (defined_saved_refused run.line).text × Unread did)
-    ⊎ ((run : BegunRun given) × SentPart did.script.output run.start.front × Unread did))))
+    ⊎ ((run : BegunRun given) × SentPart did.script.output (joined run.start.front) × Unread did))))
 
 -- a name that is fetched: that of a dictionary, or over an accepted one that of the saved text
 abbrev pub IsFetched : Given → List ℕ → Type 0

@@ -5,6 +5,7 @@ use Rattle.dict_meaning.specs.Accepted.{Accepted}
 use Rattle.dictionary.specs.Kept.{Named, names_of}
 use Rattle.dictionary.specs.Faults.{AreAccepted, IsFault}
 use Rattle.dictionary.specs.Keeping.{node_count}
+use Rattle.script_lines.specs.Joined.{joined}
 use Rattle.script_lines.specs.Lines.{ScriptLine, script_lines, ended_lines}
 use Rattle.graph_session.specs.Rules.{Rules, tree_of}
 use Rattle.interview.specs.declared.status.Status.{Status}
@@ -62,7 +63,7 @@ defined_script m script = record {
 abbrev pub defined_run : Rules → Mode → List Named → Start → List ℕ → Defined
 defined_run r mode relations s script =
     let given = defined_script (meaning_of r mode relations s.answers) script in
-    record { text = s.front ++ given.text; status = given.status }
+    record { text = joined s.front ++ given.text; status = given.status }
 
 -- the line of a saved text that is refused
 abbrev pub defined_saved_refused : ℕ → Defined

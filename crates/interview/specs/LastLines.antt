@@ -1,8 +1,9 @@
--- An interview without a script to answer: at most one line is put.
+-- What is put at the end of an interview: one line, or the lines of a saved text or of a summary.
 use Rattle.std.specs.Prelude.{◌≡◌, ◌⊎◌, ℕ, List, [], ◌∷◌}
 use Rattle.fg_io.specs.Outside.{Output}
 use Rattle.fg_io.specs.Puts.{PutAll, PutPart}
 use Rattle.session_lines.specs.Replies.{line_with}
+use Rattle.session_lines.specs.Writing.{WroteLines, WroteSome}
 use Rattle.interview.specs.declared.status.Status.{Status}
 use Rattle.interview.specs.declared.status.Status.TheVariants.{WriteFault}
 
@@ -10,6 +11,11 @@ use Rattle.interview.specs.declared.status.Status.TheVariants.{WriteFault}
 abbrev pub PutAtEnd : Output → Output → List ℕ → Status → Status → Type 0
 PutAtEnd sink sink_now text whole status =
     ((status ≡ whole) × PutAll sink sink_now (text ∷ [])) ⊎ ((status ≡ WriteFault) × PutPart sink sink_now (text ∷ []))
+
+-- lines were, each as one piece
+abbrev pub PutLinesAtEnd : Output → Output → List (List ℕ) → Status → Status → Type 0
+PutLinesAtEnd sink sink_now lines whole status =
+    ((status ≡ whole) × WroteLines sink sink_now lines) ⊎ ((status ≡ WriteFault) × WroteSome sink sink_now lines)
 
 -- by its status
 abbrev pub PutBy : Output → Output → List (List ℕ) → Status → Type 0

@@ -1,6 +1,7 @@
 -- What `gen` comes to, and how it ends.
 use Rattle.std.specs.Prelude.{◌≡◌, ℕ, List, [], length}
 use Rattle.fg_io.specs.Outside.{Output}
+use Rattle.script_lines.specs.Joined.{joined}
 use Rattle.script_lines.specs.Lines.{lines_of}
 use Rattle.answers.specs.Answered.{start}
 use Rattle.dict_meaning.specs.Accepted.{IsAccepted}
@@ -29,12 +30,12 @@ pub record IsOfLoad (n : ℕ) (r : Rules) : Type 0 where
 abbrev pub replies_to_load : Rules → List Named → ℕ → List ℕ
 replies_to_load r relations n = (defined_script (meaning_of r Incremental relations start) (script n)).text
 
--- the summary of these replies
+-- the lines of the summary of these replies
+abbrev pub gen_lines : Rules → List Named → ℕ → List (List ℕ)
+gen_lines r relations n = summary n (length (tree_of r).facts) (node_count (tree_of r)) (length (lines_of (script n))) (lines_of (replies_to_load r relations n))
+
 abbrev pub defined_gen : Rules → List Named → ℕ → Defined
-defined_gen r relations n = record {
-  text = summary n (length (tree_of r).facts) (node_count (tree_of r)) (length (lines_of (script n))) (lines_of (replies_to_load r relations n));
-  status = Done;
-}
+defined_gen r relations n = record { text = joined (gen_lines r relations n); status = Done }
 
 -- what `gen` is to give with so many sums
 abbrev pub GensTo : List Named → ℕ → Defined → Type 0

@@ -2,7 +2,7 @@
 use Rattle.std.specs.Prelude.{◌≡◌, ◌⊎◌, ℕ, ◌<◌, ◌≤◌, List, [], length, Option, Some, None, Result, Ok, Err, Vec}
 use Rattle.std.specs.declared.alloc.Global.{Global}
 use Rattle.std.specs.Io.KnownBytes.{Appends}
-use Rattle.fg_io.specs.Outside.{Contents, Files, MayHold, Output, Rose}
+use Rattle.fg_io.specs.Outside.{Contents, Files, MayHold, Output, Rose, RoseByOne}
 use Rattle.fg_io.specs.Sent.{Sent}
 use Rattle.dictionary.specs.Kept.{Named, accepted, names_of}
 use Rattle.dictionary.specs.Faults.{AreAccepted, IsFault}
@@ -15,7 +15,8 @@ use Rattle.graph_session.specs.Refusals.{SameChecks}
 use Rattle.graph_session.specs.Rules.{Rules, rules, tree_of}
 use Rattle.answers.specs.Meaning.{answered}
 use Rattle.dict_meaning.specs.Fits.{AnswersFit}
-use Rattle.save_file.specs.Dropped.{IsDroppedText}
+use Rattle.save_file.specs.Dropped.{AreDropped}
+use Rattle.script_lines.specs.Joined.{joined}
 use Rattle.saved_text.specs.declared.fault.LoadFault.{LoadFault}
 use Rattle.saved_text.specs.declared.fault.LoadFault.TheVariants as loads
 use Rattle.interview.specs.Calls.{ByStillFetch, CallsForAccepted, CallsForNone}
@@ -55,7 +56,7 @@ defined_fetched (fetches.Refused fault) = defined_fault fault
 
 -- no dictionary was had: the shelf failed to give the name, or there was no memory
 abbrev pub NotFetched : List ℕ → Files → Files → Status → Type 0
-NotFetched name files files_now FetchFault = Rose files.faults files_now.faults × (files_now.failed_name ≡ name)
+NotFetched name files files_now FetchFault = RoseByOne files.faults files_now.faults × (files_now.failed_name ≡ name)
 NotFetched name files files_now NoMemory = Unit {0}
 NotFetched name files files_now other = ⊥
 
@@ -69,8 +70,8 @@ ObtainedAs contents origin checks (fetches.Refused fault) = (content : Content) 
 -- where it is accepted, it came of the calls for it, and where it isn't, none did, or memory was wanting
 abbrev pub ObtainedBy : {H : Type 0} → ByStillFetch H → List Named → Origin → H → H → Result Fetched Status → Type 0
 ObtainedBy fetched checks origin shelf shelf_now (Ok (fetches.Accepted dict)) = CallsForAccepted fetched checks origin (rules dict) shelf shelf_now
-ObtainedBy fetched checks origin shelf shelf_now (Ok (fetches.Refused fault)) = CallsForNone fetched checks origin shelf shelf_now
-ObtainedBy fetched checks origin shelf shelf_now (Err status) = CallsForNone fetched checks origin shelf shelf_now ⊎ (status ≡ NoMemory)
+ObtainedBy fetched checks origin shelf shelf_now (Ok (fetches.Refused fault)) = CallsForNone fetched checks origin ⊥ shelf shelf_now
+ObtainedBy fetched checks origin shelf shelf_now (Err status) = CallsForNone fetched checks origin (status ≡ FetchFault) shelf shelf_now ⊎ (status ≡ NoMemory)
 
 -- no dictionary was had: the shelf failed to give the name of a file, or there was no memory
 abbrev pub NotObtained : Origin → Files → Files → Status → Type 0
@@ -84,12 +85,12 @@ abbrev pub FetchedText : Contents → Option (Vec ℕ Global) → Type 0
 FetchedText contents (Some v) = MayHold contents v.items × (length v.items ≤ saved_limit)
 FetchedText contents None = (bytes : List ℕ) × MayHold contents bytes × (saved_limit < length bytes)
 
--- what is kept of a saved text gives this text before the replies
-abbrev pub Gives : Dropped → List ℕ → Type 0
-Gives dropped.Nothing text = text ≡ []
-Gives (dropped.Lines bytes numbers) text = IsDroppedText bytes.items numbers.items text × (length bytes.items < 4294967295)
+-- what is kept of a saved text gives these lines before the replies
+abbrev pub Gives : Dropped → List (List ℕ) → Type 0
+Gives dropped.Nothing lines = lines ≡ []
+Gives (dropped.Lines bytes numbers) lines = AreDropped bytes.items numbers.items lines × (length bytes.items < 4294967295)
 
--- a script over these rules begins with these answers and this text
+-- a script over these rules begins with these answers and these lines
 pub record IsReady (r : Rules) (ready : Ready) (s : Start) : Type 0 where
   pub fit : AnswersFit (tree_of r) (answered ready.answers)
   pub answers : answered ready.answers ≡ s.answers
@@ -123,7 +124,7 @@ StartEnds m front did status = EndsBehind m front did status ⊎ EndsBefore fron
 -- it began, and its script ended so
 abbrev pub BeginsAndEnds : (List ℕ → Contents) → Beginning → Rules → Mode → List Named → Did → Status → Type 0
 BeginsAndEnds contents beginning r mode relations did status =
-    (basis : Basis) × MayBring contents beginning basis × ((s : Start) × IsStart r basis s × StartEnds (meaning_of r mode relations s.answers) s.front did.script status)
+    (basis : Basis) × MayBring contents beginning basis × ((s : Start) × IsStart r basis s × StartEnds (meaning_of r mode relations s.answers) (joined s.front) did.script status)
 
 -- the saved text was refused
 abbrev pub SavedTextEnds : (List ℕ → Contents) → Beginning → Rules → Did → Status → Type 0

@@ -1,6 +1,7 @@
 -- What `gen` says of the replies to a script.
-use Rattle.std.specs.Prelude.{◌≡◌, ◌≢◌, ℕ, ◌+◌, ◌<◌, ◌==◌, List, [], ◌∷◌, ◌++◌, All, codes, bytes_eq, if◌then◌else◌, length, refl, slice_index, take}
-use Rattle.session_lines.specs.Replies.{line_with, numbered}
+use Rattle.std.specs.Prelude.{◌≡◌, ◌≢◌, ℕ, ◌+◌, ◌<◌, ◌==◌, List, [], ◌∷◌, ◌++◌, All, codes, bytes_eq, if◌then◌else◌, length, map, refl, slice_index, take, Vec}
+use Rattle.std.specs.declared.alloc.Global.{Global}
+use Rattle.session_lines.specs.Replies.{numbered}
 
 -- no byte is a blank
 abbrev pub HasNoBlank : List ℕ → Type 0
@@ -30,26 +31,29 @@ last_of reply (next ∷ replies) = last_of next replies
 -- ---- four lines
 
 abbrev pub gen_line : ℕ → List ℕ
-gen_line n = line_with (numbered (codes "gen ") n)
+gen_line n = numbered (codes "gen ") n
 
 -- how many facts and nodes a dictionary has, and how many lines a script
 abbrev pub size_line : (facts nodes lines : ℕ) → List ℕ
-size_line facts nodes lines = line_with (numbered (codes "facts ") facts ++ numbered (codes " nodes ") nodes ++ numbered (codes " lines ") lines)
+size_line facts nodes lines = numbered (codes "facts ") facts ++ numbered (codes " nodes ") nodes ++ numbered (codes " lines ") lines
 
 abbrev pub counts_line : List (List ℕ) → List ℕ
 counts_line replies =
-    line_with (
     numbered (codes "complete ") (count_of (codes "complete") replies)
     ++ numbered (codes " placeholder ") (count_of (codes "placeholder") replies)
     ++ numbered (codes " incomplete ") (count_of (codes "incomplete") replies)
     ++ numbered (codes " fault ") (count_of (codes "fault") replies)
-    ++ numbered (codes " refused ") (count_of (codes "refused") replies))
+    ++ numbered (codes " refused ") (count_of (codes "refused") replies)
 
 abbrev pub last_reply_line : List (List ℕ) → List ℕ
-last_reply_line replies = line_with (codes "last " ++ last_of [] replies)
+last_reply_line replies = codes "last " ++ last_of [] replies
 
-abbrev pub summary : (n facts nodes lines : ℕ) → List (List ℕ) → List ℕ
-summary n facts nodes lines replies = gen_line n ++ size_line facts nodes lines ++ counts_line replies ++ last_reply_line replies
+abbrev pub summary : (n facts nodes lines : ℕ) → List (List ℕ) → List (List ℕ)
+summary n facts nodes lines replies = gen_line n ∷ size_line facts nodes lines ∷ counts_line replies ∷ last_reply_line replies ∷ []
+
+-- the texts of its lines, each by itself
+abbrev pub texts_in : List (Vec ℕ Global) → List (List ℕ)
+texts_in lines = map (λ line. line.items) lines
 
 -- worked examples
 abbrev some_replies : List (List ℕ)

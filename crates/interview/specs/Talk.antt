@@ -3,9 +3,9 @@
 -- where a source came to another by these pulls, it was called so, in this order, and not else, and the sinks are those that stood. By
 -- which puts a sink came to the next one, `WroteLines` says.
 use Rattle.std.specs.Prelude.{◌≡◌, ◌⊎◌, ℕ, ◌-◌, ◌<◌, ◌≤◌, min, max, false, List, [], ◌∷◌, ◌++◌, All, length}
-use Rattle.std.specs.Io.KnownBytes.{Appends}
 use Rattle.fg_io.specs.Outside.{ByPull, Output, Pulled, gave, faulted}
 use Rattle.script_lines.specs.Lines.{ended_lines}
+use Rattle.answers.specs.Answered.{Answered}
 use Rattle.session_lines.specs.Writing.{WroteLines, WroteSome}
 use Rattle.interview.specs.declared.status.Status.{Status}
 use Rattle.interview.specs.declared.status.Status.TheVariants.{Done, NoMemory, ReadFault, ScriptTooLong, WriteFault}
@@ -55,10 +55,6 @@ pub record Talk {S K : Type 0} (pulled : ByPull S K) (output : K → Output) (m 
   pub came : Came pulled output m out script pieces between
   pub last : (script_now ≡ between) ⊎ ((status ≡ ReadFault) × PulledBehind pulled output m out pieces between script_now faulted)
 
--- or the script wasn't pulled
-abbrev pub MayTalk : {S K : Type 0} → ByPull S K → (K → Output) → Meaning → K → S → S → Status → Type 0
-MayTalk pulled output m out script script_now status = (script_now ≡ script) ⊎ Talk pulled output m out script script_now status
-
 -- ---- all puts
 
 -- What was put in all of a script of which these bytes came, by the status: the replies to the lines that are answered, each line as one
@@ -71,20 +67,31 @@ Told sink sink_now m bytes WriteFault = WroteSome sink sink_now (m.replies (answ
 Told sink sink_now m bytes NoMemory = (first : List (List ℕ)) × ((rest : List (List ℕ)) × ((m.replies (answered_lines bytes) ≡ first ++ rest) × WroteLines sink sink_now first))
 Told sink sink_now m bytes other = ⊥
 
+-- where the script is done, these answers stand behind the lines that are answered
+abbrev pub Leaves : Meaning → List ℕ → Answered → Status → Type 0
+Leaves m bytes answers Done = m.answers (answered_lines bytes) ≡ answers
+Leaves m bytes answers other = Unit {0}
+
 -- these are all pulls, and all puts
 pub record WholeTalk {S K : Type 0} (pulled : ByPull S K) (output : K → Output) (m : Meaning) (out out_now : K) (script script_now : S) (status : Status) : Type 0 where
   pub talk : Talk pulled output m out script script_now status
   pub told : Told (output out) (output out_now) m (bytes_of talk.pieces) status
 
--- a text was put whole, and then the talk began
-abbrev pub TalkBehind : {S K : Type 0} → ByPull S K → (K → Output) → Meaning → List ℕ → K → K → S → S → Status → Type 0
-TalkBehind {S} {K} pulled output m front out out_now script script_now status =
-    (begun : K) × Appends (output out).taken (output begun).taken front × WholeTalk pulled output m begun out_now script script_now status
+-- and it left these answers
+abbrev pub TalkLeaves : {S K : Type 0} → ByPull S K → (K → Output) → Meaning → K → K → S → S → Answered → Status → Type 0
+TalkLeaves pulled output m out out_now script script_now answers status =
+    (whole : WholeTalk pulled output m out out_now script script_now status) × Leaves m (bytes_of whole.talk.pieces) answers status
 
--- or it didn't begin: nothing was put, or the text as far as a put that failed, and the script wasn't pulled
-abbrev pub MayBegin : {S K : Type 0} → ByPull S K → (K → Output) → Meaning → List ℕ → K → K → S → S → Status → Type 0
+-- lines were put, each whole as one piece, and then the talk began
+abbrev pub TalkBehind : {S K : Type 0} → ByPull S K → (K → Output) → Meaning → List (List ℕ) → K → K → S → S → Status → Type 0
+TalkBehind {S} {K} pulled output m front out out_now script script_now status =
+    (begun : K) × WroteLines (output out) (output begun) front × WholeTalk pulled output m begun out_now script script_now status
+
+-- or it didn't begin: nothing was put, or the lines as far as a put that failed, and the script wasn't pulled
+abbrev pub MayBegin : {S K : Type 0} → ByPull S K → (K → Output) → Meaning → List (List ℕ) → K → K → S → S → Status → Type 0
 MayBegin pulled output m front out out_now script script_now status =
-    ((script_now ≡ script) × ((out_now ≡ out) ⊎ (status ≡ WriteFault))) ⊎ TalkBehind pulled output m front out out_now script script_now status
+    ((script_now ≡ script) × ((out_now ≡ out) ⊎ ((status ≡ WriteFault) × WroteSome (output out) (output out_now) front)))
+    ⊎ TalkBehind pulled output m front out out_now script script_now status
 
 -- ---- laws
 

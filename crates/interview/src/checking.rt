@@ -7,7 +7,7 @@ ghost use Rattle.interview.specs.Interview.{defined_accepted};
 ghost use Rattle.interview.specs.LastLines.{PutAtEnd, PutsOneLine};
 ghost use Rattle.interview.specs.StepEnds.{CheckEnds, EndedBy, check_did};
 ghost use Rattle.interview.specs.Words.{file};
-ghost use Rattle.interview.specs.declared.status.Status.TheVariants.{Done};
+ghost use Rattle.interview.specs.declared.status.Status.TheVariants.{Done, FetchFault as FailedFetch};
 
 use crate::Status;
 use crate::ending::{end_by, end_by_fault};
@@ -42,7 +42,7 @@ pub fn check<H: Shelf<S, K>, S, K: Sink>(
 ) -> Status
     ensures ends { CheckEnds ((H.files shelf.old).contents name.now) (named_checks checks.now) name.now
         (check_did (H.files shelf.old) (H.files shelf.new) (K.output out.old) (K.output out.new)) result }
-    ensures calls { CallsForDictionary (beside H.fetched script.now out.old) (file name.now) shelf.old shelf.new }
+    ensures calls { CallsForDictionary (beside H.fetched script.now out.old) (file name.now) (result ≡ FailedFetch) shelf.old shelf.new }
     ensures puts { PutsOneLine (K.output out.old) (K.output out.new) result }
 {
     match fetch(alloc, name, checks, shelf, script, out) {

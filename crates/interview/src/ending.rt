@@ -1,8 +1,9 @@
 // Texts that end an interview.
-ghost use Rattle.std.specs.Prelude.{[], List, ℕ, OnOk};
-ghost use Rattle.fg_io.specs.Outside.{Counts};
-ghost use Rattle.fg_io.specs.Sent.{Sent};
-ghost use Rattle.interview.specs.LastLines.{PutAtEnd};
+ghost use Rattle.std.specs.Prelude.{◌≡◌, [], ◌∷◌, List, ℕ};
+ghost use Rattle.session_lines.specs.Replies.{line_with};
+ghost use Rattle.session_lines.specs.Writing.{WroteAs, pieces_of};
+ghost use Rattle.interview.specs.LastLines.{PutAtEnd, PutLinesAtEnd};
+ghost use Rattle.interview.specs.Summary.{texts_in};
 ghost use Rattle.interview.specs.StepEnds.{EndedBy};
 ghost use Rattle.interview.specs.FaultLines.{fault_line, saved_refused_line};
 ghost use Rattle.interview.specs.declared.status.Status.TheVariants.{DictionaryRefused, SavedRefused};
@@ -10,8 +11,7 @@ ghost use Rattle.interview.specs.declared.status.Status.TheVariants.{DictionaryR
 use crate::Status;
 use crate::fault_line::{print_fault, print_saved_refused};
 use dictionary::DictFault;
-use fg_io::{Failed, Sink, put_all};
-use script_lines::cut_line;
+use fg_io::{Failed, Sink, put_all, put_piece};
 use value_text::Line;
 
 /// Writes a text that ends the interview with this status, as one piece.
@@ -25,28 +25,33 @@ pub fn end_by<K: Sink>(out: &mut K, text: &[u8], status: Status) -> Status
     }
 }
 
-// Puts a text line by line: a line with its newline is one piece.
-fn put_lines<K: Sink>(out: &mut K, text: &[u8]) -> Result<(), Failed>
-    ensures whole { OnOk result (Sent (K.output out.old).taken (K.output out.new).taken text.now []) }
-    ensures part { (rest : List ℕ) × Sent (K.output out.old).taken (K.output out.new).taken text.now rest }
-    ensures cause { Counts (K.output out.old).faults (K.output out.new).faults result }
+// Puts a line that has its newline, as one piece.
+fn put_ended<K: Sink>(text: &[u8], out: &mut K) -> Result<(), Failed>
+    ensures { (line : List ℕ) → text.now ≡ line_with line → WroteAs (K.output out.old) (K.output out.new) (line ∷ []) result }
 {
-    let mut rest = text;
-    while !rest.is_empty() {
-        let size = rest.len() - cut_line(rest).1.len();
-        match put_all(out, &rest[..size]) {
-            Ok(()) => rest = &rest[size..],
+    put_piece(text, out)
+}
+
+// Puts lines that have their newlines, each as one piece.
+fn put_lines<K: Sink>(texts: &[Vec<u8>], out: &mut K) -> Result<(), Failed>
+    ensures { (lines : List (List ℕ)) → texts_in texts.now ≡ pieces_of lines → WroteAs (K.output out.old) (K.output out.new)
+        lines result }
+{
+    for text in texts {
+        match put_ended(text.as_slice(), out) {
             Err(failed) => return Err(failed),
+            Ok(()) => {}
         }
     }
     Ok(())
 }
 
-/// Writes a text of several lines that ends the interview with this status, each line as one piece.
-pub fn end_by_lines<K: Sink>(out: &mut K, text: &[u8], status: Status) -> Status
-    ensures { EndedBy (K.output out.old) (K.output out.new) text.now status result }
+/// Writes lines that have their newlines, which end the interview with this status, each as one piece.
+pub fn end_by_lines<K: Sink>(out: &mut K, texts: &[Vec<u8>], status: Status) -> Status
+    ensures { (lines : List (List ℕ)) → texts_in texts.now ≡ pieces_of lines → PutLinesAtEnd (K.output out.old) (K.output out.new)
+        lines status result }
 {
-    match put_lines(out, text) {
+    match put_lines(texts, out) {
         Ok(()) => status,
         Err(Failed) => Status::WriteFault,
     }

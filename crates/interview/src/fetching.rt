@@ -1,5 +1,5 @@
 // Fetches a dictionary.
-ghost use Rattle.std.specs.Prelude.{◌≡◌, ◌≤◌, IfErr, IfOk};
+ghost use Rattle.std.specs.Prelude.{◌≡◌, IfErr, IfOk, IsErrOf, OnOk};
 ghost use Rattle.text_checks.specs.Tables.{named_checks};
 ghost use Rattle.dictionary.specs.Kept.{accepted, names_of};
 ghost use Rattle.dictionary.specs.Faults.{AreAccepted, IsFault, Refuses};
@@ -7,6 +7,7 @@ ghost use Rattle.interview.specs.Calls.{CallsForDictionary, beside};
 ghost use Rattle.interview.specs.StepEnds.{FetchedAs, NotFetched, ObtainedBy};
 ghost use Rattle.interview.specs.Words.{file};
 ghost use Rattle.interview.specs.FaultLines.{is_memory as wants_memory};
+ghost use Rattle.interview.specs.declared.status.Status.TheVariants.{FetchFault as FailedFetch};
 
 use crate::Status;
 use dictionary::{DictFault, Dictionary, accept};
@@ -69,8 +70,8 @@ pub fn fetch<H: Shelf<S, K>, S, K>(
     ensures fetched { IfOk result (FetchedAs ((H.files shelf.old).contents name.now) (named_checks checks.now)) }
     ensures not_fetched { IfErr result (NotFetched name.now (H.files shelf.old) (H.files shelf.new)) }
     ensures kept { (H.files shelf.new).contents ≡ (H.files shelf.old).contents }
-    ensures later { (H.files shelf.old).faults ≤ (H.files shelf.new).faults }
-    ensures calls { CallsForDictionary (beside H.fetched script.now out.now) (file name.now) shelf.old shelf.new }
+    ensures uncounted { OnOk result ((H.files shelf.new).faults ≡ (H.files shelf.old).faults) }
+    ensures calls { CallsForDictionary (beside H.fetched script.now out.now) (file name.now) (IsErrOf result FailedFetch) shelf.old shelf.new }
     ensures by_calls { ObtainedBy (beside H.fetched script.now out.now) (named_checks checks.now) (file name.now) shelf.old shelf.new result }
 {
     let bytes = match shelf.fetch(script, out, name, LIMIT) {

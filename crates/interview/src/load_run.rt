@@ -5,7 +5,10 @@ ghost use Rattle.graph_session.specs.Rules.{Rules, rules};
 ghost use Rattle.fact_watch.specs.Tables.{named_relations};
 ghost use Rattle.interview.specs.Interview.{defined_script};
 ghost use Rattle.interview.specs.Meanings.{meaning_of};
-ghost use Rattle.interview.specs.Load.{GeneratedAs, IsOfLoad, defined_gen};
+ghost use Rattle.interview.specs.Load.{GeneratedAs, IsOfLoad, gen_lines};
+ghost use Rattle.interview.specs.Calls.{PutsSummary};
+ghost use Rattle.interview.specs.Summary.{texts_in};
+ghost use Rattle.session_lines.specs.Writing.{pieces_of};
 ghost use Rattle.fg_io.specs.SinkState.{output_shown};
 ghost use Rattle.fg_io.specs.SourceState.{input_shown};
 ghost use Rattle.interview.specs.ScriptEnds.{ScriptEnds, script_did};
@@ -95,12 +98,12 @@ fn replies_to(
     }
 }
 
-// The summary of the load with `n` sums.
-fn summary_of_load(alloc: Global, n: u32, table: &WatchTable) -> Result<Vec<u8>, NoMemory>
+// The lines of the summary of the load with `n` sums.
+fn summary_of_load(alloc: Global, n: u32, table: &WatchTable) -> Result<Vec<Vec<u8>>, NoMemory>
     requires some { 1 ≤ n }
     requires most { n ≤ 1000 }
-    ensures summary { IfOk result (λ text. (r : Rules) × IsOfLoad n r
-        × (text.items ≡ (defined_gen r (named_relations table.now) n).text)) }
+    ensures summary { IfOk result (λ texts. (r : Rules) × IsOfLoad n r
+        × (texts_in texts.items ≡ pieces_of (gen_lines r (named_relations table.now) n))) }
 {
     let made = make(alloc, n)?;
     let facts = made.dict.fact_count();
@@ -110,15 +113,17 @@ fn summary_of_load(alloc: Global, n: u32, table: &WatchTable) -> Result<Vec<u8>,
     summary(alloc, n, facts, nodes, lines, replies.bytes())
 }
 
-/// Makes the load with `n` sums, runs its script over its dictionary, and writes the summary of what was replied.
+/// Makes the load with `n` sums, runs its script over its dictionary, and writes the summary of what was replied, each line
+/// as one piece.
 pub fn run_load<K: Sink>(alloc: Global, n: u32, table: &WatchTable, out: &mut K) -> Status
     requires some { 1 ≤ n }
     requires most { n ≤ 1000 }
     ensures generated { GeneratedAs (named_relations table.now) n
         (record { before = K.output out.old; after = K.output out.new }) result }
+    ensures puts { PutsSummary K.output (named_relations table.now) n result out.old out.new }
 {
     match summary_of_load(alloc, n, table) {
-        Ok(text) => end_by_lines(out, text.as_slice(), Status::Done),
+        Ok(texts) => end_by_lines(out, texts.as_slice(), Status::Done),
         Err(NoMemory) => Status::NoMemory,
     }
 }

@@ -1,9 +1,10 @@
 // Has the dictionary of a run.
-ghost use Rattle.std.specs.Prelude.{◌≡◌, ◌≤◌, IfErr, IfOk};
+ghost use Rattle.std.specs.Prelude.{◌≡◌, IfErr, IfOk, IsErrOf, OnOk};
 ghost use Rattle.text_checks.specs.Tables.{named_checks};
 ghost use Rattle.interview.specs.Calls.{CallsForDictionary, beside};
 ghost use Rattle.interview.specs.StepEnds.{NotObtained, ObtainedAs, ObtainedBy};
 ghost use Rattle.interview.specs.Words.{origin_of};
+ghost use Rattle.interview.specs.declared.status.Status.TheVariants.{FetchFault as FailedFetch};
 
 use crate::Status;
 use crate::fetching::{Fetched, fetch};
@@ -27,8 +28,8 @@ pub fn obtain<H: Shelf<S, K>, S, K>(
         (named_checks checks.now)) }
     ensures not_obtained { IfErr result (NotObtained (origin_of origin.entry) (H.files shelf.old) (H.files shelf.new)) }
     ensures kept { (H.files shelf.new).contents ≡ (H.files shelf.old).contents }
-    ensures later { (H.files shelf.old).faults ≤ (H.files shelf.new).faults }
-    ensures calls { CallsForDictionary (beside H.fetched script.now out.now) (origin_of origin.entry) shelf.old shelf.new }
+    ensures uncounted { OnOk result ((H.files shelf.new).faults ≡ (H.files shelf.old).faults) }
+    ensures calls { CallsForDictionary (beside H.fetched script.now out.now) (origin_of origin.entry) (IsErrOf result FailedFetch) shelf.old shelf.new }
     ensures by_calls { ObtainedBy (beside H.fetched script.now out.now) (named_checks checks.now) (origin_of origin.entry) shelf.old shelf.new result }
 {
     match origin {

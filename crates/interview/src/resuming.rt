@@ -1,6 +1,6 @@
 // Has the answers at the start of a run.
-ghost use Rattle.std.specs.Prelude.{◌≡◌, ◌≤◌, ◌<◌, ◌^◌, ℕ, List, length, IfErr, IfOk};
-ghost use Rattle.fg_io.specs.Writing.{Wrote};
+ghost use Rattle.std.specs.Prelude.{◌≡◌, ◌≤◌, ◌<◌, ◌^◌, ℕ, List, length, IfErr, IfOk, IsErrOf};
+ghost use Rattle.saved_text.specs.Writing.{WroteAs};
 ghost use Rattle.text_checks.specs.Tables.{named_checks};
 ghost use Rattle.graph_session.specs.Refusals.{SameChecks};
 ghost use Rattle.graph_session.specs.Rules.{rules};
@@ -8,7 +8,7 @@ ghost use Rattle.interview.specs.Beginnings.{saved_limit, to_carry, to_load};
 ghost use Rattle.interview.specs.Calls.{CallsForSaved, CallsOnce, beside};
 ghost use Rattle.interview.specs.StepEnds.{FetchedText, Gives, NotFetched, NotResumed, RefusedFor, ResumedAs, ResumesAs};
 ghost use Rattle.interview.specs.Words.{beginning_of, by_carry, by_load};
-ghost use Rattle.interview.specs.declared.status.Status.TheVariants.{NoMemory as WantsMemory};
+ghost use Rattle.interview.specs.declared.status.Status.TheVariants.{FetchFault as FailedFetch, NoMemory as WantsMemory};
 
 use crate::Status;
 use crate::words::Beginning;
@@ -49,10 +49,10 @@ pub enum Resumed {
     Refused(u32),
 }
 
-/// Writes what is to be said of a saved text.
+/// Writes what is to be said of a saved text, each line as one piece.
 pub fn put_front<K: Sink>(dropped: &Dropped, out: &mut K) -> Result<(), Failed>
-    requires { (front : List ℕ) × Gives dropped.now front }
-    ensures { (front : List ℕ) → Gives dropped.now front → Wrote (K.output out.old) (K.output out.new) front result }
+    requires { (front : List (List ℕ)) × Gives dropped.now front }
+    ensures { (front : List (List ℕ)) → Gives dropped.now front → WroteAs (K.output out.old) (K.output out.new) front result }
 {
     match dropped {
         Dropped::Nothing => Ok(()),
@@ -115,7 +115,7 @@ fn fetch_text<H: Shelf<S, K>, S, K>(
 ) -> Result<Option<Vec<u8>>, Status>
     ensures fetched { IfOk result (FetchedText ((H.files shelf.old).contents name.now)) }
     ensures not_fetched { IfErr result (NotFetched name.now (H.files shelf.old) (H.files shelf.new)) }
-    ensures calls { CallsOnce (beside H.fetched script.now out.now) name.now saved_limit shelf.old shelf.new }
+    ensures calls { CallsOnce (beside H.fetched script.now out.now) name.now saved_limit (IsErrOf result FailedFetch) shelf.old shelf.new }
 {
     match shelf.fetch(script, out, name, LIMIT) {
         Ok(bytes) => Ok(Some(bytes)),
@@ -136,7 +136,7 @@ fn resume_loaded<H: Shelf<S, K>, S, K>(
 ) -> Result<Resumed, Status>
     ensures resumed { IfOk result (ResumedAs (H.files shelf.old).contents (by_load name.now) (rules dict.now)) }
     ensures not_resumed { IfErr result (NotResumed (by_load name.now) (H.files shelf.old) (H.files shelf.new)) }
-    ensures calls { CallsForSaved (beside H.fetched script.now out.now) (by_load name.now) shelf.old shelf.new }
+    ensures calls { CallsForSaved (beside H.fetched script.now out.now) (by_load name.now) (IsErrOf result FailedFetch) shelf.old shelf.new }
 {
     match fetch_text(name, shelf, script, out) {
         Ok(Some(bytes)) => load_ready(alloc, dict, bytes.as_slice()),
@@ -158,7 +158,7 @@ fn resume_carried<H: Shelf<S, K>, S, K>(
     requires { SameChecks (rules dict.now) (named_checks checks.now) }
     ensures resumed { IfOk result (ResumedAs (H.files shelf.old).contents (by_carry name.now) (rules dict.now)) }
     ensures not_resumed { IfErr result (NotResumed (by_carry name.now) (H.files shelf.old) (H.files shelf.new)) }
-    ensures calls { CallsForSaved (beside H.fetched script.now out.now) (by_carry name.now) shelf.old shelf.new }
+    ensures calls { CallsForSaved (beside H.fetched script.now out.now) (by_carry name.now) (IsErrOf result FailedFetch) shelf.old shelf.new }
 {
     match fetch_text(name, shelf, script, out) {
         Ok(Some(bytes)) => carry_ready(alloc, dict, checks, bytes),
@@ -183,7 +183,7 @@ pub fn resume<H: Shelf<S, K>, S, K>(
         (rules dict.now)) }
     ensures not_resumed { IfErr result (NotResumed (beginning_of beginning.entry) (H.files shelf.old)
         (H.files shelf.new)) }
-    ensures calls { CallsForSaved (beside H.fetched script.now out.now) (beginning_of beginning.entry) shelf.old shelf.new }
+    ensures calls { CallsForSaved (beside H.fetched script.now out.now) (beginning_of beginning.entry) (IsErrOf result FailedFetch) shelf.old shelf.new }
 {
     let _accepted = dict.source();
     match beginning {

@@ -6,16 +6,15 @@ ghost use Rattle.fact_watch.specs.Tables.{named_relations};
 ghost use Rattle.dictionary.specs.Kept.{accepted};
 ghost use Rattle.graph_session.specs.Refusals.{SameChecks};
 ghost use Rattle.graph_session.specs.Rules.{rules};
-ghost use Rattle.saved_text.specs.SavedText.{saved};
-ghost use Rattle.interview.specs.Calls.{CallsForSave};
+ghost use Rattle.saved_text.specs.SavedText.{saved_lines};
+ghost use Rattle.interview.specs.Calls.{CallsForSave, MaySave, SilentTalk};
 ghost use Rattle.interview.specs.Given.{did_by, given_with};
-ghost use Rattle.interview.specs.Meanings.{of_session, silently};
+ghost use Rattle.interview.specs.LastLines.{PutLinesAtEnd};
+ghost use Rattle.interview.specs.Meanings.{of_session};
 ghost use Rattle.interview.specs.Save.{ScriptSaves, save_meaning};
 ghost use Rattle.session_lines.specs.Stepping.{open_at};
 ghost use Rattle.interview.specs.SaveEnds.{SaveEnds};
 ghost use Rattle.interview.specs.ScriptEnds.{script_did};
-ghost use Rattle.interview.specs.StepEnds.{EndedBy};
-ghost use Rattle.interview.specs.Talk.{MayTalk, Talk};
 ghost use Rattle.interview.specs.Words.{IsSave, origin_of};
 ghost use Rattle.interview.specs.declared.status.Status.TheVariants.{Done};
 
@@ -41,10 +40,10 @@ use std::sync::ledger::{Blank, Ledger};
 use steps::Steps;
 use text_checks::CheckTable;
 
-// Writes the answers that stand.
+// Writes the answers that stand, each line as one piece.
 fn save_answers<E: FactEngine, K: Sink>(session: &Session<E>, out: &mut K) -> Status
-    ensures { EndedBy (K.output out.old) (K.output out.new)
-        (saved (accepted session.now.dict).tree session.now.timeline.now) Done result }
+    ensures { PutLinesAtEnd (K.output out.old) (K.output out.new)
+        (saved_lines (accepted session.now.dict).tree session.now.timeline.now) Done result }
 {
     match save(session.dict(), session.answers(), out) {
         Ok(()) => Status::Done,
@@ -66,9 +65,10 @@ fn save_session<E: FactEngine, L: Ledger, S: Source<K>, K: Sink>(
     ensures saves { ScriptSaves (rules silenced.old.handler.session.dict) (of_session (rules silenced.old.handler.session.dict)
         (open_at (state_by silenced.old.handler.session tables.now.relations.now silenced.old.handler.watches)))
         (script_did (S.input script.old) (S.input script.new) (K.output out.old) (K.output out.new)) result }
-    ensures calls { Talk S.pulled K.output (silently (of_session (rules silenced.old.handler.session.dict)
-        (open_at (state_by silenced.old.handler.session tables.now.relations.now silenced.old.handler.watches))))
-        out.old script.old script.new result }
+    ensures calls { SilentTalk S.pulled K.output (rules silenced.old.handler.session.dict)
+        (of_session (rules silenced.old.handler.session.dict)
+        (open_at (state_by silenced.old.handler.session tables.now.relations.now silenced.old.handler.watches)))
+        out.old out.new script.old script.new result }
 {
     match run(alloc, silenced, tables, script, out, steps) {
         Status::Done => save_answers(&silenced.handler.session, out),
@@ -99,8 +99,9 @@ fn save_over<L: Ledger, S: Source<K>, K: Sink>(
     ensures saves { ScriptSaves (rules dictionary)
         (save_meaning (rules dictionary) (named_relations tables.now.relations.now))
         (script_did (S.input script.old) (S.input script.new) (K.output out.old) (K.output out.new)) result }
-    ensures calls { MayTalk S.pulled K.output (silently (save_meaning (rules dictionary)
-        (named_relations tables.now.relations.now))) out.old script.old script.new result }
+    ensures calls { MaySave S.pulled K.output (rules dictionary)
+        (save_meaning (rules dictionary) (named_relations tables.now.relations.now)) out.old out.new script.old
+        script.new result }
 {
     let mut steps = Steps::<L>::new(blank);
     match WatchedSession::<Recalc>::new(alloc, dictionary) {

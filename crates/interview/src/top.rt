@@ -7,6 +7,7 @@ ghost use Rattle.dict_meaning.specs.Fits.{AnswersFit};
 ghost use Rattle.graph_session.specs.Refusals.{SameChecks};
 ghost use Rattle.graph_session.specs.Rules.{rules};
 ghost use Rattle.fact_watch.specs.Tables.{named_relations};
+ghost use Rattle.script_lines.specs.Joined.{joined};
 ghost use Rattle.interview.specs.ScriptEnds.{script_did};
 ghost use Rattle.interview.specs.StepEnds.{Gives, RunEnds, StartEnds};
 ghost use Rattle.interview.specs.Calls.{Calls, CallsForSaved, TalksFrom, beside};
@@ -15,6 +16,7 @@ ghost use Rattle.interview.specs.Ends.{Interviewed};
 ghost use Rattle.interview.specs.Given.{did_by, given_by};
 ghost use Rattle.interview.specs.Meanings.{IsBeginning, Meaning, meaning_of};
 ghost use Rattle.interview.specs.Words.{beginning_of};
+ghost use Rattle.interview.specs.declared.status.Status.TheVariants.{FetchFault as FailedFetch};
 
 use crate::Status;
 use crate::checking::check;
@@ -58,11 +60,11 @@ fn run_behind<T: LineHandler, L: Ledger, S: Source<K>, K: Sink>(
     requires same_checks { SameChecks (T.goes_by handler.old) (named_checks tables.now.checks.now) }
     requires unchanged { T.changes handler.old ≡ 0 }
     requires meant { (m : Meaning) × IsBeginning m × T.means handler.old (named_relations tables.now.relations.now) m }
-    requires given { (front : List ℕ) × Gives dropped.now front }
-    ensures ends { (front : List ℕ) → Gives dropped.now front → (m : Meaning) → IsBeginning m → T.means handler.old
-        (named_relations tables.now.relations.now) m → StartEnds m front (script_did (S.input script.old)
+    requires given { (front : List (List ℕ)) × Gives dropped.now front }
+    ensures ends { (front : List (List ℕ)) → Gives dropped.now front → (m : Meaning) → IsBeginning m → T.means handler.old
+        (named_relations tables.now.relations.now) m → StartEnds m (joined front) (script_did (S.input script.old)
         (S.input script.new) (K.output out.old) (K.output out.new)) result }
-    ensures calls { (front : List ℕ) → Gives dropped.now front → (m : Meaning) → IsBeginning m → T.means handler.old
+    ensures calls { (front : List (List ℕ)) → Gives dropped.now front → (m : Meaning) → IsBeginning m → T.means handler.old
         (named_relations tables.now.relations.now) m → MayBegin S.pulled K.output m front out.old out.new script.old
         script.new result }
 {
@@ -85,11 +87,11 @@ fn run_as<T: LineHandler, S: Source<K>, K: Sink>(
     requires can_begin { T.can_begin ≡ true }
     requires same_checks { SameChecks (rules dictionary) (named_checks tables.now.checks.now) }
     requires fit { AnswersFit (accepted dictionary).tree (answered ready.answers) }
-    requires given { (front : List ℕ) × Gives ready.dropped front }
-    ensures ends { (front : List ℕ) → Gives ready.dropped front
-        → StartEnds (T.meaning (rules dictionary) (named_relations tables.now.relations.now) (answered ready.answers)) front
-        (script_did (S.input script.old) (S.input script.new) (K.output out.old) (K.output out.new)) result }
-    ensures calls { (front : List ℕ) → Gives ready.dropped front
+    requires given { (front : List (List ℕ)) × Gives ready.dropped front }
+    ensures ends { (front : List (List ℕ)) → Gives ready.dropped front
+        → StartEnds (T.meaning (rules dictionary) (named_relations tables.now.relations.now) (answered ready.answers))
+        (joined front) (script_did (S.input script.old) (S.input script.new) (K.output out.old) (K.output out.new)) result }
+    ensures calls { (front : List (List ℕ)) → Gives ready.dropped front
         → MayBegin S.pulled K.output (T.meaning (rules dictionary) (named_relations tables.now.relations.now)
         (answered ready.answers)) front out.old out.new script.old script.new result }
 {
@@ -123,12 +125,12 @@ fn run_by<S: Source<K>, K: Sink>(
 ) -> Status
     requires same_checks { SameChecks (rules dictionary) (named_checks tables.now.checks.now) }
     requires fit { AnswersFit (accepted dictionary).tree (answered ready.answers) }
-    requires given { (front : List ℕ) × Gives ready.dropped front }
-    ensures ends { (front : List ℕ) → Gives ready.dropped front
+    requires given { (front : List (List ℕ)) × Gives ready.dropped front }
+    ensures ends { (front : List (List ℕ)) → Gives ready.dropped front
         → StartEnds (meaning_of (rules dictionary) mode (named_relations tables.now.relations.now)
-        (answered ready.answers)) front (script_did (S.input script.old) (S.input script.new) (K.output out.old)
+        (answered ready.answers)) (joined front) (script_did (S.input script.old) (S.input script.new) (K.output out.old)
         (K.output out.new)) result }
-    ensures calls { (front : List ℕ) → Gives ready.dropped front
+    ensures calls { (front : List (List ℕ)) → Gives ready.dropped front
         → MayBegin S.pulled K.output (meaning_of (rules dictionary) mode (named_relations tables.now.relations.now)
         (answered ready.answers)) front out.old out.new script.old script.new result }
 {
@@ -162,8 +164,8 @@ fn run_from<H: Shelf<S, K>, S: Source<K>, K: Sink>(
     ensures ends { RunEnds (H.files shelf.old).contents (beginning_of beginning.entry) (rules dictionary) mode
         (named_relations tables.now.relations.now) (did_by (H.files shelf.old) (H.files shelf.new) (S.input script.old)
         (S.input script.new) (K.output out.old) (K.output out.new)) result }
-    ensures fetches { CallsForSaved (beside H.fetched script.old out.old) (beginning_of beginning.entry) shelf.old
-        shelf.new }
+    ensures fetches { CallsForSaved (beside H.fetched script.old out.old) (beginning_of beginning.entry) (result ≡ FailedFetch)
+        shelf.old shelf.new }
     ensures pulls { TalksFrom S.pulled K.output (H.files shelf.old).contents (beginning_of beginning.entry)
         (rules dictionary) mode (named_relations tables.now.relations.now) result script.old script.new out.old out.new }
 {

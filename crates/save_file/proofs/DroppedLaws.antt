@@ -1,12 +1,16 @@
 -- What is said of the lines that carrying drops, and how it is written.
-use Rattle.save_file.proofs.Common.{All, AllByRecursion, Answer, Answered, Bool, CarriedLine, CarriedText, Err, HasItsForm, IsCarried, IsCarry, IsFirstAt, Lacks, List, None, Ok, Option, Override, Result, Rules, Sent, Some, Wrote, [], ap, append-nil, append_assoc, arith, carried_lines, codes, collection, cut, cut-append, cut-lacks, drop, dropped_numbers, end_line, entry, equal_number, false, filter, if◌then◌else◌, inl, inr, is_next, joined, joined-append, keeps, length, length-drop, line_text, lines_of, map, name_lacks_blank, nat_tests, next_line, not, numbers_failing, opening_line, past, printed_rest, refl, said, said_at, said_if, slot_lacks_blank, slot_path_text, subst, suc, sym, take, take_all, true, unwrap_or, ℕ, ◌++◌, ◌+◌, ◌-◌, ◌<◌, ◌∙◌, ◌∷◌, ◌≡◌, ◌≢◌, ◌≤◌}
+use Rattle.save_file.proofs.Common.{All, AllByRecursion, Answer, Answered, Bool, CarriedLine, CarriedText, Err, Global, HasItsForm, IsCarried, IsCarry, IsFirstAt, IsSlotPath, Lacks, List, Member, None, Ok, Option, Override, Result, Rules, SlotPath, Some, Wrote, [], ap, append-nil, append_assoc, arith, carried_lines, codes, collection, cut, cut-append, cut-lacks, drop, dropped_numbers, end_line, entry, equal_number, false, filter, if◌then◌else◌, inl, inr, is_next, joined, keeps, length, length-append, length-drop, line_text, lines_of, map, name_lacks_blank, name_short, nat_tests, next_line, not, numbers_failing, opening_line, past, printed_rest, refl, said, said_at, said_if, slot_lacks_blank, slot_path_text, subst, suc, sym, take, take_all, true, unwrap_or, ℕ, ◌++◌, ◌+◌, ◌-◌, ◌<◌, ◌∙◌, ◌∷◌, ◌≡◌, ◌≢◌, ◌≤◌}
+use Rattle.std.proofs.Common.{min}
+use Rattle.std.proofs.lemmas.Bool.{cases_lt}
+use Rattle.std.specs.Prelude.{decimal}
 use Rattle.fact_paths.proofs.CutLaws.{cut-first, cut-none}
 use Rattle.fg_io.specs.Outside.{HasCause, Output}
 use Rattle.saved_text.proofs.CarriedTexts.{are_lines}
+use Rattle.saved_text.proofs.LinesLeft.{LinesLeft}
 use Rattle.saved_text.proofs.SlotTexts.{Tail, tail_of}
 use Rattle.saved_text.proofs.TextLaws.{empty_is, whole_lines}
-use Rattle.save_file.specs.Dropped.{IsDroppedText, behind_word, dropped_key, dropped_keys, dropped_text, said_of, word_of, words_of}
-use Rattle.saved_text.proofs.Pieces.{IsLeft, all_left}
+use Rattle.value_text.proofs.Decimals.{decimal_of_member}
+use Rattle.save_file.specs.Dropped.{AreDropped, IsDroppedText, behind_word, dropped_key, dropped_keys, dropped_text, said_of, shortened, word_of, words_of}
 
 -- ==== the first words of a line
 
@@ -46,27 +50,37 @@ module _ (text : List ℕ) where
     pub behind_uncut : [] ≡ behind_word text
     behind_uncut = sym (ap (λ (p : List ℕ × List ℕ). p.1) (words_uncut text (cut-none 32 text none)))
 
+-- ---- how long they are
+
+pub shortened_at : (word : List ℕ) (n : ℕ) → n ≡ min (length word) 500 → take n word ≡ shortened word
+shortened_at word n is = elim (cases_lt (length word) 500) [
+  | inl short ↦ take_all n word (omega (arith, is, short)) ∙ sym (take_all 500 word (omega (arith, short)))
+  | inr long ↦ ap (λ (k : ℕ). take k word) (let most : n ≡ 500 = omega (arith, is, long) in most)
+]
+
+path_short : (path : SlotPath) → IsSlotPath path → length (slot_path_text path) ≤ 140
+path_short (Global n) is = omega (arith, name_short n is)
+path_short (Member n k m) is =
+    let digits : length (decimal k) ≤ 7 = decimal_of_member k (omega (arith, is.1)) in
+    omega (arith, name_short n is.0, name_short m is.2, length-append n (codes "/#" ++ (decimal k ++ (codes "/" ++ m))), length-append (decimal k) (codes "/" ++ m))
+
 -- ---- what is said of a line
 
 pub said_line : (line : CarriedLine) → HasItsForm line → said_of (line_text line) ≡ dropped_key line
 said_line (collection name members) form =
-    ap (λ (word : List ℕ). codes "dropped " ++ (codes "list" ++ (codes " " ++ word)))
+    ap (λ (word : List ℕ). codes "dropped " ++ (codes "list" ++ (codes " " ++ shortened word)))
     (word_before (47 ∷ name) (printed_rest members) (let other : 47 ≢ 32 = omega arith in other, name_lacks_blank name form.0) (tail_of members))
+    ∙ ap (λ (word : List ℕ). codes "dropped " ++ (codes "list" ++ (codes " " ++ word))) (take_all 500 (47 ∷ name) (omega (arith, name_short name form.0)))
 said_line (entry Answer path text) form =
-    ap (λ (word : List ℕ). codes "dropped " ++ (codes "value" ++ (codes " " ++ word)))
+    ap (λ (word : List ℕ). codes "dropped " ++ (codes "value" ++ (codes " " ++ shortened word)))
     (word_before (slot_path_text path) (32 ∷ text) (slot_lacks_blank path form.0) (inr (text, refl)))
+    ∙ ap (λ (word : List ℕ). codes "dropped " ++ (codes "value" ++ (codes " " ++ word))) (take_all 500 (slot_path_text path) (omega (arith, path_short path form.0)))
 said_line (entry Override path text) form =
-    ap (λ (word : List ℕ). codes "dropped " ++ (codes "override" ++ (codes " " ++ word)))
+    ap (λ (word : List ℕ). codes "dropped " ++ (codes "override" ++ (codes " " ++ shortened word)))
     (word_before (slot_path_text path) (32 ∷ text) (slot_lacks_blank path form.0) (inr (text, refl)))
+    ∙ ap (λ (word : List ℕ). codes "dropped " ++ (codes "override" ++ (codes " " ++ word))) (take_all 500 (slot_path_text path) (omega (arith, path_short path form.0)))
 
--- two words, in pieces
-pub said_left : (kind name : List ℕ) (a : Output) → IsLeft a a (said kind name ++ 10 ∷ []) (codes "dropped " ∷ kind ∷ codes " " ∷ name ∷ (10 ∷ []) ∷ [])
-said_left kind name a = all_left a (said kind name ++ 10 ∷ []) _ (pieces (codes "dropped ") kind name)
-  where
-    pieces : (front word next : List ℕ) → front ++ (word ++ 32 ∷ (next ++ 10 ∷ [])) ≡ (front ++ (word ++ (codes " " ++ next))) ++ 10 ∷ []
-    pieces front word next = simp append_assoc
-
--- in one piece
+-- with its newline
 pub said_whole : (kind name : List ℕ) → (((([] ++ codes "dropped ") ++ kind) ++ codes " ") ++ name) ++ 10 ∷ [] ≡ said kind name ++ 10 ∷ []
 said_whole kind name = pieces (codes "dropped ") kind (codes " ") name
   where
@@ -77,20 +91,17 @@ said_whole kind name = pieces (codes "dropped ") kind (codes " ") name
 
 -- ---- line after line
 
-pub next_said : (n : ℕ) (ns later line : List ℕ) (lines rest : List (List ℕ)) → lines ≡ line ∷ rest → later ≡ past n ns
-    → joined (said_at n ns lines) ≡ joined (said_if (is_next n ns) line) ++ joined (said_at (n + 1) later rest)
-next_said n ns later line lines rest e same =
-    ap (λ (ls : List (List ℕ)). joined (said_at n ns ls)) e
-    ∙ joined-append (said_if (is_next n ns) line) (said_at (suc n) (past n ns) rest)
-    ∙ ap (λ (ks : List ℕ). joined (said_if (is_next n ns) line) ++ joined (said_at (suc n) ks rest)) (sym same)
-    ∙ ap (λ (k : ℕ). joined (said_if (is_next n ns) line) ++ joined (said_at k later rest)) (let one : suc n ≡ n + 1 = omega arith in one)
+pub next_left : (a b : Output) (all : List (List ℕ)) (n : ℕ) (ns later line : List ℕ) (lines rest : List (List ℕ)) → lines ≡ line ∷ rest → later ≡ past n ns
+    → LinesLeft a b all (said_at n ns lines) → LinesLeft a b all (said_if (is_next n ns) line ++ said_at (n + 1) later rest)
+next_left a b all n ns later line lines rest e same left =
+    subst (LinesLeft a b all)
+    (ap (said_at n ns) e
+    ∙ ap (λ (ks : List ℕ). said_if (is_next n ns) line ++ said_at (suc n) ks rest) (sym same)
+    ∙ ap (λ (k : ℕ). said_if (is_next n ns) line ++ said_at k later rest) (let one : suc n ≡ n + 1 = omega arith in one))
+    left
 
-pub next_dropped : (a b : Option (List ℕ)) (text : List ℕ) (n : ℕ) (ns later line : List ℕ) (lines rest : List (List ℕ)) → lines ≡ line ∷ rest → later ≡ past n ns
-    → Sent a b text (joined (said_at n ns lines)) → Sent a b text (joined (said_if (is_next n ns) line) ++ joined (said_at (n + 1) later rest))
-next_dropped a b text n ns later line lines rest e same sent = subst (Sent a b text) (next_said n ns later line lines rest e same) sent
-
-pub none_left : (a b : Option (List ℕ)) (text : List ℕ) (n : ℕ) (ns bytes : List ℕ) → length bytes ≤ 0 → Sent a b text (joined (said_at n ns (lines_of bytes))) → Sent a b text []
-none_left a b text n ns bytes none sent = subst (λ (bs : List ℕ). Sent a b text (joined (said_at n ns (lines_of bs)))) (empty_is bytes none) sent
+pub none_said : (n : ℕ) (ns bytes : List ℕ) → length bytes ≤ 0 → said_at n ns (lines_of bytes) ≡ []
+none_said n ns bytes none = ap (λ (bs : List ℕ). said_at n ns (lines_of bs)) (empty_is bytes none)
 
 -- ---- the numbers of lines that fail a test
 
@@ -149,17 +160,23 @@ said_dropped r c is =
     ∙ said_lines (λ line. not (keeps r line)) c.lines is.forms
 
 -- what is written of the bytes is what is said of the lines
-pub said_text : (bytes dropped text : List ℕ) → IsDroppedText bytes dropped text → joined (said_at 1 dropped (lines_of bytes)) ≡ text
-said_text bytes dropped text (r, c, is, of_bytes, numbers, says) =
-    ap (λ (ns : List ℕ). joined (said_at 1 ns (lines_of bytes))) numbers
-    ∙ ap (λ (ls : List (List ℕ)). joined (said_at 1 (dropped_numbers r c.lines) ls)) (sym (whole_lines IsCarried carried_lines are_lines c is bytes of_bytes))
-    ∙ ap joined (said_dropped r c is)
+pub said_of_bytes : (bytes dropped : List ℕ) (lines : List (List ℕ)) → AreDropped bytes dropped lines → said_at 1 dropped (lines_of bytes) ≡ lines
+said_of_bytes bytes dropped lines (r, c, is, of_bytes, numbers, says) =
+    ap (λ (ns : List ℕ). said_at 1 ns (lines_of bytes)) numbers
+    ∙ ap (said_at 1 (dropped_numbers r c.lines)) (sym (whole_lines IsCarried carried_lines are_lines c is bytes of_bytes))
+    ∙ said_dropped r c is
     ∙ sym says
+
+pub said_text : (bytes dropped text : List ℕ) → IsDroppedText bytes dropped text → joined (said_at 1 dropped (lines_of bytes)) ≡ text
+said_text bytes dropped text (lines, are, says) = ap joined (said_of_bytes bytes dropped lines are) ∙ sym says
 
 -- ---- of what carrying gave
 
+pub lines_of_carry : (r : Rules) (bytes : List ℕ) (a : Answered) (dropped : List ℕ) (carry : IsCarry r bytes a dropped) → AreDropped bytes dropped (dropped_keys r carry.0.lines)
+lines_of_carry r bytes a dropped carry = (r, carry.0, carry.1, carry.2, carry.3.others, refl)
+
 pub dropped_of_carry : (r : Rules) (bytes : List ℕ) (a : Answered) (dropped : List ℕ) (carry : IsCarry r bytes a dropped) → IsDroppedText bytes dropped (dropped_text r carry.0.lines)
-dropped_of_carry r bytes a dropped carry = (r, carry.0, carry.1, carry.2, carry.3.others, refl)
+dropped_of_carry r bytes a dropped carry = (dropped_keys r carry.0.lines, lines_of_carry r bytes a dropped carry, refl)
 
 -- ---- the cause of a failure
 

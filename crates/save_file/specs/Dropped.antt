@@ -1,5 +1,5 @@
 -- What is said of the lines that carrying drops.
-use Rattle.std.specs.Prelude.{◌≡◌, ℕ, suc, Bool, false, not, nat_eq, List, [], ◌∷◌, ◌++◌, map, filter, unwrap_or, codes, refl, if◌then◌else◌}
+use Rattle.std.specs.Prelude.{◌≡◌, ℕ, suc, Bool, false, not, nat_eq, List, [], ◌∷◌, ◌++◌, map, filter, take, unwrap_or, codes, refl, if◌then◌else◌}
 use Rattle.fact_paths.specs.Cuts.{cut}
 use Rattle.fact_paths.specs.declared.slot_path.SlotPath.TheVariants.{Global}
 use Rattle.answers.specs.declared.edit.Side.TheVariants.{Override}
@@ -23,9 +23,13 @@ abbrev pub dropped_text : Rules → List CarriedLine → List ℕ
 dropped_text r lines = joined (dropped_keys r lines)
 
 -- the bytes are a carried text, these are the numbers of the lines that some rules drop, and that is what is said of them
+abbrev pub AreDropped : List ℕ → List ℕ → List (List ℕ) → Type 0
+AreDropped bytes dropped lines =
+    (r : Rules) × (c : CarriedText) × IsCarried c × (bytes ≡ carried c) × (dropped ≡ dropped_numbers r c.lines) × (lines ≡ dropped_keys r c.lines)
+
+-- the same as a text
 abbrev pub IsDroppedText : List ℕ → List ℕ → List ℕ → Type 0
-IsDroppedText bytes dropped text =
-    (r : Rules) × (c : CarriedText) × IsCarried c × (bytes ≡ carried c) × (dropped ≡ dropped_numbers r c.lines) × (text ≡ dropped_text r c.lines)
+IsDroppedText bytes dropped text = (lines : List (List ℕ)) × AreDropped bytes dropped lines × (text ≡ joined lines)
 
 -- ---- where it stands in the bytes
 
@@ -43,9 +47,12 @@ behind_word text = (words_of text).1
 abbrev pub said : List ℕ → List ℕ → List ℕ
 said kind name = codes "dropped " ++ (kind ++ (codes " " ++ name))
 
--- the first two of a line
+-- the first two of a line, as far as there is room for them, which the words of a carried text don't pass
+abbrev pub shortened : List ℕ → List ℕ
+shortened word = take 500 word
+
 abbrev pub said_of : List ℕ → List ℕ
-said_of line = said (word_of line) (word_of (behind_word line))
+said_of line = said (shortened (word_of line)) (shortened (word_of (behind_word line)))
 
 -- this number is the next of those that rise
 abbrev pub is_next : ℕ → List ℕ → Bool

@@ -2,12 +2,13 @@
 ghost use Rattle.std.specs.Prelude.{◌≡◌, ◌≢◌, All, ◌<◌, ◌++◌, ◌∷◌, [], List, ℕ, IfNone, IfSome, length, ◌≤◌};
 ghost use Rattle.fact_paths.specs.Cuts.{IsFirstAt};
 ghost use Rattle.fg_io.specs.Outside.{HasCause};
+ghost use Rattle.fg_io.specs.Puts.{PutAs};
 ghost use Rattle.fg_io.specs.Writing.{Wrote};
-ghost use Rattle.script_lines.specs.Joined.{joined};
 ghost use Rattle.script_lines.specs.Lines.{lines_of};
-ghost use Rattle.save_file.specs.Dropped.{IsDroppedText, behind_word as bytes_behind_word, is_next as is_next_of, past as past_of, said, said_at, said_if, said_of, word_of};
+ghost use Rattle.saved_text.specs.Writing.{WroteAs, pieces_of};
+ghost use Rattle.save_file.specs.Dropped.{AreDropped, IsDroppedText, behind_word as bytes_behind_word, is_next as is_next_of, past as past_of, said, said_at, said_if, said_of, shortened as shortened_to, word_of};
 
-use fg_io::{Failed, Sink, put_text};
+use fg_io::{Failed, Sink, put_piece};
 use script_lines::cut_line;
 use value_text::Line;
 
@@ -30,11 +31,19 @@ fn cut_word(text: &[u8]) -> (&[u8], &[u8])
     }
 }
 
-// Puts what is said of a line, of its first two words, as one piece.
-fn put_piece<K: Sink>(kind: &[u8], name: &[u8], out: &mut K) -> Result<(), Failed>
+// As much of a word as a line has room for.
+fn shortened(word: &[u8]) -> &[u8]
+    ensures text { result.now ≡ shortened_to word.now }
+    ensures short { length result.now ≤ 500 }
+{
+    &word[..word.len().min(500)]
+}
+
+// Puts what is said of a line, of its first two words.
+fn put_words<K: Sink>(kind: &[u8], name: &[u8], out: &mut K) -> Result<(), Failed>
     requires kind { length kind.now ≤ 500 }
     requires name { length name.now ≤ 500 }
-    ensures { Wrote (K.output out.old) (K.output out.new) (said kind.now name.now ++ 10 ∷ []) result }
+    ensures { WroteAs (K.output out.old) (K.output out.new) (said kind.now name.now ∷ []) result }
 {
     let mut piece = Line::new();
     piece.push(b"dropped ");
@@ -42,30 +51,16 @@ fn put_piece<K: Sink>(kind: &[u8], name: &[u8], out: &mut K) -> Result<(), Faile
     piece.push(b" ");
     piece.push(name);
     piece.push(b"\n");
-    put_text(piece.bytes(), out)
+    put_piece(piece.bytes(), out)
 }
 
-// The same in several pieces, of words of any length.
-fn put_pieces<K: Sink>(kind: &[u8], name: &[u8], out: &mut K) -> Result<(), Failed>
-    ensures { Wrote (K.output out.old) (K.output out.new) (said kind.now name.now ++ 10 ∷ []) result }
-{
-    put_text(b"dropped ", out)?;
-    put_text(kind, out)?;
-    put_text(b" ", out)?;
-    put_text(name, out)?;
-    put_text(b"\n", out)
-}
-
-// The same of a line. Those of a carried text have at most 150 bytes together, so it is one piece.
+// The same of a line. Those of a carried text have at most 150 bytes together.
 fn put_line<K: Sink>(line: &[u8], out: &mut K) -> Result<(), Failed>
-    ensures { Wrote (K.output out.old) (K.output out.new) (joined (said_of line.now ∷ [])) result }
+    ensures { WroteAs (K.output out.old) (K.output out.new) (said_of line.now ∷ []) result }
 {
     let kind = cut_word(line);
     let name = cut_word(kind.1);
-    if kind.0.len() > 500 || name.0.len() > 500 {
-        return put_pieces(kind.0, name.0, out);
-    }
-    put_piece(kind.0, name.0, out)
+    put_words(shortened(kind.0), shortened(name.0), out)
 }
 
 // Whether this number is the next of those that rise.
@@ -96,7 +91,7 @@ fn put_if_next<K: Sink>(
     line: &[u8],
     out: &mut K,
 ) -> Result<(), Failed>
-    ensures { Wrote (K.output out.old) (K.output out.new) (joined (said_if (is_next_of number dropped.now) line.now))
+    ensures { WroteAs (K.output out.old) (K.output out.new) (said_if (is_next_of number dropped.now) line.now)
         result }
 {
     if is_next(number, dropped) {
@@ -109,7 +104,7 @@ fn put_if_next<K: Sink>(
 // Goes through the lines.
 fn put_lines<K: Sink>(bytes: &[u8], dropped: &[u32], out: &mut K) -> Result<(), Failed>
     requires { length bytes.now < 4294967295 }
-    ensures { Wrote (K.output out.old) (K.output out.new) (joined (said_at 1 dropped.now (lines_of bytes.now))) result }
+    ensures { WroteAs (K.output out.old) (K.output out.new) (said_at 1 dropped.now (lines_of bytes.now)) result }
 {
     let mut rest = bytes;
     let mut left = dropped;
@@ -128,11 +123,14 @@ fn put_lines<K: Sink>(bytes: &[u8], dropped: &[u32], out: &mut K) -> Result<(), 
 }
 
 /// Puts a line for each line of a carried text that carrying dropped, as `dropped value /n`, of the text's bytes and of the numbers
-/// that `carry` gave. A line is one piece; after a failure a part of the text was taken. It takes no memory.
+/// that `carry` gave. A line with its newline is one piece. After a failure a part of the text was taken, and nothing is put any more.
+/// It takes no memory.
 pub fn put_dropped<K: Sink>(bytes: &[u8], dropped: &[u32], out: &mut K) -> Result<(), Failed>
     requires { length bytes.now < 4294967295 }
     ensures text { (text : List ℕ) → IsDroppedText bytes.now dropped.now text → Wrote (K.output out.old) (K.output out.new) text result }
     ensures cause { HasCause (K.output out.old).faults (K.output out.new).faults result }
+    ensures puts { (lines : List (List ℕ)) → AreDropped bytes.now dropped.now lines → PutAs (K.output out.old) (K.output out.new)
+        (pieces_of lines) result }
 {
     put_lines(bytes, dropped, out)
 }

@@ -49,7 +49,7 @@ pub use Rattle.saved_text.specs.Cursors.{slots_from, slots_left}
 pub use Rattle.saved_text.specs.EntryKeys.{has}
 pub use Rattle.saved_text.specs.Parsing.{IsNextNumber, ReadsMember, ReadsMembers, are_below, are_others}
 pub use Rattle.saved_text.specs.Refused.{Begins, IsRefusedAt, first_lines}
-pub use Rattle.saved_text.specs.SavedText.{counted, end_line, entries, entry_lines, list_lines, list_lines_of, lists, lists as lists_lines, next_line, opening_line, saved, side_word}
+pub use Rattle.saved_text.specs.SavedText.{counted, end_line, entries, entry_lines, entry_lines_of, list_lines, list_lines_of, lists, lists as lists_lines, next_line, opening_line, saved, saved_lines, side_word}
 pub use Rattle.saved_text.specs.declared.carried_line.EntryLine.{EntryLine}
 pub use Rattle.saved_text.specs.declared.carried_line.TextLine.{TextLine}
 pub use Rattle.saved_text.specs.declared.carried_read.CarriedRead.{CarriedRead}

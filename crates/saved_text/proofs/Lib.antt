@@ -4,6 +4,7 @@ pub mod CarriedTexts
 pub mod Common
 pub mod LineTexts
 pub mod Lines
+pub mod LinesLeft
 pub mod MemberParsing
 pub mod Pieces
 pub mod RefusedLaws

@@ -5,3 +5,4 @@ pub mod EntryKeys
 pub mod Parsing
 pub mod Refused
 pub mod SavedText
+pub mod Writing

@@ -2,19 +2,19 @@
 ghost use Rattle.std.specs.Prelude.{◌≡◌, ◌+◌, ◌≤◌, ◌++◌, ◌∷◌, [], codes, length, option_copied, Some};
 ghost use Rattle.answers.specs.Answered.{value_of};
 ghost use Rattle.answers.specs.Meaning.{answered};
-ghost use Rattle.script_lines.specs.Joined.{joined};
-ghost use Rattle.value_text.specs.Values.{IsPrinted, printed};
+ghost use Rattle.value_text.specs.Values.{IsPrinted};
 ghost use Rattle.dictionary.specs.Kept.{accepted};
 ghost use Rattle.dict_meaning.specs.Fits.{AnswersFit};
 ghost use Rattle.dict_meaning.specs.SlotText.{IsSlot, slot_text};
 ghost use Rattle.saved_text.specs.SavedText.{entries, entry_line, entry_lines, side_word as word_of_side};
-ghost use Rattle.fg_io.specs.Writing.{Wrote};
+ghost use Rattle.saved_text.specs.Writing.{WroteAs};
 
 use crate::cursor::Cursor;
+use crate::writing::put_line;
 use answers::{Answers, Side};
 use dictionary::Dictionary;
 use fact_values::{Slot, Value};
-use fg_io::{Failed, Sink, put_text};
+use fg_io::{Failed, Sink};
 use value_text::{Line, print};
 
 /// The first word of an entry's line, with its blank.
@@ -37,34 +37,21 @@ fn entry_at(answers: &Answers, side: Side, slot: Slot) -> Option<&Value>
     }
 }
 
-// Puts a line up to its value.
-fn put_slot<K: Sink>(dict: &Dictionary, side: Side, slot: Slot, out: &mut K) -> Result<(), Failed>
-    requires { IsSlot (accepted dict.now).tree slot }
-    ensures { Wrote (K.output out.old) (K.output out.new)
-        (word_of_side side ++ (slot_text (accepted dict.now).tree slot ++ codes " ")) result }
+// Prints into an empty line what an entry's line has before its value.
+fn print_slot(dict: &Dictionary, side: Side, slot: Slot, line: &mut Line)
+    requires slot { IsSlot (accepted dict.now).tree slot }
+    requires empty { line.old ≡ [] }
+    ensures text { line.new ≡ word_of_side side ++ (slot_text (accepted dict.now).tree slot ++ codes " ") }
+    ensures short { length line.new ≤ 150 }
 {
     let _accepted = dict.source();
-    let mut line = Line::new();
     line.push(side_word(side).as_bytes());
-    dict.print_slot(slot, &mut line);
+    dict.print_slot(slot, line);
     line.push(b" ");
-    put_text(line.bytes(), out)
-}
-
-// Puts a value and its newline.
-fn put_value<K: Sink>(dict: &Dictionary, value: &Value, out: &mut K) -> Result<(), Failed>
-    requires { IsPrinted (accepted dict.now).tree.enums value.now }
-    ensures { Wrote (K.output out.old) (K.output out.new) (printed (accepted dict.now).tree.enums value.now ++ 10 ∷ [])
-        result }
-{
-    let mut line = Line::new();
-    print(value, dict.source().enums(), &mut line);
-    line.push(b"\n");
-    put_text(line.bytes(), out)
 }
 
 // Puts the line of a slot with this value.
-fn put_both<K: Sink>(
+fn put_value<K: Sink>(
     dict: &Dictionary,
     side: Side,
     slot: Slot,
@@ -73,13 +60,14 @@ fn put_both<K: Sink>(
 ) -> Result<(), Failed>
     requires slot { IsSlot (accepted dict.now).tree slot }
     requires listed { IsPrinted (accepted dict.now).tree.enums value.now }
-    ensures { Wrote (K.output out.old) (K.output out.new) (entry_line side (accepted dict.now).tree slot
-        value.now ++ 10 ∷ []) result }
+    ensures { WroteAs (K.output out.old) (K.output out.new)
+        (entry_line side (accepted dict.now).tree slot value.now ∷ []) result }
 {
-    match put_slot(dict, side, slot, out) {
-        Err(failed) => Err(failed),
-        Ok(()) => put_value(dict, value, out),
-    }
+    let mut front = Line::new();
+    print_slot(dict, side, slot, &mut front);
+    let mut back = Line::new();
+    print(value, dict.source().enums(), &mut back);
+    put_line(front.bytes(), back.bytes(), out)
 }
 
 // Puts the line of a slot that has an answer, or an override.
@@ -91,13 +79,13 @@ fn put_entry<K: Sink>(
     out: &mut K,
 ) -> Result<(), Failed>
     requires { AnswersFit (accepted dict.now).tree (answered answers.now) }
-    ensures { Wrote (K.output out.old) (K.output out.new)
-        (joined (entry_lines side (accepted dict.now).tree (answered answers.now) slot)) result }
+    ensures { WroteAs (K.output out.old) (K.output out.new)
+        (entry_lines side (accepted dict.now).tree (answered answers.now) slot) result }
 {
     let _accepted = dict.source();
     match entry_at(answers, side, slot) {
         None => Ok(()),
-        Some(value) => put_both(dict, side, slot, value, out),
+        Some(value) => put_value(dict, side, slot, value, out),
     }
 }
 
@@ -109,8 +97,8 @@ pub fn put_entries<K: Sink>(
     out: &mut K,
 ) -> Result<(), Failed>
     requires { AnswersFit (accepted dict.now).tree (answered answers.now) }
-    ensures { Wrote (K.output out.old) (K.output out.new)
-        (joined (entries side (accepted dict.now).tree (answered answers.now))) result }
+    ensures { WroteAs (K.output out.old) (K.output out.new)
+        (entries side (accepted dict.now).tree (answered answers.now)) result }
 {
     let mut cursor = Cursor::new(dict, answers);
     while let Some(slot) = cursor.next(dict, answers) {

@@ -12,6 +12,7 @@ mod laws;
 mod lists;
 mod reading;
 mod saving;
+mod writing;
 
 pub use carried_line::{EntryLine, ListLine, TextLine, members_of};
 pub use carried_read::{CarriedRead, key_of};

@@ -4,19 +4,19 @@ ghost use Rattle.std.specs.List.{list_all};
 ghost use Rattle.fact_values.specs.Members.{IsMemberList, is_member};
 ghost use Rattle.value_text.specs.MemberTexts.{printed_item, printed_rest};
 ghost use Rattle.answers.specs.Meaning.{answered};
-ghost use Rattle.script_lines.specs.Joined.{joined};
 ghost use Rattle.dictionary.specs.Kept.{accepted};
 ghost use Rattle.dict_meaning.specs.Fits.{AnswersFit};
 ghost use Rattle.evaluation.specs.Results.{slot};
 ghost use Rattle.dict_meaning.specs.SlotText.{IsSlot};
 ghost use Rattle.saved_text.specs.SavedText.{list_line, list_lines, lists};
-ghost use Rattle.fg_io.specs.Writing.{Wrote};
+ghost use Rattle.saved_text.specs.Writing.{WroteAs};
 ghost use Rattle.std.specs.FinMap as map;
 
+use crate::writing::put_line;
 use answers::Answers;
 use dictionary::Dictionary;
 use fact_values::Slot;
-use fg_io::{Failed, Sink, put_text};
+use fg_io::{Failed, Sink};
 use itoa::Buffer;
 use value_text::Line;
 
@@ -54,16 +54,15 @@ fn put_list<K: Sink>(
 ) -> Result<(), Failed>
     requires collection { IsSlot (accepted dict.now).tree (slot fact 0) }
     requires members { IsMemberList members.now }
-    ensures { Wrote (K.output out.old) (K.output out.new) (list_line (accepted dict.now).tree fact
-        members.now ++ 10 ∷ []) result }
+    ensures { WroteAs (K.output out.old) (K.output out.new)
+        (list_line (accepted dict.now).tree fact members.now ∷ []) result }
 {
     let _accepted = dict.source();
     let mut line = Line::new();
     line.push(b"list ");
     dict.print_slot(Slot { fact, member: 0 }, &mut line);
     print_members(members, &mut line);
-    line.push(b"\n");
-    put_text(line.bytes(), out)
+    put_line(line.bytes(), b"", out)
 }
 
 // Puts the line of a fact that is an open collection.
@@ -74,8 +73,8 @@ fn put_if_open<K: Sink>(
     out: &mut K,
 ) -> Result<(), Failed>
     requires { AnswersFit (accepted dict.now).tree (answered answers.now) }
-    ensures { Wrote (K.output out.old) (K.output out.new)
-        (joined (list_lines (accepted dict.now).tree (answered answers.now) fact)) result }
+    ensures { WroteAs (K.output out.old) (K.output out.new)
+        (list_lines (accepted dict.now).tree (answered answers.now) fact) result }
 {
     let _accepted = dict.source();
     match answers.members(fact) {
@@ -87,8 +86,8 @@ fn put_if_open<K: Sink>(
 /// Puts the lines of all open collections.
 pub fn put_lists<K: Sink>(dict: &Dictionary, answers: &Answers, out: &mut K) -> Result<(), Failed>
     requires { AnswersFit (accepted dict.now).tree (answered answers.now) }
-    ensures { Wrote (K.output out.old) (K.output out.new)
-        (joined (lists (accepted dict.now).tree (answered answers.now))) result }
+    ensures { WroteAs (K.output out.old) (K.output out.new)
+        (lists (accepted dict.now).tree (answered answers.now)) result }
 {
     let count = dict.fact_count();
     let mut done = 0;

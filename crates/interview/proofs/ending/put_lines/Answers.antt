@@ -1,21 +1,26 @@
-use Rattle.std.proofs.Common.{◌≡◌, ◌-◌, ◌++◌, length, take, drop, sym, subst, ◌∙◌, arith, take-append-drop}
-use Rattle.fg_io.specs.Sent.{Sent}
-use Rattle.fg_io.proofs.PutLaws.{rose_behind}
-use Rattle.fg_io.proofs.SentLaws.{sent_behind, sent_part, sent_whole}
+use Rattle.std.proofs.Common.{◌≡◌, ℕ, ◌+◌, List, [], ◌∷◌, drop, sym, ap, subst, ◌∙◌, arith}
+use Rattle.std.proofs.lemmas.List.{drop_all}
+use Rattle.session_lines.proofs.WritingLaws.{LinesSoFar, so_far_all, so_far_fails, so_far_none, so_far_on}
+use Rattle.interview.specs.Summary.{texts_in}
+use Rattle.interview.proofs.LastLineLaws.{next_text, no_text}
 use Rattle.interview.proofs.ending.put_lines.Goals as goal
 
-pub returns-in-Err-clause-part : goal.returns-in-Err-clause-part
-returns-in-Err-clause-part g c =
-    let rest = c.loop-rest.rest.now in
-    let size = length c.loop-rest.rest.now - length c.cut_line.result.1.now in
-    let split : rest ≡ take size rest ++ drop size rest = sym (take-append-drop size rest) in
-    (c.in-Err.ensures.part.0 ++ drop size rest, sent_part _ _ _ _ (take size rest) (drop size rest) c.in-Err.ensures.part.0 (subst (Sent _ _ _) split c.loop-rest.invariant.sent) c.in-Err.ensures.part.1)
+pub loop-text-init : goal.loop-text-init
+loop-text-init g c = λ lines same. (lines, same, so_far_none _ _)
 
-pub returns-in-Err-clause-cause : goal.returns-in-Err-clause-cause
-returns-in-Err-clause-cause g c = rose_behind _ _ _ c.loop-rest.invariant.counted c.in-Err.ensures.cause
+pub returns-in-Err : goal.returns-in-Err
+returns-in-Err g c = λ lines same.
+    let so_far = c.loop-text.invariant lines same in
+    let next = next_text c.args.texts.now c.loop-text.text-index c.text-item.result so_far.0 c.loop-text-test.true c.text-item.is so_far.1 in
+    so_far_fails _ _ _ lines (next.0 ∷ []) next.1 (subst (LinesSoFar _ _ lines) next.2 so_far.2) (c.in-Err.ensures next.0 (c.as_slice.ensures.value ∙ next.3))
 
-pub loop-rest-preserved : goal.loop-rest-preserved
-loop-rest-preserved g c = record {
-  sent = sent_behind _ _ _ _ _ _ _ c.loop-rest.invariant.sent (sent_whole _ _ _ c.in-Ok.ensures.whole) (omega arith);
-  counted = c.in-Ok.ensures.cause ∙ c.loop-rest.invariant.counted;
-}
+pub loop-text-preserved : goal.loop-text-preserved
+loop-text-preserved g c = λ lines same.
+    let so_far = c.loop-text.invariant lines same in
+    let next = next_text c.args.texts.now c.loop-text.text-index c.text-item.result so_far.0 c.loop-text-test.true c.text-item.is so_far.1 in
+    (next.1, next.4, so_far_on _ _ _ lines (next.0 ∷ []) next.1 (subst (LinesSoFar _ _ lines) next.2 so_far.2) (c.in-Ok.ensures next.0 (c.as_slice.ensures.value ∙ next.3)))
+
+pub returns : goal.returns
+returns g c = λ lines same.
+    let so_far = c.loop-text.invariant lines same in
+    so_far_all _ _ lines so_far.0 (no_text so_far.0 (sym (ap texts_in (drop_all c.loop-text.text-index c.args.texts.now (omega (arith, c.loop-text-test.false)))) ∙ so_far.1)) so_far.2

@@ -1,12 +1,11 @@
-use Rattle.std.proofs.Common.{◌≡◌, length}
-use Rattle.fg_io.specs.Sent.{Sent}
+-- The texts from here on are the pieces of the lines that are left.
+use Rattle.std.proofs.Common.{◌≡◌, ℕ, List, drop}
+use Rattle.session_lines.specs.Writing.{pieces_of}
+use Rattle.session_lines.proofs.WritingLaws.{LinesSoFar}
+use Rattle.interview.specs.Summary.{texts_in}
 use Rattle.interview.proofs.ending.put_lines.Given as goal
 
-abbrev pub invariant-loop-rest : goal.invariant-loop-rest
-invariant-loop-rest g l = record {
-  sent : Sent (g.K.Sink.output l.fn.out).taken (g.K.Sink.output l.out).taken l.fn.text l.rest;
-  counted : (g.K.Sink.output l.out).faults ≡ (g.K.Sink.output l.fn.out).faults;
-}
-
-abbrev pub decreases-loop-rest : goal.decreases-loop-rest
-decreases-loop-rest g l = length l.rest
+abbrev pub invariant-loop-text : goal.invariant-loop-text
+invariant-loop-text g l =
+    (lines : List (List ℕ)) → texts_in l.texts ≡ pieces_of lines
+    → (rest : List (List ℕ)) × (texts_in (drop l.text-index l.texts) ≡ pieces_of rest) × LinesSoFar (g.K.Sink.output l.fn.out) (g.K.Sink.output l.out) lines rest

@@ -1,4 +1,4 @@
-use Rattle.std.proofs.Common.{inr, refl, arith}
+use Rattle.std.proofs.Common.{inr, refl}
 use Rattle.interview.specs.Dictionaries.{brought}
 use Rattle.interview.proofs.DictionaryLaws.{obtains_file}
 use Rattle.interview.proofs.obtaining.obtain.Goals as goal
@@ -8,7 +8,7 @@ returns-in-File g c = record {
   obtained = rw c.in-File.is (obtains_file (g.H.Shelf.files c.args.shelf.now).contents c.in-File.name.now _ c.fetch.result c.fetch.ensures.fetched);
   not_obtained = rw c.in-File.is c.fetch.ensures.not_fetched;
   kept = c.fetch.ensures.kept;
-  later = c.fetch.ensures.later;
+  uncounted = c.fetch.ensures.uncounted;
   calls = rw c.in-File.is c.fetch.ensures.calls;
   by_calls = rw c.in-File.is c.fetch.ensures.by_calls;
 }
@@ -18,10 +18,10 @@ returns-in-Ok g c = record {
   obtained = rw c.in-BuiltIn.is (brought _, refl, c.in-Ok.ensures.accepted, inr c.in-Ok.ensures.no_check);
   not_obtained = tt;
   kept = refl;
-  later = omega arith;
-  calls = rw c.in-BuiltIn.is refl;
+  uncounted = refl;
+  calls = rw c.in-BuiltIn.is (refl, λ wrong. cc);
   by_calls = rw c.in-BuiltIn.is (refl, c.in-Ok.ensures.accepted);
 }
 
 pub returns-in-Err-clause-calls : goal.returns-in-Err-clause-calls
-returns-in-Err-clause-calls g c = rw c.in-BuiltIn.is refl
+returns-in-Err-clause-calls g c = rw c.in-BuiltIn.is (refl, λ wrong. cc)

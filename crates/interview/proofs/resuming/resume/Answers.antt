@@ -6,7 +6,7 @@ pub returns-in-Unanswered : goal.returns-in-Unanswered
 returns-in-Unanswered g c = record {
   resumed = rw c.in-Unanswered.is (none_begins (g.H.Shelf.files c.args.shelf.now).contents _ _ c.new.ensures);
   not_resumed = tt;
-  calls = rw c.in-Unanswered.is refl;
+  calls = rw c.in-Unanswered.is (refl, λ wrong. cc);
 }
 
 pub returns-in-Load : goal.returns-in-Load

@@ -10,7 +10,7 @@ pub save_session-status-requires-clause-unchanged : goal.save_session-status-req
 save_session-status-requires-clause-unchanged g c = ap (λ (s : SessionView). s.changes) c.in-Ok.ensures.session
 
 pub returns : goal.returns
-returns g c = record { saves = nothing _ _ refl; calls = inl refl }
+returns g c = record { saves = nothing _ _ refl; calls = inl (refl, refl) }
 
 pub returns-in-Ok : goal.returns-in-Ok
 returns-in-Ok g c = record {

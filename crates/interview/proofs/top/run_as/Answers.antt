@@ -2,6 +2,7 @@ use Rattle.std.proofs.Common.{inl, refl}
 use Rattle.fact_watch.specs.Tables.{named_relations}
 use Rattle.answers.specs.Meaning.{answered}
 use Rattle.graph_session.specs.Rules.{rules}
+use Rattle.script_lines.specs.Joined.{joined}
 use Rattle.interview.proofs.StartLaws.{ends_without}
 use Rattle.interview.proofs.top.run_as.Goals as goal
 
@@ -29,4 +30,4 @@ returns-in-Ok g c =
     }
 
 pub returns : goal.returns
-returns g c = record { ends = λ front gives. ends_without _ front _ refl (refl, refl); calls = λ front gives. inl (refl, inl refl) }
+returns g c = record { ends = λ front gives. ends_without _ (joined front) _ refl (refl, refl); calls = λ front gives. inl (refl, inl refl) }
