@@ -1,13 +1,16 @@
-/* The Fact Graph as a C library: sessions over dictionaries, which are fed lines and hand out replies.
+/* The Fact Graph as a C library: sessions and desks over dictionaries, which are fed lines and hand out replies.
  *
  * A session is opened over a dictionary's bytes, with no answers, or with those of a saved text. It is then given lines, as
  * those of a script of `interview run`, and says of each what that program would write. What a call says is the session's text:
  * its size comes from the call, and its bytes by `fact_graph_read`, in one piece or in several.
  *
+ * A desk is a session that several parties share, and is given lines as those of a script of `interview desk`: each is a party's. What is
+ * said here of sessions and of their calls holds of desks and of theirs, whose names begin with `fact_graph_desk_`.
+ *
  * For all functions:
- * - A `fact_graph` is a session that `fact_graph_open`, `fact_graph_open_built_in`, `fact_graph_load`, `fact_graph_carry` or
- *   `fact_graph_resume` opened and that `fact_graph_close` didn't end. A call takes it, and gives it back through `back`, which may be
- *   where it came from:
+ * - A `fact_graph` is a session that `fact_graph_open`, `fact_graph_open_built_in`, `fact_graph_further`, `fact_graph_load`,
+ *   `fact_graph_carry` or `fact_graph_resume` opened and that `fact_graph_close` didn't end. A call takes it, and gives it back through
+ *   `back`, which may be where it came from:
  *   `fact_graph_answer(graph, line, size, &text_size, &graph)`. A copy of it is the same session.
  * - A session has one call at a time, and may go to another thread between calls only as far as the program orders the calls.
  *   Calls of different sessions may run side by side.
@@ -29,10 +32,10 @@ extern "C" {
 
 /* The version, by semantic versioning: a host runs with each library of its major number and no lower minor one. */
 #define FACT_GRAPH_VERSION_MAJOR 1
-#define FACT_GRAPH_VERSION_MINOR 1
+#define FACT_GRAPH_VERSION_MINOR 2
 #define FACT_GRAPH_VERSION_PATCH 0
 
-/* The same as one number, for `#if FACT_GRAPH_VERSION_NUMBER >= 10200`, and as a text, "1.1.0". */
+/* The same as one number, for `#if FACT_GRAPH_VERSION_NUMBER >= 10200`, and as a text, "1.2.0". */
 #define FACT_GRAPH_VERSION_NUMBER (FACT_GRAPH_VERSION_MAJOR * 10000 + FACT_GRAPH_VERSION_MINOR * 100 + FACT_GRAPH_VERSION_PATCH)
 #define FACT_GRAPH_VERSION \
   FACT_GRAPH_DOTTED(FACT_GRAPH_VERSION_MAJOR, FACT_GRAPH_VERSION_MINOR, FACT_GRAPH_VERSION_PATCH)
@@ -43,6 +46,11 @@ extern "C" {
 typedef struct fact_graph {
   void *at;
 } fact_graph;
+
+/* A desk. Its field is for the library alone. */
+typedef struct fact_graph_desk {
+  void *at;
+} fact_graph_desk;
 
 /* What a field of a fault is where the fault has no such number. */
 #define FACT_GRAPH_ABSENT UINT32_MAX
@@ -99,6 +107,9 @@ typedef struct fact_graph_fault {
 #define FACT_GRAPH_REFUSED_WATCH_THERE 17u
 #define FACT_GRAPH_REFUSED_WATCHES_FULL 18u
 #define FACT_GRAPH_REFUSED_NOT_WATCHED 19u
+/* At a desk alone: another party's change touched the slot since this party looked at it, or `undo` and `redo` are for another's. */
+#define FACT_GRAPH_REFUSED_STALE 20u
+#define FACT_GRAPH_REFUSED_NOT_YOURS 21u
 
 /* How a call on a session ended. */
 /* What it has to say is the session's text. */
@@ -129,6 +140,12 @@ uint32_t fact_graph_open(const uint8_t *dictionary, size_t dictionary_size, fact
  * same, and the rate schedule and the child tax credit behind it); else the fault is FACT_GRAPH_FAULT_UNKNOWN. Otherwise as
  * `fact_graph_open`. */
 uint32_t fact_graph_open_built_in(const uint8_t *words, size_t words_size, fact_graph *graph, fact_graph_fault *fault);
+
+/* Opens a further session over the dictionary of `graph`, with no answers and no text. Both share the dictionary and what was made of
+ * it, so this takes as long as to copy one result a fact, and in the first such call a while longer; each may be closed before the
+ * other, and may have its calls in another thread. Returns 0, and the session through `further`; or FACT_GRAPH_FAULT_MEMORY, also in
+ * `fault`, and `further` as it was. `graph` comes back as it was. Since version 1.2. */
+uint32_t fact_graph_further(fact_graph graph, fact_graph *further, fact_graph_fault *fault, fact_graph *back);
 
 /* Opens a session over the dictionary with the answers of its own saved text, as `interview load` does. Otherwise as
  * `fact_graph_open`. */
@@ -196,6 +213,37 @@ uint32_t fact_graph_version(void);
 
 /* Ends a session, and frees its memory. No copy of it may be used again. */
 void fact_graph_close(fact_graph graph);
+
+/* ---- Desks */
+
+/* Opens a desk over the dictionary, with no answers and no text, at which nobody has done anything. Otherwise as `fact_graph_open`.
+ * Since version 1.2. */
+uint32_t fact_graph_desk_open(const uint8_t *dictionary, size_t dictionary_size, fact_graph_desk *desk, fact_graph_fault *fault);
+
+/* Opens such a desk over a dictionary that comes with the library. Otherwise as `fact_graph_open_built_in`. Since version 1.2. */
+uint32_t fact_graph_desk_open_built_in(const uint8_t *words, size_t words_size, fact_graph_desk *desk, fact_graph_fault *fault);
+
+/* Opens such a desk over the dictionary with the answers of its own saved text, that of a session or of a desk: who gave them isn't
+ * saved. Otherwise as `fact_graph_load`. Since version 1.2. */
+uint32_t fact_graph_desk_load(const uint8_t *dictionary, size_t dictionary_size, const uint8_t *saved, size_t saved_size,
+                              fact_graph_desk *desk, fact_graph_fault *fault);
+
+/* Answers a line of a party, from 1 to 16, as `@2 set /a 5`: each line of its reply begins with the party's mark, `@2 `. A line that
+ * begins with no party's is refused as BadLine, without a mark, and so is one of more than 4,096 bytes, as LongLine. `quit` of any party
+ * ends the desk's script. Otherwise as `fact_graph_answer`. Since version 1.2. */
+uint32_t fact_graph_desk_answer(fact_graph_desk desk, const uint8_t *line, size_t line_size, size_t *text_size, fact_graph_desk *back);
+
+/* Makes the saved text of the answers that stand the desk's text. Otherwise as `fact_graph_save`. Since version 1.2. */
+uint32_t fact_graph_desk_save(fact_graph_desk desk, size_t *text_size, fact_graph_desk *back);
+
+/* Gives back the memory of the desk's text, as `fact_graph_trim`. Since version 1.2. */
+void fact_graph_desk_trim(fact_graph_desk desk, fact_graph_desk *back);
+
+/* Copies the desk's text from a byte on, as `fact_graph_read`. Since version 1.2. */
+size_t fact_graph_desk_read(fact_graph_desk desk, size_t from, uint8_t *out, size_t out_size, fact_graph_desk *back);
+
+/* Ends a desk, and frees its memory. No copy of it may be used again. Since version 1.2. */
+void fact_graph_desk_close(fact_graph_desk desk);
 
 #ifdef __cplusplus
 }

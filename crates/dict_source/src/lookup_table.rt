@@ -12,7 +12,7 @@ use fact_values::{Day, Dollar, FactType, NoMemory, Rational, Text, Value, Whole}
 use law_arithmetic::{Row, Table, key_of};
 use std::alloc::Global;
 use std::marker::Model;
-use std::rc::Rc;
+use std::sync::Arc;
 
 /// What a table says.
 #[derive(Drop)]
@@ -27,7 +27,7 @@ struct Contents {
 /// A table under its name. Copies share its rows.
 #[derive(Drop)]
 pub struct LookupTable {
-    contents: Rc<Contents>,
+    contents: Arc<Contents>,
 }
 
 impl Model for LookupTable {
@@ -152,7 +152,7 @@ impl LookupTable {
             return Err(ReadFault::Shape);
         };
         Ok(LookupTable {
-            contents: Rc::new(
+            contents: Arc::new(
                 alloc,
                 Contents {
                     name,

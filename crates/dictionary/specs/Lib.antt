@@ -4,4 +4,5 @@ pub mod Engines
 pub mod Faults
 pub mod Keeping
 pub mod Kept
+pub mod KeptView
 pub mod SteadyDependencies

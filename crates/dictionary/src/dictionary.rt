@@ -9,22 +9,25 @@ ghost use Rattle.dictionary.specs.Kept.{accepted, names_of};
 ghost use Rattle.dictionary.specs.ByRank.{AreByRank};
 ghost use Rattle.dictionary.specs.Checks.{has_check};
 ghost use Rattle.dict_meaning.specs.Homes.{home};
-ghost use Rattle.dictionary.specs.Keeping.{node_count};
+ghost use Rattle.dictionary.specs.Keeping.{IsKept, node_count};
+ghost use Rattle.dictionary.specs.KeptView.{kept_view};
 ghost use Rattle.dict_meaning.specs.Steady.{IsSteady, steady};
-ghost use Rattle.dictionary.specs.declared.fault.DictFault.TheVariants.{NoMemory};
+ghost use Rattle.dictionary.specs.declared.fault.DictFault.TheVariants.{NoMemory as WantsMemory};
 
 use crate::fault::DictFault;
 use crate::kept_check::{KeptCheck, are_of_table, keep_checks};
 use crate::precomputed::{Precomputed, precompute};
 use dict_source::DictSource;
 use dict_types::Typed;
+use fact_values::NoMemory;
 use std::alloc::Global;
 use std::marker::Model;
+use std::sync::Arc;
 use text_checks::CheckTable;
 
-/// A dictionary that has no fault, with the types and ranks of its facts. Facts are numbered from 1.
+/// What a dictionary says, once for all that share it.
 #[derive(Drop)]
-pub struct Dictionary {
+struct Contents {
     source: DictSource,
     typed: Typed,
     ranks: Vec<u32>,
@@ -32,25 +35,26 @@ pub struct Dictionary {
     precomputed: Precomputed,
 }
 
+/// A dictionary that has no fault, with the types and ranks of its facts. Facts are numbered from 1. Sessions share it.
+#[derive(Drop)]
+pub struct Dictionary {
+    contents: Arc<Contents>,
+}
+
 impl Model for Dictionary {
     ghost use Rattle.std.specs.Coded.{codes};
     ghost use Rattle.dict_source.specs.contracts.fact_source.FactSource as fact;
     ghost use Rattle.dictionary.specs.Kept.{Kept};
+    ghost use Rattle.dictionary.specs.KeptView.{kept_view};
     ghost use Rattle.dictionary.specs.Keeping.{IsKept};
 
     ghost Value = { Kept };
 
     ghost coded = { Prim.hlevel (codes, fact.the_row.coded) };
 
-    ghost view = { λ d. record { source = d.source; typed = d.typed; ranks = d.ranks.items; checks = d.checks.items } };
+    ghost view = { λ d. kept_view d.contents.value };
 
-    ghost invariant = { λ d. IsKept (record {
-      source = d.source;
-      typed = d.typed;
-      ranks = d.ranks.items;
-      checks
-          = d.checks.items;
-    }) d.precomputed };
+    ghost invariant = { λ d. IsKept (kept_view d.contents.value) d.contents.value.precomputed };
 }
 
 impl Dictionary {
@@ -71,17 +75,20 @@ impl Dictionary {
           checks
               = named_checks table.now;
         }) }
-        ensures memory { IfErr result (λ fault. fault ≡ NoMemory) }
+        ensures memory { IfErr result (λ fault. fault ≡ WantsMemory) }
     {
         match keep_checks(alloc, table) {
             Ok(checks) => match precompute(alloc, &source, ranks.as_slice()) {
-                Ok(precomputed) => Ok(Dictionary {
-                    source,
-                    typed,
-                    ranks,
-                    checks,
-                    precomputed,
-                }),
+                Ok(precomputed) => Dictionary::with(
+                    alloc,
+                    Contents {
+                        source,
+                        typed,
+                        ranks,
+                        checks,
+                        precomputed,
+                    },
+                ),
                 Err(_) => {
                     drop(source);
                     drop(typed);
@@ -99,19 +106,40 @@ impl Dictionary {
         }
     }
 
+    // The dictionary that says this.
+    fn with(alloc: Global, contents: Contents) -> Result<Dictionary, DictFault>
+        requires { IsKept (kept_view contents) contents.precomputed }
+        ensures kept { IfOk result (λ d. d ≡ kept_view contents) }
+        ensures memory { IfErr result (λ fault. fault ≡ WantsMemory) }
+    {
+        match Arc::new(alloc, contents) {
+            Ok(contents) => Ok(Dictionary { contents }),
+            Err(_) => Err(DictFault::NoMemory),
+        }
+    }
+
+    /// The same dictionary, of which nothing is copied. It fails where too many share it.
+    pub fn share(&self) -> Result<Dictionary, NoMemory>
+        ensures { IfOk result (λ d. d ≡ self.now) }
+    {
+        Ok(Dictionary {
+            contents: self.contents.clone()?,
+        })
+    }
+
     /// The dictionary as it is written.
     pub fn source(&self) -> &DictSource
         ensures value { result.now ≡ self.now.source }
         ensures is_accepted { IsAccepted (names_of self.now.checks) (accepted self.now) }
     {
-        &self.source
+        &self.contents.source
     }
 
     /// The types, constants and limits of its facts.
     pub fn typed(&self) -> &Typed
         ensures { result.now ≡ self.now.typed }
     {
-        &self.typed
+        &self.contents.typed
     }
 
     /// The rank of the fact: 0 where it mentions nothing, and else 1 more than the greatest rank that it mentions.
@@ -119,7 +147,7 @@ impl Dictionary {
         requires { IsNumber (accepted self.now).tree.facts fact }
         ensures { result ≡ rank_of self.now.ranks fact }
     {
-        self.ranks[fact as usize - 1]
+        self.contents.ranks[fact as usize - 1]
     }
 
     /// The number of the collection whose members have the fact, and 0 for a global fact.
@@ -127,14 +155,14 @@ impl Dictionary {
         requires { IsNumber (accepted self.now).tree.facts fact }
         ensures { result ≡ home (accepted self.now).tree fact }
     {
-        self.precomputed.homes[fact as usize - 1]
+        self.contents.precomputed.homes[fact as usize - 1]
     }
 
     /// Each fact once, by rising rank, and those of one rank by rising number. What a fact mentions comes before it.
     pub fn by_rank(&self) -> &[u32]
         ensures { AreByRank self.now.ranks result.now }
     {
-        self.precomputed.by_rank.as_slice()
+        self.contents.precomputed.by_rank.as_slice()
     }
 
     /// Whether no IsComplete stands in the body of the fact, nor in that of any fact that is reached from it by mentions of
@@ -144,21 +172,21 @@ impl Dictionary {
         ensures tells { IsTrue result ↔ IsSteady (accepted self.now).tree fact }
         ensures value { result ≡ steady (accepted self.now) fact }
     {
-        self.precomputed.steady[fact as usize - 1]
+        self.contents.precomputed.steady[fact as usize - 1]
     }
 
     /// How many facts there are.
     pub fn fact_count(&self) -> u32
         ensures { result ≡ length (accepted self.now).tree.facts }
     {
-        self.ranks.len() as u32
+        self.contents.ranks.len() as u32
     }
 
     /// How many nodes all facts have.
     pub fn node_count(&self) -> u32
         ensures { result ≡ node_count (accepted self.now).tree }
     {
-        self.precomputed.nodes
+        self.contents.precomputed.nodes
     }
 
     /// Whether the table has the checks with which the dictionary was accepted, by name and code and in their order, or no
@@ -167,9 +195,9 @@ impl Dictionary {
         ensures { IsTrue result ↔ ((self.now.checks ≡ named_checks table.now)
             ⊎ (has_check (accepted self.now).tree ≡ false)) }
     {
-        if !self.precomputed.checked {
+        if !self.contents.precomputed.checked {
             return true;
         }
-        are_of_table(self.checks.as_slice(), table)
+        are_of_table(self.contents.checks.as_slice(), table)
     }
 }

@@ -1,7 +1,7 @@
 // Engines: what keeps the results of all slots, from answers to answers.
 ghost use Rattle.std.specs.Prelude.{◌≡◌, ◌+◌, ◌<◌, ◌≤◌, ◌^◌, ◌&&◌, ℕ, Bool, IsTrue, IfOk, OnOk, OnErr, Some, None, option_copied, if◌then◌else◌};
 ghost use Rattle.fact_values.specs.declared.slot.Slot.{Slot};
-ghost use Rattle.answers.specs.Answered.{Answered};
+ghost use Rattle.answers.specs.Answered.{Answered, start};
 ghost use Rattle.answers.specs.Change.{Fits, applied};
 ghost use Rattle.answers.specs.Meaning.{answered, change};
 ghost use Rattle.dict_meaning.specs.Accepted.{Accepted};
@@ -41,6 +41,16 @@ pub trait FactEngine: Drop {
         requires { AnswersFit (accepted dict.now).tree (answered answers.now) }
         ensures stands { IfOk result (λ e. stands_for e (accepted dict.now) (answered answers.now)) }
         ensures fresh { IfOk result (λ e. IsTrue STAMPS → AreFresh (marks e)) };
+
+    /// One more engine over the same dictionary, at no answers and before any change. What never changes may be shared. This engine
+    /// stays as it is.
+    fn further(&mut self, alloc: Global, dict: &Dictionary) -> Result<Self, NoMemory>
+        requires { (a : Answered) × stands_for self.old (accepted dict.now) a }
+        ensures stands { IfOk result (λ e. stands_for e (accepted dict.now) start) }
+        ensures fresh { IfOk result (λ e. IsTrue STAMPS → AreFresh (marks e)) }
+        ensures unchanged { (a : Answered) → stands_for self.old (accepted dict.now) a
+            → stands_for self.new (accepted dict.now) a }
+        ensures same_marks { IsTrue STAMPS → AreSameMarks (marks self.old) (marks self.new) };
 
     /// Goes on to the answers `now`; `undo` gives those before. For want of memory it is as before.
     fn refresh<L: Ledger>(

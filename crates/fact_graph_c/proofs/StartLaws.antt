@@ -17,7 +17,7 @@ use Rattle.fact_graph_c.proofs.OpeningLaws.{Begins, Boxed}
 
 -- ---- over an accepted dictionary
 
-not_over : (IsText : Rules → List ℕ → Type 0) (bytes text : List ℕ) (r : Rules) (why : NotBegun) → Accepts bytes r → RefusesOver (IsText r) text why → NotResumed IsText bytes text why
+pub not_over : (IsText : Rules → List ℕ → Type 0) (bytes text : List ℕ) (r : Rules) (why : NotBegun) → Accepts bytes r → RefusesOver (IsText r) text why → NotResumed IsText bytes text why
 not_over IsText bytes text r (Dictionary fault) accepts is = subst (Refuses (IsFault bytes (names_of standard_checks))) (sym is) tt
 not_over IsText bytes text r (Saved line) accepts is = (r, accepts, is)
 not_over IsText bytes text r Unknown accepts is = is
@@ -39,7 +39,7 @@ starts Resumed bytes text r (Err why) accepts started refused = (tt, not_over (�
 
 -- ---- over one that isn't accepted
 
-not_accepted : (IsText : Rules → List ℕ → Type 0) (bytes text : List ℕ) (why : NotBegun) → NotOpened bytes why → NotResumed IsText bytes text why
+pub not_accepted : (IsText : Rules → List ℕ → Type 0) (bytes text : List ℕ) (why : NotBegun) → NotOpened bytes why → NotResumed IsText bytes text why
 not_accepted IsText bytes text (Dictionary fault) refused = refused
 not_accepted IsText bytes text (Saved line) refused = absurd refused
 not_accepted IsText bytes text Unknown refused = absurd refused

@@ -67,7 +67,7 @@ gR = inner.the_row
 abbrev pub gZ : RattleType
 gZ = global.the_row
 
-abbrev gal : Al
+abbrev pub gal : Al
 gal = record { row = gZ; laws = globals.the_row_laws; g = impls.ghosts; d = impl [] tnil dnil; drops = impl [] tnil dnil }
 
 module _ {M : Type 1} {𝓤 : Ura M} {𝓛 : Logic 𝓤} {K : Type 0} {Γ : List (Item 𝓤)} {G : Goal 𝓤 𝓛.H} where

@@ -52,3 +52,12 @@ pub record TrimsText (old : Engine) (handed_back : Option Engine) : Type 0 where
   pub watches : new.watches ≡ old.watches
   pub over : new.over ≡ old.over
   pub text : said new ≡ []
+
+-- all is as before
+pub record HandsBack (old : Engine) (handed_back : Option Engine) : Type 0 where
+  pub new : Engine
+  pub back : handed_back ≡ Some new
+  pub session : new.session ≡ old.session
+  pub watches : new.watches ≡ old.watches
+  pub over : new.over ≡ old.over
+  pub text : said new ≡ said old

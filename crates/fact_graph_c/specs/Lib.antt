@@ -2,6 +2,10 @@ pub mod Answering
 pub mod Calls
 pub mod Checks
 pub mod Consulting
+pub mod DeskAnswers
+pub mod DeskCalls
+pub mod DeskOpenings
+pub mod DeskSaying
 pub mod Faults
 pub mod Held
 pub mod Openings

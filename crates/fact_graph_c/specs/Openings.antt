@@ -53,6 +53,10 @@ Brings words r = (b : BuiltIn) × (built_in_of words ≡ Some b) × IsBrought b 
 abbrev pub OpensBuiltIn : List ℕ → Engine → Type 0
 OpensBuiltIn words e = (r : Rules) × Brings words r × IsBegun r start [] e
 
+-- over the dictionary of another, with no answers
+abbrev pub IsFurther : Engine → Engine → Type 0
+IsFurther of e = IsBegun (rules_of of) start [] e
+
 -- over these rules with the answers of which the bytes are the saved text
 abbrev pub LoadsOver : Rules → List ℕ → Engine → Type 0
 LoadsOver r text e = (a : Answered) × AnswersFit (tree_of r) a × (text ≡ saved (tree_of r) a) × IsBegun r a [] e
@@ -82,6 +86,10 @@ saved_limit = 67108864
 -- the bytes are no text of the kind, and this is the first line with which they begin none; where they are too long it is 0
 abbrev pub IsBadText : (List ℕ → Type 0) → List ℕ → ℕ → Type 0
 IsBadText IsText bytes n = ((saved_limit < length bytes) × (n ≡ 0)) ⊎ ((length bytes ≤ saved_limit) × IsRefusedAt IsText bytes n)
+
+-- there was no memory
+abbrev pub IsWantOfMemory : NotBegun → Type 0
+IsWantOfMemory why = why ≡ Dictionary NoMemory
 
 -- the saved text is refused, or there was no memory
 abbrev pub RefusesOver : (List ℕ → Type 0) → List ℕ → NotBegun → Type 0

@@ -28,10 +28,10 @@ use text_checks::CheckTable;
 const LINE: usize = 4_096;
 
 /// The most changes that a session makes.
-const MOST_CHANGES: u64 = 1 << 62;
+pub const MOST_CHANGES: u64 = 1 << 62;
 
-// How the line is ready, and the line where it isn't too long.
-fn readied(line: &[u8]) -> (Ready, &[u8])
+/// How the line is ready, and the line where it isn't too long.
+pub fn readied(line: &[u8]) -> (Ready, &[u8])
     ensures lines { ready_lines result.0 result.1.now ≡ line_given line.now ∷ [] }
     ensures short { length result.1.now ≤ 4096 }
     ensures checks { IsTrue (line_asks_checks result.0 result.1.now) → IsTrue (heard_asks_checks (heard_in line.now)) }

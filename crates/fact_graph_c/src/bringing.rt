@@ -28,7 +28,8 @@ fn named_by(words: &[u8]) -> Option<BuiltIn>
     }
 }
 
-fn brought(alloc: Global, words: &[u8]) -> Result<Dictionary, NotBegun>
+/// The dictionary of these words, or why there is none.
+pub fn brought(alloc: Global, words: &[u8]) -> Result<Dictionary, NotBegun>
     ensures brought { IfOk result (λ d. Brings words.now (rules d)) }
     ensures no_check { IfOk result (λ d. has_check (accepted d).tree ≡ false) }
     ensures refused { IfErr result (NotBrought words.now) }

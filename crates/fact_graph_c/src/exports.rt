@@ -2,9 +2,9 @@
 // and which engine it hands back.
 ghost use Rattle.std.specs.Prelude.{◌≡◌, ◌++◌, ℕ, List, length, take, drop, min, IfOk, IfErr, Some};
 ghost use Rattle.fact_graph_c.specs.Answering.{rules_of, said};
-ghost use Rattle.fact_graph_c.specs.Calls.{AnswersCall, BeginsCall, KeepsChanges, SaysCall, TrimsText};
+ghost use Rattle.fact_graph_c.specs.Calls.{AnswersCall, BeginsCall, HandsBack, KeepsChanges, SaysCall, TrimsText};
 ghost use Rattle.fact_graph_c.specs.Faults.{fault_numbers, plain};
-ghost use Rattle.fact_graph_c.specs.Openings.{Carries, Loads, NotBrought, NotCarried, NotLoaded, NotOpened, Opens, OpensBuiltIn, Resumes};
+ghost use Rattle.fact_graph_c.specs.Openings.{Carries, IsFurther, IsWantOfMemory, Loads, NotBrought, NotCarried, NotLoaded, NotOpened, Opens, OpensBuiltIn, Resumes};
 ghost use Rattle.fact_graph_c.specs.Outcomes.{outcome_number};
 ghost use Rattle.fact_graph_c.specs.Printing.{IsDescription, IsDictionaryText, IsFactsText};
 ghost use Rattle.fact_graph_c.specs.Reading.{IsReads};
@@ -15,6 +15,7 @@ use crate::bringing::open_built_in;
 use crate::engine::Engine;
 use crate::fault::{Fault, NotBegun, fault_of, no_fault};
 use crate::handle::Handle;
+use crate::opening::begin_further;
 use crate::outcome::{Outcome, number_of};
 use crate::printing::{say_description, say_dictionary, say_facts};
 use crate::reading::say_reads;
@@ -93,6 +94,26 @@ pub extern "C" fn fact_graph_open_built_in(
     ensures number { result ≡ fault.new.number }
 {
     hand_out(open_built_in(alloc, words), graph, fault);
+    fault.number
+}
+
+/// Opens a further session over the dictionary of one, which both share.
+#[unsafe(no_mangle)]
+pub extern "C" fn fact_graph_further(
+    alloc: Global,
+    graph: Handle,
+    further: &mut SessionSlot,
+    fault: &mut Fault,
+    back: &mut SessionSlot,
+) -> u32
+    ensures begun { BeginsCall (IsFurther graph.value) IsWantOfMemory further.old further.new fault.new }
+    ensures number { result ≡ fault.new.number }
+    ensures same { HandsBack graph.value back.new.value }
+{
+    let mut engine = graph.into_box();
+    let begun = begin_further(alloc, &mut engine);
+    *back = keep(engine);
+    hand_out(begun, further, fault);
     fault.number
 }
 
@@ -247,9 +268,9 @@ pub extern "C" fn fact_graph_description(
 /// The version of the library as one number: 10,000 times its first part, 100 times its second, and its third.
 #[unsafe(no_mangle)]
 pub extern "C" fn fact_graph_version() -> u32
-    ensures { result ≡ 10100 }
+    ensures { result ≡ 10200 }
 {
-    10_100
+    10_200
 }
 
 /// Keeps the newest changes, so many at most: those before them can't be undone any more.

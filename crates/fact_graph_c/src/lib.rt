@@ -1,4 +1,4 @@
-//! The Fact Graph for C: sessions over dictionaries, which are fed lines and hand out replies.
+//! The Fact Graph for C: sessions and desks over dictionaries, which are fed lines and hand out replies.
 #![tactic(auto)]
 
 ghost use Rattle.std.specs.Prelude.{◌≡◌};
@@ -6,6 +6,13 @@ ghost use Rattle.std.specs.Prelude.{◌≡◌};
 mod answering;
 mod bringing;
 mod consulting;
+mod desk_answering;
+mod desk_engine;
+mod desk_exports;
+mod desk_handle;
+mod desk_opening;
+mod desk_saving;
+mod desk_slot;
 mod dropped_lines;
 mod engine;
 mod exports;

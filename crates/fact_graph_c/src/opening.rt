@@ -13,7 +13,7 @@ ghost use Rattle.save_file.specs.Loading.{IsSavedText};
 ghost use Rattle.fact_watch.specs.Watching.{nothing_watched};
 ghost use Rattle.fact_graph_c.specs.Answering.{said};
 ghost use Rattle.fact_graph_c.specs.Checks.{HasStandardChecks};
-ghost use Rattle.fact_graph_c.specs.Openings.{Accepts, CarriesOver, IsBegun, IsFaultOfText, LoadsOver, NotOpened, RefusesOver, saved_limit};
+ghost use Rattle.fact_graph_c.specs.Openings.{Accepts, CarriesOver, IsBegun, IsFaultOfText, IsFurther, IsWantOfMemory, LoadsOver, NotOpened, RefusesOver, saved_limit};
 ghost use Rattle.session_lines.specs.Tables.{standard_checks};
 ghost use Rattle.fact_graph_c.specs.declared.fault.NotBegun.TheVariants.{Dictionary as OfDictionary};
 
@@ -97,6 +97,21 @@ pub fn begin_silent(
     ensures memory { IfErr result (λ why. why ≡ OfDictionary WantsMemory) }
 {
     begin(alloc, dict, answers, Text::new(alloc))
+}
+
+/// A further session over the dictionary of one, which stays as it is.
+pub fn begin_further(alloc: Global, of: &mut Engine) -> Result<Box<Engine>, NotBegun>
+    ensures begun { IfOk result (λ e. IsFurther of.old e.value) }
+    ensures memory { IfErr result IsWantOfMemory }
+    ensures session { of.new.session ≡ of.old.session }
+    ensures watches { of.new.watches ≡ of.old.watches }
+    ensures open { of.new.over ≡ of.old.over }
+    ensures text { said of.new ≡ said of.old }
+{
+    match of.session.further(alloc) {
+        Ok(session) => boxed(alloc, unused(alloc, session, Text::new(alloc))),
+        Err(NoMemory) => Err(wants_memory()),
+    }
 }
 
 /// The dictionary that the bytes spell, or its first fault.

@@ -6,6 +6,7 @@ ghost use Rattle.answers.specs.Room.{HasRoom};
 ghost use Rattle.answers.specs.Meaning.{answered, change};
 ghost use Rattle.text_checks.specs.Tables.{named_checks};
 ghost use Rattle.session_undo.specs.History.{CanPush, ahead_of, behind};
+ghost use Rattle.dictionary.specs.Engines.{AreFresh};
 ghost use Rattle.dictionary.specs.Kept.{accepted};
 ghost use Rattle.dict_meaning.specs.Fits.{AnswersFit};
 ghost use Rattle.dict_meaning.specs.Plain.{plain};
@@ -89,21 +90,46 @@ impl<E: FactEngine> Session<E> {
         requires { AnswersFit (accepted dict).tree (answered answers) }
         ensures { IfOk result (λ s. s ≡ start_at dict (answered answers) E.STAMPS) }
     {
-        let _accepted = dict.source();
         match E::begin(alloc, &dict, &answers) {
             Err(NoMemory) => {
                 drop(dict);
                 drop(answers);
                 Err(NoMemory)
             }
-            Ok(engine) => Ok(Session {
-                alloc,
-                dict,
-                answers,
-                history: History::new(alloc),
-                engine,
-                changes: 0,
-            }),
+            Ok(engine) => Ok(Session::of_parts(alloc, dict, answers, engine)),
+        }
+    }
+
+    /// One more session over the same dictionary, which both share: nothing is answered in it yet. This session stays as it is.
+    pub fn further(&mut self, alloc: Global) -> Result<Session<E>, NoMemory>
+        ensures begun { IfOk result (λ s. s ≡ start_at self.old.dict start E.STAMPS) }
+        ensures same { self.new ≡ self.old }
+    {
+        let dict = self.dict.share()?;
+        match self.engine.further(alloc, &dict) {
+            Err(NoMemory) => {
+                drop(dict);
+                Err(NoMemory)
+            }
+            Ok(engine) => Ok(Session::of_parts(alloc, dict, Answers::new(alloc), engine)),
+        }
+    }
+
+    // The session of these parts, before any change.
+    fn of_parts(alloc: Global, dict: Dictionary, answers: Answers, engine: E) -> Session<E>
+        requires fit { AnswersFit (accepted dict).tree (answered answers) }
+        requires stands { E.stands_for engine (accepted dict) (answered answers) }
+        requires fresh { IsTrue E.STAMPS → AreFresh (E.marks engine) }
+        ensures { result ≡ start_at dict (answered answers) E.STAMPS }
+    {
+        let _accepted = dict.source();
+        Session {
+            alloc,
+            dict,
+            answers,
+            history: History::new(alloc),
+            engine,
+            changes: 0,
         }
     }
 

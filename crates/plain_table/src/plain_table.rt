@@ -1,6 +1,6 @@
 // The engine.
 ghost use Rattle.std.specs.Prelude.{◌≡◌, ◌+◌, ◌<◌, ◌≤◌, false, IfOk, IsTrue, None, OnErr, OnOk, option_copied};
-ghost use Rattle.answers.specs.Answered.{Answered};
+ghost use Rattle.answers.specs.Answered.{Answered, start};
 ghost use Rattle.answers.specs.Meaning.{answered};
 ghost use Rattle.answers.specs.WellFormed.{FromOne, WellFormed};
 ghost use Rattle.dict_meaning.specs.Accepted.{Accepted};
@@ -66,6 +66,13 @@ impl FactEngine for PlainTable {
     {
         let table = first_table::<Brand>(alloc, dict, answers, Blank::new(1))?;
         Ok(PlainTable { alloc, table })
+    }
+
+    fn further(&mut self, alloc: Global, dict: &Dictionary) -> Result<Self, NoMemory>
+        ensures stands { IfOk result (λ e. HasAll (accepted dict.now) start (results_of e.table)) }
+        ensures unchanged { self.new ≡ self.old }
+    {
+        PlainTable::begin(alloc, dict, &Answers::new(alloc))
     }
 
     fn refresh<L: Ledger>(

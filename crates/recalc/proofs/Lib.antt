@@ -9,6 +9,7 @@ pub mod ReaderLaws
 pub mod ReplacingLaws
 pub mod RunningLaws
 pub mod SeedingLaws
+pub mod SharingLaws
 pub mod SlotLists
 pub mod StandingOnce
 pub mod StepExamples

@@ -7,6 +7,7 @@ pub mod Readers
 pub mod Replacing
 pub mod Running
 pub mod Seeding
+pub mod Sharing
 pub mod Spread
 pub mod Updates
 pub mod EngineInvariant

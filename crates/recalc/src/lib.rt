@@ -15,6 +15,7 @@ mod propagation;
 mod recalc;
 mod running;
 mod seeding;
+mod start_cells;
 mod turn;
 mod undone;
 mod update;

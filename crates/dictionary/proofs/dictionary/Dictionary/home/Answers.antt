@@ -7,4 +7,4 @@ pub returns : goal.returns
 returns c =
     let there = rw (← c.self.view_is) at c.requires.1 in
     rw (← c.self.view_is)
-    (home_of_fact (dictionary_view c.self.inside.source) c.self.inside.precomputed.homes.items c.args.fact (c.args.fact - 1) c.index.result.now c.self.invariant.precomputed_of.home c.index.ensures (omega (arith, c.requires.0)) (omega (arith, c.requires.0, there)))
+    (home_of_fact (dictionary_view c.self.inside.contents.value.source) c.self.inside.contents.value.precomputed.homes.items c.args.fact (c.args.fact - 1) c.index.result.now c.self.invariant.precomputed_of.home (rw c.deref.ensures at c.index.ensures) (omega (arith, c.requires.0)) (omega (arith, c.requires.0, there)))

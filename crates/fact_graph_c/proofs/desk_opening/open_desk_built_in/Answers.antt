@@ -1,0 +1,17 @@
+use Rattle.std.proofs.Common.{◌≡◌, true, false, sym, subst, ◌∙◌}
+use Rattle.dictionary.specs.Kept.{accepted}
+use Rattle.dict_meaning.specs.Fits.{AnswersFit}
+use Rattle.dict_meaning.proofs.FitStart.{start_fits}
+use Rattle.fact_graph_c.proofs.DeskOpeningLaws.{opens_desk_built_in}
+use Rattle.fact_graph_c.proofs.desk_opening.open_desk_built_in.Goals as goal
+
+pub begin-requires-clause-same : goal.begin-requires-clause-same
+begin-requires-clause-same c = λ named. absurd (let no : true ≡ false = sym named ∙ c.in-Ok.ensures.no_check in cc)
+
+pub begin-requires-clause-fit : goal.begin-requires-clause-fit
+begin-requires-clause-fit c = subst (AnswersFit (accepted c.in-Ok.dict).tree) (sym c.new.ensures) (start_fits (accepted c.in-Ok.dict).tree)
+
+pub returns-in-Ok : goal.returns-in-Ok
+returns-in-Ok c =
+    let over = opens_desk_built_in c.args.words.now _ _ c.begin.result c.in-Ok.ensures.brought c.new.ensures (c.begin.ensures.begun, c.begin.ensures.memory) in
+    record { opened = over.0; refused = over.1 }
