@@ -21,8 +21,6 @@ NAMING = {"run": 1, "run-plain": 1, "desk": 1, "check": 1, "save": 1, "load": 2,
 PULLING = {"run", "run-plain", "desk", "save", "load", "carry", "year", "income", "save-year", "carry-year"}
 # The status with which a run ends where the call fails.
 STATUSES = {"open": 3, "read": 3, "pull": 4, "put": 5}
-# A line of a saved text is put up to its value first.
-UP_TO_VALUE = re.compile(rb"(?:value|override) [^ ]* ")
 # A reply with lines behind it.
 LISTED = re.compile(rb"(?:@\d+ )?missing (\d+)\n")
 QUIT = re.compile(rb"quit\r?")
@@ -131,8 +129,7 @@ class Run(NamedTuple):
         if self.pulls():
             yield from self._talk(lines, devices)
         for line in back:
-            for piece in pieces_of_saved(line):
-                yield from put(piece, devices.put)
+            yield from put(line, devices.put)
 
     def _talk(self, lines: list[Answered], devices: Devices) -> Iterator[Call]:
         """The pulls of the script, each with the puts of the replies to the lines that end in its piece."""
@@ -176,12 +173,6 @@ def put(piece: bytes, most: int) -> Iterator[Call]:
         count = bounded(rest, most)
         yield Call(f"put {rest}", count)
         rest -= count
-
-
-def pieces_of_saved(line: bytes) -> list[bytes]:
-    """The pieces in which a line of a saved text is put."""
-    found = UP_TO_VALUE.match(line)
-    return [line] if found is None else [found[0], line[found.end():]]
 
 
 def answered(script: list[bytes], lines: list[bytes]) -> Iterator[Answered]:

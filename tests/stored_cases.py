@@ -17,9 +17,11 @@ LONGEST_MARKED = 4_096 - len(MARK)
 # The replies that the engine without stamps refuses.
 OF_STAMPS = (b"stamp ", b"touched ")
 NO_STAMPS = b"refused 15 NoStamps"
-# The words with which a session of the library begins, and how many there are with them, and the statuses that it knows. What the
-# system refuses has no part there.
-SERVED = {"run": 2, "save": 2, "load": 3, "carry": 3}
+# The words with which a session or a desk of the library begins, and how many there are with them, and the statuses that it knows. What
+# the system refuses has no part there.
+SERVED = {"run": 2, "save": 2, "desk": 2, "load": 3, "carry": 3}
+# The most lines of a script at a desk that is run through the library: what a desk counts at its most is shown by the program.
+LINES_AT_DESK = 20_000
 SERVED_STATUSES = {0, 1, 8}
 # The dictionaries that come with the program and the library.
 BUILT_IN = ("year 2023", "year 2024", "income 2023")
@@ -275,7 +277,7 @@ class Served(NamedTuple):
     """A case that the library serves."""
 
     case: Case
-    word: str  # `run`, `save`, `load`, `carry`; or `built-in`, a run over a dictionary that comes with the library
+    word: str  # `run`, `save`, `desk`, `load`, `carry`; or `built-in`, a run over a dictionary that comes with the library
     dictionary: bytes  # its text, or the words of the one that comes with the library
     saved: bytes | None
 
@@ -285,6 +287,8 @@ def served(case: Case) -> Served | None:
     if " ".join(case.words) in BUILT_IN and case.status in SERVED_STATUSES:
         return Served(case, "built-in", " ".join(case.words).encode(), None)
     if not case.words or len(case.words) != SERVED.get(case.words[0]) or case.status not in SERVED_STATUSES:
+        return None
+    if case.words[0] == "desk" and case.script.count(b"\n") > LINES_AT_DESK:
         return None
     texts = {"d": case.dictionary, "s": case.saved}
     shared = {word: (case.shared / word).read_bytes() for word in case.words[1:] if word and (case.shared / word).is_file()}

@@ -9,7 +9,7 @@
 - comments: a script that such a page ships has the code that it was written with, and no comments
 - same: two builds have the same bytes; the first is the module of the parts below
 - node: the package's own tests, and those of the runtime as WebAssembly, where each allocation fails in turn, by node --test
-- cases: the stored cases that a library serves, in Node; and once more over the module as binaryen lowers it, without vectors
+- cases: the stored cases of a session that a library serves, in Node; and once more over the module as binaryen lowers it, without vectors
 - random: 100,000 random lines beside the program
 - trees: those of `why` and `missing` behind random lines, beside the Python package
 - chromium, firefox-esr: the stored cases on a page, of at most 64 KiB, and in a worker, all of them

@@ -58,8 +58,10 @@ int main(void) {{
 """
 # The functions that weren't in the first version, each with the one that brought it.
 SINCE = {name: version for version, name in re.findall(r"Since version (\d+\.\d+)\. \*/\n\w+ (fact_graph_\w+)\(", HEADER.read_text(encoding="utf-8"))}
-# The numbers of refusals that no session of the library gives: that of the plain engine, and those of a desk.
-ELSEWHERE = {15, 20, 21}
+# The number of the refusal that no session and no desk of the library gives: that of the plain engine.
+ELSEWHERE = {15}
+# How many examples the page has in each language.
+IN_EACH = {"python": 3, "c": 3, "cpp": 2}
 
 
 class Installed(NamedTuple):
@@ -88,7 +90,7 @@ class Host(NamedTuple):
 def blocks(language: str) -> list[tuple[str, str]]:
     """The examples in a language, each with what it prints."""
     found = [(code, text) for word, code, text in BLOCKS.findall(PAGE.read_text(encoding="utf-8")) if word == language]
-    assert len(found) == 2, f"{PAGE.name} has {len(found)} examples in {language}"
+    assert len(found) == IN_EACH[language], f"{PAGE.name} has {len(found)} examples in {language}"
     return found
 
 

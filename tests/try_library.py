@@ -9,11 +9,13 @@ Nothing is built but the hosts.
   call has to say the same as ever, and once more under valgrind and with the compiler's sanitizers.
 - tests/library/calls.c tries the calls beside lines in the same three ways: what a slot reads, the facts and their descriptions, how many
   changes are kept, a text that is given back, and the dictionaries that come with the library.
+- tests/library/desks.c tries the calls of desks in the same three ways: two parties, marks, long replies, and a desk that goes on from a
+  saved text.
 - tests/library/threads.c does so in eight threads at the same time, with the sanitizers.
 - tests/library/resumed.c resumes from saved texts that came from outside, under valgrind, with the sanitizers and with each allocation failing in turn.
-- tests/library/cases.c runs the stored cases of tests/rows that the library serves under valgrind and with the sanitizers, each line
-  and each text in a block of exactly its size: no access may be wild, and nothing may leak. The households of the tax years are among
-  them.
+- tests/library/cases.c runs the stored cases of tests/rows that the library serves, those of desks among them, under valgrind and with the
+  sanitizers, each line and each text in a block of exactly its size: no access may be wild, and nothing may leak. The households of the
+  tax years are among them.
 - tests/library/interview.py is the program over the library, for run_rows.py: all stored cases, with each reply in pieces.
 
 A line is printed for each part; the exit status is 0 where all passed, 1 where one failed, and 2 where there is no such library, no
@@ -72,14 +74,14 @@ def runs(what: str, command: list[Word], replies: Path) -> bool:
     return say((ended.text, ended.status) == (replies.read_bytes(), 0), what, ended.error.decode(errors="replace").strip())
 
 
-def resumed(library: Path, folder: str) -> Iterator[bool]:
-    """Whether sessions are resumed from texts that came from outside as they have to be."""
+def in_three_ways(library: Path, folder: str, what: str, source: str, *words_of_it: str) -> Iterator[bool]:
+    """Whether a host that says nothing ends well under valgrind, with sanitizers, and with each allocation failing in turn."""
     ways: list[tuple[str, list[str], list[str]]] = [
         ("under valgrind", VALGRIND, []), ("with sanitizers", [], SANITIZED), ("with failing allocations", [], ["-DFAILING", "-O1"]),
     ]
     for number, (how, front, flags) in enumerate(ways):
-        ended = run([*front, host(library, folder, f"resumed_{number}", "resumed.c", *flags)], TOP, b"")
-        yield say((ended.text, ended.status) == (b"", 0), f"resumed texts {how}", ended.error.decode(errors="replace").strip())
+        ended = run([*front, host(library, folder, f"{Path(source).stem}_{number}", source, *flags), *words_of_it], TOP, b"")
+        yield say((ended.text, ended.status) == (b"", 0), f"{what} {how}", ended.error.decode(errors="replace").strip())
 
 
 # ---- the stored cases
@@ -151,7 +153,8 @@ def main(argv: list[str]) -> int:
             passed.append(runs(f"{words_of_it} under valgrind", [*VALGRIND, calls, words_of_it, script], replies))
             passed.append(runs(f"{words_of_it} with sanitizers", [sanitized_calls, words_of_it, script], replies))
             passed.append(runs(f"{words_of_it} with failing allocations", [failing_calls, words_of_it, script], replies))
-        passed.extend(resumed(library, folder))
+        passed.extend(in_three_ways(library, folder, "resumed texts", "resumed.c"))
+        passed.extend(in_three_ways(library, folder, "desks", "desks.c", "year 2023"))
         passed.append(stored_cases_pass("under valgrind", [*VALGRIND, host(library, folder, "cases", "cases.c")]))
         passed.append(stored_cases_pass("with sanitizers", [host(library, folder, "sanitized_cases", "cases.c", *SANITIZED)]))
     passed.append(in_pieces(library))

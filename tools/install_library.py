@@ -6,7 +6,7 @@
 Below the prefix then stand
 
     include/fact_graph.h and include/fact_graph_text.h
-    lib/libfact_graph.so.1.1.0 with its links, and lib/libfact_graph.a
+    lib/libfact_graph.so.1.2.0 with its links, and lib/libfact_graph.a
     lib/pkgconfig/fact_graph.pc             for pkg-config
     lib/cmake/fact_graph/                   for CMake: find_package(fact_graph 1 CONFIG), fact_graph::shared and fact_graph::static
     share/licenses/fact_graph/LICENSE

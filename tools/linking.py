@@ -1,6 +1,6 @@
 """Links the C library from the crate's static library.
 
-In a folder stand then libfact_graph.so.1.1.0, the shared library; libfact_graph.so.1, which a program asks for that was linked with
+In a folder stand then libfact_graph.so.1.2.0, the shared library; libfact_graph.so.1, which a program asks for that was linked with
 it, and libfact_graph.so, by which it is linked, as links; and libfact_graph.a, one object that links alone.
 """
 import os

@@ -168,24 +168,46 @@ export class Machine {
    * @param {Uint8Array} [saved]
    */
   begin(how, dictionary, saved) {
+    return this.#blockOf((block) => {
+      /** @type {number[]} */
+      const taken = [];
+      try {
+        const texts = [dictionary.subarray(0, DICTIONARY), ...(saved ? [saved.subarray(0, SAVED)] : [])].flatMap((bytes) => {
+          const [at, size] = this.#put(bytes);
+          taken.push(at);
+          return [at, size];
+        });
+        const places = [block + HANDLE, ...(how === "carry" || how === "resume" ? [block + SIZE] : []), block + FAULT];
+        return this.call(`fact_graph_${how}`, ...texts, ...places);
+      } finally {
+        if (!this.#stopped) taken.forEach((at) => this.call("release", at));
+      }
+    });
+  }
+
+  /**
+   * Begins a further session over the dictionary of the one in a block. Returns its block.
+   * @param {number} of
+   */
+  further(of) {
+    return this.#blockOf((block) => this.call("fact_graph_further", this.number(of + HANDLE), block + HANDLE, block + FAULT, of + HANDLE));
+  }
+
+  /**
+   * A block with the session that begins in it. Where none does, the block is given back.
+   * @param {(block: number) => number} begin returns the number of the fault
+   */
+  #blockOf(begin) {
     const block = this.#taken(BLOCK);
     this.#bytes.fill(0, block, block + BLOCK);
-    /** @type {number[]} */
-    const taken = [];
     let hasBegun = false;
     try {
-      const texts = [dictionary.subarray(0, DICTIONARY), ...(saved ? [saved.subarray(0, SAVED)] : [])].flatMap((bytes) => {
-        const [at, size] = this.#put(bytes);
-        taken.push(at);
-        return [at, size];
-      });
-      const places = [block + HANDLE, ...(how === "carry" || how === "resume" ? [block + SIZE] : []), block + FAULT];
-      const number = this.call(`fact_graph_${how}`, ...texts, ...places);
+      const number = begin(block);
       if (number) throw this.#fault(number, block + FAULT);
       hasBegun = true;
       return block;
     } finally {
-      if (!this.#stopped) [...taken, ...(hasBegun ? [] : [block])].forEach((at) => this.call("release", at));
+      if (!hasBegun && !this.#stopped) this.call("release", block);
     }
   }
 

@@ -67,14 +67,23 @@ function stepOf(line) {
 let created;
 
 /**
+ * How many changes are kept that can be undone.
+ * @param {{ undo?: number } | undefined} options
+ */
+function mostKept(options) {
+  const undo = options?.undo ?? Infinity;
+  if (!(undo >= 0)) throw new RangeError(`undo is how many changes are kept, from 0 on, and no ${undo}`);
+  return Math.floor(undo);
+}
+
+/**
  * @param {Beginning} how
  * @param {string | Uint8Array} dictionary
  * @param {string | Uint8Array | undefined} saved
  * @param {Options} [options]
  */
 async function begun(how, dictionary, saved, options) {
-  const undo = options?.undo ?? Infinity;
-  if (!(undo >= 0)) throw new RangeError(`undo is how many changes are kept, from 0 on, and no ${undo}`);
+  const undo = mostKept(options);
   const text = bytesOf(dictionary);
   const kept = saved === undefined ? undefined : bytesOf(saved);
   const machine = machineOf(options?.engine ?? (await sharedEngine()));
@@ -82,7 +91,7 @@ async function begun(how, dictionary, saved, options) {
   try {
     const dropped = linesOf(machine.text(block)).map(droppedOf);
     const source = how === "open_built_in" ? null : typeof dictionary === "string" ? dictionary : textOfBytes(text);
-    return created(machine, block, source, Math.floor(undo), dropped);
+    return created(machine, block, source, undo, dropped);
   } catch (wrong) {
     machine.end(block); // there was no memory for its texts
     throw wrong;
@@ -441,6 +450,23 @@ export class Session {
   }
 
   // ---- the whole
+
+  /**
+   * A further session over the same dictionary, without answers. The two share the dictionary and what was made of it, so it is there at
+   * once; each has its own answers, and may be closed before the other.
+   * @param {{ undo?: number }} [options]
+   */
+  further(options) {
+    const undo = mostKept(options);
+    this.#hold();
+    const block = this.#machine.further(this.#block);
+    try {
+      return new Session(this.#machine, block, this.#source, undo, []);
+    } catch (wrong) {
+      this.#machine.end(block); // there was no memory for its texts
+      throw wrong;
+    }
+  }
 
   /** The answers that stand, as a text for `load`, `carry` and `resume`. */
   save() {

@@ -213,6 +213,30 @@ test("saved text is loaded and carried", async () => {
   assert.deepEqual(kept.dropped, []);
 });
 
+test("a further session shares the dictionary alone", async () => {
+  const session = await opened();
+  session.set("/rent", 500n);
+  session.watch("changed", "/rent");
+  const other = session.further({ undo: 1 });
+  const third = other.further();
+  assert.deepEqual([other.get("/rent").kind, other.touched(), session.get("/rent")], ["incomplete", 0, complete(500n)]);
+  assert.throws(() => other.undo(), { number: 13 });
+  assert.deepEqual([...other.facts().keys()], [...session.facts().keys()]);
+  assert.equal(other.source, session.source);
+  other.set("/rent", 700n);
+  other.set("/rent", 800n);
+  assert.deepEqual([other.fired, session.get("/rent"), third.get("/rent").kind], [[], complete(500n), "incomplete"]);
+  session.close();
+  other.undo();
+  assert.throws(() => other.undo(), { number: 13 });
+  assert.deepEqual(other.get("/rent"), complete(700n));
+  other.close();
+  third.set("/rent", 900n);
+  assert.deepEqual(third.get("/rent"), complete(900n));
+  assert.throws(() => other.further(), SessionClosed);
+  assert.throws(() => third.further({ undo: -1 }), RangeError);
+});
+
 test("a text that came from outside is resumed without overrides, and each value that isn't taken has its refusal", async () => {
   const text = "saved 1\nnext 1\nlist /nowhere\nvalue /rent 6000.00\nvalue /rooms 3\nvalue /other 1\noverride /housing 9.00\nend\n";
   const session = await Session.resume(DICTIONARY, text, { undo: 1 });

@@ -6,7 +6,7 @@ its own name.
     __attribute__((export_name("fact_graph_close"))) void narrow_fact_graph_close(u32 graph) { fact_graph_close(graph); }
 
 An address, a size and a session, which is one address, have 64 bits in the library. A parameter of any other type is refused, so that a
-new one isn't passed by a guess.
+new one isn't passed by a guess. The functions of desks are left out: a page has one party.
 """
 
 from __future__ import annotations
@@ -16,7 +16,7 @@ import re
 from binary import Refused
 
 TYPES = "#include \"types.h\"\n\n"
-FUNCTION = re.compile(r"^(\w+) (fact_graph_\w+)\(([^()]*)\);", re.MULTILINE)
+FUNCTION = re.compile(r"^(\w+) (fact_graph_(?!desk_)\w+)\(([^()]*)\);", re.MULTILINE)
 COMMENT = re.compile(r"/\*.*?\*/", re.DOTALL)
 PARAMETER = re.compile(r"(?:const )?(\w+) (\*?)(\w+)")
 

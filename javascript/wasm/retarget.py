@@ -1,7 +1,8 @@
 """Makes the text of an LLVM module for x86-64 that of one for WebAssembly with addresses of 64 bits.
 
-Sizes, layouts and calls are the same on both, so nothing but what names the processor changes. What the module may have of it is listed
-here; anything else that is of a processor, of threads or of C is refused, since it could mean something else on WebAssembly. What no
+Sizes, layouts and calls are the same on both, so nothing but what names the processor changes, and the counts of what sessions share, which
+threads may change at the same time: a page's memory has one thread, and there they are plain numbers. What the module may have of a
+processor and of threads is listed here; anything else of them or of C is refused, since it could mean something else on WebAssembly. What no
 line of a session reaches is compiled for size: it runs where a session begins or is saved, and a visitor waits for all of the code. A
 table of random bytes that a few lines of C make again (runtime/powers.c) isn't carried along.
 """
@@ -45,6 +46,23 @@ define internal <16 x i8> @shuffled(<16 x i8> %table, <16 x i8> %places) alwaysi
 # The fence keeps LLVM from moving arithmetic over it. WebAssembly has none: a call into another object file is as good.
 FENCE, AS_FENCE = "llvm.arithmetic.fence.f64", "fence_of_arithmetic"
 
+# What threads may do at the same time with a count of 64 bits, and the bounds over which LLVM moves nothing of it.
+BOUND = re.compile(r'^  call void asm sideeffect "", "~\{memory\}"\(\)\n', re.MULTILINE)
+READ = re.compile(r"^  (?P<it>%[\w.]+) = load atomic i64, ptr (?P<at>\S+) seq_cst, align 8$", re.MULTILINE)
+TAKEN = re.compile(r"^  (?P<it>%[\w.]+) = atomicrmw sub ptr (?P<at>\S+), i64 (?P<by>\S+) seq_cst, align 8$", re.MULTILINE)
+EXCHANGED = re.compile(
+    r"^  (?P<it>%[\w.]+) = cmpxchg ptr (?P<at>\S+), i64 (?P<old>\S+), i64 (?P<new>\S+) seq_cst seq_cst, align 8$", re.MULTILINE
+)
+PLAIN = {
+    BOUND: "",
+    READ: r"  \g<it> = load i64, ptr \g<at>, align 8",
+    TAKEN: r"  \g<it> = load i64, ptr \g<at>, align 8\n  \g<it>.left = sub i64 \g<it>, \g<by>\n  store i64 \g<it>.left, ptr \g<at>, align 8",
+    EXCHANGED: r"  \g<it>.was = load i64, ptr \g<at>, align 8\n  \g<it>.same = icmp eq i64 \g<it>.was, \g<old>\n"
+    r"  \g<it>.left = select i1 \g<it>.same, i64 \g<new>, i64 \g<it>.was\n  store i64 \g<it>.left, ptr \g<at>, align 8\n"
+    r"  \g<it>.pair = insertvalue { i64, i1 } poison, i64 \g<it>.was, 0\n"
+    r"  \g<it> = insertvalue { i64, i1 } \g<it>.pair, i1 \g<it>.same, 1",
+}
+
 # The runtime's table of the powers of 5, by which fractions of JSON are read.
 POWERS, TABLE_OF_POWERS = range(-342, 326), "powers_of_five"
 
@@ -66,7 +84,7 @@ CONSTANT = re.compile(r'^(?P<name>@(?:"[^"]*"|[\w.$-]+)) = .*$', re.MULTILINE)
 
 def retargeted(text: str, has_vectors: bool) -> str:
     """The module for WebAssembly, whose instructions on vectors are there or not."""
-    text = without_powers(without_fence(without_shuffle(for_size(without_processor(for_target(text))), has_vectors)))
+    text = without_powers(without_threads(without_fence(without_shuffle(for_size(without_processor(for_target(text))), has_vectors))))
     refuse_unknown(text, has_vectors)
     return text
 
@@ -136,6 +154,17 @@ def without_fence(text: str) -> str:
         return text
     text = without_declaration(text, FENCE).replace(f"@{FENCE}", f"@{AS_FENCE}")
     return text + f"\ndeclare double @{AS_FENCE}(double) nounwind\n"
+
+
+def without_threads(text: str) -> str:
+    """Writes as plain steps what threads may do at the same time with a count: a page's memory has one thread.
+
+    >>> print(without_threads("  %n = load atomic i64, ptr %at seq_cst, align 8"))
+      %n = load i64, ptr %at, align 8
+    """
+    for pattern, plain in PLAIN.items():
+        text = pattern.sub(plain, text)
+    return text
 
 
 def highest_bits(power: int) -> int:

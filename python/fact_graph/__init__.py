@@ -11,6 +11,7 @@ dictionary is written, and docs/FAULTS.md what each refusal means. What is refus
 examples here and below are over the dictionary examples/screener.json.
 """
 
+from .desk import Desk, Party
 from .dictionary import Dictionary, Fact, FactType, Limit, ListedFact
 from .errors import (
     DictionaryRefused,
@@ -29,10 +30,11 @@ from .explanation import Explanation, Missing
 from .session import Dropped, Session, Watch
 from .values import Answer, Kind, Result, Value
 
-__version__ = "1.1.0"
+__version__ = "1.2.0"
 
 __all__ = [
     "Answer",
+    "Desk",
     "Dictionary",
     "DictionaryRefused",
     "Dropped",
@@ -46,6 +48,7 @@ __all__ = [
     "ListedFact",
     "Missing",
     "OutOfMemory",
+    "Party",
     "Refused",
     "Result",
     "SavedRefused",

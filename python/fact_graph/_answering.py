@@ -1,4 +1,4 @@
-"""How the lines of a session are answered: by the compiled module, where the package was built with it, else by ctypes."""
+"""How the lines of a session, or of a desk, are answered: by the compiled module, where the package was built with it, else by ctypes."""
 
 from __future__ import annotations
 
@@ -7,7 +7,7 @@ import functools
 from collections.abc import Callable
 from typing import Any
 
-from ._library import SAID, Library, last_text
+from ._library import SAID, Texts, last_text
 
 try:
     from ._compiled import answer as compiled
@@ -22,8 +22,8 @@ Answering = Callable[[str | bytes], str | int]
 ROOM = 1280
 
 
-def answering(calls: Library, graph: ctypes.c_void_p, text_size: ctypes.c_size_t) -> Answering:
-    """What answers the lines of a session, which is at `graph`, and puts the size of each text into `text_size`.
+def answering(calls: Texts, graph: ctypes.c_void_p, text_size: ctypes.c_size_t) -> Answering:
+    """What answers the lines of a session or a desk, which is at `graph`, and puts the size of each text into `text_size`.
 
     One call is made at a time, and none once the session is closed or while another call of the library is made on it. Half of a character
     in a line is a UnicodeEncodeError.
@@ -38,7 +38,7 @@ def _address(function: Any) -> int:
     return ctypes.cast(function, ctypes.c_void_p).value or 0
 
 
-def _by_ctypes(calls: Library, graph: ctypes.c_void_p, text_size: ctypes.c_size_t) -> Answering:
+def _by_ctypes(calls: Texts, graph: ctypes.c_void_p, text_size: ctypes.c_size_t) -> Answering:
     call, read = calls.answer, calls.read
     room: Any = ctypes.create_string_buffer(ROOM)
     # addresses are passed in less time than references

@@ -132,7 +132,8 @@ class Refused(FactGraphError):
     """A command is refused, and nothing is changed.
 
     `number` and `name` say why, as in docs/FAULTS.md; `place` is that of the limit or check in the fact's list, from 1,
-    where the value breaks one, and else None.
+    where the value breaks one, at a desk the number of the change that makes an edit stale, or of the party whose change it is, and
+    else None.
 
     >>> from fact_graph import Session
     >>> try:

@@ -10,12 +10,13 @@ import threading
 import weakref
 from collections.abc import Callable, Iterator
 from pathlib import Path
-from typing import Any, NamedTuple, NoReturn
+from typing import Any, NamedTuple
 
 from ._answering import answering
-from ._library import NO_MEMORY, OVER, SAID, Fault, last_text, library
+from ._held import LeftToParent, as_line, bytes_of, keep_from_children, unsaid
+from ._library import OVER, SAID, Fault, last_text, library
 from .dictionary import Dictionary, ListedFact, path_of
-from .errors import FactGraphError, OutOfMemory, Refused, SessionBusy, SessionClosed, SessionForked, UnknownSlot
+from .errors import Refused, SessionBusy, SessionClosed, SessionForked, UnknownSlot
 from .explanation import Explanation, Missing, Walk
 from .values import KINDS, READERS, Answer, Result, Value, text_of, text_of_int
 
@@ -100,7 +101,7 @@ class Session:  # pylint: disable=too-many-instance-attributes # what its calls 
     _dictionary: Dictionary | None = None
 
     def __init__(self, dictionary: bytes | str, *, undo: int | None = None) -> None:
-        text = _bytes_of(dictionary)
+        text = bytes_of(dictionary)
         self._begin(text, lambda graph, _, fault: library().open(text, len(text), graph, fault), undo)
 
     @classmethod
@@ -129,7 +130,7 @@ class Session:  # pylint: disable=too-many-instance-attributes # what its calls 
         >>> session["/filingStatus"]
         'marriedFilingJointly'
         """
-        session, text = cls.__new__(cls), _bytes_of(words)
+        session, text = cls.__new__(cls), bytes_of(words)
         session._begin(None, lambda graph, _, fault: library().open_built_in(text, len(text), graph, fault), undo)
         return session
 
@@ -141,7 +142,7 @@ class Session:  # pylint: disable=too-many-instance-attributes # what its calls 
         >>> Session.load(dictionary, "saved 1\\nnext 1\\nvalue /rent 800.00\\nend\\n")["/rent"]
         Decimal('800.00')
         """
-        session, text, kept = cls.__new__(cls), _bytes_of(dictionary), _bytes_of(saved)
+        session, text, kept = cls.__new__(cls), bytes_of(dictionary), bytes_of(saved)
         session._begin(text, lambda graph, _, fault: library().load(text, len(text), kept, len(kept), graph, fault), undo)
         return session
 
@@ -170,11 +171,43 @@ class Session:  # pylint: disable=too-many-instance-attributes # what its calls 
 
     @classmethod
     def _kept_of(cls, call: Callable[..., int], dictionary: bytes | str, saved: bytes | str, undo: int | None) -> Session:
-        session, text, kept = cls.__new__(cls), _bytes_of(dictionary), _bytes_of(saved)
+        session, text, kept = cls.__new__(cls), bytes_of(dictionary), bytes_of(saved)
         session._begin(text, lambda graph, size, fault: call(text, len(text), kept, len(kept), graph, size, fault), undo)
         return session
 
+    def further(self, *, undo: int | None = None) -> Session:
+        """A further session over the same dictionary, without answers. The two share the dictionary and what was made of it, so it is
+        there at once; each has its own answers, and may be closed before the other.
+
+        >>> session = Session.open("screener.json")
+        >>> session["/bill"] = 900
+        >>> other = session.further()
+        >>> other["/bill"] is None, session["/bill"]
+        (True, Decimal('900.00'))
+        """
+        session = type(self).__new__(type(self))
+        with self._lock:
+            self._hold()
+            self._is_busy = True
+            try:
+                # pylint: disable-next=protected-access # of this class itself
+                session._start(lambda graph, _, fault: library().further(self._graph, graph, fault, self._back), undo)
+            finally:
+                self._is_busy = False
+        session.source, session._dictionary = self.source, self._dictionary
+        session._facts, session._numbers, session._readers = self._facts, self._numbers, self._readers
+        return session
+
     def _begin(self, dictionary: bytes | None, begin: Callable[..., int], undo: int | None) -> None:
+        self._start(begin, undo)
+        calls = library()
+        self.dropped = tuple(map(Dropped.of_line, self._text().decode().splitlines()))
+        self.source = self._say_all(calls.dictionary) if dictionary is None else dictionary
+        self._facts = {fact.path: fact for fact in map(ListedFact.of_line, self._say_all(calls.facts).decode().splitlines())}
+        self._numbers = {path: number for number, path in enumerate(self._facts, 1)}
+        self._readers = {path: READERS[fact.type.name] for path, fact in self._facts.items()}
+
+    def _start(self, begin: Callable[..., int], undo: int | None) -> None:
         if undo is not None and undo < 0:
             raise ValueError(f"undo is how many changes are kept, from 0 on, and no {undo}")
         calls, graph, size, fault = library(), ctypes.c_void_p(), ctypes.c_size_t(), Fault()
@@ -194,12 +227,7 @@ class Session:  # pylint: disable=too-many-instance-attributes # what its calls 
         self._step = 0  # how many more it can where the last line made a change, as long as that isn't counted
         self._floor = -1  # how many it leaves within the block of changes that is open
         self._answer = answering(calls, graph, size)
-        self.dropped = tuple(map(Dropped.of_line, self._text().decode().splitlines()))
-        self.source = self._say_all(calls.dictionary) if dictionary is None else dictionary
-        self._facts = {fact.path: fact for fact in map(ListedFact.of_line, self._say_all(calls.facts).decode().splitlines())}
-        self._numbers = {path: number for number, path in enumerate(self._facts, 1)}
-        self._readers = {path: READERS[fact.type.name] for path, fact in self._facts.items()}
-        _sessions.add(self)
+        keep_from_children(self)
 
     @property
     def dictionary(self) -> Dictionary:
@@ -416,7 +444,7 @@ class Session:  # pylint: disable=too-many-instance-attributes # what its calls 
         >>> session.reads("/size"), session.reads("/bill")
         (['/people'], [])
         """
-        given = _as_line(slot)
+        given = as_line(slot)
         said = self._say_all(library().reads, given, len(given)).decode()
         if said.startswith("refused "):
             raise Refused.of_reply(said)
@@ -585,7 +613,7 @@ class Session:  # pylint: disable=too-many-instance-attributes # what its calls 
 
         A line without a reply, and each one from `quit` on, has an empty text. A refusal is a reply, and isn't raised.
         """
-        given = _bytes_of(line).removesuffix(b"\n")
+        given = bytes_of(line).removesuffix(b"\n")
         if b"\n" in given:
             raise ValueError("a line of a script has no newline within")
         command = given.removesuffix(b"\r")
@@ -636,7 +664,7 @@ class Session:  # pylint: disable=too-many-instance-attributes # what its calls 
 
     def _ask(self, line: str, step: int = 0) -> str:
         """The reply to a command that isn't refused."""
-        said = self._say(line if line.isascii() and line[-1] != "\r" else _as_line(line), step)
+        said = self._say(line if line.isascii() and line[-1] != "\r" else as_line(line), step)
         if said is None:
             raise SessionClosed("the session was quit")
         if said.startswith("refused "):
@@ -665,7 +693,7 @@ class Session:  # pylint: disable=too-many-instance-attributes # what its calls 
             return said
         if said == OVER:
             return None
-        raise _unsaid(said)
+        raise unsaid(said)
 
     def _say_all(self, call: Callable[..., int], *given: object) -> bytes:
         """The text of a call that changes nothing, of which the library keeps no memory where it is long."""
@@ -681,7 +709,7 @@ class Session:  # pylint: disable=too-many-instance-attributes # what its calls 
                     return text
             finally:
                 self._is_busy = False
-        raise _unsaid(how)
+        raise unsaid(how)
 
     def _text(self) -> bytes:
         """The text of the last call."""
@@ -723,56 +751,12 @@ class Session:  # pylint: disable=too-many-instance-attributes # what its calls 
         """Leaves the session to the process that this one was forked from."""
         self._end.detach()
         self._undo = None
-        self._lock = _LeftToParent()
+        self._lock = LeftToParent()
 
     def _reader(self, slot: str) -> Callable[[str], Value]:
         return self._readers.get(slot) or self._readers[path_of(slot)]
 
 
-class _LeftToParent:
-    """The lock of a session in a forked child, where none of its calls begins."""
-
-    def __enter__(self) -> NoReturn:
-        raise SessionForked("the session belongs to the process that this one was forked from: save() it there, and load() the text")
-
-    def __exit__(self, *raised: object) -> None:
-        """Is never come to."""
-
-
-def _leave_all() -> None:
-    for session in _sessions:
-        session._leave()  # pylint: disable=protected-access # of this module's own class
-
-
-_sessions: weakref.WeakSet[Session] = weakref.WeakSet()
-os.register_at_fork(after_in_child=_leave_all)
-
-
 def _gone_on(kind: type[Session], dictionary: bytes, saved: bytes, undo: int | None) -> Session:
     """A copy of a session."""
     return kind.load(dictionary, saved, undo=undo)
-
-
-def _as_line(text: str | bytes) -> bytes:
-    """The bytes of a line, whose last byte 13 is no part of what ends it: one such is dropped."""
-    given = _bytes_of(text)
-    return given + b"\r" if given.endswith(b"\r") else given
-
-
-def _unsaid(how: int) -> FactGraphError:
-    """What is raised where a call has no text."""
-    if how == NO_MEMORY:
-        return OutOfMemory("no memory for the reply")
-    return FactGraphError(f"the library ended a call with {how}, of which this package doesn't know")
-
-
-def _bytes_of(text: bytes | bytearray | memoryview | str) -> bytes:
-    """The bytes of a text. Half of a character that takes two is no text, and the library refuses what it comes to."""
-    if isinstance(text, str):
-        try:
-            return text.encode()
-        except UnicodeEncodeError:
-            return text.encode("utf-8", "surrogatepass")
-    if isinstance(text, (bytes, bytearray, memoryview)):
-        return bytes(text)
-    raise TypeError(f"a text is a str or bytes, and no {type(text).__name__}")

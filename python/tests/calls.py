@@ -3,16 +3,18 @@
 from __future__ import annotations
 
 import re
-from collections.abc import Callable
 
-from fact_graph import Answer, Refused, Session
+from fact_graph import Answer, Desk, Party, Refused, Session
 from fact_graph.dictionary import path_of
 from fact_graph.values import READERS, said, text_of, text_of_any
 
-VALUED = {"set": Session.set, "override": Session.override}
-CHANGES: dict[str, Callable[[Session, str], None]] = {"clear": Session.clear, "open": Session.open_list, "release": Session.release}
-STEPS = {"undo": Session.undo, "redo": Session.redo}
+VALUED = ("set", "override")
+CHANGES = {"clear": "clear", "open": "open_list", "release": "release"}
+STEPS = ("undo", "redo")
 WATCHES = {"watch": Session.watch, "unwatch": Session.unwatch}
+# A line of a party, and the commands that a desk doesn't have.
+OF_PARTY = re.compile(rb"@([1-9]|1[0-6]) (.*)", re.DOTALL)
+NO_DESK = ("watch", "unwatch")
 # The most bytes of a line, one last byte 13 counted.
 LIMIT = 4_096
 # The forms of commands; any other line is no call.
@@ -37,13 +39,14 @@ def parts_of(line: bytes) -> list[str]:
     return next((list(match.groups()) for match in found if match), [])
 
 
-def type_of(session: Session, slot: str) -> str:
+def type_of(session: Session | Party, slot: str) -> str:
     """The name of a slot's type, where there is one."""
-    fact = session.dictionary.facts.get(path_of(slot))
+    dictionary = session.desk.dictionary if isinstance(session, Party) else session.dictionary
+    fact = dictionary.facts.get(path_of(slot))
     return fact.type.name if fact else ""
 
 
-def typed(session: Session, slot: str, text: str) -> Answer:
+def typed(session: Session | Party, slot: str, text: str) -> Answer:
     """The value of a text, where it is written as a session prints it; else the text itself."""
     try:
         value = READERS[type_of(session, slot)](text)
@@ -52,14 +55,14 @@ def typed(session: Session, slot: str, text: str) -> Answer:
         return text
 
 
-def change(session: Session, verb: str, rest: list[str]) -> str:
+def change(session: Session | Party, verb: str, rest: list[str]) -> str:
     """Makes a change, and says what its reply says of it; nothing where the verb makes none."""
     if verb in VALUED:
-        VALUED[verb](session, rest[0], typed(session, *rest))
+        getattr(session, verb)(rest[0], typed(session, *rest))
     elif verb in CHANGES:
-        CHANGES[verb](session, *rest)
+        getattr(session, CHANGES[verb])(*rest)
     elif verb in STEPS:
-        STEPS[verb](session)
+        getattr(session, verb)()
     elif verb == "remove":
         session.remove(rest[0], int(rest[1]))
     elif verb == "add":
@@ -69,7 +72,7 @@ def change(session: Session, verb: str, rest: list[str]) -> str:
     return "ok"
 
 
-def question(session: Session, verb: str, rest: list[str]) -> list[str]:
+def question(session: Session | Party, verb: str, rest: list[str]) -> list[str]:
     """The lines of what a question is answered."""
     if verb == "get":
         return [said(session.get(*rest), type_of(session, rest[0]))]
@@ -83,33 +86,45 @@ def question(session: Session, verb: str, rest: list[str]) -> list[str]:
         return [f"stamp {session.stamp(*rest)}"]
     if verb == "touched":
         return [f"touched {session.touched()}"]
+    assert isinstance(session, Session)
     WATCHES[verb](session, *rest)
     return ["ok"]
 
 
-def replied(session: Session, verb: str, rest: list[str]) -> list[str]:
+def replied(session: Session | Party, verb: str, rest: list[str]) -> list[str]:
     """The lines of the reply to a call."""
     changed = change(session, verb, rest)
-    return [changed, *(f"watch {name} {slot}" for name, slot in session.fired)] if changed else question(session, verb, rest)
+    if not changed:
+        return question(session, verb, rest)
+    return [changed, *(f"watch {name} {slot}" for name, slot in (session.fired if isinstance(session, Session) else ()))]
 
 
-def reply(session: Session, line: bytes) -> str:
-    """What the program writes to a line, from the call that it is; from the line itself where it is none."""
-    parts = parts_of(line)
-    if not parts:
-        return session.line(line)
+def called(session: Session | Party, parts: list[str]) -> list[str]:
+    """The lines of the reply to a call, or of its refusal."""
     try:
-        lines = replied(session, parts[0], parts[1:])
+        return replied(session, parts[0], parts[1:])
     except Refused as refused:
-        lines = [str(refused)]
-    return "".join(text + "\n" for text in lines)
+        return [str(refused)]
 
 
-def replies(session: Session, script: bytes) -> str:
+def reply(session: Session | Desk, line: bytes) -> str:
+    """What the program writes to a line, from the call that it is; from the line itself where it is none."""
+    if isinstance(session, Session):
+        parts, mark, whose = parts_of(line), "", session
+        lines = called(whose, parts) if parts else None
+    else:
+        of_party = OF_PARTY.fullmatch(line) if len(line) <= LIMIT else None
+        parts = parts_of(of_party[2]) if of_party else []
+        mark = f"@{of_party[1].decode()} " if of_party else ""
+        lines = called(session.party(int(of_party[1])), parts) if of_party and parts and parts[0] not in NO_DESK else None
+    return session.line(line) if lines is None else "".join(f"{mark}{text}\n" for text in lines)
+
+
+def replies(session: Session | Desk, script: bytes) -> str:
     """What the program writes to a script, call by call, up to `quit`."""
     written = []
     for line in script.split(b"\n"):
-        if line.removesuffix(b"\r") == b"quit":
+        if re.fullmatch(rb"(@([1-9]|1[0-6]) )?quit\r?", line) and isinstance(session, Desk) == line.startswith(b"@"):
             break
         written.append(reply(session, line))
     return "".join(written)

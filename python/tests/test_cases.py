@@ -13,12 +13,12 @@ from oracle.session import Session as Plain
 from run_rows import first_difference
 from stored_cases import Malformed, Served, also, cases_of, files_of_cases, served
 
-from fact_graph import DictionaryRefused, SavedRefused, Session
+from fact_graph import Desk, DictionaryRefused, SavedRefused, Session
 
 from .calls import replies
 
 # Files all of whose cases are of words that the library doesn't serve.
-OTHERS = ("gen.py", "desk.py", "desk.row")
+OTHERS = ("gen.py",)
 FILES = [path for path in files_of_cases() if path.name not in OTHERS]
 # The plain session evaluates everything anew, so what is larger would take it too long.
 LARGEST_PLAIN = 100_000
@@ -34,8 +34,10 @@ def cases(path: Path) -> Iterator[Served]:
         yield from filter(None, map(served, also(case)))
 
 
-def begun(case: Served) -> Session:
-    """The session of a case."""
+def begun(case: Served) -> Session | Desk:
+    """The session of a case, or its desk."""
+    if case.word == "desk":
+        return Desk(case.dictionary)
     if case.word == "built-in":
         return Session.built_in(case.dictionary.decode())
     if case.saved is None:
@@ -43,12 +45,12 @@ def begun(case: Served) -> Session:
     return (Session.load if case.word == "load" else Session.carry)(case.dictionary, case.saved)
 
 
-def by_lines(session: Session, script: bytes) -> str:
+def by_lines(session: Session | Desk, script: bytes) -> str:
     """What a session says to the lines of a script."""
     return "".join(session.line(line) for line in script.split(b"\n"))
 
 
-def said(case: Served, answered: Callable[[Session, bytes], str]) -> tuple[bytes, int]:
+def said(case: Served, answered: Callable[[Session | Desk, bytes], str]) -> tuple[bytes, int]:
     """The text and the status that the program has by the same words, where the script is answered so."""
     try:
         session = begun(case)
@@ -57,12 +59,12 @@ def said(case: Served, answered: Callable[[Session, bytes], str]) -> tuple[bytes
     except SavedRefused as refused:
         return f"{refused}\n".encode(), 8
     with session:
-        dropped = "".join(f"dropped {it.kind} {it.slot}\n" for it in session.dropped)
+        dropped = "".join(f"dropped {it.kind} {it.slot}\n" for it in session.dropped) if isinstance(session, Session) else ""
         text = answered(session, case.case.script)
         return session.save() if case.word == "save" else (dropped + text).encode(), 0
 
 
-def wrong_in(path: Path, answered: Callable[[Session, bytes], str]) -> list[str]:
+def wrong_in(path: Path, answered: Callable[[Session | Desk, bytes], str]) -> list[str]:
     """The cases of a file whose text or status isn't the stored one."""
     wrong, count = [], 0
     for count, (case, (text, status)) in enumerate(((case.case, said(case, answered)) for case in cases(path)), 1):
@@ -86,7 +88,7 @@ def plain_cases(path: Path) -> Iterator[Served]:
     """The cases of a file that a plain session has: runs of a dictionary that is accepted, none of them large."""
     for case in cases(path):
         if case.word == "built-in":
-            with begun(case) as session:
+            with Session.built_in(case.dictionary.decode()) as session:
                 case = case._replace(dictionary=session.source)
         is_small = len(case.dictionary) + len(case.case.script) < LARGEST_PLAIN
         if case.word in ("run", "built-in") and case.case.status == 0 and is_small:

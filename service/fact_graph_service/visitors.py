@@ -216,7 +216,7 @@ class Visitors:
         if call.head is None:
             visit = secrets.token_urlsafe(12)
             head = Head(visit, self.digest, 0, 0, call.sealed(visit, 0, Snapshot(None)), self._expires())
-            kept = Kept(Session(self._dictionary), visit, self.digest, 0, 0)
+            kept = Kept(self._blank.further(), visit, self.digest, 0, 0)
         elif call.head.digest != self.digest:
             kept, answered = self._carried(name, call, call.head)
             return kept, answered._replace(stale=made is None or made.stale, reply=made.reply if made else None)

@@ -35,9 +35,9 @@ def of_served(it: Served) -> Given:
 
 
 def stored() -> Iterator[Given]:
-    """All stored cases that a library serves, the refused checks among them as runs."""
+    """All stored cases that a library serves, the refused checks among them as runs, but for those at a desk, which this package hasn't."""
     for first in all_cases():
-        yield from map(of_served, filter(None, map(served, also(first))))
+        yield from (of_served(it) for it in map(served, also(first)) if it is not None and it.word != "desk")
 
 
 def wrong_in(case: Given, answer: bytes) -> str:

@@ -2,8 +2,8 @@
  *
  *   calls WORDS SCRIPT
  *
- * Tries fact_graph_reads, fact_graph_dictionary, fact_graph_facts, fact_graph_description, fact_graph_keep_changes and fact_graph_trim
- * over a dictionary of its own. Then it opens a session over the dictionary that comes with the library by these words, as `year 2023`, and one over the text
+ * Tries fact_graph_reads, fact_graph_dictionary, fact_graph_facts, fact_graph_description, fact_graph_keep_changes, fact_graph_trim and
+ * fact_graph_further over a dictionary of its own. Then it opens a session over the dictionary that comes with the library by these words, as `year 2023`, and one over the text
  * that the first says of its dictionary. The replies of the first to the script are printed, and both have to end with the same answers.
  * Where it is compiled with FAILING, each allocation of each call fails in turn, and what the blocks of memory hold is counted. Exits
  * with 1 where anything isn't as the header says. */
@@ -331,6 +331,57 @@ static void gives_back_a_long_text(void) {
   fact_graph_close(graph);
 }
 
+/* ---- fact_graph_further */
+
+static fact_graph further(fact_graph *graph) {
+  fact_graph other = {NULL};
+  fact_graph_fault fault = {9, 9, 9, 9, 9};
+  uint32_t number;
+  WITH_MEMORY(number = fact_graph_further(*graph, &other, &fault, graph), number == FACT_GRAPH_FAULT_MEMORY,
+              CHECK(other.at == NULL && fault.number == FACT_GRAPH_FAULT_MEMORY), CLOSE(other));
+  CHECK(number == 0 && fault.number == 0 && fault.fact == FACT_GRAPH_ABSENT && other.at != NULL && other.at != graph->at);
+  CHECK(is_empty(&other));
+  return other;
+}
+
+/* A further session has no answers, no history, no stamps and no watches, and the one that it came of has all of its own. Neither sees
+ * the other's changes, and each may end first. */
+static void shares_its_dictionary(void) {
+  fact_graph graph = opened();
+  replies(&graph, "watch changed /s", "ok\n");
+  replies(&graph, "set /a 5", "ok\nwatch changed /s\n");
+  replies(&graph, "add /people", "ok #1\n");
+  text before = saved_text(&graph);
+  fact_graph second = further(&graph), third = further(&graph), fourth = further(&second);
+  text after = saved_text(&graph);
+  CHECK(same(before, after));
+  free(before.bytes);
+  free(after.bytes);
+  text listed = said_by(fact_graph_dictionary, &graph), listed_again = said_by(fact_graph_dictionary, &third);
+  CHECK(same(listed, listed_again));
+  free(listed.bytes);
+  free(listed_again.bytes);
+  replies(&second, "get /a", "incomplete\n");
+  replies(&second, "touched", "touched 0\n");
+  replies(&second, "stamp /s", "stamp 0\n");
+  replies(&second, "undo", "refused 13 NothingToUndo\n");
+  replies(&second, "get /people/#1/share", "refused 4 NoMember\n");
+  replies(&second, "set /a 7", "ok\n");
+  replies(&second, "get /s", "placeholder 21.00\n");
+  replies(&graph, "get /s", "placeholder 15.00\n");
+  replies(&graph, "touched", "touched 5\n");
+  fact_graph_close(graph);
+  replies(&third, "get /s", "incomplete\n");
+  replies(&third, "set /b 1", "ok\n");
+  replies(&third, "undo", "ok\n");
+  fact_graph_close(third);
+  replies(&second, "get /s", "placeholder 21.00\n");
+  fact_graph_close(second);
+  replies(&fourth, "set /a 2", "ok\n");
+  replies(&fourth, "get /s", "placeholder 6.00\n");
+  fact_graph_close(fourth);
+}
+
 /* ---- a session that is over */
 
 static void goes_on_when_over(void) {
@@ -398,6 +449,7 @@ int main(int count, char **words) {
   bounds_what_is_kept();
   trims();
   gives_back_a_long_text();
+  shares_its_dictionary();
   goes_on_when_over();
   knows_no_others();
   fact_graph graph = built_in(words[1]), other = over_the_same(&graph);

@@ -2,8 +2,8 @@
  *
  *   cases FOLDER WORD..
  *
- * The case n, from 0, has the nth word, run, load, carry, save or built-in, and the files FOLDER/n.d, a dictionary, or for built-in the
- * words of one that comes with the library, FOLDER/n.script, and for load and carry FOLDER/n.s, a saved text. What the case says is
+ * The case n, from 0, has the nth word, run, load, carry, save, desk or built-in, and the files FOLDER/n.d, a dictionary, or for built-in
+ * the words of one that comes with the library, FOLDER/n.script, and for load and carry FOLDER/n.s, a saved text. What the case says is
  * written to FOLDER/n.out. Standard output has a line for each case: the fault's number, fact, node, what and line, where the number 0
  * says that there is none. */
 #include "host.h"
@@ -64,6 +64,37 @@ static uint32_t begin(const char *word, text dictionary, text saved, fact_graph 
   return fact_graph_open(dictionary.bytes, dictionary.size, graph, fault);
 }
 
+/* Answers the lines of a desk, each in a block of exactly its size. */
+static void answer_at(fact_graph_desk *desk, text script, FILE *out) {
+  for (size_t at = 0; at < script.size;) {
+    const uint8_t *end = memchr(script.bytes + at, '\n', script.size - at);
+    size_t size = end ? (size_t)(end - script.bytes) - at : script.size - at, text_size = 1;
+    uint8_t *line = malloc(size > 0 ? size : 1);
+    CHECK(line != NULL);
+    memcpy(line, script.bytes + at, size);
+    uint32_t how = fact_graph_desk_answer(*desk, line, size, &text_size, desk);
+    free(line);
+    if (how == FACT_GRAPH_OVER) return;
+    CHECK(how == FACT_GRAPH_SAID);
+    uint8_t *bytes = malloc(text_size > 0 ? text_size : 1);
+    CHECK(bytes != NULL && fact_graph_desk_read(*desk, 0, bytes, text_size, desk) == text_size);
+    fwrite(bytes, 1, text_size, out);
+    free(bytes);
+    at += size + 1;
+  }
+}
+
+static void run_desk(text dictionary, text script, FILE *out) {
+  fact_graph_desk desk = {NULL};
+  fact_graph_fault fault = {0, 0, 0, 0, 0};
+  uint32_t number = fact_graph_desk_open(dictionary.bytes, dictionary.size, &desk, &fault);
+  CHECK(number == fault.number);
+  printf("%u %u %u %u %u\n", fault.number, fault.fact, fault.node, fault.what, fault.line);
+  if (number != 0) return;
+  answer_at(&desk, script, out);
+  fact_graph_desk_close(desk);
+}
+
 static void run(const char *word, text dictionary, text saved, text script, FILE *out) {
   fact_graph graph = {NULL};
   fact_graph_fault fault = {0, 0, 0, 0, 0};
@@ -90,7 +121,11 @@ int main(int count, char **words) {
     text dictionary = read_in(words[1], n, "d"), script = read_in(words[1], n, "script");
     text saved = has_saved ? read_in(words[1], n, "s") : (text){NULL, 0};
     FILE *out = out_in(words[1], n);
-    run(word, dictionary, saved, script, out);
+    if (strcmp(word, "desk") == 0) {
+      run_desk(dictionary, script, out);
+    } else {
+      run(word, dictionary, saved, script, out);
+    }
     fclose(out);
     free(saved.bytes);
     free(script.bytes);

@@ -3,18 +3,20 @@
 
     tests/run_rows.py --program tests/library/interview.py
 
-The words run, load, carry and save, and the tax years, are answered through the library's functions as the Python package has them, a
-line of the script at a time and its reply in pieces. What the library doesn't have, as check and run-plain, is run by the program itself,
-crates/interview/out/interview; so is what can't be read, since the library reads no file. FACT_GRAPH_LIBRARY names another library
-than out/libfact_graph.so.
+The words run, load, carry, save and desk, and the tax years, are answered through the library's functions as the Python package has
+them, a line of the script at a time and its reply in pieces. What the library doesn't have, as check and run-plain, is run by the program itself,
+crates/interview/out/interview; so is what can't be read, since the library reads no file, and a script of a desk with more than 20,000
+lines. FACT_GRAPH_LIBRARY names another library than out/libfact_graph.so.
 """
 from __future__ import annotations
 
 import ctypes
 import os
+import subprocess
 import sys
 from collections.abc import Callable, Iterable
 from pathlib import Path
+from typing import Any
 
 TOP = Path(__file__).resolve().parent.parent.parent
 sys.path.insert(0, str(TOP / "python"))
@@ -28,8 +30,10 @@ PROGRAM = TOP / "crates" / "interview" / "out" / "interview"
 SCRIPT_LIMIT = 67_108_864
 # A reply is fetched in pieces of so many bytes, so that most replies take several.
 PIECE = 7
+# The most lines of a script at a desk that isn't the program's.
+LINES_AT_DESK = 20_000
 # The words that the library serves, and how many stand with them, and the dictionaries that come with it.
-SERVED = {"run": 2, "save": 2, "load": 3, "carry": 3}
+SERVED = {"run": 2, "save": 2, "desk": 2, "load": 3, "carry": 3}
 BUILT_IN = (["year", "2023"], ["year", "2024"], ["income", "2023"])
 
 
@@ -44,17 +48,18 @@ def refusal(numbers: Iterable[int]) -> bytes:
 
 
 class Graph:
-    """A session, which its text follows from call to call."""
+    """A session or a desk, which its text follows from call to call."""
 
-    def __init__(self) -> None:
-        self.calls, self.at, self.size = library(), ctypes.c_void_p(), ctypes.c_size_t()
+    def __init__(self, word: str) -> None:
+        self.calls: Any = library().desks if word == "desk" else library()
+        self.at, self.size = ctypes.c_void_p(), ctypes.c_size_t()
         self.back, self.size_at = ctypes.byref(self.at), ctypes.byref(self.size)
 
     def open(self, word: str, *files: bytes) -> None:
         """Opens the session as the word says."""
         fault = Fault()
         texts = [it for text in files for it in (text, len(text))]
-        begin = {"load": self.calls.load, "carry": self.calls.carry, "built-in": self.calls.open_built_in}.get(word, self.calls.open)
+        begin = getattr(self.calls, {"load": "load", "carry": "carry", "built-in": "open_built_in"}.get(word, "open"))
         number = begin(*texts, self.back, *([self.size_at] if word == "carry" else []), ctypes.byref(fault))
         assert number == fault.number, (number, fault.number)
         if number:
@@ -62,15 +67,15 @@ class Graph:
 
     def text(self) -> bytes:
         """What the last call said."""
-        said, piece = b"", ctypes.create_string_buffer(PIECE)
+        said, piece = bytearray(), ctypes.create_string_buffer(PIECE)
         while count := self.calls.read(self.at, len(said), piece, PIECE, self.back):
             said += piece.raw[:count]
         assert len(said) == self.size.value, (len(said), self.size.value)
-        return said
+        return bytes(said)
 
     def answer(self, line: bytes) -> bool:
         """Answers a line, and returns whether the script is over."""
-        how = self.calls.answer(self.at, line, len(line), self.size_at, self.back)
+        how: int = self.calls.answer(self.at, line, len(line), self.size_at, self.back)
         if how not in (SAID, OVER):
             raise OutOfMemory
         return how == OVER
@@ -93,13 +98,13 @@ def answer_script(graph: Graph, script: bytes, write: Callable[[bytes], object])
         is_over = graph.answer(line)
         write(graph.text())
         if is_over:
-            assert graph.answer(b"undo") and not graph.text()
+            assert graph.answer(b"@1 undo") and not graph.text()
             return
     if len(script) > SCRIPT_LIMIT:
         raise ScriptTooLong
 
 
-def run(graph: Graph, words: list[str], write: Callable[[bytes], object]) -> None:
+def run(graph: Graph, words: list[str], script: bytes, write: Callable[[bytes], object]) -> None:
     """Does what the words say; none of the exceptions means status 0."""
     word, *names = words
     if words in BUILT_IN:
@@ -108,7 +113,7 @@ def run(graph: Graph, words: list[str], write: Callable[[bytes], object]) -> Non
         graph.open(word, *(Path(name).read_bytes() for name in names))
     if word == "carry":
         write(graph.text())
-    answer_script(graph, sys.stdin.buffer.read(), write if word != "save" else lambda text: None)
+    answer_script(graph, script, write if word != "save" else lambda text: None)
     if word == "save":
         graph.save()
         write(graph.text())
@@ -121,9 +126,12 @@ def main(argv: list[str]) -> int:
         if not PROGRAM.is_file():
             sys.exit(f"interview.py: no program is built at {PROGRAM}")
         os.execv(PROGRAM, [str(PROGRAM), *argv])
-    graph = Graph()
+    script = sys.stdin.buffer.read()
+    if argv[0] == "desk" and script.count(b"\n") > LINES_AT_DESK:
+        return subprocess.run([PROGRAM, *argv], input=script, check=False).returncode
+    graph = Graph(argv[0])
     try:
-        run(graph, argv, sys.stdout.buffer.write)
+        run(graph, argv, script, sys.stdout.buffer.write)
         return 0
     except (DictionaryRefused, SavedRefused) as refused:
         print(refused)

@@ -80,6 +80,27 @@ def test_the_fence_of_arithmetic_is_a_call() -> None:
     assert "llvm.arithmetic" not in text
 
 
+def test_a_count_of_threads_is_one_of_a_page() -> None:
+    """What is read, taken and exchanged is the same, by plain steps; the bounds between them go."""
+    bound = '  call void asm sideeffect "", "~{memory}"()\n'
+    steps = [
+        "  %r5 = load atomic i64, ptr %a0 seq_cst, align 8\n",
+        "  %r1 = atomicrmw sub ptr %a0, i64 %a1 seq_cst, align 8\n",
+        "  %r15 = cmpxchg ptr %a0, i64 %r13, i64 %r14 seq_cst seq_cst, align 8\n",
+    ]
+    text = retargeted(HEAD + "define void @f() {\n" + "".join(bound + step + bound for step in steps) + "}\n", True)
+    assert text.endswith(
+        "define void @f() {\n"
+        "  %r5 = load i64, ptr %a0, align 8\n"
+        "  %r1 = load i64, ptr %a0, align 8\n  %r1.left = sub i64 %r1, %a1\n  store i64 %r1.left, ptr %a0, align 8\n"
+        "  %r15.was = load i64, ptr %a0, align 8\n  %r15.same = icmp eq i64 %r15.was, %r13\n"
+        "  %r15.left = select i1 %r15.same, i64 %r14, i64 %r15.was\n  store i64 %r15.left, ptr %a0, align 8\n"
+        "  %r15.pair = insertvalue { i64, i1 } poison, i64 %r15.was, 0\n"
+        "  %r15 = insertvalue { i64, i1 } %r15.pair, i1 %r15.same, 1\n"
+        "}\n"
+    )
+
+
 def test_the_table_of_powers_is_the_runtime_s() -> None:
     """Where a constant has all of its bytes; each other constant stays."""
     def table(data: bytes) -> str:
