@@ -9,7 +9,7 @@
 
 #include "../tests/library/host.h"
 
-enum { ROUNDS = 200, CALLS = 200, OPENS = 10 };
+enum { ROUNDS = 200, CALLS = 200 };
 
 static double now(void) {
   struct timespec at;
@@ -43,17 +43,6 @@ static fact_graph opened(text dictionary) {
   return graph;
 }
 
-static void time_opening(text dictionary) {
-  double least = 1e9;
-  for (int round = 0; round < ROUNDS; round++) {
-    double begun = now();
-    for (int k = 0; k < OPENS; k++) fact_graph_close(opened(dictionary));
-    double took = (now() - begun) / OPENS;
-    if (took < least) least = took;
-  }
-  printf("%8.2f us  a session opened and closed\n", least);
-}
-
 int main(int count, char **words) {
   CHECK(count == 3);
   text dictionary = file(words[1]), script = file(words[2]);
@@ -69,7 +58,6 @@ int main(int count, char **words) {
   time_lines(&graph, "final, with its read", "final /help", "final /help");
   time_lines(&graph, "set to the amount that stands", "set /bill 1240.50", "set /bill 1240.50");
   time_lines(&graph, "set that touches two slots", "set /caseNumber 123456789", "set /caseNumber 123456780");
-  time_opening(dictionary);
   fact_graph_close(graph);
   free(script.bytes);
   free(dictionary.bytes);
