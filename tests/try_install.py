@@ -61,7 +61,7 @@ SINCE = {name: version for version, name in re.findall(r"Since version (\d+\.\d+
 # The number of the refusal that no session and no desk of the library gives: that of the plain engine.
 ELSEWHERE = {15}
 # How many examples the page has in each language.
-IN_EACH = {"python": 3, "c": 3, "cpp": 2}
+IN_EACH = {"python": 4, "c": 3, "cpp": 2}
 
 
 class Installed(NamedTuple):
