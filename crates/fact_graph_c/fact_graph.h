@@ -57,7 +57,7 @@ typedef struct fact_graph_desk {
 
 /* Why no session was opened: as the program's line `dictionary refused 12 IllTyped fact 3 node 2` says it, in numbers. */
 typedef struct fact_graph_fault {
-  /* 0 where there is no fault; 1 to 14, that of the dictionary; or one of the next two. */
+  /* 0 where there is no fault; 1 to 14, a fault of the dictionary; 15 to 17, another reason, named below. */
   uint32_t number;
   uint32_t fact;
   uint32_t node;
