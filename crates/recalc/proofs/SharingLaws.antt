@@ -6,7 +6,7 @@ use Rattle.std.specs.Ordering.{nat_cmp}
 use Rattle.common_lemmas.proofs.Bools.{and_intro}
 use Rattle.fact_values.specs.declared.slot.Slot.{Slot}
 use Rattle.three_state.specs.declared.res.Res.{Res}
-use Rattle.answers.specs.Answered.{start}
+use Rattle.answers.specs.Answered.{Answered, start}
 use Rattle.cell_store.specs.Contents.{Cells, no_cells}
 use Rattle.cell_store.specs.SlotOrder.{slot_cmp}
 use Rattle.cell_store.specs.declared.cell.Cell.{Cell}
@@ -20,7 +20,10 @@ use Rattle.dict_meaning.proofs.SlotLaws.{slot_same-equal}
 use Rattle.dictionary.specs.ByRank.{AreByRank}
 use Rattle.recalc.specs.EngineInvariant.{results_of, stamp_in}
 use Rattle.recalc.specs.Running.{stamped_cell}
-use Rattle.recalc.specs.Sharing.{AreAtStart, global, new_or, with_copies, with_result}
+use Rattle.recalc.specs.Sharing.{AreAtStart, AreCellsOf, global, new_or, read_cells, with_copies, with_result}
+use Rattle.recalc.specs.declared.dependency_graph.DependencyGraph.{DependencyGraph}
+use Rattle.recalc.specs.declared.engine_cells.EngineCells.{EngineCells}
+use Rattle.recalc.specs.declared.engine_cells.EngineCells.TheVariants.{Own, Shared}
 use Rattle.recalc.proofs.SeedingLaws.{standing_in, stands_in_order}
 
 -- ---- one more cell is copied
@@ -84,8 +87,8 @@ module _ (names : List (List ℕ)) (d : Accepted) (accepted : IsAccepted names d
   none_first : (s : Slot) → finite.get first s ≡ None
   none_first s = ap (λ (m : Cells). finite.get m s) empty ∙ finite.get-empty {X = Cell} slot_cmp s
 
-  pub copies_are_at_start : AreAtStart d left
-  copies_are_at_start s = ap (option_map (λ (c : Cell). c.res)) (copied s) ∙ at (is_copied s) (stands d.tree start s) refl refl
+  have_results : (s : Slot) → results_of left s ≡ plain d start s
+  have_results s = ap (option_map (λ (c : Cell). c.res)) (copied s) ∙ at (is_copied s) (stands d.tree start s) refl refl
     where
       shown : (o : Option Res) → option_map (λ (c : Cell). c.res) (new_or o None) ≡ o
       shown None = refl
@@ -95,12 +98,12 @@ module _ (names : List (List ℕ)) (d : Accepted) (accepted : IsAccepted names d
           → option_map (λ (c : Cell). c.res) (if x then new_or (results_of from s) (finite.get first s) else finite.get first s) ≡ plain d start s
       at true y e f =
           ap (λ (o : Option Cell). option_map (λ (c : Cell). c.res) (new_or (results_of from s) o)) (none_first s)
-          ∙ shown (results_of from s) ∙ at_start s
+          ∙ shown (results_of from s) ∙ at_start.results s
       at false false e f = ap (option_map (λ (c : Cell). c.res)) (none_first s) ∙ sym (no_result d start s f)
       at false true e f = absurd (let h : is_copied s ≡ true = standing_copied s f in cc)
 
-  pub copies_have_no_stamp : (s : Slot) → stamp_in left s ≡ 0
-  copies_have_no_stamp s = ap stamp_of (copied s) ∙ at (is_copied s)
+  have_no_stamp : (s : Slot) → stamp_in left s ≡ 0
+  have_no_stamp s = ap stamp_of (copied s) ∙ at (is_copied s)
     where
       stamp_of : Option Cell → ℕ
       stamp_of o = unwrap_or (option_map (λ (c : Cell). c.stamp) o) 0
@@ -112,3 +115,12 @@ module _ (names : List (List ℕ)) (d : Accepted) (accepted : IsAccepted names d
       at : (x : Bool) → stamp_of (if x then new_or (results_of from s) (finite.get first s) else finite.get first s) ≡ 0
       at true = ap (λ (o : Option Cell). stamp_of (new_or (results_of from s) o)) (none_first s) ∙ put (results_of from s)
       at false = ap stamp_of (none_first s)
+
+  pub copies_are_at_start : AreAtStart d left
+  copies_are_at_start = record { results = have_results; stamps = have_no_stamp }
+
+-- ---- whichever cells an engine has, they have the results over its answers
+
+pub read_results : (cells : EngineCells) (g : DependencyGraph) (d : Accepted) (a : Answered) → AreCellsOf cells g d a → (s : Slot) → results_of (read_cells cells) s ≡ plain d a s
+read_results (Shared at_start) g d a are s = are.at_start.results s ∙ ap (λ b. plain d b s) (sym are.unanswered)
+read_results (Own own) g d a are s = are.engine.results s

@@ -9,23 +9,54 @@ use Rattle.cell_store.specs.Contents.{Cells}
 use Rattle.cell_store.specs.declared.cell.Cell.{Cell}
 use Rattle.dict_meaning.specs.Accepted.{Accepted}
 use Rattle.dict_meaning.specs.Plain.{plain}
+use Rattle.dictionary.specs.Engines.{Marks}
 use Rattle.evaluation.specs.Results.{slot}
-use Rattle.recalc.specs.EngineInvariant.{EngineInvariant, results_of}
+use Rattle.recalc.specs.EngineInvariant.{EngineInvariant, IsGraphOf, marks_by, results_of, stamp_in}
 use Rattle.recalc.specs.Running.{stamped_cell}
+use Rattle.recalc.specs.declared.dependency_graph.DependencyGraph.{DependencyGraph}
+use Rattle.recalc.specs.declared.engine_cells.EngineCells.{EngineCells}
+use Rattle.recalc.specs.declared.engine_cells.EngineCells.TheVariants.{Own, Shared}
+use Rattle.recalc.specs.declared.engine_cells.OwnCells.{OwnCells}
 use Rattle.recalc.specs.declared.recalc.Recalc.{Recalc}
 
--- they have the results at no answers
-abbrev pub AreAtStart : Accepted → Cells → Type 0
-AreAtStart d cells = (s : Slot) → results_of cells s ≡ plain d start s
+-- these are the cells at no answers: their results, and no stamp
+pub record AreAtStart (d : Accepted) (cells : Cells) : Type 0 where
+  pub results : (s : Slot) → results_of cells s ≡ plain d start s
+  pub stamps : (s : Slot) → stamp_in cells s ≡ 0
 
--- so have those that an engine keeps, if it keeps any
-abbrev pub AreKept : Accepted → Recalc → Type 0
-AreKept d e = IfSome e.start (λ store. AreAtStart d store.value.cells)
+-- so are those that an engine with cells of its own keeps for further ones, if it keeps any
+abbrev pub AreKept : Accepted → OwnCells → Type 0
+AreKept d own = IfSome own.at_start (λ store. AreAtStart d store.value.cells)
 
--- an engine has the results over these answers, and what it keeps for further ones are those at no answers
-pub record StandsFor (e : Recalc) (d : Accepted) (a : Answered) : Type 0 where
-  pub engine : EngineInvariant e.graph.value e.state d a
-  pub are_kept : AreKept d e
+-- ---- the cells of an engine
+
+-- those that are read
+abbrev pub read_cells : EngineCells → Cells
+read_cells (Shared at_start) = at_start.value.cells
+read_cells (Own own) = own.state.store.cells
+
+-- an engine that reads shared cells is at no answers
+pub record AreShared (cells : Cells) (g : DependencyGraph) (d : Accepted) (a : Answered) : Type 0 where
+  pub graph : IsGraphOf d g
+  pub unanswered : a ≡ start
+  pub at_start : AreAtStart d cells
+
+-- one with cells of its own has those of the answers
+pub record AreOwn (own : OwnCells) (g : DependencyGraph) (d : Accepted) (a : Answered) : Type 0 where
+  pub engine : EngineInvariant g own.state d a
+  pub are_kept : AreKept d own
+
+abbrev pub AreCellsOf : EngineCells → DependencyGraph → Accepted → Answered → Type 0
+AreCellsOf (Shared at_start) g d a = AreShared at_start.value.cells g d a
+AreCellsOf (Own own) g d a = AreOwn own g d a
+
+-- an engine has the results of a dictionary over answers
+abbrev pub StandsFor : Recalc → Accepted → Answered → Type 0
+StandsFor e d a = AreCellsOf e.cells e.graph.value d a
+
+-- what it counts
+abbrev pub marks_of : Recalc → Marks
+marks_of e = marks_by e.changes (read_cells e.cells) e.touched
 
 -- ---- how cells are copied
 

@@ -1,13 +1,17 @@
 -- What an `Update` stands for.
-use Rattle.std.specs.Prelude.{◌≡◌, ℕ}
+use Rattle.std.specs.Prelude.{◌≡◌, ℕ, IsTrue}
+use Rattle.fact_values.specs.declared.slot.Slot.{Slot}
 use Rattle.answers.specs.Answered.{Answered}
 use Rattle.answers.specs.Change.{Change, applied}
 use Rattle.answers.specs.Meaning.{answered, change}
+use Rattle.cell_store.specs.Contents.{Cells}
 use Rattle.dict_meaning.specs.Accepted.{Accepted}
+use Rattle.dict_meaning.specs.Slots.{stands}
+use Rattle.dict_meaning.specs.Touched.{stamped}
 use Rattle.dictionary.specs.Kept.{accepted}
 use Rattle.dict_meaning.specs.Undone.{IsUndone, went}
 use Rattle.recalc.specs.BetweenAnswers.{between}
-use Rattle.recalc.specs.EngineInvariant.{setting_from}
+use Rattle.recalc.specs.EngineInvariant.{setting_from, stamp_in}
 use Rattle.recalc.specs.Running.{Setting, is_that}
 use Rattle.recalc.specs.Spread.{Spread}
 use Rattle.recalc.specs.declared.update.Update.{Update}
@@ -35,3 +39,8 @@ update_setting u = setting_from (dict_of u) (undo_of u) (answers_after u) u.gone
 
 abbrev pub update_spread : Update → Spread
 update_spread u = between (dict_of u) (answers_before u) (answers_after u)
+
+-- Each slot that stands afterwards has the number of the change where that touched it, and else its old stamp.
+abbrev pub AreStamped : Update → Cells → Cells → Type 0
+AreStamped u before after = (s : Slot) → IsTrue (stands (dict_of u).tree (answers_after u) s)
+    → stamp_in after s ≡ stamped (dict_of u) (answers_before u) (answers_after u) u.stamp (stamp_in before) s

@@ -1,19 +1,21 @@
 // The results over answers, from those before or from none.
-ghost use Rattle.std.specs.Prelude.{◌≡◌, ◌+◌, ◌<◌, ◌≤◌, OnOk};
+ghost use Rattle.std.specs.Prelude.{◌≡◌, ◌+◌, ◌<◌, ◌≤◌, IfOk, OnErr, OnOk};
 ghost use Rattle.answers.specs.Meaning.{answered};
 ghost use Rattle.cell_store.specs.Contents.{no_cells};
 ghost use Rattle.dictionary.specs.Kept.{accepted};
 ghost use Rattle.dict_meaning.specs.Fits.{AnswersFit};
+ghost use Rattle.dict_meaning.specs.Touched.{touched_count};
 ghost use Rattle.dict_meaning.specs.Weights.{touched_weight};
 ghost use Rattle.visit_counts.specs.SlotVisits.{touched_visits, whole_visits};
 ghost use Rattle.recalc.specs.BetweenAnswers.{from_nothing};
 ghost use Rattle.recalc.specs.EngineInvariant.{EngineInvariant, IsGraphOf, IsIdle, start_setting};
 ghost use Rattle.recalc.specs.Replacing.{before, CanPutBack, entries};
 ghost use Rattle.recalc.specs.Running.{HasRun};
-ghost use Rattle.recalc.specs.Updates.{IsUpdate, answers_after, answers_before, dict_of, update_setting, update_spread};
+ghost use Rattle.recalc.specs.Updates.{AreStamped, IsUpdate, answers_after, answers_before, dict_of, update_setting, update_spread};
 
 use crate::dependency_graph::DependencyGraph;
 use crate::engine_state::EngineState;
+use crate::forgetting::forget;
 use crate::propagation::Propagation;
 use crate::running::run;
 use crate::seeding::{seed, seed_all};
@@ -79,9 +81,45 @@ pub fn start_uncounted<'a, L: Ledger>(
     start(alloc, graph, dict, answers, state, &mut steps)
 }
 
-/// The results of the touched slots, with the number of the change. The cells of a member that went are
-/// still there. What was replaced is kept, also where memory is wanting.
-pub fn go_on<L: Ledger>(
+/// The cells over the answers after a change, and how many slots it touched. For want of memory all cells are as they were.
+pub fn change<L: Ledger>(
+    alloc: Global,
+    graph: &DependencyGraph,
+    update: &Update,
+    state: &mut EngineState,
+    steps: &mut Steps<L>,
+) -> Result<u64, NoMemory>
+    requires update { IsUpdate update.now }
+    requires before { EngineInvariant graph.now state.old (dict_of update.now) (answers_before update.now) }
+    ensures stands { OnOk result (EngineInvariant graph.now state.new (dict_of update.now) (answers_after update.now)) }
+    ensures stamps { OnOk result (AreStamped update.now state.old.store.cells state.new.store.cells) }
+    ensures touched { IfOk result (λ n. n ≡ touched_count (dict_of update.now) (answers_before update.now)
+        (answers_after update.now)) }
+    ensures cells { OnErr result (state.new.store.cells ≡ state.old.store.cells) }
+    ensures idle { OnErr result (IsIdle state.new) }
+    ensures visits { OnOk result (steps.new ≡ steps.old + touched_visits (dict_of update.now) (answers_before update.now)
+        (answers_after update.now)) }
+    ensures most { steps.new ≤ steps.old + touched_weight (dict_of update.now) (answers_before update.now)
+        (answers_after update.now) }
+{
+    let _source = update.dict.source();
+    match go_on(alloc, graph, update, state, steps) {
+        Ok(()) => {
+            forget(&mut state.store, update.gone, update.dict.by_rank());
+            let touched = state.log.len() as u64;
+            state.log.clear();
+            Ok(touched)
+        }
+        Err(e) => {
+            state.put_back();
+            Err(e)
+        }
+    }
+}
+
+// The results of the touched slots, with the number of the change. The cells of a member that went are
+// still there. What was replaced is kept, also where memory is wanting.
+fn go_on<L: Ledger>(
     alloc: Global,
     graph: &DependencyGraph,
     update: &Update,

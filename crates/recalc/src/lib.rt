@@ -3,6 +3,7 @@
 
 mod changing;
 mod dependency_graph;
+mod engine_cells;
 mod engine_state;
 mod evaluating;
 mod forgetting;

@@ -11,18 +11,16 @@ ghost use Rattle.dict_meaning.specs.Plain.{plain};
 ghost use Rattle.dict_meaning.specs.Slots.{stands};
 ghost use Rattle.dict_meaning.specs.Weights.{touched_weight};
 ghost use Rattle.visit_counts.specs.SlotVisits.{touched_visits};
-ghost use Rattle.recalc.specs.EngineInvariant.{IsGraphOf, marks_by, stamp_in};
-ghost use Rattle.recalc.specs.Sharing.{AreAtStart, AreKept, StandsFor};
+ghost use Rattle.recalc.specs.EngineInvariant.{stamp_in};
+ghost use Rattle.recalc.specs.Sharing.{StandsFor, marks_of, read_cells};
 
-use crate::changing::{go_on, start_uncounted};
+use crate::changing::start_uncounted;
 use crate::dependency_graph::DependencyGraph;
+use crate::engine_cells::{EngineCells, OwnCells};
 use crate::engine_state::EngineState;
-use crate::forgetting::forget;
-use crate::start_cells::{copy_cells, start_cells};
 use crate::undone::gone;
 use crate::update::Update;
 use answers::{Answers, Edit};
-use cell_store::Store;
 use dictionary::{Dictionary, FactEngine};
 use fact_values::{NoMemory, Slot};
 use std::alloc::Global;
@@ -38,55 +36,9 @@ use three_state::Res;
 pub struct Recalc {
     alloc: Global,
     graph: Arc<DependencyGraph>,
-    /// The cells at no answers, once a further engine was begun.
-    start: Option<Arc<Store>>,
-    state: EngineState,
+    cells: EngineCells,
     changes: u64,
     touched: u64,
-}
-
-impl Recalc {
-    // At no answers, over a graph and cells that are shared.
-    fn over(
-        alloc: Global,
-        graph: Arc<DependencyGraph>,
-        start: Arc<Store>,
-        dict: &Dictionary,
-    ) -> Result<Recalc, NoMemory>
-        requires graph { IsGraphOf (accepted dict.now) graph.value }
-        requires cells { AreAtStart (accepted dict.now) start.value.cells }
-        ensures stands { IfOk result (λ e. StandsFor e (accepted dict.now) start_answers) }
-        ensures fresh { IfOk result (λ e. AreFresh (marks_by e.changes e.state.store.cells e.touched)) }
-    {
-        let _source = dict.source();
-        let mut state = EngineState::new(alloc, dict)?;
-        copy_cells(alloc, &start, dict.by_rank(), &mut state.store)?;
-        Ok(Recalc {
-            alloc,
-            graph,
-            start: Some(start),
-            state,
-            changes: 0,
-            touched: 0,
-        })
-    }
-
-    // The cells at no answers. They are evaluated once, and then kept.
-    fn kept_start(&mut self, dict: &Dictionary) -> Result<Arc<Store>, NoMemory>
-        requires graph { IsGraphOf (accepted dict.now) self.old.graph.value }
-        requires kept { AreKept (accepted dict.now) self.old }
-        ensures cells { IfOk result (λ store. AreAtStart (accepted dict.now) store.value.cells) }
-        ensures kept { AreKept (accepted dict.now) self.new }
-        ensures others { self.new ≡ record self.old { start = self.new.start } }
-    {
-        if let Some(start) = &self.start {
-            return Ok(start.clone()?);
-        }
-        let start = Arc::new(self.alloc, start_cells(self.alloc, &self.graph, dict)?)?;
-        let kept = start.clone()?;
-        self.start = Some(kept);
-        Ok(start)
-    }
 }
 
 impl FactEngine for Recalc {
@@ -96,14 +48,14 @@ impl FactEngine for Recalc {
 
     ghost stands_for = { λ e d a. StandsFor e d a };
 
-    ghost marks = { λ e. marks_by e.changes e.state.store.cells e.touched };
+    ghost marks = { λ e. marks_of e };
 
     ghost most = { λ d before after. touched_weight d before after };
 
     fn begin(alloc: Global, dict: &Dictionary, answers: &Answers) -> Result<Self, NoMemory>
         requires { AnswersFit (accepted dict.now).tree (answered answers.now) }
         ensures stands { IfOk result (λ e. StandsFor e (accepted dict.now) (answered answers.now)) }
-        ensures fresh { IfOk result (λ e. IsTrue true → AreFresh (marks_by e.changes e.state.store.cells e.touched)) }
+        ensures fresh { IfOk result (λ e. IsTrue true → AreFresh (marks_of e)) }
     {
         let graph = DependencyGraph::new(alloc, dict)?;
         let mut state = EngineState::new(alloc, dict)?;
@@ -112,8 +64,10 @@ impl FactEngine for Recalc {
         Ok(Recalc {
             alloc,
             graph: Arc::new(alloc, graph)?,
-            start: None,
-            state,
+            cells: EngineCells::Own(OwnCells {
+                state,
+                at_start: None,
+            }),
             changes: 0,
             touched: 0,
         })
@@ -122,15 +76,18 @@ impl FactEngine for Recalc {
     fn further(&mut self, alloc: Global, dict: &Dictionary) -> Result<Self, NoMemory>
         requires { (a : Answered) × StandsFor self.old (accepted dict.now) a }
         ensures stands { IfOk result (λ e. StandsFor e (accepted dict.now) start_answers) }
-        ensures fresh { IfOk result (λ e. IsTrue true → AreFresh (marks_by e.changes e.state.store.cells e.touched)) }
+        ensures fresh { IfOk result (λ e. IsTrue true → AreFresh (marks_of e)) }
         ensures unchanged { (a : Answered) → StandsFor self.old (accepted dict.now) a → StandsFor self.new (accepted dict.now) a }
-        ensures same_marks { IsTrue true → AreSameMarks
-            (marks_by self.old.changes self.old.state.store.cells self.old.touched)
-            (marks_by self.new.changes self.new.state.store.cells self.new.touched) }
+        ensures same_marks { IsTrue true → AreSameMarks (marks_of self.old) (marks_of self.new) }
     {
-        let start = self.kept_start(dict)?;
-        let graph = self.graph.clone()?;
-        Recalc::over(alloc, graph, start, dict)
+        let at_start = self.cells.at_start(self.alloc, &self.graph, dict)?;
+        Ok(Recalc {
+            alloc,
+            graph: self.graph.clone()?,
+            cells: EngineCells::Shared(at_start),
+            changes: 0,
+            touched: 0,
+        })
     }
 
     fn refresh<L: Ledger>(
@@ -147,13 +104,9 @@ impl FactEngine for Recalc {
         requires few { IsTrue true → self.old.changes < 2 ^ 63 }
         ensures stands { OnOk result (StandsFor self.new (accepted dict.now) (answered now.now)) }
         ensures marked { OnOk result (IsTrue true → AreMarkedBy (accepted dict.now)
-            (applied (change undo.now) (answered now.now)) (answered now.now)
-            (marks_by self.old.changes self.old.state.store.cells self.old.touched)
-            (marks_by self.new.changes self.new.state.store.cells self.new.touched)) }
+            (applied (change undo.now) (answered now.now)) (answered now.now) (marks_of self.old) (marks_of self.new)) }
         ensures unchanged { OnErr result ((d : Accepted) (a : Answered) → StandsFor self.old d a → StandsFor self.new d a) }
-        ensures same_marks { OnErr result (IsTrue true → AreSameMarks
-            (marks_by self.old.changes self.old.state.store.cells self.old.touched)
-            (marks_by self.new.changes self.new.state.store.cells self.new.touched)) }
+        ensures same_marks { OnErr result (IsTrue true → AreSameMarks (marks_of self.old) (marks_of self.new)) }
         ensures visits { OnOk result (steps.new ≡ steps.old + touched_visits (accepted dict.now)
             (applied (change undo.now) (answered now.now)) (answered now.now)) }
         ensures steps { steps.new ≤ steps.old + touched_weight (accepted dict.now)
@@ -169,32 +122,28 @@ impl FactEngine for Recalc {
             gone,
             stamp,
         };
-        match go_on(self.alloc, &self.graph, &update, &mut self.state, steps) {
-            Ok(()) => {
-                forget(&mut self.state.store, gone, dict.by_rank());
-                self.changes = stamp;
-                self.touched = self.state.log.len() as u64;
-                self.state.log.clear();
-                Ok(())
-            }
-            Err(e) => {
-                self.state.put_back();
-                Err(e)
-            }
-        }
+        self.touched = self.cells.change(self.alloc, &self.graph, &update, steps)?;
+        self.changes = stamp;
+        Ok(())
     }
 
     fn result(&self, slot: Slot) -> Option<&Res>
         ensures { (d : Accepted) (a : Answered) → StandsFor self.now d a → option_copied result ≡ plain d a slot }
     {
-        self.state.store.get(slot)
+        match &self.cells {
+            EngineCells::Shared(at_start) => at_start.get(slot),
+            EngineCells::Own(own) => own.state.store.get(slot),
+        }
     }
 
     fn stamp(&self, slot: Slot) -> Option<u64>
         ensures { (d : Accepted) (a : Answered) → StandsFor self.now d a
-            → result ≡ (if true && stands d.tree a slot then Some (stamp_in self.now.state.store.cells slot) else None) }
+            → result ≡ (if true && stands d.tree a slot then Some (stamp_in (read_cells self.now.cells) slot) else None) }
     {
-        self.state.store.stamp(slot)
+        match &self.cells {
+            EngineCells::Shared(at_start) => at_start.stamp(slot),
+            EngineCells::Own(own) => own.state.store.stamp(slot),
+        }
     }
 
     fn touched(&self) -> Option<u64>

@@ -3,7 +3,7 @@ ghost use Rattle.std.specs.Prelude.{◌≡◌, IfOk, OnOk};
 ghost use Rattle.std.specs.FinMap as map;
 ghost use Rattle.fact_values.specs.declared.slot.Slot.{Slot as OneSlot};
 ghost use Rattle.dictionary.specs.Kept.{accepted};
-ghost use Rattle.recalc.specs.EngineInvariant.{IsGraphOf, results_of};
+ghost use Rattle.recalc.specs.EngineInvariant.{IsGraphOf, IsIdle, results_of};
 ghost use Rattle.recalc.specs.Sharing.{AreAtStart, global, with_copies, with_result};
 
 use crate::changing::start_uncounted;
@@ -41,13 +41,20 @@ pub fn start_cells(
     Ok(store)
 }
 
-/// Puts the results of other cells, with the stamp 0, over those of a store, at these global facts.
-pub fn copy_cells(
-    alloc: Global,
-    from: &Store,
-    facts: &[u32],
-    store: &mut Store,
-) -> Result<(), NoMemory>
+/// A state with copies of the cells at no answers.
+pub fn copied_state(alloc: Global, from: &Store, dict: &Dictionary) -> Result<EngineState, NoMemory>
+    requires { AreAtStart (accepted dict.now) from.now.cells }
+    ensures cells { IfOk result (λ state. AreAtStart (accepted dict.now) state.store.cells) }
+    ensures idle { IfOk result (λ state. IsIdle state) }
+{
+    let _source = dict.source();
+    let mut state = EngineState::new(alloc, dict)?;
+    copy_cells(alloc, from, dict.by_rank(), &mut state.store)?;
+    Ok(state)
+}
+
+// Puts the results of other cells, with the stamp 0, over those of a store, at these global facts.
+fn copy_cells(alloc: Global, from: &Store, facts: &[u32], store: &mut Store) -> Result<(), NoMemory>
     ensures { OnOk result ((s : OneSlot) → map.get store.new.cells s
         ≡ with_copies from.now.cells facts.now store.old.cells s) }
 {
