@@ -1,4 +1,4 @@
-// What the engine is over.
+// The compiled nodes and the readers of all facts, which engines over one dictionary share.
 ghost use Rattle.std.specs.Prelude.{IfOk};
 ghost use Rattle.dictionary.specs.Kept.{accepted};
 ghost use Rattle.recalc.specs.EngineInvariant.{IsGraphOf};

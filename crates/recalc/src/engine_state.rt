@@ -1,4 +1,4 @@
-// What the engine works with.
+// What a change works on: the cells, the queue of slots that wait, and the log of what was replaced.
 ghost use Rattle.std.specs.Prelude.{◌≡◌, IfOk};
 ghost use Rattle.cell_store.specs.Contents.{no_cells};
 ghost use Rattle.recalc.specs.EngineInvariant.{IsIdle};

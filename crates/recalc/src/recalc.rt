@@ -1,5 +1,5 @@
-// The engine.
-ghost use Rattle.std.specs.Prelude.{◌≡◌, ◌+◌, ◌<◌, ◌≤◌, ◌^◌, ◌&&◌, true, IfOk, IsTrue, None, OnErr, OnOk, Some, option_copied, if◌then◌else◌};
+// The incremental engine.
+ghost use Rattle.std.specs.Prelude.{◌≡◌, ◌+◌, ◌<◌, ◌≤◌, ◌^◌, true, IfOk, None, OnErr, OnOk, Some, option_copied, if◌then◌else◌};
 ghost use Rattle.answers.specs.Answered.{Answered, start as start_answers};
 ghost use Rattle.answers.specs.Change.{Fits, applied};
 ghost use Rattle.answers.specs.Meaning.{answered, change};
@@ -41,6 +41,7 @@ pub struct Recalc {
     touched: u64,
 }
 
+// The clauses are those of `FactEngine`, of an engine that counts. Beside them `refresh` says exactly how many steps it takes.
 impl FactEngine for Recalc {
     const STAMPS: bool = true;
 
@@ -55,7 +56,7 @@ impl FactEngine for Recalc {
     fn begin(alloc: Global, dict: &Dictionary, answers: &Answers) -> Result<Self, NoMemory>
         requires { AnswersFit (accepted dict.now).tree (answered answers.now) }
         ensures stands { IfOk result (λ e. StandsFor e (accepted dict.now) (answered answers.now)) }
-        ensures fresh { IfOk result (λ e. IsTrue true → AreFresh (marks_of e)) }
+        ensures fresh { IfOk result (λ e. AreFresh (marks_of e)) }
     {
         let graph = DependencyGraph::new(alloc, dict)?;
         let mut state = EngineState::new(alloc, dict)?;
@@ -76,9 +77,9 @@ impl FactEngine for Recalc {
     fn further(&mut self, alloc: Global, dict: &Dictionary) -> Result<Self, NoMemory>
         requires { (a : Answered) × StandsFor self.old (accepted dict.now) a }
         ensures stands { IfOk result (λ e. StandsFor e (accepted dict.now) start_answers) }
-        ensures fresh { IfOk result (λ e. IsTrue true → AreFresh (marks_of e)) }
+        ensures fresh { IfOk result (λ e. AreFresh (marks_of e)) }
         ensures unchanged { (a : Answered) → StandsFor self.old (accepted dict.now) a → StandsFor self.new (accepted dict.now) a }
-        ensures same_marks { IsTrue true → AreSameMarks (marks_of self.old) (marks_of self.new) }
+        ensures same_marks { AreSameMarks (marks_of self.old) (marks_of self.new) }
     {
         let at_start = self.cells.at_start(self.alloc, &self.graph, dict)?;
         Ok(Recalc {
@@ -101,12 +102,12 @@ impl FactEngine for Recalc {
         requires before { StandsFor self.old (accepted dict.now) (applied (change undo.now) (answered now.now)) }
         requires fit_before { AnswersFit (accepted dict.now).tree (applied (change undo.now) (answered now.now)) }
         requires fit_now { AnswersFit (accepted dict.now).tree (answered now.now) }
-        requires few { IsTrue true → self.old.changes < 2 ^ 63 }
+        requires few { self.old.changes < 2 ^ 63 }
         ensures stands { OnOk result (StandsFor self.new (accepted dict.now) (answered now.now)) }
-        ensures marked { OnOk result (IsTrue true → AreMarkedBy (accepted dict.now)
+        ensures marked { OnOk result (AreMarkedBy (accepted dict.now)
             (applied (change undo.now) (answered now.now)) (answered now.now) (marks_of self.old) (marks_of self.new)) }
         ensures unchanged { OnErr result ((d : Accepted) (a : Answered) → StandsFor self.old d a → StandsFor self.new d a) }
-        ensures same_marks { OnErr result (IsTrue true → AreSameMarks (marks_of self.old) (marks_of self.new)) }
+        ensures same_marks { OnErr result (AreSameMarks (marks_of self.old) (marks_of self.new)) }
         ensures visits { OnOk result (steps.new ≡ steps.old + touched_visits (accepted dict.now)
             (applied (change undo.now) (answered now.now)) (answered now.now)) }
         ensures steps { steps.new ≤ steps.old + touched_weight (accepted dict.now)
@@ -138,7 +139,7 @@ impl FactEngine for Recalc {
 
     fn stamp(&self, slot: Slot) -> Option<u64>
         ensures { (d : Accepted) (a : Answered) → StandsFor self.now d a
-            → result ≡ (if true && stands d.tree a slot then Some (stamp_in (read_cells self.now.cells) slot) else None) }
+            → result ≡ (if stands d.tree a slot then Some (stamp_in (read_cells self.now.cells) slot) else None) }
     {
         match &self.cells {
             EngineCells::Shared(at_start) => at_start.stamp(slot),
