@@ -142,8 +142,8 @@ uint32_t fact_graph_open(const uint8_t *dictionary, size_t dictionary_size, fact
 uint32_t fact_graph_open_built_in(const uint8_t *words, size_t words_size, fact_graph *graph, fact_graph_fault *fault);
 
 /* Opens a further session over the dictionary of `graph`, with no answers and no text. Both share the dictionary and what was made of
- * it, so this takes as long as to copy one result a fact, and in the first such call a while longer; each may be closed before the
- * other, and may have its calls in another thread. Returns 0, and the session through `further`; or FACT_GRAPH_FAULT_MEMORY, also in
+ * it, so this takes the same time over any dictionary, but for the first such call, which evaluates the results at no answers; the
+ * first change of the new session copies these. Each may be closed before the other, and may have its calls in another thread. Returns 0, and the session through `further`; or FACT_GRAPH_FAULT_MEMORY, also in
  * `fault`, and `further` as it was. `graph` comes back as it was. Since version 1.2. */
 uint32_t fact_graph_further(fact_graph graph, fact_graph *further, fact_graph_fault *fault, fact_graph *back);
 
