@@ -1,5 +1,6 @@
 -- A line that sets no answer asks no check. One that asks no relation is answered alike by the standard ones and by none.
 use Rattle.std.proofs.Common.{◌≡◌, ℕ, zero, suc, ◌-◌, ◌==◌, ◌&&◌, ◌||◌, Bool, true, false, not, IsTrue, nat_le, if◌then◌else◌, ◌≤◌, List, [], ◌∷◌, length, take, slice_get, slice_index, Option, Some, None, Result, Ok, Err, inl, inr, refl, sym, ap, subst, ◌∙◌, arith}
+use Rattle.common_lemmas.proofs.Bools.{not_true}
 use Rattle.script_lines.specs.Commands.{SpellsCommand, command_text, without_return}
 use Rattle.script_lines.specs.Lines.{ScriptLine, whole, long}
 use Rattle.script_lines.specs.Parsing.{Heard, SaysExactly, nothing, bad_line, command, heard_in}
@@ -77,17 +78,13 @@ sets line none (commands.Set path text) spelled =
     absurd (let no : true ≡ false = sym may ∙ none in cc)
 sets line none _ spelled = refl
 
-not_so : (b : Bool) → IsTrue (not b) → b ≡ false
-not_so true none = absurd (let no : false ≡ true = none in cc)
-not_so false none = refl
-
 pub asks_no_check : (line : List ℕ) → IsTrue (not (may_set line)) → heard_asks_checks (heard_in line) ≡ false
 asks_no_check line none = by (heard_in line) (heard_exactly line)
   where
     by : (h : Heard) → SaysExactly line h → heard_asks_checks h ≡ false
     by nothing says = refl
     by bad_line says = refl
-    by (command asked) says = sets line (not_so (may_set line) none) asked says
+    by (command asked) says = sets line (not_true (may_set line) none) asked says
 
 -- ---- their steps, where nothing is watched
 

@@ -11,10 +11,10 @@ pub mod Held
 pub mod Openings
 pub mod Outcomes
 pub mod Printing
-pub mod Reading
 pub mod Room
 pub mod Saving
 pub mod Saying
+pub mod SlotReads
 pub mod Sound
 pub mod Starts
 pub mod DroppedLines

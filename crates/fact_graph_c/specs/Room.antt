@@ -1,4 +1,4 @@
--- How much may be said without memory.
+-- How much room for a reply is taken before a line is answered.
 use Rattle.std.specs.Prelude.{ℕ, ◌+◌, ◌*◌}
 
 -- so many bytes, where so many slots are watched: the reply of a change, with a line of each watch, has fewer

@@ -1,4 +1,4 @@
-// Answers lines.
+// Answers a host's line at a session. Room for the reply is taken first.
 ghost use Rattle.std.specs.Prelude.{◌≡◌, ◌+◌, ◌*◌, ◌-◌, ◌<◌, ◌≤◌, ◌^◌, ◌∷◌, [], ◌++◌, false, IfOk, IsTrue, OnErr, length};
 ghost use Rattle.script_lines.specs.Lines.{ready_lines};
 ghost use Rattle.script_lines.specs.Parsing.{heard_in};

@@ -1,4 +1,4 @@
-// Answers the lines of a desk.
+// Answers a host's line at a desk. Room for the reply is taken first.
 ghost use Rattle.std.specs.Prelude.{◌≡◌, ◌<◌, ◌≤◌, ◌^◌, [], false, IfOk, OnErr};
 ghost use Rattle.text_checks.specs.Tables.{named_checks};
 ghost use Rattle.graph_session.specs.Refusals.{SameChecks};

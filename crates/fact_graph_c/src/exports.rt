@@ -7,7 +7,7 @@ ghost use Rattle.fact_graph_c.specs.Faults.{fault_numbers, plain};
 ghost use Rattle.fact_graph_c.specs.Openings.{Carries, IsFurther, IsWantOfMemory, Loads, NotBrought, NotCarried, NotLoaded, NotOpened, Opens, OpensBuiltIn, Resumes};
 ghost use Rattle.fact_graph_c.specs.Outcomes.{outcome_number};
 ghost use Rattle.fact_graph_c.specs.Printing.{IsDescription, IsDictionaryText, IsFactsText};
-ghost use Rattle.fact_graph_c.specs.Reading.{IsReads};
+ghost use Rattle.fact_graph_c.specs.SlotReads.{IsReads};
 ghost use Rattle.fact_graph_c.specs.Saving.{IsSaved};
 
 use crate::answering::answer;

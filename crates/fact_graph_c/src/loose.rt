@@ -1,4 +1,4 @@
-// A box as its pointer.
+// A box taken apart into its pointer, which C can keep, and put together again.
 ghost use Rattle.std.specs.Prelude.{◌≡◌};
 ghost use Rattle.std_alloc.specs.Box.Ownership.{box_owns};
 

@@ -4,7 +4,7 @@ ghost use Rattle.script_lines.specs.Parsing.{command as heard};
 ghost use Rattle.session_lines.specs.declared.progress.Progress.TheVariants.{More};
 ghost use Rattle.graph_session.specs.Rules.{rules};
 ghost use Rattle.graph_session.specs.SessionView.{session_state};
-ghost use Rattle.fact_graph_c.specs.Reading.{IsReads, path_heard, path_of, reads_of_path};
+ghost use Rattle.fact_graph_c.specs.SlotReads.{IsReads, path_heard, path_of, reads_of_path};
 ghost use Rattle.fact_graph_c.specs.Saying.{Says};
 
 use crate::engine::Engine;

@@ -1,6 +1,6 @@
 use Rattle.std.proofs.Common.{◌≡◌, subst, ◌∙◌}
 use Rattle.fact_graph_c.specs.declared.engine.Engine.{Engine}
-use Rattle.fact_graph_c.specs.Reading.{IsReads}
+use Rattle.fact_graph_c.specs.SlotReads.{IsReads}
 use Rattle.fact_graph_c.specs.Saying.{Says}
 use Rattle.fact_graph_c.proofs.exports.fact_graph_reads.Goals as goal
 

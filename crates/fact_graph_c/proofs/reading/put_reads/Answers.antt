@@ -4,7 +4,7 @@ use Rattle.script_lines.specs.Joined.{joined}
 use Rattle.graph_session.specs.Rules.{rules}
 use Rattle.graph_session.specs.SessionView.{session_state}
 use Rattle.session_lines.specs.Replies.{bad_line_text}
-use Rattle.fact_graph_c.specs.Reading.{reads_of_path}
+use Rattle.fact_graph_c.specs.SlotReads.{reads_of_path}
 use Rattle.fact_graph_c.proofs.TextLaws.{written_more}
 use Rattle.fact_graph_c.proofs.reading.put_reads.Goals as goal
 
