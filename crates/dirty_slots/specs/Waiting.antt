@@ -9,9 +9,18 @@ DirtySlots = List DirtySlot
 abbrev pub dirty_same : DirtySlot → DirtySlot → Bool
 dirty_same p q = nat_eq p.rank q.rank && (nat_eq p.fact q.fact && nat_eq p.member q.member)
 
--- it is among those that wait
-abbrev pub waits : DirtySlots → DirtySlot → Bool
-waits ds q = list_any (dirty_same q) ds
+-- it is one of these
+abbrev pub is_among : DirtySlots → DirtySlot → Bool
+is_among ds q = list_any (dirty_same q) ds
+
+-- the slots that have a place, and those that wait
+pub record Queue : Type 0 where
+  pub places : DirtySlots
+  pub waiting : DirtySlots
+
+-- it waits
+abbrev pub waits : Queue → DirtySlot → Bool
+waits queue q = is_among queue.waiting q
 
 -- ---- for each fact, by its number, one of its slots or none
 
@@ -28,4 +37,4 @@ is_noted last q = is_dirty (slice_index_or last q.fact None) q
 
 -- what is noted waits
 abbrev pub NotedWait : DirtySlots → Notes → Type 0
-NotedWait ds last = (q : DirtySlot) → IsTrue (is_noted last q) → IsTrue (waits ds q)
+NotedWait ds last = (q : DirtySlot) → IsTrue (is_noted last q) → IsTrue (is_among ds q)

@@ -1,7 +1,7 @@
 // A set of places, as a bit for each, from which the first is found at once.
-ghost use Rattle.std.specs.Prelude.{◌≡◌, ◌≢◌, ◌*◌, ◌/◌, ◌<◌, ◌≤◌, ◌^◌, ◌&&◌, ◌||◌, ℕ, false, not, nat_eq, length, get_or, IfOk, IsTrue};
+ghost use Rattle.std.specs.Prelude.{◌≡◌, ◌≢◌, ◌*◌, ◌/◌, ◌<◌, ◌≤◌, ◌^◌, ◌&&◌, ◌||◌, ℕ, false, not, nat_eq, All, length, get_or, IfOk, IsTrue};
 ghost use Rattle.std.specs.Int.{bit_at};
-ghost use Rattle.dirty_slots.specs.PlaceBits.{has_place};
+ghost use Rattle.dirty_slots.specs.PlaceBits.{has_place, is_one, IsFromLeast};
 
 use fact_values::NoMemory;
 use std::alloc::Global;
@@ -52,9 +52,17 @@ impl PlaceBits {
         ensures places { (i : ℕ) → has_place self.new i ≡ (nat_eq i place || has_place self.old i) }
         ensures bits { length self.new ≡ length self.old }
     {
-        let at = place / 64;
-        self.words[at] = with_bit(self.words[at], (place % 64) as u32);
-        self.least = self.least.min(at);
+        set_place(&mut self.words, place);
+        self.least = self.least.min(place / 64);
+    }
+
+    /// Puts these places into it.
+    pub fn insert_all(&mut self, places: &[u32])
+        requires { All (λ p. p < length self.old * 64) places.now }
+        ensures places { (i : ℕ) → has_place self.new i ≡ (is_one places.now i || has_place self.old i) }
+        ensures bits { length self.new ≡ length self.old }
+    {
+        self.least = set_places(&mut self.words, self.least, places);
     }
 
     /// Takes a place out of it.
@@ -78,6 +86,35 @@ impl PlaceBits {
         self.least = at;
         first_bit(&self.words, at)
     }
+}
+
+// Sets the bit of a place.
+#[inline(always)]
+fn set_place(words: &mut [u64], place: usize)
+    requires { place < length words.old * 64 }
+    ensures places { (i : ℕ) → has_place words.new i ≡ (nat_eq i place || has_place words.old i) }
+    ensures others { (w : ℕ) → w ≢ place / 64 → get_or words.new w 0 ≡ get_or words.old w 0 }
+    ensures bits { length words.new ≡ length words.old }
+{
+    let at = place / 64;
+    words[at] = with_bit(words[at], (place % 64) as u32);
+}
+
+// Sets the bits of these places, and gives a word before which each is 0 then.
+fn set_places(words: &mut [u64], least: usize, places: &[u32]) -> usize
+    requires least { IsFromLeast words.old least }
+    requires within { All (λ p. p < length words.old * 64) places.now }
+    ensures least { IsFromLeast words.new result }
+    ensures places { (i : ℕ) → has_place words.new i ≡ (is_one places.now i || has_place words.old i) }
+    ensures bits { length words.new ≡ length words.old }
+{
+    let mut least = least;
+    for place in places {
+        let place = *place as usize;
+        set_place(words, place);
+        least = least.min(place / 64);
+    }
+    least
 }
 
 #[inline(always)]

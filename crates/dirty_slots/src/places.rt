@@ -54,7 +54,8 @@ impl Places {
 
     /// How many slots have one.
     pub fn len(&self) -> usize
-        ensures { result ≡ length self.now }
+        ensures len { result ≡ length self.now }
+        ensures few { result < 2 ^ 63 }
     {
         self.slots.len()
     }

@@ -1,6 +1,6 @@
 // The slots that wait and have no place, those of the lowest rank first.
 ghost use Rattle.std.specs.Prelude.{◌≡◌, ◌↔◌, ◌≤◌, ◌||◌, ◌&&◌, not, true, false, IfSome, IfNone, IsTrue, IfOk, OnOk, OnErr, ◌<◌, ◌^◌, slice_set};
-ghost use Rattle.dirty_slots.specs.Waiting.{dirty_same, is_noted, waits};
+ghost use Rattle.dirty_slots.specs.Waiting.{dirty_same, is_among, is_noted};
 ghost use Rattle.dirty_slots.specs.declared.dirty_slot.DirtySlot.{DirtySlot as OneSlot};
 
 use crate::dirty_slot::DirtySlot;
@@ -31,7 +31,7 @@ impl UnplacedSlots {
     /// Nothing waits. So many facts, by their numbers from 1, have a place for a slot to be noted.
     pub fn new(alloc: Global, facts: usize) -> Result<UnplacedSlots, NoMemory>
         requires { facts < 2 ^ 63 }
-        ensures { IfOk result (λ queue. (q : OneSlot) → waits queue q ≡ false) }
+        ensures { IfOk result (λ queue. (q : OneSlot) → is_among queue q ≡ false) }
     {
         let last = vec![in alloc; None; facts + 1]?;
         Ok(UnplacedSlots {
@@ -42,7 +42,7 @@ impl UnplacedSlots {
 
     /// Nothing waits any more. It takes no memory.
     pub fn clear(&mut self)
-        ensures { (q : OneSlot) → waits self.new q ≡ false }
+        ensures { (q : OneSlot) → is_among self.new q ≡ false }
     {
         self.dirty.clear();
         self.last.fill(None);
@@ -51,8 +51,8 @@ impl UnplacedSlots {
     /// Lets one more wait, which may wait already.
     #[inline(always)]
     pub fn add(&mut self, dirty: DirtySlot) -> Result<(), NoMemory>
-        ensures ok { OnOk result ((q : OneSlot) → waits self.new q ≡ (dirty_same q dirty || waits self.old q)) }
-        ensures err { OnErr result ((q : OneSlot) → waits self.new q ≡ waits self.old q) }
+        ensures ok { OnOk result ((q : OneSlot) → is_among self.new q ≡ (dirty_same q dirty || is_among self.old q)) }
+        ensures err { OnErr result ((q : OneSlot) → is_among self.new q ≡ is_among self.old q) }
     {
         if is_noted(&self.last, dirty) {
             return Ok(());
@@ -64,8 +64,8 @@ impl UnplacedSlots {
     // room for all that its function may do.
     #[inline(never)]
     fn insert(&mut self, dirty: DirtySlot) -> Result<(), NoMemory>
-        ensures ok { OnOk result ((q : OneSlot) → waits self.new q ≡ (dirty_same q dirty || waits self.old q)) }
-        ensures err { OnErr result ((q : OneSlot) → waits self.new q ≡ waits self.old q) }
+        ensures ok { OnOk result ((q : OneSlot) → is_among self.new q ≡ (dirty_same q dirty || is_among self.old q)) }
+        ensures err { OnErr result ((q : OneSlot) → is_among self.new q ≡ is_among self.old q) }
     {
         self.dirty.insert(dirty)?;
         note(&mut self.last, dirty.fact, Some(dirty));
@@ -74,13 +74,13 @@ impl UnplacedSlots {
 
     /// Takes out one of the lowest rank.
     pub fn pop(&mut self) -> Option<DirtySlot>
-        ensures none { IfNone result ((q : OneSlot) → waits self.old q ≡ false) }
+        ensures none { IfNone result ((q : OneSlot) → is_among self.old q ≡ false) }
         ensures unchanged { IfNone result (self.new ≡ self.old) }
-        ensures some { IfSome result (λ dirty. IsTrue (waits self.old dirty)) }
+        ensures some { IfSome result (λ dirty. IsTrue (is_among self.old dirty)) }
         ensures rest { IfSome result (λ dirty. (q : OneSlot)
-            → waits self.new q ≡ (waits self.old q && not (dirty_same q dirty))) }
+            → is_among self.new q ≡ (is_among self.old q && not (dirty_same q dirty))) }
         ensures least { IfSome result (λ dirty. (q : OneSlot)
-            → IsTrue (waits self.old q) → dirty.rank ≤ q.rank) }
+            → IsTrue (is_among self.old q) → dirty.rank ≤ q.rank) }
     {
         let dirty = self.dirty.pop_first()?;
         forget(&mut self.last, dirty);
@@ -89,7 +89,7 @@ impl UnplacedSlots {
 
     /// Takes out this one, if it waits. It takes no memory.
     pub fn remove(&mut self, dirty: DirtySlot)
-        ensures { (q : OneSlot) → waits self.new q ≡ (waits self.old q && not (dirty_same q dirty)) }
+        ensures { (q : OneSlot) → is_among self.new q ≡ (is_among self.old q && not (dirty_same q dirty)) }
     {
         let _ = self.dirty.remove(&dirty);
         forget(&mut self.last, dirty);
@@ -97,14 +97,14 @@ impl UnplacedSlots {
 
     /// Takes out one of the lowest rank, if that is below this one.
     pub fn pop_below(&mut self, rank: u32) -> Option<DirtySlot>
-        ensures none { IfNone result ((q : OneSlot) → IsTrue (waits self.old q) → rank ≤ q.rank) }
+        ensures none { IfNone result ((q : OneSlot) → IsTrue (is_among self.old q) → rank ≤ q.rank) }
         ensures unchanged { IfNone result (self.new ≡ self.old) }
         ensures below { IfSome result (λ dirty. dirty.rank < rank) }
-        ensures some { IfSome result (λ dirty. IsTrue (waits self.old dirty)) }
+        ensures some { IfSome result (λ dirty. IsTrue (is_among self.old dirty)) }
         ensures rest { IfSome result (λ dirty. (q : OneSlot)
-            → waits self.new q ≡ (waits self.old q && not (dirty_same q dirty))) }
+            → is_among self.new q ≡ (is_among self.old q && not (dirty_same q dirty))) }
         ensures least { IfSome result (λ dirty. (q : OneSlot)
-            → IsTrue (waits self.old q) → dirty.rank ≤ q.rank) }
+            → IsTrue (is_among self.old q) → dirty.rank ≤ q.rank) }
     {
         let first = self.dirty.first()?;
         if first.rank < rank { self.pop() } else { None }

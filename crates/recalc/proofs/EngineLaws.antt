@@ -29,7 +29,7 @@ use Rattle.recalc.specs.Replacing.{entries, slots_of}
 use Rattle.recalc.specs.Running.{AreCells, AreRanked, AreWaiting, propagation_visits, propagation_weight, HasRun, IsPropagation, IsRunning, is_that, live_results, Setting, slots_done, stamped_cell, waits_in}
 use Rattle.recalc.specs.Spread.{is_in, Spread}
 use Rattle.recalc.specs.EngineInvariant.{results_of, setting_from, stamp_in, start_setting, without_gone}
-use Rattle.dirty_slots.specs.Waiting.{DirtySlots}
+use Rattle.dirty_slots.specs.Waiting.{Queue}
 use Rattle.recalc.specs.declared.engine_state.EngineState.{EngineState}
 use Rattle.recalc.specs.declared.log.Replaced.{Replaced}
 use Rattle.recalc.proofs.BetweenLaws.{all_is_done, are_between, edit_marks, start_passes, start_touches_all, touched_weigh, undone_passes}
@@ -70,7 +70,7 @@ module _ (names : List (List ℕ)) (d : Accepted) (accepted : IsAccepted names d
     stay = λ s there. refl;
   }
 
-  pub start_running : entries old.log ≡ [] → (queue : DirtySlots) → AreWaiting d queue (λ s. stands d.tree b s)
+  pub start_running : entries old.log ≡ [] → (queue : Queue) → AreWaiting d queue (λ s. stands d.tree b s)
       → IsRunning (start_setting d b) (from_nothing d b) old.store.cells (record old { queue = queue })
   start_running none queue w =
       begins (start_setting d b) (from_nothing d b) (record old { queue = queue }) none
@@ -133,7 +133,7 @@ module _ (names : List (List ℕ)) (d : Accepted) (accepted : IsAccepted names d
     stay = stays;
   }
 
-  pub change_running : entries old.log ≡ [] → (queue : DirtySlots) → AreWaiting d queue (λ s. stands d.tree now s && is_touched_first undo now s)
+  pub change_running : entries old.log ≡ [] → (queue : Queue) → AreWaiting d queue (λ s. stands d.tree now s && is_touched_first undo now s)
       → IsRunning (setting_from d undo now gone stamp) (between d (applied undo now) now) old.store.cells (record old { queue = queue })
   change_running none queue w =
       begins (setting_from d undo now gone stamp) (between d (applied undo now) now) (record old { queue = queue }) none

@@ -4,6 +4,7 @@ pub mod EvaluatingLaws
 pub mod ForgettingLaws
 pub mod MarkingLaws
 pub mod Outcomes
+pub mod PlacingLaws
 pub mod TransitionLaws
 pub mod ReaderLaws
 pub mod ReplacingLaws

@@ -27,7 +27,7 @@ use Rattle.recalc.specs.Readers.{dirty_of, marks}
 use Rattle.recalc.specs.Replacing.{entries, slots_of}
 use Rattle.recalc.specs.Running.{AreCells, propagation_visits, propagation_weight, HasTurned, IsPropagation, IsPopped, IsRunning, is_that, marks_now, live_results_in, Setting, slot_of, slots_done, stamped_cell, waits_in}
 use Rattle.recalc.specs.Spread.{is_in, Spread}
-use Rattle.dirty_slots.specs.Waiting.{dirty_same, DirtySlots, waits}
+use Rattle.dirty_slots.specs.Waiting.{dirty_same, Queue, waits}
 use Rattle.recalc.specs.declared.log.Replaced.{Replaced}
 use Rattle.dirty_slots.specs.declared.dirty_slot.DirtySlot.{DirtySlot}
 use Rattle.recalc.specs.declared.engine_state.EngineState.{EngineState}
@@ -84,7 +84,7 @@ module _ (k : Setting) (c : Spread) (first : Cells) (propagation : IsPropagation
 
   -- ---- the slot that was taken out
 
-  module _ (left : DirtySlots) (dirty : DirtySlot) (pop : IsPopped state.queue left dirty) where
+  module _ (left : Queue) (dirty : DirtySlot) (pop : IsPopped state.queue left dirty) where
     same_dirty : dirty ≡ dirty_of k.dict (slot_of dirty)
     same_dirty = ap (λ n. record { rank = n; fact = dirty.fact; member = dirty.member }) (run.ranked dirty pop.some)
 

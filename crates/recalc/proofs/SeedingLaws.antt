@@ -37,7 +37,7 @@ use Rattle.dict_meaning.proofs.SlotLaws.{fact_of_standing, slot_same-equal, slot
 use Rattle.recalc.specs.Readers.{dirty_of}
 use Rattle.recalc.specs.Running.{AreWaiting}
 use Rattle.recalc.specs.Seeding.{came_by, field_at, is_anywhere, is_at, is_came, is_field, is_own, is_slot}
-use Rattle.dirty_slots.specs.Waiting.{dirty_same, DirtySlots, waits}
+use Rattle.dirty_slots.specs.Waiting.{dirty_same, Queue, waits}
 use Rattle.recalc.specs.declared.undone.Came.{Came}
 use Rattle.dirty_slots.specs.declared.dirty_slot.DirtySlot.{DirtySlot}
 use Rattle.recalc.proofs.RunningLaws.{same_tests}
@@ -151,7 +151,7 @@ any_rank d ms q (f ∷ order) h = either (is_at d q (ms f) f) (list_any (λ g. i
 
 -- ---- all slots
 
-pub all_wait : (names : List (List ℕ)) (d : Accepted) → IsAccepted names d → (order : List ℕ) → AreByRank d.ranks order → (a : Answered) (queue : DirtySlots)
+pub all_wait : (names : List (List ℕ)) (d : Accepted) → IsAccepted names d → (order : List ℕ) → AreByRank d.ranks order → (a : Answered) (queue : Queue)
     → ((q : DirtySlot) → waits queue q ≡ is_anywhere d a order q) → AreWaiting d queue (λ s. stands d.tree a s)
 all_wait names d accepted order by_rank a queue h = record {
   slots = λ s. h (dirty_of d s)
@@ -337,7 +337,7 @@ module _ (names : List (List ℕ)) (d : Accepted) (accepted : IsAccepted names d
   joined false y z = refl
 
   pub first_wait : (c : Option Came) → c ≡ came_by undo now → (o : Option Slot) → ((s : Slot) → is_slot o s ≡ differs undo now s)
-      → (queue : DirtySlots) → ((q : DirtySlot) → waits queue q ≡ (is_came d c order q || is_own d o q)) → AreWaiting d queue (λ s. stands d.tree now s && is_touched_first undo now s)
+      → (queue : Queue) → ((q : DirtySlot) → waits queue q ≡ (is_came d c order q || is_own d o q)) → AreWaiting d queue (λ s. stands d.tree now s && is_touched_first undo now s)
   first_wait c e o is queue h = record {
     slots = λ s. h (dirty_of d s)
         ∙ ap (λ b. b || is_own d o (dirty_of d s)) (came_slots c (sym e) s)

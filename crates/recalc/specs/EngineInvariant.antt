@@ -14,6 +14,7 @@ use Rattle.node_compile.specs.Compiled.{IsCompiled}
 use Rattle.answers.specs.Change.{Change}
 use Rattle.dictionary.specs.Engines.{Marks}
 use Rattle.dict_meaning.specs.Undone.{is_extended}
+use Rattle.recalc.specs.PlacedReaders.{AllArePlaced}
 use Rattle.recalc.specs.Replacing.{entries}
 use Rattle.recalc.specs.Running.{Setting}
 use Rattle.dirty_slots.specs.Waiting.{waits}
@@ -28,21 +29,24 @@ results_of cells s = option_map (λ c. c.res) (finite.get cells s)
 abbrev pub stamp_in : Cells → Slot → ℕ
 stamp_in cells s = unwrap_or (option_map (λ c. c.stamp) (finite.get cells s)) 0
 
--- the nodes and the readers of the dictionary's facts
+-- the nodes and the readers of the dictionary's facts, the readers also as places of the queue
 pub record IsGraphOf (d : Accepted) (g : DependencyGraph) : Type 0 where
   pub compiled : IsCompiled d.tree g.nodes
   pub index : IsIndex d g.readers
+  pub placed : AllArePlaced d g.places.value g.readers g.placed.items
 
 -- nothing waits, and nothing is to be put back
 pub record IsIdle (w : EngineState) : Type 0 where
   pub none_waits : (q : DirtySlot) → waits w.queue q ≡ false
   pub nothing_kept : entries w.log ≡ []
 
--- It is over the dictionary's facts, and has the cells of the answers: the result of each slot that stands, and no other cell.
+-- It is over the dictionary's facts and the graph's places, and has the cells of the answers: the result of each slot that stands,
+-- and no other cell.
 pub record EngineInvariant (g : DependencyGraph) (w : EngineState) (d : Accepted) (a : Answered) : Type 0 where
   pub graph : IsGraphOf d g
   pub results : (s : Slot) → results_of w.store.cells s ≡ plain d a s
   pub idle : IsIdle w
+  pub places : w.queue.places ≡ g.places.value
 
 -- the cells but for those of a member at these facts
 abbrev pub without_member : Cells → ℕ → List ℕ → Slot → Option Cell

@@ -2,6 +2,7 @@ pub mod BetweenAnswers
 pub mod Propagations
 pub mod Laws
 pub mod Marking
+pub mod PlacedReaders
 pub mod Transitions
 pub mod Readers
 pub mod Replacing

@@ -20,30 +20,30 @@ use Rattle.recalc.specs.Marking.{IsMarked}
 use Rattle.recalc.specs.Transitions.{IsTransition, is_shielded, moves}
 use Rattle.recalc.specs.Readers.{dirty_of, marks, marks_of}
 use Rattle.recalc.specs.Replacing.{entries, slots_of}
-use Rattle.dirty_slots.specs.Waiting.{DirtySlots, dirty_same, waits}
+use Rattle.dirty_slots.specs.Waiting.{dirty_same, Queue, waits}
 use Rattle.dirty_slots.specs.declared.dirty_slot.DirtySlot.{DirtySlot}
 use Rattle.recalc.specs.declared.engine_state.EngineState.{EngineState}
 
 -- ---- what waits, as slots
 
 -- the slot waits
-abbrev pub waits_in : Accepted → DirtySlots → Slot → Bool
+abbrev pub waits_in : Accepted → Queue → Slot → Bool
 waits_in d queue s = waits queue (dirty_of d s)
 
 abbrev pub slot_of : DirtySlot → Slot
 slot_of q = slot q.fact q.member
 
 -- what waits has the rank of its fact
-abbrev pub AreRanked : Accepted → DirtySlots → Type 0
+abbrev pub AreRanked : Accepted → Queue → Type 0
 AreRanked d queue = (q : DirtySlot) → IsTrue (waits queue q) → q.rank ≡ rank d q.fact
 
 -- exactly the slots that pass a test wait
-pub record AreWaiting (d : Accepted) (queue : DirtySlots) (test : Slot → Bool) : Type 0 where
+pub record AreWaiting (d : Accepted) (queue : Queue) (test : Slot → Bool) : Type 0 where
   pub slots : (s : Slot) → waits_in d queue s ≡ test s
   pub ranked : AreRanked d queue
 
 -- of these, one of the lowest rank was taken out
-pub record IsPopped (queue left : DirtySlots) (dirty : DirtySlot) : Type 0 where
+pub record IsPopped (queue left : Queue) (dirty : DirtySlot) : Type 0 where
   pub some : IsTrue (waits queue dirty)
   pub rest : (q : DirtySlot) → waits left q ≡ (waits queue q && not (dirty_same q dirty))
   pub least : (q : DirtySlot) → IsTrue (waits queue q) → dirty.rank ≤ q.rank

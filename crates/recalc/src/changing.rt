@@ -41,8 +41,10 @@ pub fn start<'a, L: Ledger>(
     requires fit { AnswersFit (accepted dict.now).tree (answered answers.now) }
     requires cells { state.old.store.cells ≡ no_cells }
     requires idle { IsIdle state.old }
+    requires places { state.old.queue.places ≡ graph.now.places.value }
     ensures done { OnOk result (HasRun (start_setting (accepted dict.now) (answered answers.now))
         (from_nothing (accepted dict.now) (answered answers.now)) state.old.store.cells state.new) }
+    ensures places { state.new.queue.places ≡ state.old.queue.places }
     ensures visits { OnOk result (steps.new ≡ steps.old + whole_visits (accepted dict.now) (answered answers.now)) }
 {
     let _source = dict.source();
@@ -71,11 +73,13 @@ pub fn start_uncounted<'a, L: Ledger>(
     requires fit { AnswersFit (accepted dict.now).tree (answered answers.now) }
     requires cells { state.old.store.cells ≡ no_cells }
     requires idle { IsIdle state.old }
+    requires places { state.old.queue.places ≡ graph.now.places.value }
     requires name { blank.name ≡ L.name }
     requires parts { blank.parts ≡ L.parts }
     requires some { 0 < blank.parts }
-    ensures { OnOk result (HasRun (start_setting (accepted dict.now) (answered answers.now))
+    ensures done { OnOk result (HasRun (start_setting (accepted dict.now) (answered answers.now))
         (from_nothing (accepted dict.now) (answered answers.now)) state.old.store.cells state.new) }
+    ensures places { state.new.queue.places ≡ state.old.queue.places }
 {
     let mut steps = Steps::<L>::new(blank);
     start(alloc, graph, dict, answers, state, &mut steps)
@@ -97,6 +101,7 @@ pub fn change<L: Ledger>(
         (answers_after update.now)) }
     ensures cells { OnErr result (state.new.store.cells ≡ state.old.store.cells) }
     ensures idle { OnErr result (IsIdle state.new) }
+    ensures places { OnErr result (state.new.queue.places ≡ state.old.queue.places) }
     ensures visits { OnOk result (steps.new ≡ steps.old + touched_visits (dict_of update.now) (answers_before update.now)
         (answers_after update.now)) }
     ensures most { steps.new ≤ steps.old + touched_weight (dict_of update.now) (answers_before update.now)
@@ -132,6 +137,7 @@ fn go_on<L: Ledger>(
         state.new) }
     ensures undo { before (entries state.new.log) state.new.store.cells ≡ state.old.store.cells }
     ensures can { CanPutBack (entries state.new.log) state.new.store.cells }
+    ensures places { state.new.queue.places ≡ state.old.queue.places }
     ensures visits { OnOk result (steps.new ≡ steps.old + touched_visits (dict_of update.now) (answers_before update.now)
         (answers_after update.now)) }
     ensures most { steps.new ≤ steps.old + touched_weight (dict_of update.now) (answers_before update.now)

@@ -109,7 +109,7 @@ impl EngineCells {
             EngineCells::Own(own) => change(alloc, graph, update, &mut own.state, steps),
             EngineCells::Shared(at_start) => {
                 let at_start = at_start.clone()?;
-                let mut state = copied_state(alloc, &at_start, update.dict)?;
+                let mut state = copied_state(alloc, graph, &at_start, update.dict)?;
                 let touched = change(alloc, graph, update, &mut state, steps)?;
                 *self = EngineCells::Own(OwnCells {
                     state,

@@ -4,7 +4,7 @@ ghost use Rattle.cell_store.specs.Contents.{no_cells};
 ghost use Rattle.recalc.specs.EngineInvariant.{IsIdle};
 ghost use Rattle.recalc.specs.Replacing.{before, CanPutBack, entries};
 
-use crate::global_places::global_places;
+use crate::dependency_graph::DependencyGraph;
 use crate::log::Log;
 use cell_store::Store;
 use dictionary::Dictionary;
@@ -21,15 +21,19 @@ pub struct EngineState {
 }
 
 impl EngineState {
-    /// No cells. Each fact of the dictionary has a place.
-    pub fn new(alloc: Global, dict: &Dictionary) -> Result<EngineState, NoMemory>
+    /// No cells. Each fact of the dictionary has a place in the store, and the queue has the graph's places.
+    pub fn new(
+        alloc: Global,
+        dict: &Dictionary,
+        graph: &DependencyGraph,
+    ) -> Result<EngineState, NoMemory>
         ensures cells { IfOk result (λ state. state.store.cells ≡ no_cells) }
         ensures idle { IfOk result (λ state. IsIdle state) }
+        ensures places { IfOk result (λ state. state.queue.places ≡ graph.now.places.value) }
     {
         let facts = dict.source().facts().len();
         let store = Store::with_facts(alloc, facts)?;
-        let places = global_places(alloc, dict)?;
-        let queue = DirtyQueue::new(alloc, facts, places)?;
+        let queue = DirtyQueue::new(alloc, facts, graph.places.clone()?)?;
         let log = Log::new(alloc);
         Ok(EngineState { store, queue, log })
     }
@@ -39,6 +43,7 @@ impl EngineState {
         requires { CanPutBack (entries self.old.log) self.old.store.cells }
         ensures cells { self.new.store.cells ≡ before (entries self.old.log) self.old.store.cells }
         ensures idle { IsIdle self.new }
+        ensures places { self.new.queue.places ≡ self.old.queue.places }
     {
         self.log.put_back(&mut self.store);
         self.queue.clear();

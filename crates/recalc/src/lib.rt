@@ -12,6 +12,7 @@ pub mod laws;
 mod live_cells;
 mod log;
 mod marking;
+mod placed_readers;
 mod propagation;
 mod recalc;
 mod running;

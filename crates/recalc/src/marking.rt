@@ -1,13 +1,16 @@
 // Which slots wait once the result of a slot has moved.
-ghost use Rattle.std.specs.Prelude.{◌≡◌, ◌||◌, ◌&&◌, All, OnOk, is_some, option_copied};
+ghost use Rattle.std.specs.Prelude.{◌≡◌, ◌||◌, ◌&&◌, All, IsTrue, OnOk, is_some, option_copied};
 ghost use Rattle.std.specs.List.{list_any};
 ghost use Rattle.answers.specs.Answered.{value_of};
 ghost use Rattle.answers.specs.Meaning.{answered};
 ghost use Rattle.answers.specs.declared.edit.Side.TheVariants.{Override};
+ghost use Rattle.dep_index.specs.Readers.{row};
 ghost use Rattle.dict_source.specs.Finding.{IsNumber};
 ghost use Rattle.dictionary.specs.Kept.{accepted};
 ghost use Rattle.dict_meaning.specs.Final.{is_complete_in};
+ghost use Rattle.dict_meaning.specs.Slots.{stands};
 ghost use Rattle.dict_meaning.specs.Steady.{steady};
+ghost use Rattle.recalc.specs.EngineInvariant.{IsGraphOf};
 ghost use Rattle.recalc.specs.Propagations.{setting_of};
 ghost use Rattle.recalc.specs.Transitions.{is_shielded};
 ghost use Rattle.recalc.specs.Readers.{marks_at, reads_at};
@@ -15,6 +18,7 @@ ghost use Rattle.recalc.specs.Running.{let_by, let_by_all, live_results, shielde
 ghost use Rattle.dirty_slots.specs.Waiting.{waits};
 ghost use Rattle.dirty_slots.specs.declared.dirty_slot.DirtySlot.{DirtySlot};
 
+use crate::dependency_graph::DependencyGraph;
 use crate::live_cells::LiveCells;
 use crate::propagation::Propagation;
 use cell_store::Store;
@@ -24,9 +28,34 @@ use fact_values::{NoMemory, Slot};
 use node_eval::Cells;
 use three_state::Res;
 
-/// Lets those slots wait that these readers have now, at the members where they read the slot, but
+/// Lets those slots wait that the readers of the slot's fact have now, at the members where they read the slot, but
 /// for those whose results no further answer can change.
 pub fn mark(
+    graph: &DependencyGraph,
+    queue: &mut DirtyQueue,
+    propagation: &Propagation,
+    store: &Store,
+    slot: Slot,
+) -> Result<(), NoMemory>
+    requires graph { IsGraphOf (accepted propagation.now.dict.now) graph.now }
+    requires places { queue.old.places ≡ graph.now.places.value }
+    requires stands { IsTrue (stands (accepted propagation.now.dict.now).tree (answered propagation.now.answers.now)
+        slot) }
+    ensures marked { OnOk result ((q : DirtySlot) → waits queue.new q ≡ (waits queue.old q
+        || let_by_all (setting_of propagation.now) store.now.cells slot (row graph.now.readers slot.fact) q)) }
+    ensures places { queue.new.places ≡ queue.old.places }
+{
+    if propagation.extended {
+        let readers = graph.readers.readers(slot.fact);
+        return mark_all(queue, propagation, store, slot, readers);
+    }
+    let readers = &graph.placed[slot.fact as usize];
+    queue.add_places(&readers.places);
+    mark_all(queue, propagation, store, slot, &readers.others)
+}
+
+// Those of these readers.
+fn mark_all(
     queue: &mut DirtyQueue,
     propagation: &Propagation,
     store: &Store,
@@ -34,8 +63,9 @@ pub fn mark(
     readers: &[ReaderOf],
 ) -> Result<(), NoMemory>
     requires { All (λ r. IsNumber (accepted propagation.now.dict.now).tree.facts r.fact) readers.now }
-    ensures { OnOk result ((q : DirtySlot) → waits queue.new q
+    ensures marked { OnOk result ((q : DirtySlot) → waits queue.new q
         ≡ (waits queue.old q || let_by_all (setting_of propagation.now) store.now.cells slot readers.now q)) }
+    ensures places { queue.new.places ≡ queue.old.places }
 {
     for reader in readers {
         mark_reader(queue, propagation, store, slot, *reader)?;
@@ -52,8 +82,9 @@ fn mark_reader(
     reader: ReaderOf,
 ) -> Result<(), NoMemory>
     requires { IsNumber (accepted propagation.now.dict.now).tree.facts reader.fact }
-    ensures { OnOk result ((q : DirtySlot) → waits queue.new q
+    ensures marked { OnOk result ((q : DirtySlot) → waits queue.new q
         ≡ (waits queue.old q || let_by (setting_of propagation.now) store.now.cells slot q reader)) }
+    ensures places { queue.new.places ≡ queue.old.places }
 {
     let rank = propagation.dict.rank(reader.fact);
     let home = propagation.dict.home(reader.fact);
@@ -77,9 +108,10 @@ fn mark_members(
     members: &[u32],
 ) -> Result<(), NoMemory>
     requires { IsNumber (accepted propagation.now.dict.now).tree.facts reader.fact }
-    ensures { OnOk result ((q : DirtySlot) → waits queue.new q
+    ensures marked { OnOk result ((q : DirtySlot) → waits queue.new q
         ≡ (waits queue.old q || list_any (marks_at (shielded_in (setting_of propagation.now) store.now.cells) slot
         reader rank q) members.now)) }
+    ensures places { queue.new.places ≡ queue.old.places }
 {
     for member in members {
         mark_member(queue, propagation, store, slot, reader, rank, *member)?;
@@ -98,9 +130,10 @@ fn mark_member(
     member: u32,
 ) -> Result<(), NoMemory>
     requires { IsNumber (accepted propagation.now.dict.now).tree.facts reader.fact }
-    ensures { OnOk result ((q : DirtySlot) → waits queue.new q
+    ensures marked { OnOk result ((q : DirtySlot) → waits queue.new q
         ≡ (waits queue.old q || marks_at (shielded_in (setting_of propagation.now) store.now.cells) slot reader rank q
         member)) }
+    ensures places { queue.new.places ≡ queue.old.places }
 {
     let fact = reader.fact;
     if reads(slot, reader, member) && !is_shielded(propagation, store, Slot { fact, member }) {

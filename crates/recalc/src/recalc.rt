@@ -59,7 +59,7 @@ impl FactEngine for Recalc {
         ensures fresh { IfOk result (λ e. AreFresh (marks_of e)) }
     {
         let graph = DependencyGraph::new(alloc, dict)?;
-        let mut state = EngineState::new(alloc, dict)?;
+        let mut state = EngineState::new(alloc, dict, &graph)?;
         start_uncounted::<Brand>(alloc, &graph, dict, answers, &mut state, Blank::new(1))?;
         state.log.clear();
         Ok(Recalc {

@@ -27,6 +27,7 @@ pub fn run<L: Ledger>(
     steps: &mut Steps<L>,
 ) -> Result<(), NoMemory>
     requires graph { IsGraphOf (accepted propagation.now.dict.now) graph.now }
+    requires places { state.old.queue.places ≡ graph.now.places.value }
     requires well { WellFormed (answered propagation.now.answers.now) }
     requires from_one { FromOne (answered propagation.now.answers.now) }
     requires propagation { IsPropagation (setting_of propagation.now) (spread_of propagation.now)
@@ -38,6 +39,7 @@ pub fn run<L: Ledger>(
         state.new) }
     ensures undo { before (entries state.new.log) state.new.store.cells ≡ state.old.store.cells }
     ensures can { CanPutBack (entries state.new.log) state.new.store.cells }
+    ensures places { state.new.queue.places ≡ state.old.queue.places }
     ensures visits { OnOk result (steps.new ≡ steps.old + propagation_visits (setting_of propagation.now)
         (spread_of propagation.now)) }
     ensures most { steps.new ≤ steps.old + propagation_weight (setting_of propagation.now) (spread_of propagation.now) }

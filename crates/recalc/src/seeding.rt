@@ -26,8 +26,9 @@ fn add_at(
     members: &[u32],
 ) -> Result<(), NoMemory>
     requires { IsNumber (accepted dict.now).tree.facts fact }
-    ensures { OnOk result ((q : DirtySlot) → waits queue.new q
+    ensures waiting { OnOk result ((q : DirtySlot) → waits queue.new q
         ≡ (waits queue.old q || is_at (accepted dict.now) q members.now fact)) }
+    ensures places { queue.new.places ≡ queue.old.places }
 {
     let rank = dict.rank(fact);
     for member in members {
@@ -49,9 +50,10 @@ fn add_fact(
     fact: u32,
 ) -> Result<(), NoMemory>
     requires { IsNumber (accepted dict.now).tree.facts fact }
-    ensures { OnOk result ((q : DirtySlot) → waits queue.new q
+    ensures waiting { OnOk result ((q : DirtySlot) → waits queue.new q
         ≡ (waits queue.old q || is_at (accepted dict.now) q
         (members_of_home (answered now.now) (home (accepted dict.now).tree fact)) fact)) }
+    ensures places { queue.new.places ≡ queue.old.places }
 {
     let home = dict.home(fact);
     if home == 0 {
@@ -70,8 +72,9 @@ fn add_facts(
     facts: &[u32],
 ) -> Result<(), NoMemory>
     requires { All (λ f. IsNumber (accepted dict.now).tree.facts f) facts.now }
-    ensures { OnOk result ((q : DirtySlot) → waits queue.new q
+    ensures waiting { OnOk result ((q : DirtySlot) → waits queue.new q
         ≡ (waits queue.old q || is_anywhere (accepted dict.now) (answered now.now) facts.now q)) }
+    ensures places { queue.new.places ≡ queue.old.places }
 {
     for fact in facts {
         add_fact(queue, dict, now, *fact)?;
@@ -82,8 +85,9 @@ fn add_facts(
 /// Lets all slots wait.
 pub fn seed_all(queue: &mut DirtyQueue, dict: &Dictionary, now: &Answers) -> Result<(), NoMemory>
     requires { (q : DirtySlot) → waits queue.old q ≡ false }
-    ensures { OnOk result (AreWaiting (accepted dict.now) queue.new
+    ensures waiting { OnOk result (AreWaiting (accepted dict.now) queue.new
         (λ s. stands (accepted dict.now).tree (answered now.now) s)) }
+    ensures places { queue.new.places ≡ queue.old.places }
 {
     let facts = dict.by_rank();
     let _source = dict.source();
@@ -100,8 +104,9 @@ fn add_came(
     facts: &[u32],
 ) -> Result<(), NoMemory>
     requires { All (λ f. IsNumber (accepted dict.now).tree.facts f) facts.now }
-    ensures { OnOk result ((q : DirtySlot) → waits queue.new q
+    ensures waiting { OnOk result ((q : DirtySlot) → waits queue.new q
         ≡ (waits queue.old q || is_field (accepted dict.now) came facts.now q)) }
+    ensures places { queue.new.places ≡ queue.old.places }
 {
     for fact in facts {
         add_field(queue, dict, came, *fact)?;
@@ -116,8 +121,9 @@ fn add_field(
     fact: u32,
 ) -> Result<(), NoMemory>
     requires { IsNumber (accepted dict.now).tree.facts fact }
-    ensures { OnOk result ((q : DirtySlot) → waits queue.new q
+    ensures waiting { OnOk result ((q : DirtySlot) → waits queue.new q
         ≡ (waits queue.old q || is_at (accepted dict.now) q (field_at (accepted dict.now).tree came fact) fact)) }
+    ensures places { queue.new.places ≡ queue.old.places }
 {
     if dict.home(fact) == came.list {
         add_at(queue, dict, fact, &[came.member])
@@ -134,8 +140,9 @@ fn add_came_if(
     facts: &[u32],
 ) -> Result<(), NoMemory>
     requires { All (λ f. IsNumber (accepted dict.now).tree.facts f) facts.now }
-    ensures { OnOk result ((q : DirtySlot) → waits queue.new q
+    ensures waiting { OnOk result ((q : DirtySlot) → waits queue.new q
         ≡ (waits queue.old q || is_came (accepted dict.now) came facts.now q)) }
+    ensures places { queue.new.places ≡ queue.old.places }
 {
     match came {
         None => Ok(()),
@@ -145,8 +152,9 @@ fn add_came_if(
 
 fn add_own(queue: &mut DirtyQueue, dict: &Dictionary, own: Option<Slot>) -> Result<(), NoMemory>
     requires { (s : OneSlot) → own ≡ Some s → IsNumber (accepted dict.now).tree.facts s.fact }
-    ensures { OnOk result ((q : DirtySlot) → waits queue.new q
+    ensures waiting { OnOk result ((q : DirtySlot) → waits queue.new q
         ≡ (waits queue.old q || is_own (accepted dict.now) own q)) }
+    ensures places { queue.new.places ≡ queue.old.places }
 {
     match own {
         None => Ok(()),
@@ -170,9 +178,10 @@ pub fn seed(
     requires own { (s : OneSlot) → is_slot own s ≡ differs (change undo.now) (answered now.now) s }
     requires undone { IsUndone (accepted dict.now) (change undo.now) (answered now.now) }
     requires empty { (q : DirtySlot) → waits queue.old q ≡ false }
-    ensures { OnOk result (AreWaiting (accepted dict.now) queue.new
+    ensures waiting { OnOk result (AreWaiting (accepted dict.now) queue.new
         (λ s. stands (accepted dict.now).tree (answered now.now) s && is_touched_first (change undo.now)
         (answered now.now) s)) }
+    ensures places { queue.new.places ≡ queue.old.places }
 {
     let facts = dict.by_rank();
     let _source = dict.source();

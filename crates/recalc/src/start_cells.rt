@@ -26,7 +26,7 @@ pub fn start_cells(
     requires { IsGraphOf (accepted dict.now) graph.now }
     ensures { IfOk result (λ store. AreAtStart (accepted dict.now) store.cells) }
 {
-    let mut state = EngineState::new(alloc, dict)?;
+    let mut state = EngineState::new(alloc, dict, graph)?;
     start_uncounted::<Brand>(
         alloc,
         graph,
@@ -42,13 +42,19 @@ pub fn start_cells(
 }
 
 /// A state with copies of the cells at no answers.
-pub fn copied_state(alloc: Global, from: &Store, dict: &Dictionary) -> Result<EngineState, NoMemory>
+pub fn copied_state(
+    alloc: Global,
+    graph: &DependencyGraph,
+    from: &Store,
+    dict: &Dictionary,
+) -> Result<EngineState, NoMemory>
     requires { AreAtStart (accepted dict.now) from.now.cells }
     ensures cells { IfOk result (λ state. AreAtStart (accepted dict.now) state.store.cells) }
     ensures idle { IfOk result (λ state. IsIdle state) }
+    ensures places { IfOk result (λ state. state.queue.places ≡ graph.now.places.value) }
 {
     let _source = dict.source();
-    let mut state = EngineState::new(alloc, dict)?;
+    let mut state = EngineState::new(alloc, dict, graph)?;
     copy_cells(alloc, from, dict.by_rank(), &mut state.store)?;
     Ok(state)
 }

@@ -1,9 +1,8 @@
 // One turn: a slot that waits gets its new result.
-ghost use Rattle.std.specs.Prelude.{◌≡◌, ◌+◌, ◌≤◌, ◌&&◌, ◌||◌, All, false, IsTrue, OnOk};
+ghost use Rattle.std.specs.Prelude.{◌≡◌, ◌+◌, ◌≤◌, ◌&&◌, ◌||◌, false, IsTrue, OnOk};
 ghost use Rattle.answers.specs.Meaning.{answered};
 ghost use Rattle.answers.specs.WellFormed.{FromOne, WellFormed};
 ghost use Rattle.dep_index.specs.Readers.{row};
-ghost use Rattle.dict_source.specs.Finding.{IsNumber};
 ghost use Rattle.dictionary.specs.Kept.{accepted};
 ghost use Rattle.dict_meaning.specs.Plain.{IsPlainBelow, rank};
 ghost use Rattle.dict_meaning.specs.Slots.{stands};
@@ -24,7 +23,6 @@ use crate::live_cells::LiveCells;
 use crate::marking::mark;
 use crate::propagation::Propagation;
 use cell_store::Store;
-use dep_index::ReaderOf;
 use dirty_slots::DirtyQueue;
 use fact_values::{NoMemory, Slot};
 use std::alloc::Global;
@@ -34,18 +32,23 @@ use steps::Steps;
 // Where a slot moved, the slots wait that it feeds.
 fn mark_if(
     moved: bool,
+    graph: &DependencyGraph,
     queue: &mut DirtyQueue,
     propagation: &Propagation,
     store: &Store,
     slot: Slot,
-    readers: &[ReaderOf],
 ) -> Result<(), NoMemory>
-    requires { All (λ r. IsNumber (accepted propagation.now.dict.now).tree.facts r.fact) readers.now }
-    ensures { OnOk result ((q : DirtySlot) → waits queue.new q ≡ (waits queue.old q
-        || (moved && let_by_all (setting_of propagation.now) store.now.cells slot readers.now q))) }
+    requires graph { IsGraphOf (accepted propagation.now.dict.now) graph.now }
+    requires places { queue.old.places ≡ graph.now.places.value }
+    requires stands { IsTrue (stands (accepted propagation.now.dict.now).tree (answered propagation.now.answers.now)
+        slot) }
+    ensures marked { OnOk result ((q : DirtySlot) → waits queue.new q ≡ (waits queue.old q
+        || (moved
+        && let_by_all (setting_of propagation.now) store.now.cells slot (row graph.now.readers slot.fact) q))) }
+    ensures places { queue.new.places ≡ queue.old.places }
 {
     if moved {
-        mark(queue, propagation, store, slot, readers)
+        mark(graph, queue, propagation, store, slot)
     } else {
         Ok(())
     }
@@ -62,6 +65,7 @@ pub fn turn<L: Ledger>(
     steps: &mut Steps<L>,
 ) -> Result<(), NoMemory>
     requires graph { IsGraphOf (accepted propagation.now.dict.now) graph.now }
+    requires places { state.old.queue.places ≡ graph.now.places.value }
     requires well { WellFormed (answered propagation.now.answers.now) }
     requires from_one { FromOne (answered propagation.now.answers.now) }
     requires stands { IsTrue (stands (accepted propagation.now.dict.now).tree (answered propagation.now.answers.now)
@@ -77,6 +81,7 @@ pub fn turn<L: Ledger>(
         ≡ before (entries state.old.log) state.old.store.cells }
     ensures can { CanPutBack (entries state.old.log) state.old.store.cells
         → CanPutBack (entries state.new.log) state.new.store.cells }
+    ensures places { state.new.queue.places ≡ state.old.queue.places }
     ensures visits { OnOk result (steps.new ≡ steps.old + slot_visits (accepted propagation.now.dict.now)
         (answered propagation.now.answers.now) slot) }
     ensures most { steps.new ≤ steps.old + slot_weight (accepted propagation.now.dict.now)
@@ -100,10 +105,10 @@ pub fn turn<L: Ledger>(
         .put(&mut state.store, slot, res, propagation.stamp)?;
     mark_if(
         moved,
+        graph,
         &mut state.queue,
         propagation,
         &state.store,
         slot,
-        graph.readers.readers(slot.fact),
     )
 }

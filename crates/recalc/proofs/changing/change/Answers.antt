@@ -13,6 +13,7 @@ returns-in-Ok-clause-stands g c =
           u.gone c.requires.update.gone u.stamp c.args.state.now c.requires.before.results
           c.go_on.new.state c.in-Ok.ensures.done c.by_rank.result.now c.by_rank.ensures c.forget.new.store.cells c.forget.ensures;
       idle = record { none_waits = c.in-Ok.ensures.done.none; nothing_kept = c.clear.ensures };
+      places = c.go_on.ensures.places ∙ c.requires.before.places;
     }
 
 pub returns-in-Ok-clause-stamps : goal.returns-in-Ok-clause-stamps

@@ -20,7 +20,7 @@ run-requires-clause-start g c =
     subst (λ (x : Bool). IsRunning (record (update_setting u) { extended = x }) (update_spread u) c.args.state.now.store.cells (record c.args.state.now { queue = c.seed.new.queue }))
     (sym c.effect_of-effect.ensures.extended)
     (change_running (names_of u.dict.now.checks) (dict_of u) c.source-source.ensures.is_accepted (undo_of u) (answers_after u) c.requires.update.undone
-    u.gone c.requires.update.gone u.stamp c.args.state.now c.requires.before.results c.requires.before.idle.nothing_kept c.seed.new.queue c.in_ok-seed.ensures)
+    u.gone c.requires.update.gone u.stamp c.args.state.now c.requires.before.results c.requires.before.idle.nothing_kept c.seed.new.queue c.in_ok-seed.ensures.waiting)
 
 pub returns-clause-visits : goal.returns-clause-visits
 returns-clause-visits g c =

@@ -11,7 +11,7 @@ run-requires-clause-propagation g c = start_propagation (names_of c.args.dict.no
 pub run-requires-clause-start : goal.run-requires-clause-start
 run-requires-clause-start g c =
     start_running (names_of c.args.dict.now.checks) (accepted c.args.dict.now) c.source-source.ensures.is_accepted (answered c.args.answers.now) c.requires.fit c.args.state.now c.requires.cells
-    c.requires.idle.nothing_kept c.seed_all.new.queue c.in_ok-seed_all.ensures
+    c.requires.idle.nothing_kept c.seed_all.new.queue c.in_ok-seed_all.ensures.waiting
 
 pub returns-clause-visits : goal.returns-clause-visits
 returns-clause-visits g c =

@@ -5,7 +5,7 @@ use Rattle.dict_meaning.specs.Weights.{slot_weight}
 use Rattle.visit_counts.specs.SlotVisits.{slot_visits}
 use Rattle.recalc.specs.Propagations.{setting_of, spread_of}
 use Rattle.recalc.specs.Running.{IsPopped, IsRunning, slot_of}
-use Rattle.dirty_slots.specs.Waiting.{DirtySlots, waits}
+use Rattle.dirty_slots.specs.Waiting.{Queue, waits}
 use Rattle.dirty_slots.specs.declared.dirty_slot.DirtySlot.{DirtySlot}
 use Rattle.recalc.specs.declared.engine_state.EngineState.{EngineState}
 use Rattle.recalc.proofs.RunningLaws.{ended_new, fewer, popped_below, popped_new, popped_number, popped_stands, done_more, steps_ended, steps_within, still_running, visits_ended}
@@ -46,6 +46,7 @@ loop-dirty-preserved g c =
       running = still_running k s first c.requires.propagation c.loop-dirty.state c.loop-dirty.invariant.running c.pop.new.self dirty pop rs are c.turn.new.state c.in_ok-turn.ensures.turned;
       undo = c.turn.ensures.undo ∙ c.loop-dirty.invariant.undo;
       can = c.turn.ensures.can c.loop-dirty.invariant.can;
+      places = c.turn.ensures.places ∙ c.pop.ensures.places ∙ c.loop-dirty.invariant.places;
       visits = omega (arith, more (slot_visits k.dict k.now), c.in_ok-turn.ensures.visits, c.loop-dirty.invariant.visits);
       most = omega (arith, more (slot_weight k.dict k.now), c.turn.ensures.most, c.loop-dirty.invariant.most);
     }
@@ -74,8 +75,8 @@ returns-clause-done g c =
     let first = c.args.state.now.store.cells in
     let state : EngineState = record c.loop-dirty.state { queue = c.pop.new.self } in
     let running : IsRunning k s first state =
-    subst (λ (queue : DirtySlots). IsRunning k s first (record c.loop-dirty.state { queue = queue })) (sym c.in_default.ensures.unchanged) c.loop-dirty.invariant.running in
-    let none : (q : DirtySlot) → waits c.pop.new.self q ≡ false = (λ q. ap (λ (queue : DirtySlots). waits queue q) c.in_default.ensures.unchanged ∙ c.in_default.ensures.none q) in
+    subst (λ (queue : Queue). IsRunning k s first (record c.loop-dirty.state { queue = queue })) (sym c.in_default.ensures.unchanged) c.loop-dirty.invariant.running in
+    let none : (q : DirtySlot) → waits c.pop.new.self q ≡ false = (λ q. ap (λ (queue : Queue). waits queue q) c.in_default.ensures.unchanged ∙ c.in_default.ensures.none q) in
     record {
       running = running;
       none = none;

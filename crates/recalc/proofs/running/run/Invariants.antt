@@ -14,6 +14,7 @@ invariant-loop-dirty g l = record {
   running : IsRunning (setting_of l.propagation) (spread_of l.propagation) l.initial.state.store.cells l.state;
   undo : before (entries l.state.log) l.state.store.cells ≡ l.initial.state.store.cells;
   can : CanPutBack (entries l.state.log) l.state.store.cells;
+  places : l.state.queue.places ≡ l.initial.state.queue.places;
   visits : l.steps ≡ l.initial.steps + sum_by (slot_visits (accepted l.propagation.dict.now) (answered l.propagation.answers.now)) (slots_done l.state);
   most : l.steps ≤ l.initial.steps + sum_by (slot_weight (accepted l.propagation.dict.now) (answered l.propagation.answers.now)) (slots_done l.state);
 }

@@ -9,7 +9,7 @@ start_uncounted-requires-clause-fit c = rw c.new-2.ensures (start_fits _)
 
 pub returns : goal.returns
 returns c =
-    let run = rw c.new-2.ensures at c.in_ok-start_uncounted.ensures in
+    let run = rw c.new-2.ensures at c.in_ok-start_uncounted.ensures.done in
     record {
       results = run.results;
       stamps = start_stamps (accepted c.args.dict.now) start c.in_ok-state.state.store.cells c.in_ok-state.ensures.cells c.start_uncounted-2.new.state run;

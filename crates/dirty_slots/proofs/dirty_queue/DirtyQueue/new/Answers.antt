@@ -3,5 +3,5 @@ use Rattle.dirty_slots.specs.PlaceBits.{has_place}
 use Rattle.dirty_slots.proofs.MarkLaws.{none_placed}
 use Rattle.dirty_slots.proofs.dirty_queue.DirtyQueue.new.Goals as goal
 
-pub returns : goal.returns
-returns c = λ q. none_placed (has_place c.in_ok-placed.placed) c.args.places c.in_ok-unplaced.unplaced (λ i l. c.in_ok-placed.ensures.none i) q ∙ c.in_ok-unplaced.ensures q
+pub returns-clause-none : goal.returns-clause-none
+returns-clause-none c = λ q. none_placed (has_place c.in_ok-placed.placed) c.args.places.value c.in_ok-unplaced.unplaced (λ i l. c.in_ok-placed.ensures.none i) q ∙ c.in_ok-unplaced.ensures q

@@ -1,12 +1,12 @@
 use Rattle.std.proofs.Common.{◌≡◌, ◌<◌, ◌≤◌, ℕ, true, arith}
 use Rattle.std.specs.Prelude.{IfSome, Option, Some, None}
-use Rattle.dirty_slots.specs.Waiting.{DirtySlots, waits}
+use Rattle.dirty_slots.specs.Waiting.{DirtySlots, is_among}
 use Rattle.dirty_slots.specs.declared.dirty_slot.DirtySlot.{DirtySlot}
 use Rattle.dirty_slots.proofs.DirtyLaws.{first_below, lowest}
 use Rattle.dirty_slots.proofs.unplaced.UnplacedSlots.pop_below.Goals as goal
 
-if_below : (popped : Option DirtySlot) (rank : ℕ) (ds : DirtySlots) → ((dirty : DirtySlot) → ((q : DirtySlot) → waits ds q ≡ true → dirty.rank ≤ q.rank) → dirty.rank < rank)
-    → IfSome popped (λ dirty. (q : DirtySlot) → waits ds q ≡ true → dirty.rank ≤ q.rank) → IfSome popped (λ dirty. dirty.rank < rank)
+if_below : (popped : Option DirtySlot) (rank : ℕ) (ds : DirtySlots) → ((dirty : DirtySlot) → ((q : DirtySlot) → is_among ds q ≡ true → dirty.rank ≤ q.rank) → dirty.rank < rank)
+    → IfSome popped (λ dirty. (q : DirtySlot) → is_among ds q ≡ true → dirty.rank ≤ q.rank) → IfSome popped (λ dirty. dirty.rank < rank)
 if_below None rank ds then h = tt
 if_below (Some dirty) rank ds then h = then dirty h
 
