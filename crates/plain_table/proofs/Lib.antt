@@ -1,3 +1,2 @@
 pub mod FillingLaws
-pub mod WholeLaws
 pub mod WorkLaws

@@ -1,3 +1,2 @@
-pub mod Filling
 pub mod TableContext
 pub mod Table

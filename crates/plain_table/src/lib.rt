@@ -5,6 +5,5 @@ mod plain_table;
 mod slots;
 mod table;
 mod table_context;
-mod whole;
 
 pub use plain_table::PlainTable;

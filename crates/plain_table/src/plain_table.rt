@@ -1,4 +1,4 @@
-// The engine.
+// The plain engine.
 ghost use Rattle.std.specs.Prelude.{◌≡◌, ◌+◌, ◌<◌, ◌≤◌, false, IfOk, IsTrue, None, OnErr, OnOk, option_copied};
 ghost use Rattle.answers.specs.Answered.{Answered, start};
 ghost use Rattle.answers.specs.Meaning.{answered};
@@ -8,14 +8,14 @@ ghost use Rattle.dictionary.specs.Kept.{accepted};
 ghost use Rattle.dict_meaning.specs.Plain.{plain};
 ghost use Rattle.dict_meaning.specs.Weights.{whole_weight};
 ghost use Rattle.visit_counts.specs.SlotVisits.{whole_visits};
-ghost use Rattle.plain_table.specs.Filling.{HasAll, no_marks};
-ghost use Rattle.plain_table.specs.Table.{results_of};
+ghost use Rattle.full_evaluation.specs.Filling.{HasAll};
+ghost use Rattle.plain_table.specs.Table.{no_marks, results_of};
 
 use crate::table::Table;
-use crate::whole::whole_table;
 use answers::{Answers, Edit};
 use dictionary::{Dictionary, FactEngine};
 use fact_values::{NoMemory, Slot};
+use full_evaluation::fill;
 use std::alloc::Global;
 use std::marker::Brand;
 use std::sync::ledger::{Blank, Ledger};
@@ -30,7 +30,25 @@ pub struct PlainTable {
     table: Table,
 }
 
-// The results of all slots, where the steps are counted for nobody.
+// The results of all slots.
+fn whole_table<L: Ledger>(
+    alloc: Global,
+    dict: &Dictionary,
+    answers: &Answers,
+    steps: &mut Steps<L>,
+) -> Result<Table, NoMemory>
+    requires well { WellFormed (answered answers.now) }
+    requires from_one { FromOne (answered answers.now) }
+    ensures all { IfOk result (λ t. HasAll (accepted dict.now) (answered answers.now) (results_of t)) }
+    ensures visits { OnOk result (steps.new ≡ steps.old + whole_visits (accepted dict.now) (answered answers.now)) }
+    ensures most { steps.new ≤ steps.old + whole_weight (accepted dict.now) (answered answers.now) }
+{
+    let mut table = Table::with_room(alloc, dict.source().facts().len())?;
+    fill(alloc, dict, answers, &mut table, steps)?;
+    Ok(table)
+}
+
+// The same, where the steps are counted for nobody.
 fn first_table<L: Ledger>(
     alloc: Global,
     dict: &Dictionary,

@@ -1,11 +1,18 @@
-// The results of slots so far.
+// The results of slots so far, and the next one from the expressions as they are written.
 ghost use Rattle.std.specs.Prelude.{◌≡◌, IfOk, None, OnOk, option_copied};
 ghost use Rattle.fact_values.specs.declared.slot.Slot.{Slot};
 ghost use Rattle.three_state.specs.declared.res.Res.TheVariants.{Incomplete};
 
+use crate::slots::slot_result;
+use crate::table_context::TableContext;
+use answers::Answers;
+use dictionary::Dictionary;
 use fact_values::{NoMemory, Slot};
+use full_evaluation::ResultTable;
 use std::alloc::Global;
 use std::collections::HashMap;
+use std::sync::ledger::Ledger;
+use steps::Steps;
 use three_state::Res;
 
 /// The result of each slot that was computed, by its fact and its member.
@@ -19,7 +26,8 @@ pub struct Table {
 
 impl Table {
     ghost use Rattle.evaluation.specs.Results.{result_at};
-    ghost use Rattle.plain_table.specs.Table.{results_of, with_cell};
+    ghost use Rattle.full_evaluation.specs.Filling.{with_result};
+    ghost use Rattle.plain_table.specs.Table.{results_of};
 
     /// No slot was computed. There is room for so many.
     pub fn with_room(alloc: Global, count: usize) -> Result<Table, NoMemory>
@@ -53,11 +61,40 @@ impl Table {
 
     /// Keeps the result of a slot.
     pub fn put(&mut self, slot: Slot, res: Res) -> Result<(), NoMemory>
-        ensures { OnOk result ((s : Slot) → results_of self.new s ≡ with_cell (results_of self.old) slot res s) }
+        ensures { OnOk result ((s : Slot) → results_of self.new s ≡ with_result (results_of self.old) slot res s) }
     {
         match self.cells.insert((slot.fact, slot.member), res) {
             Ok(_) => Ok(()),
             Err(_) => Err(NoMemory),
         }
+    }
+}
+
+impl ResultTable for Table {
+    ghost use Rattle.plain_table.specs.Table.{results_of};
+
+    ghost results = { results_of };
+
+    ghost is_ready = { λ t d. Unit {0} };
+
+    fn put_slot<L: Ledger>(
+        &mut self,
+        alloc: Global,
+        dict: &Dictionary,
+        answers: &Answers,
+        slot: Slot,
+        steps: &mut Steps<L>,
+    ) -> Result<(), NoMemory> {
+        let source = dict.source();
+        let Some(fact) = source.fact(slot.fact) else {
+            return Ok(());
+        };
+        let context = TableContext {
+            source,
+            fact: slot.fact,
+            table: self,
+        };
+        let res = slot_result(alloc, &context, answers, slot.member, fact, steps)?;
+        self.put(slot, res)
     }
 }

@@ -1,5 +1,6 @@
 // All slots, fact by fact in the order of the ranks.
-ghost use Rattle.std.specs.Prelude.{◌≡◌, ◌+◌, ◌≤◌, ℕ, IfOk, IsTrue, OnOk, sum_by};
+ghost use Rattle.std.specs.Prelude.{◌≡◌, ◌+◌, ◌≤◌, ℕ, IsTrue, None, OnOk, sum_by};
+ghost use Rattle.fact_values.specs.declared.slot.Slot.{Slot as OneSlot};
 ghost use Rattle.answers.specs.Meaning.{answered};
 ghost use Rattle.answers.specs.WellFormed.{FromOne, WellFormed};
 ghost use Rattle.dict_source.specs.Finding.{IsNumber};
@@ -8,15 +9,12 @@ ghost use Rattle.dictionary.specs.Kept.{accepted};
 ghost use Rattle.dict_meaning.specs.Homes.{home};
 ghost use Rattle.dict_meaning.specs.Plain.{IsPlainBelow, rank};
 ghost use Rattle.evaluation.specs.Results.{slot};
-ghost use Rattle.dict_meaning.specs.Slots.{members_of_home, slot_same, slots_of, stands};
+ghost use Rattle.dict_meaning.specs.Slots.{members_of_home, slots_of, stands};
 ghost use Rattle.dict_meaning.specs.Weights.{slot_weight, whole_weight};
 ghost use Rattle.visit_counts.specs.SlotVisits.{slot_visits, whole_visits};
-ghost use Rattle.plain_table.specs.Filling.{HasAll, IsFilled, is_at};
-ghost use Rattle.plain_table.specs.Table.{results_of};
+ghost use Rattle.full_evaluation.specs.Filling.{HasAll, IsFilled, is_at};
 
-use crate::slots::slot_result;
-use crate::table::Table;
-use crate::table_context::TableContext;
+use crate::result_table::ResultTable;
 use answers::Answers;
 use dictionary::{Dictionary, members_of_home};
 use fact_values::{NoMemory, Slot};
@@ -24,56 +22,26 @@ use std::alloc::Global;
 use std::sync::ledger::Ledger;
 use steps::Steps;
 
-// Puts the result of a slot that stands.
-fn put_slot<L: Ledger>(
-    alloc: Global,
-    dict: &Dictionary,
-    answers: &Answers,
-    slot: Slot,
-    table: &mut Table,
-    steps: &mut Steps<L>,
-) -> Result<(), NoMemory>
-    requires well { WellFormed (answered answers.now) }
-    requires from_one { FromOne (answered answers.now) }
-    requires stands { IsTrue (stands (accepted dict.now).tree (answered answers.now) slot) }
-    requires below { IsPlainBelow (accepted dict.now) (answered answers.now) (rank (accepted dict.now) slot.fact)
-        (results_of table.old) }
-    ensures filled { OnOk result (IsFilled (accepted dict.now) (answered answers.now) (results_of table.old)
-        (λ t. slot_same t slot) (results_of table.new)) }
-    ensures visits { OnOk result (steps.new ≡ steps.old + slot_visits (accepted dict.now) (answered answers.now) slot) }
-    ensures most { steps.new ≤ steps.old + slot_weight (accepted dict.now) (answered answers.now) slot }
-{
-    let source = dict.source();
-    let Some(fact) = source.fact(slot.fact) else {
-        return Ok(());
-    };
-    let context = TableContext {
-        source,
-        fact: slot.fact,
-        table,
-    };
-    let res = slot_result(alloc, &context, answers, slot.member, fact, steps)?;
-    table.put(slot, res)
-}
-
 // Puts the results of a fact's slots at these members.
-fn put_members<L: Ledger>(
+fn put_members<T: ResultTable, L: Ledger>(
     alloc: Global,
     dict: &Dictionary,
     answers: &Answers,
     fact: u32,
     members: &[u32],
-    table: &mut Table,
+    table: &mut T,
     steps: &mut Steps<L>,
 ) -> Result<(), NoMemory>
+    requires ready { T.is_ready table.old (accepted dict.now) }
     requires well { WellFormed (answered answers.now) }
     requires from_one { FromOne (answered answers.now) }
     requires stand { (m : ℕ) → IsIn members.now m → IsTrue (stands (accepted dict.now).tree (answered answers.now)
         (slot fact m)) }
     requires below { IsPlainBelow (accepted dict.now) (answered answers.now) (rank (accepted dict.now) fact)
-        (results_of table.old) }
-    ensures filled { OnOk result (IsFilled (accepted dict.now) (answered answers.now) (results_of table.old)
-        (is_at fact members.now) (results_of table.new)) }
+        (T.results table.old) }
+    ensures ready { OnOk result (T.is_ready table.new (accepted dict.now)) }
+    ensures filled { OnOk result (IsFilled (accepted dict.now) (answered answers.now) (T.results table.old)
+        (is_at fact members.now) (T.results table.new)) }
     ensures visits { OnOk result (steps.new ≡ steps.old + sum_by
         (λ m. slot_visits (accepted dict.now) (answered answers.now) (slot fact m)) members.now) }
     ensures most { steps.new ≤ steps.old + sum_by (λ m. slot_weight (accepted dict.now) (answered answers.now)
@@ -84,28 +52,30 @@ fn put_members<L: Ledger>(
             fact,
             member: *member,
         };
-        put_slot(alloc, dict, answers, slot, table, steps)?;
+        table.put_slot(alloc, dict, answers, slot, steps)?;
     }
     Ok(())
 }
 
 // Puts the results of a fact's slots.
-fn put_fact<L: Ledger>(
+fn put_fact<T: ResultTable, L: Ledger>(
     alloc: Global,
     dict: &Dictionary,
     answers: &Answers,
     fact: u32,
-    table: &mut Table,
+    table: &mut T,
     steps: &mut Steps<L>,
 ) -> Result<(), NoMemory>
+    requires ready { T.is_ready table.old (accepted dict.now) }
     requires well { WellFormed (answered answers.now) }
     requires from_one { FromOne (answered answers.now) }
     requires number { IsNumber (accepted dict.now).tree.facts fact }
     requires below { IsPlainBelow (accepted dict.now) (answered answers.now) (rank (accepted dict.now) fact)
-        (results_of table.old) }
-    ensures filled { OnOk result (IsFilled (accepted dict.now) (answered answers.now) (results_of table.old)
+        (T.results table.old) }
+    ensures ready { OnOk result (T.is_ready table.new (accepted dict.now)) }
+    ensures filled { OnOk result (IsFilled (accepted dict.now) (answered answers.now) (T.results table.old)
         (is_at fact (members_of_home (answered answers.now) (home (accepted dict.now).tree fact)))
-        (results_of table.new)) }
+        (T.results table.new)) }
     ensures visits { OnOk result (steps.new ≡ steps.old + sum_by
         (slot_visits (accepted dict.now) (answered answers.now))
         (slots_of (accepted dict.now).tree (answered answers.now) fact)) }
@@ -117,22 +87,26 @@ fn put_fact<L: Ledger>(
     put_members(alloc, dict, answers, fact, members, table, steps)
 }
 
-/// The results of all slots that stand.
-pub fn whole_table<L: Ledger>(
+/// Fills an empty table with the results of all slots that stand. A visit of a node is a step.
+pub fn fill<T: ResultTable, L: Ledger>(
     alloc: Global,
     dict: &Dictionary,
     answers: &Answers,
+    table: &mut T,
     steps: &mut Steps<L>,
-) -> Result<Table, NoMemory>
+) -> Result<(), NoMemory>
+    requires ready { T.is_ready table.old (accepted dict.now) }
     requires well { WellFormed (answered answers.now) }
     requires from_one { FromOne (answered answers.now) }
-    ensures all { IfOk result (λ t. HasAll (accepted dict.now) (answered answers.now) (results_of t)) }
+    requires empty { (s : OneSlot) → T.results table.old s ≡ None }
+    ensures ready { OnOk result (T.is_ready table.new (accepted dict.now)) }
+    ensures all { OnOk result (HasAll (accepted dict.now) (answered answers.now) (T.results table.new)) }
     ensures visits { OnOk result (steps.new ≡ steps.old + whole_visits (accepted dict.now) (answered answers.now)) }
     ensures most { steps.new ≤ steps.old + whole_weight (accepted dict.now) (answered answers.now) }
 {
-    let mut table = Table::with_room(alloc, dict.source().facts().len())?;
+    let _source = dict.source();
     for fact in dict.by_rank() {
-        put_fact(alloc, dict, answers, *fact, &mut table, steps)?;
+        put_fact(alloc, dict, answers, *fact, table, steps)?;
     }
-    Ok(table)
+    Ok(())
 }

@@ -11,14 +11,15 @@ use Rattle.visit_counts.specs.SlotVisits.{slot_visits, visits_over}
 use Rattle.visit_counts.proofs.SlotVisitLaws.{visits_over_lower}
 use Rattle.source_eval.specs.Context.{Context}
 use Rattle.plain_table.specs.Table.{results_of}
-use Rattle.plain_table.proofs.FillingLaws.{put_is_filled, result_is_plain}
+use Rattle.full_evaluation.proofs.FillingLaws.{put_is_filled}
+use Rattle.plain_table.proofs.FillingLaws.{result_is_plain}
 use Rattle.plain_table.proofs.WorkLaws.{slot_weighs}
-use Rattle.plain_table.proofs.whole.put_slot.Goals as goal
+use Rattle.plain_table.proofs.table.TableResultTable.put_slot.Goals as goal
 
 pub returns-in_err-res-clause-most : goal.returns-in_err-res-clause-most
 returns-in_err-res-clause-most g c =
     let d = accepted c.args.dict.now in
-    let meaning : Context = record { tree = dictionary_view c.source-source.result.now; results = results_of c.args.table.now; fact = c.args.slot.fact } in
+    let meaning : Context = record { tree = dictionary_view c.source-source.result.now; results = results_of c.args.self.now; fact = c.args.slot.fact } in
     let here = sym (c.in-Some.ensures ∙ ap (λ (w : Written). fact_at (dictionary_view w).facts c.args.slot.fact) c.source-source.ensures.value) in
     subst (λ (n : ℕ). c.slot_result.new.steps ≤ c.args.steps.now + n)
     (slot_weighs (names_of c.args.dict.now.checks) d c.source-source.ensures.is_accepted (answered c.args.answers.now) meaning c.args.slot.member (fact_view c.in-Some.fact.now) (ap dictionary_view c.source-source.ensures.value) here c.requires.below)
@@ -28,7 +29,7 @@ pub returns-clause-filled : goal.returns-clause-filled
 returns-clause-filled g c =
     let d = accepted c.args.dict.now in
     let a = answered c.args.answers.now in
-    let results = results_of c.args.table.now in
+    let results = results_of c.args.self.now in
     let fact = fact_view c.in-Some.fact.now in
     let here = sym (c.in-Some.ensures ∙ ap (λ (w : Written). fact_at (dictionary_view w).facts c.args.slot.fact) c.source-source.ensures.value) in
     let plain =
@@ -39,7 +40,7 @@ returns-clause-filled g c =
 pub returns-clause-most : goal.returns-clause-most
 returns-clause-most g c =
     let d = accepted c.args.dict.now in
-    let meaning : Context = record { tree = dictionary_view c.source-source.result.now; results = results_of c.args.table.now; fact = c.args.slot.fact } in
+    let meaning : Context = record { tree = dictionary_view c.source-source.result.now; results = results_of c.args.self.now; fact = c.args.slot.fact } in
     let here = sym (c.in-Some.ensures ∙ ap (λ (w : Written). fact_at (dictionary_view w).facts c.args.slot.fact) c.source-source.ensures.value) in
     subst (λ (n : ℕ). c.slot_result.new.steps ≤ c.args.steps.now + n)
     (slot_weighs (names_of c.args.dict.now.checks) d c.source-source.ensures.is_accepted (answered c.args.answers.now) meaning c.args.slot.member (fact_view c.in-Some.fact.now) (ap dictionary_view c.source-source.ensures.value) here c.requires.below)
@@ -49,7 +50,7 @@ pub returns-clause-visits : goal.returns-clause-visits
 returns-clause-visits g c =
     let d = accepted c.args.dict.now in
     let a = answered c.args.answers.now in
-    let results = results_of c.args.table.now in
+    let results = results_of c.args.self.now in
     let fact = fact_view c.in-Some.fact.now in
     let here = sym (c.in-Some.ensures ∙ ap (λ (w : Written). fact_at (dictionary_view w).facts c.args.slot.fact) c.source-source.ensures.value) in
     let visited : c.slot_result.new.steps ≡ c.args.steps.now + slot_visits d a c.args.slot =

@@ -5,16 +5,15 @@ use Rattle.dictionary.specs.Kept.{accepted}
 use Rattle.evaluation.specs.Results.{slot}
 use Rattle.dict_meaning.specs.Slots.{members_of_home}
 use Rattle.visit_counts.specs.SlotVisits.{slot_visits}
-use Rattle.plain_table.specs.Filling.{IsFilled, is_at}
-use Rattle.plain_table.specs.Table.{results_of}
-use Rattle.plain_table.proofs.WorkLaws.{sum_mapped}
-use Rattle.plain_table.proofs.whole.put_fact.Goals as goal
+use Rattle.full_evaluation.specs.Filling.{IsFilled, is_at}
+use Rattle.full_evaluation.proofs.WorkLaws.{sum_mapped}
+use Rattle.full_evaluation.proofs.filling.put_fact.Goals as goal
 
 pub returns-clause-filled : goal.returns-clause-filled
 returns-clause-filled g c =
     let d = accepted c.args.dict.now in
     let a = answered c.args.answers.now in
-    subst (λ (ms : List ℕ). OnOk c.put_members.result (IsFilled d a (results_of c.args.table.now) (is_at c.args.fact ms) (results_of c.put_members.new.table)))
+    subst (λ (ms : List ℕ). OnOk c.put_members.result (IsFilled d a (g.T.ResultTable.results c.args.table.now) (is_at c.args.fact ms) (g.T.ResultTable.results c.put_members.new.table)))
     (c.members_of_home-members.ensures ∙ ap (members_of_home a) c.home-home.ensures)
     c.put_members.ensures.filled
 

@@ -4,13 +4,13 @@ use Rattle.dictionary.specs.Kept.{accepted}
 use Rattle.dict_meaning.specs.Slots.{slots_of}
 use Rattle.dict_meaning.specs.Weights.{slot_weight, whole_weight}
 use Rattle.visit_counts.specs.SlotVisits.{slot_visits, whole_visits}
-use Rattle.plain_table.specs.Filling.{HasFacts}
-use Rattle.plain_table.specs.Table.{results_of}
-use Rattle.plain_table.proofs.whole.whole_table.Given as goal
+use Rattle.full_evaluation.specs.Filling.{HasFacts}
+use Rattle.full_evaluation.proofs.filling.fill.Given as goal
 
 abbrev pub invariant-loop-fact : goal.invariant-loop-fact
 invariant-loop-fact g l = record {
-  done : HasFacts (accepted l.dict) (answered l.answers) (take l.fact-index l.fact-items) (results_of l.table);
+  ready : g.T.ResultTable.is_ready l.table (accepted l.dict);
+  done : HasFacts (accepted l.dict) (answered l.answers) (take l.fact-index l.fact-items) (g.T.ResultTable.results l.table);
   visits : l.steps + sum_by (λ n. sum_by (slot_visits (accepted l.dict) (answered l.answers)) (slots_of (accepted l.dict).tree (answered l.answers) n)) (drop l.fact-index l.fact-items) ≡ l.fn.steps + whole_visits (accepted l.dict) (answered l.answers);
   most : l.steps + sum_by (λ n. sum_by (slot_weight (accepted l.dict) (answered l.answers)) (slots_of (accepted l.dict).tree (answered l.answers) n)) (drop l.fact-index l.fact-items) ≤ l.fn.steps + whole_weight (accepted l.dict) (answered l.answers);
 }

@@ -1,11 +1,12 @@
--- How the table is filled: slot by slot, and fact by fact.
-use Rattle.std.specs.Prelude.{◌≡◌, ℕ, ◌&&◌, Bool, nat_eq, if◌then◌else◌, List, None}
+-- How a table of results is filled: slot by slot, and fact by fact.
+use Rattle.std.specs.Prelude.{◌≡◌, ℕ, ◌&&◌, Bool, nat_eq, if◌then◌else◌, List, Some, None}
 use Rattle.std.specs.List.{list_any}
 use Rattle.fact_values.specs.declared.slot.Slot.{Slot}
+use Rattle.three_state.specs.declared.res.Res.{Res}
 use Rattle.answers.specs.Answered.{Answered}
 use Rattle.dict_meaning.specs.Accepted.{Accepted}
-use Rattle.dictionary.specs.Engines.{Marks}
 use Rattle.dict_meaning.specs.Plain.{plain}
+use Rattle.dict_meaning.specs.Slots.{slot_same}
 use Rattle.evaluation.specs.Results.{Results}
 
 -- the same results, but plain evaluation of the slots that pass a test
@@ -31,6 +32,6 @@ HasFacts d a facts results = IsFilled d a (λ s. None) (is_of facts) results
 abbrev pub HasAll : Accepted → Answered → Results → Type 0
 HasAll d a results = (s : Slot) → results s ≡ plain d a s
 
--- changes aren't counted
-abbrev pub no_marks : Marks
-no_marks = record { changes = 0; stamps = λ s. 0; touched = 0 }
+-- the same results, but for this slot
+abbrev pub with_result : Results → Slot → Res → Results
+with_result results t r s = if slot_same t s then Some r else results s

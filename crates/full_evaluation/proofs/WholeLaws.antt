@@ -23,7 +23,7 @@ use Rattle.dictionary.proofs.ByRankLaws.{place_of_fact}
 use Rattle.dict_meaning.proofs.NumberLaws.{fact_within}
 use Rattle.dict_meaning.proofs.PlainLaws.{no_result}
 use Rattle.dict_meaning.proofs.SlotLaws.{fact_of_standing}
-use Rattle.plain_table.specs.Filling.{HasAll, HasFacts, IsFilled, is_at}
+use Rattle.full_evaluation.specs.Filling.{HasAll, HasFacts, IsFilled, is_at}
 
 -- ---- which slots stand
 

@@ -1,0 +1,3 @@
+pub mod FillingLaws
+pub mod WholeLaws
+pub mod WorkLaws
