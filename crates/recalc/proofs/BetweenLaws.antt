@@ -27,7 +27,7 @@ use Rattle.dict_meaning.proofs.SlotLaws.{listed_stand}
 use Rattle.dict_meaning.proofs.UndoneLaws.{extended_tells, first_tells}
 use Rattle.dict_meaning.proofs.UntouchedLaws.{untouched_keeps}
 use Rattle.recalc.specs.Spread.{is_in, is_touched}
-use Rattle.recalc.specs.BetweenAnswers.{AllIsDone, AreBetween, between, ChangesSpread, EditMarks, from_nothing, results_before, SpreadTouches, StartPasses, TouchedWeigh, UndonePasses}
+use Rattle.recalc.specs.BetweenAnswers.{AllIsDone, AreBetween, between, ChangesSpread, EditMarks, results_before, SpreadTouches, TouchedWeigh, UndonePasses}
 use Rattle.recalc.specs.Laws.{touched_of}
 use Rattle.recalc.specs.Transitions.{IsTransition, is_shielded, moves}
 use Rattle.recalc.proofs.MarkingLaws.{done_are_touched, start_marks}
@@ -141,33 +141,6 @@ undone_passes_from names d accepted undo now u = record {
 pub undone_passes : UndonePasses
 undone_passes names d accepted undo now u old h =
     subst (λ results. IsTransition d now (is_extended undo now) results (between d (applied undo now) now)) (sym (everywhere h)) (undone_passes_from names d accepted undo now u)
-
-start_passes_from : (names : List (List ℕ)) (d : Accepted) → IsAccepted names d → (b : Answered) → AnswersFit d.tree b → IsTransition d b false (λ s. None) (from_nothing d b)
-start_passes_from names d accepted b fit = record {
-  spreads = record {
-    listed = listed_stand d.tree b;
-    rising = λ t s i. feeds_fall names d accepted t s i;
-    keeps = λ s there h. refl;
-  };
-  once = standing_once d b fit;
-  there = λ s. refl;
-  ranks = λ s. refl;
-  fed = λ t s there. sym (and_true (feeds d.tree t s));
-  moved = λ s. refl;
-  keeps = λ s there h. absurd (cc);
-  others = λ s off. refl;
-}
-
-pub start_passes : StartPasses
-start_passes names d accepted b fit old h = subst (λ results. IsTransition d b false results (from_nothing d b)) (sym (everywhere h)) (start_passes_from names d accepted b fit)
-
--- it touches all slots
-all_touched : (d : Accepted) (b : Answered) (ss : List Slot) → filter (is_touched (from_nothing d b)) ss ≡ ss
-all_touched d b [] = refl
-all_touched d b (s ∷ ss) = ap (λ (ts : List Slot). s ∷ ts) (all_touched d b ss)
-
-pub start_touches_all : (d : Accepted) (b : Answered) → touched_of (from_nothing d b) ≡ standing d.tree b
-start_touches_all d b = all_touched d b (standing d.tree b)
 
 -- ---- the end
 

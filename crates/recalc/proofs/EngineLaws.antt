@@ -22,18 +22,17 @@ use Rattle.dict_meaning.specs.Undone.{came, is_touched_first, IsUndone, went}
 use Rattle.dict_meaning.specs.Weights.{slot_weight, touched_weight}
 use Rattle.dict_meaning.proofs.PlainLaws.{standing_have_results}
 use Rattle.dict_meaning.proofs.UndoneLaws.{came_tells, went_tells}
-use Rattle.visit_counts.specs.SlotVisits.{slot_visits, touched_visits, whole_visits}
-use Rattle.recalc.specs.BetweenAnswers.{between, from_nothing, results_before}
+use Rattle.visit_counts.specs.SlotVisits.{slot_visits, touched_visits}
+use Rattle.recalc.specs.BetweenAnswers.{between, results_before}
 use Rattle.recalc.specs.Marking.{IsMarked}
 use Rattle.recalc.specs.Replacing.{entries, slots_of}
 use Rattle.recalc.specs.Running.{AreCells, AreRanked, AreWaiting, propagation_visits, propagation_weight, HasRun, IsPropagation, IsRunning, is_that, live_results, Setting, slots_done, stamped_cell, waits_in}
 use Rattle.recalc.specs.Spread.{is_in, Spread}
-use Rattle.recalc.specs.EngineInvariant.{results_of, setting_from, stamp_in, start_setting, without_gone}
+use Rattle.recalc.specs.EngineInvariant.{results_of, setting_from, stamp_in, without_gone}
 use Rattle.dirty_slots.specs.Waiting.{Queue}
 use Rattle.recalc.specs.declared.engine_state.EngineState.{EngineState}
 use Rattle.recalc.specs.declared.log.Replaced.{Replaced}
-use Rattle.recalc.proofs.BetweenLaws.{all_is_done, are_between, edit_marks, start_passes, start_touches_all, touched_weigh, undone_passes}
-use Rattle.recalc.proofs.MarkingLaws.{start_marks}
+use Rattle.recalc.proofs.BetweenLaws.{all_is_done, are_between, edit_marks, touched_weigh, undone_passes}
 use Rattle.dict_meaning.proofs.PlainLaws.{no_result}
 use Rattle.recalc.proofs.SeedingLaws.{standing_in}
 
@@ -46,9 +45,6 @@ no_results : (o : Option Cell) → option_map (λ (c : Cell). c.res) o ≡ None 
 no_results None h = refl
 no_results (Some c) h = absurd (cc)
 
-nowhere : (s : Slot) → results_of no_cells s ≡ None
-nowhere s = ap (option_map (λ (c : Cell). c.res)) (finite.get-empty {X = Cell} slot_cmp s)
-
 -- ---- where nothing is done yet
 
 begins : (k : Setting) (c : Spread) (state : EngineState) → entries state.log ≡ [] → IsMarked c [] (waits_in k.dict state.queue) → AreRanked k.dict state.queue
@@ -58,40 +54,6 @@ begins k c state none marked ranked = record {
   ranked = ranked;
   kept = subst (λ (log : List Replaced). AreCells k.dict k.now k.stamp state.store.cells (slots_of log) state.store.cells) (sym none) (λ s. refl);
 }
-
--- ---- the start
-
-module _ (names : List (List ℕ)) (d : Accepted) (accepted : IsAccepted names d) (b : Answered) (fit : AnswersFit d.tree b) (old : EngineState) (empty : old.store.cells ≡ no_cells) where
-  pub start_propagation : IsPropagation (start_setting d b) (from_nothing d b) old.store.cells
-  start_propagation = record {
-    names = names;
-    accepted = accepted;
-    transition = start_passes names d accepted b fit (live_results None old.store.cells) (λ s. ap (λ m. results_of m s) empty ∙ nowhere s);
-    stay = λ s there. refl;
-  }
-
-  pub start_running : entries old.log ≡ [] → (queue : Queue) → AreWaiting d queue (λ s. stands d.tree b s)
-      → IsRunning (start_setting d b) (from_nothing d b) old.store.cells (record old { queue = queue })
-  start_running none queue w =
-      begins (start_setting d b) (from_nothing d b) (record old { queue = queue }) none
-      (start_marks (from_nothing d b) (waits_in d queue) (λ s. w.slots s ∙ sym (and_true (stands d.tree b s)))) w.ranked
-
--- each slot that stands is evaluated once
-pub start_visits : (d : Accepted) (b : Answered) → propagation_visits (start_setting d b) (from_nothing d b) ≡ whole_visits d b
-start_visits d b = ap (sum_by (slot_visits d b)) (start_touches_all d b)
-
--- where no slot is done that isn't there, all stamps are those of the start
-pub start_stamps : (d : Accepted) (b : Answered) (first : Cells) → first ≡ no_cells → (state : EngineState)
-    → HasRun (start_setting d b) (from_nothing d b) first state → (s : Slot) → stamp_in state.store.cells s ≡ 0
-start_stamps d b first empty state run s = ap stamp_of (run.running.kept s) ∙ at (is_in (slots_done state) s)
-  where
-    put : (o : Option Res) → stamp_of (option_map (stamped_cell 0) o) ≡ 0
-    put None = refl
-    put (Some r) = refl
-
-    at : (x : Bool) → stamp_of (if x then option_map (stamped_cell 0) (plain d b s) else finite.get first s) ≡ 0
-    at true = put (plain d b s)
-    at false = ap (λ m. stamp_of (finite.get m s)) empty ∙ ap stamp_of (finite.get-empty {X = Cell} slot_cmp s)
 
 -- ---- a change
 

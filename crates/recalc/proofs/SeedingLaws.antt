@@ -36,7 +36,7 @@ use Rattle.dict_meaning.proofs.SetLaws.{set_is}
 use Rattle.dict_meaning.proofs.SlotLaws.{fact_of_standing, slot_same-equal, slot_same-itself, stands_where}
 use Rattle.recalc.specs.Readers.{dirty_of}
 use Rattle.recalc.specs.Running.{AreWaiting}
-use Rattle.recalc.specs.Seeding.{came_by, field_at, is_anywhere, is_at, is_came, is_field, is_own, is_slot}
+use Rattle.recalc.specs.Seeding.{came_by, field_at, is_at, is_came, is_field, is_own, is_slot}
 use Rattle.dirty_slots.specs.Waiting.{dirty_same, Queue, waits}
 use Rattle.recalc.specs.declared.undone.Came.{Came}
 use Rattle.dirty_slots.specs.declared.dirty_slot.DirtySlot.{DirtySlot}
@@ -148,22 +148,6 @@ at_rank d q (m ∷ ms) f h = either (dirty_same q (record { rank = rank d f; fac
 pub any_rank : (d : Accepted) (ms : ℕ → List ℕ) (q : DirtySlot) (order : List ℕ) → IsTrue (list_any (λ f. is_at d q (ms f) f) order) → q.rank ≡ rank d q.fact
 any_rank d ms q [] h = absurd (cc)
 any_rank d ms q (f ∷ order) h = either (is_at d q (ms f) f) (list_any (λ g. is_at d q (ms g) g) order) h (at_rank d q (ms f) f) (any_rank d ms q order)
-
--- ---- all slots
-
-pub all_wait : (names : List (List ℕ)) (d : Accepted) → IsAccepted names d → (order : List ℕ) → AreByRank d.ranks order → (a : Answered) (queue : Queue)
-    → ((q : DirtySlot) → waits queue q ≡ is_anywhere d a order q) → AreWaiting d queue (λ s. stands d.tree a s)
-all_wait names d accepted order by_rank a queue h = record {
-  slots = λ s. h (dirty_of d s)
-      ∙ any_slot d (λ f. members_of_home a (home d.tree f)) s order
-      ∙ ap (λ b. list_any (nat_eq s.fact) order && b) (home_has a (home d.tree s.fact) s.member (nat_eq (home d.tree s.fact) 0))
-      ∙ same_test (list_any (nat_eq s.fact) order && stands_at a (home d.tree s.fact) s.member) (stands d.tree a s)
-      (λ i. stands_in_order names d accepted order by_rank a s (both_left (list_any (nat_eq s.fact) order) (stands_at a (home d.tree s.fact) s.member) i)
-      ∙ both_right (list_any (nat_eq s.fact) order) (stands_at a (home d.tree s.fact) s.member) i)
-      (λ there. let i = standing_in names d accepted order by_rank a s there in
-      and_intro (list_any (nat_eq s.fact) order) (stands_at a (home d.tree s.fact) s.member) i (sym (stands_in_order names d accepted order by_rank a s i) ∙ there));
-  ranked = λ q on. any_rank d (λ f. members_of_home a (home d.tree f)) q order (sym (h q) ∙ on);
-}
 
 -- ---- the slot that differs
 

@@ -14,13 +14,14 @@ use Rattle.cell_store.proofs.SlotLaws.{get_put_at}
 use Rattle.dict_meaning.specs.Accepted.{Accepted, IsAccepted}
 use Rattle.dict_meaning.specs.Homes.{home}
 use Rattle.dict_meaning.specs.Plain.{plain}
-use Rattle.dict_meaning.specs.Slots.{is_member, stands, stands_at}
+use Rattle.dict_meaning.specs.Slots.{is_member, slot_same, stands, stands_at}
 use Rattle.dict_meaning.proofs.PlainLaws.{no_result}
 use Rattle.dict_meaning.proofs.SlotLaws.{slot_same-equal}
 use Rattle.dictionary.specs.ByRank.{AreByRank}
+use Rattle.full_evaluation.specs.Filling.{IsFilled}
 use Rattle.recalc.specs.EngineInvariant.{results_of, stamp_in}
 use Rattle.recalc.specs.Running.{stamped_cell}
-use Rattle.recalc.specs.Sharing.{AreAtStart, AreCellsOf, global, new_or, read_cells, with_copies, with_result}
+use Rattle.recalc.specs.Sharing.{AreAtStart, AreCellsOf, global, new_or, read_cells, with_copies, with_result_of}
 use Rattle.recalc.specs.declared.dependency_graph.DependencyGraph.{DependencyGraph}
 use Rattle.recalc.specs.declared.engine_cells.EngineCells.{EngineCells}
 use Rattle.recalc.specs.declared.engine_cells.EngineCells.TheVariants.{Own, Shared}
@@ -46,7 +47,7 @@ one_copied true false false r v o h = refl
 one_copied false true z r v o h = refl
 one_copied false false z r v o h = refl
 
-pub copy_one : (from cells left : Cells) (f : ℕ) (facts : List ℕ) → left ≡ with_result cells (global f) (results_of from (global f)) → (s : Slot)
+pub copy_one : (from cells left : Cells) (f : ℕ) (facts : List ℕ) → left ≡ with_result_of cells (global f) (results_of from (global f)) → (s : Slot)
     → with_copies from facts left s ≡ with_copies from (f ∷ facts) cells s
 copy_one from cells left f facts e s = at (results_of from (global f)) refl
   where
@@ -55,10 +56,10 @@ copy_one from cells left f facts e s = at (results_of from (global f)) refl
 
     at : (o : Option Res) → results_of from (global f) ≡ o → with_copies from facts left s ≡ with_copies from (f ∷ facts) cells s
     at None is =
-        ap (λ (m : Cells). with_copies from facts m s) (e ∙ ap (with_result cells (global f)) is)
+        ap (λ (m : Cells). with_copies from facts m s) (e ∙ ap (with_result_of cells (global f)) is)
         ∙ none_copied (nat_eq s.member 0) (nat_eq s.fact f) (list_any (nat_eq s.fact) facts) (results_of from s) (finite.get cells s) (is_there None is)
     at (Some v) is =
-        ap (λ (m : Cells). with_copies from facts m s) (e ∙ ap (with_result cells (global f)) is)
+        ap (λ (m : Cells). with_copies from facts m s) (e ∙ ap (with_result_of cells (global f)) is)
         ∙ ap (λ (o : Option Cell). if nat_eq s.member 0 && list_any (nat_eq s.fact) facts then new_or (results_of from s) o else o) (get_put_at cells (global f) (Some (stamped_cell 0 v)) s)
         ∙ one_copied (nat_eq s.member 0) (nat_eq s.fact f) (list_any (nat_eq s.fact) facts) (results_of from s) v (finite.get cells s) (is_there (Some v) is)
 
@@ -124,3 +125,39 @@ module _ (names : List (List ℕ)) (d : Accepted) (accepted : IsAccepted names d
 pub read_results : (cells : EngineCells) (g : DependencyGraph) (d : Accepted) (a : Answered) → AreCellsOf cells g d a → (s : Slot) → results_of (read_cells cells) s ≡ plain d a s
 read_results (Shared at_start) g d a are s = are.at_start.results s ∙ ap (λ b. plain d b s) (sym are.unanswered)
 read_results (Own own) g d a are s = are.engine.results s
+
+-- ---- before a first result is put
+
+module _ (cells : Cells) (empty : cells ≡ no_cells) where
+  nowhere : (s : Slot) → finite.get cells s ≡ None
+  nowhere s = ap (λ (m : Cells). finite.get m s) empty ∙ finite.get-empty {X = Cell} slot_cmp s
+
+  pub empty_have_no_result : (s : Slot) → results_of cells s ≡ None
+  empty_have_no_result s = ap (option_map (λ (c : Cell). c.res)) (nowhere s)
+
+  pub empty_have_no_stamp : (s : Slot) → stamp_in cells s ≡ 0
+  empty_have_no_stamp s = ap (λ (o : Option Cell). unwrap_or (option_map (λ (c : Cell). c.stamp) o) 0) (nowhere s)
+
+-- ---- a first result is put
+
+module _ (cells left : Cells) (s : Slot) (r : Res) (put : left ≡ finite.insert cells s (stamped_cell 0 r)) where
+  at_slot : (t : Slot) → finite.get left t ≡ cond (slot_same t s) (Some (stamped_cell 0 r)) (finite.get cells t)
+  at_slot t = ap (λ (m : Cells). finite.get m t) put ∙ get_put_at cells s (Some (stamped_cell 0 r)) t
+
+  pub first_is_filled : (d : Accepted) (a : Answered) → Some r ≡ plain d a s → IsFilled d a (results_of cells) (λ t. slot_same t s) (results_of left)
+  first_is_filled d a is t = ap (option_map (λ (c : Cell). c.res)) (at_slot t) ∙ at (slot_same t s) refl
+    where
+      at : (b : Bool) → slot_same t s ≡ b
+          → option_map (λ (c : Cell). c.res) (cond b (Some (stamped_cell 0 r)) (finite.get cells t)) ≡ (if b then plain d a t else results_of cells t)
+      at true same = is ∙ ap (plain d a) (sym (slot_same-equal t s same))
+      at false same = refl
+
+  pub first_has_no_stamp : ((t : Slot) → stamp_in cells t ≡ 0) → (t : Slot) → stamp_in left t ≡ 0
+  first_has_no_stamp none t = ap stamp_of (at_slot t) ∙ at (slot_same t s)
+    where
+      stamp_of : Option Cell → ℕ
+      stamp_of o = unwrap_or (option_map (λ (c : Cell). c.stamp) o) 0
+
+      at : (b : Bool) → stamp_of (cond b (Some (stamped_cell 0 r)) (finite.get cells t)) ≡ 0
+      at true = refl
+      at false = none t

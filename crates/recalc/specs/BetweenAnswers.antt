@@ -33,17 +33,6 @@ between d a b = record {
 abbrev pub results_before : Accepted → Answered → Answered → Results
 results_before d a b s = if stands d.tree b s then plain d a s else None
 
--- the start of answers: it touches all slots by itself
-abbrev pub from_nothing : Accepted → Answered → Spread
-from_nothing d b = record {
-  stands = stands d.tree b;
-  standing = standing d.tree b;
-  first = λ s. true;
-  feeds = feeds d.tree;
-  moved = λ s. false;
-  rank = λ s. rank d s.fact;
-}
-
 -- both fit an accepted dictionary
 pub record AreBetween (names : List (List ℕ)) (d : Accepted) (a b : Answered) : Type 0 where
   pub accepted : IsAccepted names d
@@ -68,12 +57,6 @@ abbrev pub UndonePasses : Type 0
 UndonePasses =
     (names : List (List ℕ)) (d : Accepted) → IsAccepted names d → (undo : Change) (now : Answered) → IsUndone d undo now
     → (old : Results) → ((s : Slot) → old s ≡ results_before d (applied undo now) now s) → IsTransition d now (is_extended undo now) old (between d (applied undo now) now)
-
--- and so does the start, from no results
-abbrev pub StartPasses : Type 0
-StartPasses =
-    (names : List (List ℕ)) (d : Accepted) → IsAccepted names d → (b : Answered) → AnswersFit d.tree b
-    → (old : Results) → ((s : Slot) → old s ≡ None) → IsTransition d b false old (from_nothing d b)
 
 -- it starts where those wait that the edit touches by itself
 abbrev pub EditMarks : Type 0

@@ -57,10 +57,7 @@ abbrev pub without_gone : Cells → Option ℕ → List ℕ → Slot → Option 
 without_gone cells None facts s = finite.get cells s
 without_gone cells (Some member) facts s = without_member cells member facts s
 
--- ---- the loop's setting at the start of answers, and at a change
-
-abbrev pub start_setting : Accepted → Answered → Setting
-start_setting d b = record { dict = d; now = b; extended = false; gone = None; stamp = 0 }
+-- ---- the loop's setting at a change
 
 abbrev pub setting_from : Accepted → Change → Answered → Option ℕ → ℕ → Setting
 setting_from d undo now gone stamp = record { dict = d; now = now; extended = is_extended undo now; gone = gone; stamp = stamp }

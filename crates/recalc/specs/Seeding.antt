@@ -8,7 +8,7 @@ use Rattle.answers.specs.Change.{Change, takes, removes}
 use Rattle.dict_meaning.specs.Accepted.{Accepted}
 use Rattle.dict_meaning.specs.Homes.{home}
 use Rattle.dict_meaning.specs.Plain.{rank}
-use Rattle.dict_meaning.specs.Slots.{members_of_home, slot_same}
+use Rattle.dict_meaning.specs.Slots.{slot_same}
 use Rattle.recalc.specs.Readers.{dirty_of}
 use Rattle.dirty_slots.specs.Waiting.{dirty_same}
 use Rattle.recalc.specs.declared.undone.Came.{Came}
@@ -37,10 +37,6 @@ field_at d c fact = if nat_eq (home d fact) c.list then c.member ∷ [] else []
 -- one of these facts at the member that came
 abbrev pub is_field : Accepted → Came → List ℕ → DirtySlot → Bool
 is_field d c facts q = list_any (λ f. is_at d q (field_at d.tree c f) f) facts
-
--- one of these facts, wherever it has a slot
-abbrev pub is_anywhere : Accepted → Answered → List ℕ → DirtySlot → Bool
-is_anywhere d a facts q = list_any (λ f. is_at d q (members_of_home a (home d.tree f)) f) facts
 
 -- the member that came, if one did
 abbrev pub is_came : Accepted → Option Came → List ℕ → DirtySlot → Bool

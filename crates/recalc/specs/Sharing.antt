@@ -18,11 +18,16 @@ use Rattle.recalc.specs.declared.engine_cells.EngineCells.{EngineCells}
 use Rattle.recalc.specs.declared.engine_cells.EngineCells.TheVariants.{Own, Shared}
 use Rattle.recalc.specs.declared.engine_cells.OwnCells.{OwnCells}
 use Rattle.recalc.specs.declared.recalc.Recalc.{Recalc}
+use Rattle.recalc.specs.declared.start_cells.StartCells.{StartCells}
 
--- these are the cells at no answers: their results, and no stamp
-pub record AreAtStart (d : Accepted) (cells : Cells) : Type 0 where
-  pub results : (s : Slot) → results_of cells s ≡ plain d start s
+-- these are the cells at answers before any change: their results, and no stamp
+pub record AreFirst (d : Accepted) (a : Answered) (cells : Cells) : Type 0 where
+  pub results : (s : Slot) → results_of cells s ≡ plain d a s
   pub stamps : (s : Slot) → stamp_in cells s ≡ 0
+
+-- those at no answers
+abbrev pub AreAtStart : Accepted → Cells → Type 0
+AreAtStart d cells = AreFirst d start cells
 
 -- so are those that an engine with cells of its own keeps for further ones, if it keeps any
 abbrev pub AreKept : Accepted → OwnCells → Type 0
@@ -58,12 +63,19 @@ StandsFor e d a = AreCellsOf e.cells e.graph.value d a
 abbrev pub marks_of : Recalc → Marks
 marks_of e = marks_by e.changes (read_cells e.cells) e.touched
 
+-- ---- how cells are filled
+
+-- the graph is that of the facts, and no cell has a stamp
+pub record AreReady (t : StartCells) (d : Accepted) : Type 0 where
+  pub graph : IsGraphOf d t.graph.now
+  pub stamps : (s : Slot) → stamp_in t.store.cells s ≡ 0
+
 -- ---- how cells are copied
 
 -- with this result at the slot, if there is one
-abbrev pub with_result : Cells → Slot → Option Res → Cells
-with_result cells s None = cells
-with_result cells s (Some r) = finite.insert cells s (stamped_cell 0 r)
+abbrev pub with_result_of : Cells → Slot → Option Res → Cells
+with_result_of cells s None = cells
+with_result_of cells s (Some r) = finite.insert cells s (stamped_cell 0 r)
 
 abbrev pub new_or : Option Res → Option Cell → Option Cell
 new_or None o = o

@@ -1,6 +1,5 @@
 // What a change works on: the cells, the queue of slots that wait, and the log of what was replaced.
 ghost use Rattle.std.specs.Prelude.{◌≡◌, IfOk};
-ghost use Rattle.cell_store.specs.Contents.{no_cells};
 ghost use Rattle.recalc.specs.EngineInvariant.{IsIdle};
 ghost use Rattle.recalc.specs.Replacing.{before, CanPutBack, entries};
 
@@ -21,18 +20,18 @@ pub struct EngineState {
 }
 
 impl EngineState {
-    /// No cells. Each fact of the dictionary has a place in the store, and the queue has the graph's places.
+    /// These cells, and a queue with the graph's places.
     pub fn new(
         alloc: Global,
         dict: &Dictionary,
         graph: &DependencyGraph,
+        store: Store,
     ) -> Result<EngineState, NoMemory>
-        ensures cells { IfOk result (λ state. state.store.cells ≡ no_cells) }
+        ensures cells { IfOk result (λ state. state.store ≡ store) }
         ensures idle { IfOk result (λ state. IsIdle state) }
         ensures places { IfOk result (λ state. state.queue.places ≡ graph.now.places.value) }
     {
         let facts = dict.source().facts().len();
-        let store = Store::with_facts(alloc, facts)?;
         let queue = DirtyQueue::new(alloc, facts, graph.places.clone()?)?;
         let log = Log::new(alloc);
         Ok(EngineState { store, queue, log })

@@ -1,6 +1,6 @@
 // The loop over the slots that wait, and what it leaves of a change of the answers. Each function's contract is its laws.
 ghost use Rattle.recalc.specs.BetweenAnswers.{AllIsDone, ChangesSpread, EditMarks, SpreadTouches};
-ghost use Rattle.recalc.specs.BetweenAnswers.{StandingOnce, StartPasses, TouchedWeigh, UndonePasses};
+ghost use Rattle.recalc.specs.BetweenAnswers.{StandingOnce, TouchedWeigh, UndonePasses};
 ghost use Rattle.recalc.specs.Laws.{DoneAreTouched, DoneWeighAll, DoneWeighLess, LowerSettle};
 ghost use Rattle.recalc.specs.Laws.{StartMarks, TurnMarks};
 ghost use Rattle.recalc.specs.Readers.{MarksFeed};
@@ -28,10 +28,9 @@ pub fn changes_of_answers_spread()
     ensures start { EditMarks }
 {}
 
-/// The loop can go from the results before a change to those after it, and from none.
+/// The loop can go from the results before a change to those after it.
 pub fn changes_pass()
-    ensures undone { UndonePasses }
-    ensures start { StartPasses }
+    ensures { UndonePasses }
 {}
 
 /// In the end what is done is what the change touches: so many slots, and the same sum of any measure of them.

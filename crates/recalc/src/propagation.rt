@@ -7,8 +7,8 @@ use dictionary::Dictionary;
 pub struct Propagation<'a> {
     pub dict: &'a Dictionary,
     pub answers: &'a Answers,
-    /// The edit that gives the answers before; none where there were none.
-    pub undo: Option<&'a Edit>,
+    /// The edit that gives the answers before.
+    pub undo: &'a Edit,
     /// Whether the answers extend those before.
     pub extended: bool,
     /// The member that the change took away.

@@ -14,10 +14,10 @@ ghost use Rattle.visit_counts.specs.SlotVisits.{touched_visits};
 ghost use Rattle.recalc.specs.EngineInvariant.{stamp_in};
 ghost use Rattle.recalc.specs.Sharing.{StandsFor, marks_of, read_cells};
 
-use crate::changing::start_uncounted;
 use crate::dependency_graph::DependencyGraph;
 use crate::engine_cells::{EngineCells, OwnCells};
 use crate::engine_state::EngineState;
+use crate::start_cells::first_cells_uncounted;
 use crate::undone::gone;
 use crate::update::Update;
 use answers::{Answers, Edit};
@@ -59,9 +59,8 @@ impl FactEngine for Recalc {
         ensures fresh { IfOk result (λ e. AreFresh (marks_of e)) }
     {
         let graph = DependencyGraph::new(alloc, dict)?;
-        let mut state = EngineState::new(alloc, dict, &graph)?;
-        start_uncounted::<Brand>(alloc, &graph, dict, answers, &mut state, Blank::new(1))?;
-        state.log.clear();
+        let store = first_cells_uncounted::<Brand>(alloc, &graph, dict, answers, Blank::new(1))?;
+        let state = EngineState::new(alloc, dict, &graph, store)?;
         Ok(Recalc {
             alloc,
             graph: Arc::new(alloc, graph)?,

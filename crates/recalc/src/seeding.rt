@@ -4,11 +4,10 @@ ghost use Rattle.fact_values.specs.declared.slot.Slot.{Slot as OneSlot};
 ghost use Rattle.answers.specs.Meaning.{answered, change};
 ghost use Rattle.dict_source.specs.Finding.{IsNumber};
 ghost use Rattle.dictionary.specs.Kept.{accepted};
-ghost use Rattle.dict_meaning.specs.Homes.{home};
-ghost use Rattle.dict_meaning.specs.Slots.{members_of_home, stands};
+ghost use Rattle.dict_meaning.specs.Slots.{stands};
 ghost use Rattle.dict_meaning.specs.Undone.{differs, is_touched_first, IsUndone};
 ghost use Rattle.recalc.specs.Running.{AreWaiting};
-ghost use Rattle.recalc.specs.Seeding.{field_at, is_anywhere, is_at, is_came, is_field, is_own, is_slot};
+ghost use Rattle.recalc.specs.Seeding.{field_at, is_at, is_came, is_field, is_own, is_slot};
 ghost use Rattle.dirty_slots.specs.Waiting.{waits};
 ghost use Rattle.dirty_slots.specs.declared.dirty_slot.DirtySlot.{DirtySlot};
 
@@ -40,61 +39,6 @@ fn add_at(
     }
     Ok(())
 }
-
-// ---- all slots
-
-fn add_fact(
-    queue: &mut DirtyQueue,
-    dict: &Dictionary,
-    now: &Answers,
-    fact: u32,
-) -> Result<(), NoMemory>
-    requires { IsNumber (accepted dict.now).tree.facts fact }
-    ensures waiting { OnOk result ((q : DirtySlot) → waits queue.new q
-        ≡ (waits queue.old q || is_at (accepted dict.now) q
-        (members_of_home (answered now.now) (home (accepted dict.now).tree fact)) fact)) }
-    ensures places { queue.new.places ≡ queue.old.places }
-{
-    let home = dict.home(fact);
-    if home == 0 {
-        return add_at(queue, dict, fact, &[0]);
-    }
-    match now.members(home) {
-        None => Ok(()),
-        Some(members) => add_at(queue, dict, fact, members),
-    }
-}
-
-fn add_facts(
-    queue: &mut DirtyQueue,
-    dict: &Dictionary,
-    now: &Answers,
-    facts: &[u32],
-) -> Result<(), NoMemory>
-    requires { All (λ f. IsNumber (accepted dict.now).tree.facts f) facts.now }
-    ensures waiting { OnOk result ((q : DirtySlot) → waits queue.new q
-        ≡ (waits queue.old q || is_anywhere (accepted dict.now) (answered now.now) facts.now q)) }
-    ensures places { queue.new.places ≡ queue.old.places }
-{
-    for fact in facts {
-        add_fact(queue, dict, now, *fact)?;
-    }
-    Ok(())
-}
-
-/// Lets all slots wait.
-pub fn seed_all(queue: &mut DirtyQueue, dict: &Dictionary, now: &Answers) -> Result<(), NoMemory>
-    requires { (q : DirtySlot) → waits queue.old q ≡ false }
-    ensures waiting { OnOk result (AreWaiting (accepted dict.now) queue.new
-        (λ s. stands (accepted dict.now).tree (answered now.now) s)) }
-    ensures places { queue.new.places ≡ queue.old.places }
-{
-    let facts = dict.by_rank();
-    let _source = dict.source();
-    add_facts(queue, dict, now, facts)
-}
-
-// ---- those that a change touches by itself
 
 // The slots of a member that came.
 fn add_came(
