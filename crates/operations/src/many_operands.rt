@@ -1,17 +1,20 @@
 // Nodes with many operands, seen one by one.
-ghost use Rattle.std.specs.Prelude.{◌≡◌, ◌+◌, ◌<◌, ◌^◌, [], ◌∷◌, ◌++◌, List, IsErr, OnErr, OnOk};
+ghost use Rattle.std.specs.Prelude.{◌≡◌, ◌+◌, ◌<◌, ◌≤◌, ◌^◌, [], ◌∷◌, ◌++◌, List, IsErr, OnErr, OnOk};
 ghost use Rattle.dict_source.specs.declared.operators.ManyOp.{ManyOp};
 ghost use Rattle.evaluation.specs.Over.{many_of};
 ghost use Rattle.operations.specs.ManyFolds.{AreSeen, many_end, many_start, saw};
+ghost use Rattle.operations.specs.NumberRuns.{numbers_seen};
 ghost use Rattle.three_state.specs.Results.{ValueHoldsMemory};
 ghost use Rattle.three_state.specs.declared.res.Res.{Res};
 
+use crate::gathered::Gathered;
 use crate::kept::Kept;
+use crate::sum::summed_as;
 use dict_source::ManyOp;
-use fact_values::NoMemory;
+use fact_values::{NoMemory, Total};
 use std::alloc::Global;
 use std::marker::Model;
-use three_state::Res;
+use three_state::{Res, Strict};
 
 /// The operands of a node that has many, seen one by one in their order. Contracts see how many
 /// were seen, and what is kept of them.
@@ -41,6 +44,20 @@ impl ManyFold {
         ManyFold {
             count: 0,
             kept: Kept::new(op),
+        }
+    }
+
+    /// An Add saw so many complete numbers of one type, of which this is the sum.
+    pub(crate) fn of_numbers(count: u64, are_amounts: bool, total: Total) -> ManyFold
+        requires { total.calls ≤ count }
+        ensures { result ≡ numbers_seen count are_amounts total }
+    {
+        ManyFold {
+            count,
+            kept: Kept::Values(
+                Strict::new(),
+                Gathered::Added(summed_as(are_amounts, total)),
+            ),
         }
     }
 

@@ -3,6 +3,7 @@ ghost use Rattle.std.specs.Prelude.{◌≡◌, ◌<◌, ◌^◌};
 ghost use Rattle.evaluation.specs.Operations.{no_ratio, ratio_in, value_as};
 ghost use Rattle.fact_values.specs.Rationals.{difference_of_ratios, sum_of_ratios};
 ghost use Rattle.fact_values.specs.Totals.{checked};
+ghost use Rattle.operations.specs.NumberRuns.{summed_as as as_summed};
 ghost use Rattle.operations.specs.Sums.{added, calls_in, difference_of_seen, first_summed, subtracted, sum_of_seen};
 
 use crate::values::{dollar_in, no_ratio, ratio_in, whole_in};
@@ -78,6 +79,16 @@ impl Summed {
             Summed::First(q) => rational_of(subtract_rational(*q, no_ratio())),
             Summed::Two(q, r) => rational_of(subtract_rational(*q, *r)),
         }
+    }
+}
+
+/// The sum of whole numbers, or of amounts.
+pub fn summed_as(are_amounts: bool, total: Total) -> Summed
+    ensures { result ≡ as_summed are_amounts total }
+{
+    match are_amounts {
+        true => Summed::Dollars(total),
+        false => Summed::Ints(total),
     }
 }
 

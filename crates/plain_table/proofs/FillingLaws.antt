@@ -1,5 +1,5 @@
 -- The result of a slot over those of lower facts is plain evaluation.
-use Rattle.std.proofs.Common.{◌≡◌, ℕ, Bool, true, false, IsTrue, if◌then◌else◌, List, Option, Some, None, refl, sym, ap, ◌∙◌}
+use Rattle.std.proofs.Common.{◌≡◌, ℕ, Bool, IsTrue, if◌then◌else◌, List, Option, Some, None, sym, ap, ◌∙◌}
 use Rattle.fact_values.specs.declared.slot.Slot.{Slot}
 use Rattle.dict_source.specs.Facts.{Fact}
 use Rattle.dict_source.specs.Finding.{fact_at}

@@ -1,7 +1,6 @@
 -- The results that a `Table` keeps.
 use Rattle.std.specs.Prelude.{ℕ, ◌&&◌, Bool, nat_eq}
 use Rattle.std.specs.HashMap.{get}
-use Rattle.fact_values.specs.declared.slot.Slot.{Slot}
 use Rattle.dictionary.specs.Engines.{Marks}
 use Rattle.evaluation.specs.Results.{Results}
 use Rattle.plain_table.specs.declared.table.Table.{Table}

@@ -1,5 +1,5 @@
 -- The change from answers to answers spreads as a loop has to know, and the loop leaves what is defined.
-use Rattle.std.proofs.Common.{◌≡◌, ℕ, Bool, true, false, not, ◌&&◌, ◌||◌, if◌then◌else◌, IsTrue, List, [], ◌∷◌, length, filter, sum_by, None, is_some, refl, sym, ap, subst, ◌∙◌}
+use Rattle.std.proofs.Common.{◌≡◌, ℕ, Bool, true, false, not, ◌&&◌, ◌||◌, if◌then◌else◌, IsTrue, List, [], ◌∷◌, length, sum_by, None, is_some, refl, sym, ap, subst, ◌∙◌}
 use Rattle.std.specs.List.{list_any}
 use Rattle.common_lemmas.proofs.Bools.{and_true, both_left, both_right}
 use Rattle.common_lemmas.proofs.Lists.{same_filter}
@@ -14,7 +14,6 @@ use Rattle.dict_meaning.specs.Accepted.{Accepted, IsAccepted}
 use Rattle.dict_meaning.specs.Extension.{both_same, extends, Extends}
 use Rattle.dict_meaning.specs.Feeds.{feeds}
 use Rattle.dict_meaning.specs.Final.{is_complete_in, is_final}
-use Rattle.dict_meaning.specs.Fits.{AnswersFit}
 use Rattle.dict_meaning.specs.Plain.{plain}
 use Rattle.dict_meaning.specs.Slots.{stands, standing}
 use Rattle.dict_meaning.specs.Steady.{steady}

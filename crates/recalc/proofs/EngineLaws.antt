@@ -1,20 +1,17 @@
 -- From the cells that stand for answers, the loop leads to those that stand for the answers after a change.
-use Rattle.std.proofs.Common.{◌≡◌, ℕ, Bool, true, false, not, ◌&&◌, nat_eq, if◌then◌else◌, IsTrue, List, [], length, sum_by, Option, Some, None, option_map, is_some, unwrap_or, refl, sym, ap, subst, ◌∙◌}
+use Rattle.std.proofs.Common.{◌≡◌, ℕ, Bool, true, false, not, ◌&&◌, nat_eq, if◌then◌else◌, IsTrue, List, [], length, Option, Some, None, option_map, is_some, unwrap_or, refl, sym, ap, subst, ◌∙◌}
 use Rattle.std.specs.List.{list_any}
 use Rattle.std.specs.FinMap as finite
 use Rattle.std.proofs.lemmas.Bool.{not-false}
 use Rattle.std.proofs.lemmas.List.{length-map}
-use Rattle.common_lemmas.proofs.Bools.{and_true}
 use Rattle.fact_values.specs.declared.slot.Slot.{Slot}
 use Rattle.three_state.specs.declared.res.Res.{Res}
 use Rattle.answers.specs.Answered.{Answered}
 use Rattle.answers.specs.Change.{Change, adds, puts_back, applied}
-use Rattle.cell_store.specs.Contents.{Cells, no_cells}
-use Rattle.cell_store.specs.SlotOrder.{slot_cmp}
+use Rattle.cell_store.specs.Contents.{Cells}
 use Rattle.cell_store.specs.declared.cell.Cell.{Cell}
 use Rattle.dict_meaning.specs.Accepted.{Accepted, IsAccepted}
 use Rattle.dictionary.specs.ByRank.{AreByRank}
-use Rattle.dict_meaning.specs.Fits.{AnswersFit}
 use Rattle.dict_meaning.specs.Plain.{plain}
 use Rattle.dict_meaning.specs.Slots.{stands}
 use Rattle.dict_meaning.specs.Touched.{stamped, touched_count}

@@ -27,7 +27,7 @@ use Rattle.dict_meaning.specs.Fits.{AnswersFit, is_list}
 use Rattle.dict_meaning.specs.Homes.{home}
 use Rattle.dict_meaning.specs.Plain.{rank}
 use Rattle.evaluation.specs.Results.{slot}
-use Rattle.dict_meaning.specs.Slots.{is_member, members_of_home, slot_same, stands, stands_at}
+use Rattle.dict_meaning.specs.Slots.{is_member, slot_same, stands, stands_at}
 use Rattle.dict_meaning.specs.Undone.{came, differs, is_touched_first, IsUndone}
 use Rattle.dictionary.proofs.ByRankLaws.{facts_by_rank, place_of_fact}
 use Rattle.dict_meaning.proofs.ExtensionLaws.{is_placed, list_stands}
@@ -41,7 +41,6 @@ use Rattle.dirty_slots.specs.Waiting.{dirty_same, Queue, waits}
 use Rattle.recalc.specs.declared.undone.Came.{Came}
 use Rattle.dirty_slots.specs.declared.dirty_slot.DirtySlot.{DirtySlot}
 use Rattle.recalc.proofs.RunningLaws.{same_tests}
-use Rattle.recalc.proofs.ReaderLaws.{home_has}
 use Rattle.recalc.proofs.SlotLists.{either}
 
 -- ---- the facts in the order of their ranks

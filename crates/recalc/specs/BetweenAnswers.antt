@@ -1,5 +1,5 @@
 -- The change from answers to answers: how it spreads, and what it is once all that it touches is done.
-use Rattle.std.specs.Prelude.{◌≡◌, ℕ, Bool, true, false, not, ◌&&◌, ◌||◌, IsTrue, if◌then◌else◌, List, [], length, sum_by, None}
+use Rattle.std.specs.Prelude.{◌≡◌, ℕ, Bool, false, not, ◌&&◌, ◌||◌, IsTrue, if◌then◌else◌, List, [], length, sum_by, None}
 use Rattle.fact_values.specs.declared.slot.Slot.{Slot}
 use Rattle.answers.specs.Answered.{Answered}
 use Rattle.answers.specs.Change.{Change, applied}
