@@ -1,11 +1,9 @@
-"""The load that anyone can repeat, by how many sums its dictionary has."""
+"""The load that anyone can repeat, with each number of sums that it may have."""
 from collections.abc import Iterator
 
 from stored_cases import Made
 
-# The numbers of sums whose loads take a moment, and of the others those where a count may end.
-QUICK = range(1, 301)
-LARGE = (*range(400, 1000, 100), 511, 512, 513, *range(990, 1001))
+SUMS = range(1, 1_001)
 
 
 def usage(words: list[str]) -> Made:
@@ -27,7 +25,7 @@ def load(n: int, script: bytes = b"") -> Made:
 
 
 def cases() -> Iterator[Made]:
-    for n in (*QUICK, *LARGE):
+    for n in SUMS:
         yield load(n)
     # the given script isn't read
     yield load(2, b"quit\nno command\n")

@@ -100,10 +100,12 @@ added {p = p} h empty at_key others = record { at_key = at_key; others = others;
 taken : {places places' : Key → Option ℕ} {cells cells' : ℕ → Option Cell} {k : Key} {p : ℕ} → ArePlaced places cells → places k ≡ Some p → ((q : Key) → places' q ≡ cond (same_key k q) None (places q)) → ((r : ℕ) → r ≢ p → cells' r ≡ cells r) → Changes places cells places' cells' k p None
 taken h e at_key others = record { at_key = at_key; others = others; own = other_place h e }
 
--- after each, places have cells of their own
+-- after each, places have cells of their own: where the key had a place it was this one, and the cell there is left only where it is the key's
 still_placed : {places : Key → Option ℕ} {cells : ℕ → Option Cell} {places' : Key → Option ℕ} {cells' : ℕ → Option Cell} {k : Key} {p : ℕ} {o : Option ℕ}
-    → Changes places cells places' cells' k p o → ((r : ℕ) → o ≡ Some r → (r ≡ p) × IsSome (cells' p)) → ArePlaced places cells → ArePlaced places' cells'
-still_placed {places} {cells} {places'} {cells'} {k} {p} {o} h new old = record { filled = λ q r. fill q r (same_key k q) refl; apart = λ q l r. alone q l r (same_key k q) refl (same_key k l) refl }
+    → Changes places cells places' cells' k p o → ((r : ℕ) → places k ≡ Some r → r ≡ p) → (IsSome (cells' p) → o ≡ Some p) → ((r : ℕ) → o ≡ Some r → (r ≡ p) × IsSome (cells' p))
+    → ArePlaced places cells → ArePlaced places' cells'
+still_placed {places} {cells} {places'} {cells'} {k} {p} {o} h had left new old =
+    record { filled = λ q r. fill q r (same_key k q) refl; apart = λ q l r. alone q l r (same_key k q) refl (same_key k l) refl; found = λ r some. find r some (nat_eq r p) refl }
   where
     -- a place of the key is the new one; another key has it as before, and it isn't the new one
     here : (q : Key) (r : ℕ) → same_key k q ≡ true → places' q ≡ Some r → (r ≡ p) × IsSome (cells' p)
@@ -124,6 +126,20 @@ still_placed {places} {cells} {places'} {cells'} {k} {p} {o} h new old = record 
     alone q l r true s false t e f = absurd (elsewhere l r t f (here q r s e).0)
     alone q l r false s true t e f = absurd (elsewhere q r s e (here l r t f).0)
     alone q l r false s false t e f = old.apart q l r (before q r s e) (before l r t f)
+
+    -- the key that has a cell's place
+    kept : (r : ℕ) → r ≢ p → (q : Key) → places q ≡ Some r → (b : Bool) → same_key k q ≡ b → (q : Key) × (places' q ≡ Some r)
+    kept r other q there true s = absurd (other (had r (ap places (same_keys k q s) ∙ there)))
+    kept r other q there false s = (q, h.at_key q ∙ ap (λ b. cond b o (places q)) s ∙ there)
+
+    find : (r : ℕ) → IsSome (cells' r) → (b : Bool) → nat_eq r p ≡ b → (q : Key) × (places' q ≡ Some r)
+    find r some true e =
+        let same = same_number r p e in
+        (k, h.at_key k ∙ ap (λ b. cond b o (places k)) (equal_keys k k refl) ∙ left (subst (λ x. IsSome (cells' x)) same some) ∙ ap Some (sym same))
+    find r some false e =
+        let other : r ≢ p = λ i. true≢false (sym (equal_number p) ∙ ap (λ x. nat_eq x p) (sym i) ∙ e) in
+        let before = old.found r (subst IsSome (h.others r other) some) in
+        kept r other before.0 before.1 (same_key k before.0) refl
 
 -- each key finds the same place, and each place the same cell
 pub same_places : {places places' : Key → Option ℕ} {cells cells' : ℕ → Option Cell} → ((q : Key) → places' q ≡ places q) → ((r : ℕ) → cells' r ≡ cells r) → ArePlaced places cells → ArePlaced places' cells'
@@ -164,11 +180,11 @@ put_over cells es s p c h there =
 
 -- a slot without a place is given one
 pub put_new : (cells cells' : Slab Cell) (es fs : List (Key × ℕ)) (s : Slot) (p : ℕ) (c : Cell) → ArePlaced (λ q. lookup (same_key q) es) (cell_in cells)
-    → cell_in cells p ≡ None → ((q : Key) → lookup (same_key q) fs ≡ cond (same_key (key_of s) q) (Some p) (lookup (same_key q) es)) → Updates cells cells' p (Some c)
+    → None ≡ lookup (same_key (key_of s)) es → cell_in cells p ≡ None → ((q : Key) → lookup (same_key q) fs ≡ cond (same_key (key_of s) q) (Some p) (lookup (same_key q) es)) → Updates cells cells' p (Some c)
     → ArePlaced (λ q. lookup (same_key q) fs) (cell_in cells') × (cells_at cells' fs ≡ map.insert (cells_at cells es) s c)
-put_new cells cells' es fs s p c h empty at_key updates =
+put_new cells cells' es fs s p c h absent empty at_key updates =
     let change = added h empty at_key updates.others in
-    (still_placed change (λ r e. (cc, ap is_some updates.changed)) h, changed cells cells' es fs s p (Some p) (Some c) change updates.changed)
+    (still_placed change (λ r e. absurd (let both : None ≡ Some r = absent ∙ e in cc)) (λ some. refl) (λ r e. (cc, ap is_some updates.changed)) h, changed cells cells' es fs s p (Some p) (Some c) change updates.changed)
 
 -- a slot's place is taken away with its cell
 pub take_away : (cells cells' : Slab Cell) (es fs : List (Key × ℕ)) (s : Slot) (p : ℕ) → ArePlaced (λ q. lookup (same_key q) es) (cell_in cells)
@@ -176,4 +192,4 @@ pub take_away : (cells cells' : Slab Cell) (es fs : List (Key × ℕ)) (s : Slot
     → ArePlaced (λ q. lookup (same_key q) fs) (cell_in cells') × (cells_at cells' fs ≡ map.remove (cells_at cells es) s)
 take_away cells cells' es fs s p h there at_key updates =
     let change = taken h (sym there) at_key updates.others in
-    (still_placed change (λ r e. absurd cc) h, changed cells cells' es fs s p None None change refl)
+    (still_placed change (λ r e. cc) (λ some. absurd (true≢false (sym some ∙ ap is_some updates.changed))) (λ r e. absurd cc) h, changed cells cells' es fs s p None None change refl)

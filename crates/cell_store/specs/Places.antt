@@ -34,10 +34,11 @@ cells_at cells (e ∷ es) = put_at (cells_at cells es) (slot_of e.0) (cell_in ce
 abbrev pub contents : Inside → Contents
 contents a = record { cells = cells_at a.cells a.places.entries; room = a.room }
 
--- each place has a cell, and is that of one key alone
+-- each place has a cell, and is that of one key alone, and each cell has a place, so that none is left behind
 pub record ArePlaced (places : Key → Option ℕ) (cells : ℕ → Option Cell) : Type 0 where
   pub filled : (k : Key) (p : ℕ) → places k ≡ Some p → IsSome (cells p)
   pub apart : (k l : Key) (p : ℕ) → places k ≡ Some p → places l ≡ Some p → k ≡ l
+  pub found : (p : ℕ) → IsSome (cells p) → (k : Key) × (places k ≡ Some p)
 
 -- and where there is room for so many slots, they want no memory
 pub record IsSound (a : Inside) : Type 0 where

@@ -15,7 +15,7 @@ use Rattle.interview.specs.declared.resuming.Ready.{Ready}
 use Rattle.interview.specs.declared.resuming.Resumed.{Resumed}
 use Rattle.interview.specs.declared.resuming.Resumed.TheVariants as resumed
 use Rattle.interview.specs.declared.status.Status.{Status}
-use Rattle.interview.specs.declared.status.Status.TheVariants.{Done, FetchFault, NoMemory, ReadFault, WriteFault}
+use Rattle.interview.specs.declared.status.Status.TheVariants.{Done, FetchFault, NoMemory, ReadFault}
 use Rattle.interview.specs.declared.words.Mode.{Mode}
 use Rattle.interview.specs.Given.{Given}
 use Rattle.interview.specs.Interview.{answered_lines}

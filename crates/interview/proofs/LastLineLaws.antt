@@ -1,5 +1,5 @@
 -- An interview that ends with one line, or with several.
-use Rattle.std.proofs.Common.{◌≡◌, ◌≢◌, ℕ, ◌+◌, ◌<◌, List, [], ◌∷◌, drop, get_or, length, inl, inr, refl, sym, ap, subst, ◌∙◌, arith}
+use Rattle.std.proofs.Common.{◌≡◌, ℕ, ◌+◌, ◌<◌, List, [], ◌∷◌, drop, get_or, length, inl, inr, refl, sym, ap, subst, ◌∙◌, arith}
 use Rattle.std.proofs.lemmas.List.{drop_more}
 use Rattle.std.specs.Prelude.{Vec}
 use Rattle.std.specs.declared.alloc.Global.{Global}
@@ -9,19 +9,15 @@ use Rattle.script_lines.specs.Joined.{joined}
 use Rattle.session_lines.specs.Replies.{line_with}
 use Rattle.session_lines.specs.Writing.{pieces_of}
 use Rattle.interview.specs.declared.status.Status.{Status}
-use Rattle.interview.specs.declared.status.Status.TheVariants.{WriteFault}
 use Rattle.interview.specs.LastLines.{PutAtEnd, PutBy, PutLinesAtEnd, PutsOneLine}
 use Rattle.interview.specs.StepEnds.{EndedBy}
 use Rattle.interview.specs.Summary.{texts_in}
 
-put_whole : (sink sink_now : Output) (pieces : List (List ℕ)) (whole : Status) → whole ≢ WriteFault → PutAll sink sink_now pieces → PutBy sink sink_now pieces whole
-put_whole sink sink_now pieces WriteFault not all = absurd (not refl)
-put_whole sink sink_now pieces whole not all = all
-
-pub puts_line : (sink sink_now : Output) (line : List ℕ) (whole status : Status) → whole ≢ WriteFault → PutAtEnd sink sink_now (line_with line) whole status → PutsOneLine sink sink_now status
-puts_line sink sink_now line whole status not (inl (is, all)) =
-    inr (line, subst (PutBy sink sink_now (line_with line ∷ [])) (sym is) (put_whole sink sink_now (line_with line ∷ []) whole not all))
-puts_line sink sink_now line whole status not (inr (is, part)) = inr (line, subst (PutBy sink sink_now (line_with line ∷ [])) (sym is) part)
+-- with a status with which a line comes whole
+pub puts_line : (sink sink_now : Output) (line : List ℕ) (whole status : Status) → (PutAll sink sink_now (line_with line ∷ []) → PutBy sink sink_now (line_with line ∷ []) whole)
+    → PutAtEnd sink sink_now (line_with line) whole status → PutsOneLine sink sink_now status
+puts_line sink sink_now line whole status by (inl (is, all)) = inr (line, subst (PutBy sink sink_now (line_with line ∷ [])) (sym is) (by all))
+puts_line sink sink_now line whole status by (inr (is, part)) = inr (line, subst (PutBy sink sink_now (line_with line ∷ [])) (sym is) part)
 
 -- the bytes of lines
 pub ended_by : (sink sink_now : Output) (lines : List (List ℕ)) (whole status : Status) → PutLinesAtEnd sink sink_now lines whole status → EndedBy sink sink_now (joined lines) whole status

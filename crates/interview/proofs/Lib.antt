@@ -1,5 +1,6 @@
 pub mod BeginningLaws
 pub mod CallLaws
+pub mod CallOrderLaws
 pub mod CheckLaws
 pub mod DictionaryLaws
 pub mod EndLaws

@@ -5,7 +5,7 @@ use Rattle.fg_io.specs.Puts.{PutAll, PutPart}
 use Rattle.session_lines.specs.Replies.{line_with}
 use Rattle.session_lines.specs.Writing.{WroteLines, WroteSome}
 use Rattle.interview.specs.declared.status.Status.{Status}
-use Rattle.interview.specs.declared.status.Status.TheVariants.{WriteFault}
+use Rattle.interview.specs.declared.status.Status.TheVariants.{Done, DictionaryRefused, Usage, WriteFault, SavedRefused}
 
 -- a text that ends an interview was put whole as one piece, with this status, or as far as the put that failed
 abbrev pub PutAtEnd : Output → Output → List ℕ → Status → Status → Type 0
@@ -17,10 +17,14 @@ abbrev pub PutLinesAtEnd : Output → Output → List (List ℕ) → Status → 
 PutLinesAtEnd sink sink_now lines whole status =
     ((status ≡ whole) × WroteLines sink sink_now lines) ⊎ ((status ≡ WriteFault) × WroteSome sink sink_now lines)
 
--- by its status
+-- by its status: with that of a failed put as far as the put that failed, with each that a line comes with whole, and with no other
 abbrev pub PutBy : Output → Output → List (List ℕ) → Status → Type 0
 PutBy sink sink_now pieces WriteFault = PutPart sink sink_now pieces
-PutBy sink sink_now pieces other = PutAll sink sink_now pieces
+PutBy sink sink_now pieces Done = PutAll sink sink_now pieces
+PutBy sink sink_now pieces DictionaryRefused = PutAll sink sink_now pieces
+PutBy sink sink_now pieces Usage = PutAll sink sink_now pieces
+PutBy sink sink_now pieces SavedRefused = PutAll sink sink_now pieces
+PutBy sink sink_now pieces other = ⊥
 
 -- nothing was put, or one line
 abbrev pub PutsOneLine : Output → Output → Status → Type 0

@@ -2,6 +2,7 @@ pub mod Codes
 pub mod Words
 pub mod Beginnings
 pub mod Calls
+pub mod CallOrder
 pub mod Talk
 pub mod Dictionaries
 pub mod FaultLines

@@ -1,11 +1,13 @@
 // Laws of the definitions, each the contract of a function that does nothing.
+ghost use Rattle.interview.specs.CallOrder.{EachLineIsOnePiece, NameThenSaved, NoCallBehindAFailedOne};
+ghost use Rattle.interview.specs.CallOrder.{NothingIsFetched, PullsFollowReplies};
 ghost use Rattle.interview.specs.Engines.{EnginesAgree, LinesAgree, RunsAgree};
 ghost use Rattle.interview.specs.Interview.{OneEndOfCheck, OneEndOfRun};
 ghost use Rattle.interview.specs.Load.{OneEndOfGen};
 ghost use Rattle.interview.specs.Save.{OneEndOfSave};
 ghost use Rattle.interview.specs.Talk.{PiecesFollowReplies};
 
-use fg_io::{Sink, Source};
+use fg_io::{Shelf, Sink, Source};
 
 /// A check of the bytes of a dictionary comes to one text and one status at most.
 pub fn a_check_has_one_end()
@@ -45,7 +47,39 @@ pub fn a_save_has_one_end()
     ensures { OneEndOfSave }
 {}
 
-/// In a talk each piece of a script came behind the replies to all lines that ended before it, and none behind the end or `quit`.
+/// In a talk each piece of a script came behind the replies to all lines that ended before it, and none behind the end
+/// or `quit`. `pulls_follow_replies` says so of each pull, also of one that failed.
 pub fn pieces_follow_replies<S: Source<K>, K: Sink>()
     ensures { PiecesFollowReplies S.pulled K.output }
+{}
+
+/// In a talk the reply to each line is put whole before more of the script is pulled, also where that pull fails, but
+/// for lines that came in one piece with it. Nothing is pulled behind the end, or behind the piece in which `quit`
+/// ended.
+pub fn pulls_follow_replies<S: Source<K>, K: Sink>()
+    ensures { PullsFollowReplies S.pulled K.output }
+{}
+
+/// Nothing is fetched but the dictionary's name, and behind it, where an accepted dictionary came of it, that of the
+/// saved text; over a dictionary of the program's own the name of the saved text alone.
+pub fn name_then_saved<H: Shelf<S, K>, S: Source<K>, K: Sink>()
+    ensures { NameThenSaved H.fetched S.pulled K.output }
+{}
+
+/// For a dictionary of the program's own without a saved text, for `gen`, and for words without a form nothing is
+/// fetched.
+pub fn nothing_is_fetched<H: Shelf<S, K>, S: Source<K>, K: Sink>()
+    ensures { NothingIsFetched H.fetched S.pulled K.output }
+{}
+
+/// Each line of output is put as one piece, with its newline, and nothing else is put. What a put left of a piece is
+/// put next, and the first put that fails is the last.
+pub fn each_line_is_one_piece<H: Shelf<S, K>, S: Source<K>, K: Sink>()
+    ensures { EachLineIsOnePiece H.fetched S.pulled K.output }
+{}
+
+/// A device that failed isn't called again: of the calls of shelf, source and sink none stands behind one that failed,
+/// and where a fetch failed nothing is pulled or put.
+pub fn no_call_behind_a_failed_one<H: Shelf<S, K>, S: Source<K>, K: Sink>()
+    ensures { NoCallBehindAFailedOne H.fetched S.pulled K.output }
 {}

@@ -18,7 +18,7 @@ returns-in-Ok-Accepted g c =
     record {
       ends = ends_fetched _ _ _ (check_did (g.H.Shelf.files c.args.shelf.now) (g.H.Shelf.files c.fetch.new.shelf) (g.K.Sink.output c.args.out.now) (g.K.Sink.output c.end_accepted-status.new.out)) (fetches.Accepted _) c.end_accepted-status.result found c.end_accepted-status.ensures.text;
       calls = once_as (beside g.H.Shelf.fetched c.args.script.now c.args.out.now) _ _ (λ wrong. absurd (no_error _ _ wrong)) (λ failed. absurd (never_by_text _ _ _ _ _ (λ e. cc) c.end_accepted-status.ensures.puts failed)) c.args.shelf.now c.fetch.new.shelf _ _ c.in-Ok-Accepted.ensures.calls;
-      puts = puts_line _ _ (numbered (codes "dictionary accepted ") (length (accepted c.in-Ok-Accepted.dictionary).tree.facts) ++ numbered (codes " facts ") (node_count (accepted c.in-Ok-Accepted.dictionary).tree) ++ codes " nodes") Done _ (λ e. cc) c.end_accepted-status.ensures.puts;
+      puts = puts_line _ _ (numbered (codes "dictionary accepted ") (length (accepted c.in-Ok-Accepted.dictionary).tree.facts) ++ numbered (codes " facts ") (node_count (accepted c.in-Ok-Accepted.dictionary).tree) ++ codes " nodes") Done _ (λ all. all) c.end_accepted-status.ensures.puts;
     }
 
 pub returns-in-Ok-Refused : goal.returns-in-Ok-Refused
@@ -27,7 +27,7 @@ returns-in-Ok-Refused g c =
     record {
       ends = ends_fetched _ _ _ (check_did (g.H.Shelf.files c.args.shelf.now) (g.H.Shelf.files c.fetch.new.shelf) (g.K.Sink.output c.args.out.now) (g.K.Sink.output c.end_by_fault.new.out)) (fetches.Refused _) c.end_by_fault.result found c.end_by_fault.ensures.text;
       calls = once_as (beside g.H.Shelf.fetched c.args.script.now c.args.out.now) _ _ (λ wrong. absurd (no_error _ _ wrong)) (λ failed. absurd (never_by_text _ _ _ _ _ (λ e. cc) c.end_by_fault.ensures.puts failed)) c.args.shelf.now c.fetch.new.shelf _ _ c.in-Ok-Refused.ensures.calls;
-      puts = puts_line _ _ (codes "dictionary refused " ++ fault_name c.in-Ok-Refused.fault ++ fault_place c.in-Ok-Refused.fault) DictionaryRefused _ (λ e. cc) c.end_by_fault.ensures.puts;
+      puts = puts_line _ _ (codes "dictionary refused " ++ fault_name c.in-Ok-Refused.fault ++ fault_place c.in-Ok-Refused.fault) DictionaryRefused _ (λ all. all) c.end_by_fault.ensures.puts;
     }
 
 pub returns-in-Err-clause-calls : goal.returns-in-Err-clause-calls

@@ -1,4 +1,4 @@
-use Rattle.std.proofs.Common.{◌≡◌, ℕ, ◌+◌, List, [], ◌∷◌, drop, sym, ap, subst, ◌∙◌, arith}
+use Rattle.std.proofs.Common.{[], ◌∷◌, sym, ap, subst, ◌∙◌, arith}
 use Rattle.std.proofs.lemmas.List.{drop_all}
 use Rattle.session_lines.proofs.WritingLaws.{LinesSoFar, so_far_all, so_far_fails, so_far_none, so_far_on}
 use Rattle.interview.specs.Summary.{texts_in}

@@ -1,4 +1,3 @@
-use Rattle.std.proofs.Common.{refl}
 use Rattle.interview.proofs.LastLineLaws.{ended_by}
 use Rattle.interview.proofs.LoadLaws.{generated_by, summary_put}
 use Rattle.interview.proofs.load_run.run_load.Goals as goal

@@ -32,7 +32,7 @@ returns-in-Ok-Refused g c =
           inr (
             inl (none_as (beside g.H.Shelf.fetched c.args.script.now c.args.out.now) ⊥ (c.end_by_fault.result ≡ FetchFault) (λ wrong. absurd wrong) (never_by_text _ _ _ _ _ (λ e. cc) c.end_by_fault.ensures.puts) c.args.shelf.now c.obtain.new.shelf (named_checks c.args.checks.now) (origin_of c.args.origin) called),
             refl,
-            puts_line _ _ (codes "dictionary refused " ++ fault_name c.in-Ok-Refused.fault ++ fault_place c.in-Ok-Refused.fault) DictionaryRefused _ (λ e. cc) c.end_by_fault.ensures.puts,
+            puts_line _ _ (codes "dictionary refused " ++ fault_name c.in-Ok-Refused.fault ++ fault_place c.in-Ok-Refused.fault) DictionaryRefused _ (λ all. all) c.end_by_fault.ensures.puts,
           );
     }
 

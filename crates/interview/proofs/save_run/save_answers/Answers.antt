@@ -1,4 +1,4 @@
-use Rattle.std.proofs.Common.{◌≡◌, ℕ, List, inl, inr, refl, subst}
+use Rattle.std.proofs.Common.{◌≡◌, inl, inr, refl, subst}
 use Rattle.fg_io.proofs.SentLaws.{sent_whole}
 use Rattle.answers.specs.Meaning.{answered}
 use Rattle.dictionary.specs.Kept.{accepted}

@@ -33,7 +33,7 @@ returns-in-Ok-Refused g c =
     record {
       ends = interviewed_by_word _ _ refl _ (inl (ends_refused _ (did_by (g.H.Shelf.files c.args.shelf.now) (g.H.Shelf.files c.obtain.new.shelf) (g.S.Source.input c.args.script.now) (g.S.Source.input c.args.script.now) (g.K.Sink.output c.args.out.now) (g.K.Sink.output c.end_by_fault.new.out)) (faulty_run _ _ had.0 _ asked had.1 had.2) (refl, refl) c.end_by_fault.result c.end_by_fault.ensures.text));
       calls = calls_of_run g.H.Shelf.fetched g.S.Source.pulled g.K.Sink.output (given_by c.args.words.now (named_checks c.args.checks.now) (named_relations c.args.table.now) (g.H.Shelf.files c.args.shelf.now) (g.S.Source.input c.args.script.now)) c.end_by_fault.result c.args.shelf.now c.obtain.new.shelf c.args.script.now c.args.script.now c.args.out.now c.end_by_fault.new.out _ asked
-          (inr (inl (none_as (beside g.H.Shelf.fetched c.args.script.now c.args.out.now) ⊥ (c.end_by_fault.result ≡ FetchFault) (λ wrong. absurd wrong) (never_by_text _ _ _ _ _ (λ e. cc) c.end_by_fault.ensures.puts) c.args.shelf.now c.obtain.new.shelf (named_checks c.args.checks.now) (origin_of c.in-Run.origin) called), refl, puts_line _ _ (codes "dictionary refused " ++ fault_name c.in-Ok-Refused.fault ++ fault_place c.in-Ok-Refused.fault) DictionaryRefused _ (λ e. cc) c.end_by_fault.ensures.puts));
+          (inr (inl (none_as (beside g.H.Shelf.fetched c.args.script.now c.args.out.now) ⊥ (c.end_by_fault.result ≡ FetchFault) (λ wrong. absurd wrong) (never_by_text _ _ _ _ _ (λ e. cc) c.end_by_fault.ensures.puts) c.args.shelf.now c.obtain.new.shelf (named_checks c.args.checks.now) (origin_of c.in-Run.origin) called), refl, puts_line _ _ (codes "dictionary refused " ++ fault_name c.in-Ok-Refused.fault ++ fault_place c.in-Ok-Refused.fault) DictionaryRefused _ (λ all. all) c.end_by_fault.ensures.puts));
     }
 
 pub returns-in-Err : goal.returns-in-Err
@@ -69,5 +69,5 @@ returns-in-Unknown g c =
     record {
       ends = interviewed_by_word _ did refl _ (inl (ends_unknown _ did c.in-Unknown.ensures (refl, refl) c.end_by.result c.end_by.ensures.text));
       calls = calls_of_none g.H.Shelf.fetched g.S.Source.pulled g.K.Sink.output (given_by c.args.words.now (named_checks c.args.checks.now) (named_relations c.args.table.now) (g.H.Shelf.files c.args.shelf.now) (g.S.Source.input c.args.script.now)) c.end_by.result c.args.shelf.now c.args.script.now c.args.out.now c.end_by.new.out c.in-Unknown.ensures
-          (puts_line _ _ (codes "usage: interview COMMAND ARGUMENTS") Usage _ (λ e. cc) c.end_by.ensures.puts) (never_by_text _ _ _ _ _ (λ e. cc) c.end_by.ensures.puts);
+          (puts_line _ _ (codes "usage: interview COMMAND ARGUMENTS") Usage _ (λ all. all) c.end_by.ensures.puts) (never_by_text _ _ _ _ _ (λ e. cc) c.end_by.ensures.puts);
     }

@@ -31,7 +31,7 @@ returns-in-Ok-Refused g c =
     record {
       ends = inr (inl (had.0, had.1, (c.in-Ok-Refused.line, had.2, c.end_by_refused_line.ensures.text, (refl, refl))));
       fetches = saved_as (beside g.H.Shelf.fetched c.args.script.now c.args.out.now) (IsErrOf {T = Resumed} (Ok c.in-Ok-Refused.field-0) FetchFault) (c.end_by_refused_line.result ≡ FetchFault) (λ wrong. absurd (no_error c.in-Ok-Refused.field-0 FetchFault wrong)) (λ failed. absurd (never_by_text _ _ _ _ _ (λ e. cc) c.end_by_refused_line.ensures.puts failed)) c.args.shelf.now c.resume.new.shelf (beginning_of c.args.beginning) c.in-Ok-Refused.ensures.calls;
-      pulls = inl (refl, (puts_line _ _ (numbered (codes "saved refused line ") c.in-Ok-Refused.line) SavedRefused _ (λ e. cc) c.end_by_refused_line.ensures.puts));
+      pulls = inl (refl, (puts_line _ _ (numbered (codes "saved refused line ") c.in-Ok-Refused.line) SavedRefused _ (λ all. all) c.end_by_refused_line.ensures.puts));
     }
 
 pub returns-in-Err : goal.returns-in-Err

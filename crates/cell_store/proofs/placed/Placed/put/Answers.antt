@@ -43,7 +43,7 @@ invariant_of-self-in-None c =
     let room : 0 < c.self.inside.room = room_left c.self.inside.cells c.self.inside.places.entries c.args.slot c.self.inside.room c.args.self.now c.self.view_is c.in-None.ensures.value c.requires in
     let enough : 0 < spare c.self.inside.places = omega (arith, c.self.invariant.spare_places) in
     record {
-      placed = (put_new c.self.inside.cells c.insert_reserved-place.new.self c.self.inside.places.entries c.insert.new.self.entries c.args.slot c.insert_reserved-place.result (record { res = c.args.res; stamp = c.args.stamp }) c.self.invariant.placed c.insert_reserved-place.ensures.was_vacant (where_ok c.insert.result (c.insert.ensures.succeeds enough) c.insert.ensures.updates).0 c.insert_reserved-place.ensures.updates).0;
+      placed = (put_new c.self.inside.cells c.insert_reserved-place.new.self c.self.inside.places.entries c.insert.new.self.entries c.args.slot c.insert_reserved-place.result (record { res = c.args.res; stamp = c.args.stamp }) c.self.invariant.placed c.in-None.ensures.value c.insert_reserved-place.ensures.was_vacant (where_ok c.insert.result (c.insert.ensures.succeeds enough) c.insert.ensures.updates).0 c.insert_reserved-place.ensures.updates).0;
       spare_places = omega (arith, c.insert.ensures.spare);
       spare_cells = omega (arith, c.self.invariant.spare_cells, c.insert_reserved-place.ensures.len, c.insert_reserved-place.ensures.capacity);
     }
@@ -60,5 +60,5 @@ pub returns-in-None-clause-cells : goal.returns-in-None-clause-cells
 returns-in-None-clause-cells c =
     let room : 0 < c.self.inside.room = room_left c.self.inside.cells c.self.inside.places.entries c.args.slot c.self.inside.room c.args.self.now c.self.view_is c.in-None.ensures.value c.requires in
     let enough : 0 < spare c.self.inside.places = omega (arith, c.self.invariant.spare_places) in
-    (put_new c.self.inside.cells c.insert_reserved-place.new.self c.self.inside.places.entries c.insert.new.self.entries c.args.slot c.insert_reserved-place.result (record { res = c.args.res; stamp = c.args.stamp }) c.self.invariant.placed c.insert_reserved-place.ensures.was_vacant (where_ok c.insert.result (c.insert.ensures.succeeds enough) c.insert.ensures.updates).0 c.insert_reserved-place.ensures.updates).1
+    (put_new c.self.inside.cells c.insert_reserved-place.new.self c.self.inside.places.entries c.insert.new.self.entries c.args.slot c.insert_reserved-place.result (record { res = c.args.res; stamp = c.args.stamp }) c.self.invariant.placed c.in-None.ensures.value c.insert_reserved-place.ensures.was_vacant (where_ok c.insert.result (c.insert.ensures.succeeds enough) c.insert.ensures.updates).0 c.insert_reserved-place.ensures.updates).1
     ∙ ap (λ v. map.insert v.cells c.args.slot (record { res = c.args.res; stamp = c.args.stamp })) c.self.view_is
