@@ -40,11 +40,11 @@ fact_reads d a results s f = main_reads d a results s (body f) ++ placeholder_re
 abbrev pub slot_reads : Accepted → Answered → Slot → List Slot
 slot_reads d a s = at_fact (fact_at d.tree.facts s.fact) [] (fact_reads d.tree a (plain d a) s)
 
--- ---- what is read by way of other slots
-
 -- of those, the ones that stand: a slot that doesn't has no result
 abbrev pub standing_reads : Accepted → Answered → Slot → List Slot
 standing_reads d a s = filter (stands d.tree a) (slot_reads d a s)
+
+-- ---- what is read by way of other slots
 
 -- those that aren't known: each once, in the order in which they are met
 abbrev pub new_among : (Slot → Bool) → List Slot → List Slot

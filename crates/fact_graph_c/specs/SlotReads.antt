@@ -7,7 +7,7 @@ use Rattle.script_lines.specs.declared.command.Command.TheVariants.{Get}
 use Rattle.graph_session.specs.Refusals.{slot_found}
 use Rattle.graph_session.specs.Rules.{Rules}
 use Rattle.graph_session.specs.SessionView.{SessionState, session_state}
-use Rattle.session_lines.specs.Reading.{read_answer}
+use Rattle.session_lines.specs.SlotReads.{read_answer}
 use Rattle.session_lines.specs.Replies.{bad_line_text}
 use Rattle.fact_graph_c.specs.Answering.{rules_of}
 use Rattle.fact_graph_c.specs.declared.engine.Engine.{Engine}

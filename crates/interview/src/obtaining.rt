@@ -1,4 +1,4 @@
-// Has the dictionary of a run.
+// Fetches and accepts the dictionary of a run, or brings one of the program's own.
 ghost use Rattle.std.specs.Prelude.{◌≡◌, IfErr, IfOk, IsErrOf, OnOk};
 ghost use Rattle.text_checks.specs.Tables.{named_checks};
 ghost use Rattle.interview.specs.Calls.{CallsForDictionary, beside};

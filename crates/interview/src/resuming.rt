@@ -1,4 +1,4 @@
-// Has the answers at the start of a run.
+// Loads or carries the answers with which a run begins.
 ghost use Rattle.std.specs.Prelude.{◌≡◌, ◌≤◌, ◌<◌, ◌^◌, ℕ, List, length, IfErr, IfOk, IsErrOf};
 ghost use Rattle.saved_text.specs.Writing.{WroteAs};
 ghost use Rattle.text_checks.specs.Tables.{named_checks};

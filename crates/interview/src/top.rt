@@ -195,9 +195,9 @@ fn run_from<H: Shelf<S, K>, S: Source<K>, K: Sink>(
 /// Does all that the program does, over the words of its command line, without the program's name. The checks are those
 /// that a dictionary may name, and the relations of the table those by which a slot may be watched.
 ///
-/// A dictionary has at most 8,388,608 bytes, a saved text and a script at most 67,108,864 each. Of the shelf a dictionary's name is
-/// fetched at most, once, and then, over an accepted dictionary, the name of a saved text, once. For a dictionary of the program's
-/// own without a saved text, for `gen N`, and for words without a form nothing is fetched: the shelf is as it was.
+/// A dictionary has at most 8,388,608 bytes, a saved text and a script at most 67,108,864 each. The shelf is asked at most for a
+/// dictionary's name, once, and then, over an accepted dictionary, for that of a saved text, once. For a dictionary of the program's
+/// own without a saved text, for `gen N`, and for words without a form it is asked for nothing, and stays as it was.
 pub fn interview<H: Shelf<S, K>, S: Source<K>, K: Sink>(
     alloc: Global,
     words: &[String],

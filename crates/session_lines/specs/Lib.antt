@@ -7,4 +7,4 @@ pub mod Laws
 pub mod Answering
 pub mod Tables
 pub mod Writing
-pub mod Reading
+pub mod SlotReads

@@ -1,4 +1,4 @@
-// Answers which slots are missing of one.
+// Writes the reply of `missing`: how many slots there are, and each in a line.
 ghost use Rattle.std.specs.Prelude.{◌≤◌, ◌∷◌, [], All, IsTrue, codes, map};
 ghost use Rattle.dictionary.specs.Kept.{accepted};
 ghost use Rattle.dict_meaning.specs.SlotText.{slot_text};

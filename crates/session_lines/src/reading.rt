@@ -6,7 +6,7 @@ ghost use Rattle.graph_session.specs.Refusals.{slot_found};
 ghost use Rattle.graph_session.specs.Rules.{rules};
 ghost use Rattle.graph_session.specs.SessionView.{session_state};
 ghost use Rattle.session_lines.specs.Answering.{OutputAs};
-ghost use Rattle.session_lines.specs.Reading.{read_answer, read_lines};
+ghost use Rattle.session_lines.specs.SlotReads.{read_answer, read_lines};
 
 use crate::listing::put_slots;
 use crate::mark::Mark;

@@ -4,7 +4,7 @@ use Rattle.graph_session.specs.Run.{is_memory}
 use Rattle.graph_session.specs.SessionView.{session_state}
 use Rattle.session_lines.specs.Answering.{OutputAs}
 use Rattle.session_lines.specs.Replies.{refusal_text}
-use Rattle.session_lines.specs.Reading.{read_answer}
+use Rattle.session_lines.specs.SlotReads.{read_answer}
 use Rattle.session_lines.proofs.AnsweringLaws.{refusal_output}
 use Rattle.session_lines.proofs.reading.answer_reads.Goals as goal
 
