@@ -1,12 +1,14 @@
 // The numbers at the front of a sum.
 ghost use Rattle.std.specs.Prelude.{◌≡◌, ◌+◌, ◌<◌, ◌^◌, true, false, IfSome};
 ghost use Rattle.dict_source.specs.declared.operators.ManyOp.TheVariants as many_op;
-ghost use Rattle.operations.specs.ManyFolds.{many_start, saw};
+ghost use Rattle.operations.specs.ManyFolds.{many_end, many_start, saw};
 
 use crate::many_operands::ManyFold;
+use crate::sum::{dollar_of, whole_of};
+use crate::verdict::after_verdict;
 use fact_values::{Total, Value};
 use std::marker::Model;
-use three_state::Res;
+use three_state::{Res, Strict};
 
 /// What an Add keeps while all operands that it saw are complete numbers of one type, of which there is at least one. It is small
 /// enough to stay in registers. Contracts see what a fold of these operands has.
@@ -72,6 +74,19 @@ impl NumberRun {
             }
             _ => false,
         }
+    }
+
+    /// The result of an Add that has no other operands.
+    #[tactic(auto, unfolding(crate::specs::ManyFolds::kept_end))]
+    pub fn end(self) -> Res
+        ensures { result ≡ many_end self }
+    {
+        let sum = if self.are_amounts {
+            dollar_of(&self.total)
+        } else {
+            whole_of(&self.total)
+        };
+        after_verdict(Strict::new().verdict(), sum)
     }
 
     /// The fold that saw them.
