@@ -4,7 +4,7 @@
     tests/count_steps.py [--program PATH]
 
 Nothing is built. A step is a visit of a node: one call of `node_eval::evaluating::visit`, or of `node_eval::reads::see_dependency`
-for an operand that is read where it stands. The operands of a node that are all facts which stand once are read in one loop,
+or `see_constant` for an operand that is read where it stands. The operands of a node that are all facts which stand once are read in one loop,
 without a call each: no dictionary here has such a node, and that each of them is a step is proved alone (`eval_globals`: `steps`).
 How many a change takes is proved (`Recalc::refresh`: `visits`), of a counter that has no bytes, so a run can't read it: this shows
 it of the built program. valgrind's callgrind counts the calls of each function, and begins anew after each call of `write`:
@@ -36,7 +36,7 @@ from typing import Any, NamedTuple
 
 from harness import Tally, add_program, run, tool, words_of
 
-VISITS = ("node_eval::evaluating::visit", "node_eval::reads::see_dependency")
+VISITS = ("node_eval::evaluating::visit", "node_eval::reads::see_dependency", "node_eval::reads::see_constant")
 WALKED = ("source_eval::evaluating::eval",)
 # A command with fewer steps goes through no list of slots.
 FEW = 100

@@ -20,7 +20,7 @@ use crate::cells::Cells;
 use crate::eval_position::EvalPosition;
 use crate::globals::eval_globals;
 use crate::node::{Node, NodeCase, NodeRead, Reader};
-use crate::reads::{read, read_source, see_dependency};
+use crate::reads::{read, read_source, see_constant, see_dependency};
 use dict_source::{ManyOp, OneOp, PickOp, TwoOp};
 use fact_values::{NoMemory, Value};
 use operations::{
@@ -165,7 +165,7 @@ fn eval_all<C: Cells, L: Ledger>(
     Ok(fold.end())
 }
 
-// Sees the result of an operand. That of a Dependency is seen where it stands.
+// Sees the result of an operand. That of a Dependency is seen where it stands, and so is a constant.
 #[cycle(eval)]
 #[tactic(auto, using(crate::proofs::Views::views))]
 fn see_operand<C: Cells, L: Ledger>(
@@ -188,6 +188,7 @@ fn see_operand<C: Cells, L: Ledger>(
         Node::Read(NodeRead::Dependency, reader) => {
             see_dependency(alloc, cells, at, reader, fold, steps)
         }
+        Node::Const(value) => see_constant(alloc, value, fold, steps),
         _ => see_visited(alloc, cells, at, operand, fold, steps),
     }
 }

@@ -4,7 +4,8 @@ ghost use Rattle.evaluation.specs.Reads.{collection_size, complete_test, field_a
 ghost use Rattle.fact_values.specs.declared.fact_type.FactType.{FactType};
 ghost use Rattle.operations.specs.ManyFolds.{saw};
 ghost use Rattle.three_state.specs.Results.{ValueHoldsMemory, count_of};
-ghost use Rattle.three_state.specs.declared.res.Res.TheVariants.{Incomplete};
+ghost use Rattle.fact_values.specs.Values.{HoldsMemory};
+ghost use Rattle.three_state.specs.declared.res.Res.TheVariants.{Complete, Incomplete};
 ghost use Rattle.evaluation.specs.Results.{result_at};
 ghost use Rattle.node_eval.specs.Reached.{reached};
 ghost use Rattle.node_eval.specs.Dependencies.{collection, dependency, field, first_of, read_result, second_of};
@@ -227,6 +228,23 @@ pub fn see_dependency<C: Cells, L: Ledger>(
         _ => return see_far(alloc, cells, at, *reader, fold),
     };
     see_cell(alloc, cells, fact, member, fold)
+}
+
+/// Sees a constant as an operand, which is a step: a call of its own, too.
+#[inline(never)]
+pub fn see_constant<L: Ledger>(
+    alloc: Global,
+    value: &Value,
+    fold: &mut ManyFold,
+    steps: &mut Steps<L>,
+) -> Result<(), NoMemory>
+    requires few { fold.old.count + 1 < 2 ^ 64 }
+    ensures next { OnOk result (fold.new ≡ saw fold.old (Complete value.now)) }
+    ensures memory { IsErr result → HoldsMemory value.now }
+    ensures step { steps.new ≡ steps.old + 1 }
+{
+    steps.tick();
+    fold.see_value(alloc, value)
 }
 
 // ---- the members of a collection

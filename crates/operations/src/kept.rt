@@ -1,14 +1,16 @@
 // What a node with many operands keeps, for each kind of node.
 ghost use Rattle.std.specs.Prelude.{◌≡◌, ◌<◌, ◌^◌, IsErr, OnErr, OnOk};
 ghost use Rattle.three_state.specs.Folds.{verdict_next};
+ghost use Rattle.fact_values.specs.Values.{HoldsMemory};
 ghost use Rattle.three_state.specs.Results.{ValueHoldsMemory};
+ghost use Rattle.three_state.specs.declared.res.Res.TheVariants.{Complete};
 ghost use Rattle.operations.specs.ManyFolds.{calls_kept, calls_of, gathered_after, kept_end, kept_next, kept_start};
 
 use crate::gathered::Gathered;
 use crate::sum::Summed;
 use crate::verdict::after_verdict;
 use dict_source::ManyOp;
-use fact_values::NoMemory;
+use fact_values::{NoMemory, Value};
 use std::alloc::Global;
 use three_state::{AllFold, AnyFold, Res, Strict};
 
@@ -75,6 +77,27 @@ impl Kept {
                 Ok(())
             }
             Kept::Values(verdict, gathered) => see_strict(alloc, verdict, gathered, operand),
+        }
+    }
+
+    #[inline(always)]
+    #[tactic(auto, unfolding(crate::specs::ManyFolds::kept_next), using(crate::proofs::ManyLaws::complete_leaves_verdict))]
+    pub fn see_value(&mut self, alloc: Global, value: &Value) -> Result<(), NoMemory>
+        requires few { calls_kept self.old < 2 ^ 64 }
+        ensures ok { OnOk result (self.new ≡ kept_next self.old (Complete value.now)) }
+        ensures unchanged { OnErr result (self.new ≡ self.old) }
+        ensures memory { IsErr result → HoldsMemory value.now }
+    {
+        match self {
+            Kept::All(fold) => {
+                fold.see(&Res::Complete(value.copy(alloc)?));
+                Ok(())
+            }
+            Kept::Any(fold) => {
+                fold.see(&Res::Complete(value.copy(alloc)?));
+                Ok(())
+            }
+            Kept::Values(_, gathered) => gathered.see_lent(alloc, value),
         }
     }
 

@@ -4,14 +4,16 @@ ghost use Rattle.dict_source.specs.declared.operators.ManyOp.{ManyOp};
 ghost use Rattle.evaluation.specs.Over.{many_of};
 ghost use Rattle.operations.specs.ManyFolds.{AreSeen, many_end, many_start, saw};
 ghost use Rattle.operations.specs.NumberRuns.{numbers_seen};
+ghost use Rattle.fact_values.specs.Values.{HoldsMemory};
 ghost use Rattle.three_state.specs.Results.{ValueHoldsMemory};
 ghost use Rattle.three_state.specs.declared.res.Res.{Res};
+ghost use Rattle.three_state.specs.declared.res.Res.TheVariants.{Complete};
 
 use crate::gathered::Gathered;
 use crate::kept::Kept;
 use crate::sum::summed_as;
 use dict_source::ManyOp;
-use fact_values::{NoMemory, Total};
+use fact_values::{NoMemory, Total, Value};
 use std::alloc::Global;
 use std::marker::Model;
 use three_state::{Res, Strict};
@@ -85,6 +87,20 @@ impl ManyFold {
         ensures memory { IsErr result → ValueHoldsMemory operand.now }
     {
         self.kept.see_lent(alloc, operand)?;
+        self.count += 1;
+        Ok(())
+    }
+
+    /// Sees the next operand, a complete value that stays where it is. It wants memory where a text or a list of members is copied.
+    #[inline(always)]
+    #[tactic(auto, unfolding(crate::specs::ManyFolds::kept_next))]
+    pub fn see_value(&mut self, alloc: Global, value: &Value) -> Result<(), NoMemory>
+        requires few { self.old.count + 1 < 2 ^ 64 }
+        ensures next { OnOk result (self.new ≡ saw self.old (Complete value.now)) }
+        ensures unchanged { OnErr result (self.new ≡ self.old) }
+        ensures memory { IsErr result → HoldsMemory value.now }
+    {
+        self.kept.see_value(alloc, value)?;
         self.count += 1;
         Ok(())
     }
