@@ -6,24 +6,24 @@ use Rattle.std.specs.FinMap as map
 use Rattle.fact_values.specs.declared.slot.Slot.{Slot}
 use Rattle.fact_values.specs.declared.value.Value.{Value}
 use Rattle.answers.specs.declared.edit.Side.{Side}
-use Rattle.answers.specs.declared.pairs.Pair.{Pair}
+use Rattle.answers.specs.declared.sides.Sides.{Sides}
 use Rattle.answers.specs.declared.entries.Entries.{Entries}
 use Rattle.answers.specs.declared.parts.Parts.{Parts}
 use Rattle.answers.specs.Finite.{and_then}
 use Rattle.answers.specs.Answered.{Entry, Answered, of_side, value_of}
 use Rattle.answers.specs.Change.{Change, sets, opens, closes, adds, takes, removes, puts_back, applied, inverse}
-use Rattle.answers.specs.Meaning.{answered, entry_of, maybe_entry, pairs_of, side_of}
+use Rattle.answers.specs.Meaning.{answered, entry_of, maybe_entry, sides_by_fact, side_of}
 use Rattle.answers.specs.Room.{HasFact, HasMember, AtMember, SlotPlace, HasSlot, HasRoom, HasPlaces}
 use Rattle.answers.proofs.FiniteLaws.{get_map_of}
 use Rattle.answers.proofs.SideLaws.{side_at}
 
-pair_there : (side : Side) (o : Option Pair) → IsSome (and_then (side_of side) o) → IsSome o
-pair_there side (Some p) h = refl
-pair_there side None h = h
+sides_there : (side : Side) (o : Option Sides) → IsSome (and_then (side_of side) o) → IsSome o
+sides_there side (Some p) h = refl
+sides_there side None h = h
 
 -- what stands has a place
 fact_place : (side : Side) (e : Entries) (f : ℕ) → IsSome (map.get (of_side side (entry_of e)) f) → HasFact e f
-fact_place side e f h = pair_there side (lookup (nat_eq f) (pairs_of e)) (subst (λ o. IsSome o) (side_at side (pairs_of e) f) h)
+fact_place side e f h = sides_there side (lookup (nat_eq f) (sides_by_fact e)) (subst (λ o. IsSome o) (side_at side (sides_by_fact e) f) h)
 
 member_place : (side : Side) (f : ℕ) (o : Option (Option Entries)) → IsSome (and_then (λ (e : Entry). map.get (of_side side e) f) (and_then maybe_entry o)) → AtMember o f
 member_place side f (Some (Some e)) h = fact_place side e f h

@@ -5,8 +5,8 @@ use Rattle.fact_values.specs.declared.value.Value.{Value as Worth}
 use Rattle.answers.specs.Finite.{Numbered, map_of}
 use Rattle.answers.specs.Answered.{Entry, Answered}
 use Rattle.answers.specs.Change.{Change, sets, opens, closes, adds, takes, removes, puts_back}
-use Rattle.answers.specs.declared.pairs.Pair.{Pair}
-use Rattle.answers.specs.declared.pairs.Pairs.{Pairs}
+use Rattle.answers.specs.declared.sides.Sides.{Sides}
+use Rattle.answers.specs.declared.sides.SidesByFact.{SidesByFact}
 use Rattle.answers.specs.declared.entries.Entries.{Entries}
 use Rattle.answers.specs.declared.edit.Side.{Side}
 use Rattle.answers.specs.declared.edit.Side.TheVariants.{Answer, Override as Overriding}
@@ -17,23 +17,23 @@ use Rattle.answers.specs.declared.members.Members.{Members}
 use Rattle.answers.specs.declared.parts.Parts.{Parts}
 
 -- one side of what stands at a slot
-abbrev pub side_of : Side → Pair → Option Worth
+abbrev pub side_of : Side → Sides → Option Worth
 side_of Answer p = p.answer
 side_of Overriding p = p.overriding
 
-abbrev pub entry_in : List (ℕ × Pair) → Entry
-entry_in pairs = record { values = map_of (side_of Answer) pairs; overrides = map_of (side_of Overriding) pairs }
+abbrev pub entry_in : List (ℕ × Sides) → Entry
+entry_in sides = record { values = map_of (side_of Answer) sides; overrides = map_of (side_of Overriding) sides }
 
--- the pairs by fact: none where no value was put yet
-abbrev pub kept_pairs : Option (Box Pairs Global) → List (ℕ × Pair)
-kept_pairs None = []
-kept_pairs (Some pairs) = pairs.value.by_fact.entries
+-- both sides by fact: none where no value was put yet
+abbrev pub kept_sides : Option (Box SidesByFact Global) → List (ℕ × Sides)
+kept_sides None = []
+kept_sides (Some sides) = sides.value.by_fact.entries
 
-abbrev pub pairs_of : Entries → List (ℕ × Pair)
-pairs_of e = kept_pairs e.kept
+abbrev pub sides_by_fact : Entries → List (ℕ × Sides)
+sides_by_fact e = kept_sides e.kept
 
 abbrev pub entry_of : Entries → Entry
-entry_of e = entry_in (pairs_of e)
+entry_of e = entry_in (sides_by_fact e)
 
 abbrev pub maybe_entry : Option Entries → Option Entry
 maybe_entry o = option_map entry_of o

@@ -4,9 +4,9 @@ use Rattle.std.specs.Map.{lookup}
 use Rattle.fact_values.specs.declared.slot.Slot.{Slot}
 use Rattle.answers.specs.Answered.{Answered, value_of}
 use Rattle.answers.specs.Change.{Change, sets, opens, closes, adds, takes, removes, puts_back}
-use Rattle.answers.specs.Meaning.{pairs_of}
+use Rattle.answers.specs.Meaning.{sides_by_fact}
 use Rattle.answers.specs.declared.edit.Side.{Side}
-use Rattle.answers.specs.declared.pairs.Pair.{Pair}
+use Rattle.answers.specs.declared.sides.Sides.{Sides}
 use Rattle.answers.specs.declared.entries.Entries.{Entries}
 use Rattle.answers.specs.declared.lists.Lists.{Lists}
 use Rattle.answers.specs.declared.members.Members.{Members}
@@ -21,11 +21,11 @@ abbrev pub HasMember : Members → ℕ → Type 0
 HasMember m k = IsSome (lookup (nat_eq k) m.kept.entries)
 
 -- a fact has a place, for an answer and an override
-abbrev pub HasPair : List (ℕ × Pair) → ℕ → Type 0
-HasPair pairs f = IsSome (lookup (nat_eq f) pairs)
+abbrev pub HasSides : List (ℕ × Sides) → ℕ → Type 0
+HasSides sides f = IsSome (lookup (nat_eq f) sides)
 
 abbrev pub HasFact : Entries → ℕ → Type 0
-HasFact e f = HasPair (pairs_of e) f
+HasFact e f = HasSides (sides_by_fact e) f
 
 -- a fact has a place in the entry of a member that stands
 abbrev pub InEntry : Option Entries → ℕ → Type 0

@@ -7,7 +7,7 @@ ghost use Rattle.answers.specs.Meaning.{entry_of};
 ghost use Rattle.answers.specs.Room.{HasFact};
 
 use crate::edit::Side;
-use crate::pairs::Pairs;
+use crate::sides::SidesByFact;
 use fact_values::Value;
 use std::alloc::Global;
 
@@ -16,7 +16,7 @@ use std::alloc::Global;
 #[derive(Drop)]
 pub struct Entries {
     alloc: Global,
-    kept: Option<Box<Pairs>>,
+    kept: Option<Box<SidesByFact>>,
 }
 
 impl Entries {
@@ -31,7 +31,7 @@ impl Entries {
         ensures { option_copied result ≡ map.get (of_side side (entry_of self.now)) fact }
     {
         match &self.kept {
-            Some(pairs) => pairs.get(side, fact),
+            Some(by_fact) => by_fact.get(side, fact),
             None => None,
         }
     }
@@ -53,7 +53,7 @@ impl Entries {
         ensures places { (k : ℕ) → HasFact self.old k → HasFact self.new k }
     {
         match &mut self.kept {
-            Some(pairs) => pairs.put(side, fact, value),
+            Some(by_fact) => by_fact.put(side, fact, value),
             None => match value {
                 Some(value) => self.put_first(side, fact, value),
                 None => Ok(None),
@@ -75,9 +75,9 @@ impl Entries {
         ensures value_returned { IfErr result (λ v. v ≡ Some value) }
         ensures place { OnOk result (HasFact self.new fact) }
     {
-        match Pairs::with_first(self.alloc, side, fact, value) {
-            Ok(pairs) => {
-                self.kept = Some(pairs);
+        match SidesByFact::with_first(self.alloc, side, fact, value) {
+            Ok(by_fact) => {
+                self.kept = Some(by_fact);
                 Ok(None)
             }
             Err(value) => Err(value),

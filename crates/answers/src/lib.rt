@@ -8,8 +8,8 @@ pub mod laws;
 mod listed;
 mod lists;
 mod members;
-mod pairs;
 mod parts;
+mod sides;
 
 pub use answers::Answers;
 pub use edit::{Edit, Gone, Side, Unapplied};

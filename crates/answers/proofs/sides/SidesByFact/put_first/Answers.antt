@@ -2,14 +2,14 @@ use Rattle.std.proofs.Common.{◌≡◌, Option, Some, None, refl, sym, ◌∙�
 use Rattle.std.specs.Prelude.{IsSome, nat_eq}
 use Rattle.std.specs.Map.{lookup}
 use Rattle.answers.specs.declared.edit.Side.{Side}
-use Rattle.answers.specs.declared.pairs.Pair.{Pair}
+use Rattle.answers.specs.declared.sides.Sides.{Sides}
 use Rattle.answers.specs.Finite.{and_then}
 use Rattle.answers.specs.Meaning.{side_of}
 use Rattle.answers.proofs.SideLaws.{side_at, side_written}
-use Rattle.answers.proofs.pairs.Pairs.put_first.Goals as goal
+use Rattle.answers.proofs.sides.SidesByFact.put_first.Goals as goal
 
--- where no pair is, neither side stands
-no_side : (side : Side) (o : Option Pair) → (IsSome o → ⊥) → and_then (side_of side) o ≡ None
+-- at a fact without a place, neither side stands
+no_side : (side : Side) (o : Option Sides) → (IsSome o → ⊥) → and_then (side_of side) o ≡ None
 no_side side None h = refl
 no_side side (Some p) h = absurd (h refl)
 

@@ -4,7 +4,7 @@ ghost use Rattle.std.specs.FinMap as map;
 ghost use Rattle.answers.specs.Answered.{blank, of_side};
 ghost use Rattle.answers.specs.Change.{with_value};
 ghost use Rattle.answers.specs.Meaning.{entry_in, side_of};
-ghost use Rattle.answers.specs.Room.{HasPair};
+ghost use Rattle.answers.specs.Room.{HasSides};
 
 use crate::edit::Side;
 use fact_values::{NoMemory, Value};
@@ -12,30 +12,30 @@ use indexmap::IndexMap;
 use std::alloc::Global;
 use std::mem;
 
-/// What stands at a slot.
+/// What stands at a slot: both sides of it.
 #[derive(Drop)]
-pub struct Pair {
+pub struct Sides {
     answer: Option<Value>,
     overriding: Option<Value>,
 }
 
 /// What stands at each fact. A fact where nothing stands any more keeps its place.
 #[derive(Drop)]
-pub struct Pairs {
-    by_fact: IndexMap<u32, Pair>,
+pub struct SidesByFact {
+    by_fact: IndexMap<u32, Sides>,
 }
 
-impl Pair {
-    fn only(side: Side, value: Value) -> Pair
+impl Sides {
+    fn only(side: Side, value: Value) -> Sides
         ensures value { side_of side result ≡ Some value }
         ensures other { (q : Side) → (q ≡ side → ⊥) → side_of q result ≡ None }
     {
         match side {
-            Side::Answer => Pair {
+            Side::Answer => Sides {
                 answer: Some(value),
                 overriding: None,
             },
-            Side::Override => Pair {
+            Side::Override => Sides {
                 answer: None,
                 overriding: Some(value),
             },
@@ -63,23 +63,23 @@ impl Pair {
     }
 }
 
-impl Pairs {
+impl SidesByFact {
     /// A value at one fact. For want of memory it comes back.
     pub fn with_first(
         alloc: Global,
         side: Side,
         fact: u32,
         value: Value,
-    ) -> Result<Box<Pairs>, Option<Value>>
+    ) -> Result<Box<SidesByFact>, Option<Value>>
         ensures new { IfOk result (λ p. entry_in p.value.by_fact.entries ≡ with_value side fact (Some value) blank) }
-        ensures place { IfOk result (λ p. HasPair p.value.by_fact.entries fact) }
+        ensures place { IfOk result (λ p. HasSides p.value.by_fact.entries fact) }
         ensures value_returned { IfErr result (λ v. v ≡ Some value) }
     {
-        match Pairs::empty(alloc) {
-            Ok(mut pairs) => match pairs.put_first(side, fact, value) {
-                Ok(_) => Ok(pairs),
+        match SidesByFact::empty(alloc) {
+            Ok(mut by_fact) => match by_fact.put_first(side, fact, value) {
+                Ok(_) => Ok(by_fact),
                 Err(value) => {
-                    drop(pairs);
+                    drop(by_fact);
                     Err(value)
                 }
             },
@@ -87,12 +87,12 @@ impl Pairs {
         }
     }
 
-    fn empty(alloc: Global) -> Result<Box<Pairs>, NoMemory>
+    fn empty(alloc: Global) -> Result<Box<SidesByFact>, NoMemory>
         ensures { IfOk result (λ p. p.value.by_fact.entries ≡ []) }
     {
         let by_fact = IndexMap::new(alloc);
-        match Box::new(alloc, Pairs { by_fact }) {
-            Ok(pairs) => Ok(pairs),
+        match Box::new(alloc, SidesByFact { by_fact }) {
+            Ok(sides) => Ok(sides),
             Err(_) => Err(NoMemory),
         }
     }
@@ -102,7 +102,7 @@ impl Pairs {
         ensures { option_copied result ≡ map.get (of_side side (entry_in self.now.by_fact.entries)) fact }
     {
         match self.by_fact.get(&fact) {
-            Some(pair) => pair.standing(side),
+            Some(sides) => sides.standing(side),
             None => None,
         }
     }
@@ -119,13 +119,13 @@ impl Pairs {
             (entry_in self.old.by_fact.entries)) }
         ensures err { OnErr result (entry_in self.new.by_fact.entries ≡ entry_in self.old.by_fact.entries) }
         ensures value_returned { IfErr result (λ v. v ≡ value) }
-        ensures room { HasPair self.old.by_fact.entries fact → IsOk result }
+        ensures room { HasSides self.old.by_fact.entries fact → IsOk result }
         ensures clearing { value ≡ None → IsOk result }
-        ensures place { IsSome value → OnOk result (HasPair self.new.by_fact.entries fact) }
-        ensures places { (k : ℕ) → HasPair self.old.by_fact.entries k → HasPair self.new.by_fact.entries k }
+        ensures place { IsSome value → OnOk result (HasSides self.new.by_fact.entries fact) }
+        ensures places { (k : ℕ) → HasSides self.old.by_fact.entries k → HasSides self.new.by_fact.entries k }
     {
         match self.by_fact.get_mut(&fact) {
-            Some(pair) => Ok(pair.replace(side, value)),
+            Some(sides) => Ok(sides.replace(side, value)),
             None => match value {
                 Some(value) => self.put_first(side, fact, value),
                 None => Ok(None),
@@ -140,24 +140,24 @@ impl Pairs {
         fact: u32,
         value: Value,
     ) -> Result<Option<Value>, Option<Value>>
-        requires { HasPair self.old.by_fact.entries fact → ⊥ }
+        requires { HasSides self.old.by_fact.entries fact → ⊥ }
         ensures old { IfOk result (λ old. old ≡ None) }
         ensures new { OnOk result (entry_in self.new.by_fact.entries ≡ with_value side fact (Some value)
             (entry_in self.old.by_fact.entries)) }
         ensures err { OnErr result (entry_in self.new.by_fact.entries ≡ entry_in self.old.by_fact.entries) }
         ensures value_returned { IfErr result (λ v. v ≡ Some value) }
-        ensures place { OnOk result (HasPair self.new.by_fact.entries fact) }
-        ensures places { (k : ℕ) → HasPair self.old.by_fact.entries k → HasPair self.new.by_fact.entries k }
+        ensures place { OnOk result (HasSides self.new.by_fact.entries fact) }
+        ensures places { (k : ℕ) → HasSides self.old.by_fact.entries k → HasSides self.new.by_fact.entries k }
     {
-        match self.by_fact.insert(fact, Pair::only(side, value)) {
+        match self.by_fact.insert(fact, Sides::only(side, value)) {
             Ok(old) => {
                 drop(old);
                 Ok(None)
             }
             Err(failed) => {
-                let mut pair = failed.value.1;
-                let value = pair.replace(side, None);
-                drop(pair);
+                let mut sides = failed.value.1;
+                let value = sides.replace(side, None);
+                drop(sides);
                 Err(value)
             }
         }

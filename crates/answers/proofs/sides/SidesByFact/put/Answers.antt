@@ -3,7 +3,7 @@ use Rattle.std.proofs.lemmas.Result.{IfOk-weaker}
 use Rattle.answers.specs.Finite.{and_then}
 use Rattle.answers.specs.Meaning.{side_of, entry_in}
 use Rattle.answers.proofs.SideLaws.{side_at, side_written, side_cleared}
-use Rattle.answers.proofs.pairs.Pairs.put.Goals as goal
+use Rattle.answers.proofs.sides.SidesByFact.put.Goals as goal
 
 pub returns-in-Some-clause-old : goal.returns-in-Some-clause-old
 returns-in-Some-clause-old c = c.replace.ensures.old ∙ ap (and_then (side_of c.args.side)) c.in-Some.ensures.value ∙ sym (side_at c.args.side c.args.self.now.by_fact.entries c.args.fact)
