@@ -11,7 +11,7 @@ use Rattle.dict_meaning.specs.Feeds.{feeds}
 use Rattle.dict_meaning.proofs.FeedLaws.{feeds_by_mentions}
 use Rattle.dep_index.specs.Laws.{FeedsByReaders, reads}
 use Rattle.dep_index.specs.Readers.{all_same, is_mentioned_by, is_reader}
-use Rattle.dep_index.specs.declared.row.ReaderOf.{ReaderOf}
+use Rattle.dep_index.specs.declared.readers_of.ReaderOf.{ReaderOf}
 
 -- each reader that is the fact of s says the same of s
 read_by : (d : Tree) (t s : Slot) (rs : List ReaderOf) → All (λ (r : ReaderOf). r.same ≡ all_same d t.fact r.fact) rs

@@ -10,7 +10,7 @@ use Rattle.dict_source.specs.declared.mentions.Mention.{Mention}
 use Rattle.dict_meaning.specs.Feeds.{is_of, mentions_of}
 use Rattle.dep_index.specs.Noting.{newest, noted, noted_after, with_facts, with_mentions}
 use Rattle.dep_index.specs.Readers.{all_same, is_mentioned_by}
-use Rattle.dep_index.specs.declared.row.ReaderOf.{ReaderOf}
+use Rattle.dep_index.specs.declared.readers_of.ReaderOf.{ReaderOf}
 
 -- ---- the newest reader
 

@@ -14,7 +14,7 @@ use Rattle.dict_source.specs.Tree.{Source, many, no_trees, read, tree}
 use Rattle.dict_source.specs.Facts.{Fact, Stated, scalar, writable_list}
 use Rattle.dict_source.specs.Dictionary.{Dictionary as Tree}
 use Rattle.dep_index.specs.Noting.{with_facts}
-use Rattle.dep_index.specs.declared.row.ReaderOf.{ReaderOf}
+use Rattle.dep_index.specs.declared.readers_of.ReaderOf.{ReaderOf}
 
 abbrev fact : FactPath → Stated → Option Source → Fact
 fact path stated main = record {

@@ -23,7 +23,7 @@ use Rattle.dictionary.proofs.ByRankLaws.{place_of_fact}
 use Rattle.dict_meaning.proofs.NumberLaws.{fact_within}
 use Rattle.dep_index.specs.Noting.{with_facts}
 use Rattle.dep_index.specs.Readers.{AreReaders, ComesBefore, all_same, is_mentioned_by, is_reader}
-use Rattle.dep_index.specs.declared.row.ReaderOf.{ReaderOf}
+use Rattle.dep_index.specs.declared.readers_of.ReaderOf.{ReaderOf}
 use Rattle.dep_index.proofs.NotingLaws.{noted_in_order, reader}
 
 -- ---- the order of the facts

@@ -8,7 +8,7 @@ use Rattle.common_lemmas.proofs.Numbers.{equal_number}
 use Rattle.dict_source.specs.Finding.{IsNumber}
 use Rattle.dep_index.specs.Laws.{ReadersAreFacts}
 use Rattle.dep_index.specs.Readers.{is_reader}
-use Rattle.dep_index.specs.declared.row.ReaderOf.{ReaderOf}
+use Rattle.dep_index.specs.declared.readers_of.ReaderOf.{ReaderOf}
 use Rattle.dep_index.proofs.ReaderLaws.{mentions_number}
 
 -- what holds of each reader that is found holds of all

@@ -6,7 +6,7 @@ use Rattle.dict_source.specs.Finding.{IsNumber}
 use Rattle.dict_meaning.specs.Accepted.{Accepted}
 use Rattle.dict_meaning.specs.Feeds.{feeds}
 use Rattle.dep_index.specs.Readers.{AreReaders, is_reader}
-use Rattle.dep_index.specs.declared.row.ReaderOf.{ReaderOf}
+use Rattle.dep_index.specs.declared.readers_of.ReaderOf.{ReaderOf}
 
 -- the slot s is the reader's, and where each of its mentions is Same, the members are equal
 abbrev pub reads : Slot → Slot → ReaderOf → Bool

@@ -3,7 +3,7 @@ use Rattle.std.specs.Prelude.{ℕ, ◌-◌, ◌&&◌, Bool, nat_eq, if◌then◌
 use Rattle.dict_source.specs.Dictionary.{Dictionary as Tree}
 use Rattle.dict_source.specs.declared.mentions.Mention.{Mention}
 use Rattle.dict_meaning.specs.Feeds.{is_of, mentions_of}
-use Rattle.dep_index.specs.declared.row.ReaderOf.{ReaderOf}
+use Rattle.dep_index.specs.declared.readers_of.ReaderOf.{ReaderOf}
 
 abbrev pub newest : List ReaderOf → Option ReaderOf
 newest rs = slice_get rs (length rs - 1)

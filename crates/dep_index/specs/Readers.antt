@@ -6,7 +6,7 @@ use Rattle.dict_source.specs.Finding.{IsNumber}
 use Rattle.dict_meaning.specs.Accepted.{Accepted}
 use Rattle.dict_meaning.specs.Feeds.{is_of, mentions_of}
 use Rattle.dict_meaning.specs.Plain.{rank}
-use Rattle.dep_index.specs.declared.row.ReaderOf.{ReaderOf}
+use Rattle.dep_index.specs.declared.readers_of.ReaderOf.{ReaderOf}
 
 -- the fact is mentioned by the reader
 abbrev pub is_mentioned_by : Tree → ℕ → ℕ → Bool
@@ -33,14 +33,14 @@ pub record AreReaders (d : Accepted) (fact : ℕ) (rs : List ReaderOf) : Type 0 
 
 -- ---- of all facts, by their numbers from 1
 
-abbrev pub row : List (List ReaderOf) → ℕ → List ReaderOf
-row rows zero = []
-row rows (suc place) = slice_index_or rows place []
+abbrev pub readers_of : List (List ReaderOf) → ℕ → List ReaderOf
+readers_of by_fact zero = []
+readers_of by_fact (suc place) = slice_index_or by_fact place []
 
--- there is a row for the fact
-abbrev pub HasRow : List (List ReaderOf) → ℕ → Type 0
-HasRow rows fact = (1 ≤ fact) × (fact ≤ length rows)
+-- the index has a place for the fact
+abbrev pub IsIndexed : List (List ReaderOf) → ℕ → Type 0
+IsIndexed by_fact fact = (1 ≤ fact) × (fact ≤ length by_fact)
 
-pub record IsIndex (d : Accepted) (rows : List (List ReaderOf)) : Type 0 where
-  pub count : length rows ≡ length d.tree.facts
-  pub each : (fact : ℕ) → IsNumber d.tree.facts fact → AreReaders d fact (row rows fact)
+pub record IsIndex (d : Accepted) (by_fact : List (List ReaderOf)) : Type 0 where
+  pub count : length by_fact ≡ length d.tree.facts
+  pub each : (fact : ℕ) → IsNumber d.tree.facts fact → AreReaders d fact (readers_of by_fact fact)

@@ -3,7 +3,7 @@
 
 mod index;
 pub mod laws;
-mod row;
+mod readers_of;
 
 pub use index::{Readers, build};
-pub use row::ReaderOf;
+pub use readers_of::ReaderOf;

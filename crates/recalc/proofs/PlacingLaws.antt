@@ -10,8 +10,8 @@ use Rattle.fact_values.specs.declared.slot.Slot.{Slot}
 use Rattle.answers.specs.Answered.{Answered, list_of, value_of}
 use Rattle.answers.specs.declared.edit.Side.TheVariants.{Override}
 use Rattle.cell_store.specs.Contents.{Cells}
-use Rattle.dep_index.specs.Readers.{row}
-use Rattle.dep_index.specs.declared.row.ReaderOf.{ReaderOf}
+use Rattle.dep_index.specs.Readers.{readers_of}
+use Rattle.dep_index.specs.declared.readers_of.ReaderOf.{ReaderOf}
 use Rattle.dict_source.specs.Dictionary.{Dictionary as Tree}
 use Rattle.dict_source.specs.Facts.{Fact}
 use Rattle.dict_source.specs.Finding.{fact_at, IsNumber}
@@ -74,9 +74,9 @@ at_index P (r ∷ rows) zero p low h = h
 at_index P (r ∷ rows) (suc i) p low h = at_index P rows i p (omega arith) h
 
 pub placed_at : (d : Accepted) (places : DirtySlots) (readers : List (List ReaderOf)) (rows : List PlacedReaders) → AllArePlaced d places readers rows
-    → (fact : ℕ) (p : PlacedReaders) → fact < length rows → p ≡ get_or rows fact p → ArePlaced d places fact (row readers fact) [] p
+    → (fact : ℕ) (p : PlacedReaders) → fact < length rows → p ≡ get_or rows fact p → ArePlaced d places fact (readers_of readers fact) [] p
 placed_at d places readers rows all fact p low is =
-    subst (ArePlaced d places fact (row readers fact) []) (sym is) (at_index (ArePlaced d places fact (row readers fact) []) rows fact p low (all.each fact))
+    subst (ArePlaced d places fact (readers_of readers fact) []) (sym is) (at_index (ArePlaced d places fact (readers_of readers fact) []) rows fact p low (all.each fact))
 
 -- ---- which slots wait
 

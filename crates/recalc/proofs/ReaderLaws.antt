@@ -15,7 +15,7 @@ use Rattle.dict_meaning.specs.Plain.{rank}
 use Rattle.evaluation.specs.Results.{slot}
 use Rattle.dict_meaning.specs.Slots.{is_member, members_of_home, stands_at, stands_of}
 use Rattle.dep_index.specs.Laws.{reads}
-use Rattle.dep_index.specs.declared.row.ReaderOf.{ReaderOf}
+use Rattle.dep_index.specs.declared.readers_of.ReaderOf.{ReaderOf}
 use Rattle.dep_index.proofs.FeedLaws.{feeds_by_readers}
 use Rattle.recalc.specs.Readers.{dirty_of, marks, marks_at, marks_of, MarksFeed, reads_at}
 use Rattle.dirty_slots.specs.Waiting.{dirty_same}

@@ -12,7 +12,7 @@ use Rattle.cell_store.specs.Contents.{Cells}
 use Rattle.cell_store.specs.declared.cell.Cell.{Cell}
 use Rattle.cell_store.proofs.SlotLaws.{get_put_at}
 use Rattle.dep_index.specs.Readers.{AreReaders}
-use Rattle.dep_index.specs.declared.row.ReaderOf.{ReaderOf}
+use Rattle.dep_index.specs.declared.readers_of.ReaderOf.{ReaderOf}
 use Rattle.dict_meaning.specs.Accepted.{Accepted}
 use Rattle.dict_meaning.specs.Feeds.{feeds}
 use Rattle.dict_meaning.specs.Plain.{IsPlainBelow, plain, rank}

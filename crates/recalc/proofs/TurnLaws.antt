@@ -6,7 +6,7 @@ use Rattle.three_state.specs.declared.res.Res.{Res}
 use Rattle.cell_store.specs.Contents.{Cells, has_other}
 use Rattle.cell_store.specs.Places.{put_at}
 use Rattle.cell_store.specs.declared.cell.Cell.{Cell}
-use Rattle.dep_index.specs.declared.row.ReaderOf.{ReaderOf}
+use Rattle.dep_index.specs.declared.readers_of.ReaderOf.{ReaderOf}
 use Rattle.dict_meaning.specs.Plain.{plain}
 use Rattle.recalc.specs.Replacing.{entries}
 use Rattle.recalc.specs.Running.{HasTurned, is_that, let_by_all, live_results, live_results_in, Setting, stamped_cell}

@@ -1,8 +1,8 @@
 -- Which readers of a fact stand as places of the queue.
 use Rattle.std.specs.Prelude.{◌≡◌, ◌+◌, ◌<◌, ℕ, Bool, not, ◌||◌, nat_eq, IsTrue, List, [], length, All, IfSome, slice_get}
 use Rattle.std.specs.List.{list_any}
-use Rattle.dep_index.specs.Readers.{row}
-use Rattle.dep_index.specs.declared.row.ReaderOf.{ReaderOf}
+use Rattle.dep_index.specs.Readers.{readers_of}
+use Rattle.dep_index.specs.declared.readers_of.ReaderOf.{ReaderOf}
 use Rattle.dict_source.specs.Finding.{IsNumber}
 use Rattle.dict_meaning.specs.Accepted.{Accepted}
 use Rattle.dict_meaning.specs.Homes.{home}
@@ -39,4 +39,4 @@ pub record ArePlaced (d : Accepted) (places : DirtySlots) (fact : ℕ) (all left
 -- so of each fact, by its number; there is a row for 0 too
 pub record AllArePlaced (d : Accepted) (places : DirtySlots) (readers : List (List ReaderOf)) (rows : List PlacedReaders) : Type 0 where
   pub count : length rows ≡ length d.tree.facts + 1
-  pub each : (fact : ℕ) → IfSome (slice_get rows fact) (ArePlaced d places fact (row readers fact) [])
+  pub each : (fact : ℕ) → IfSome (slice_get rows fact) (ArePlaced d places fact (readers_of readers fact) [])

@@ -10,7 +10,7 @@ use Rattle.dict_meaning.specs.Plain.{rank}
 use Rattle.evaluation.specs.Results.{slot}
 use Rattle.dict_meaning.specs.Slots.{members_of_home, stands}
 use Rattle.dep_index.specs.Readers.{AreReaders}
-use Rattle.dep_index.specs.declared.row.ReaderOf.{ReaderOf}
+use Rattle.dep_index.specs.declared.readers_of.ReaderOf.{ReaderOf}
 use Rattle.dirty_slots.specs.Waiting.{dirty_same}
 use Rattle.dirty_slots.specs.declared.dirty_slot.DirtySlot.{DirtySlot}
 

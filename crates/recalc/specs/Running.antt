@@ -8,7 +8,7 @@ use Rattle.cell_store.specs.Contents.{Cells}
 use Rattle.cell_store.specs.Places.{put_at}
 use Rattle.cell_store.specs.declared.cell.Cell.{Cell}
 use Rattle.dict_meaning.specs.Accepted.{Accepted, IsAccepted}
-use Rattle.dep_index.specs.declared.row.ReaderOf.{ReaderOf}
+use Rattle.dep_index.specs.declared.readers_of.ReaderOf.{ReaderOf}
 use Rattle.dict_meaning.specs.Plain.{plain, rank}
 use Rattle.evaluation.specs.Results.{Results, slot}
 use Rattle.dict_meaning.specs.Slots.{stands}

@@ -4,7 +4,7 @@ ghost use Rattle.std.specs.List.{list_any};
 ghost use Rattle.answers.specs.Answered.{value_of};
 ghost use Rattle.answers.specs.Meaning.{answered};
 ghost use Rattle.answers.specs.declared.edit.Side.TheVariants.{Override};
-ghost use Rattle.dep_index.specs.Readers.{row};
+ghost use Rattle.dep_index.specs.Readers.{readers_of};
 ghost use Rattle.dict_source.specs.Finding.{IsNumber};
 ghost use Rattle.dictionary.specs.Kept.{accepted};
 ghost use Rattle.dict_meaning.specs.Final.{is_complete_in};
@@ -42,7 +42,7 @@ pub fn mark(
     requires stands { IsTrue (stands (accepted propagation.now.dict.now).tree (answered propagation.now.answers.now)
         slot) }
     ensures marked { OnOk result ((q : DirtySlot) → waits queue.new q ≡ (waits queue.old q
-        || let_by_all (setting_of propagation.now) store.now.cells slot (row graph.now.readers slot.fact) q)) }
+        || let_by_all (setting_of propagation.now) store.now.cells slot (readers_of graph.now.readers slot.fact) q)) }
     ensures places { queue.new.places ≡ queue.old.places }
 {
     if propagation.extended {

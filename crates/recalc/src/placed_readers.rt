@@ -1,7 +1,7 @@
 // The readers of each fact, of which those that are global facts stand as places of the queue.
 ghost use Rattle.std.specs.Prelude.{[], ◌∷◌, All, IfOk, IfSome, List, OnOk};
 ghost use Rattle.dep_index.specs.Readers.{IsIndex};
-ghost use Rattle.dep_index.specs.declared.row.ReaderOf.{ReaderOf as OneReader};
+ghost use Rattle.dep_index.specs.declared.readers_of.ReaderOf.{ReaderOf as OneReader};
 ghost use Rattle.dict_source.specs.Finding.{IsNumber};
 ghost use Rattle.dictionary.specs.Kept.{accepted};
 ghost use Rattle.recalc.specs.PlacedReaders.{AllArePlaced, ArePlaced, IsPlaced};

@@ -2,7 +2,7 @@
 ghost use Rattle.std.specs.Prelude.{◌≡◌, ◌+◌, ◌≤◌, ◌&&◌, ◌||◌, false, IsTrue, OnOk};
 ghost use Rattle.answers.specs.Meaning.{answered};
 ghost use Rattle.answers.specs.WellFormed.{FromOne, WellFormed};
-ghost use Rattle.dep_index.specs.Readers.{row};
+ghost use Rattle.dep_index.specs.Readers.{readers_of};
 ghost use Rattle.dictionary.specs.Kept.{accepted};
 ghost use Rattle.dict_meaning.specs.Plain.{IsPlainBelow, rank};
 ghost use Rattle.dict_meaning.specs.Slots.{stands};
@@ -44,7 +44,7 @@ fn mark_if(
         slot) }
     ensures marked { OnOk result ((q : DirtySlot) → waits queue.new q ≡ (waits queue.old q
         || (moved
-        && let_by_all (setting_of propagation.now) store.now.cells slot (row graph.now.readers slot.fact) q))) }
+        && let_by_all (setting_of propagation.now) store.now.cells slot (readers_of graph.now.readers slot.fact) q))) }
     ensures places { queue.new.places ≡ queue.old.places }
 {
     if moved {
@@ -75,7 +75,7 @@ pub fn turn<L: Ledger>(
         (rank (accepted propagation.now.dict.now) slot.fact) (live_results_in (setting_of propagation.now)
         state.old.store.cells) }
     requires fresh { is_in (slots_done state.old) slot ≡ false }
-    ensures turned { OnOk result (HasTurned (setting_of propagation.now) (row graph.now.readers slot.fact) slot
+    ensures turned { OnOk result (HasTurned (setting_of propagation.now) (readers_of graph.now.readers slot.fact) slot
         state.old state.new) }
     ensures undo { before (entries state.new.log) state.new.store.cells
         ≡ before (entries state.old.log) state.old.store.cells }

@@ -4,8 +4,8 @@ use Rattle.answers.specs.Answered.{Answered}
 use Rattle.answers.specs.Meaning.{answered}
 use Rattle.dictionary.specs.Kept.{accepted}
 use Rattle.dict_source.specs.Finding.{IsNumber}
-use Rattle.dep_index.specs.Readers.{row}
-use Rattle.dep_index.specs.declared.row.ReaderOf.{ReaderOf}
+use Rattle.dep_index.specs.Readers.{readers_of}
+use Rattle.dep_index.specs.declared.readers_of.ReaderOf.{ReaderOf}
 use Rattle.dep_index.proofs.ReaderNumbers.{readers_are_facts}
 use Rattle.dict_meaning.specs.Accepted.{Accepted}
 use Rattle.dict_meaning.specs.Slots.{stands}
@@ -27,7 +27,7 @@ mark_all-requires c =
     let d = accepted c.args.propagation.now.dict.now in
     let fact = c.args.slot.fact in
     subst (λ (rs : List ReaderOf). All (λ (r : ReaderOf). IsNumber d.tree.facts r.fact) rs) (sym c.readers-readers.ensures)
-    (readers_are_facts d fact (row c.args.graph.now.readers fact) (c.requires.graph.index.each fact (number_of_standing d (answered c.args.propagation.now.answers.now) c.args.slot c.requires.stands)))
+    (readers_are_facts d fact (readers_of c.args.graph.now.readers fact) (c.requires.graph.index.each fact (number_of_standing d (answered c.args.propagation.now.answers.now) c.args.slot c.requires.stands)))
 
 pub index-readers-requires : goal.index-readers-requires
 index-readers-requires c =
@@ -35,7 +35,7 @@ index-readers-requires c =
     omega (arith, number.1, c.requires.graph.placed.count, c.args.graph.now.placed.ok.0)
 
 row_of : (d : Accepted) (a : Answered) (g : DependencyGraph) (s : Slot) (p : PlacedReaders) → IsGraphOf d g → IsTrue (stands d.tree a s) → p ≡ get_or g.placed.items s.fact p
-    → ArePlaced d g.places.value s.fact (row g.readers s.fact) [] p
+    → ArePlaced d g.places.value s.fact (readers_of g.readers s.fact) [] p
 row_of d a g s p graph there is =
     let number = number_of_standing d a s there in
     placed_at d g.places.value g.readers g.placed.items graph.placed s.fact p (omega (arith, number.1, graph.placed.count)) is
@@ -71,4 +71,4 @@ returns-clause-marked c =
     ∙ turned (is_at_any old.places c.deref.result.now q) (waits old q) (let_by_all k c.args.store.now.cells s p.others.items q)
     ∙ ap (λ b. waits old q || b)
     ((λ i. is_at_any (c.requires.places i) (c.deref.ensures.value i) q || let_by_all k c.args.store.now.cells s p.others.items q)
-    ∙ placed_let k c.args.store.now.cells s q c.if-propagation.false (global_stands k.dict.tree k.now s c.requires.stands) g.places.value (row g.readers s.fact) p are))
+    ∙ placed_let k c.args.store.now.cells s q c.if-propagation.false (global_stands k.dict.tree k.now s c.requires.stands) g.places.value (readers_of g.readers s.fact) p are))

@@ -1,7 +1,7 @@
 use Rattle.std.proofs.Common.{◌+◌, drop, List, subst}
 use Rattle.std.proofs.lemmas.List.{at_drop_more}
 use Rattle.dictionary.specs.Kept.{accepted}
-use Rattle.dep_index.specs.declared.row.ReaderOf.{ReaderOf}
+use Rattle.dep_index.specs.declared.readers_of.ReaderOf.{ReaderOf}
 use Rattle.recalc.specs.PlacedReaders.{ArePlaced}
 use Rattle.recalc.proofs.placed_readers.place_row.Goals as goal
 

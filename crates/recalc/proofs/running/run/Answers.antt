@@ -1,6 +1,6 @@
 use Rattle.std.proofs.Common.{◌≡◌, ◌∙◌, List, false, ap, arith, subst, sym}
-use Rattle.dep_index.specs.Readers.{row}
-use Rattle.dep_index.specs.declared.row.ReaderOf.{ReaderOf}
+use Rattle.dep_index.specs.Readers.{readers_of}
+use Rattle.dep_index.specs.declared.readers_of.ReaderOf.{ReaderOf}
 use Rattle.dict_meaning.specs.Weights.{slot_weight}
 use Rattle.visit_counts.specs.SlotVisits.{slot_visits}
 use Rattle.recalc.specs.Propagations.{setting_of, spread_of}
@@ -38,7 +38,7 @@ loop-dirty-preserved g c =
     let s = spread_of c.args.propagation.now in
     let first = c.args.state.now.store.cells in
     let dirty = c.in-Some.dirty in
-    let rs : List ReaderOf = row c.args.graph.now.readers dirty.fact in
+    let rs : List ReaderOf = readers_of c.args.graph.now.readers dirty.fact in
     let pop : IsPopped c.loop-dirty.state.queue c.pop.new.self dirty = record { some = c.in-Some.ensures.some; rest = c.in-Some.ensures.rest; least = c.in-Some.ensures.least } in
     let are = c.requires.graph.index.each dirty.fact (popped_number k s first c.requires.propagation c.loop-dirty.state c.loop-dirty.invariant.running c.pop.new.self dirty pop) in
     let more = done_more k s first c.requires.propagation c.loop-dirty.state c.loop-dirty.invariant.running c.pop.new.self dirty pop rs are c.turn.new.state c.in_ok-turn.ensures.turned in
@@ -63,7 +63,7 @@ loop-dirty-smaller g c =
     let s = spread_of c.args.propagation.now in
     let first = c.args.state.now.store.cells in
     let dirty = c.in-Some.dirty in
-    let rs : List ReaderOf = row c.args.graph.now.readers dirty.fact in
+    let rs : List ReaderOf = readers_of c.args.graph.now.readers dirty.fact in
     let pop : IsPopped c.loop-dirty.state.queue c.pop.new.self dirty = record { some = c.in-Some.ensures.some; rest = c.in-Some.ensures.rest; least = c.in-Some.ensures.least } in
     let are = c.requires.graph.index.each dirty.fact (popped_number k s first c.requires.propagation c.loop-dirty.state c.loop-dirty.invariant.running c.pop.new.self dirty pop) in
     fewer k s first c.requires.propagation c.loop-dirty.state c.loop-dirty.invariant.running c.pop.new.self dirty pop rs are c.turn.new.state c.in_ok-turn.ensures.turned

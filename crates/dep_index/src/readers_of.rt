@@ -17,24 +17,24 @@ pub struct ReaderOf {
 
 /// The facts that mention a fact.
 #[derive(Drop)]
-pub struct Row {
+pub struct ReadersOf {
     readers: Vec<ReaderOf>,
 }
 
-impl Model for Row {
+impl Model for ReadersOf {
     ghost use Rattle.std.specs.Prelude.{List};
-    ghost use Rattle.dep_index.specs.declared.row.ReaderOf.{ReaderOf};
+    ghost use Rattle.dep_index.specs.declared.readers_of.ReaderOf.{ReaderOf};
 
     ghost Value = { List ReaderOf };
 
-    ghost view = { λ row. row.readers.items };
+    ghost view = { λ r. r.readers.items };
 }
 
-impl Row {
-    pub fn new(alloc: Global) -> Row
+impl ReadersOf {
+    pub fn new(alloc: Global) -> ReadersOf
         ensures { result ≡ [] }
     {
-        Row {
+        ReadersOf {
             readers: Vec::new(alloc),
         }
     }
