@@ -13,7 +13,7 @@ use Rattle.dict_source.specs.Finding.{fact_at, find_path}
 use Rattle.dict_source.specs.View.{use_of}
 use Rattle.dict_source.specs.Tree.{Source, Use, literal, literal_int, many, no_trees, read, tree}
 use Rattle.node_types.specs.StatedTypes.{base_number}
-use Rattle.written_facts.specs.Rows.{asked, derived, fact_with}
+use Rattle.written_facts.specs.WrittenFacts.{asked, derived, fact_with}
 use Rattle.dict_gen.specs.Chain.{chain, chain_facts, one_more, sum_fact, sum_path}
 use Rattle.dict_gen.proofs.ChainPlaces.{length_chain, member_at, member_found, sum_at, sum_found}
 use Rattle.dict_gen.proofs.Soundness.{AreSound, IsSound}

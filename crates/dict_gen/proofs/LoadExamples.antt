@@ -8,7 +8,7 @@ use Rattle.dict_source.specs.declared.operators.ReadOp.TheVariants.{CollectionSu
 use Rattle.dict_source.specs.Facts.{scalar}
 use Rattle.dict_source.specs.View.{use_of}
 use Rattle.dict_source.specs.Tree.{literal, literal_int, many, no_trees, read, tree}
-use Rattle.written_facts.specs.Rows.{derived}
+use Rattle.written_facts.specs.WrittenFacts.{derived}
 use Rattle.dict_gen.specs.Chain.{chain, member_facts}
 use Rattle.dict_gen.specs.Script.{lines, script}
 

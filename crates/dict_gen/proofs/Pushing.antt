@@ -28,7 +28,7 @@ use Rattle.written_facts.specs.declared.form.Fixed.TheVariants as fixed
 use Rattle.written_facts.specs.declared.form.Form.{Form}
 use Rattle.written_facts.specs.declared.form.Form.TheVariants.{Const, Many, Read}
 use Rattle.written_facts.proofs.FormViews.{form_view-Const, form_view-Many, form_view-Read}
-use Rattle.written_facts.specs.Rows.{derived}
+use Rattle.written_facts.specs.WrittenFacts.{derived}
 use Rattle.written_facts.specs.Taking.{has_form, is_well_formed, is_within, same_option, same_path_option, same_use, takes, takes_all, with_facts}
 use Rattle.dict_gen.specs.Chain.{chain, chain_facts, member_facts, one_more, sum_fact, sum_of, sum_path}
 use Rattle.dict_gen.proofs.ChainPlaces.{length_chain, number_none}

@@ -8,7 +8,7 @@ use Rattle.dict_source.specs.Tree.{Source, literal, literal_int, many, no_trees,
 use Rattle.dict_source.specs.Facts.{Fact, scalar, writable_list}
 use Rattle.dict_source.specs.Dictionary.{Dictionary}
 use Rattle.dict_source.specs.View.{use_of}
-use Rattle.written_facts.specs.Rows.{asked, derived}
+use Rattle.written_facts.specs.WrittenFacts.{asked, derived}
 
 -- one more than the fact with this path
 abbrev pub one_more : List ℕ → Source

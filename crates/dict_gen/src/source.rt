@@ -4,7 +4,7 @@ ghost use Rattle.fact_values.specs.declared.fact_type.FactType.TheVariants.{Int}
 ghost use Rattle.dict_source.specs.Dictionary.{dictionary_view, with_fact};
 ghost use Rattle.dict_source.specs.Facts.{scalar};
 ghost use Rattle.written_facts.specs.Figures.{Named};
-ghost use Rattle.written_facts.specs.Rows.{derived, rows_view};
+ghost use Rattle.written_facts.specs.WrittenFacts.{derived, written_views};
 ghost use Rattle.written_facts.specs.Taking.{takes};
 ghost use Rattle.dict_gen.specs.Chain.{chain, member_facts, one_more, sum_path as path_of_sum};
 
@@ -15,11 +15,11 @@ use fact_values::NoMemory;
 use std::alloc::Global;
 use value_text::EnumLists;
 use written_facts::Form::{Const, Many, Read};
-use written_facts::Row::{Asked, Derived};
-use written_facts::{Fixed, Kind, Row, push_rows};
+use written_facts::WrittenFact::{Asked, Derived};
+use written_facts::{Fixed, Kind, WrittenFact, push_facts};
 
 // What the members of `/c` have.
-const MEMBER_FACTS: &'static [Row<'static>] = &[
+const MEMBER_FACTS: &'static [WrittenFact<'static>] = &[
     Asked("/c", Kind::Collection),
     Asked("/c/*/v", Kind::Int),
     Derived(
@@ -29,8 +29,8 @@ const MEMBER_FACTS: &'static [Row<'static>] = &[
     ),
 ];
 
-fn member_rows() -> &'static [Row<'static>]
-    ensures { (fs : List Named) → rows_view fs result.now ≡ member_facts }
+fn member_rows() -> &'static [WrittenFact<'static>]
+    ensures { (fs : List Named) → written_views fs result.now ≡ member_facts }
 {
     MEMBER_FACTS
 }
@@ -55,7 +55,7 @@ fn push_one_more<'a>(
 {
     let operands = [Read(Dependency, other), Const(Fixed::Int("1"))];
     let rows = [Derived(path, Kind::Int, Many(Add, &operands))];
-    push_rows(alloc, &[], &rows, source)
+    push_facts(alloc, &[], &rows, source)
 }
 
 // Appends the first sum.
@@ -65,7 +65,7 @@ fn push_first(alloc: Global, source: &mut DictSource) -> Result<(), NoMemory>
 {
     let path = sum_path(alloc, 1)?;
     let rows = [Derived(path.as_str(), Kind::Int, Read(CollectionSum, "/c/*/w"))];
-    push_rows(alloc, &[], &rows, source)
+    push_facts(alloc, &[], &rows, source)
 }
 
 // Appends the sum behind so many.
@@ -87,7 +87,7 @@ fn start(alloc: Global) -> Result<DictSource, NoMemory>
     ensures { IfOk result (λ source. dictionary_view source ≡ chain 0) }
 {
     let mut source = DictSource::new(alloc, EnumLists::new(alloc));
-    match push_rows(alloc, &[], member_rows(), &mut source) {
+    match push_facts(alloc, &[], member_rows(), &mut source) {
         Ok(()) => Ok(source),
         Err(NoMemory) => {
             drop(source);

@@ -12,7 +12,7 @@ use Rattle.dict_source.specs.View.{cases_of, trees_of, use_of}
 use Rattle.dict_source.specs.Facts.{Fact, Stated, enum_of, item_of, list_of, scalar, writable_list}
 use Rattle.dict_source.specs.Dictionary.{Dictionary}
 use Rattle.written_facts.specs.Figures.{Named, text_under}
-use Rattle.written_facts.specs.Rows.{asked, asked_from, derived, described}
+use Rattle.written_facts.specs.WrittenFacts.{asked, asked_from, derived, described}
 use Rattle.written_facts.specs.Taking.{with_facts}
 
 -- ---- words

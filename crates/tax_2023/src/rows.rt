@@ -6,8 +6,8 @@ use dict_source::ReadOp::Count;
 use dict_source::TwoOp::{Equal, GreaterThan, LessThan, Multiply};
 use fact_json::OneName::Not;
 use written_facts::Form::{Many, One, Pick, Read, Switch, Two};
-use written_facts::Row::{Derived, Question, QuestionFrom};
-use written_facts::{Kind, Row, When};
+use written_facts::WrittenFact::{Derived, Question, QuestionFrom};
+use written_facts::{Kind, When, WrittenFact};
 
 /// The names of the filing statuses.
 pub const FILING_STATUSES: [&str; 5] = [
@@ -19,7 +19,7 @@ pub const FILING_STATUSES: [&str; 5] = [
 ];
 
 /// What is asked of the filer and the spouse.
-pub const FILER: &'static [Row<'static>] = &[
+pub const FILER: &'static [WrittenFact<'static>] = &[
     Question("/dateOfBirth", Kind::Day, "When were you born?"),
     Question(
         "/blind",
@@ -100,7 +100,7 @@ pub const FILER: &'static [Row<'static>] = &[
 ];
 
 /// What follows of the return.
-pub const RETURN: &'static [Row<'static>] = &[
+pub const RETURN: &'static [WrittenFact<'static>] = &[
     Derived("/joint", Kind::Boolean, Many(All, &[MARRIED, FILE_JOINTLY])),
     Derived(
         "/unmarried",
@@ -254,7 +254,7 @@ pub const RETURN: &'static [Row<'static>] = &[
 ];
 
 /// The dependents, and what is asked of each.
-pub const DEPENDENTS: &'static [Row<'static>] = &[
+pub const DEPENDENTS: &'static [WrittenFact<'static>] = &[
     Question(
         "/dependents",
         Kind::Collection,
@@ -314,7 +314,7 @@ pub const DEPENDENTS: &'static [Row<'static>] = &[
 ];
 
 /// What follows of each dependent.
-pub const TESTS: &'static [Row<'static>] = &[
+pub const TESTS: &'static [WrittenFact<'static>] = &[
     Derived(
         "/dependents/*/underAge",
         Kind::Boolean,
@@ -387,7 +387,7 @@ pub const TESTS: &'static [Row<'static>] = &[
 ];
 
 /// What follows of all dependents.
-pub const COUNTS: &'static [Row<'static>] = &[
+pub const COUNTS: &'static [WrittenFact<'static>] = &[
     Derived(
         "/dependentList",
         Kind::ListOf("/dependents"),

@@ -2,7 +2,7 @@
 ghost use Rattle.std.specs.Prelude.{◌≡◌, List, IfOk, OnOk};
 ghost use Rattle.dict_source.specs.Dictionary.{dictionary_view};
 ghost use Rattle.written_facts.specs.Figures.{Named, figures_view};
-ghost use Rattle.written_facts.specs.Rows.{rows_view};
+ghost use Rattle.written_facts.specs.WrittenFacts.{written_views};
 ghost use Rattle.tax_2023.specs.Facts.{at_start, counts, dictionary, filed, filer, filing_statuses, persons, tests, with_filer, with_persons, with_return, with_tests};
 ghost use Rattle.tax_2023.specs.Figures.{figures};
 ghost use Rattle.tax_2023.specs.Years.{tables_of};
@@ -13,36 +13,36 @@ use dict_source::DictSource;
 use fact_values::NoMemory;
 use std::alloc::Global;
 use value_text::EnumLists;
-use written_facts::{Figure, Row, add_options, push_rows};
+use written_facts::{Figure, WrittenFact, add_options, push_facts};
 
 // ---- the rows write these facts, with any figures
 
-fn filer_rows() -> &'static [Row<'static>]
-    ensures { (fs : List Named) → rows_view fs result.now ≡ filer }
+fn filer_rows() -> &'static [WrittenFact<'static>]
+    ensures { (fs : List Named) → written_views fs result.now ≡ filer }
 {
     FILER
 }
 
-fn return_rows() -> &'static [Row<'static>]
-    ensures { (fs : List Named) → rows_view fs result.now ≡ filed fs }
+fn return_rows() -> &'static [WrittenFact<'static>]
+    ensures { (fs : List Named) → written_views fs result.now ≡ filed fs }
 {
     RETURN
 }
 
-fn dependent_rows() -> &'static [Row<'static>]
-    ensures { (fs : List Named) → rows_view fs result.now ≡ persons }
+fn dependent_rows() -> &'static [WrittenFact<'static>]
+    ensures { (fs : List Named) → written_views fs result.now ≡ persons }
 {
     DEPENDENTS
 }
 
-fn test_rows() -> &'static [Row<'static>]
-    ensures { (fs : List Named) → rows_view fs result.now ≡ tests fs }
+fn test_rows() -> &'static [WrittenFact<'static>]
+    ensures { (fs : List Named) → written_views fs result.now ≡ tests fs }
 {
     TESTS
 }
 
-fn count_rows() -> &'static [Row<'static>]
-    ensures { (fs : List Named) → rows_view fs result.now ≡ counts }
+fn count_rows() -> &'static [WrittenFact<'static>]
+    ensures { (fs : List Named) → written_views fs result.now ≡ counts }
 {
     COUNTS
 }
@@ -53,7 +53,7 @@ fn add_filer(alloc: Global, figures: &[Figure<'_>], source: &mut DictSource) -> 
     requires { dictionary_view source.old ≡ at_start }
     ensures { OnOk result (dictionary_view source.new ≡ with_filer) }
 {
-    push_rows(alloc, figures, filer_rows(), source)
+    push_facts(alloc, figures, filer_rows(), source)
 }
 
 fn add_return(
@@ -64,7 +64,7 @@ fn add_return(
     requires { dictionary_view source.old ≡ with_filer }
     ensures { OnOk result (dictionary_view source.new ≡ with_return (figures_view figures.now)) }
 {
-    push_rows(alloc, figures, return_rows(), source)
+    push_facts(alloc, figures, return_rows(), source)
 }
 
 fn add_dependents(
@@ -75,14 +75,14 @@ fn add_dependents(
     requires { dictionary_view source.old ≡ with_return (figures_view figures.now) }
     ensures { OnOk result (dictionary_view source.new ≡ with_persons (figures_view figures.now)) }
 {
-    push_rows(alloc, figures, dependent_rows(), source)
+    push_facts(alloc, figures, dependent_rows(), source)
 }
 
 fn add_tests(alloc: Global, figures: &[Figure<'_>], source: &mut DictSource) -> Result<(), NoMemory>
     requires { dictionary_view source.old ≡ with_persons (figures_view figures.now) }
     ensures { OnOk result (dictionary_view source.new ≡ with_tests (figures_view figures.now)) }
 {
-    push_rows(alloc, figures, test_rows(), source)
+    push_facts(alloc, figures, test_rows(), source)
 }
 
 fn add_counts(
@@ -93,7 +93,7 @@ fn add_counts(
     requires { dictionary_view source.old ≡ with_tests (figures_view figures.now) }
     ensures { OnOk result (dictionary_view source.new ≡ dictionary (figures_view figures.now)) }
 {
-    push_rows(alloc, figures, count_rows(), source)
+    push_facts(alloc, figures, count_rows(), source)
 }
 
 // ---- the source

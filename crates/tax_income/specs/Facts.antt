@@ -9,7 +9,7 @@ use Rattle.dict_source.specs.View.{trees_of, use_of}
 use Rattle.dict_source.specs.Facts.{Fact}
 use Rattle.dict_source.specs.Dictionary.{Dictionary}
 use Rattle.written_facts.specs.Figures.{Named}
-use Rattle.written_facts.specs.Rows.{derived}
+use Rattle.written_facts.specs.WrittenFacts.{derived}
 use Rattle.written_facts.specs.Taking.{with_facts}
 use Rattle.tax_2023.specs.Figures.{figures}
 use Rattle.tax_income.specs.Figures.{income_figures}

@@ -6,11 +6,11 @@ use dict_source::TwoOp::{Divide, GreaterThan, Multiply};
 use fact_json::OneName::{Not, Round};
 use written_facts::Fixed::DollarOf;
 use written_facts::Form::{Const, Many, One, Read, Switch, Two};
-use written_facts::Row::{Derived, Question};
-use written_facts::{Form, Kind, Row, When};
+use written_facts::WrittenFact::{Derived, Question};
+use written_facts::{Form, Kind, When, WrittenFact};
 
 /// The upper ends of the bands.
-pub const ENDS: &'static [Row<'static>] = &[
+pub const ENDS: &'static [WrittenFact<'static>] = &[
     Derived(
         "/end10",
         Kind::Dollar,
@@ -74,7 +74,7 @@ pub const ENDS: &'static [Row<'static>] = &[
 ];
 
 /// The tax of each band, and of all.
-pub const TAXES: &'static [Row<'static>] = &[
+pub const TAXES: &'static [WrittenFact<'static>] = &[
     Derived(
         "/tax10",
         Kind::Dollar,
@@ -197,7 +197,7 @@ pub const TAXES: &'static [Row<'static>] = &[
 ];
 
 /// For whom there is a credit.
-pub const CHILDREN: &'static [Row<'static>] = &[
+pub const CHILDREN: &'static [WrittenFact<'static>] = &[
     Question(
         "/dependents/*/hasNumber",
         Kind::Boolean,
@@ -229,7 +229,7 @@ const REDUCED: Form<'static> = Many(
 );
 
 /// The credit, and what is left of the tax.
-pub const CREDIT: &'static [Row<'static>] = &[
+pub const CREDIT: &'static [WrittenFact<'static>] = &[
     Derived(
         "/creditChildCount",
         Kind::Int,

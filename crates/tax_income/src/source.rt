@@ -2,7 +2,7 @@
 ghost use Rattle.std.specs.Prelude.{◌≡◌, List, IfOk, OnOk};
 ghost use Rattle.dict_source.specs.Dictionary.{dictionary_view};
 ghost use Rattle.written_facts.specs.Figures.{Named, figures_view};
-ghost use Rattle.written_facts.specs.Rows.{rows_view};
+ghost use Rattle.written_facts.specs.WrittenFacts.{written_views};
 ghost use Rattle.tax_2023.specs.Facts.{dictionary};
 ghost use Rattle.tax_income.specs.Facts.{children, credit, dictionary_of, ends, income_dictionary, taxes, with_children, with_ends, with_taxes};
 ghost use Rattle.tax_income.specs.Years.{income_of};
@@ -13,30 +13,30 @@ use dict_source::DictSource;
 use fact_values::NoMemory;
 use std::alloc::Global;
 use tax_2023::{TaxYear, year_source};
-use written_facts::{Figure, Row, push_rows};
+use written_facts::{Figure, WrittenFact, push_facts};
 
 // ---- the rows write these facts, with any figures
 
-fn end_rows() -> &'static [Row<'static>]
-    ensures { (gs : List Named) → rows_view gs result.now ≡ ends gs }
+fn end_rows() -> &'static [WrittenFact<'static>]
+    ensures { (gs : List Named) → written_views gs result.now ≡ ends gs }
 {
     ENDS
 }
 
-fn tax_rows() -> &'static [Row<'static>]
-    ensures { (gs : List Named) → rows_view gs result.now ≡ taxes }
+fn tax_rows() -> &'static [WrittenFact<'static>]
+    ensures { (gs : List Named) → written_views gs result.now ≡ taxes }
 {
     TAXES
 }
 
-fn child_rows() -> &'static [Row<'static>]
-    ensures { (gs : List Named) → rows_view gs result.now ≡ children gs }
+fn child_rows() -> &'static [WrittenFact<'static>]
+    ensures { (gs : List Named) → written_views gs result.now ≡ children gs }
 {
     CHILDREN
 }
 
-fn credit_rows() -> &'static [Row<'static>]
-    ensures { (gs : List Named) → rows_view gs result.now ≡ credit }
+fn credit_rows() -> &'static [WrittenFact<'static>]
+    ensures { (gs : List Named) → written_views gs result.now ≡ credit }
 {
     CREDIT
 }
@@ -48,7 +48,7 @@ fn add_ends(alloc: Global, figures: &[Figure<'_>], source: &mut DictSource) -> R
     ensures { (fs : List Named) → dictionary_view source.old ≡ dictionary fs
         → OnOk result (dictionary_view source.new ≡ with_ends fs (figures_view figures.now)) }
 {
-    push_rows(alloc, figures, end_rows(), source)
+    push_facts(alloc, figures, end_rows(), source)
 }
 
 fn add_taxes(alloc: Global, figures: &[Figure<'_>], source: &mut DictSource) -> Result<(), NoMemory>
@@ -56,7 +56,7 @@ fn add_taxes(alloc: Global, figures: &[Figure<'_>], source: &mut DictSource) -> 
     ensures { (fs : List Named) → dictionary_view source.old ≡ with_ends fs (figures_view figures.now)
         → OnOk result (dictionary_view source.new ≡ with_taxes fs (figures_view figures.now)) }
 {
-    push_rows(alloc, figures, tax_rows(), source)
+    push_facts(alloc, figures, tax_rows(), source)
 }
 
 fn add_children(
@@ -68,7 +68,7 @@ fn add_children(
     ensures { (fs : List Named) → dictionary_view source.old ≡ with_taxes fs (figures_view figures.now)
         → OnOk result (dictionary_view source.new ≡ with_children fs (figures_view figures.now)) }
 {
-    push_rows(alloc, figures, child_rows(), source)
+    push_facts(alloc, figures, child_rows(), source)
 }
 
 fn add_credit(
@@ -80,7 +80,7 @@ fn add_credit(
     ensures { (fs : List Named) → dictionary_view source.old ≡ with_children fs (figures_view figures.now)
         → OnOk result (dictionary_view source.new ≡ income_dictionary fs (figures_view figures.now)) }
 {
-    push_rows(alloc, figures, credit_rows(), source)
+    push_facts(alloc, figures, credit_rows(), source)
 }
 
 // Adds the 24 facts behind those of a year.

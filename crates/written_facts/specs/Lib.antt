@@ -1,5 +1,5 @@
 pub mod Figures
 pub mod Forms
 pub mod Options
-pub mod Rows
 pub mod Taking
+pub mod WrittenFacts

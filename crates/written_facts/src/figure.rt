@@ -1,4 +1,4 @@
-// Figures: amounts and days that differ from year to year, under the names by which rows speak of them.
+// Figures: amounts and days that differ from year to year, under the names by which facts speak of them.
 ghost use Rattle.std.specs.Prelude.{◌≡◌};
 ghost use Rattle.written_facts.specs.Figures.{figures_view, text_under};
 

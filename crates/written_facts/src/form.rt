@@ -1,4 +1,4 @@
-// Expressions as rows write them. They take no memory.
+// Expressions as constants. They take no memory.
 use dict_source::{ManyOp, PickOp, ReadOp, TwoOp};
 use fact_json::OneName;
 

@@ -1,4 +1,4 @@
-//! The facts of a dictionary written as rows: constants of the program, of which one function makes a source.
+//! The facts of a dictionary as constants of the program, of which one function makes a source.
 #![tactic(auto)]
 
 mod building;
@@ -6,12 +6,12 @@ mod figure;
 mod form;
 mod naming;
 mod pushing;
-mod row;
 mod stating;
+mod written_fact;
 
 pub use building::build;
 pub use figure::{Figure, text_of};
 pub use form::{Fixed, Form, When};
 pub use naming::add_options;
-pub use pushing::push_rows;
-pub use row::{Kind, Row};
+pub use pushing::push_facts;
+pub use written_fact::{Kind, WrittenFact};

@@ -1,18 +1,18 @@
-// Makes facts of rows.
+// Makes facts of written facts.
 ghost use Rattle.std.specs.Prelude.{◌≡◌, IfOk, IsTrue, Some, option_map, map, string_bytes, [], ◌∷◌};
 ghost use Rattle.fact_paths.specs.Parsing.{fact_path_of};
 ghost use Rattle.dict_source.specs.Facts.{fact_view, least, limit_view, stated_view};
 ghost use Rattle.dict_source.specs.View.{view};
 ghost use Rattle.written_facts.specs.Figures.{figures_view};
 ghost use Rattle.written_facts.specs.Forms.{form_view};
-ghost use Rattle.written_facts.specs.Rows.{asked, asked_from, derived as follows, described, fact_with, kind_view, row_view, with_words};
+ghost use Rattle.written_facts.specs.WrittenFacts.{asked, asked_from, derived as follows, described, fact_with, kind_view, written_view, with_words};
 ghost use Rattle.written_facts.specs.Taking.{is_named};
 
 use crate::building::build;
 use crate::figure::Figure;
 use crate::form::Form;
 use crate::naming::named;
-use crate::row::{Kind, Row};
+use crate::written_fact::{Kind, WrittenFact};
 use dict_source::{Expr, FactSource, LimitText, TypeText, read_use};
 use fact_paths::{FactPath, PathFault, read_fact_path};
 use fact_values::{FactType, NoMemory};
@@ -148,17 +148,23 @@ fn derived(
     }
 }
 
-/// The fact that the row writes, with the figures of these names.
-pub fn fact_of(alloc: Global, figures: &[Figure<'_>], row: &Row<'_>) -> Result<FactSource, NoMemory>
-    requires { IsTrue (is_named (row_view (figures_view figures.now) row.now).stated) }
-    ensures { IfOk result (λ f. fact_view f ≡ row_view (figures_view figures.now) row.now) }
+/// The fact that is written, with the figures of these names.
+pub fn fact_of(
+    alloc: Global,
+    figures: &[Figure<'_>],
+    written: &WrittenFact<'_>,
+) -> Result<FactSource, NoMemory>
+    requires { IsTrue (is_named (written_view (figures_view figures.now) written.now).stated) }
+    ensures { IfOk result (λ f. fact_view f ≡ written_view (figures_view figures.now) written.now) }
 {
-    match row {
-        Row::Asked(path, kind) => Ok(fact(start(alloc, path, kind)?, Vec::new(alloc), None, None)),
-        Row::Question(path, kind, words) => question(alloc, path, kind, words),
-        Row::QuestionFrom(path, kind, text, words) => {
+    match written {
+        WrittenFact::Asked(path, kind) => {
+            Ok(fact(start(alloc, path, kind)?, Vec::new(alloc), None, None))
+        }
+        WrittenFact::Question(path, kind, words) => question(alloc, path, kind, words),
+        WrittenFact::QuestionFrom(path, kind, text, words) => {
             question_from(alloc, path, kind, text, words)
         }
-        Row::Derived(path, kind, form) => derived(alloc, figures, path, kind, form),
+        WrittenFact::Derived(path, kind, form) => derived(alloc, figures, path, kind, form),
     }
 }

@@ -1,15 +1,15 @@
 use Rattle.std.proofs.Common.{refl}
 use Rattle.dict_source.specs.Dictionary.{dictionary_view}
 use Rattle.written_facts.specs.Figures.{figures_view}
-use Rattle.written_facts.specs.Rows.{rows_view}
+use Rattle.written_facts.specs.WrittenFacts.{written_views}
 use Rattle.tax_2023.specs.Facts.{tests, with_persons, with_tests}
 use Rattle.tax_2023.proofs.SourceLaws.{grown, tests_taken, taken}
 use Rattle.tax_2023.proofs.source.add_tests.Goals as goal
 
-pub push_rows-requires : goal.push_rows-requires
-push_rows-requires c =
-    taken (dictionary_view c.args.source.now) (with_persons (figures_view c.args.figures.now)) (rows_view (figures_view c.args.figures.now) c.test_rows.result.now) (tests (figures_view c.args.figures.now)) c.requires (c.test_rows.ensures (figures_view c.args.figures.now)) (tests_taken (figures_view c.args.figures.now))
+pub push_facts-requires : goal.push_facts-requires
+push_facts-requires c =
+    taken (dictionary_view c.args.source.now) (with_persons (figures_view c.args.figures.now)) (written_views (figures_view c.args.figures.now) c.test_rows.result.now) (tests (figures_view c.args.figures.now)) c.requires (c.test_rows.ensures (figures_view c.args.figures.now)) (tests_taken (figures_view c.args.figures.now))
 
 pub returns : goal.returns
 returns c =
-    grown (dictionary_view c.args.source.now) (with_persons (figures_view c.args.figures.now)) (dictionary_view c.push_rows.new.source) (rows_view (figures_view c.args.figures.now) c.test_rows.result.now) (tests (figures_view c.args.figures.now)) (with_tests (figures_view c.args.figures.now)) c.push_rows.result c.push_rows.ensures c.requires (c.test_rows.ensures (figures_view c.args.figures.now)) refl
+    grown (dictionary_view c.args.source.now) (with_persons (figures_view c.args.figures.now)) (dictionary_view c.push_facts.new.source) (written_views (figures_view c.args.figures.now) c.test_rows.result.now) (tests (figures_view c.args.figures.now)) (with_tests (figures_view c.args.figures.now)) c.push_facts.result c.push_facts.ensures c.requires (c.test_rows.ensures (figures_view c.args.figures.now)) refl

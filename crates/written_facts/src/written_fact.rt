@@ -1,7 +1,7 @@
-// Facts as rows write them.
+// Facts as constants.
 use crate::form::Form;
 
-/// The type that a row states.
+/// The type that a fact states.
 #[derive(Clone, Copy)]
 pub enum Kind<'a> {
     Boolean,
@@ -22,7 +22,7 @@ pub enum Kind<'a> {
 
 /// A fact: its path and its type, and what else is written of it.
 #[derive(Clone, Copy)]
-pub enum Row<'a> {
+pub enum WrittenFact<'a> {
     /// A person answers it.
     Asked(&'a str, Kind<'a>),
     /// A person answers it, and the words say what is asked.

@@ -1,4 +1,4 @@
--- The fact that a row writes.
+-- The fact that is written by a constant.
 use Rattle.std.specs.Prelude.{ℕ, List, [], ◌∷◌, map, Option, Some, None}
 use Rattle.fact_paths.specs.Parsing.{fact_path_of}
 use Rattle.fact_paths.specs.declared.fact_path.FactPath.{FactPath}
@@ -8,10 +8,10 @@ use Rattle.dict_source.specs.View.{use_of}
 use Rattle.dict_source.specs.Facts.{Bound, Fact, Stated, enum_of, item_of, least, list_of, scalar, writable_list}
 use Rattle.written_facts.specs.Figures.{Named}
 use Rattle.written_facts.specs.Forms.{form_view}
-use Rattle.written_facts.specs.declared.row.Kind.{Kind}
-use Rattle.written_facts.specs.declared.row.Kind.TheVariants as kinds
-use Rattle.written_facts.specs.declared.row.Row.{Row}
-use Rattle.written_facts.specs.declared.row.Row.TheVariants as rows
+use Rattle.written_facts.specs.declared.written_fact.Kind.{Kind}
+use Rattle.written_facts.specs.declared.written_fact.Kind.TheVariants as kinds
+use Rattle.written_facts.specs.declared.written_fact.WrittenFact.{WrittenFact}
+use Rattle.written_facts.specs.declared.written_fact.WrittenFact.TheVariants as written
 
 abbrev pub kind_view : Kind → Stated
 kind_view kinds.Boolean = scalar types.Boolean
@@ -61,11 +61,11 @@ described words f = with_words (Some words) f
 abbrev pub derived : List ℕ → Stated → Source → Fact
 derived path stated main = fact path stated [] (Some main)
 
-abbrev pub row_view : List Named → Row → Fact
-row_view fs (rows.Asked path kind) = asked path.now (kind_view kind)
-row_view fs (rows.Question path kind words) = described words.now (asked path.now (kind_view kind))
-row_view fs (rows.QuestionFrom path kind text words) = described words.now (asked_from path.now (kind_view kind) text.now)
-row_view fs (rows.Derived path kind form) = derived path.now (kind_view kind) (form_view fs form)
+abbrev pub written_view : List Named → WrittenFact → Fact
+written_view fs (written.Asked path kind) = asked path.now (kind_view kind)
+written_view fs (written.Question path kind words) = described words.now (asked path.now (kind_view kind))
+written_view fs (written.QuestionFrom path kind text words) = described words.now (asked_from path.now (kind_view kind) text.now)
+written_view fs (written.Derived path kind form) = derived path.now (kind_view kind) (form_view fs form)
 
-abbrev pub rows_view : List Named → List Row → List Fact
-rows_view fs rs = map (row_view fs) rs
+abbrev pub written_views : List Named → List WrittenFact → List Fact
+written_views fs rs = map (written_view fs) rs
