@@ -12,7 +12,7 @@ use Rattle.dict_source.specs.Dictionary.{Dictionary as Tree}
 use Rattle.dict_source.specs.Mentions.{condition_base}
 use Rattle.dict_source.specs.Tables.{is_fit}
 use Rattle.dict_source.specs.Typing.{Types, HasType, HaveTypes, HaveCaseTypes}
-use Rattle.dict_rules.specs.declared.reader.Reader.TheVariants.{Read, Pick}
+use Rattle.dict_rules.specs.declared.use_op.UseOp.TheVariants.{Read, Pick}
 use Rattle.dict_rules.specs.BadPath.{is_other_form}
 use Rattle.node_types.specs.Constants.{literal_type}
 use Rattle.node_types.specs.FactTyping.{known, path_type, types_in}

@@ -119,7 +119,7 @@ other_decides kind d o = (other_is kind d o, (λ h. ap (is_other_at kind d) h.2 
 
 abbrev Misread : Dictionary → ℕ → UseAt → UsePath → Type 0
 Misread d n u path =
-    (IsTrue (reads_collection u.reader) × IsOther is_list d (first_target d n (base_of u.condition) path))
+    (IsTrue (reads_collection u.use_op) × IsOther is_list d (first_target d n (base_of u.condition) path))
     ⊎ (IsTrue (goes_through_item path) × IsOther is_item d (first_target d n (base_of u.condition) path))
 
 misread_to : (d : Dictionary) (n : ℕ) (u : UseAt) (path : UsePath) → u.used.path ≡ Some path → Misread d n u path → IsMisread d n u
@@ -134,13 +134,13 @@ misread_from d n u path e (p, g, (e', t, f, a), k) =
       | inr h ↦ inr (h.0, (t, g, f, a, h.1))
     ])
 
-misread_by : (d : Dictionary) (n : ℕ) (u : UseAt) (o : Option UsePath) → u.used.path ≡ o → Decides (path_lacks_list d n u.reader u.condition o) (IsMisread d n u)
+misread_by : (d : Dictionary) (n : ℕ) (u : UseAt) (o : Option UsePath) → u.used.path ≡ o → Decides (path_lacks_list d n u.use_op u.condition o) (IsMisread d n u)
 misread_by d n u None e = ((λ h. absurd cc), (λ h. let k = h.2.0 in absurd cc))
 misread_by d n u (Some path) e =
     let first = first_target d n (base_of u.condition) path in
-    Decides-like (is_misread d u.reader path first) (misread_to d n u path e) (misread_from d n u path e)
-    (Decides-or (reads_collection u.reader && is_other_at is_list d first) (goes_through_item path && is_other_at is_item d first)
-    (Decides-and (reads_collection u.reader) (is_other_at is_list d first) (itself (reads_collection u.reader)) (other_decides is_list d first))
+    Decides-like (is_misread d u.use_op path first) (misread_to d n u path e) (misread_from d n u path e)
+    (Decides-or (reads_collection u.use_op && is_other_at is_list d first) (goes_through_item path && is_other_at is_item d first)
+    (Decides-and (reads_collection u.use_op) (is_other_at is_list d first) (itself (reads_collection u.use_op)) (other_decides is_list d first))
     (Decides-and (goes_through_item path) (is_other_at is_item d first) (itself (goes_through_item path)) (other_decides is_item d first)))
 
 pub no_collection_decides : (d : Dictionary) (n : ℕ) (f : Fact) → Decides (lacks_collection d n f) (HasNoCollection d n f)
@@ -157,18 +157,18 @@ target_decides d path c t =
     (Decides-and (is_second_judged d path t.first) (is_none t.second) (itself (is_second_judged d path t.first)) (none_decides t.second))
 
 abbrev Unknown : Dictionary → ℕ → UseAt → UsePath → Type 0
-Unknown d n u path = IsTrue (is_in_place d n u.reader u.condition path) × LacksTarget d path u.condition (targets d n (base_of u.condition) path)
+Unknown d n u path = IsTrue (is_in_place d n u.use_op u.condition path) × LacksTarget d path u.condition (targets d n (base_of u.condition) path)
 
 -- what is said of a use's path
 of_path : (u : UseAt) (path : UsePath) (P : UsePath → Type 0) → u.used.path ≡ Some path → ((p : UsePath) × (u.used.path ≡ Some p) × P p) → P path
 of_path u path P e h = let k = h.1 in let same : h.0 ≡ path = cc in subst P same h.2
 
-unknown_by : (d : Dictionary) (n : ℕ) (u : UseAt) (o : Option UsePath) → u.used.path ≡ o → Decides (is_unknown_path d n u.reader u.condition o) (IsUnknown d n u)
+unknown_by : (d : Dictionary) (n : ℕ) (u : UseAt) (o : Option UsePath) → u.used.path ≡ o → Decides (is_unknown_path d n u.use_op u.condition o) (IsUnknown d n u)
 unknown_by d n u None e = ((λ h. absurd cc), (λ h. let k = h.1 in absurd cc))
 unknown_by d n u (Some path) e =
     let ts = targets d n (base_of u.condition) path in
-    Decides-like (is_unknown_path d n u.reader u.condition (Some path)) (λ h. (path, e, h.0, h.1)) (λ h. of_path u path (Unknown d n u) e (h.0, h.1, (h.2, h.3)))
-    (Decides-and (is_in_place d n u.reader u.condition path) (lacks_target d path u.condition ts) (itself (is_in_place d n u.reader u.condition path)) (target_decides d path u.condition ts))
+    Decides-like (is_unknown_path d n u.use_op u.condition (Some path)) (λ h. (path, e, h.0, h.1)) (λ h. of_path u path (Unknown d n u) e (h.0, h.1, (h.2, h.3)))
+    (Decides-and (is_in_place d n u.use_op u.condition path) (lacks_target d path u.condition ts) (itself (is_in_place d n u.use_op u.condition path)) (target_decides d path u.condition ts))
 
 pub unknown_path_decides : (d : Dictionary) (n : ℕ) (f : Fact) → Decides (has_unknown_path d n f) (NamesNoFact d n f)
 unknown_path_decides d n f = Decides-use (is_unknown_use d n) (IsUnknown d n) (λ u. unknown_by d n u u.used.path refl) d n f
@@ -176,17 +176,17 @@ unknown_path_decides d n f = Decides-use (is_unknown_use d n) (IsUnknown d n) (�
 -- ---- what is out of its place
 
 abbrev Displaced : Dictionary → ℕ → UseAt → UsePath → Type 0
-Displaced d n u path = ¬ IsTrue (is_in_place d n u.reader u.condition path)
+Displaced d n u path = ¬ IsTrue (is_in_place d n u.use_op u.condition path)
 
-displaced_by : (d : Dictionary) (n : ℕ) (u : UseAt) (o : Option UsePath) → u.used.path ≡ o → Decides (is_displaced d n u.reader u.condition o) ((path : UsePath) × (u.used.path ≡ Some path) × Displaced d n u path)
+displaced_by : (d : Dictionary) (n : ℕ) (u : UseAt) (o : Option UsePath) → u.used.path ≡ o → Decides (is_displaced d n u.use_op u.condition o) ((path : UsePath) × (u.used.path ≡ Some path) × Displaced d n u path)
 displaced_by d n u None e = ((λ h. absurd cc), (λ h. let k = h.1 in absurd cc))
 displaced_by d n u (Some path) e =
-    Decides-like (is_displaced d n u.reader u.condition (Some path)) (λ h. (path, e, h)) (of_path u path (Displaced d n u) e) (Decides-not (is_in_place d n u.reader u.condition path) (itself (is_in_place d n u.reader u.condition path)))
+    Decides-like (is_displaced d n u.use_op u.condition (Some path)) (λ h. (path, e, h)) (of_path u path (Displaced d n u) e) (Decides-not (is_in_place d n u.use_op u.condition path) (itself (is_in_place d n u.use_op u.condition path)))
 
-misplaced_decides : (d : Dictionary) (n : ℕ) (u : UseAt) → Decides (is_misplaced d n u.reader u.condition u.used) (IsMisplaced d n u)
+misplaced_decides : (d : Dictionary) (n : ℕ) (u : UseAt) → Decides (is_misplaced d n u.use_op u.condition u.used) (IsMisplaced d n u)
 misplaced_decides d n u =
-    Decides-or (goes_through_members u.reader && is_some u.condition) (is_displaced d n u.reader u.condition u.used.path)
-    (Decides-and (goes_through_members u.reader) (is_some u.condition) (itself (goes_through_members u.reader)) (some_decides u.condition))
+    Decides-or (goes_through_members u.use_op && is_some u.condition) (is_displaced d n u.use_op u.condition u.used.path)
+    (Decides-and (goes_through_members u.use_op) (is_some u.condition) (itself (goes_through_members u.use_op)) (some_decides u.condition))
     (displaced_by d n u u.used.path refl)
 
 member_decides : (path : Option FactPath) → Decides (is_member_path path) ((c m : List ℕ) × (path ≡ Some (facts.Member c m)))

@@ -8,12 +8,12 @@ use Rattle.common_lemmas.proofs.Bools.{or_false}
 use Rattle.dict_source.specs.Tree.{Source, Sources, SourceCase, SourceCases, literal, read, switch, many, one, two, pick, no_trees, tree, no_cases, a_case}
 use Rattle.dict_source.specs.Facts.{Fact}
 use Rattle.dict_source.specs.Dictionary.{Dictionary}
-use Rattle.dict_rules.specs.declared.reader.Reader.TheVariants.{Read, Pick}
+use Rattle.dict_rules.specs.declared.use_op.UseOp.TheVariants.{Read, Pick}
 use Rattle.dict_rules.specs.Uses.{Condition, UseAt, UseTest, cases_have_use, condition_under, conditional_has_use, conditional_uses, fact_has_use, fact_uses, has_use, option_has_use, option_uses, some_have_use, uses_in, uses_in_all, uses_in_cases}
 
 module _ (test : UseTest) (d : Dictionary) (fact : ℕ) where
   abbrev passes : UseAt → Bool
-  passes u = test u.reader u.condition u.used
+  passes u = test u.use_op u.condition u.used
 
   joined : (x y : Bool) (us vs : List UseAt) → x ≡ list_any passes us → y ≡ list_any passes vs → (x || y) ≡ list_any passes (us ++ vs)
   joined x y us vs e f = rw (e, f) (sym (list_any-append passes us vs))
@@ -58,6 +58,6 @@ Decides-any p P each xs = (
 )
 
 -- a test of uses that decides what is said of one use
-pub Decides-use : (test : UseTest) (P : UseAt → Type 0) → ((u : UseAt) → Decides (test u.reader u.condition u.used) (P u)) → (d : Dictionary) (n : ℕ) (f : Fact) → Decides (fact_has_use test d n f) (Any P (fact_uses d n f))
+pub Decides-use : (test : UseTest) (P : UseAt → Type 0) → ((u : UseAt) → Decides (test u.use_op u.condition u.used) (P u)) → (d : Dictionary) (n : ℕ) (f : Fact) → Decides (fact_has_use test d n f) (Any P (fact_uses d n f))
 Decides-use test P each d n f =
-    Decides-at (fact_has_use test d n f) (list_any (λ u. test u.reader u.condition u.used) (fact_uses d n f)) (in_fact test d n f) (Decides-any (λ u. test u.reader u.condition u.used) P each (fact_uses d n f))
+    Decides-at (fact_has_use test d n f) (list_any (λ u. test u.use_op u.condition u.used) (fact_uses d n f)) (in_fact test d n f) (Decides-any (λ u. test u.use_op u.condition u.used) P each (fact_uses d n f))

@@ -6,7 +6,7 @@ use Rattle.fact_paths.specs.declared.use_path.UsePath.TheVariants as uses
 use Rattle.dict_source.specs.Tree.{Use}
 use Rattle.dict_source.specs.Facts.{Fact, Stated, scalar, enum_of, writable_list, list_of, item_of}
 use Rattle.dict_source.specs.Dictionary.{Dictionary}
-use Rattle.dict_rules.specs.declared.reader.Reader.{Reader}
+use Rattle.dict_rules.specs.declared.use_op.UseOp.{UseOp}
 use Rattle.dict_rules.specs.Uses.{Condition, UseAt, fact_has_use, fact_uses}
 
 -- a form other than `/N`
@@ -31,8 +31,8 @@ is_bad_stated (list_of u) = is_bad_base u.path
 is_bad_stated (item_of u) = is_bad_base u.path
 
 -- a use's text spells no use path
-abbrev pub is_bad_use : Reader → Condition → Use → Bool
-is_bad_use reader c u = is_none u.path
+abbrev pub is_bad_use : UseOp → Condition → Use → Bool
+is_bad_use use_op c u = is_none u.path
 
 -- its path is no path of a fact, its stated type has a path other than `/N`, or a use's text spells no use path
 abbrev pub is_bad_path : Dictionary → ℕ → Fact → Bool

@@ -10,7 +10,7 @@ use Rattle.dict_source.specs.Facts.{Fact, Stated, scalar, enum_of, writable_list
 use Rattle.dict_source.specs.Dictionary.{Dictionary, is_collection}
 use Rattle.dict_source.specs.Finding.{fact_at}
 use Rattle.dict_source.specs.Targets.{find_global, first_target}
-use Rattle.dict_rules.specs.declared.reader.Reader.{Reader}
+use Rattle.dict_rules.specs.declared.use_op.UseOp.{UseOp}
 use Rattle.dict_rules.specs.Uses.{Condition, base_of, UseAt, reads_collection, fact_has_use, fact_uses}
 
 -- ---- kinds of stated types
@@ -86,15 +86,15 @@ goes_through_item (uses.Through n m) = true
 goes_through_item (uses.SiblingThrough n m) = true
 
 -- the first target is to be a collection or an item, and is a fact of another type
-abbrev pub is_misread : Dictionary → Reader → UsePath → Option ℕ → Bool
-is_misread d reader path first = (reads_collection reader && is_other_at is_list d first) || (goes_through_item path && is_other_at is_item d first)
+abbrev pub is_misread : Dictionary → UseOp → UsePath → Option ℕ → Bool
+is_misread d use_op path first = (reads_collection use_op && is_other_at is_list d first) || (goes_through_item path && is_other_at is_item d first)
 
-abbrev pub path_lacks_list : Dictionary → ℕ → Reader → Condition → Option UsePath → Bool
-path_lacks_list d n reader c None = false
-path_lacks_list d n reader c (Some path) = is_misread d reader path (first_target d n (base_of c) path)
+abbrev pub path_lacks_list : Dictionary → ℕ → UseOp → Condition → Option UsePath → Bool
+path_lacks_list d n use_op c None = false
+path_lacks_list d n use_op c (Some path) = is_misread d use_op path (first_target d n (base_of c) path)
 
-abbrev pub use_lacks_list : Dictionary → ℕ → Reader → Condition → Use → Bool
-use_lacks_list d n reader c u = path_lacks_list d n reader c u.path
+abbrev pub use_lacks_list : Dictionary → ℕ → UseOp → Condition → Use → Bool
+use_lacks_list d n use_op c u = path_lacks_list d n use_op c u.path
 
 -- one of the four cases holds
 abbrev pub lacks_collection : Dictionary → ℕ → Fact → Bool
@@ -120,7 +120,7 @@ IsFirstFact d n u path g = (u.used.path ≡ Some path) × (t : ℕ) × (first_ta
 
 -- a node that reads a collection reads a fact of another type, or a path that goes through an item goes through one
 abbrev pub IsMisread : Dictionary → ℕ → UseAt → Type 0
-IsMisread d n u = (path : UsePath) × (g : Fact) × IsFirstFact d n u path g × ((IsTrue (reads_collection u.reader) × ¬ IsTrue (is_list g.stated)) ⊎ (IsTrue (goes_through_item path) × ¬ IsTrue (is_item g.stated)))
+IsMisread d n u = (path : UsePath) × (g : Fact) × IsFirstFact d n u path g × ((IsTrue (reads_collection u.use_op) × ¬ IsTrue (is_list g.stated)) ⊎ (IsTrue (goes_through_item path) × ¬ IsTrue (is_item g.stated)))
 
 abbrev pub HasNoCollection : Dictionary → ℕ → Fact → Type 0
 HasNoCollection d n f = LacksOwnList d f.path ⊎ (LacksStatedList d f.stated ⊎ Any (IsMisread d n) (fact_uses d n f))

@@ -8,7 +8,7 @@ use Rattle.dict_source.specs.Facts.{Fact}
 use Rattle.dict_source.specs.Dictionary.{Dictionary}
 use Rattle.dict_source.specs.Targets.{list_base_at, item_base_at, targets}
 use Rattle.dict_source.specs.declared.targets.Targets.{Targets}
-use Rattle.dict_rules.specs.declared.reader.Reader.{Reader}
+use Rattle.dict_rules.specs.declared.use_op.UseOp.{UseOp}
 use Rattle.dict_rules.specs.Uses.{Condition, UseAt, base_of, fact_has_use, fact_uses}
 use Rattle.dict_rules.specs.WrongPlace.{is_in_place}
 
@@ -34,12 +34,12 @@ is_second_judged d (uses.SiblingThrough n m) first = is_some (option_and_then (i
 abbrev pub lacks_target : Dictionary → UsePath → Condition → Targets → Bool
 lacks_target d path c t = (is_judged path c && is_none t.first) || (is_second_judged d path t.first && is_none t.second)
 
-abbrev pub is_unknown_path : Dictionary → ℕ → Reader → Condition → Option UsePath → Bool
-is_unknown_path d n reader c None = false
-is_unknown_path d n reader c (Some path) = is_in_place d n reader c path && lacks_target d path c (targets d n (base_of c) path)
+abbrev pub is_unknown_path : Dictionary → ℕ → UseOp → Condition → Option UsePath → Bool
+is_unknown_path d n use_op c None = false
+is_unknown_path d n use_op c (Some path) = is_in_place d n use_op c path && lacks_target d path c (targets d n (base_of c) path)
 
-abbrev pub is_unknown_use : Dictionary → ℕ → Reader → Condition → Use → Bool
-is_unknown_use d n reader c u = is_unknown_path d n reader c u.path
+abbrev pub is_unknown_use : Dictionary → ℕ → UseOp → Condition → Use → Bool
+is_unknown_use d n use_op c u = is_unknown_path d n use_op c u.path
 
 -- a use path in its place has a target that is no fact
 abbrev pub has_unknown_path : Dictionary → ℕ → Fact → Bool
@@ -53,7 +53,7 @@ LacksTarget d path c t = (IsTrue (is_judged path c) × (t.first ≡ None)) ⊎ (
 
 -- the use's path stands in its place
 abbrev pub IsUnknown : Dictionary → ℕ → UseAt → Type 0
-IsUnknown d n u = (path : UsePath) × (u.used.path ≡ Some path) × IsTrue (is_in_place d n u.reader u.condition path) × LacksTarget d path u.condition (targets d n (base_of u.condition) path)
+IsUnknown d n u = (path : UsePath) × (u.used.path ≡ Some path) × IsTrue (is_in_place d n u.use_op u.condition path) × LacksTarget d path u.condition (targets d n (base_of u.condition) path)
 
 abbrev pub NamesNoFact : Dictionary → ℕ → Fact → Type 0
 NamesNoFact d n f = Any (IsUnknown d n) (fact_uses d n f)

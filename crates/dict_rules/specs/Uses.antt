@@ -1,12 +1,12 @@
--- The uses of paths in a fact, each with what reads it, and with the condition that it stands under.
+-- The uses of paths in a fact, each with its operator, and with the condition that it stands under.
 use Rattle.std.specs.Prelude.{ℕ, Bool, true, false, ◌||◌, List, [], ◌∷◌, ◌++◌, Option, Some, None, unwrap_or}
 use Rattle.dict_source.specs.declared.operators.ReadOp.TheVariants as reads
 use Rattle.dict_source.specs.Tree.{Use, Source, Sources, SourceCase, SourceCases, literal, read, switch, many, one, two, pick, no_trees, tree, no_cases, a_case}
 use Rattle.dict_source.specs.Facts.{Fact}
 use Rattle.dict_source.specs.Dictionary.{Dictionary}
 use Rattle.dict_source.specs.Mentions.{condition_base}
-use Rattle.dict_rules.specs.declared.reader.Reader.{Reader}
-use Rattle.dict_rules.specs.declared.reader.Reader.TheVariants.{Read, Pick}
+use Rattle.dict_rules.specs.declared.use_op.UseOp.{UseOp}
+use Rattle.dict_rules.specs.declared.use_op.UseOp.TheVariants.{Read, Pick}
 
 -- The innermost condition over a node: None outside of all conditions, else the number of the fact of the collection over
 -- whose members it stands, and 0 where that isn't known.
@@ -16,10 +16,10 @@ Condition = Option ℕ
 abbrev pub base_of : Condition → ℕ
 base_of condition = unwrap_or condition 0
 
--- ---- readers
+-- ---- operators
 
 -- the nodes that read one fact
-abbrev pub reads_fact : Reader → Bool
+abbrev pub reads_fact : UseOp → Bool
 reads_fact (Read reads.Dependency) = true
 reads_fact (Read reads.IsComplete) = true
 reads_fact (Read reads.CollectionSize) = false
@@ -28,7 +28,7 @@ reads_fact (Read reads.Count) = false
 reads_fact (Pick op) = false
 
 -- the nodes that read a field of each member
-abbrev pub reads_each : Reader → Bool
+abbrev pub reads_each : UseOp → Bool
 reads_each (Read reads.Dependency) = false
 reads_each (Read reads.IsComplete) = false
 reads_each (Read reads.CollectionSize) = false
@@ -37,12 +37,12 @@ reads_each (Read reads.Count) = true
 reads_each (Pick op) = false
 
 -- the nodes that go through members: Filter, Find, CollectionSum and Count
-abbrev pub goes_through_members : Reader → Bool
+abbrev pub goes_through_members : UseOp → Bool
 goes_through_members (Read op) = reads_each (Read op)
 goes_through_members (Pick op) = true
 
 -- the nodes that read a collection
-abbrev pub reads_collection : Reader → Bool
+abbrev pub reads_collection : UseOp → Bool
 reads_collection (Read reads.Dependency) = false
 reads_collection (Read reads.IsComplete) = false
 reads_collection (Read reads.CollectionSize) = true
@@ -54,7 +54,7 @@ reads_collection (Pick op) = true
 
 -- a test of a use
 abbrev pub UseTest : Type 0
-UseTest = Reader → Condition → Use → Bool
+UseTest = UseOp → Condition → Use → Bool
 
 -- the condition of a node that picks members, from the condition over the node and from its path
 abbrev pub condition_under : Dictionary → ℕ → Condition → Use → Condition
@@ -93,14 +93,14 @@ fact_has_use test d fact f = option_has_use test d fact f.main || (conditional_h
 
 -- ---- the uses one by one
 
--- a use, with what reads it, and with the condition that it stands under
+-- a use, with its operator, and with the condition that it stands under
 pub record UseAt : Type 0 where
-  pub reader : Reader
+  pub use_op : UseOp
   pub condition : Condition
   pub used : Use
 
-abbrev pub use_at : Reader → Condition → Use → UseAt
-use_at reader c u = record { reader = reader; condition = c; used = u }
+abbrev pub use_at : UseOp → Condition → Use → UseAt
+use_at use_op c u = record { use_op = use_op; condition = c; used = u }
 
 -- in preorder
 abbrev mutual

@@ -9,7 +9,7 @@ use Rattle.dict_source.specs.Tree.{Use}
 use Rattle.dict_source.specs.Facts.{Fact}
 use Rattle.dict_source.specs.Dictionary.{Dictionary}
 use Rattle.dict_source.specs.Targets.{collection_at}
-use Rattle.dict_rules.specs.declared.reader.Reader.{Reader}
+use Rattle.dict_rules.specs.declared.use_op.UseOp.{UseOp}
 use Rattle.dict_rules.specs.Uses.{Condition, goes_through_members, UseAt, reads_each, reads_fact, fact_has_use, fact_uses}
 use Rattle.dict_rules.specs.NoCollection.{is_list}
 
@@ -17,22 +17,22 @@ use Rattle.dict_rules.specs.NoCollection.{is_list}
 abbrev pub is_of_members : Dictionary → ℕ → Bool
 is_of_members d n = is_some (collection_at d n)
 
--- where a use path may stand: with what reads it, in the fact with this number, under this condition
-abbrev pub is_in_place : Dictionary → ℕ → Reader → Condition → UsePath → Bool
-is_in_place d n reader c (uses.Global m) = not (reads_each reader)
-is_in_place d n reader c (uses.Sibling m) = reads_fact reader && is_of_members d n
-is_in_place d n reader c (uses.Inner m) = reads_fact reader && is_some c
-is_in_place d n reader c (uses.Each l m) = reads_each reader
-is_in_place d n reader c (uses.Through l m) = reads_fact reader
-is_in_place d n reader c (uses.SiblingThrough l m) = reads_fact reader && is_of_members d n
+-- where a use path may stand: with its operator, in the fact with this number, under this condition
+abbrev pub is_in_place : Dictionary → ℕ → UseOp → Condition → UsePath → Bool
+is_in_place d n use_op c (uses.Global m) = not (reads_each use_op)
+is_in_place d n use_op c (uses.Sibling m) = reads_fact use_op && is_of_members d n
+is_in_place d n use_op c (uses.Inner m) = reads_fact use_op && is_some c
+is_in_place d n use_op c (uses.Each l m) = reads_each use_op
+is_in_place d n use_op c (uses.Through l m) = reads_fact use_op
+is_in_place d n use_op c (uses.SiblingThrough l m) = reads_fact use_op && is_of_members d n
 
-abbrev pub is_displaced : Dictionary → ℕ → Reader → Condition → Option UsePath → Bool
-is_displaced d n reader c None = false
-is_displaced d n reader c (Some path) = not (is_in_place d n reader c path)
+abbrev pub is_displaced : Dictionary → ℕ → UseOp → Condition → Option UsePath → Bool
+is_displaced d n use_op c None = false
+is_displaced d n use_op c (Some path) = not (is_in_place d n use_op c path)
 
 -- the path isn't in its place, or a node that goes through members stands under a condition
-abbrev pub is_misplaced : Dictionary → ℕ → Reader → Condition → Use → Bool
-is_misplaced d n reader c u = (goes_through_members reader && is_some c) || is_displaced d n reader c u.path
+abbrev pub is_misplaced : Dictionary → ℕ → UseOp → Condition → Use → Bool
+is_misplaced d n use_op c u = (goes_through_members use_op && is_some c) || is_displaced d n use_op c u.path
 
 -- `/c/*/N`
 abbrev pub is_member_path : Option FactPath → Bool
@@ -49,8 +49,8 @@ has_wrong_place d n f = (is_list f.stated && is_member_path f.path) || fact_has_
 -- a node that goes through members stands under a condition, or the use's path isn't in its place
 abbrev pub IsMisplaced : Dictionary → ℕ → UseAt → Type 0
 IsMisplaced d n u =
-    (IsTrue (goes_through_members u.reader) × ((b : ℕ) × (u.condition ≡ Some b)))
-    ⊎ ((path : UsePath) × (u.used.path ≡ Some path) × ¬ IsTrue (is_in_place d n u.reader u.condition path))
+    (IsTrue (goes_through_members u.use_op) × ((b : ℕ) × (u.condition ≡ Some b)))
+    ⊎ ((path : UsePath) × (u.used.path ≡ Some path) × ¬ IsTrue (is_in_place d n u.use_op u.condition path))
 
 -- a fact of a collection type is one of the members of a collection, or some use is misplaced
 abbrev pub HasWrongPlace : Dictionary → ℕ → Fact → Type 0

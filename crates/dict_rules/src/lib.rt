@@ -5,11 +5,11 @@ mod bad_path;
 mod duplicate_path;
 mod fault;
 mod no_collection;
-mod reader;
 mod rule_laws;
 mod rules;
 mod unknown_check;
 mod unknown_path;
+mod use_op;
 mod uses;
 mod wrong_place;
 

@@ -7,7 +7,7 @@ ghost use Rattle.dict_source.specs.View.{use_view};
 ghost use Rattle.dict_rules.specs.NoCollection.{goes_through_item as through_item, is_item as of_item, is_list as of_list, is_misread as misread, is_other as of_other, is_other_at as of_other_at, is_written_list as written_list, lacks_base as without_base, lacks_collection as without_collection, lacks_own_list as without_own_list, lacks_stated_list as without_stated_list, names_list as list_named, path_lacks_list as path_without_list};
 ghost use Rattle.dict_rules.specs.NoCollection.{use_lacks_list as use_without_list};
 
-use crate::reader::Reader;
+use crate::use_op::UseOp;
 use crate::uses::{UseRule, base_under, reads_collection, some_use_breaks};
 use dict_source::{DictSource, FactSource, PathUse, TypeText};
 use fact_paths::{FactPath, Name, UsePath};
@@ -175,39 +175,39 @@ fn goes_through_item(path: &UsePath) -> bool
     }
 }
 
-fn is_misread(source: &DictSource, reader: Reader, path: &UsePath, first: Option<u32>) -> bool
-    ensures { result ≡ misread (dictionary_view source.now) reader path.now first }
+fn is_misread(source: &DictSource, use_op: UseOp, path: &UsePath, first: Option<u32>) -> bool
+    ensures { result ≡ misread (dictionary_view source.now) use_op path.now first }
 {
-    (reads_collection(reader) && is_no_list_at(source, first))
+    (reads_collection(use_op) && is_no_list_at(source, first))
         || (goes_through_item(path) && is_no_item_at(source, first))
 }
 
 fn path_lacks_list(
     source: &DictSource,
     fact: u32,
-    reader: Reader,
+    use_op: UseOp,
     condition: Option<u32>,
     path: &UsePath,
 ) -> bool
-    ensures { result ≡ path_without_list (dictionary_view source.now) fact reader condition (Some path.now) }
+    ensures { result ≡ path_without_list (dictionary_view source.now) fact use_op condition (Some path.now) }
 {
     let targets = source.targets(fact, base_under(condition), path);
-    is_misread(source, reader, path, targets.first)
+    is_misread(source, use_op, path, targets.first)
 }
 
 /// Whether the first target has to be a collection or an item, and is a fact of another type.
 pub fn use_lacks_list(
     source: &DictSource,
     fact: u32,
-    reader: Reader,
+    use_op: UseOp,
     condition: Option<u32>,
     used: &PathUse,
 ) -> bool
-    ensures { result ≡ use_without_list (dictionary_view source.now) fact reader condition (use_view used.now) }
+    ensures { result ≡ use_without_list (dictionary_view source.now) fact use_op condition (use_view used.now) }
 {
     match &used.path {
         None => false,
-        Some(path) => path_lacks_list(source, fact, reader, condition, path),
+        Some(path) => path_lacks_list(source, fact, use_op, condition, path),
     }
 }
 

@@ -6,7 +6,7 @@ ghost use Rattle.dict_source.specs.Targets.{base_name, global_name, item_base, i
 ghost use Rattle.dict_source.specs.View.{use_view};
 ghost use Rattle.dict_rules.specs.UnknownPath.{has_unknown_path as unknown_path, is_judged as judged, is_second_judged as second_judged, is_unknown_path as path_unknown, is_unknown_use as unknown_use, lacks_target as without_target};
 
-use crate::reader::Reader;
+use crate::use_op::UseOp;
 use crate::uses::{UseRule, base_under, some_use_breaks};
 use crate::wrong_place::is_in_place;
 use dict_source::{DictSource, FactSource, PathUse, Targets, TypeText};
@@ -157,13 +157,13 @@ fn lacks_target(
 fn is_unknown_path(
     source: &DictSource,
     fact: u32,
-    reader: Reader,
+    use_op: UseOp,
     condition: Option<u32>,
     path: &UsePath,
 ) -> bool
-    ensures { result ≡ path_unknown (dictionary_view source.now) fact reader condition (Some path.now) }
+    ensures { result ≡ path_unknown (dictionary_view source.now) fact use_op condition (Some path.now) }
 {
-    if !is_in_place(source, fact, reader, condition, path) {
+    if !is_in_place(source, fact, use_op, condition, path) {
         return false;
     }
     let targets = source.targets(fact, base_under(condition), path);
@@ -174,15 +174,15 @@ fn is_unknown_path(
 pub fn is_unknown_use(
     source: &DictSource,
     fact: u32,
-    reader: Reader,
+    use_op: UseOp,
     condition: Option<u32>,
     used: &PathUse,
 ) -> bool
-    ensures { result ≡ unknown_use (dictionary_view source.now) fact reader condition (use_view used.now) }
+    ensures { result ≡ unknown_use (dictionary_view source.now) fact use_op condition (use_view used.now) }
 {
     match &used.path {
         None => false,
-        Some(path) => is_unknown_path(source, fact, reader, condition, path),
+        Some(path) => is_unknown_path(source, fact, use_op, condition, path),
     }
 }
 

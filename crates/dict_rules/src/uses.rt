@@ -4,12 +4,12 @@ ghost use Rattle.dict_source.specs.Dictionary.{dictionary_view};
 ghost use Rattle.dict_source.specs.Facts.{conditional_view, fact_view};
 ghost use Rattle.dict_source.specs.View.{cases_view, trees_view, use_view, view};
 ghost use Rattle.dict_rules.specs.Uses.{base_of, cases_have_use, condition_under, conditional_has_use, fact_has_use, goes_through_members as through_members, has_use, option_has_use, reads_collection as of_collection, reads_each as of_each, reads_fact as of_fact, some_have_use};
-ghost use Rattle.dict_rules.specs.declared.reader.Reader.TheVariants as readers;
+ghost use Rattle.dict_rules.specs.declared.use_op.UseOp.TheVariants as use_ops;
 ghost use Rattle.dict_rules.specs.UseRules.{use_breaks};
 
 use crate::bad_path::is_bad_use;
 use crate::no_collection::use_lacks_list;
-use crate::reader::Reader;
+use crate::use_op::UseOp;
 use crate::unknown_path::is_unknown_use;
 use crate::wrong_place::is_misplaced;
 use dict_source::{Case, Conditional, DictSource, Expr, FactSource, PathUse, ReadOp};
@@ -23,20 +23,20 @@ pub enum UseRule {
     WrongPlace,
 }
 
-// ---- readers
+// ---- operators
 
 /// Whether it reads one fact.
-pub fn reads_fact(reader: Reader) -> bool
-    ensures { result ≡ of_fact reader }
+pub fn reads_fact(use_op: UseOp) -> bool
+    ensures { result ≡ of_fact use_op }
 {
-    match reader {
-        Reader::Read(op) => op_reads_fact(op),
-        Reader::Pick(_) => false,
+    match use_op {
+        UseOp::Read(op) => op_reads_fact(op),
+        UseOp::Pick(_) => false,
     }
 }
 
 fn op_reads_fact(op: ReadOp) -> bool
-    ensures { result ≡ of_fact (readers.Read op) }
+    ensures { result ≡ of_fact (use_ops.Read op) }
 {
     match op {
         ReadOp::Dependency => true,
@@ -48,7 +48,7 @@ fn op_reads_fact(op: ReadOp) -> bool
 }
 
 fn op_reads_each(op: ReadOp) -> bool
-    ensures { result ≡ of_each (readers.Read op) }
+    ensures { result ≡ of_each (use_ops.Read op) }
 {
     match op {
         ReadOp::Dependency => false,
@@ -60,27 +60,27 @@ fn op_reads_each(op: ReadOp) -> bool
 }
 
 /// Whether it reads a field of each member.
-pub fn reads_each(reader: Reader) -> bool
-    ensures { result ≡ of_each reader }
+pub fn reads_each(use_op: UseOp) -> bool
+    ensures { result ≡ of_each use_op }
 {
-    match reader {
-        Reader::Read(op) => op_reads_each(op),
-        Reader::Pick(_) => false,
+    match use_op {
+        UseOp::Read(op) => op_reads_each(op),
+        UseOp::Pick(_) => false,
     }
 }
 
 /// Whether it goes through members.
-pub fn goes_through_members(reader: Reader) -> bool
-    ensures { result ≡ through_members reader }
+pub fn goes_through_members(use_op: UseOp) -> bool
+    ensures { result ≡ through_members use_op }
 {
-    match reader {
-        Reader::Read(op) => op_reads_each(op),
-        Reader::Pick(_) => true,
+    match use_op {
+        UseOp::Read(op) => op_reads_each(op),
+        UseOp::Pick(_) => true,
     }
 }
 
 fn op_reads_collection(op: ReadOp) -> bool
-    ensures { result ≡ of_collection (readers.Read op) }
+    ensures { result ≡ of_collection (use_ops.Read op) }
 {
     match op {
         ReadOp::Dependency => false,
@@ -92,12 +92,12 @@ fn op_reads_collection(op: ReadOp) -> bool
 }
 
 /// Whether it reads a collection.
-pub fn reads_collection(reader: Reader) -> bool
-    ensures { result ≡ of_collection reader }
+pub fn reads_collection(use_op: UseOp) -> bool
+    ensures { result ≡ of_collection use_op }
 {
-    match reader {
-        Reader::Read(op) => op_reads_collection(op),
-        Reader::Pick(_) => true,
+    match use_op {
+        UseOp::Read(op) => op_reads_collection(op),
+        UseOp::Pick(_) => true,
     }
 }
 
@@ -128,17 +128,17 @@ fn breaks(
     source: &DictSource,
     rule: UseRule,
     fact: u32,
-    reader: Reader,
+    use_op: UseOp,
     condition: Option<u32>,
     used: &PathUse,
 ) -> bool
-    ensures { result ≡ use_breaks (dictionary_view source.now) fact rule reader condition (use_view used.now) }
+    ensures { result ≡ use_breaks (dictionary_view source.now) fact rule use_op condition (use_view used.now) }
 {
     match rule {
         UseRule::BadPath => is_bad_use(used),
-        UseRule::NoCollection => use_lacks_list(source, fact, reader, condition, used),
-        UseRule::UnknownPath => is_unknown_use(source, fact, reader, condition, used),
-        UseRule::WrongPlace => is_misplaced(source, fact, reader, condition, used),
+        UseRule::NoCollection => use_lacks_list(source, fact, use_op, condition, used),
+        UseRule::UnknownPath => is_unknown_use(source, fact, use_op, condition, used),
+        UseRule::WrongPlace => is_misplaced(source, fact, use_op, condition, used),
     }
 }
 
@@ -156,7 +156,7 @@ fn expr_breaks(
 {
     match expr {
         Expr::Const(_) => false,
-        Expr::Read(op, used) => breaks(source, rule, fact, Reader::Read(*op), condition, used),
+        Expr::Read(op, used) => breaks(source, rule, fact, UseOp::Read(*op), condition, used),
         Expr::Switch(cases) => cases_break(source, rule, fact, condition, cases.as_slice()),
         Expr::Many(_, operands) => some_break(source, rule, fact, condition, operands.as_slice()),
         Expr::One(_, operand) => expr_breaks(source, rule, fact, condition, operand),
@@ -167,7 +167,7 @@ fn expr_breaks(
             expr_breaks(source, rule, fact, condition, right)
         }
         Expr::Pick(op, used, test) => {
-            if breaks(source, rule, fact, Reader::Pick(*op), condition, used) {
+            if breaks(source, rule, fact, UseOp::Pick(*op), condition, used) {
                 return true;
             }
             let inner = condition_of_pick(source, fact, condition, used);

@@ -6,7 +6,7 @@ ghost use Rattle.dict_source.specs.View.{use_view};
 ghost use Rattle.dict_rules.specs.WrongPlace.{has_wrong_place as wrong_place, is_displaced as displaced, is_in_place as in_place, is_member_path as member_path, is_misplaced as misplaced, is_of_members as of_members};
 
 use crate::no_collection::is_list;
-use crate::reader::Reader;
+use crate::use_op::UseOp;
 use crate::uses::{UseRule, goes_through_members, reads_each, reads_fact, some_use_breaks};
 use dict_source::{DictSource, FactSource, PathUse};
 use fact_paths::{FactPath, UsePath};
@@ -38,38 +38,38 @@ fn is_of_members(source: &DictSource, number: u32) -> bool
     }
 }
 
-/// Whether the use path may stand with this reader, in this fact, under this condition.
+/// Whether the use path may stand with this operator, in this fact, under this condition.
 pub fn is_in_place(
     source: &DictSource,
     fact: u32,
-    reader: Reader,
+    use_op: UseOp,
     condition: Option<u32>,
     path: &UsePath,
 ) -> bool
-    ensures { result ≡ in_place (dictionary_view source.now) fact reader condition path.now }
+    ensures { result ≡ in_place (dictionary_view source.now) fact use_op condition path.now }
 {
     match path {
-        UsePath::Global(_) => !reads_each(reader),
-        UsePath::Sibling(_) => reads_fact(reader) && is_of_members(source, fact),
-        UsePath::Inner(_) => reads_fact(reader) && condition.is_some(),
-        UsePath::Each(..) => reads_each(reader),
-        UsePath::Through(..) => reads_fact(reader),
-        UsePath::SiblingThrough(..) => reads_fact(reader) && is_of_members(source, fact),
+        UsePath::Global(_) => !reads_each(use_op),
+        UsePath::Sibling(_) => reads_fact(use_op) && is_of_members(source, fact),
+        UsePath::Inner(_) => reads_fact(use_op) && condition.is_some(),
+        UsePath::Each(..) => reads_each(use_op),
+        UsePath::Through(..) => reads_fact(use_op),
+        UsePath::SiblingThrough(..) => reads_fact(use_op) && is_of_members(source, fact),
     }
 }
 
 fn is_displaced(
     source: &DictSource,
     fact: u32,
-    reader: Reader,
+    use_op: UseOp,
     condition: Option<u32>,
     used: &PathUse,
 ) -> bool
-    ensures { result ≡ displaced (dictionary_view source.now) fact reader condition (use_view used.now).path }
+    ensures { result ≡ displaced (dictionary_view source.now) fact use_op condition (use_view used.now).path }
 {
     match &used.path {
         None => false,
-        Some(path) => !is_in_place(source, fact, reader, condition, path),
+        Some(path) => !is_in_place(source, fact, use_op, condition, path),
     }
 }
 
@@ -77,14 +77,14 @@ fn is_displaced(
 pub fn is_misplaced(
     source: &DictSource,
     fact: u32,
-    reader: Reader,
+    use_op: UseOp,
     condition: Option<u32>,
     used: &PathUse,
 ) -> bool
-    ensures { result ≡ misplaced (dictionary_view source.now) fact reader condition (use_view used.now) }
+    ensures { result ≡ misplaced (dictionary_view source.now) fact use_op condition (use_view used.now) }
 {
-    (goes_through_members(reader) && condition.is_some())
-        || is_displaced(source, fact, reader, condition, used)
+    (goes_through_members(use_op) && condition.is_some())
+        || is_displaced(source, fact, use_op, condition, used)
 }
 
 /// Whether something in the fact stands out of its place.

@@ -24,7 +24,7 @@ use Rattle.dict_source.specs.Targets.{item_base_at, targets}
 use Rattle.dict_source.specs.Tree.{Literal, Source, Sources, SourceCases, literal, read, switch, many, one, two, pick, no_trees, tree, no_cases, a_case}
 use Rattle.dict_source.specs.Typing.{HasType, HaveTypes, HaveCaseTypes, IsSomeCase}
 use Rattle.dict_source.proofs.TargetsLaws.{AreTargets-first_within, AreTargets-second_within, targets-AreTargets}
-use Rattle.dict_rules.specs.declared.reader.Reader.TheVariants as uses
+use Rattle.dict_rules.specs.declared.use_op.UseOp.TheVariants as uses
 use Rattle.node_types.specs.Constants.{literal_type, literal_value, value_type}
 use Rattle.node_types.specs.FactTyping.{count_type, field_sum_type, known, last_target, path_type, size_type, target_type}
 use Rattle.node_types.specs.StatedTypes.{base_number, type_at}
