@@ -3,7 +3,7 @@ ghost use Rattle.std.specs.Prelude.{◌≡◌, ◌<◌};
 
 use dict_source::{ManyOp, PickOp};
 use fact_values::{Members, NoMemory, Slot, Value, Whole};
-use node_eval::{Cells, Node, NodeRead, Reader, eval};
+use node_eval::{Cells, Node, NodeRead, ResolvedPath, eval};
 use std::alloc::Global;
 use std::marker::Brand;
 use std::sync::ledger::{Blank, Ledger};
@@ -75,8 +75,8 @@ fn two_cells(alloc: Global, first: Res, second: Res) -> Option<Row> {
 
 fn sum(alloc: Global) -> Option<Node> {
     let operands = [
-        Node::Read(NodeRead::Dependency, Reader::Global(0)),
-        Node::Read(NodeRead::Dependency, Reader::Same(1)),
+        Node::Read(NodeRead::Dependency, ResolvedPath::Global(0)),
+        Node::Read(NodeRead::Dependency, ResolvedPath::Same(1)),
     ];
     let operands = Vec::from_array(alloc, operands).ok()?;
     Some(Node::Many(ManyOp::Add, operands))
@@ -133,9 +133,9 @@ fn row_of_members(alloc: Global) -> Option<Row> {
 }
 
 fn find(alloc: Global) -> Option<Node> {
-    let test = Node::Read(NodeRead::Dependency, Reader::Inner(0));
+    let test = Node::Read(NodeRead::Dependency, ResolvedPath::Inner(0));
     let test = Box::new(alloc, test).ok()?;
-    Some(Node::Pick(PickOp::Find, Reader::Global(0), test))
+    Some(Node::Pick(PickOp::Find, ResolvedPath::Global(0), test))
 }
 
 fn gives_the_found(alloc: Global, row: &Row, wanted: &Res) -> bool {
@@ -181,7 +181,7 @@ fn row_of_a_list(alloc: Global) -> Option<Row> {
 }
 
 fn gives_a_copy(alloc: Global, row: &Row, wanted: &Res) -> bool {
-    let node = Node::Read(NodeRead::Dependency, Reader::Global(1));
+    let node = Node::Read(NodeRead::Dependency, ResolvedPath::Global(1));
     let gives = gives(alloc, &node, row, wanted);
     drop(node);
     gives

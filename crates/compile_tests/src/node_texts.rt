@@ -2,7 +2,7 @@
 
 use dict_source::{ManyOp, OneOp, PickOp, TwoOp};
 use fact_values::{NoMemory, Value};
-use node_eval::{Node, NodeCase, NodeRead, Reader};
+use node_eval::{Node, NodeCase, NodeRead, ResolvedPath};
 
 /// Appends a text.
 pub fn put(text: &mut String, part: &str) -> Result<(), NoMemory> {
@@ -46,14 +46,14 @@ fn write_value(text: &mut String, value: &Value) -> Result<(), NoMemory> {
     }
 }
 
-fn write_reader(text: &mut String, reader: Reader) -> Result<(), NoMemory> {
-    match reader {
-        Reader::Global(n) => put_number(text, "/", n as i64),
-        Reader::Same(n) => put_number(text, "../", n as i64),
-        Reader::Inner(n) => put_number(text, "", n as i64),
-        Reader::Each(n, m) => put_two(text, "/", n as i64, "/*/", m as i64),
-        Reader::Through(n, m) => put_two(text, "/", n as i64, "/", m as i64),
-        Reader::SameThrough(n, m) => put_two(text, "../", n as i64, "/", m as i64),
+fn write_path(text: &mut String, path: ResolvedPath) -> Result<(), NoMemory> {
+    match path {
+        ResolvedPath::Global(n) => put_number(text, "/", n as i64),
+        ResolvedPath::Same(n) => put_number(text, "../", n as i64),
+        ResolvedPath::Inner(n) => put_number(text, "", n as i64),
+        ResolvedPath::Each(n, m) => put_two(text, "/", n as i64, "/*/", m as i64),
+        ResolvedPath::Through(n, m) => put_two(text, "/", n as i64, "/", m as i64),
+        ResolvedPath::SameThrough(n, m) => put_two(text, "../", n as i64, "/", m as i64),
     }
 }
 
@@ -127,9 +127,9 @@ fn pick_name(op: PickOp) -> &'static str {
 pub fn write_node(text: &mut String, node: &Node) -> Result<(), NoMemory> {
     match node {
         Node::Const(value) => write_value(text, value),
-        Node::Read(read, reader) => {
+        Node::Read(read, path) => {
             put(text, read_name(*read))?;
-            write_reader(text, *reader)
+            write_path(text, *path)
         }
         Node::Switch(cases) => write_cases(text, cases.as_slice()),
         Node::Many(op, operands) => {
@@ -152,7 +152,7 @@ pub fn write_node(text: &mut String, node: &Node) -> Result<(), NoMemory> {
         }
         Node::Pick(op, list, test) => {
             put(text, pick_name(*op))?;
-            write_reader(text, *list)?;
+            write_path(text, *list)?;
             put(text, " ")?;
             write_operand(text, test)
         }
@@ -180,7 +180,7 @@ fn write_globals(text: &mut String, facts: &[u32]) -> Result<(), NoMemory> {
     for fact in facts {
         put(text, " [")?;
         put(text, read_name(NodeRead::Dependency))?;
-        write_reader(text, Reader::Global(*fact))?;
+        write_path(text, ResolvedPath::Global(*fact))?;
         put(text, "]")?;
     }
     Ok(())

@@ -17,7 +17,7 @@ use Rattle.dict_source.specs.Facts.{Fact, Stated, item_of, scalar, writable_list
 use Rattle.dict_source.specs.Dictionary.{Dictionary as Tree}
 use Rattle.node_eval.specs.View.{Compiled as NodeTree}
 use Rattle.node_eval.specs.declared.node.NodeRead.TheVariants.{Count, Dependency, IsComplete, SumDollar, SumInt}
-use Rattle.node_eval.specs.declared.node.Reader.TheVariants.{Each, Global, Inner, Same, SameThrough, Through}
+use Rattle.node_eval.specs.declared.node.ResolvedPath.TheVariants.{Each, Global, Inner, Same, SameThrough, Through}
 use Rattle.node_compile.specs.Compiling.{fact_trees, node_tree}
 
 abbrev fact : FactPath → Stated → Option Source → Option SourceCase → Fact

@@ -38,8 +38,8 @@ use Rattle.dict_meaning.proofs.ReadTypes.{item_target, known_is, list_target}
 use Rattle.node_eval.specs.NodeTypes.{FactTypes, behind, collection_base, constant_type, counted, dependency_type, item_base, node_types, read_type, source_base}
 use Rattle.node_eval.specs.NodeTypes as nodes
 use Rattle.node_eval.specs.declared.node.NodeRead.TheVariants as node_read
-use Rattle.node_eval.specs.declared.node.Reader.{Reader}
-use Rattle.node_compile.specs.Compiling.{names, number, read_of, reader, reader_of, reading, sum_read}
+use Rattle.node_eval.specs.declared.node.ResolvedPath.{ResolvedPath}
+use Rattle.node_compile.specs.Compiling.{names, number, read_of, reading, resolved_path, resolved_use, sum_read}
 use Rattle.node_compile.proofs.TargetLaws.{condition_lists, target_of_type, unsuited}
 
 -- ---- constants
@@ -93,7 +93,7 @@ module _ (facts : FactTypes) where
   size_by (Some (Collection c)) u e = e
   size_by _ u e = absurd cc
 
-  sum_by_type : (r : Reader) (o : Option FactType) (u : FactType) → nodes.field_type facts r ≡ o → option_and_then field_sum_type o ≡ Some u → read_type facts (sum_read (unwrap_or o Int)) r ≡ Some u
+  sum_by_type : (r : ResolvedPath) (o : Option FactType) (u : FactType) → nodes.field_type facts r ≡ o → option_and_then field_sum_type o ≡ Some u → read_type facts (sum_read (unwrap_or o Int)) r ≡ Some u
   sum_by_type r (Some Int) u f e = ap (option_and_then nodes.int_sum) f ∙ e
   sum_by_type r (Some Dollar) u f e = ap (option_and_then nodes.dollar_sum) f ∙ e
   sum_by_type r _ u f e = absurd cc
@@ -126,7 +126,7 @@ module _ (d : Tree) (fact base : ℕ) where
   once_has : (first : Option ℕ) (m : ℕ) (u : FactType) → first ≡ Some m → type_at d m ≡ Some u → type_at d (number first) ≡ Some u
   once_has first m u e k = ap (λ o. type_at d (number o)) e ∙ k
 
-  dependency_has : (path : UsePath) (m : ℕ) (u : FactType) → names_one path ≡ true → last_target path (targets_of path) ≡ Some m → type_at d m ≡ Some u → dependency_type (type_at d) (reader_of path (targets_of path)) ≡ Some u
+  dependency_has : (path : UsePath) (m : ℕ) (u : FactType) → names_one path ≡ true → last_target path (targets_of path) ≡ Some m → type_at d m ≡ Some u → dependency_type (type_at d) (resolved_path path (targets_of path)) ≡ Some u
   dependency_has (Global n) m u h e k = once_has (targets_of (Global n)).first m u e k
   dependency_has (Sibling n) m u h e k = once_has (targets_of (Sibling n)).first m u e k
   dependency_has (Inner n) m u h e k = once_has (targets_of (Inner n)).first m u e k
@@ -178,27 +178,27 @@ module _ (d : Tree) (fact base : ℕ) where
   -- ---- what the members of a collection are read by
 
   size_has : (c : Condition) (path : UsePath) (m : ℕ) (u : FactType) → is_in_place d fact (uses.Read CollectionSize) c path ≡ true → last_target path (targets_of path) ≡ Some m → option_and_then size_type (type_at d m) ≡ Some u
-      → read_type (type_at d) node_read.CollectionSize (reader_of path (targets_of path)) ≡ Some u
+      → read_type (type_at d) node_read.CollectionSize (resolved_path path (targets_of path)) ≡ Some u
   size_has c (Global n) m u h e k = ap (λ o. option_map (λ c. Int) (option_and_then collection_base (type_at d (number o)))) e ∙ size_by (type_at d) (type_at d m) u k
   size_has c _ m u h e k = absurd cc
 
-  field_has : (n x : List ℕ) (m : ℕ) → (targets_of (Each n x)).second ≡ Some m → nodes.field_type (type_at d) (reader_of (Each n x) (targets_of (Each n x))) ≡ type_at d m
+  field_has : (n x : List ℕ) (m : ℕ) → (targets_of (Each n x)).second ≡ Some m → nodes.field_type (type_at d) (resolved_path (Each n x) (targets_of (Each n x))) ≡ type_at d m
   field_has n x m e =
       let t = targets_of (Each n x) in
       let s = ((targets-AreTargets d fact base (Each n x)).second m).0 e in
       behind_list (type_at d) t.first t.second s.0 m (base_number d (Some s.2.0)) s.1 e (list_target d (Some s.0) s.2.0 s.2.1)
 
   sum_has : (c : Condition) (path : UsePath) (m : ℕ) (u : FactType) → is_in_place d fact (uses.Read CollectionSum) c path ≡ true → last_target path (targets_of path) ≡ Some m → option_and_then field_sum_type (type_at d m) ≡ Some u
-      → read_type (type_at d) (read_of d (targets_of path) CollectionSum) (reader_of path (targets_of path)) ≡ Some u
+      → read_type (type_at d) (read_of d (targets_of path) CollectionSum) (resolved_path path (targets_of path)) ≡ Some u
   sum_has c (Each n x) m u h e k =
       let t = targets_of (Each n x) in
       let kind = ap (option_and_then (type_at d)) e in
-      ap (λ (o : Option FactType). read_type (type_at d) (sum_read (unwrap_or o Int)) (reader_of (Each n x) t)) kind
-      ∙ sum_by_type (type_at d) (reader_of (Each n x) t) (type_at d m) u (field_has n x m e) k
+      ap (λ (o : Option FactType). read_type (type_at d) (sum_read (unwrap_or o Int)) (resolved_path (Each n x) t)) kind
+      ∙ sum_by_type (type_at d) (resolved_path (Each n x) t) (type_at d m) u (field_has n x m e) k
   sum_has c _ m u h e k = absurd cc
 
   count_has : (c : Condition) (path : UsePath) (m : ℕ) (u : FactType) → is_in_place d fact (uses.Read Count) c path ≡ true → last_target path (targets_of path) ≡ Some m → option_and_then count_type (type_at d m) ≡ Some u
-      → read_type (type_at d) node_read.Count (reader_of path (targets_of path)) ≡ Some u
+      → read_type (type_at d) node_read.Count (resolved_path path (targets_of path)) ≡ Some u
   count_has c (Each n x) m u h e k = ap (option_and_then counted) (field_has n x m e) ∙ count_by_type (type_at d) (type_at d m) u k
   count_has c _ m u h e k = absurd cc
 
@@ -206,7 +206,7 @@ module _ (d : Tree) (fact base : ℕ) where
 
   module _ (has_types : HaveFactTypes d) where
     path_has : (op : ReadOp) (c : Condition) (path : UsePath) (m : ℕ) (u : FactType) → is_in_place d fact (uses.Read op) c path ≡ true → last_target path (targets_of path) ≡ Some m → target_type d op (Some m) ≡ Some u
-        → read_type (type_at d) (read_of d (targets_of path) op) (reader_of path (targets_of path)) ≡ Some u
+        → read_type (type_at d) (read_of d (targets_of path) op) (resolved_path path (targets_of path)) ≡ Some u
     path_has Dependency c path m u h e k = dependency_has path m u (in_place_names Dependency c path refl h) e k
     path_has IsComplete c path m u h e k =
         let t = has_types m (last_number path m e) in
@@ -224,7 +224,7 @@ module _ (d : Tree) (fact base : ℕ) where
 
   -- ---- the collection of a Filter or a Find
 
-  list_has : (op : PickOp) (c : Condition) (path : Option UsePath) (k : ℕ) → is_displaced d fact (uses.Pick op) c path ≡ false → known (condition_base d fact base path) ≡ Some k → source_base (type_at d) (reader d fact base path) ≡ Some k
+  list_has : (op : PickOp) (c : Condition) (path : Option UsePath) (k : ℕ) → is_displaced d fact (uses.Pick op) c path ≡ false → known (condition_base d fact base path) ≡ Some k → source_base (type_at d) (resolved_use d fact base path) ≡ Some k
   list_has op c None k h e = absurd cc
   list_has op c (Some (Global n)) k h e =
       let first = condition_lists d fact base (Global n) k e in

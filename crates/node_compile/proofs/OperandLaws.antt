@@ -10,7 +10,7 @@ use Rattle.dict_source.specs.declared.expr.Expr.{Expr}
 use Rattle.fact_values.specs.declared.value.Value.{Value}
 use Rattle.evaluation.specs.Resolving.{resolved, resolved_all, resolved_cases}
 use Rattle.node_eval.specs.View.{Compiled as NodeTree, CompiledCase as NodeTreeCase, Reading as NodeReading, cases_of, trees_of}
-use Rattle.node_eval.specs.declared.node.Reader.{Reader}
+use Rattle.node_eval.specs.declared.node.ResolvedPath.{ResolvedPath}
 use Rattle.node_compile.specs.Compiling.{names}
 
 module _ (d : Tree) (fact base : ℕ) where
@@ -22,11 +22,11 @@ module _ (d : Tree) (fact base : ℕ) where
 
   pub all_resolved : (es : List Expr) → resolved_all (names d fact) base (trees_view es) ≡ trees_of (map node_of es)
   all_resolved [] = refl
-  all_resolved (e ∷ es) = ap (λ (ts : Trees Value NodeReading Reader). tree (node_of e) ts) (all_resolved es)
+  all_resolved (e ∷ es) = ap (λ (ts : Trees Value NodeReading ResolvedPath). tree (node_of e) ts) (all_resolved es)
 
   pub cases_resolved : (cs : List Case) → resolved_cases (names d fact) base (cases_view cs) ≡ cases_of (map node_case_of cs)
   cases_resolved [] = refl
-  cases_resolved (c ∷ cs) = ap (λ (ts : Cases Value NodeReading Reader). a_case (resolved (names d fact) base (view c.test)) (resolved (names d fact) base (view c.outcome)) ts) (cases_resolved cs)
+  cases_resolved (c ∷ cs) = ap (λ (ts : Cases Value NodeReading ResolvedPath). a_case (resolved (names d fact) base (view c.test)) (resolved (names d fact) base (view c.outcome)) ts) (cases_resolved cs)
 
 -- one element more is compiled
 pub next_compiled : {X Y Z : Type 0} (f : X → Z) (g : Y → Z) (ys : List Y) (i : ℕ) (y : Y) (so_far more : List X) (x : X)

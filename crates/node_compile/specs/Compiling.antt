@@ -19,8 +19,8 @@ use Rattle.dict_meaning.specs.Dependencies.{constant_value, field_type}
 use Rattle.node_eval.specs.View.{Compiled as NodeTree, Reading as NodeReading}
 use Rattle.node_eval.specs.declared.node.NodeRead.{NodeRead}
 use Rattle.node_eval.specs.declared.node.NodeRead.TheVariants.{Dependency, IsComplete, CollectionSize, SumInt, SumDollar, Count}
-use Rattle.node_eval.specs.declared.node.Reader.{Reader}
-use Rattle.node_eval.specs.declared.node.Reader.TheVariants.{Global, Same, Inner, Each, Through, SameThrough}
+use Rattle.node_eval.specs.declared.node.ResolvedPath.{ResolvedPath}
+use Rattle.node_eval.specs.declared.node.ResolvedPath.TheVariants.{Global, Same, Inner, Each, Through, SameThrough}
 
 -- ---- use paths
 
@@ -29,17 +29,17 @@ abbrev pub number : Option ℕ → ℕ
 number target = unwrap_or target 0
 
 -- the path's form, with the numbers of its targets
-abbrev pub reader_of : UsePath → Targets → Reader
-reader_of (uses.Global n) t = Global (number t.first)
-reader_of (uses.Sibling n) t = Same (number t.first)
-reader_of (uses.Inner n) t = Inner (number t.first)
-reader_of (uses.Each n m) t = Each (number t.first) (number t.second)
-reader_of (uses.Through n m) t = Through (number t.first) (number t.second)
-reader_of (uses.SiblingThrough n m) t = SameThrough (number t.first) (number t.second)
+abbrev pub resolved_path : UsePath → Targets → ResolvedPath
+resolved_path (uses.Global n) t = Global (number t.first)
+resolved_path (uses.Sibling n) t = Same (number t.first)
+resolved_path (uses.Inner n) t = Inner (number t.first)
+resolved_path (uses.Each n m) t = Each (number t.first) (number t.second)
+resolved_path (uses.Through n m) t = Through (number t.first) (number t.second)
+resolved_path (uses.SiblingThrough n m) t = SameThrough (number t.first) (number t.second)
 
-abbrev pub reader : Tree → ℕ → ℕ → Option UsePath → Reader
-reader d fact base None = Global 0
-reader d fact base (Some path) = reader_of path (targets d fact base path)
+abbrev pub resolved_use : Tree → ℕ → ℕ → Option UsePath → ResolvedPath
+resolved_use d fact base None = Global 0
+resolved_use d fact base (Some path) = resolved_path path (targets d fact base path)
 
 -- ---- leaves that read
 
@@ -57,16 +57,16 @@ read_of d t reads.Count = Count
 
 abbrev pub reading : Tree → ℕ → ℕ → ReadOp → Option UsePath → NodeReading
 reading d fact base op None = (Dependency, Global 0)
-reading d fact base op (Some path) = (read_of d (targets d fact base path) op, reader_of path (targets d fact base path))
+reading d fact base op (Some path) = (read_of d (targets d fact base path) op, resolved_path path (targets d fact base path))
 
 -- ---- expressions
 
 -- what the names in an expression of the fact stand for, under a condition over a base, or with the base 0 outside of conditions
-abbrev pub names : Tree → ℕ → Names ℕ Literal Reading Use Value NodeReading Reader
+abbrev pub names : Tree → ℕ → Names ℕ Literal Reading Use Value NodeReading ResolvedPath
 names d fact = record {
   constant = constant_value d.enums;
   reads = λ base r. reading d fact base r.0 r.1.path;
-  source = λ base u. reader d fact base u.path;
+  source = λ base u. resolved_use d fact base u.path;
   base = λ base u. condition_base d fact base u.path;
 }
 

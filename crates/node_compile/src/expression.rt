@@ -9,10 +9,10 @@ ghost use Rattle.node_eval.specs.View.{case_view as node_case_view, cases_view a
 ghost use Rattle.node_compile.specs.Compiling.{names};
 
 use crate::operands::many_node;
-use crate::reading::{base_under, constant, read_path, reader};
+use crate::reading::{base_under, constant, read_path, resolve_use};
 use dict_source::{Case, Constant, DictSource, Expr, OneOp, PickOp, TwoOp};
 use fact_values::NoMemory;
-use node_eval::{Node, NodeCase, Reader};
+use node_eval::{Node, NodeCase, ResolvedPath};
 use std::alloc::Global;
 
 /// The node of an expression of this fact, under a condition over the base, or with the base 0
@@ -56,7 +56,7 @@ pub fn compile_expr(
         }
         Expr::Pick(op, used, test) => {
             let inner = base_under(source, fact, base, used);
-            let list = reader(source, fact, base, used);
+            let list = resolve_use(source, fact, base, used);
             let test = compile_expr(alloc, source, fact, inner, test)?;
             pick_node(alloc, *op, list, test)
         }
@@ -80,7 +80,7 @@ fn one_node(alloc: Global, op: &OneOp, operand: Node) -> Result<Node, NoMemory>
 }
 
 #[tactic(auto, using(node_eval::proofs::Views::views))]
-fn pick_node(alloc: Global, op: PickOp, list: Reader, test: Node) -> Result<Node, NoMemory>
+fn pick_node(alloc: Global, op: PickOp, list: ResolvedPath, test: Node) -> Result<Node, NoMemory>
     ensures { IfOk result (λ node. node_view node ≡ pick op list (node_view test)) }
 {
     Ok(Node::Pick(op, list, Box::new(alloc, test)?))

@@ -5,7 +5,7 @@ ghost use Rattle.node_eval.specs.View.{global_read, globals_view, trees_view, vi
 
 use dict_source::ManyOp;
 use fact_values::NoMemory;
-use node_eval::{Node, NodeRead, Reader};
+use node_eval::{Node, NodeRead, ResolvedPath};
 use std::alloc::Global;
 
 // The fact, where the operand is a Dependency of one that stands once.
@@ -14,7 +14,7 @@ fn global_of(operand: &Node) -> Option<u32>
     ensures { IfSome result (λ fact. view operand.now ≡ global_read fact) }
 {
     match operand {
-        Node::Read(NodeRead::Dependency, Reader::Global(fact)) => Some(*fact),
+        Node::Read(NodeRead::Dependency, ResolvedPath::Global(fact)) => Some(*fact),
         _ => None,
     }
 }

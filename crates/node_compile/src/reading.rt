@@ -7,12 +7,12 @@ ghost use Rattle.dict_source.specs.View.{literal_of};
 ghost use Rattle.node_types.specs.StatedTypes.{type_at as type_of_fact};
 ghost use Rattle.dict_meaning.specs.Dependencies.{constant_value as value_of_constant};
 ghost use Rattle.node_eval.specs.View.{view};
-ghost use Rattle.node_compile.specs.Compiling.{number as number_of, read_of, reader as reader_in, reader_of, reading, sum_read};
+ghost use Rattle.node_compile.specs.Compiling.{number as number_of, read_of, reading, resolved_path, resolved_use, sum_read};
 
 use dict_source::{Constant, DictSource, PathUse, ReadOp, Targets};
 use fact_paths::UsePath;
 use fact_values::{FactType, NoMemory, Value};
-use node_eval::{Node, NodeRead, Reader};
+use node_eval::{Node, NodeRead, ResolvedPath};
 use node_types::{constant_value, type_at};
 use std::alloc::Global;
 use value_text::EnumLists;
@@ -34,29 +34,29 @@ fn number(target: Option<u32>) -> u32
 }
 
 // The path's form, with the numbers of its targets.
-fn reader_of_targets(path: &UsePath, targets: Targets) -> Reader
-    ensures { result ≡ reader_of path.now targets }
+fn resolve_path(path: &UsePath, targets: Targets) -> ResolvedPath
+    ensures { result ≡ resolved_path path.now targets }
 {
     let first = number(targets.first);
     let second = number(targets.second);
     match path {
-        UsePath::Global(_) => Reader::Global(first),
-        UsePath::Sibling(_) => Reader::Same(first),
-        UsePath::Inner(_) => Reader::Inner(first),
-        UsePath::Each(..) => Reader::Each(first, second),
-        UsePath::Through(..) => Reader::Through(first, second),
-        UsePath::SiblingThrough(..) => Reader::SameThrough(first, second),
+        UsePath::Global(_) => ResolvedPath::Global(first),
+        UsePath::Sibling(_) => ResolvedPath::Same(first),
+        UsePath::Inner(_) => ResolvedPath::Inner(first),
+        UsePath::Each(..) => ResolvedPath::Each(first, second),
+        UsePath::Through(..) => ResolvedPath::Through(first, second),
+        UsePath::SiblingThrough(..) => ResolvedPath::SameThrough(first, second),
     }
 }
 
-/// The reader of a path in this fact, under a condition over the base, or with the base 0 outside of
-/// conditions.
-pub fn reader(source: &DictSource, fact: u32, base: u32, used: &PathUse) -> Reader
-    ensures { result ≡ reader_in (dictionary_view source.now) fact base used.now.path }
+/// The path of a use in this fact, resolved under a condition over the base, or with the base 0
+/// outside of conditions.
+pub fn resolve_use(source: &DictSource, fact: u32, base: u32, used: &PathUse) -> ResolvedPath
+    ensures { result ≡ resolved_use (dictionary_view source.now) fact base used.now.path }
 {
     match &used.path {
-        None => Reader::Global(0),
-        Some(path) => reader_of_targets(path, source.targets(fact, base, path)),
+        None => ResolvedPath::Global(0),
+        Some(path) => resolve_path(path, source.targets(fact, base, path)),
     }
 }
 
@@ -96,11 +96,11 @@ pub fn read_path(source: &DictSource, fact: u32, base: u32, op: ReadOp, used: &P
     ensures { view result ≡ read (reading (dictionary_view source.now) fact base op used.now.path) }
 {
     match &used.path {
-        None => Node::Read(NodeRead::Dependency, Reader::Global(0)),
+        None => Node::Read(NodeRead::Dependency, ResolvedPath::Global(0)),
         Some(path) => {
             let targets = source.targets(fact, base, path);
             let op = read_of_targets(source, targets, op);
-            Node::Read(op, reader_of_targets(path, targets))
+            Node::Read(op, resolve_path(path, targets))
         }
     }
 }

@@ -1,4 +1,4 @@
--- What nodes read from cells, by example: each reader, in each of the four results.
+-- What nodes read from cells, by example: each path, in each of the four results.
 use Rattle.std.proofs.Common.{◌≡◌, ℕ, pos, negsuc, true, false, nat_eq, if◌then◌else◌, List, [], ◌∷◌, map, Option, Some, None, refl}
 use Rattle.fact_values.specs.declared.fault.ValueFault.TheVariants.{Overflow}
 use Rattle.fact_values.specs.declared.value.Value.TheVariants.{Boolean, Int, Members, Item}
@@ -14,8 +14,8 @@ use Rattle.node_eval.specs.Dependencies.{node_env}
 use Rattle.node_eval.specs.View.{Compiled}
 use Rattle.node_eval.specs.declared.node.NodeRead.{NodeRead}
 use Rattle.node_eval.specs.declared.node.NodeRead.TheVariants.{Dependency, IsComplete, CollectionSize, SumInt, Count}
-use Rattle.node_eval.specs.declared.node.Reader.{Reader}
-use Rattle.node_eval.specs.declared.node.Reader.TheVariants.{Global, Same, Inner, Each, Through, SameThrough}
+use Rattle.node_eval.specs.declared.node.ResolvedPath.{ResolvedPath}
+use Rattle.node_eval.specs.declared.node.ResolvedPath.TheVariants.{Global, Same, Inner, Each, Through, SameThrough}
 
 -- the results of a fact, by its members
 pub record Column : Type 0 where
@@ -55,7 +55,7 @@ columns =
 abbrev gives : List Compiled → List Res
 gives ts = map (over (node_env (results_in columns)) (record { own = 11; inner = 12 })) ts
 
-abbrev reads : NodeRead → List Reader → List Compiled
+abbrev reads : NodeRead → List ResolvedPath → List Compiled
 reads op rs = map (λ r. read (op, r)) rs
 
 a_fact_that_stands_once : gives (reads Dependency (Global 1 ∷ Global 2 ∷ Global 3 ∷ Global 4 ∷ [])) ≡ int 2 ∷ soft 3 ∷ Incomplete ∷ Fault Overflow ∷ []
@@ -91,9 +91,9 @@ the_members_that_are_kept : gives (pick Filter (Global 5) (read (Dependency, Inn
     ≡ Placeholder (Members (11 ∷ 12 ∷ [])) ∷ Complete (Item 11) ∷ Complete (Members (11 ∷ 12 ∷ 13 ∷ [])) ∷ []
 the_members_that_are_kept = refl
 
--- a reader that its node doesn't have reads nothing, or the first fact alone
-readers_out_of_place : gives (reads Dependency (Each 5 8 ∷ [])) ≡ Incomplete ∷ []
-readers_out_of_place = refl
+-- a path that its node doesn't have reads nothing, or the first fact alone
+paths_out_of_place : gives (reads Dependency (Each 5 8 ∷ [])) ≡ Incomplete ∷ []
+paths_out_of_place = refl
 
 -- how many nodes are visited: of an All each operand, of a Switch those up to the case that decides, of a Filter the condition at
 -- each member, of a Find up to the member that decides

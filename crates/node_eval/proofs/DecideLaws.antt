@@ -20,8 +20,8 @@ use Rattle.node_eval.specs.SlotsOf.{collection_slots, dependency_slots, field_sl
 use Rattle.node_eval.specs.View.{Compiled}
 use Rattle.node_eval.specs.declared.node.NodeRead.{NodeRead}
 use Rattle.node_eval.specs.declared.node.NodeRead.TheVariants as node_read
-use Rattle.node_eval.specs.declared.node.Reader.{Reader}
-use Rattle.node_eval.specs.declared.node.Reader.TheVariants.{Global, Same, Inner, Each, Through, SameThrough}
+use Rattle.node_eval.specs.declared.node.ResolvedPath.{ResolvedPath}
+use Rattle.node_eval.specs.declared.node.ResolvedPath.TheVariants.{Global, Same, Inner, Each, Through, SameThrough}
 use Rattle.node_eval.specs.declared.eval_position.EvalPosition.{EvalPosition}
 
 module _ (test : Slot → Bool) (results results' : Results) (same : (s : Slot) → IsTrue (test s) → results s ≡ results' s) where
@@ -47,7 +47,7 @@ module _ (test : Slot → Bool) (results results' : Results) (same : (s : Slot) 
       let parts = both (test (slot n member)) (list_all test rest) h in
       field-same item m parts.1 ∙ ap (λ r. through_item r (result_at results' (Some m))) (ap (λ r. unwrap_or r Incomplete) (same (slot n member) parts.0))
 
-  dependency-same : (at : EvalPosition) (r : Reader) → Pass (dependency_slots results at r) → dependency results at r ≡ dependency results' at r
+  dependency-same : (at : EvalPosition) (r : ResolvedPath) → Pass (dependency_slots results at r) → dependency results at r ≡ dependency results' at r
   dependency-same at (Global n) h = at-same (Some n) 0 h
   dependency-same at (Same n) h = at-same (Some n) at.own h
   dependency-same at (Inner n) h = at-same (Some n) at.inner h
@@ -57,7 +57,7 @@ module _ (test : Slot → Bool) (results results' : Results) (same : (s : Slot) 
 
   -- ---- over the members of a collection
 
-  source-same : (r : Reader) → Pass (collection_slots r) → collection results r ≡ collection results' r
+  source-same : (r : ResolvedPath) → Pass (collection_slots r) → collection results r ≡ collection results' r
   source-same r h = at-same (Some (first_of r)) 0 h
 
   fields-same : (o : Option ℕ) (ms : List ℕ) → Pass (flat_map (slot_at o) ms) → map (result_at results o) ms ≡ map (result_at results' o) ms
@@ -67,7 +67,7 @@ module _ (test : Slot → Bool) (results results' : Results) (same : (s : Slot) 
       ap (λ r. r ∷ map (result_at results o) ms) (at-same o m parts.0) ∙ ap (λ rs. result_at results' o m ∷ rs) (fields-same o ms parts.1)
 
   -- of a node that looks at the fields of the members alone
-  over-same : (node : Res → List Res → Res) (r : Reader) → Pass (field_slots results r)
+  over-same : (node : Res → List Res → Res) (r : ResolvedPath) → Pass (field_slots results r)
       → node (collection results r) (map (field results r) (members_of (collection results r))) ≡ node (collection results' r) (map (field results' r) (members_of (collection results' r)))
   over-same node r h =
       let source = collection results r in
@@ -76,7 +76,7 @@ module _ (test : Slot → Bool) (results results' : Results) (same : (s : Slot) 
       let is = ap (λ o. unwrap_or o Incomplete) (same (slot (first_of r) 0) parts.0) in
       ap (node source) (fields-same (second_of r) (members_of source) parts.1) ∙ ap (λ s. node s (map (field results' r) (members_of s))) is
 
-  read-same : (at : EvalPosition) (op : NodeRead) (r : Reader) → Pass (read_slots results at op r) → read_result results at op r ≡ read_result results' at op r
+  read-same : (at : EvalPosition) (op : NodeRead) (r : ResolvedPath) → Pass (read_slots results at op r) → read_result results at op r ≡ read_result results' at op r
   read-same at node_read.Dependency r h = dependency-same at r h
   read-same at node_read.IsComplete r h = ap complete_test (dependency-same at r h)
   read-same at node_read.CollectionSize r h = ap collection_size (source-same r h)

@@ -17,8 +17,8 @@ use Rattle.evaluation.specs.Visits.{visits}
 use Rattle.node_eval.specs.Dependencies.{node_env}
 use Rattle.node_eval.specs.View.{Compiled, trees_of}
 use Rattle.node_eval.specs.declared.node.NodeRead.TheVariants.{Dependency, IsComplete, CollectionSize, SumInt, SumDollar, Count}
-use Rattle.node_eval.specs.declared.node.Reader.{Reader}
-use Rattle.node_eval.specs.declared.node.Reader.TheVariants.{Global, Same, Inner, Each, Through, SameThrough}
+use Rattle.node_eval.specs.declared.node.ResolvedPath.{ResolvedPath}
+use Rattle.node_eval.specs.declared.node.ResolvedPath.TheVariants.{Global, Same, Inner, Each, Through, SameThrough}
 use Rattle.node_eval.proofs.CellExamples.{Column, results_in}
 
 -- ---- cells: of members 1, 2, 3 and 4 one is complete, one rests on a placeholder, one is missing, and one is at fault
@@ -95,7 +95,7 @@ each_given ts = map (given_at 0) ts
 abbrev four : ℕ → Value → List Given
 four steps v = (Complete v, steps) ∷ (Placeholder v, steps) ∷ (Incomplete, steps) ∷ (Fault ZeroDivide, steps) ∷ []
 
-abbrev dependency : Reader → Compiled
+abbrev dependency : ResolvedPath → Compiled
 dependency r = read (Dependency, r)
 
 abbrev yes : Compiled

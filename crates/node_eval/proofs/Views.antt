@@ -8,7 +8,7 @@ use Rattle.dict_source.specs.declared.operators.PickOp.{PickOp}
 use Rattle.fact_values.specs.declared.value.Value.{Value}
 use Rattle.node_eval.specs.View.{view, trees_view, globals_view, cases_view}
 use Rattle.node_eval.specs.declared.node.NodeRead.{NodeRead}
-use Rattle.node_eval.specs.declared.node.Reader.{Reader}
+use Rattle.node_eval.specs.declared.node.ResolvedPath.{ResolvedPath}
 use Rattle.node_eval.specs.declared.node.NodeCase.{NodeCase}
 use Rattle.node_eval.specs.declared.node.Node.{Node, the_lemmas}
 use Rattle.node_eval.specs.declared.node.Node.TheVariants.{Const, Read, Switch, Many, Globals, One, Two, Pick}
@@ -16,7 +16,7 @@ use Rattle.node_eval.specs.declared.node.Node.TheVariants.{Const, Read, Switch, 
 pub view-Const : (v : Value) → view (Const v) ≡ literal v
 view-Const v = search (rules, the_lemmas)
 
-pub view-Read : (op : NodeRead) (r : Reader) → view (Read op r) ≡ read (op, r)
+pub view-Read : (op : NodeRead) (r : ResolvedPath) → view (Read op r) ≡ read (op, r)
 view-Read op r = search (rules, the_lemmas)
 
 pub view-Switch : (cs : Vec NodeCase Global) → view (Switch cs) ≡ switch (cases_view cs.items)
@@ -34,7 +34,7 @@ view-One op a = search (rules, the_lemmas)
 pub view-Two : (op : TwoOp) (a b : Box Node Global) → view (Two op a b) ≡ two op (view a.value) (view b.value)
 view-Two op a b = search (rules, the_lemmas)
 
-pub view-Pick : (op : PickOp) (r : Reader) (a : Box Node Global) → view (Pick op r a) ≡ pick op r (view a.value)
+pub view-Pick : (op : PickOp) (r : ResolvedPath) (a : Box Node Global) → view (Pick op r a) ≡ pick op r (view a.value)
 view-Pick op r a = search (rules, the_lemmas)
 
 pub ruleset views = (view-Const, view-Read, view-Switch, view-Many, view-Globals, view-One, view-Two, view-Pick)

@@ -11,13 +11,13 @@ use Rattle.evaluation.specs.Results.{Results, result_at}
 use Rattle.node_eval.specs.View.{Reading}
 use Rattle.node_eval.specs.declared.node.NodeRead.{NodeRead}
 use Rattle.node_eval.specs.declared.node.NodeRead.TheVariants as node_read
-use Rattle.node_eval.specs.declared.node.Reader.{Reader}
-use Rattle.node_eval.specs.declared.node.Reader.TheVariants.{Global, Same, Inner, Each, Through, SameThrough}
+use Rattle.node_eval.specs.declared.node.ResolvedPath.{ResolvedPath}
+use Rattle.node_eval.specs.declared.node.ResolvedPath.TheVariants.{Global, Same, Inner, Each, Through, SameThrough}
 use Rattle.node_eval.specs.declared.eval_position.EvalPosition.{EvalPosition}
 
--- ---- the facts that a reader names
+-- ---- the facts that a path names
 
-abbrev pub first_of : Reader → ℕ
+abbrev pub first_of : ResolvedPath → ℕ
 first_of (Global n) = n
 first_of (Same n) = n
 first_of (Inner n) = n
@@ -25,7 +25,7 @@ first_of (Each n m) = n
 first_of (Through n m) = n
 first_of (SameThrough n m) = n
 
-abbrev pub second_of : Reader → Option ℕ
+abbrev pub second_of : ResolvedPath → Option ℕ
 second_of (Global n) = None
 second_of (Same n) = None
 second_of (Inner n) = None
@@ -35,7 +35,7 @@ second_of (SameThrough n m) = Some m
 
 -- ---- what is read at a place
 
-abbrev pub dependency : Results → EvalPosition → Reader → Res
+abbrev pub dependency : Results → EvalPosition → ResolvedPath → Res
 dependency results at (Global n) = result_at results (Some n) 0
 dependency results at (Same n) = result_at results (Some n) at.own
 dependency results at (Inner n) = result_at results (Some n) at.inner
@@ -44,14 +44,14 @@ dependency results at (Through n m) = through_item (result_at results (Some n) 0
 dependency results at (SameThrough n m) = through_item (result_at results (Some n) at.own) (result_at results (Some m))
 
 -- the collection of a CollectionSize, a sum, a Count, a Filter or a Find
-abbrev pub collection : Results → Reader → Res
+abbrev pub collection : Results → ResolvedPath → Res
 collection results r = result_at results (Some (first_of r)) 0
 
 -- the field of a member, in a sum or a Count
-abbrev pub field : Results → Reader → ℕ → Res
+abbrev pub field : Results → ResolvedPath → ℕ → Res
 field results r m = result_at results (second_of r) m
 
-abbrev pub read_result : Results → EvalPosition → NodeRead → Reader → Res
+abbrev pub read_result : Results → EvalPosition → NodeRead → ResolvedPath → Res
 read_result results at node_read.Dependency r = dependency results at r
 read_result results at node_read.IsComplete r = complete_test (dependency results at r)
 read_result results at node_read.CollectionSize r = collection_size (collection results r)
@@ -64,7 +64,7 @@ abbrev pub entered : EvalPosition → ℕ → EvalPosition
 entered at m = record { own = at.own; inner = m }
 
 -- what nodes stand in
-abbrev pub node_env : Results → Env Value Reading Reader EvalPosition
+abbrev pub node_env : Results → Env Value Reading ResolvedPath EvalPosition
 node_env results = record {
   constant = λ v. v;
   reads = λ at r. read_result results at r.0 r.1;

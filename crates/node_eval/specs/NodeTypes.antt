@@ -17,8 +17,8 @@ use Rattle.node_eval.specs.SlotsOf.{slots_of}
 use Rattle.node_eval.specs.View.{Compiled, Reading}
 use Rattle.node_eval.specs.declared.node.NodeRead.{NodeRead}
 use Rattle.node_eval.specs.declared.node.NodeRead.TheVariants as node_read
-use Rattle.node_eval.specs.declared.node.Reader.{Reader}
-use Rattle.node_eval.specs.declared.node.Reader.TheVariants.{Global, Same, Inner, Each, Through, SameThrough}
+use Rattle.node_eval.specs.declared.node.ResolvedPath.{ResolvedPath}
+use Rattle.node_eval.specs.declared.node.ResolvedPath.TheVariants.{Global, Same, Inner, Each, Through, SameThrough}
 use Rattle.node_eval.specs.declared.eval_position.EvalPosition.{EvalPosition}
 
 -- ---- the types of what a node is made of
@@ -53,8 +53,8 @@ abbrev pub behind : Option ℕ → Option FactType → Option FactType
 behind (Some c) t = t
 behind None t = None
 
--- of what a Dependency reads: none by a reader that no Dependency has
-abbrev pub dependency_type : FactTypes → Reader → Option FactType
+-- of what a Dependency reads: none by a path that no Dependency has
+abbrev pub dependency_type : FactTypes → ResolvedPath → Option FactType
 dependency_type facts (Global n) = facts n
 dependency_type facts (Same n) = facts n
 dependency_type facts (Inner n) = facts n
@@ -63,12 +63,12 @@ dependency_type facts (Through n m) = behind (option_and_then item_base (facts n
 dependency_type facts (SameThrough n m) = behind (option_and_then item_base (facts n)) (facts m)
 
 -- the base of a collection that stands once
-abbrev pub source_base : FactTypes → Reader → Option ℕ
+abbrev pub source_base : FactTypes → ResolvedPath → Option ℕ
 source_base facts (Global n) = option_and_then collection_base (facts n)
 source_base facts _ = None
 
 -- of a field of the members of a collection that stands once
-abbrev pub field_type : FactTypes → Reader → Option FactType
+abbrev pub field_type : FactTypes → ResolvedPath → Option FactType
 field_type facts (Each n m) = behind (option_and_then collection_base (facts n)) (facts m)
 field_type facts _ = None
 
@@ -85,7 +85,7 @@ abbrev pub counted : FactType → Option FactType
 counted types.Boolean = Some types.Int
 counted _ = None
 
-abbrev pub read_type : FactTypes → NodeRead → Reader → Option FactType
+abbrev pub read_type : FactTypes → NodeRead → ResolvedPath → Option FactType
 read_type facts node_read.Dependency r = dependency_type facts r
 read_type facts node_read.IsComplete r = option_map (λ t. types.Boolean) (dependency_type facts r)
 read_type facts node_read.CollectionSize r = option_map (λ c. types.Int) (source_base facts r)
@@ -93,9 +93,9 @@ read_type facts node_read.SumInt r = option_and_then int_sum (field_type facts r
 read_type facts node_read.SumDollar r = option_and_then dollar_sum (field_type facts r)
 read_type facts node_read.Count r = option_and_then counted (field_type facts r)
 
--- A reader says itself under which condition it stands, so the types are those of every base. Every table fits: those of a
+-- A path says itself under which condition it stands, so the types are those of every base. Every table fits: those of a
 -- dictionary were judged when it was read.
-abbrev pub node_types : FactTypes → Types Value Reading Reader
+abbrev pub node_types : FactTypes → Types Value Reading ResolvedPath
 node_types facts = record {
   constant = constant_type;
   reads = λ b r. read_type facts r.0 r.1;

@@ -9,8 +9,8 @@ use Rattle.node_eval.specs.Dependencies.{collection, first_of, node_env, second_
 use Rattle.node_eval.specs.View.{Compiled, Reading}
 use Rattle.node_eval.specs.declared.node.NodeRead.{NodeRead}
 use Rattle.node_eval.specs.declared.node.NodeRead.TheVariants as node_read
-use Rattle.node_eval.specs.declared.node.Reader.{Reader}
-use Rattle.node_eval.specs.declared.node.Reader.TheVariants.{Global, Same, Inner, Each, Through, SameThrough}
+use Rattle.node_eval.specs.declared.node.ResolvedPath.{ResolvedPath}
+use Rattle.node_eval.specs.declared.node.ResolvedPath.TheVariants.{Global, Same, Inner, Each, Through, SameThrough}
 use Rattle.node_eval.specs.declared.eval_position.EvalPosition.{EvalPosition}
 
 -- the slot of a fact at a member
@@ -22,7 +22,7 @@ slot_at (Some n) m = slot n m ∷ []
 abbrev pub through_slots : Results → ℕ → ℕ → ℕ → List Slot
 through_slots results n m member = item_read (result_at results (Some n) member) (slot n member ∷ []) (slot_at (Some m))
 
-abbrev pub dependency_slots : Results → EvalPosition → Reader → List Slot
+abbrev pub dependency_slots : Results → EvalPosition → ResolvedPath → List Slot
 dependency_slots results at (Global n) = slot n 0 ∷ []
 dependency_slots results at (Same n) = slot n at.own ∷ []
 dependency_slots results at (Inner n) = slot n at.inner ∷ []
@@ -30,14 +30,14 @@ dependency_slots results at (Each n m) = []
 dependency_slots results at (Through n m) = through_slots results n m 0
 dependency_slots results at (SameThrough n m) = through_slots results n m at.own
 
-abbrev pub collection_slots : Reader → List Slot
+abbrev pub collection_slots : ResolvedPath → List Slot
 collection_slots r = slot (first_of r) 0 ∷ []
 
 -- that of the collection, and those of the field of its members
-abbrev pub field_slots : Results → Reader → List Slot
+abbrev pub field_slots : Results → ResolvedPath → List Slot
 field_slots results r = fields_read (collection results r) (collection_slots r) (slot_at (second_of r))
 
-abbrev pub read_slots : Results → EvalPosition → NodeRead → Reader → List Slot
+abbrev pub read_slots : Results → EvalPosition → NodeRead → ResolvedPath → List Slot
 read_slots results at node_read.Dependency r = dependency_slots results at r
 read_slots results at node_read.IsComplete r = dependency_slots results at r
 read_slots results at node_read.CollectionSize r = collection_slots r
@@ -45,7 +45,7 @@ read_slots results at node_read.SumInt r = field_slots results r
 read_slots results at node_read.SumDollar r = field_slots results r
 read_slots results at node_read.Count r = field_slots results r
 
-abbrev pub node_reads : Results → ReadBy Reading Reader EvalPosition Slot
+abbrev pub node_reads : Results → ReadBy Reading ResolvedPath EvalPosition Slot
 node_reads results = record {
   reads = λ at r. read_slots results at r.0 r.1;
   source = λ at r. collection_slots r;

@@ -4,19 +4,19 @@ use Rattle.dict_source.specs.Tree.{Tree, Trees, Cases, literal, read, switch, ma
 use Rattle.fact_values.specs.declared.value.Value.{Value}
 use Rattle.node_eval.specs.declared.node.NodeRead.{NodeRead}
 use Rattle.node_eval.specs.declared.node.NodeRead.TheVariants.{Dependency}
-use Rattle.node_eval.specs.declared.node.Reader.{Reader}
-use Rattle.node_eval.specs.declared.node.Reader.TheVariants.{Global}
+use Rattle.node_eval.specs.declared.node.ResolvedPath.{ResolvedPath}
+use Rattle.node_eval.specs.declared.node.ResolvedPath.TheVariants.{Global}
 use Rattle.node_eval.specs.declared.node.Node.{Node, fold-Node}
 use Rattle.node_eval.specs.declared.node.NodeCase.{NodeCase}
 use Rattle.node_eval.specs.declared.node.Node.TheOpen.{Node-F, NodeCase-F}
 
 -- a leaf that reads
 abbrev pub Reading : Type 0
-Reading = NodeRead × Reader
+Reading = NodeRead × ResolvedPath
 
 -- an expression, compiled
 abbrev pub Compiled : Type 0
-Compiled = Tree Value Reading Reader
+Compiled = Tree Value Reading ResolvedPath
 
 abbrev pub CompiledCase : Type 0
 CompiledCase = Compiled × Compiled
@@ -37,7 +37,7 @@ cases_of (c ∷ cs) = a_case c.0 c.1 (cases_of cs)
 abbrev pub global_read : ℕ → Compiled
 global_read fact = read (Dependency, Global fact)
 
-abbrev pub globals_view : List ℕ → Trees Value Reading Reader
+abbrev pub globals_view : List ℕ → Trees Value Reading ResolvedPath
 globals_view facts = trees_of (map global_read facts)
 
 abbrev pub view_step : Node-F Compiled CompiledCase → Compiled
@@ -59,8 +59,8 @@ view = fold-Node Compiled CompiledCase view_step case_step
 abbrev pub case_view : NodeCase → CompiledCase
 case_view c = (view c.test, view c.outcome)
 
-abbrev pub trees_view : List Node → Trees Value Reading Reader
+abbrev pub trees_view : List Node → Trees Value Reading ResolvedPath
 trees_view ns = trees_of (map view ns)
 
-abbrev pub cases_view : List NodeCase → Cases Value Reading Reader
+abbrev pub cases_view : List NodeCase → Cases Value Reading ResolvedPath
 cases_view cs = cases_of (map case_view cs)

@@ -19,7 +19,7 @@ ghost use Rattle.evaluation.specs.Visits.{visits, visits_of_all, visits_of_cases
 use crate::cells::Cells;
 use crate::eval_position::EvalPosition;
 use crate::globals::eval_globals;
-use crate::node::{Node, NodeCase, NodeRead, Reader};
+use crate::node::{Node, NodeCase, NodeRead, ResolvedPath};
 use crate::reads::{read, read_source, see_constant, see_dependency};
 use dict_source::{ManyOp, OneOp, PickOp, TwoOp};
 use fact_values::{NoMemory, Value};
@@ -73,7 +73,7 @@ fn visit<C: Cells, L: Ledger>(
     steps.tick();
     match node {
         Node::Const(value) => constant(alloc, value),
-        Node::Read(op, reader) => read(alloc, cells, at, *op, *reader),
+        Node::Read(op, path) => read(alloc, cells, at, *op, *path),
         Node::Switch(cases) => eval_cases(alloc, cells, at, cases.as_slice(), steps),
         Node::Many(op, operands) => eval_all(alloc, cells, at, *op, operands.as_slice(), steps),
         Node::Globals(op, facts) => eval_globals(alloc, cells, *op, facts.as_slice(), steps),
@@ -82,7 +82,7 @@ fn visit<C: Cells, L: Ledger>(
             let first = visit(alloc, cells, at, left, steps)?;
             eval_second(alloc, cells, at, *op, first, right, steps)
         }
-        Node::Pick(op, reader, test) => eval_pick(alloc, cells, at, *op, *reader, test, steps),
+        Node::Pick(op, path, test) => eval_pick(alloc, cells, at, *op, *path, test, steps),
     }
 }
 
@@ -185,8 +185,8 @@ fn see_operand<C: Cells, L: Ledger>(
     ensures memory { IsErr result → TakesMemory (node_env (C.results cells.now)) at (view operand.now) }
 {
     match operand {
-        Node::Read(NodeRead::Dependency, reader) => {
-            see_dependency(alloc, cells, at, reader, fold, steps)
+        Node::Read(NodeRead::Dependency, path) => {
+            see_dependency(alloc, cells, at, path, fold, steps)
         }
         Node::Const(value) => see_constant(alloc, value, fold, steps),
         _ => see_visited(alloc, cells, at, operand, fold, steps),
@@ -257,23 +257,23 @@ fn eval_pick<C: Cells, L: Ledger>(
     cells: &C,
     at: EvalPosition,
     op: PickOp,
-    reader: Reader,
+    path: ResolvedPath,
     test: &Node,
     steps: &mut Steps<L>,
 ) -> Result<Res, NoMemory>
-    ensures value { IfOk result (λ r. r ≡ pick_of op (collection (C.results cells.now) reader)
+    ensures value { IfOk result (λ r. r ≡ pick_of op (collection (C.results cells.now) path)
         (condition_at (C.results cells.now) at (view test.now))) }
     ensures visited { OnOk result (steps.new ≡ steps.old + sum_by (visits_at (C.results cells.now) at (view test.now))
         (members_visited op (condition_at (C.results cells.now) at (view test.now))
-        (collection (C.results cells.now) reader))) }
+        (collection (C.results cells.now) path))) }
     ensures most { steps.new ≤ steps.old + sum_by (work_at (C.results cells.now) at (view test.now))
-        (members_of (collection (C.results cells.now) reader)) }
+        (members_of (collection (C.results cells.now) path)) }
     ensures least { steps.old ≤ steps.new }
     ensures memory { IsErr result → PickTakes op (condition_at (C.results cells.now) at (view test.now))
-        (TakesAt (C.results cells.now) at (view test.now)) (members_of (collection (C.results cells.now) reader)) }
+        (TakesAt (C.results cells.now) at (view test.now)) (members_of (collection (C.results cells.now) path)) }
 {
     let missing = Res::Incomplete;
-    let source = read_source(cells, &missing, reader);
+    let source = read_source(cells, &missing, path);
     match op {
         PickOp::Filter => eval_filter(alloc, cells, at, source, test, steps),
         PickOp::Find => eval_find(alloc, cells, at, source, test, steps),

@@ -11,4 +11,4 @@ mod reads;
 
 pub use cells::Cells;
 pub use evaluating::eval;
-pub use node::{Node, NodeCase, NodeRead, Reader};
+pub use node::{Node, NodeCase, NodeRead, ResolvedPath};

@@ -8,7 +8,7 @@ use fact_values::Value;
 #[cycle(node)]
 pub enum Node {
     Const(Value),
-    Read(NodeRead, Reader),
+    Read(NodeRead, ResolvedPath),
     /// The outcome of the first case whose test is true.
     Switch(Vec<NodeCase>),
     Many(ManyOp, Vec<Node>),
@@ -18,7 +18,7 @@ pub enum Node {
     /// A comparison's first operand is on its left.
     Two(TwoOp, Box<Node>, Box<Node>),
     /// The collection, and the condition that its members are to meet.
-    Pick(PickOp, Reader, Box<Node>),
+    Pick(PickOp, ResolvedPath, Box<Node>),
 }
 
 /// One case of a switch.
@@ -29,7 +29,7 @@ pub struct NodeCase {
     pub outcome: Node,
 }
 
-/// What a node that reads asks of the facts that its reader names.
+/// What a node that reads asks of the facts that its path names.
 #[derive(Clone, Copy, PartialEq, Eq)]
 pub enum NodeRead {
     /// The fact's result.
@@ -48,7 +48,7 @@ pub enum NodeRead {
 
 /// The facts that a use path names, by their numbers, in the order of the path.
 #[derive(Clone, Copy, PartialEq, Eq)]
-pub enum Reader {
+pub enum ResolvedPath {
     /// `/N`: a fact that stands once.
     Global(u32),
     /// `../N`: a fact of the same member.

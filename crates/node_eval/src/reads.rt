@@ -1,4 +1,4 @@
-// What a node that reads gives, from the facts that its reader names.
+// What a node that reads gives, from the facts that its path names.
 ghost use Rattle.std.specs.Prelude.{◌≡◌, ◌+◌, ◌<◌, ◌^◌, IfOk, IsErr, OnOk, Some};
 ghost use Rattle.evaluation.specs.Reads.{collection_size, complete_test, field_at, sum_over, through_item};
 ghost use Rattle.fact_values.specs.declared.fact_type.FactType.{FactType};
@@ -12,7 +12,7 @@ ghost use Rattle.node_eval.specs.Dependencies.{collection, dependency, field, fi
 
 use crate::cells::{Cells, result_at};
 use crate::eval_position::EvalPosition;
-use crate::node::{NodeRead, Reader};
+use crate::node::{NodeRead, ResolvedPath};
 use fact_values::{FactType, NoMemory, Slot, Value};
 use operations::{CountFold, ManyFold, SumFold, complete_test, members, size};
 use std::alloc::Global;
@@ -20,31 +20,31 @@ use std::sync::ledger::Ledger;
 use steps::Steps;
 use three_state::{Res, down};
 
-// The first fact of a reader.
-fn first_of(reader: Reader) -> u32
-    ensures { result ≡ first_of reader }
+// The first fact of a path.
+fn first_of(path: ResolvedPath) -> u32
+    ensures { result ≡ first_of path }
 {
-    match reader {
-        Reader::Global(fact) => fact,
-        Reader::Same(fact) => fact,
-        Reader::Inner(fact) => fact,
-        Reader::Each(first, _) => first,
-        Reader::Through(first, _) => first,
-        Reader::SameThrough(first, _) => first,
+    match path {
+        ResolvedPath::Global(fact) => fact,
+        ResolvedPath::Same(fact) => fact,
+        ResolvedPath::Inner(fact) => fact,
+        ResolvedPath::Each(first, _) => first,
+        ResolvedPath::Through(first, _) => first,
+        ResolvedPath::SameThrough(first, _) => first,
     }
 }
 
 // Its second one.
-fn second_of(reader: Reader) -> Option<u32>
-    ensures { result ≡ second_of reader }
+fn second_of(path: ResolvedPath) -> Option<u32>
+    ensures { result ≡ second_of path }
 {
-    match reader {
-        Reader::Global(_) => None,
-        Reader::Same(_) => None,
-        Reader::Inner(_) => None,
-        Reader::Each(_, second) => Some(second),
-        Reader::Through(_, second) => Some(second),
-        Reader::SameThrough(_, second) => Some(second),
+    match path {
+        ResolvedPath::Global(_) => None,
+        ResolvedPath::Same(_) => None,
+        ResolvedPath::Inner(_) => None,
+        ResolvedPath::Each(_, second) => Some(second),
+        ResolvedPath::Through(_, second) => Some(second),
+        ResolvedPath::SameThrough(_, second) => Some(second),
     }
 }
 
@@ -89,26 +89,26 @@ fn through<'a, C: Cells>(cells: &'a C, missing: &'a Res, item: &'a Res, second: 
     }
 }
 
-// Where a Dependency by this reader ends.
+// Where a Dependency by this path ends.
 fn reach<'a, C: Cells>(
     cells: &'a C,
     missing: &'a Res,
     at: EvalPosition,
-    reader: Reader,
+    path: ResolvedPath,
 ) -> Reached<'a>
     requires { missing.now ≡ Incomplete }
-    ensures { reached result ≡ dependency (C.results cells.now) at reader }
+    ensures { reached result ≡ dependency (C.results cells.now) at path }
 {
-    let res = match reader {
-        Reader::Global(fact) => result_at(cells, missing, Some(fact), 0),
-        Reader::Same(fact) => result_at(cells, missing, Some(fact), at.own),
-        Reader::Inner(fact) => result_at(cells, missing, Some(fact), at.inner),
-        Reader::Each(_, _) => missing,
-        Reader::Through(first, second) => {
+    let res = match path {
+        ResolvedPath::Global(fact) => result_at(cells, missing, Some(fact), 0),
+        ResolvedPath::Same(fact) => result_at(cells, missing, Some(fact), at.own),
+        ResolvedPath::Inner(fact) => result_at(cells, missing, Some(fact), at.inner),
+        ResolvedPath::Each(_, _) => missing,
+        ResolvedPath::Through(first, second) => {
             let item = result_at(cells, missing, Some(first), 0);
             return through(cells, missing, item, second);
         }
-        Reader::SameThrough(first, second) => {
+        ResolvedPath::SameThrough(first, second) => {
             let item = result_at(cells, missing, Some(first), at.own);
             return through(cells, missing, item, second);
         }
@@ -193,39 +193,39 @@ fn see_far<C: Cells>(
     alloc: Global,
     cells: &C,
     at: EvalPosition,
-    reader: Reader,
+    path: ResolvedPath,
     fold: &mut ManyFold,
 ) -> Result<(), NoMemory>
     requires few { fold.old.count + 1 < 2 ^ 64 }
-    ensures next { OnOk result (fold.new ≡ saw fold.old (dependency (C.results cells.now) at reader)) }
-    ensures memory { IsErr result → ValueHoldsMemory (dependency (C.results cells.now) at reader) }
+    ensures next { OnOk result (fold.new ≡ saw fold.old (dependency (C.results cells.now) at path)) }
+    ensures memory { IsErr result → ValueHoldsMemory (dependency (C.results cells.now) at path) }
 {
     let missing = Res::Incomplete;
-    see_reached(alloc, reach(cells, &missing, at, reader), fold)
+    see_reached(alloc, reach(cells, &missing, at, path), fold)
 }
 
-/// Sees the result of a Dependency by this reader as an operand, which is a step: a call of its own, so that it is counted
+/// Sees the result of a Dependency by this path as an operand, which is a step: a call of its own, so that it is counted
 /// from outside, too.
 #[inline(never)]
 pub fn see_dependency<C: Cells, L: Ledger>(
     alloc: Global,
     cells: &C,
     at: EvalPosition,
-    reader: &Reader,
+    path: &ResolvedPath,
     fold: &mut ManyFold,
     steps: &mut Steps<L>,
 ) -> Result<(), NoMemory>
     requires few { fold.old.count + 1 < 2 ^ 64 }
-    ensures next { OnOk result (fold.new ≡ saw fold.old (dependency (C.results cells.now) at reader.now)) }
-    ensures memory { IsErr result → ValueHoldsMemory (dependency (C.results cells.now) at reader.now) }
+    ensures next { OnOk result (fold.new ≡ saw fold.old (dependency (C.results cells.now) at path.now)) }
+    ensures memory { IsErr result → ValueHoldsMemory (dependency (C.results cells.now) at path.now) }
     ensures step { steps.new ≡ steps.old + 1 }
 {
     steps.tick();
-    let (fact, member) = match reader {
-        Reader::Global(fact) => (*fact, 0),
-        Reader::Same(fact) => (*fact, at.own),
-        Reader::Inner(fact) => (*fact, at.inner),
-        _ => return see_far(alloc, cells, at, *reader, fold),
+    let (fact, member) = match path {
+        ResolvedPath::Global(fact) => (*fact, 0),
+        ResolvedPath::Same(fact) => (*fact, at.own),
+        ResolvedPath::Inner(fact) => (*fact, at.inner),
+        _ => return see_far(alloc, cells, at, *path, fold),
     };
     see_cell(alloc, cells, fact, member, fold)
 }
@@ -250,12 +250,12 @@ pub fn see_constant<L: Ledger>(
 // ---- the members of a collection
 
 // The sum of the field over the members.
-fn read_sum<C: Cells>(cells: &C, of: FactType, reader: Reader) -> Res
-    ensures { result ≡ sum_over of (collection (C.results cells.now) reader) (field (C.results cells.now) reader) }
+fn read_sum<C: Cells>(cells: &C, of: FactType, path: ResolvedPath) -> Res
+    ensures { result ≡ sum_over of (collection (C.results cells.now) path) (field (C.results cells.now) path) }
 {
     let missing = Res::Incomplete;
-    let source = result_at(cells, &missing, Some(first_of(reader)), 0);
-    let field = second_of(reader);
+    let source = result_at(cells, &missing, Some(first_of(path)), 0);
+    let field = second_of(path);
     let mut fold = SumFold::new(of, source);
     for member in members(source) {
         fold.see(result_at(cells, &missing, field, *member));
@@ -264,12 +264,12 @@ fn read_sum<C: Cells>(cells: &C, of: FactType, reader: Reader) -> Res
 }
 
 // The number of members of which the field is true.
-fn read_count<C: Cells>(cells: &C, reader: Reader) -> Res
-    ensures { result ≡ count_of (collection (C.results cells.now) reader) (field (C.results cells.now) reader) }
+fn read_count<C: Cells>(cells: &C, path: ResolvedPath) -> Res
+    ensures { result ≡ count_of (collection (C.results cells.now) path) (field (C.results cells.now) path) }
 {
     let missing = Res::Incomplete;
-    let source = result_at(cells, &missing, Some(first_of(reader)), 0);
-    let field = second_of(reader);
+    let source = result_at(cells, &missing, Some(first_of(path)), 0);
+    let field = second_of(path);
     let mut fold = CountFold::new(source);
     for member in members(source) {
         fold.see(result_at(cells, &missing, field, *member));
@@ -278,19 +278,19 @@ fn read_count<C: Cells>(cells: &C, reader: Reader) -> Res
 }
 
 // The number of members.
-fn read_size<C: Cells>(cells: &C, reader: Reader) -> Res
-    ensures { result ≡ collection_size (collection (C.results cells.now) reader) }
+fn read_size<C: Cells>(cells: &C, path: ResolvedPath) -> Res
+    ensures { result ≡ collection_size (collection (C.results cells.now) path) }
 {
     let missing = Res::Incomplete;
-    size(result_at(cells, &missing, Some(first_of(reader)), 0))
+    size(result_at(cells, &missing, Some(first_of(path)), 0))
 }
 
 /// The collection of a Filter or a Find.
-pub fn read_source<'a, C: Cells>(cells: &'a C, missing: &'a Res, reader: Reader) -> &'a Res
+pub fn read_source<'a, C: Cells>(cells: &'a C, missing: &'a Res, path: ResolvedPath) -> &'a Res
     requires { missing.now ≡ Incomplete }
-    ensures { result.now ≡ collection (C.results cells.now) reader }
+    ensures { result.now ≡ collection (C.results cells.now) path }
 {
-    result_at(cells, missing, Some(first_of(reader)), 0)
+    result_at(cells, missing, Some(first_of(path)), 0)
 }
 
 /// The result of a node that reads.
@@ -299,18 +299,18 @@ pub fn read<C: Cells>(
     cells: &C,
     at: EvalPosition,
     op: NodeRead,
-    reader: Reader,
+    path: ResolvedPath,
 ) -> Result<Res, NoMemory>
-    ensures value { IfOk result (λ r. r ≡ read_result (C.results cells.now) at op reader) }
-    ensures memory { IsErr result → ValueHoldsMemory (read_result (C.results cells.now) at op reader) }
+    ensures value { IfOk result (λ r. r ≡ read_result (C.results cells.now) at op path) }
+    ensures memory { IsErr result → ValueHoldsMemory (read_result (C.results cells.now) at op path) }
 {
     let missing = Res::Incomplete;
     match op {
-        NodeRead::Dependency => reached_result(alloc, reach(cells, &missing, at, reader)),
-        NodeRead::IsComplete => Ok(reached_test(reach(cells, &missing, at, reader))),
-        NodeRead::CollectionSize => Ok(read_size(cells, reader)),
-        NodeRead::SumInt => Ok(read_sum(cells, FactType::Int, reader)),
-        NodeRead::SumDollar => Ok(read_sum(cells, FactType::Dollar, reader)),
-        NodeRead::Count => Ok(read_count(cells, reader)),
+        NodeRead::Dependency => reached_result(alloc, reach(cells, &missing, at, path)),
+        NodeRead::IsComplete => Ok(reached_test(reach(cells, &missing, at, path))),
+        NodeRead::CollectionSize => Ok(read_size(cells, path)),
+        NodeRead::SumInt => Ok(read_sum(cells, FactType::Int, path)),
+        NodeRead::SumDollar => Ok(read_sum(cells, FactType::Dollar, path)),
+        NodeRead::Count => Ok(read_count(cells, path)),
     }
 }

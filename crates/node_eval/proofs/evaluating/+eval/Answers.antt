@@ -29,22 +29,22 @@ use Rattle.node_eval.proofs.evaluating.+eval.Goals as goal
 
 pub visit-returns-in-Pick-clause-value : goal.visit-returns-in-Pick-clause-value
 visit-returns-in-Pick-clause-value g t c =
-    let shape : view c.args.node.now ≡ pick c.in-Pick.op c.in-Pick.reader (view c.in-Pick.test.value) = ap view c.in-Pick.is ∙ view-Pick _ _ _ in
+    let shape : view c.args.node.now ≡ pick c.in-Pick.op c.in-Pick.path (view c.in-Pick.test.value) = ap view c.in-Pick.is ∙ view-Pick _ _ _ in
     rw (shape, ← c.deref-in-Pick.ensures) c.eval_pick.ensures.value
 
 pub visit-returns-in-Pick-clause-visited : goal.visit-returns-in-Pick-clause-visited
 visit-returns-in-Pick-clause-visited g t c =
-    let shape : view c.args.node.now ≡ pick c.in-Pick.op c.in-Pick.reader (view c.in-Pick.test.value) = ap view c.in-Pick.is ∙ view-Pick _ _ _ in
+    let shape : view c.args.node.now ≡ pick c.in-Pick.op c.in-Pick.path (view c.in-Pick.test.value) = ap view c.in-Pick.is ∙ view-Pick _ _ _ in
     rw (shape, ← c.deref-in-Pick.ensures) (ok_more _ _ _ _ _ c.tick.ensures c.eval_pick.ensures.visited)
 
 pub visit-returns-in-Pick-clause-most : goal.visit-returns-in-Pick-clause-most
 visit-returns-in-Pick-clause-most g t c =
-    let shape : view c.args.node.now ≡ pick c.in-Pick.op c.in-Pick.reader (view c.in-Pick.test.value) = ap view c.in-Pick.is ∙ view-Pick _ _ _ in
+    let shape : view c.args.node.now ≡ pick c.in-Pick.op c.in-Pick.path (view c.in-Pick.test.value) = ap view c.in-Pick.is ∙ view-Pick _ _ _ in
     rw (shape, ← c.deref-in-Pick.ensures) (one_more _ _ _ _ c.tick.ensures c.eval_pick.ensures.most)
 
 pub visit-returns-in-Pick-clause-memory : goal.visit-returns-in-Pick-clause-memory
 visit-returns-in-Pick-clause-memory g t c =
-    let shape : view c.args.node.now ≡ pick c.in-Pick.op c.in-Pick.reader (view c.in-Pick.test.value) = ap view c.in-Pick.is ∙ view-Pick _ _ _ in
+    let shape : view c.args.node.now ≡ pick c.in-Pick.op c.in-Pick.path (view c.in-Pick.test.value) = ap view c.in-Pick.is ∙ view-Pick _ _ _ in
     rw (shape, ← c.deref-in-Pick.ensures) c.eval_pick.ensures.memory
 
 -- ---- operands that are all facts which stand once

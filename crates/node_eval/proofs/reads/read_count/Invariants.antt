@@ -9,6 +9,6 @@ abbrev pub invariant-loop-member : goal.invariant-loop-member
 invariant-loop-member g l =
     let results = g.C.Cells.results l.cells in
     record {
-      value : count_from l.fold (map (result_at results l.field) (drop l.member-index l.member-items)) ≡ count_of (collection results l.fn.reader) (field results l.fn.reader);
+      value : count_from l.fold (map (result_at results l.field) (drop l.member-index l.member-items)) ≡ count_of (collection results l.fn.path) (field results l.fn.path);
       count : l.fold.count ≡ l.member-index;
     }

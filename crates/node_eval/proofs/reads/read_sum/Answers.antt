@@ -7,7 +7,7 @@ use Rattle.node_eval.proofs.reads.read_sum.Goals as goal
 pub loop-member-init : goal.loop-member-init
 loop-member-init g c =
     let results = g.C.Cells.results c.args.cells.now in
-    let law = sum_from-start c.args.of (collection results c.args.reader) (field results c.args.reader) in
+    let law = sum_from-start c.args.of (collection results c.args.path) (field results c.args.path) in
     record {
       value = cc;
       count = ap (λ (f : FieldsSummed). f.count) c.new-fold.ensures;
