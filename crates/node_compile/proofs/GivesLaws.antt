@@ -18,7 +18,7 @@ use Rattle.dict_meaning.specs.Dependencies.{source_env, source_result}
 use Rattle.evaluation.specs.Results.{Results}
 use Rattle.dict_meaning.proofs.PlacedReads.{placed_types}
 use Rattle.node_eval.specs.Dependencies.{entered, node_env}
-use Rattle.node_eval.specs.declared.eval_position.EvalPosition.{EvalPosition as NodePlace}
+use Rattle.node_eval.specs.declared.node_position.NodePosition.{NodePosition}
 use Rattle.node_compile.specs.Compiling.{names}
 use Rattle.node_compile.proofs.ReadLaws.{list_by_path, read_by_path, standing}
 use Rattle.node_compile.proofs.TargetLaws.{unsuited}
@@ -26,26 +26,26 @@ use Rattle.dict_meaning.proofs.ReadTypes.{known_is}
 
 module _ (d : Tree) (fact : ℕ) (results : Results) where
   -- the result, the weight, and the nodes that are visited
-  abbrev pub Same : Source → ℕ → NodePlace → Type 0
+  abbrev pub Same : Source → ℕ → NodePosition → Type 0
   Same t base at =
       (over (node_env results) at (resolved (names d fact) base t) ≡ over (source_env d results fact) (standing base at) t)
       × (weight (node_env results) at (resolved (names d fact) base t) ≡ weight (source_env d results fact) (standing base at) t)
       × (visits (node_env results) at (resolved (names d fact) base t) ≡ visits (source_env d results fact) (standing base at) t)
 
-  abbrev AllSame : Sources → ℕ → NodePlace → Type 0
+  abbrev AllSame : Sources → ℕ → NodePosition → Type 0
   AllSame ts base at =
       (over_all (node_env results) at (resolved_all (names d fact) base ts) ≡ over_all (source_env d results fact) (standing base at) ts)
       × (weight_of_all (node_env results) at (resolved_all (names d fact) base ts) ≡ weight_of_all (source_env d results fact) (standing base at) ts)
       × (visits_of_all (node_env results) at (resolved_all (names d fact) base ts) ≡ visits_of_all (source_env d results fact) (standing base at) ts)
 
-  abbrev CasesSame : SourceCases → ℕ → NodePlace → Type 0
+  abbrev CasesSame : SourceCases → ℕ → NodePosition → Type 0
   CasesSame cs base at =
       (over_cases (node_env results) at (resolved_cases (names d fact) base cs) ≡ over_cases (source_env d results fact) (standing base at) cs)
       × (weight_of_cases (node_env results) at (resolved_cases (names d fact) base cs) ≡ weight_of_cases (source_env d results fact) (standing base at) cs)
       × (visits_of_cases (node_env results) at (resolved_cases (names d fact) base cs) ≡ visits_of_cases (source_env d results fact) (standing base at) cs)
 
   mutual
-    pub same : (t : Source) (base : ℕ) (at : NodePlace) (u : FactType) → HasType (placed_types d fact) base t u → Same t base at
+    pub same : (t : Source) (base : ℕ) (at : NodePosition) (u : FactType) → HasType (placed_types d fact) base t u → Same t base at
     same (literal c) base at u h = (refl, refl, refl)
     same (read r) base at u h = (read_by_path d results base at fact r.0 r.1.path u (unsuited r.0 r.1.path (path_type d fact base r.0 r.1.path) u h), refl, refl)
     same (switch cs) base at u h = let p = cases_same cs base at u h.1 in (ap switch_of p.0, ap suc p.1, ap suc p.2)
@@ -71,7 +71,7 @@ module _ (d : Tree) (fact : ℕ) (results : Results) where
               (everywhere (λ m. (same t inner (entered at m) types.Boolean under).2)),
         )
 
-    all_same : (ts : Sources) (base : ℕ) (at : NodePlace) (us : List FactType) → HaveTypes (placed_types d fact) base ts us → AllSame ts base at
+    all_same : (ts : Sources) (base : ℕ) (at : NodePosition) (us : List FactType) → HaveTypes (placed_types d fact) base ts us → AllSame ts base at
     all_same no_trees base at us h = (refl, refl, refl)
     all_same (tree t ts) base at [] h = absurd h
     all_same (tree t ts) base at (u ∷ us) h =
@@ -79,7 +79,7 @@ module _ (d : Tree) (fact : ℕ) (results : Results) where
         let q = all_same ts base at us h.1 in
         (rw (p.0, q.0) refl, rw (p.1, q.1) refl, rw (p.2, q.2) refl)
 
-    cases_same : (cs : SourceCases) (base : ℕ) (at : NodePlace) (u : FactType) → HaveCaseTypes (placed_types d fact) base cs u → CasesSame cs base at
+    cases_same : (cs : SourceCases) (base : ℕ) (at : NodePosition) (u : FactType) → HaveCaseTypes (placed_types d fact) base cs u → CasesSame cs base at
     cases_same no_cases base at u h = (refl, refl, refl)
     cases_same (a_case t o cs) base at u h =
         let p = same t base at types.Boolean h.0 in

@@ -19,15 +19,15 @@ use Rattle.dict_meaning.specs.Dependencies.{EvalPosition, field_type}
 use Rattle.evaluation.specs.Results.{Results, result_at}
 use Rattle.node_eval.specs.Dependencies as nodes
 use Rattle.node_eval.specs.declared.node.ResolvedPath.{ResolvedPath}
-use Rattle.node_eval.specs.declared.eval_position.EvalPosition.{EvalPosition as NodePlace}
+use Rattle.node_eval.specs.declared.node_position.NodePosition.{NodePosition}
 use Rattle.node_compile.specs.Compiling.{read_of, reading, resolved_path, resolved_use, sum_read}
 use Rattle.node_compile.proofs.TargetLaws.{HasTargets, condition_lists, last_is_there, target_of_type}
 
 -- the place of an expression that stands under a condition over a base
-abbrev pub standing : ℕ → NodePlace → EvalPosition
+abbrev pub standing : ℕ → NodePosition → EvalPosition
 standing base at = record { base = base; own = at.own; inner = at.inner }
 
-module _ (d : Tree) (results : Results) (base : ℕ) (at : NodePlace) where
+module _ (d : Tree) (results : Results) (base : ℕ) (at : NodePosition) where
   -- ---- by a path with these targets
 
   dependency_same : (path : UsePath) (t : Targets) → HasTargets path t → nodes.dependency results at (resolved_path path t) ≡ paths.dependency results t (standing base at) path

@@ -19,7 +19,7 @@ use Rattle.dict_meaning.proofs.TypedResultLaws.{plain_typed}
 use Rattle.visit_counts.specs.SlotVisits.{body_visits, placeholder_visits, unless_given}
 use Rattle.evaluation.specs.Results.{Results}
 use Rattle.node_eval.specs.View.{Compiled as NodeTree}
-use Rattle.node_eval.specs.declared.eval_position.EvalPosition.{EvalPosition as NodePlace}
+use Rattle.node_eval.specs.declared.node_position.NodePosition.{NodePosition}
 use Rattle.node_compile.specs.Compiled.{IsCompiled, IsNodeOf, main_of, placeholder_of}
 use Rattle.node_compile.specs.Laws.{MeetsTypes, NodesGiveSlots, NodesMeetTypes, NodesVisitSlots, NodesWeighSlots, main_node_result, main_node_visits, node_weight, or_placeholder_node, placeholder_node_visits}
 use Rattle.node_compile.specs.declared.compiled.Compiled.{Compiled}
@@ -99,7 +99,7 @@ nodes_visit_slots d c is a results s f e =
 
 -- ---- types
 
-meets : (checks : List (List ℕ)) (d : Accepted) → IsAccepted checks d → (a : Answered) → AnswersFit d.tree a → (fact : ℕ) (at : NodePlace) (o : Option Source) (n : Option NodeTree) → IsNodeOf d.tree fact o n → MeetsTypes d a at n
+meets : (checks : List (List ℕ)) (d : Accepted) → IsAccepted checks d → (a : Answered) → AnswersFit d.tree a → (fact : ℕ) (at : NodePosition) (o : Option Source) (n : Option NodeTree) → IsNodeOf d.tree fact o n → MeetsTypes d a at n
 meets checks d good a fit fact at o None h = tt
 meets checks d good a fit fact at None (Some node) h = absurd h
 meets checks d good a fit fact at (Some t) (Some node) h = h.typed (domains d.tree a) (plain d a) at (plain_typed checks d good a fit)

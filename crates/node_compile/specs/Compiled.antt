@@ -16,7 +16,7 @@ use Rattle.evaluation.specs.Results.{Results}
 use Rattle.node_eval.specs.NodeTypes.{FactTypes, IsTyped, IsTypedCell}
 use Rattle.node_eval.specs.Dependencies.{node_env}
 use Rattle.node_eval.specs.View.{Compiled as NodeTree, view}
-use Rattle.node_eval.specs.declared.eval_position.EvalPosition.{EvalPosition as NodePlace}
+use Rattle.node_eval.specs.declared.node_position.NodePosition.{NodePosition}
 use Rattle.node_compile.specs.declared.compiled.Compiled.{Compiled}
 use Rattle.node_compile.specs.declared.fact.FactNodes.{FactNodes}
 
@@ -32,7 +32,7 @@ placeholder_of c fact = option_and_then (λ (f : FactNodes). option_map view f.p
 -- ---- what a node stands for
 
 -- outside of conditions, at a member of the slot; no expression there reads what is under a condition
-abbrev pub node_place : ℕ → ℕ → NodePlace
+abbrev pub node_place : ℕ → ℕ → NodePosition
 node_place own inner = record { own = own; inner = inner }
 
 abbrev pub place : ℕ → ℕ → EvalPosition
@@ -48,7 +48,7 @@ pub record StandsFor (d : Tree) (fact : ℕ) (t : Source) (node : NodeTree) : Ty
   pub result : (results : Results) (own inner : ℕ) → over (node_env results) (node_place own inner) node ≡ over (source_env d results fact) (place own inner) t
   pub weight : (results : Results) (own inner : ℕ) → weight (node_env results) (node_place own inner) node ≡ weight (source_env d results fact) (place own inner) t
   pub visits : (results : Results) (own inner : ℕ) → visits (node_env results) (node_place own inner) node ≡ visits (source_env d results fact) (place own inner) t
-  pub typed : (dom : Domains) (results : Results) (at : NodePlace) → HasTypedCells dom (type_at d) results → IsTyped dom (type_at d) results at node
+  pub typed : (dom : Domains) (results : Results) (at : NodePosition) → HasTypedCells dom (type_at d) results → IsTyped dom (type_at d) results at node
 
 -- there is a node exactly where there is an expression, for which it stands
 abbrev pub IsNodeOf : Tree → ℕ → Option Source → Option NodeTree → Type 0

@@ -21,7 +21,7 @@ use Rattle.evaluation.specs.Results.{Results}
 use Rattle.node_eval.specs.NodeTypes.{IsTyped}
 use Rattle.node_eval.specs.Dependencies.{node_env}
 use Rattle.node_eval.specs.View.{Compiled as NodeTree}
-use Rattle.node_eval.specs.declared.eval_position.EvalPosition.{EvalPosition as NodePlace}
+use Rattle.node_eval.specs.declared.node_position.NodePosition.{NodePosition}
 use Rattle.node_compile.specs.Compiled.{IsCompiled, main_of, node_place, placeholder_of}
 use Rattle.node_compile.specs.declared.compiled.Compiled.{Compiled}
 
@@ -96,7 +96,7 @@ NodesVisitSlots =
     → visits_over d a results s f ≡ visits_by_nodes c a results s f.stated
 
 -- the condition of evaluation, where there is a node
-abbrev pub MeetsTypes : Accepted → Answered → NodePlace → Option NodeTree → Type 0
+abbrev pub MeetsTypes : Accepted → Answered → NodePosition → Option NodeTree → Type 0
 MeetsTypes d a at None = Unit {0}
 MeetsTypes d a at (Some node) = IsTyped (domains d.tree a) (type_at d.tree) (plain d a) at node
 
@@ -104,4 +104,4 @@ MeetsTypes d a at (Some node) = IsTyped (domains d.tree a) (type_at d.tree) (pla
 abbrev pub NodesMeetTypes : Type 0
 NodesMeetTypes =
     (checks : List (List ℕ)) (d : Accepted) → IsAccepted checks d → (c : Compiled) → IsCompiled d.tree c → (a : Answered) → AnswersFit d.tree a
-    → (fact : ℕ) (at : NodePlace) → MeetsTypes d a at (main_of c fact) × MeetsTypes d a at (placeholder_of c fact)
+    → (fact : ℕ) (at : NodePosition) → MeetsTypes d a at (main_of c fact) × MeetsTypes d a at (placeholder_of c fact)

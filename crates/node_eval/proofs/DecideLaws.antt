@@ -22,7 +22,7 @@ use Rattle.node_eval.specs.declared.node.NodeRead.{NodeRead}
 use Rattle.node_eval.specs.declared.node.NodeRead.TheVariants as node_read
 use Rattle.node_eval.specs.declared.node.ResolvedPath.{ResolvedPath}
 use Rattle.node_eval.specs.declared.node.ResolvedPath.TheVariants.{Global, Same, Inner, Each, Through, SameThrough}
-use Rattle.node_eval.specs.declared.eval_position.EvalPosition.{EvalPosition}
+use Rattle.node_eval.specs.declared.node_position.NodePosition.{NodePosition}
 
 module _ (test : Slot → Bool) (results results' : Results) (same : (s : Slot) → IsTrue (test s) → results s ≡ results' s) where
   abbrev Pass : List Slot → Type 0
@@ -47,7 +47,7 @@ module _ (test : Slot → Bool) (results results' : Results) (same : (s : Slot) 
       let parts = both (test (slot n member)) (list_all test rest) h in
       field-same item m parts.1 ∙ ap (λ r. through_item r (result_at results' (Some m))) (ap (λ r. unwrap_or r Incomplete) (same (slot n member) parts.0))
 
-  dependency-same : (at : EvalPosition) (r : ResolvedPath) → Pass (dependency_slots results at r) → dependency results at r ≡ dependency results' at r
+  dependency-same : (at : NodePosition) (r : ResolvedPath) → Pass (dependency_slots results at r) → dependency results at r ≡ dependency results' at r
   dependency-same at (Global n) h = at-same (Some n) 0 h
   dependency-same at (Same n) h = at-same (Some n) at.own h
   dependency-same at (Inner n) h = at-same (Some n) at.inner h
@@ -76,7 +76,7 @@ module _ (test : Slot → Bool) (results results' : Results) (same : (s : Slot) 
       let is = ap (λ o. unwrap_or o Incomplete) (same (slot (first_of r) 0) parts.0) in
       ap (node source) (fields-same (second_of r) (members_of source) parts.1) ∙ ap (λ s. node s (map (field results' r) (members_of s))) is
 
-  read-same : (at : EvalPosition) (op : NodeRead) (r : ResolvedPath) → Pass (read_slots results at op r) → read_result results at op r ≡ read_result results' at op r
+  read-same : (at : NodePosition) (op : NodeRead) (r : ResolvedPath) → Pass (read_slots results at op r) → read_result results at op r ≡ read_result results' at op r
   read-same at node_read.Dependency r h = dependency-same at r h
   read-same at node_read.IsComplete r h = ap complete_test (dependency-same at r h)
   read-same at node_read.CollectionSize r h = ap collection_size (source-same r h)
@@ -93,5 +93,5 @@ module _ (test : Slot → Bool) (results results' : Results) (same : (s : Slot) 
   }
 
 pub cells-decide : (test : Slot → Bool) (results results' : Results) → ((s : Slot) → IsTrue (test s) → results s ≡ results' s)
-    → (t : Compiled) (at : EvalPosition) → IsTrue (list_all test (slots_of results at t)) → over (node_env results) at t ≡ over (node_env results') at t
+    → (t : Compiled) (at : NodePosition) → IsTrue (list_all test (slots_of results at t)) → over (node_env results) at t ≡ over (node_env results') at t
 cells-decide test results results' same t at h = reads-decide (node_reads results) test (node_env results) (node_env results') (alike test results results' same) t at h

@@ -38,7 +38,7 @@ use Rattle.node_eval.specs.declared.node.NodeRead.{NodeRead}
 use Rattle.node_eval.specs.declared.node.NodeRead.TheVariants as node_read
 use Rattle.node_eval.specs.declared.node.ResolvedPath.{ResolvedPath}
 use Rattle.node_eval.specs.declared.node.ResolvedPath.TheVariants.{Global, Same, Inner, Each, Through, SameThrough}
-use Rattle.node_eval.specs.declared.eval_position.EvalPosition.{EvalPosition}
+use Rattle.node_eval.specs.declared.node_position.NodePosition.{NodePosition}
 
 -- ---- lists
 
@@ -124,7 +124,7 @@ module _ (d : Domains) (facts : FactTypes) (results : Results) where
   through-typed (Placeholder v) by_item m t e all = tt
   through-typed _ by_item m t e all = tt
 
-  dependency-typed : (at : EvalPosition) (r : ResolvedPath) (t : FactType) → dependency_type facts r ≡ Some t → AllOf Cell (dependency_slots results at r) → IsResOfType d (dependency results at r) t
+  dependency-typed : (at : NodePosition) (r : ResolvedPath) (t : FactType) → dependency_type facts r ≡ Some t → AllOf Cell (dependency_slots results at r) → IsResOfType d (dependency results at r) t
   dependency-typed at (Global n) t e all = at-typed n 0 t e all.0
   dependency-typed at (Same n) t e all = at-typed n at.own t e all.0
   dependency-typed at (Inner n) t e all = at-typed n at.inner t e all.0
@@ -132,7 +132,7 @@ module _ (d : Domains) (facts : FactTypes) (results : Results) where
   dependency-typed at (Through n m) t e all = through-typed (result_at results (Some n) 0) (slot n 0 ∷ []) m t (behind-some (option_and_then item_base (facts n)) (facts m) t e) all
   dependency-typed at (SameThrough n m) t e all = through-typed (result_at results (Some n) at.own) (slot n at.own ∷ []) m t (behind-some (option_and_then item_base (facts n)) (facts m) t e) all
 
-  read-kept : (at : EvalPosition) (op : NodeRead) (r : ResolvedPath) (t : FactType) → read_type facts op r ≡ Some t → AllOf Cell (read_slots results at op r) → ValueHoldsMemory (read_result results at op r) → IsTextOrList t
+  read-kept : (at : NodePosition) (op : NodeRead) (r : ResolvedPath) (t : FactType) → read_type facts op r ≡ Some t → AllOf Cell (read_slots results at op r) → ValueHoldsMemory (read_result results at op r) → IsTextOrList t
   read-kept at node_read.Dependency r t e all h = res-kept d (dependency results at r) t (dependency-typed at r t e all) h
   read-kept at node_read.IsComplete r t e all h = absurd (test-none (dependency results at r) h)
   read-kept at node_read.CollectionSize r t e all h = absurd (size-none (collection results r) h)
@@ -163,7 +163,7 @@ module _ (d : Domains) (facts : FactTypes) (results : Results) where
   -- ---- expressions
 
   mutual
-    kept : (at : EvalPosition) (t : Compiled) (b : ℕ) (u : FactType) → HasType (node_types facts) b t u → AllOf Cell (slots_of results at t) → TakesMemory (node_env results) at t → SomeOf (GivesTextOrList facts) (nodes t)
+    kept : (at : NodePosition) (t : Compiled) (b : ℕ) (u : FactType) → HasType (node_types facts) b t u → AllOf Cell (slots_of results at t) → TakesMemory (node_env results) at t → SomeOf (GivesTextOrList facts) (nodes t)
     kept at (literal c) b u h all k = inl (b, (u, (h, constant-kept c u h k)))
     kept at (read r) b u h all k = inl (b, (u, (h, read-kept at r.0 r.1 u h all k)))
     kept at (switch cs) b u h all k = inr (kept-cases at cs b u h.1 all k)
@@ -178,7 +178,7 @@ module _ (d : Domains) (facts : FactTypes) (results : Results) where
         (λ m here cells. kept (entered at m) x h.0 types.Boolean h.2 cells here)
         (up_to_decider (λ m. over (node_env results) (entered at m) x) (members_of (collection results r))) k all.1)
 
-    kept-all : (at : EvalPosition) (ts : Trees Value Reading ResolvedPath) (b : ℕ) (us : List FactType) → HaveTypes (node_types facts) b ts us → AllOf Cell (slots_read_of_all (node_env results) (node_reads results) at ts)
+    kept-all : (at : NodePosition) (ts : Trees Value Reading ResolvedPath) (b : ℕ) (us : List FactType) → HaveTypes (node_types facts) b ts us → AllOf Cell (slots_read_of_all (node_env results) (node_reads results) at ts)
         → TakesInAll (node_env results) at ts → SomeOf (GivesTextOrList facts) (nodes_of_trees ts)
     kept-all at no_trees b us h all k = absurd k
     kept-all at (tree x xs) b [] h all k = absurd h
@@ -187,7 +187,7 @@ module _ (d : Domains) (facts : FactTypes) (results : Results) where
     kept-all at (tree x xs) b (u ∷ us) h all (inr k) =
         some-right (GivesTextOrList facts) (nodes x) (nodes_of_trees xs) (kept-all at xs b us h.1 (all-right Cell (slots_of results at x) (slots_read_of_all (node_env results) (node_reads results) at xs) all) k)
 
-    kept-cases : (at : EvalPosition) (cs : Cases Value Reading ResolvedPath) (b : ℕ) (u : FactType) → HaveCaseTypes (node_types facts) b cs u → AllOf Cell (slots_read_of_cases (node_env results) (node_reads results) at cs)
+    kept-cases : (at : NodePosition) (cs : Cases Value Reading ResolvedPath) (b : ℕ) (u : FactType) → HaveCaseTypes (node_types facts) b cs u → AllOf Cell (slots_read_of_cases (node_env results) (node_reads results) at cs)
         → TakesInCases (node_env results) at cs → SomeOf (GivesTextOrList facts) (nodes_of_cases cs)
     kept-cases at no_cases b u h all k = absurd k
     kept-cases at (a_case x o cs) b u h all (inl k) =
@@ -203,5 +203,5 @@ module _ (d : Domains) (facts : FactTypes) (results : Results) where
         (λ cells here. some-right (GivesTextOrList facts) (nodes o) (nodes_of_cases cs) (kept-cases at cs b u h.2 cells here))
         (all-right Cell (slots_of results at x) (after_condition r given rest) all) k)
 
-pub typed-takes_memory : (d : Domains) (facts : FactTypes) (results : Results) (at : EvalPosition) (t : Compiled) → IsTyped d facts results at t → TakesMemory (node_env results) at t → SomeGivesTextOrList facts t
+pub typed-takes_memory : (d : Domains) (facts : FactTypes) (results : Results) (at : NodePosition) (t : Compiled) → IsTyped d facts results at t → TakesMemory (node_env results) at t → SomeGivesTextOrList facts t
 typed-takes_memory d facts results at t typed k = kept d facts results at t 0 typed.type_of typed.node typed.cells k

@@ -13,7 +13,7 @@ use Rattle.node_eval.specs.declared.node.NodeRead.{NodeRead}
 use Rattle.node_eval.specs.declared.node.NodeRead.TheVariants as node_read
 use Rattle.node_eval.specs.declared.node.ResolvedPath.{ResolvedPath}
 use Rattle.node_eval.specs.declared.node.ResolvedPath.TheVariants.{Global, Same, Inner, Each, Through, SameThrough}
-use Rattle.node_eval.specs.declared.eval_position.EvalPosition.{EvalPosition}
+use Rattle.node_eval.specs.declared.node_position.NodePosition.{NodePosition}
 
 -- ---- the facts that a path names
 
@@ -35,7 +35,7 @@ second_of (SameThrough n m) = Some m
 
 -- ---- what is read at a place
 
-abbrev pub dependency : Results → EvalPosition → ResolvedPath → Res
+abbrev pub dependency : Results → NodePosition → ResolvedPath → Res
 dependency results at (Global n) = result_at results (Some n) 0
 dependency results at (Same n) = result_at results (Some n) at.own
 dependency results at (Inner n) = result_at results (Some n) at.inner
@@ -51,7 +51,7 @@ collection results r = result_at results (Some (first_of r)) 0
 abbrev pub field : Results → ResolvedPath → ℕ → Res
 field results r m = result_at results (second_of r) m
 
-abbrev pub read_result : Results → EvalPosition → NodeRead → ResolvedPath → Res
+abbrev pub read_result : Results → NodePosition → NodeRead → ResolvedPath → Res
 read_result results at node_read.Dependency r = dependency results at r
 read_result results at node_read.IsComplete r = complete_test (dependency results at r)
 read_result results at node_read.CollectionSize r = collection_size (collection results r)
@@ -60,11 +60,11 @@ read_result results at node_read.SumDollar r = sum_over types.Dollar (collection
 read_result results at node_read.Count r = count_of (collection results r) (field results r)
 
 -- the place of a member under a condition
-abbrev pub entered : EvalPosition → ℕ → EvalPosition
+abbrev pub entered : NodePosition → ℕ → NodePosition
 entered at m = record { own = at.own; inner = m }
 
 -- what nodes stand in
-abbrev pub node_env : Results → Env Value Reading ResolvedPath EvalPosition
+abbrev pub node_env : Results → Env Value Reading ResolvedPath NodePosition
 node_env results = record {
   constant = λ v. v;
   reads = λ at r. read_result results at r.0 r.1;

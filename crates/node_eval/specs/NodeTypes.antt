@@ -19,7 +19,7 @@ use Rattle.node_eval.specs.declared.node.NodeRead.{NodeRead}
 use Rattle.node_eval.specs.declared.node.NodeRead.TheVariants as node_read
 use Rattle.node_eval.specs.declared.node.ResolvedPath.{ResolvedPath}
 use Rattle.node_eval.specs.declared.node.ResolvedPath.TheVariants.{Global, Same, Inner, Each, Through, SameThrough}
-use Rattle.node_eval.specs.declared.eval_position.EvalPosition.{EvalPosition}
+use Rattle.node_eval.specs.declared.node_position.NodePosition.{NodePosition}
 
 -- ---- the types of what a node is made of
 
@@ -110,7 +110,7 @@ abbrev pub IsTypedCell : Domains → FactTypes → Results → Slot → Type 0
 IsTypedCell d facts results s = (r : Res) → results s ≡ Some r → (t : FactType) → facts s.fact ≡ Some t → IsResOfType d r t
 
 -- the node has a type, and so have the cells that its evaluation reads
-pub record IsTyped (d : Domains) (facts : FactTypes) (results : Results) (at : EvalPosition) (t : Compiled) : Type 0 where
+pub record IsTyped (d : Domains) (facts : FactTypes) (results : Results) (at : NodePosition) (t : Compiled) : Type 0 where
   pub type_of : FactType
   pub node : HasType (node_types facts) 0 t type_of
   pub cells : AllOf (IsTypedCell d facts results) (slots_of results at t)
@@ -135,4 +135,4 @@ SomeGivesTextOrList facts t = SomeOf (GivesTextOrList facts) (nodes t)
 
 -- an evaluation takes memory only there
 abbrev pub TypedTakesMemory : Type 0
-TypedTakesMemory = (d : Domains) (facts : FactTypes) (results : Results) (at : EvalPosition) (t : Compiled) → IsTyped d facts results at t → TakesMemory (node_env results) at t → SomeGivesTextOrList facts t
+TypedTakesMemory = (d : Domains) (facts : FactTypes) (results : Results) (at : NodePosition) (t : Compiled) → IsTyped d facts results at t → TakesMemory (node_env results) at t → SomeGivesTextOrList facts t

@@ -11,7 +11,7 @@ use Rattle.node_eval.specs.declared.node.NodeRead.{NodeRead}
 use Rattle.node_eval.specs.declared.node.NodeRead.TheVariants as node_read
 use Rattle.node_eval.specs.declared.node.ResolvedPath.{ResolvedPath}
 use Rattle.node_eval.specs.declared.node.ResolvedPath.TheVariants.{Global, Same, Inner, Each, Through, SameThrough}
-use Rattle.node_eval.specs.declared.eval_position.EvalPosition.{EvalPosition}
+use Rattle.node_eval.specs.declared.node_position.NodePosition.{NodePosition}
 
 -- the slot of a fact at a member
 abbrev pub slot_at : Option ℕ → ℕ → List Slot
@@ -22,7 +22,7 @@ slot_at (Some n) m = slot n m ∷ []
 abbrev pub through_slots : Results → ℕ → ℕ → ℕ → List Slot
 through_slots results n m member = item_read (result_at results (Some n) member) (slot n member ∷ []) (slot_at (Some m))
 
-abbrev pub dependency_slots : Results → EvalPosition → ResolvedPath → List Slot
+abbrev pub dependency_slots : Results → NodePosition → ResolvedPath → List Slot
 dependency_slots results at (Global n) = slot n 0 ∷ []
 dependency_slots results at (Same n) = slot n at.own ∷ []
 dependency_slots results at (Inner n) = slot n at.inner ∷ []
@@ -37,7 +37,7 @@ collection_slots r = slot (first_of r) 0 ∷ []
 abbrev pub field_slots : Results → ResolvedPath → List Slot
 field_slots results r = fields_read (collection results r) (collection_slots r) (slot_at (second_of r))
 
-abbrev pub read_slots : Results → EvalPosition → NodeRead → ResolvedPath → List Slot
+abbrev pub read_slots : Results → NodePosition → NodeRead → ResolvedPath → List Slot
 read_slots results at node_read.Dependency r = dependency_slots results at r
 read_slots results at node_read.IsComplete r = dependency_slots results at r
 read_slots results at node_read.CollectionSize r = collection_slots r
@@ -45,14 +45,14 @@ read_slots results at node_read.SumInt r = field_slots results r
 read_slots results at node_read.SumDollar r = field_slots results r
 read_slots results at node_read.Count r = field_slots results r
 
-abbrev pub node_reads : Results → ReadBy Reading ResolvedPath EvalPosition Slot
+abbrev pub node_reads : Results → ReadBy Reading ResolvedPath NodePosition Slot
 node_reads results = record {
   reads = λ at r. read_slots results at r.0 r.1;
   source = λ at r. collection_slots r;
 }
 
 -- all that the evaluation of a node reads at a place, in order
-abbrev pub slots_of : Results → EvalPosition → Compiled → List Slot
+abbrev pub slots_of : Results → NodePosition → Compiled → List Slot
 slots_of results at t = slots_read (node_env results) (node_reads results) at t
 
 -- ---- a law
@@ -61,4 +61,4 @@ slots_of results at t = slots_read (node_env results) (node_reads results) at t
 abbrev pub CellsDecide : Type 0
 CellsDecide =
     (test : Slot → Bool) (results results' : Results) → ((s : Slot) → IsTrue (test s) → results s ≡ results' s)
-    → (t : Compiled) (at : EvalPosition) → IsTrue (list_all test (slots_of results at t)) → over (node_env results) at t ≡ over (node_env results') at t
+    → (t : Compiled) (at : NodePosition) → IsTrue (list_all test (slots_of results at t)) → over (node_env results) at t ≡ over (node_env results') at t

@@ -17,7 +17,7 @@ ghost use Rattle.evaluation.specs.Typed.{Domains};
 ghost use Rattle.evaluation.specs.Visits.{visits, visits_of_all, visits_of_cases};
 
 use crate::cells::Cells;
-use crate::eval_position::EvalPosition;
+use crate::node_position::NodePosition;
 use crate::globals::eval_globals;
 use crate::node::{Node, NodeCase, NodeRead, ResolvedPath};
 use crate::reads::{read, read_source, see_constant, see_dependency};
@@ -51,7 +51,7 @@ pub fn eval<C: Cells, L: Ledger>(
     ensures memory { IsErr result → (d : Domains) (facts : ℕ → Option FactType) → IsTyped d facts (C.results cells.now)
         (record { own = own; inner = inner }) (view node.now) → SomeGivesTextOrList facts (view node.now) }
 {
-    visit(alloc, cells, EvalPosition { own, inner }, node, steps)
+    visit(alloc, cells, NodePosition { own, inner }, node, steps)
 }
 
 // The same at a place.
@@ -60,7 +60,7 @@ pub fn eval<C: Cells, L: Ledger>(
 fn visit<C: Cells, L: Ledger>(
     alloc: Global,
     cells: &C,
-    at: EvalPosition,
+    at: NodePosition,
     node: &Node,
     steps: &mut Steps<L>,
 ) -> Result<Res, NoMemory>
@@ -98,7 +98,7 @@ fn constant(alloc: Global, value: &Value) -> Result<Res, NoMemory>
 fn eval_one<C: Cells, L: Ledger>(
     alloc: Global,
     cells: &C,
-    at: EvalPosition,
+    at: NodePosition,
     op: &OneOp,
     operand: &Node,
     steps: &mut Steps<L>,
@@ -119,7 +119,7 @@ fn eval_one<C: Cells, L: Ledger>(
 fn eval_second<C: Cells, L: Ledger>(
     alloc: Global,
     cells: &C,
-    at: EvalPosition,
+    at: NodePosition,
     op: TwoOp,
     first: Res,
     operand: &Node,
@@ -145,7 +145,7 @@ fn eval_second<C: Cells, L: Ledger>(
 fn eval_all<C: Cells, L: Ledger>(
     alloc: Global,
     cells: &C,
-    at: EvalPosition,
+    at: NodePosition,
     op: ManyOp,
     operands: &[Node],
     steps: &mut Steps<L>,
@@ -171,7 +171,7 @@ fn eval_all<C: Cells, L: Ledger>(
 fn see_operand<C: Cells, L: Ledger>(
     alloc: Global,
     cells: &C,
-    at: EvalPosition,
+    at: NodePosition,
     operand: &Node,
     fold: &mut ManyFold,
     steps: &mut Steps<L>,
@@ -198,7 +198,7 @@ fn see_operand<C: Cells, L: Ledger>(
 fn see_visited<C: Cells, L: Ledger>(
     alloc: Global,
     cells: &C,
-    at: EvalPosition,
+    at: NodePosition,
     operand: &Node,
     fold: &mut ManyFold,
     steps: &mut Steps<L>,
@@ -221,7 +221,7 @@ fn see_visited<C: Cells, L: Ledger>(
 fn eval_cases<C: Cells, L: Ledger>(
     alloc: Global,
     cells: &C,
-    at: EvalPosition,
+    at: NodePosition,
     cases: &[NodeCase],
     steps: &mut Steps<L>,
 ) -> Result<Res, NoMemory>
@@ -255,7 +255,7 @@ fn eval_cases<C: Cells, L: Ledger>(
 fn eval_pick<C: Cells, L: Ledger>(
     alloc: Global,
     cells: &C,
-    at: EvalPosition,
+    at: NodePosition,
     op: PickOp,
     path: ResolvedPath,
     test: &Node,
@@ -295,7 +295,7 @@ fn keep(kept: &mut Vec<u32>, is_kept: bool, member: u32) -> Result<(), NoMemory>
 fn eval_filter<C: Cells, L: Ledger>(
     alloc: Global,
     cells: &C,
-    at: EvalPosition,
+    at: NodePosition,
     source: &Res,
     test: &Node,
     steps: &mut Steps<L>,
@@ -324,7 +324,7 @@ fn eval_filter<C: Cells, L: Ledger>(
 fn eval_find<C: Cells, L: Ledger>(
     alloc: Global,
     cells: &C,
-    at: EvalPosition,
+    at: NodePosition,
     source: &Res,
     test: &Node,
     steps: &mut Steps<L>,
@@ -352,7 +352,7 @@ fn eval_find<C: Cells, L: Ledger>(
 fn find_among<C: Cells, L: Ledger>(
     alloc: Global,
     cells: &C,
-    at: EvalPosition,
+    at: NodePosition,
     complete: bool,
     members: &[u32],
     test: &Node,

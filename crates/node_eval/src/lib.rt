@@ -2,11 +2,11 @@
 #![tactic(auto)]
 
 mod cells;
-mod eval_position;
 mod evaluating;
 mod globals;
 pub mod laws;
 mod node;
+mod node_position;
 mod reads;
 
 pub use cells::Cells;

@@ -11,7 +11,7 @@ ghost use Rattle.node_eval.specs.Reached.{reached};
 ghost use Rattle.node_eval.specs.Dependencies.{collection, dependency, field, first_of, read_result, second_of};
 
 use crate::cells::{Cells, result_at};
-use crate::eval_position::EvalPosition;
+use crate::node_position::NodePosition;
 use crate::node::{NodeRead, ResolvedPath};
 use fact_values::{FactType, NoMemory, Slot, Value};
 use operations::{CountFold, ManyFold, SumFold, complete_test, members, size};
@@ -93,7 +93,7 @@ fn through<'a, C: Cells>(cells: &'a C, missing: &'a Res, item: &'a Res, second: 
 fn reach<'a, C: Cells>(
     cells: &'a C,
     missing: &'a Res,
-    at: EvalPosition,
+    at: NodePosition,
     path: ResolvedPath,
 ) -> Reached<'a>
     requires { missing.now ≡ Incomplete }
@@ -192,7 +192,7 @@ fn see_reached(alloc: Global, end: Reached, fold: &mut ManyFold) -> Result<(), N
 fn see_far<C: Cells>(
     alloc: Global,
     cells: &C,
-    at: EvalPosition,
+    at: NodePosition,
     path: ResolvedPath,
     fold: &mut ManyFold,
 ) -> Result<(), NoMemory>
@@ -210,7 +210,7 @@ fn see_far<C: Cells>(
 pub fn see_dependency<C: Cells, L: Ledger>(
     alloc: Global,
     cells: &C,
-    at: EvalPosition,
+    at: NodePosition,
     path: &ResolvedPath,
     fold: &mut ManyFold,
     steps: &mut Steps<L>,
@@ -297,7 +297,7 @@ pub fn read_source<'a, C: Cells>(cells: &'a C, missing: &'a Res, path: ResolvedP
 pub fn read<C: Cells>(
     alloc: Global,
     cells: &C,
-    at: EvalPosition,
+    at: NodePosition,
     op: NodeRead,
     path: ResolvedPath,
 ) -> Result<Res, NoMemory>

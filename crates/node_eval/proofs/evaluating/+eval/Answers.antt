@@ -19,7 +19,7 @@ use Rattle.node_eval.specs.Globals.{SomeHoldsMemory, global_result}
 use Rattle.node_eval.specs.Memory.{TakesMemory}
 use Rattle.node_eval.specs.View.{case_view, cases_of, globals_view, trees_of, view}
 use Rattle.evaluation.specs.Visits.{visits, visits_of_all, visits_of_cases}
-use Rattle.node_eval.specs.declared.eval_position.EvalPosition.{EvalPosition}
+use Rattle.node_eval.specs.declared.node_position.NodePosition.{NodePosition}
 use Rattle.node_eval.proofs.GlobalLaws.{globals_give, globals_take, globals_visit, globals_weigh}
 use Rattle.node_eval.proofs.RestLaws.{all_next, all_take, all_visit, all_weigh, case_at, case_takes, case_visit, cases_weigh, filter_next, find_at, find_takes, find_visit, kept_more, member_takes, members_weigh, test_takes}
 use Rattle.node_eval.proofs.Views.{view-Globals, view-Pick}
@@ -255,7 +255,7 @@ eval_filter-loop-member-preserved g t c =
     let env = node_env results in
     let test = view c.args.test.now in
     let condition = condition_at results c.args.at test in
-    let is = c.in_ok-condition.ensures.value ∙ ap (λ (p : EvalPosition). over env p test) c.at.ensures in
+    let is = c.in_ok-condition.ensures.value ∙ ap (λ (p : NodePosition). over env p test) c.at.ensures in
     let weigh = members_weigh ms i c.loop-member-test.true (work_at results c.args.at test) in
     let visit = members_weigh ms i c.loop-member-test.true (visits_at results c.args.at test) in
     record {
@@ -265,8 +265,8 @@ eval_filter-loop-member-preserved g t c =
       kept =
           kept_more ms i c.loop-member-test.true condition c.in_ok-condition.condition is c.loop-member.kept.items c.keep.new.kept.items c.see-is_kept.result c.see-is_kept.ensures.kept c.in_ok-keep.ensures
           ∙ c.loop-member.invariant.kept;
-      visited = omega (arith, visit, ap (λ (p : EvalPosition). visits env p test) c.at.ensures, c.in_ok-condition.ensures.visited, c.loop-member.invariant.visited);
-      most = omega (arith, weigh, ap (λ (p : EvalPosition). weight env p test) c.at.ensures, c.in_ok-condition.ensures.most, c.loop-member.invariant.most);
+      visited = omega (arith, visit, ap (λ (p : NodePosition). visits env p test) c.at.ensures, c.in_ok-condition.ensures.visited, c.loop-member.invariant.visited);
+      most = omega (arith, weigh, ap (λ (p : NodePosition). weight env p test) c.at.ensures, c.in_ok-condition.ensures.most, c.loop-member.invariant.most);
       least = omega (arith, c.in_ok-condition.ensures.least, c.loop-member.invariant.least);
     }
 
@@ -322,14 +322,14 @@ find_among-loop-member-preserved g t c =
     let env = node_env results in
     let test = view c.args.test.now in
     let condition = condition_at results c.args.at test in
-    let is = c.in_ok-condition.ensures.value ∙ ap (λ (p : EvalPosition). over env p test) c.at.ensures in
+    let is = c.in_ok-condition.ensures.value ∙ ap (λ (p : NodePosition). over env p test) c.at.ensures in
     let step = sym c.in-Next.is ∙ c.case_step-step.ensures in
     let weigh = members_weigh c.args.members.now i c.loop-member-test.true (work_at results c.args.at test) in
     let visit = find_visit c.args.members.now i c.loop-member-test.true condition c.in_ok-condition.condition is c.loop-member.complete (Next c.in-Next.still) step (visits_at results c.args.at test) in
     record {
       value = find_at c.args.members.now i c.loop-member-test.true condition c.in_ok-condition.condition is c.loop-member.complete (Next c.in-Next.still) step ∙ c.loop-member.invariant.value;
-      visited = omega (arith, visit, ap (λ (p : EvalPosition). visits env p test) c.at.ensures, c.in_ok-condition.ensures.visited, c.loop-member.invariant.visited);
-      most = omega (arith, weigh, ap (λ (p : EvalPosition). weight env p test) c.at.ensures, c.in_ok-condition.ensures.most, c.loop-member.invariant.most);
+      visited = omega (arith, visit, ap (λ (p : NodePosition). visits env p test) c.at.ensures, c.in_ok-condition.ensures.visited, c.loop-member.invariant.visited);
+      most = omega (arith, weigh, ap (λ (p : NodePosition). weight env p test) c.at.ensures, c.in_ok-condition.ensures.most, c.loop-member.invariant.most);
       least = omega (arith, c.in_ok-condition.ensures.least, c.loop-member.invariant.least);
       memory = λ h. c.loop-member.invariant.memory (find_takes c.args.members.now i c.loop-member-test.true condition c.in_ok-condition.condition is c.loop-member.complete (Next c.in-Next.still) step (TakesAt results c.args.at test) h);
     }
@@ -345,18 +345,18 @@ find_among-returns-in-Take-clause-visited g t c =
     let results = g.C.Cells.results c.args.cells.now in
     let env = node_env results in
     let test = view c.args.test.now in
-    let is = c.in_ok-condition.ensures.value ∙ ap (λ (p : EvalPosition). over env p test) c.at.ensures in
+    let is = c.in_ok-condition.ensures.value ∙ ap (λ (p : NodePosition). over env p test) c.at.ensures in
     let visit = find_visit c.args.members.now c.loop-member.member-index c.loop-member-test.true (condition_at results c.args.at test) c.in_ok-condition.condition is c.loop-member.complete (Take c.in-Take.still) (sym c.in-Take.is ∙ c.case_step-step.ensures) (visits_at results c.args.at test) in
-    omega (arith, visit, ap (λ (p : EvalPosition). visits env p test) c.at.ensures, c.in_ok-condition.ensures.visited, c.loop-member.invariant.visited)
+    omega (arith, visit, ap (λ (p : NodePosition). visits env p test) c.at.ensures, c.in_ok-condition.ensures.visited, c.loop-member.invariant.visited)
 
 pub find_among-returns-in-End-clause-visited : goal.find_among-returns-in-End-clause-visited
 find_among-returns-in-End-clause-visited g t c =
     let results = g.C.Cells.results c.args.cells.now in
     let env = node_env results in
     let test = view c.args.test.now in
-    let is = c.in_ok-condition.ensures.value ∙ ap (λ (p : EvalPosition). over env p test) c.at.ensures in
+    let is = c.in_ok-condition.ensures.value ∙ ap (λ (p : NodePosition). over env p test) c.at.ensures in
     let visit = find_visit c.args.members.now c.loop-member.member-index c.loop-member-test.true (condition_at results c.args.at test) c.in_ok-condition.condition is c.loop-member.complete (End c.in-End.none) (sym c.in-End.is ∙ c.case_step-step.ensures) (visits_at results c.args.at test) in
-    omega (arith, visit, ap (λ (p : EvalPosition). visits env p test) c.at.ensures, c.in_ok-condition.ensures.visited, c.loop-member.invariant.visited)
+    omega (arith, visit, ap (λ (p : NodePosition). visits env p test) c.at.ensures, c.in_ok-condition.ensures.visited, c.loop-member.invariant.visited)
 
 pub find_among-returns-clause-visited : goal.find_among-returns-clause-visited
 find_among-returns-clause-visited g t c =

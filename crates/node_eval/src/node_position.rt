@@ -4,17 +4,17 @@ ghost use Rattle.node_eval.specs.Dependencies.{entered};
 
 /// Where a node stands: the member of its slot, or 0, and under a condition the condition's member.
 #[derive(Clone, Copy)]
-pub struct EvalPosition {
+pub struct NodePosition {
     pub own: u32,
     pub inner: u32,
 }
 
-impl EvalPosition {
+impl NodePosition {
     /// At a member of a collection, under the condition that it is to meet.
-    pub fn at(self, member: u32) -> EvalPosition
+    pub fn at(self, member: u32) -> NodePosition
         ensures { result ≡ entered self member }
     {
-        EvalPosition {
+        NodePosition {
             own: self.own,
             inner: member,
         }
