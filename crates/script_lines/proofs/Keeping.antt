@@ -8,7 +8,7 @@ use Rattle.std.proofs.lemmas.List.Elements.{All-push, All-take}
 use Rattle.script_lines.specs.Lines.{ScriptLine, whole, long, line_of, script_lines, ready_lines, HasNoNewline, IsNewlineAt, TakesLine, EndsLine}
 use Rattle.script_lines.specs.declared.lines.Ready.{Ready}
 use Rattle.script_lines.specs.declared.lines.Ready.TheVariants.{NotYet, Whole, Long}
-use Rattle.script_lines.specs.Kept.{read_as, GoesOnAs}
+use Rattle.script_lines.specs.LineSoFar.{read_as, GoesOnAs}
 use Rattle.script_lines.proofs.Bytes.{HasNoNewline-append, lines_of-newline, lines_of-last, long_same}
 
 pub HasNoNewline-read_as : (bytes : List ℕ) (is_long : Bool) → HasNoNewline bytes → HasNoNewline (read_as bytes is_long)

@@ -1,7 +1,7 @@
 pub mod Commands
 pub mod Joined
-pub mod Kept
 pub mod Kinds
+pub mod LineSoFar
 pub mod Lines
 pub mod Pieces
 pub mod Parsing

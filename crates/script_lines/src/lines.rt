@@ -1,10 +1,10 @@
 // Cutting a stream of bytes into lines as its pieces come.
 ghost use Rattle.std.specs.Prelude.{◌≡◌, ◌<◌, ◌≤◌, [], ◌++◌, List, ℕ, length, drop, IfSome, IfNone, false, if◌then◌else◌};
 ghost use Rattle.script_lines.specs.Lines.{script_lines, ready_lines, HasNoNewline, IsNewlineAt, TakesLine, EndsLine};
-ghost use Rattle.script_lines.specs.Kept.{read_as};
+ghost use Rattle.script_lines.specs.LineSoFar.{read_as};
 
 use crate::cutting::newline_at;
-use crate::kept::Kept;
+use crate::line_so_far::LineSoFar;
 use std::marker::Model;
 
 /// Whether a line is ready.
@@ -32,14 +32,14 @@ pub struct Fed {
 /// No memory is taken: a line stands in a buffer of 4,096 bytes until the next call.
 #[derive(Drop)]
 pub struct Lines {
-    kept: Kept,
+    kept: LineSoFar,
     is_ended: bool,
 }
 
 impl Model for Lines {
     ghost use Rattle.std.specs.Prelude.{[], if◌then◌else◌};
     ghost use Rattle.script_lines.specs.Lines.{Held};
-    ghost use Rattle.script_lines.specs.Kept.{read_as};
+    ghost use Rattle.script_lines.specs.LineSoFar.{read_as};
 
     ghost Value = { Held };
 
@@ -55,7 +55,7 @@ impl Lines {
         ensures { result ≡ record { so_far = []; line = [] } }
     {
         Lines {
-            kept: Kept::new(),
+            kept: LineSoFar::new(),
             is_ended: false,
         }
     }
@@ -119,7 +119,7 @@ impl Lines {
 }
 
 // Begins a new line where one has ended.
-fn begin(kept: &mut Kept, is_ended: &mut bool)
+fn begin(kept: &mut LineSoFar, is_ended: &mut bool)
     ensures open_ { is_ended.new ≡ false }
     ensures so_far { read_as kept.new.bytes.items kept.new.is_long
         ≡ (if is_ended.old then [] else read_as kept.old.bytes.items kept.old.is_long) }

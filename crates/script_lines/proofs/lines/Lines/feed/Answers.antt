@@ -1,6 +1,6 @@
 use Rattle.std.proofs.Common.{◌≡◌, ◌∙◌, ◌++◌, ◌+◌, sym, ap, drop}
 use Rattle.script_lines.specs.Lines.{script_lines}
-use Rattle.script_lines.specs.Kept.{read_as}
+use Rattle.script_lines.specs.LineSoFar.{read_as}
 use Rattle.script_lines.proofs.Keeping.{HasNoNewline-read_as, ends, takes}
 use Rattle.script_lines.proofs.lines.Lines.feed.Goals as goal
 

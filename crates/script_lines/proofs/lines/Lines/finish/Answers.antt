@@ -1,7 +1,7 @@
 use Rattle.std.proofs.Common.{◌≡◌, ◌∙◌, sym, ap, ◌<◌, length, arith}
 use Rattle.std.proofs.lemmas.Grind.{common_steps}
 use Rattle.script_lines.specs.Lines.{script_lines}
-use Rattle.script_lines.specs.Kept.{read_as}
+use Rattle.script_lines.specs.LineSoFar.{read_as}
 use Rattle.script_lines.proofs.Keeping.{HasNoNewline-read_as, ends_last, ends_script, length-read_as}
 use Rattle.script_lines.proofs.lines.Lines.finish.Goals as goal
 

@@ -1,7 +1,7 @@
 use Rattle.std.proofs.Common.{◌≡◌, ◌++◌, take, arith}
 use Rattle.std.proofs.lemmas.Grind.{common_steps}
 use Rattle.script_lines.proofs.Keeping.{adds}
-use Rattle.script_lines.proofs.kept.Kept.add.Goals as goal
+use Rattle.script_lines.proofs.line_so_far.LineSoFar.add.Goals as goal
 
 pub returns : goal.returns
 returns c =

@@ -1,7 +1,7 @@
 // What is kept of one line: as many bytes as a line may have, and whether it has more.
 ghost use Rattle.std.specs.Prelude.{◌≡◌, ◌≤◌, ◌∷◌, [], Bool, true, false, length};
 ghost use Rattle.script_lines.specs.Lines.{line_of, ready_lines, HasNoNewline};
-ghost use Rattle.script_lines.specs.Kept.{read_as, GoesOnAs};
+ghost use Rattle.script_lines.specs.LineSoFar.{read_as, GoesOnAs};
 
 use crate::lines::Ready;
 use arrayvec::ArrayVec;
@@ -11,7 +11,7 @@ const LONGEST: usize = 4096;
 
 /// A line as far as it has come.
 #[derive(Drop)]
-pub struct Kept {
+pub struct LineSoFar {
     pub bytes: ArrayVec<u8, LONGEST>,
     pub is_long: bool,
     ghost no_newline: { HasNoNewline bytes.items },
@@ -19,12 +19,12 @@ pub struct Kept {
     ghost full: { is_long ≡ true → length bytes.items ≡ 4096 },
 }
 
-impl Kept {
+impl LineSoFar {
     pub fn new() -> Self
         ensures bytes { result.bytes.items ≡ [] }
         ensures short { result.is_long ≡ false }
     {
-        Kept {
+        LineSoFar {
             bytes: ArrayVec::new(),
             is_long: false,
         }
