@@ -15,10 +15,10 @@ use Rattle.evaluation.specs.Operations.{greater, greatest, least, lesser, many_v
 use Rattle.evaluation.specs.Over.{many_of}
 use Rattle.operations.specs.declared.gathered.Gathered.{Gathered}
 use Rattle.operations.specs.declared.gathered.Gathered.TheVariants.{Added, Subtracted, Greatest, Least}
-use Rattle.operations.specs.declared.kept.Kept.TheVariants.{All, Any, Values}
+use Rattle.operations.specs.declared.accumulator.Accumulator.TheVariants.{All, Any, Values}
 use Rattle.operations.specs.declared.sum.Summed.{Summed}
 use Rattle.operations.specs.declared.sum.Summed.TheVariants.{Nothing}
-use Rattle.operations.specs.ManyFolds.{gathered_end, gathered_next, kept_end, kept_next, kept_start, many_from, many_start}
+use Rattle.operations.specs.ManyFolds.{accumulator_end, accumulator_next, accumulator_start, gathered_end, gathered_next, many_from, many_start}
 use Rattle.operations.specs.Sums.{added, difference_with, subtracted, sum_with}
 use Rattle.operations.proofs.SumLaws.{difference_with-start, sum_with-start}
 
@@ -62,18 +62,18 @@ complete_leaves_verdict verdict.Incomplete v = refl
 complete_leaves_verdict (verdict.Fault fault) v = refl
 
 many_from-all : (count : ℕ) (so_far : Res) (rs : List Res) → many_from (record { count = count; kept = All so_far }) rs ≡ junction_on false so_far rs
-unfolding kept_next kept_end
+unfolding accumulator_next accumulator_end
 many_from-all count so_far [] = refl
 many_from-all count so_far (r ∷ rs) = many_from-all (count + 1) (junction_next false so_far r) rs
 
 many_from-any : (count : ℕ) (so_far : Res) (rs : List Res) → many_from (record { count = count; kept = Any so_far }) rs ≡ junction_on true so_far rs
-unfolding kept_next kept_end
+unfolding accumulator_next accumulator_end
 many_from-any count so_far [] = refl
 many_from-any count so_far (r ∷ rs) = many_from-any (count + 1) (junction_next true so_far r) rs
 
 many_from-values : (count : ℕ) (so_far : Verdict) (gathered : Gathered) (rs : List Res)
     → many_from (record { count = count; kept = Values so_far gathered }) rs ≡ after_verdict (verdict_on so_far rs) (gathered_from gathered (values_of rs))
-unfolding kept_next kept_end
+unfolding accumulator_next accumulator_end
 many_from-values count so_far gathered [] = refl
 many_from-values count so_far gathered (Complete v ∷ rs) = many_from-values (count + 1) _ (gathered_next gathered v) rs
 many_from-values count so_far gathered (Placeholder v ∷ rs) = many_from-values (count + 1) _ (gathered_next gathered v) rs
@@ -85,7 +85,7 @@ strict-start : (gathered : Gathered) (rs : List Res) (done : Result Value ValueF
 strict-start gathered rs done e = many_from-values 0 (verdict_of []) gathered rs ∙ ap₂ after_verdict (verdict_on-start rs) e
 
 pub many_from-start : (op : ManyOp) (rs : List Res) → many_from (many_start op) rs ≡ many_of op rs
-unfolding kept_start
+unfolding accumulator_start
 many_from-start many_op.All rs = many_from-all 0 _ rs ∙ junction_on-start false rs
 many_from-start many_op.Any rs = many_from-any 0 _ rs ∙ junction_on-start true rs
 many_from-start many_op.Add rs = strict-start (Added Nothing) rs _ (gathered_from-added Nothing (values_of rs) ∙ sum_with-start (values_of rs))

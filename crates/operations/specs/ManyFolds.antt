@@ -13,8 +13,8 @@ use Rattle.evaluation.specs.Operations.{greater, lesser}
 use Rattle.operations.specs.Sums.{added, calls_in, difference_of_seen, subtracted, sum_of_seen}
 use Rattle.operations.specs.declared.gathered.Gathered.{Gathered}
 use Rattle.operations.specs.declared.gathered.Gathered.TheVariants.{Added, Subtracted, Greatest, Least}
-use Rattle.operations.specs.declared.kept.Kept.{Kept}
-use Rattle.operations.specs.declared.kept.Kept.TheVariants.{All, Any, Values}
+use Rattle.operations.specs.declared.accumulator.Accumulator.{Accumulator}
+use Rattle.operations.specs.declared.accumulator.Accumulator.TheVariants.{All, Any, Values}
 use Rattle.operations.specs.declared.sum.Summed.TheVariants.{Nothing}
 
 -- ---- the values seen
@@ -57,41 +57,41 @@ gathered_end (Least v) = Ok (extreme_end v)
 
 -- ---- the operands seen
 
-abbrev pub calls_kept : Kept → ℕ
-calls_kept (Values verdict gathered) = calls_of gathered
-calls_kept _ = 0
+abbrev pub calls_accumulated : Accumulator → ℕ
+calls_accumulated (Values verdict gathered) = calls_of gathered
+calls_accumulated _ = 0
 
-unfoldable pub kept_start : ManyOp → Kept
-kept_start many_op.All = All (all_of [])
-kept_start many_op.Any = Any (any_of [])
-kept_start many_op.Add = Values (verdict_of []) (Added Nothing)
-kept_start many_op.Subtract = Values (verdict_of []) (Subtracted Nothing)
-kept_start many_op.GreaterOf = Values (verdict_of []) (Greatest None)
-kept_start many_op.LesserOf = Values (verdict_of []) (Least None)
+unfoldable pub accumulator_start : ManyOp → Accumulator
+accumulator_start many_op.All = All (all_of [])
+accumulator_start many_op.Any = Any (any_of [])
+accumulator_start many_op.Add = Values (verdict_of []) (Added Nothing)
+accumulator_start many_op.Subtract = Values (verdict_of []) (Subtracted Nothing)
+accumulator_start many_op.GreaterOf = Values (verdict_of []) (Greatest None)
+accumulator_start many_op.LesserOf = Values (verdict_of []) (Least None)
 
-unfoldable pub kept_next : Kept → Res → Kept
-kept_next (All so_far) r = All (junction_next false so_far r)
-kept_next (Any so_far) r = Any (junction_next true so_far r)
-kept_next (Values verdict gathered) r = Values (verdict_next verdict r) (gathered_after gathered r)
+unfoldable pub accumulator_next : Accumulator → Res → Accumulator
+accumulator_next (All so_far) r = All (junction_next false so_far r)
+accumulator_next (Any so_far) r = Any (junction_next true so_far r)
+accumulator_next (Values verdict gathered) r = Values (verdict_next verdict r) (gathered_after gathered r)
 
-unfoldable pub kept_end : Kept → Res
-kept_end (All so_far) = so_far
-kept_end (Any so_far) = so_far
-kept_end (Values verdict gathered) = after_verdict verdict (gathered_end gathered)
+unfoldable pub accumulator_end : Accumulator → Res
+accumulator_end (All so_far) = so_far
+accumulator_end (Any so_far) = so_far
+accumulator_end (Values verdict gathered) = after_verdict verdict (gathered_end gathered)
 
 -- how many operands were seen, and what is kept of them
 pub record ManySeen : Type 0 where
   pub count : ℕ
-  pub kept : Kept
+  pub kept : Accumulator
 
 abbrev pub many_start : ManyOp → ManySeen
-many_start op = record { count = 0; kept = kept_start op }
+many_start op = record { count = 0; kept = accumulator_start op }
 
 abbrev pub saw : ManySeen → Res → ManySeen
-saw seen r = record { count = seen.count + 1; kept = kept_next seen.kept r }
+saw seen r = record { count = seen.count + 1; kept = accumulator_next seen.kept r }
 
 abbrev pub many_end : ManySeen → Res
-many_end seen = kept_end seen.kept
+many_end seen = accumulator_end seen.kept
 
 -- the result, with the operands that are left
 abbrev pub many_from : ManySeen → List Res → Res

@@ -4,7 +4,7 @@ use Rattle.fact_values.specs.Totals.{Sum}
 use Rattle.three_state.specs.Results.{verdict_of}
 use Rattle.operations.specs.ManyFolds.{ManySeen}
 use Rattle.operations.specs.declared.gathered.Gathered.TheVariants.{Added}
-use Rattle.operations.specs.declared.kept.Kept.TheVariants.{Values}
+use Rattle.operations.specs.declared.accumulator.Accumulator.TheVariants.{Values}
 use Rattle.operations.specs.declared.sum.Summed.{Summed}
 use Rattle.operations.specs.declared.sum.Summed.TheVariants.{Dollars, Ints}
 

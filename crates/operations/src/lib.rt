@@ -1,11 +1,11 @@
 //! What each node does with the results of its operands. Only a copy of a borrowed result, or of a table's text, takes memory.
 #![tactic(auto)]
 
+mod accumulator;
 mod cases;
 mod fields;
 mod filter;
 mod gathered;
-mod kept;
 pub mod laws;
 mod many_operands;
 mod number_run;

@@ -10,7 +10,7 @@ ghost use Rattle.three_state.specs.declared.res.Res.{Res};
 ghost use Rattle.three_state.specs.declared.res.Res.TheVariants.{Complete};
 
 use crate::gathered::Gathered;
-use crate::kept::Kept;
+use crate::accumulator::Accumulator;
 use crate::sum::summed_as;
 use dict_source::ManyOp;
 use fact_values::{NoMemory, Total, Value};
@@ -23,29 +23,29 @@ use three_state::{Res, Strict};
 #[derive(Drop)]
 pub struct ManyFold {
     count: u64,
-    kept: Kept,
+    kept: Accumulator,
 }
 
 impl Model for ManyFold {
     ghost use Rattle.std.specs.Prelude.{◌≤◌};
-    ghost use Rattle.operations.specs.ManyFolds.{ManySeen, calls_kept};
+    ghost use Rattle.operations.specs.ManyFolds.{ManySeen, calls_accumulated};
 
     ghost Value = { ManySeen };
 
     ghost view = { λ f. record { count = f.count; kept = f.kept } };
 
-    ghost invariant = { λ f. calls_kept f.kept ≤ f.count };
+    ghost invariant = { λ f. calls_accumulated f.kept ≤ f.count };
 }
 
 impl ManyFold {
     /// No operand was seen.
-    #[tactic(auto, unfolding(crate::specs::ManyFolds::kept_start))]
+    #[tactic(auto, unfolding(crate::specs::ManyFolds::accumulator_start))]
     pub fn new(op: ManyOp) -> ManyFold
         ensures { result ≡ many_start op }
     {
         ManyFold {
             count: 0,
-            kept: Kept::new(op),
+            kept: Accumulator::new(op),
         }
     }
 
@@ -56,7 +56,7 @@ impl ManyFold {
     {
         ManyFold {
             count,
-            kept: Kept::Values(
+            kept: Accumulator::Values(
                 Strict::new(),
                 Gathered::Added(summed_as(are_amounts, total)),
             ),
@@ -64,7 +64,7 @@ impl ManyFold {
     }
 
     /// Sees the next operand.
-    #[tactic(auto, unfolding(crate::specs::ManyFolds::kept_next))]
+    #[tactic(auto, unfolding(crate::specs::ManyFolds::accumulator_next))]
     pub fn see(&mut self, operand: Res)
         requires few { self.old.count + 1 < 2 ^ 64 }
         ensures next { self.new ≡ saw self.old operand }
@@ -77,7 +77,7 @@ impl ManyFold {
 
     /// Sees the next operand, which stays where it is. It wants memory where a text or a list of members may be kept.
     #[inline(always)]
-    #[tactic(auto, unfolding(crate::specs::ManyFolds::kept_next))]
+    #[tactic(auto, unfolding(crate::specs::ManyFolds::accumulator_next))]
     pub fn see_lent(&mut self, alloc: Global, operand: &Res) -> Result<(), NoMemory>
         requires few { self.old.count + 1 < 2 ^ 64 }
         ensures next { OnOk result (self.new ≡ saw self.old operand.now) }
@@ -93,7 +93,7 @@ impl ManyFold {
 
     /// Sees the next operand, a complete value that stays where it is. It wants memory where a text or a list of members is copied.
     #[inline(always)]
-    #[tactic(auto, unfolding(crate::specs::ManyFolds::kept_next))]
+    #[tactic(auto, unfolding(crate::specs::ManyFolds::accumulator_next))]
     pub fn see_value(&mut self, alloc: Global, value: &Value) -> Result<(), NoMemory>
         requires few { self.old.count + 1 < 2 ^ 64 }
         ensures next { OnOk result (self.new ≡ saw self.old (Complete value.now)) }

@@ -34,7 +34,7 @@ impl Model for NumberRun {
 
 impl NumberRun {
     /// The first operand was seen, if it is a complete number.
-    #[tactic(auto, unfolding(crate::specs::ManyFolds::kept_start, crate::specs::ManyFolds::kept_next))]
+    #[tactic(auto, unfolding(crate::specs::ManyFolds::accumulator_start, crate::specs::ManyFolds::accumulator_next))]
     pub fn first(operand: &Res) -> Option<NumberRun>
         ensures { IfSome result (λ run. run ≡ saw (many_start many_op.Add) operand.now) }
     {
@@ -55,7 +55,7 @@ impl NumberRun {
 
     /// Sees the next operand, if it is a complete number of the same type, and says whether it is.
     #[inline(always)]
-    #[tactic(auto, unfolding(crate::specs::ManyFolds::kept_next))]
+    #[tactic(auto, unfolding(crate::specs::ManyFolds::accumulator_next))]
     pub fn see(&mut self, operand: &Res) -> bool
         requires few { self.old.count + 1 < 2 ^ 64 }
         ensures seen { result ≡ true → self.new ≡ saw self.old operand.now }
@@ -77,7 +77,7 @@ impl NumberRun {
     }
 
     /// The result of an Add that has no other operands.
-    #[tactic(auto, unfolding(crate::specs::ManyFolds::kept_end))]
+    #[tactic(auto, unfolding(crate::specs::ManyFolds::accumulator_end))]
     pub fn end(self) -> Res
         ensures { result ≡ many_end self }
     {

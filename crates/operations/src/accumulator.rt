@@ -4,7 +4,7 @@ ghost use Rattle.three_state.specs.Folds.{verdict_next};
 ghost use Rattle.fact_values.specs.Values.{HoldsMemory};
 ghost use Rattle.three_state.specs.Results.{ValueHoldsMemory};
 ghost use Rattle.three_state.specs.declared.res.Res.TheVariants.{Complete};
-ghost use Rattle.operations.specs.ManyFolds.{calls_kept, calls_of, gathered_after, kept_end, kept_next, kept_start};
+ghost use Rattle.operations.specs.ManyFolds.{accumulator_end, accumulator_next, accumulator_start, calls_accumulated, calls_of, gathered_after};
 
 use crate::gathered::Gathered;
 use crate::sum::Summed;
@@ -16,43 +16,45 @@ use three_state::{AllFold, AnyFold, Res, Strict};
 
 /// What a node with many operands keeps of those seen.
 #[derive(Drop)]
-pub enum Kept {
+pub enum Accumulator {
     All(AllFold),
     Any(AnyFold),
     /// The verdict on them, and what is kept of their values.
     Values(Strict, Gathered),
 }
 
-impl Kept {
-    #[tactic(auto, unfolding(crate::specs::ManyFolds::kept_start))]
-    pub fn new(op: ManyOp) -> Kept
-        ensures { result ≡ kept_start op }
+impl Accumulator {
+    #[tactic(auto, unfolding(crate::specs::ManyFolds::accumulator_start))]
+    pub fn new(op: ManyOp) -> Accumulator
+        ensures { result ≡ accumulator_start op }
     {
         match op {
-            ManyOp::All => Kept::All(AllFold::new()),
-            ManyOp::Any => Kept::Any(AnyFold::new()),
-            ManyOp::Add => Kept::Values(Strict::new(), Gathered::Added(Summed::Nothing)),
-            ManyOp::Subtract => Kept::Values(Strict::new(), Gathered::Subtracted(Summed::Nothing)),
-            ManyOp::GreaterOf => Kept::Values(Strict::new(), Gathered::Greatest(None)),
-            ManyOp::LesserOf => Kept::Values(Strict::new(), Gathered::Least(None)),
+            ManyOp::All => Accumulator::All(AllFold::new()),
+            ManyOp::Any => Accumulator::Any(AnyFold::new()),
+            ManyOp::Add => Accumulator::Values(Strict::new(), Gathered::Added(Summed::Nothing)),
+            ManyOp::Subtract => {
+                Accumulator::Values(Strict::new(), Gathered::Subtracted(Summed::Nothing))
+            }
+            ManyOp::GreaterOf => Accumulator::Values(Strict::new(), Gathered::Greatest(None)),
+            ManyOp::LesserOf => Accumulator::Values(Strict::new(), Gathered::Least(None)),
         }
     }
 
-    #[tactic(auto, unfolding(crate::specs::ManyFolds::kept_next))]
+    #[tactic(auto, unfolding(crate::specs::ManyFolds::accumulator_next))]
     pub fn see(&mut self, operand: Res)
-        requires few { calls_kept self.old < 2 ^ 64 }
-        ensures { self.new ≡ kept_next self.old operand }
+        requires few { calls_accumulated self.old < 2 ^ 64 }
+        ensures { self.new ≡ accumulator_next self.old operand }
     {
         match self {
-            Kept::All(fold) => {
+            Accumulator::All(fold) => {
                 fold.see(&operand);
                 drop(operand);
             }
-            Kept::Any(fold) => {
+            Accumulator::Any(fold) => {
                 fold.see(&operand);
                 drop(operand);
             }
-            Kept::Values(verdict, gathered) => {
+            Accumulator::Values(verdict, gathered) => {
                 verdict.see(&operand);
                 gather(gathered, operand);
             }
@@ -60,55 +62,57 @@ impl Kept {
     }
 
     #[inline(always)]
-    #[tactic(auto, unfolding(crate::specs::ManyFolds::kept_next))]
+    #[tactic(auto, unfolding(crate::specs::ManyFolds::accumulator_next))]
     pub fn see_lent(&mut self, alloc: Global, operand: &Res) -> Result<(), NoMemory>
-        requires few { calls_kept self.old < 2 ^ 64 }
-        ensures ok { OnOk result (self.new ≡ kept_next self.old operand.now) }
+        requires few { calls_accumulated self.old < 2 ^ 64 }
+        ensures ok { OnOk result (self.new ≡ accumulator_next self.old operand.now) }
         ensures unchanged { OnErr result (self.new ≡ self.old) }
         ensures memory { IsErr result → ValueHoldsMemory operand.now }
     {
         match self {
-            Kept::All(fold) => {
+            Accumulator::All(fold) => {
                 fold.see(operand);
                 Ok(())
             }
-            Kept::Any(fold) => {
+            Accumulator::Any(fold) => {
                 fold.see(operand);
                 Ok(())
             }
-            Kept::Values(verdict, gathered) => see_strict(alloc, verdict, gathered, operand),
+            Accumulator::Values(verdict, gathered) => see_strict(alloc, verdict, gathered, operand),
         }
     }
 
     #[inline(always)]
-    #[tactic(auto, unfolding(crate::specs::ManyFolds::kept_next), using(crate::proofs::ManyLaws::complete_leaves_verdict))]
+    #[tactic(auto, unfolding(crate::specs::ManyFolds::accumulator_next), using(crate::proofs::ManyLaws::complete_leaves_verdict))]
     pub fn see_value(&mut self, alloc: Global, value: &Value) -> Result<(), NoMemory>
-        requires few { calls_kept self.old < 2 ^ 64 }
-        ensures ok { OnOk result (self.new ≡ kept_next self.old (Complete value.now)) }
+        requires few { calls_accumulated self.old < 2 ^ 64 }
+        ensures ok { OnOk result (self.new ≡ accumulator_next self.old (Complete value.now)) }
         ensures unchanged { OnErr result (self.new ≡ self.old) }
         ensures memory { IsErr result → HoldsMemory value.now }
     {
         match self {
-            Kept::All(fold) => {
+            Accumulator::All(fold) => {
                 fold.see(&Res::Complete(value.copy(alloc)?));
                 Ok(())
             }
-            Kept::Any(fold) => {
+            Accumulator::Any(fold) => {
                 fold.see(&Res::Complete(value.copy(alloc)?));
                 Ok(())
             }
-            Kept::Values(_, gathered) => gathered.see_lent(alloc, value),
+            Accumulator::Values(_, gathered) => gathered.see_lent(alloc, value),
         }
     }
 
-    #[tactic(auto, unfolding(crate::specs::ManyFolds::kept_end))]
+    #[tactic(auto, unfolding(crate::specs::ManyFolds::accumulator_end))]
     pub fn end(self) -> Res
-        ensures { result ≡ kept_end self }
+        ensures { result ≡ accumulator_end self }
     {
         match self {
-            Kept::All(fold) => fold.end(),
-            Kept::Any(fold) => fold.end(),
-            Kept::Values(verdict, gathered) => after_verdict(verdict.verdict(), gathered.end()),
+            Accumulator::All(fold) => fold.end(),
+            Accumulator::Any(fold) => fold.end(),
+            Accumulator::Values(verdict, gathered) => {
+                after_verdict(verdict.verdict(), gathered.end())
+            }
         }
     }
 }
