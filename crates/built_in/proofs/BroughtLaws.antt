@@ -3,7 +3,7 @@ use Rattle.std.proofs.Common.{◌≡◌, false, [], Result, Ok, Err, refl, ap, �
 use Rattle.std.specs.Prelude.{IfOk}
 use Rattle.fact_values.specs.declared.memory.NoMemory.{NoMemory}
 use Rattle.dict_meaning.specs.Accepted.{Accepted}
-use Rattle.dictionary.specs.Kept.{Kept, accepted}
+use Rattle.dictionary.specs.AcceptedParts.{AcceptedParts, accepted}
 use Rattle.dictionary.specs.Checks.{has_check}
 use Rattle.tax_2023.specs.Facts.{dictionary}
 use Rattle.tax_2023.specs.Figures.{figures}
@@ -14,12 +14,12 @@ use Rattle.tax_income.specs.Laws.{IsOfIncome}
 use Rattle.tax_income.specs.Years.{IncomeYear}
 
 -- it is accepted as this
-pub brings : (IsThis : Accepted → Type 0) (r : Result Kept NoMemory) → IfOk r (λ d. IsThis (accepted d)) → IfOk r (λ d. d.checks ≡ []) → IfOk r (λ d. IsThis (accepted d) × (d.checks ≡ []))
+pub brings : (IsThis : Accepted → Type 0) (r : Result AcceptedParts NoMemory) → IfOk r (λ d. IsThis (accepted d)) → IfOk r (λ d. d.checks ≡ []) → IfOk r (λ d. IsThis (accepted d) × (d.checks ≡ []))
 brings IsThis (Ok d) h k = (h, k)
 brings IsThis (Err fault) h k = tt
 
 -- and names no check
-pub brings_no_check : (IsThis : Accepted → Type 0) → ((d : Accepted) → IsThis d → has_check d.tree ≡ false) → (r : Result Kept NoMemory) → IfOk r (λ d. IsThis (accepted d)) → IfOk r (λ d. has_check (accepted d).tree ≡ false)
+pub brings_no_check : (IsThis : Accepted → Type 0) → ((d : Accepted) → IsThis d → has_check d.tree ≡ false) → (r : Result AcceptedParts NoMemory) → IfOk r (λ d. IsThis (accepted d)) → IfOk r (λ d. has_check (accepted d).tree ≡ false)
 brings_no_check IsThis none (Ok d) h = none (accepted d) h
 brings_no_check IsThis none (Err fault) h = tt
 

@@ -1,7 +1,7 @@
 // The dictionaries, by their words.
 ghost use Rattle.std.specs.Prelude.{◌≡◌, [], false, IfOk, option_copied};
 ghost use Rattle.fact_paths.specs.Cuts.{after};
-ghost use Rattle.dictionary.specs.Kept.{accepted};
+ghost use Rattle.dictionary.specs.AcceptedParts.{accepted};
 ghost use Rattle.dictionary.specs.Checks.{has_check};
 ghost use Rattle.built_in.specs.BuiltIns.{IsBrought, built_in_of, program_income_of};
 

@@ -1,7 +1,7 @@
 // The readers of all facts.
 ghost use Rattle.std.specs.Prelude.{◌≡◌, ◌≤◌, ℕ, List, [], ◌-◌, All, fold, if◌then◌else◌, IfOk, OnOk, length, vec_len};
 ghost use Rattle.dict_source.specs.Dictionary.{dictionary_view};
-ghost use Rattle.dictionary.specs.Kept.{accepted};
+ghost use Rattle.dictionary.specs.AcceptedParts.{accepted};
 ghost use Rattle.dep_index.specs.Noting.{with_facts, with_mention, with_mentions};
 ghost use Rattle.dep_index.specs.Readers.{IsIndex, IsIndexed, readers_of};
 

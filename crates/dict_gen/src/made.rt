@@ -1,7 +1,7 @@
 // The load.
 ghost use Rattle.std.specs.Prelude.{◌≡◌, ◌≤◌, [], IfOk};
 ghost use Rattle.dict_meaning.specs.Accepted.{IsAccepted};
-ghost use Rattle.dictionary.specs.Kept.{accepted};
+ghost use Rattle.dictionary.specs.AcceptedParts.{accepted};
 ghost use Rattle.dict_gen.specs.Chain.{chain};
 ghost use Rattle.dict_gen.specs.Script.{script as load};
 

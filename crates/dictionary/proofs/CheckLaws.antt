@@ -4,7 +4,7 @@ use Rattle.std.specs.Prelude.{◌==◌, ◌⊎◌, ◌↔◌, IsTrue, bytes_eq}
 use Rattle.std.proofs.lemmas.Bool.{and_from, and_parts, and_right, both_ways, eq-eqb, eqb-true}
 use Rattle.std.proofs.lemmas.Slice.Eq.{bytes_eq-Decides}
 use Rattle.dict_source.specs.Dictionary.{Dictionary as Tree}
-use Rattle.dictionary.specs.Kept.{Named}
+use Rattle.dictionary.specs.AcceptedParts.{Named}
 use Rattle.dictionary.specs.Checks.{has_check, same_checks, same_named}
 
 pub other_length : (a b : List Named) → length a ≢ length b → same_checks a b ≡ false

@@ -10,7 +10,7 @@ use Rattle.dict_source.specs.Targets.{find_global, member_collection}
 use Rattle.dict_order.specs.Ranks.{rank_of}
 use Rattle.dict_order.proofs.DictionaryLaws.{few_facts, length_mention_graph}
 use Rattle.dict_meaning.specs.Accepted.{Accepted, IsAccepted}
-use Rattle.dictionary.specs.Kept.{Kept, Named, accepted, names_of}
+use Rattle.dictionary.specs.AcceptedParts.{AcceptedParts, Named, accepted, names_of}
 use Rattle.dictionary.specs.Faults.{IsFault, IsFaultOf, Refuses}
 use Rattle.dict_meaning.specs.Homes.{fact_home, home, homes}
 use Rattle.dict_meaning.specs.Steady.{steady_by_rank}
@@ -65,10 +65,10 @@ kept_with name code cs checks d same is = subst (λ (names : List (List ℕ)). I
 
 -- ---- the exits of acceptance
 
-pub ok_accepted : (names : List (List ℕ)) (k : Kept) (r : Result Kept DictFault) → IsAccepted names (accepted k) → IfOk r (λ d. d ≡ k) → IfOk r (λ d. IsAccepted names (accepted d))
-ok_accepted names k (Ok d) is same = subst (λ (x : Kept). IsAccepted names (accepted x)) (sym same) is
+pub ok_accepted : (names : List (List ℕ)) (k : AcceptedParts) (r : Result AcceptedParts DictFault) → IsAccepted names (accepted k) → IfOk r (λ d. d ≡ k) → IfOk r (λ d. IsAccepted names (accepted d))
+ok_accepted names k (Ok d) is same = subst (λ (x : AcceptedParts). IsAccepted names (accepted x)) (sym same) is
 ok_accepted names k (Err e) is same = tt
 
-pub err_refused : (bytes : List ℕ) (names : List (List ℕ)) (d : Tree) (r : Result Kept DictFault) → BytesGive bytes (Ok d) → IfErr r (Refuses (IsFaultOf d names)) → IfErr r (Refuses (IsFault bytes names))
+pub err_refused : (bytes : List ℕ) (names : List (List ℕ)) (d : Tree) (r : Result AcceptedParts DictFault) → BytesGive bytes (Ok d) → IfErr r (Refuses (IsFaultOf d names)) → IfErr r (Refuses (IsFault bytes names))
 err_refused bytes names d (Ok k) given h = tt
 err_refused bytes names d (Err e) given h = refused_read bytes names d e given h

@@ -3,7 +3,7 @@ use Rattle.std.specs.Prelude.{◌==◌, ◌&&◌, Bool, true, false, List, [], �
 use Rattle.std.specs.List.{list_any}
 use Rattle.dict_source.specs.Dictionary.{Dictionary as Tree}
 use Rattle.dict_source.specs.Facts.{Bound, Fact, least, greatest, max_length, check}
-use Rattle.dictionary.specs.Kept.{Named}
+use Rattle.dictionary.specs.AcceptedParts.{Named}
 
 abbrev pub is_check : Bound → Bool
 is_check (least text) = false

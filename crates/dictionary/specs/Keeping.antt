@@ -3,7 +3,7 @@ use Rattle.std.specs.Prelude.{◌≡◌, ℕ, List, sum_by}
 use Rattle.dict_source.specs.Dictionary.{Dictionary as Tree}
 use Rattle.dict_source.specs.Facts.{fact_size}
 use Rattle.dict_meaning.specs.Accepted.{IsAccepted}
-use Rattle.dictionary.specs.Kept.{Kept, accepted, names_of}
+use Rattle.dictionary.specs.AcceptedParts.{AcceptedParts, accepted, names_of}
 use Rattle.dictionary.specs.ByRank.{AreByRank}
 use Rattle.dictionary.specs.Checks.{has_check}
 use Rattle.dict_meaning.specs.Homes.{homes}
@@ -23,6 +23,6 @@ pub record IsPrecomputed (d : Tree) (ranks : List ℕ) (w : Precomputed) : Type 
   pub tells_steady : TellsSteady d ranks w.steady.items
 
 -- it is accepted, and what was computed of it is right
-pub record IsKept (k : Kept) (w : Precomputed) : Type 0 where
+pub record IsKept (k : AcceptedParts) (w : Precomputed) : Type 0 where
   pub is_accepted : IsAccepted (names_of k.checks) (accepted k)
   pub precomputed_of : IsPrecomputed (accepted k).tree k.ranks w

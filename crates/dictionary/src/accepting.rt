@@ -6,7 +6,7 @@ ghost use Rattle.dict_types.specs.DictFaults.{IsTypedDictionary};
 ghost use Rattle.dict_order.specs.MentionGraph.{mention_graph};
 ghost use Rattle.dict_order.specs.Ranks.{AreRanks};
 ghost use Rattle.dict_meaning.specs.Accepted.{IsAccepted};
-ghost use Rattle.dictionary.specs.Kept.{accepted};
+ghost use Rattle.dictionary.specs.AcceptedParts.{accepted};
 ghost use Rattle.dictionary.specs.Faults.{AreAccepted, IsCycleOf, IsFault, IsFaultOf, Refuses};
 
 use crate::dictionary::Dictionary;

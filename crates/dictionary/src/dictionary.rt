@@ -5,12 +5,12 @@ ghost use Rattle.dict_source.specs.Dictionary.{dictionary_view};
 ghost use Rattle.dict_source.specs.Finding.{IsNumber};
 ghost use Rattle.dict_order.specs.Ranks.{rank_of};
 ghost use Rattle.dict_meaning.specs.Accepted.{IsAccepted};
-ghost use Rattle.dictionary.specs.Kept.{accepted, names_of};
+ghost use Rattle.dictionary.specs.AcceptedParts.{accepted, names_of};
 ghost use Rattle.dictionary.specs.ByRank.{AreByRank};
 ghost use Rattle.dictionary.specs.Checks.{has_check};
 ghost use Rattle.dict_meaning.specs.Homes.{home};
 ghost use Rattle.dictionary.specs.Keeping.{IsKept, node_count};
-ghost use Rattle.dictionary.specs.KeptView.{kept_view};
+ghost use Rattle.dictionary.specs.PartsView.{parts_view};
 ghost use Rattle.dict_meaning.specs.Steady.{IsSteady, steady};
 ghost use Rattle.dictionary.specs.declared.fault.DictFault.TheVariants.{NoMemory as WantsMemory};
 
@@ -44,17 +44,17 @@ pub struct Dictionary {
 impl Model for Dictionary {
     ghost use Rattle.std.specs.Coded.{codes};
     ghost use Rattle.dict_source.specs.contracts.fact_source.FactSource as fact;
-    ghost use Rattle.dictionary.specs.Kept.{Kept};
-    ghost use Rattle.dictionary.specs.KeptView.{kept_view};
+    ghost use Rattle.dictionary.specs.AcceptedParts.{AcceptedParts};
+    ghost use Rattle.dictionary.specs.PartsView.{parts_view};
     ghost use Rattle.dictionary.specs.Keeping.{IsKept};
 
-    ghost Value = { Kept };
+    ghost Value = { AcceptedParts };
 
     ghost coded = { Prim.hlevel (codes, fact.the_row.coded) };
 
-    ghost view = { λ d. kept_view d.contents.value };
+    ghost view = { λ d. parts_view d.contents.value };
 
-    ghost invariant = { λ d. IsKept (kept_view d.contents.value) d.contents.value.precomputed };
+    ghost invariant = { λ d. IsKept (parts_view d.contents.value) d.contents.value.precomputed };
 }
 
 impl Dictionary {
@@ -108,8 +108,8 @@ impl Dictionary {
 
     // The dictionary that says this.
     fn with(alloc: Global, contents: Contents) -> Result<Dictionary, DictFault>
-        requires { IsKept (kept_view contents) contents.precomputed }
-        ensures kept { IfOk result (λ d. d ≡ kept_view contents) }
+        requires { IsKept (parts_view contents) contents.precomputed }
+        ensures kept { IfOk result (λ d. d ≡ parts_view contents) }
         ensures memory { IfErr result (λ fault. fault ≡ WantsMemory) }
     {
         match Arc::new(alloc, contents) {

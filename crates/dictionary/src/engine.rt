@@ -5,7 +5,7 @@ ghost use Rattle.answers.specs.Answered.{Answered, start};
 ghost use Rattle.answers.specs.Change.{Fits, applied};
 ghost use Rattle.answers.specs.Meaning.{answered, change};
 ghost use Rattle.dict_meaning.specs.Accepted.{Accepted};
-ghost use Rattle.dictionary.specs.Kept.{accepted};
+ghost use Rattle.dictionary.specs.AcceptedParts.{accepted};
 ghost use Rattle.dictionary.specs.Engines.{AreFresh, AreMarkedBy, AreSameMarks, Marks};
 ghost use Rattle.dict_meaning.specs.Fits.{AnswersFit};
 ghost use Rattle.dict_meaning.specs.Plain.{plain};

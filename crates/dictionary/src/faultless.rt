@@ -2,7 +2,7 @@
 ghost use Rattle.std.specs.Prelude.{◌≡◌, [], IfOk};
 ghost use Rattle.dict_source.specs.Dictionary.{dictionary_view};
 ghost use Rattle.dict_meaning.specs.Accepted.{IsAccepted};
-ghost use Rattle.dictionary.specs.Kept.{accepted};
+ghost use Rattle.dictionary.specs.AcceptedParts.{accepted};
 ghost use Rattle.dictionary.specs.Faults.{HasNoFault};
 ghost use Rattle.dictionary.specs.declared.fault.DictFault.TheVariants as faults;
 

@@ -20,7 +20,7 @@ pub struct KeptCheck {
 }
 
 impl Model for KeptCheck {
-    ghost use Rattle.dictionary.specs.Kept.{Named};
+    ghost use Rattle.dictionary.specs.AcceptedParts.{Named};
 
     ghost Value = { Named };
 

@@ -1,7 +1,7 @@
 // The paths of slots, printed.
 ghost use Rattle.std.specs.Prelude.{◌≡◌, ◌+◌, ◌≤◌, ◌++◌, codes, decimal, length, option_map};
 ghost use Rattle.fact_paths.specs.Paths.{slot_path_text};
-ghost use Rattle.dictionary.specs.Kept.{accepted};
+ghost use Rattle.dictionary.specs.AcceptedParts.{accepted};
 ghost use Rattle.dict_meaning.specs.SlotText.{IsSlot, slot_path_of, slot_text, text_of_path};
 
 use crate::dictionary::Dictionary;

@@ -1,7 +1,7 @@
 -- What an expression of a fact is evaluated over: the results of a session.
 use Rattle.std.specs.Prelude.{ℕ}
 use Rattle.dict_source.specs.Dictionary.{Dictionary as Tree}
-use Rattle.dictionary.specs.Kept.{accepted}
+use Rattle.dictionary.specs.AcceptedParts.{accepted}
 use Rattle.dict_meaning.specs.Plain.{plain}
 use Rattle.evaluation.specs.Results.{Results}
 use Rattle.graph_session.specs.SessionView.{SessionView}

@@ -1,7 +1,7 @@
 // The missing answers of a slot.
 ghost use Rattle.std.specs.Prelude.{◌≡◌, ◌<◌, IfOk, IsTrue};
 ghost use Rattle.fact_values.specs.declared.slot.Slot.{Slot};
-ghost use Rattle.dictionary.specs.Kept.{accepted};
+ghost use Rattle.dictionary.specs.AcceptedParts.{accepted};
 ghost use Rattle.dict_meaning.specs.Slots.{stands};
 ghost use Rattle.explain.specs.Found.{has};
 ghost use Rattle.explain.specs.Missing.{Keeps, missing as missing_of};

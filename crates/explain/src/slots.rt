@@ -5,7 +5,7 @@ ghost use Rattle.answers.specs.Meaning.{answered};
 ghost use Rattle.answers.specs.declared.edit.Side.TheVariants.{Override};
 ghost use Rattle.dict_source.specs.Facts.{fact_view, stated_view};
 ghost use Rattle.dict_source.specs.View.{view};
-ghost use Rattle.dictionary.specs.Kept.{accepted};
+ghost use Rattle.dictionary.specs.AcceptedParts.{accepted};
 ghost use Rattle.dict_meaning.specs.Plain.{body, given_value, main_result};
 ghost use Rattle.explain.specs.SessionContext.{results_of, tree_of};
 ghost use Rattle.explain.specs.Missing.{is_unanswered as lacks};

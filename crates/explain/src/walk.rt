@@ -1,7 +1,7 @@
 // All that the evaluation of a slot reads, by way of other slots too.
 ghost use Rattle.std.specs.Prelude.{◌≡◌, ◌∷◌, [], IfOk, IsTrue, OnOk};
 ghost use Rattle.fact_values.specs.declared.slot.Slot.{Slot};
-ghost use Rattle.dictionary.specs.Kept.{accepted};
+ghost use Rattle.dictionary.specs.AcceptedParts.{accepted};
 ghost use Rattle.dict_meaning.specs.Slots.{stands};
 ghost use Rattle.explain.specs.Found.{has};
 ghost use Rattle.explain.specs.SessionContext.{tree_of};

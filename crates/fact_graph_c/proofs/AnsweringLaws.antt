@@ -8,7 +8,7 @@ use Rattle.script_lines.specs.Joined.{joined}
 use Rattle.script_lines.specs.Lines.{ScriptLine, whole, long}
 use Rattle.graph_session.specs.Refusals.{SameChecks}
 use Rattle.graph_session.specs.Rules.{rules}
-use Rattle.dictionary.specs.Kept.{Kept, Named, accepted}
+use Rattle.dictionary.specs.AcceptedParts.{AcceptedParts, Named, accepted}
 use Rattle.dictionary.specs.Checks.{has_check}
 use Rattle.dict_meaning.specs.Fits.{AnswersFit}
 use Rattle.graph_session.specs.SessionView.{SessionState, SessionView, session_state}
@@ -28,7 +28,7 @@ use Rattle.fact_graph_c.proofs.RoomLaws.{fills_still}
 use Rattle.fact_graph_c.proofs.TextLaws.{put_behind, put_whole, room_stays}
 
 -- the checks of a table are those of the session's dictionary, or no fact of it has a check
-pub same_checks : (k : Kept) (table : List Named) → table ≡ standard_checks → HasStandardChecks k → SameChecks (rules k) table
+pub same_checks : (k : AcceptedParts) (table : List Named) → table ≡ standard_checks → HasStandardChecks k → SameChecks (rules k) table
 same_checks k table is same = by (has_check (accepted k).tree) refl
   where
     by : (b : Bool) → has_check (accepted k).tree ≡ b → SameChecks (rules k) table
@@ -124,7 +124,7 @@ stays_full old line session watches text relations lines rest sound roomy fit sa
     let r = rules_of old in
     let here : LineState = line_state_of old.session relations old.watches in
     let made : Step = step r (open_at here) (line_given line) in
-    let fits : AnswersFit (accepted old.session.dict).tree session.timeline.now = subst (λ (k : Kept). AnswersFit (accepted k).tree session.timeline.now) same fit in
+    let fits : AnswersFit (accepted old.session.dict).tree session.timeline.now = subst (λ (k : AcceptedParts). AnswersFit (accepted k).tree session.timeline.now) same fit in
     let whole_text : joined (replies r (open_at here) lines) ≡ text_of made = ap (λ (ls : List ScriptLine). joined (replies r (open_at here) ls)) given ∙ ap joined (append-nil made.lines) in
     let filled : text.room ≤ length text.bytes.items = text.full (omega (arith, rose.0)) in
     let roomy_still : room_for (length old.watches.pairs) ≤ text.room = subst (λ (n : ℕ). room_for (length old.watches.pairs) ≤ n) (sym (room_stays _ _ _ _ _ rest sent)) roomy in

@@ -7,7 +7,7 @@ use Rattle.script_lines.specs.Parsing.{Heard, SaysExactly, nothing, bad_line, co
 use Rattle.script_lines.proofs.CommandLaws.{heard_exactly}
 use Rattle.script_lines.specs.declared.command.Command.{Command}
 use Rattle.script_lines.specs.declared.command.Command.TheVariants as commands
-use Rattle.dictionary.specs.Kept.{Named}
+use Rattle.dictionary.specs.AcceptedParts.{Named}
 use Rattle.fact_watch.specs.Watching.{Pair}
 use Rattle.graph_session.specs.Refusals.{asks_checks}
 use Rattle.graph_session.specs.Rules.{Rules}

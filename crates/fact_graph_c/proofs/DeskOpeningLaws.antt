@@ -2,7 +2,7 @@
 use Rattle.std.proofs.Common.{Box, ◌≡◌, ℕ, false, List, [], Result, Ok, Err, IfErr, IfOk, refl, sym, ap, subst, ◌∙◌}
 use Rattle.std.specs.declared.alloc.Global.{Global}
 use Rattle.answers.specs.Answered.{Answered, start}
-use Rattle.dictionary.specs.Kept.{Kept}
+use Rattle.dictionary.specs.AcceptedParts.{AcceptedParts}
 use Rattle.dict_meaning.specs.Fits.{AnswersFit}
 use Rattle.dictionary.specs.declared.fault.DictFault.TheVariants.{NoMemory}
 use Rattle.graph_session.specs.Rules.{Rules, rules, tree_of}
@@ -26,7 +26,7 @@ BoxedDesk = Box DeskEngine Global
 abbrev pub BeginsDesk : Rules → Answered → Result BoxedDesk NotBegun → Type 0
 BeginsDesk r a result = IfOk result (λ x. IsDeskBegun r a x.value) × IfErr result (λ why. why ≡ Dictionary NoMemory)
 
-pub is_desk_begun : (k : Kept) (a : Answered) (v : DeskView) (e : DeskEngine) → v.session.dict ≡ k → StandsFor v (desk_begun (rules k) a) → e.desk ≡ v → e.over ≡ false → desk_said e ≡ [] → IsDeskBegun (rules k) a e
+pub is_desk_begun : (k : AcceptedParts) (a : Answered) (v : DeskView) (e : DeskEngine) → v.session.dict ≡ k → StandsFor v (desk_begun (rules k) a) → e.desk ≡ v → e.over ≡ false → desk_said e ≡ [] → IsDeskBegun (rules k) a e
 is_desk_begun k a v e dict stands same over text = record {
   by = ap (λ (w : DeskView). rules w.session.dict) same ∙ ap rules dict;
   stands = subst (λ (w : DeskView). StandsFor w (desk_begun (rules k) a)) (sym same) stands;

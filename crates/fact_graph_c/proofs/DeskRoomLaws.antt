@@ -39,7 +39,7 @@ use Rattle.dict_meaning.proofs.FactTypes.{typed_fact, type_of_number}
 use Rattle.dict_meaning.proofs.PrintedLaws.{value_printed}
 use Rattle.dict_meaning.proofs.SlotLaws.{fact_of_standing}
 use Rattle.dict_meaning.proofs.TypedResultLaws.{typed_results}
-use Rattle.dictionary.specs.Kept.{names_of}
+use Rattle.dictionary.specs.AcceptedParts.{names_of}
 use Rattle.graph_session.specs.Counts.{stamp_of}
 use Rattle.graph_session.specs.Naming.{slot_of}
 use Rattle.graph_session.specs.Rules.{Rules, tree_of}

@@ -2,7 +2,7 @@
 use Rattle.std.proofs.Common.{Box, ◌≡◌, ℕ, true, false, List, [], Result, Ok, Err, IfErr, IfOk, refl, sym, ap, subst}
 use Rattle.std.specs.declared.alloc.Global.{Global}
 use Rattle.answers.specs.Answered.{Answered, start}
-use Rattle.dictionary.specs.Kept.{Kept}
+use Rattle.dictionary.specs.AcceptedParts.{AcceptedParts}
 use Rattle.dict_meaning.specs.Fits.{AnswersFit}
 use Rattle.dictionary.specs.declared.fault.DictFault.TheVariants.{NoMemory}
 use Rattle.graph_session.specs.Rules.{Rules, rules, tree_of}
@@ -24,7 +24,7 @@ use Rattle.fact_graph_c.specs.declared.fault.NotBegun.TheVariants.{Dictionary}
 
 -- ---- begun
 
-pub is_begun : (k : Kept) (a : Answered) (front : List ℕ) (e : Engine) → e.session ≡ start_at k a true → e.watches ≡ nothing_watched → e.over ≡ false → said e ≡ front → IsBegun (rules k) a front e
+pub is_begun : (k : AcceptedParts) (a : Answered) (front : List ℕ) (e : Engine) → e.session ≡ start_at k a true → e.watches ≡ nothing_watched → e.over ≡ false → said e ≡ front → IsBegun (rules k) a front e
 is_begun k a front e session watches over text = record {
   by = ap (λ (s : SessionView). rules s.dict) session;
   state = λ i. record { standing = record { session_state = session_state (session i); relations = standard_relations; watched = (watches i).pairs }; over = over i };

@@ -10,7 +10,7 @@ use Rattle.script_lines.specs.declared.command.Command.TheVariants as commands
 use Rattle.fact_values.specs.declared.slot.Slot.{Slot}
 use Rattle.answers.specs.WellFormed.{WellFormed}
 use Rattle.dict_meaning.specs.Accepted.{IsAccepted}
-use Rattle.dictionary.specs.Kept.{Named, names_of}
+use Rattle.dictionary.specs.AcceptedParts.{Named, names_of}
 use Rattle.dict_meaning.specs.Fits.{AnswersFit}
 use Rattle.dict_meaning.specs.Plain.{plain}
 use Rattle.evaluation.specs.Results.{Results}

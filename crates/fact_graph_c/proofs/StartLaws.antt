@@ -1,7 +1,7 @@
 -- How sessions are begun over the dictionaries that hosts bring, and why they aren't.
 use Rattle.std.proofs.Common.{◌≡◌, ℕ, List, [], Result, Ok, Err, IfErr, IfOk, sym, subst}
 use Rattle.answers.specs.Answered.{Answered, start}
-use Rattle.dictionary.specs.Kept.{names_of}
+use Rattle.dictionary.specs.AcceptedParts.{names_of}
 use Rattle.dictionary.specs.Faults.{IsFault, Refuses}
 use Rattle.graph_session.specs.Rules.{Rules, tree_of}
 use Rattle.saved_text.specs.CarriedText.{IsCarriedText}

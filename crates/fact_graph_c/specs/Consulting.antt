@@ -1,6 +1,6 @@
 -- Which checks and relations a line asks.
 use Rattle.std.specs.Prelude.{◌≡◌, ◌⊎◌, ℕ, ◌==◌, ◌&&◌, ◌||◌, Bool, false, List, [], Option, Some, None, slice_get}
-use Rattle.dictionary.specs.Kept.{Named}
+use Rattle.dictionary.specs.AcceptedParts.{Named}
 use Rattle.fact_watch.specs.Watching.{Pair}
 use Rattle.session_lines.specs.Tables.{standard_relations}
 

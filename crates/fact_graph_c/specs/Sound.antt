@@ -1,7 +1,7 @@
 -- What is true of every engine.
 use Rattle.std.specs.Prelude.{◌≤◌, length}
 use Rattle.dict_meaning.specs.Accepted.{IsAccepted}
-use Rattle.dictionary.specs.Kept.{accepted, names_of}
+use Rattle.dictionary.specs.AcceptedParts.{accepted, names_of}
 use Rattle.dict_meaning.specs.Fits.{AnswersFit}
 use Rattle.value_text.specs.Enums.{AreLists}
 use Rattle.fact_graph_c.specs.declared.desk_engine.DeskEngine.{DeskEngine}

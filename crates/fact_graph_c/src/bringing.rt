@@ -1,7 +1,7 @@
 // Begins sessions over the dictionaries that come with the library.
 ghost use Rattle.std.specs.Prelude.{◌≡◌, [], false, IfErr, IfOk, None};
 ghost use Rattle.answers.specs.Answered.{start};
-ghost use Rattle.dictionary.specs.Kept.{accepted};
+ghost use Rattle.dictionary.specs.AcceptedParts.{accepted};
 ghost use Rattle.dictionary.specs.Checks.{has_check};
 ghost use Rattle.dictionary.specs.declared.fault.DictFault.TheVariants.{NoMemory as WantsMemory};
 ghost use Rattle.built_in.specs.BuiltIns.{IsBrought, built_in_of};

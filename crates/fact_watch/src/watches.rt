@@ -2,7 +2,7 @@
 ghost use Rattle.std.specs.Prelude.{◌≡◌, ◌↔◌, ◌<◌, ◌≤◌, ◌^◌, ◌∷◌, [], ◌++◌, Bool, false, ℕ, List, OnOk, OnErr, IfOk, IfSome, IsErrOf, IsTrue, None, length, slice_get, unwrap_or};
 ghost use Rattle.std.specs.Bool.{OnFalse, OnTrue};
 ghost use Rattle.std.specs.Option.{option_copied};
-ghost use Rattle.dictionary.specs.Kept.{accepted};
+ghost use Rattle.dictionary.specs.AcceptedParts.{accepted};
 ghost use Rattle.dict_meaning.specs.Plain.{plain};
 ghost use Rattle.evaluation.specs.Results.{Results};
 ghost use Rattle.fact_watch.specs.Says.{slot_says};

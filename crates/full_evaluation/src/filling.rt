@@ -5,7 +5,7 @@ ghost use Rattle.answers.specs.Meaning.{answered};
 ghost use Rattle.answers.specs.WellFormed.{FromOne, WellFormed};
 ghost use Rattle.dict_source.specs.Finding.{IsNumber};
 ghost use Rattle.evaluation.specs.Agreement.{IsIn};
-ghost use Rattle.dictionary.specs.Kept.{accepted};
+ghost use Rattle.dictionary.specs.AcceptedParts.{accepted};
 ghost use Rattle.dict_meaning.specs.Homes.{home};
 ghost use Rattle.dict_meaning.specs.Plain.{IsPlainBelow, rank};
 ghost use Rattle.evaluation.specs.Results.{slot};

@@ -6,7 +6,7 @@ ghost use Rattle.dict_meaning.specs.Accepted.{Accepted};
 ghost use Rattle.dict_meaning.specs.Plain.{IsPlainBelow, rank};
 ghost use Rattle.dict_meaning.specs.Slots.{slot_same, stands};
 ghost use Rattle.dict_meaning.specs.Weights.{slot_weight};
-ghost use Rattle.dictionary.specs.Kept.{accepted};
+ghost use Rattle.dictionary.specs.AcceptedParts.{accepted};
 ghost use Rattle.evaluation.specs.Results.{Results};
 ghost use Rattle.visit_counts.specs.SlotVisits.{slot_visits};
 ghost use Rattle.full_evaluation.specs.Filling.{IsFilled};

@@ -8,7 +8,7 @@ use Rattle.answers.specs.Change.{applied}
 use Rattle.session_undo.specs.Timeline.{Timeline}
 use Rattle.session_undo.specs.declared.direction.Direction.TheVariants.{Back, Forth}
 use Rattle.dict_meaning.specs.Accepted.{IsAccepted}
-use Rattle.dictionary.specs.Kept.{names_of}
+use Rattle.dictionary.specs.AcceptedParts.{names_of}
 use Rattle.dict_meaning.proofs.FitChangeLaws.{allowed_changes_fit}
 use Rattle.dict_meaning.proofs.FitStart.{start_fits}
 use Rattle.graph_session.specs.Changes.{change_of}

@@ -17,7 +17,7 @@ use Rattle.session_undo.specs.History.{first, place}
 use Rattle.session_undo.specs.UndoState.{FitInTurn, Kept as IsKeptState, UndoState, changed, forgotten, moved, moved_back, turned}
 use Rattle.session_undo.specs.Timeline.{Timeline, back_to, timeline, timeline_back, timeline_change, timeline_forgotten, timeline_forth, timeline_turned, trace}
 use Rattle.session_undo.proofs.TimelineLaws.{forgotten_timeline, kept_changed, kept_forgotten, kept_moved_back, timeline_changed, timeline_moved_back, timeline_moved_forth}
-use Rattle.dictionary.specs.Kept.{Kept, accepted, names_of}
+use Rattle.dictionary.specs.AcceptedParts.{AcceptedParts, accepted, names_of}
 use Rattle.dict_meaning.specs.Allowed.{IsAllowed}
 use Rattle.dict_meaning.specs.Fits.{AnswersFit}
 use Rattle.dict_meaning.proofs.FitChangeLaws.{allowed_changes_fit}
@@ -57,7 +57,7 @@ module _ (d : Tree) where
 
 -- ---- what a session keeps
 
-pub sound_changed : (k : Kept) (p : UndoState) (c : Change) → IsSound k p → Fits c p.now → IsAllowed (accepted k) p.now c → IsSound k (changed p c)
+pub sound_changed : (k : AcceptedParts) (p : UndoState) (c : Change) → IsSound k p → Fits c p.now → IsAllowed (accepted k) p.now c → IsSound k (changed p c)
 sound_changed k p c s fits allowed =
     let d = (accepted k).tree in
     record {
@@ -66,28 +66,29 @@ sound_changed k p c s fits allowed =
       fit = subst (AllFit d) (sym (timeline_changed p c s.kept fits)) (fit_change d (timeline p) (applied c p.now) s.fit (allowed_changes_fit (names_of k.checks) (accepted k) s.is_accepted p.now c s.fit.now fits allowed));
     }
 
-pub sound_forgotten : (k : Kept) (p : UndoState) (most : ℕ) → IsSound k p → IsSound k (forgotten most p)
+pub sound_forgotten : (k : AcceptedParts) (p : UndoState) (most : ℕ) → IsSound k p → IsSound k (forgotten most p)
 sound_forgotten k p most s = record {
   is_accepted = s.is_accepted;
   kept = kept_forgotten most p s.kept;
   fit = subst (AllFit (accepted k).tree) (sym (forgotten_timeline most p)) (fit_forgotten (accepted k).tree most (timeline p) s.fit);
 }
 
-sound_turned : (k : Kept) (p : UndoState) → IsSound k p → IsSound k (turned p)
+sound_turned : (k : AcceptedParts) (p : UndoState) → IsSound k p → IsSound k (turned p)
 sound_turned k p s = record {
   is_accepted = s.is_accepted;
   kept = record { well = s.kept.well; back = s.kept.ahead; ahead = s.kept.back };
   fit = fit_turned (accepted k).tree (timeline p) s.fit;
 }
 
-sound_back : (k : Kept) (p : UndoState) → IsSound k p → IsSound k (moved_back p)
+sound_back : (k : AcceptedParts) (p : UndoState) → IsSound k p → IsSound k (moved_back p)
 sound_back k p s = record {
   is_accepted = s.is_accepted;
   kept = kept_moved_back p s.kept;
   fit = subst (AllFit (accepted k).tree) (sym (timeline_moved_back p s.kept)) (fit_stepped (accepted k).tree Back (timeline p) s.fit);
 }
 
-sound_stepped : (k : Kept) (direction : Direction) (p : UndoState) → IsSound k p → IsSound k (stepped direction p)
+sound_stepped : (k : AcceptedParts) (direction : Direction) (p : UndoState) → IsSound k p
+    → IsSound k (stepped direction p)
 sound_stepped k Forth p s = sound_turned k (moved_back (turned p)) (sound_back k (turned p) (sound_turned k p s))
 sound_stepped k Back p s = sound_back k p s
 
@@ -125,7 +126,7 @@ pub newest_shown : (direction : Direction) (h : History) (a : Parts) (o : Option
 newest_shown Forth h a o e = e
 newest_shown Back h a o e = e
 
-module _ (k : Kept) (direction : Direction) (p q : UndoState) (s : IsSound k p) (moved_there : q ≡ stepped direction p) (some : is_end direction (timeline p) ≡ false) where
+module _ (k : AcceptedParts) (direction : Direction) (p q : UndoState) (s : IsSound k p) (moved_there : q ≡ stepped direction p) (some : is_end direction (timeline p) ≡ false) where
   pub there_sound : IsSound k q
   there_sound = subst (IsSound k) (sym moved_there) (sound_stepped k direction p s)
 

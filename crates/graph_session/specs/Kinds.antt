@@ -14,7 +14,7 @@ use Rattle.dict_types.specs.TypedParts.{TypedDictionary}
 use Rattle.dict_types.specs.declared.limit.Limit.{Limit}
 use Rattle.dict_types.specs.declared.limit.Limit.TheVariants.{Min, Max, MaxLength, Check}
 use Rattle.answers.specs.Answered.{Answered, list_of}
-use Rattle.dictionary.specs.Kept.{Named}
+use Rattle.dictionary.specs.AcceptedParts.{Named}
 use Rattle.dict_meaning.specs.Fits.{is_answered_by, is_overridden_by}
 
 -- ---- values

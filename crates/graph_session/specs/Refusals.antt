@@ -8,7 +8,7 @@ use Rattle.fact_values.specs.declared.slot.Slot.{Slot}
 use Rattle.fact_values.specs.declared.value.Value.{Value}
 use Rattle.answers.specs.Answered.{Answered, value_of}
 use Rattle.answers.specs.declared.edit.Side.TheVariants.{Answer, Override}
-use Rattle.dictionary.specs.Kept.{Named}
+use Rattle.dictionary.specs.AcceptedParts.{Named}
 use Rattle.dictionary.specs.Checks.{has_check}
 use Rattle.dict_meaning.specs.Fits.{is_answered_by, is_list, is_overridden_by}
 use Rattle.dict_meaning.specs.Slots.{is_member}

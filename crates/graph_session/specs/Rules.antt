@@ -2,13 +2,13 @@
 use Rattle.std.specs.Prelude.{List}
 use Rattle.dict_source.specs.Dictionary.{Dictionary as Tree}
 use Rattle.dict_meaning.specs.Accepted.{Accepted}
-use Rattle.dictionary.specs.Kept.{Kept, Named, accepted}
+use Rattle.dictionary.specs.AcceptedParts.{AcceptedParts, Named, accepted}
 
 pub record Rules : Type 0 where
   pub accepted : Accepted
   pub checks : List Named
 
-abbrev pub rules : Kept → Rules
+abbrev pub rules : AcceptedParts → Rules
 rules k = record { accepted = accepted k; checks = k.checks }
 
 abbrev pub tree_of : Rules → Tree

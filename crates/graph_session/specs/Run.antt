@@ -3,7 +3,7 @@ use Rattle.std.specs.Prelude.{◌≡◌, ℕ, Bool, true, false, List, [], ◌�
 use Rattle.script_lines.specs.declared.command.Command.{Command}
 use Rattle.answers.specs.Answered.{start}
 use Rattle.dict_meaning.specs.Accepted.{IsAccepted}
-use Rattle.dictionary.specs.Kept.{names_of}
+use Rattle.dictionary.specs.AcceptedParts.{names_of}
 use Rattle.dict_meaning.specs.Extension.{IsExtension}
 use Rattle.dict_meaning.specs.Fits.{AnswersFit}
 use Rattle.graph_session.specs.Rules.{Rules, tree_of}

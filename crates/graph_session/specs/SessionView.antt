@@ -9,14 +9,14 @@ use Rattle.answers.specs.Finite.{Numbered}
 use Rattle.answers.specs.Answered.{Answered, Entry}
 use Rattle.session_undo.specs.Timeline.{Timeline, timeline_forgotten}
 use Rattle.dict_meaning.specs.Accepted.{Accepted}
-use Rattle.dictionary.specs.Kept.{Kept, accepted}
+use Rattle.dictionary.specs.AcceptedParts.{AcceptedParts, accepted}
 use Rattle.dictionary.specs.contracts.dictionary.Dictionary as dictionary
 use Rattle.graph_session.specs.Counts.{Counts, next_counts, no_counts}
 
 -- the dictionary; the answers at the place, and those before and after it; how many changes were made; and the counts, where
 -- the engine keeps them
 pub record SessionView : Type 0 where
-  pub dict : Kept
+  pub dict : AcceptedParts
   pub timeline : Timeline
   pub changes : ℕ
   pub counts : Option Counts
@@ -50,10 +50,10 @@ moved d c t = record {
 abbrev pub bounded : ℕ → SessionState → SessionState
 bounded most c = record { timeline = timeline_forgotten most c.timeline; changes = c.changes; counts = c.counts }
 
-abbrev pub view_at : Kept → SessionState → SessionView
+abbrev pub view_at : AcceptedParts → SessionState → SessionView
 view_at k c = record { dict = k; timeline = c.timeline; changes = c.changes; counts = c.counts }
 
-abbrev pub start_at : Kept → Answered → Bool → SessionView
+abbrev pub start_at : AcceptedParts → Answered → Bool → SessionView
 start_at k a offered = view_at k (begun (accepted k) a offered)
 
 abbrev pub moved_to : SessionView → Timeline → SessionView
@@ -86,5 +86,5 @@ abbrev pub coded_counts : Coded Counts
 coded_counts = code_by (List (Slot × ℕ) × ℕ) (coded× (coded_list (coded× coded_slot coded_ℕ)) coded_ℕ) (λ c. (c.stamps, c.touched)) (λ p. record { stamps = p.0; touched = p.1 }) (λ _. refl)
 
 abbrev pub coded_view : Coded SessionView
-coded_view = code_by ((Kept × ℕ) × (Timeline × Option Counts)) (coded× (coded× dictionary.the_row.coded coded_ℕ) (coded× coded_timeline (coded_option coded_counts)))
+coded_view = code_by ((AcceptedParts × ℕ) × (Timeline × Option Counts)) (coded× (coded× dictionary.the_row.coded coded_ℕ) (coded× coded_timeline (coded_option coded_counts)))
     (λ s. ((s.dict, s.changes), (s.timeline, s.counts))) (λ p. record { dict = p.0.0; timeline = p.1.0; changes = p.0.1; counts = p.1.1 }) (λ _. refl)

@@ -7,7 +7,7 @@ ghost use Rattle.answers.specs.Meaning.{answered, change};
 ghost use Rattle.text_checks.specs.Tables.{named_checks};
 ghost use Rattle.session_undo.specs.History.{CanPush, ahead_of, behind};
 ghost use Rattle.dictionary.specs.Engines.{AreFresh};
-ghost use Rattle.dictionary.specs.Kept.{accepted};
+ghost use Rattle.dictionary.specs.AcceptedParts.{accepted};
 ghost use Rattle.dict_meaning.specs.Fits.{AnswersFit};
 ghost use Rattle.dict_meaning.specs.Plain.{plain};
 ghost use Rattle.dict_meaning.specs.Slots.{stands};
@@ -56,7 +56,7 @@ impl<E: FactEngine> Model for Session<E> {
     ghost use Rattle.answers.specs.Meaning.{answered};
     ghost use Rattle.session_undo.specs.History.{place};
     ghost use Rattle.session_undo.specs.Timeline.{timeline};
-    ghost use Rattle.dictionary.specs.Kept.{accepted};
+    ghost use Rattle.dictionary.specs.AcceptedParts.{accepted};
     ghost use Rattle.graph_session.specs.Counts.{counts_of};
     ghost use Rattle.graph_session.specs.Keeping.{IsSound};
     ghost use Rattle.graph_session.specs.SessionView.{SessionView, coded_view};

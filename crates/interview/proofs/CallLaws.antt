@@ -5,7 +5,7 @@ use Rattle.fg_io.specs.Outside.{ByFetch, ByPull, Contents, Output}
 use Rattle.answers.specs.Answered.{Answered}
 use Rattle.answers.specs.Meaning.{answered}
 use Rattle.dict_tree.specs.DictParsing.{max_bytes}
-use Rattle.dictionary.specs.Kept.{Named}
+use Rattle.dictionary.specs.AcceptedParts.{Named}
 use Rattle.graph_session.specs.Rules.{Rules, tree_of}
 use Rattle.saved_text.specs.SavedText.{saved_lines}
 use Rattle.interview.specs.Beginnings.{saved_limit}

@@ -8,7 +8,7 @@ use Rattle.fg_io.specs.Puts.{FailIn, PutAll, PutPart, Take, TakeAll}
 use Rattle.fg_io.specs.declared.error.FetchFault.TheVariants.{Failed}
 use Rattle.built_in.specs.declared.built_in.BuiltIn.{BuiltIn}
 use Rattle.dict_tree.specs.DictParsing.{max_bytes}
-use Rattle.dictionary.specs.Kept.{Named}
+use Rattle.dictionary.specs.AcceptedParts.{Named}
 use Rattle.graph_session.specs.Rules.{Rules, tree_of}
 use Rattle.saved_text.specs.SavedText.{saved_lines}
 use Rattle.script_lines.specs.Lines.{ScriptLine, ended_lines}

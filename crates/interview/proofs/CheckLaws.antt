@@ -3,7 +3,7 @@ use Rattle.std.proofs.Common.{◌≡◌, ℕ, false, List, inl, inr, refl, sym, 
 use Rattle.fg_io.specs.Outside.{Contents}
 use Rattle.dictionary.specs.declared.fault.DictFault.{DictFault}
 use Rattle.dictionary.specs.declared.fault.DictFault.TheVariants as faults
-use Rattle.dictionary.specs.Kept.{Named, accepted, names_of}
+use Rattle.dictionary.specs.AcceptedParts.{Named, accepted, names_of}
 use Rattle.dictionary.specs.Faults.{IsFault, Refuses}
 use Rattle.dictionary.proofs.FirstLaws.{accepted_has_none, one_dictionary, one_fault}
 use Rattle.interview.specs.declared.status.Status.{Status}

@@ -3,7 +3,7 @@ use Rattle.std.proofs.Common.{◌≡◌, ℕ, List, [], Result, Ok, Err, inl, sy
 use Rattle.std.specs.Prelude.{IfOk}
 use Rattle.dictionary.specs.declared.fault.DictFault.{DictFault}
 use Rattle.dict_meaning.specs.Accepted.{Accepted, IsAccepted}
-use Rattle.dictionary.specs.Kept.{Named, names_of}
+use Rattle.dictionary.specs.AcceptedParts.{Named, names_of}
 use Rattle.dictionary.specs.Faults.{IsFaultOf}
 use Rattle.dictionary.proofs.FirstLaws.{accepted_has_none, one_dictionary, one_fault}
 use Rattle.dict_meaning.specs.Fits.{AnswersFit}

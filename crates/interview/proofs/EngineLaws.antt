@@ -11,7 +11,7 @@ use Rattle.script_lines.specs.declared.command.Command.TheVariants.{Set, Clear, 
 use Rattle.script_lines.proofs.EndedLaws.{lines_go_on}
 use Rattle.session_undo.specs.Timeline.{Timeline}
 use Rattle.answers.specs.Answered.{Answered}
-use Rattle.dictionary.specs.Kept.{Named}
+use Rattle.dictionary.specs.AcceptedParts.{Named}
 use Rattle.graph_session.specs.Refusals.{decided, slot_found}
 use Rattle.graph_session.specs.Rules.{Rules, tree_of}
 use Rattle.graph_session.specs.SessionView.{SessionState}

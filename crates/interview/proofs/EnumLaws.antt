@@ -2,7 +2,7 @@
 use Rattle.std.proofs.Common.{List, refl, sym, subst, arith}
 use Rattle.value_text.specs.Enums.{AreLists}
 use Rattle.dict_source.specs.Dictionary.{Dictionary}
-use Rattle.dictionary.specs.Kept.{Named}
+use Rattle.dictionary.specs.AcceptedParts.{Named}
 use Rattle.dictionary.proofs.EnumLists.{read_lists}
 use Rattle.graph_session.specs.Rules.{Rules, tree_of}
 use Rattle.tax_2023.specs.Facts.{filing_statuses}

@@ -8,7 +8,7 @@ use Rattle.dictionary.specs.declared.fault.DictFault.{DictFault}
 use Rattle.fg_io.proofs.ConsumedLaws.{consumes_none, may_go_on}
 use Rattle.script_lines.specs.Joined.{joined}
 use Rattle.script_lines.specs.Lines.{ScriptLine, ended_lines}
-use Rattle.dictionary.specs.Kept.{names_of}
+use Rattle.dictionary.specs.AcceptedParts.{names_of}
 use Rattle.dictionary.specs.Faults.{IsFault}
 use Rattle.graph_session.specs.Rules.{Rules}
 use Rattle.built_in.specs.declared.built_in.BuiltIn.{BuiltIn}

@@ -3,7 +3,7 @@ use Rattle.std.proofs.Common.{ℕ, true, false, List}
 use Rattle.script_lines.specs.Lines.{ScriptLine}
 use Rattle.answers.specs.Answered.{Answered}
 use Rattle.dict_meaning.specs.Accepted.{IsAccepted}
-use Rattle.dictionary.specs.Kept.{Named}
+use Rattle.dictionary.specs.AcceptedParts.{Named}
 use Rattle.graph_session.specs.Rules.{Rules}
 use Rattle.session_lines.specs.Stepping.{at_start, state_after}
 use Rattle.session_lines.proofs.FinalLineLaws.{final_lines_stay}

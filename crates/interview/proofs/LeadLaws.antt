@@ -10,7 +10,7 @@ use Rattle.script_lines.specs.Parsing.{Heard, nothing, bad_line, command, heard_
 use Rattle.script_lines.specs.declared.command.Command.{Command}
 use Rattle.script_lines.specs.declared.command.Command.TheVariants as commands
 use Rattle.dict_meaning.specs.Accepted.{IsAccepted}
-use Rattle.dictionary.specs.Kept.{names_of}
+use Rattle.dictionary.specs.AcceptedParts.{names_of}
 use Rattle.dict_meaning.specs.Fits.{AnswersFit}
 use Rattle.graph_session.specs.Keeping.{AllFit}
 use Rattle.graph_session.specs.Refusals.{slot_found}

@@ -11,7 +11,7 @@ use Rattle.script_lines.specs.Joined.{joined}
 use Rattle.script_lines.specs.Lines.{lines_of}
 use Rattle.session_lines.specs.Writing.{pieces_of}
 use Rattle.answers.specs.Answered.{start}
-use Rattle.dictionary.specs.Kept.{Named}
+use Rattle.dictionary.specs.AcceptedParts.{Named}
 use Rattle.dictionary.specs.Keeping.{node_count}
 use Rattle.dict_gen.specs.Script.{script}
 use Rattle.graph_session.specs.Rules.{Rules, tree_of}

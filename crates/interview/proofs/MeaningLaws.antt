@@ -5,7 +5,7 @@ use Rattle.script_lines.specs.Joined.{joined}
 use Rattle.script_lines.proofs.JoinedLaws.{joined-append}
 use Rattle.script_lines.specs.Lines.{ScriptLine}
 use Rattle.answers.specs.Answered.{Answered}
-use Rattle.dictionary.specs.Kept.{Named}
+use Rattle.dictionary.specs.AcceptedParts.{Named}
 use Rattle.graph_session.specs.Rules.{Rules}
 use Rattle.session_lines.specs.Stepping.{LineState, State, Step, at_start, open_at, replies, state_after, step, step_line}
 use Rattle.session_lines.proofs.AnsweringLaws.{replies-append, state_after-append}

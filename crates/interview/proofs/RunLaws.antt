@@ -1,6 +1,6 @@
 -- A run comes to one end.
 use Rattle.std.proofs.Common.{◌≡◌, ℕ, List, inl, inr, sym, ap, subst, ◌∙◌}
-use Rattle.dictionary.specs.Kept.{Named}
+use Rattle.dictionary.specs.AcceptedParts.{Named}
 use Rattle.graph_session.specs.Rules.{Rules}
 use Rattle.interview.specs.declared.words.Mode.{Mode}
 use Rattle.interview.specs.Beginnings.{Basis}

@@ -5,7 +5,7 @@ use Rattle.std.specs.Io.KnownBytes.{Appends, Keeps}
 use Rattle.std.proofs.KnownBytes.{Keeps-refl}
 use Rattle.answers.specs.Answered.{Answered}
 use Rattle.answers.specs.Meaning.{answered}
-use Rattle.dictionary.specs.Kept.{Named}
+use Rattle.dictionary.specs.AcceptedParts.{Named}
 use Rattle.fg_io.specs.Outside.{Contents, Output}
 use Rattle.fg_io.specs.Sent.{Sent}
 use Rattle.fg_io.specs.Writing.{WrotePart}

@@ -5,7 +5,7 @@ use Rattle.session_lines.proofs.WritingLaws.{lines_none}
 use Rattle.script_lines.specs.Lines.{ScriptLine}
 use Rattle.answers.specs.Answered.{Answered}
 use Rattle.dict_meaning.specs.Accepted.{Accepted}
-use Rattle.dictionary.specs.Kept.{Kept, Named}
+use Rattle.dictionary.specs.AcceptedParts.{AcceptedParts, Named}
 use Rattle.fact_watch.specs.Watching.{Watching, nothing_watched}
 use Rattle.graph_session.specs.Rules.{Rules, rules}
 use Rattle.graph_session.specs.SessionView.{SessionState, SessionView, start_at}
@@ -74,7 +74,7 @@ module _ (relations : List Named) (s s_now : SessionView) (w w_now : Watching) (
       subst (λ n. LineOutputAs MeansNow sink sink_now n s_now.timeline.now lines progress) (sym is) (session_line lines progress answered kept)
 
 -- at its start
-pub begun_means : (relations : List Named) (k : Kept) (a : Answered) (stamps : Bool) (s : SessionView) (w : Watching) → s ≡ start_at k a stamps → w ≡ nothing_watched
+pub begun_means : (relations : List Named) (k : AcceptedParts) (a : Answered) (stamps : Bool) (s : SessionView) (w : Watching) → s ≡ start_at k a stamps → w ≡ nothing_watched
     → session_means relations s w (of_session (rules k) (at_start (rules k) (record { answers = a; stamps = stamps; relations = relations })))
 begun_means relations k a stamps s w same_session same_watches = λ i. of_session (rules (sym same_session i).dict) (open_at (line_state_of (sym same_session i) relations (sym same_watches i)))
 
@@ -122,7 +122,7 @@ module _ (v v_now : DeskView) (sink sink_now : Output) (same : v_now.session.dic
       subst (λ n. LineOutputAs (desk_means v_now) sink sink_now n v_now.session.timeline.now lines progress) (sym is) (desk_line d lines progress stands (answered d stands))
 
 -- at its start
-pub desk_begun_means : (k : Kept) (a : Answered) (v : DeskView) → StandsFor v (desk_begun (rules k) a) → v.session.dict ≡ k → desk_means v (of_desk (rules k) (desk_at_start (rules k) a))
+pub desk_begun_means : (k : AcceptedParts) (a : Answered) (v : DeskView) → StandsFor v (desk_begun (rules k) a) → v.session.dict ≡ k → desk_means v (of_desk (rules k) (desk_at_start (rules k) a))
 desk_begun_means k a v stands same = (desk_begun (rules k) a, stands, ap (λ q. of_desk (rules q) (desk_open (desk_begun (rules k) a))) (sym same))
 
 -- ---- where nobody reads the replies

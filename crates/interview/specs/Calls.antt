@@ -8,7 +8,7 @@ use Rattle.fg_io.specs.declared.error.FetchFault.{FetchFault}
 use Rattle.fg_io.specs.declared.error.FetchFault.TheVariants.{Failed}
 use Rattle.dict_tree.specs.DictParsing.{max_bytes}
 use Rattle.dict_meaning.specs.Accepted.{Accepted}
-use Rattle.dictionary.specs.Kept.{Named, names_of}
+use Rattle.dictionary.specs.AcceptedParts.{Named, names_of}
 use Rattle.dictionary.specs.Faults.{AreAccepted}
 use Rattle.graph_session.specs.Rules.{Rules, tree_of}
 use Rattle.saved_text.specs.SavedText.{saved_lines}

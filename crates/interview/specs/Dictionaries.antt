@@ -2,7 +2,7 @@
 use Rattle.std.specs.Prelude.{◌≡◌, ℕ, List, []}
 use Rattle.fg_io.specs.Outside.{MayHold, Contents, holds}
 use Rattle.dictionary.specs.declared.fault.DictFault.{DictFault}
-use Rattle.dictionary.specs.Kept.{Named, names_of}
+use Rattle.dictionary.specs.AcceptedParts.{Named, names_of}
 use Rattle.dictionary.specs.Faults.{AreAccepted, IsFault, IsFaultOf}
 use Rattle.graph_session.specs.Rules.{Rules}
 use Rattle.built_in.specs.BuiltIns.{IsBrought, facts_of}

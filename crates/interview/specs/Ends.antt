@@ -4,7 +4,7 @@ use Rattle.fg_io.specs.Outside.{MayHold, holds, missing as not_there}
 use Rattle.script_lines.specs.Joined.{joined}
 use Rattle.script_lines.specs.Lines.{ScriptLine}
 use Rattle.dictionary.specs.declared.fault.DictFault.{DictFault}
-use Rattle.dictionary.specs.Kept.{names_of}
+use Rattle.dictionary.specs.AcceptedParts.{names_of}
 use Rattle.dictionary.specs.Faults.{IsFault}
 use Rattle.graph_session.specs.Rules.{Rules}
 use Rattle.interview.specs.declared.status.Status.{Status}

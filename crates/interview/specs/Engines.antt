@@ -5,7 +5,7 @@ use Rattle.script_lines.specs.Parsing.{Heard, nothing, bad_line, command, heard_
 use Rattle.script_lines.specs.declared.command.Command.{Command}
 use Rattle.script_lines.specs.declared.command.Command.TheVariants as commands
 use Rattle.answers.specs.Answered.{Answered}
-use Rattle.dictionary.specs.Kept.{Named}
+use Rattle.dictionary.specs.AcceptedParts.{Named}
 use Rattle.graph_session.specs.Rules.{Rules}
 use Rattle.session_lines.specs.Stepping.{at_start, state_after, step}
 use Rattle.interview.specs.declared.status.Status.{Status}

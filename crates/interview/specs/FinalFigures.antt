@@ -12,7 +12,7 @@ use Rattle.three_state.specs.declared.res.Res.{Res}
 use Rattle.three_state.specs.declared.res.Res.TheVariants.{Complete}
 use Rattle.evaluation.specs.Sure.{first_found}
 use Rattle.answers.specs.Answered.{Answered}
-use Rattle.dictionary.specs.Kept.{Named}
+use Rattle.dictionary.specs.AcceptedParts.{Named}
 use Rattle.dict_meaning.specs.Extension.{IsExtension}
 use Rattle.graph_session.specs.Rules.{Rules, tree_of}
 use Rattle.session_lines.specs.Laws.{final_line}

@@ -2,7 +2,7 @@
 use Rattle.std.specs.Prelude.{true, false, List}
 use Rattle.script_lines.specs.Lines.{ScriptLine}
 use Rattle.answers.specs.Answered.{Answered}
-use Rattle.dictionary.specs.Kept.{Named}
+use Rattle.dictionary.specs.AcceptedParts.{Named}
 use Rattle.graph_session.specs.Rules.{Rules}
 use Rattle.session_lines.specs.Laws.{FinalsHold}
 use Rattle.session_lines.specs.Stepping.{at_start, state_after}

@@ -2,7 +2,7 @@
 use Rattle.std.specs.Prelude.{◌≡◌, ◌⊎◌, ℕ, List, [], ◌∷◌, Option, String}
 use Rattle.std.specs.declared.alloc.Global.{Global}
 use Rattle.fg_io.specs.Outside.{Contents, Files, Input, Output}
-use Rattle.dictionary.specs.Kept.{Named}
+use Rattle.dictionary.specs.AcceptedParts.{Named}
 use Rattle.interview.specs.declared.status.Status.{Status}
 use Rattle.interview.specs.Devices.{Around, SentWhole}
 use Rattle.interview.specs.Interview.{Defined}

@@ -2,7 +2,7 @@
 use Rattle.std.specs.Prelude.{◌≡◌, ◌⊎◌, ℕ, List, ◌++◌, length, take, codes, nat_le, if◌then◌else◌}
 use Rattle.dictionary.specs.declared.fault.DictFault.{DictFault}
 use Rattle.dict_meaning.specs.Accepted.{Accepted}
-use Rattle.dictionary.specs.Kept.{Named, names_of}
+use Rattle.dictionary.specs.AcceptedParts.{Named, names_of}
 use Rattle.dictionary.specs.Faults.{AreAccepted, IsFault}
 use Rattle.dictionary.specs.Keeping.{node_count}
 use Rattle.script_lines.specs.Joined.{joined}

@@ -4,7 +4,7 @@ use Rattle.script_lines.specs.Joined.{joined}
 use Rattle.script_lines.specs.Lines.{ScriptLine}
 use Rattle.answers.specs.Answered.{Answered}
 use Rattle.dict_meaning.specs.Accepted.{Accepted}
-use Rattle.dictionary.specs.Kept.{Named}
+use Rattle.dictionary.specs.AcceptedParts.{Named}
 use Rattle.graph_session.specs.Rules.{Rules}
 use Rattle.session_lines.specs.Stepping.{State, at_start, state_after}
 use Rattle.session_lines.specs.Stepping as session

@@ -5,7 +5,7 @@ use Rattle.fg_io.specs.Outside.{MayBe}
 use Rattle.script_lines.specs.Lines.{ended_lines}
 use Rattle.answers.specs.Answered.{Answered, start}
 use Rattle.dictionary.specs.declared.fault.DictFault.{DictFault}
-use Rattle.dictionary.specs.Kept.{Named}
+use Rattle.dictionary.specs.AcceptedParts.{Named}
 use Rattle.graph_session.specs.Rules.{Rules, tree_of}
 use Rattle.saved_text.specs.SavedText.{saved}
 use Rattle.interview.specs.declared.status.Status.{Status}

@@ -4,7 +4,7 @@ use Rattle.std.specs.declared.alloc.Global.{Global}
 use Rattle.std.specs.Io.KnownBytes.{Appends}
 use Rattle.fg_io.specs.Outside.{Contents, Files, MayHold, Output, Rose, RoseByOne}
 use Rattle.fg_io.specs.Sent.{Sent}
-use Rattle.dictionary.specs.Kept.{Named, accepted, names_of}
+use Rattle.dictionary.specs.AcceptedParts.{Named, accepted, names_of}
 use Rattle.dictionary.specs.Faults.{AreAccepted, IsFault}
 use Rattle.interview.specs.declared.fetching.Fetched.{Fetched}
 use Rattle.interview.specs.declared.fetching.Fetched.TheVariants as fetches

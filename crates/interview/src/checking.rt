@@ -1,7 +1,7 @@
 // Whether a dictionary is accepted.
 ghost use Rattle.std.specs.Prelude.{◌≡◌};
 ghost use Rattle.text_checks.specs.Tables.{named_checks};
-ghost use Rattle.dictionary.specs.Kept.{accepted};
+ghost use Rattle.dictionary.specs.AcceptedParts.{accepted};
 ghost use Rattle.interview.specs.Calls.{CallsForDictionary, beside};
 ghost use Rattle.interview.specs.Interview.{defined_accepted};
 ghost use Rattle.interview.specs.LastLines.{PutAtEnd, PutsOneLine};

@@ -1,7 +1,7 @@
 // Fetches a dictionary.
 ghost use Rattle.std.specs.Prelude.{◌≡◌, IfErr, IfOk, IsErrOf, OnOk};
 ghost use Rattle.text_checks.specs.Tables.{named_checks};
-ghost use Rattle.dictionary.specs.Kept.{accepted, names_of};
+ghost use Rattle.dictionary.specs.AcceptedParts.{accepted, names_of};
 ghost use Rattle.dictionary.specs.Faults.{AreAccepted, IsFault, Refuses};
 ghost use Rattle.interview.specs.Calls.{CallsForDictionary, beside};
 ghost use Rattle.interview.specs.StepEnds.{FetchedAs, NotFetched, ObtainedBy};

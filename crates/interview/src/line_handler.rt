@@ -6,7 +6,7 @@ ghost use Rattle.script_lines.specs.Lines.{ready_lines};
 ghost use Rattle.answers.specs.Answered.{Answered};
 ghost use Rattle.answers.specs.Meaning.{answered};
 ghost use Rattle.dict_meaning.specs.Accepted.{Accepted};
-ghost use Rattle.dictionary.specs.Kept.{Named, accepted};
+ghost use Rattle.dictionary.specs.AcceptedParts.{Named, accepted};
 ghost use Rattle.dict_meaning.specs.Fits.{AnswersFit};
 ghost use Rattle.graph_session.specs.Refusals.{SameChecks};
 ghost use Rattle.graph_session.specs.Rules.{Rules, rules};

@@ -3,7 +3,7 @@ ghost use Rattle.std.specs.Prelude.{◌≡◌, ◌<◌, ℕ, List};
 ghost use Rattle.session_lines.specs.Answering.{state_by};
 ghost use Rattle.text_checks.specs.Tables.{named_checks};
 ghost use Rattle.fact_watch.specs.Tables.{named_relations};
-ghost use Rattle.dictionary.specs.Kept.{accepted};
+ghost use Rattle.dictionary.specs.AcceptedParts.{accepted};
 ghost use Rattle.graph_session.specs.Refusals.{SameChecks};
 ghost use Rattle.graph_session.specs.Rules.{rules};
 ghost use Rattle.saved_text.specs.SavedText.{saved_lines};

@@ -2,7 +2,7 @@
 ghost use Rattle.std.specs.Prelude.{◌≡◌, IfOk, map, option_copied, option_map};
 ghost use Rattle.dict_source.specs.Dictionary.{dictionary_view};
 ghost use Rattle.dict_types.specs.Typed.{numbered};
-ghost use Rattle.dictionary.specs.Kept.{accepted};
+ghost use Rattle.dictionary.specs.AcceptedParts.{accepted};
 ghost use Rattle.node_eval.specs.View.{view as node_view};
 ghost use Rattle.node_compile.specs.Compiled.{IsCompiled, main_of, placeholder_of};
 ghost use Rattle.node_compile.specs.Compiling.{facts_trees};

@@ -1,6 +1,6 @@
 // Whether a slot's result is final.
 ghost use Rattle.std.specs.Prelude.{◌≡◌, IsTrue, option_copied};
-ghost use Rattle.dictionary.specs.Kept.{accepted};
+ghost use Rattle.dictionary.specs.AcceptedParts.{accepted};
 ghost use Rattle.dict_meaning.specs.Final.{is_complete_in, is_final as is_final_in};
 ghost use Rattle.dict_meaning.specs.Slots.{stands};
 ghost use Rattle.placeholder_laws.specs.Stays.{Stays, is_complete};

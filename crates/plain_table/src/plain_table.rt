@@ -4,7 +4,7 @@ ghost use Rattle.answers.specs.Answered.{Answered, start};
 ghost use Rattle.answers.specs.Meaning.{answered};
 ghost use Rattle.answers.specs.WellFormed.{FromOne, WellFormed};
 ghost use Rattle.dict_meaning.specs.Accepted.{Accepted};
-ghost use Rattle.dictionary.specs.Kept.{accepted};
+ghost use Rattle.dictionary.specs.AcceptedParts.{accepted};
 ghost use Rattle.dict_meaning.specs.Plain.{plain};
 ghost use Rattle.dict_meaning.specs.Weights.{whole_weight};
 ghost use Rattle.visit_counts.specs.SlotVisits.{whole_visits};

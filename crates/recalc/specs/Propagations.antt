@@ -1,7 +1,7 @@
 -- What a `Propagation` stands for.
 use Rattle.answers.specs.Change.{applied}
 use Rattle.answers.specs.Meaning.{answered, change}
-use Rattle.dictionary.specs.Kept.{accepted}
+use Rattle.dictionary.specs.AcceptedParts.{accepted}
 use Rattle.recalc.specs.BetweenAnswers.{between}
 use Rattle.recalc.specs.Running.{Setting}
 use Rattle.recalc.specs.Spread.{Spread}

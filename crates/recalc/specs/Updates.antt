@@ -8,7 +8,7 @@ use Rattle.cell_store.specs.Contents.{Cells}
 use Rattle.dict_meaning.specs.Accepted.{Accepted}
 use Rattle.dict_meaning.specs.Slots.{stands}
 use Rattle.dict_meaning.specs.Touched.{stamped}
-use Rattle.dictionary.specs.Kept.{accepted}
+use Rattle.dictionary.specs.AcceptedParts.{accepted}
 use Rattle.dict_meaning.specs.Undone.{IsUndone, went}
 use Rattle.recalc.specs.BetweenAnswers.{between}
 use Rattle.recalc.specs.EngineInvariant.{setting_from, stamp_in}

@@ -1,6 +1,6 @@
 // The compiled nodes and the readers of all facts, which engines over one dictionary share.
 ghost use Rattle.std.specs.Prelude.{IfOk};
-ghost use Rattle.dictionary.specs.Kept.{accepted};
+ghost use Rattle.dictionary.specs.AcceptedParts.{accepted};
 ghost use Rattle.recalc.specs.EngineInvariant.{IsGraphOf};
 
 use crate::global_places::global_places;

@@ -4,7 +4,7 @@ ghost use Rattle.answers.specs.Answered.{Answered};
 ghost use Rattle.dict_meaning.specs.Accepted.{Accepted};
 ghost use Rattle.dict_meaning.specs.Touched.{touched_count};
 ghost use Rattle.dict_meaning.specs.Weights.{touched_weight};
-ghost use Rattle.dictionary.specs.Kept.{accepted};
+ghost use Rattle.dictionary.specs.AcceptedParts.{accepted};
 ghost use Rattle.visit_counts.specs.SlotVisits.{touched_visits};
 ghost use Rattle.recalc.specs.EngineInvariant.{IsGraphOf};
 ghost use Rattle.recalc.specs.Sharing.{AreAtStart, AreCellsOf, AreKept, read_cells};

@@ -5,7 +5,7 @@ ghost use Rattle.answers.specs.Meaning.{answered};
 ghost use Rattle.answers.specs.WellFormed.{FromOne, WellFormed};
 ghost use Rattle.answers.specs.declared.edit.Side.TheVariants.{Override};
 ghost use Rattle.dict_source.specs.Facts.{stated_view};
-ghost use Rattle.dictionary.specs.Kept.{accepted};
+ghost use Rattle.dictionary.specs.AcceptedParts.{accepted};
 ghost use Rattle.dict_meaning.specs.Plain.{IsPlainBelow, or_override, plain, rank};
 ghost use Rattle.dict_meaning.specs.Slots.{stands};
 ghost use Rattle.dict_meaning.specs.Weights.{slot_weight};

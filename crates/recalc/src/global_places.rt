@@ -1,7 +1,7 @@
 // Where the slots of global facts stand in the order of the ranks.
 ghost use Rattle.std.specs.Prelude.{All};
 ghost use Rattle.dict_source.specs.Finding.{IsNumber};
-ghost use Rattle.dictionary.specs.Kept.{accepted};
+ghost use Rattle.dictionary.specs.AcceptedParts.{accepted};
 
 use dictionary::Dictionary;
 use dirty_slots::{DirtySlot, Places};

@@ -6,7 +6,7 @@ ghost use Rattle.answers.specs.Meaning.{answered};
 ghost use Rattle.answers.specs.declared.edit.Side.TheVariants.{Override};
 ghost use Rattle.dep_index.specs.Readers.{readers_of};
 ghost use Rattle.dict_source.specs.Finding.{IsNumber};
-ghost use Rattle.dictionary.specs.Kept.{accepted};
+ghost use Rattle.dictionary.specs.AcceptedParts.{accepted};
 ghost use Rattle.dict_meaning.specs.Final.{is_complete_in};
 ghost use Rattle.dict_meaning.specs.Slots.{stands};
 ghost use Rattle.dict_meaning.specs.Steady.{steady};

@@ -3,7 +3,7 @@ ghost use Rattle.std.specs.Prelude.{[], ◌∷◌, All, IfOk, IfSome, List, OnOk
 ghost use Rattle.dep_index.specs.Readers.{IsIndex};
 ghost use Rattle.dep_index.specs.declared.readers_of.ReaderOf.{ReaderOf as OneReader};
 ghost use Rattle.dict_source.specs.Finding.{IsNumber};
-ghost use Rattle.dictionary.specs.Kept.{accepted};
+ghost use Rattle.dictionary.specs.AcceptedParts.{accepted};
 ghost use Rattle.recalc.specs.PlacedReaders.{AllArePlaced, ArePlaced, IsPlaced};
 
 use dep_index::{ReaderOf, Readers};

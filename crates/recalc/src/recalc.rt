@@ -4,7 +4,7 @@ ghost use Rattle.answers.specs.Answered.{Answered, start as start_answers};
 ghost use Rattle.answers.specs.Change.{Fits, applied};
 ghost use Rattle.answers.specs.Meaning.{answered, change};
 ghost use Rattle.dict_meaning.specs.Accepted.{Accepted};
-ghost use Rattle.dictionary.specs.Kept.{accepted};
+ghost use Rattle.dictionary.specs.AcceptedParts.{accepted};
 ghost use Rattle.dictionary.specs.Engines.{AreFresh, AreMarkedBy, AreSameMarks};
 ghost use Rattle.dict_meaning.specs.Fits.{AnswersFit};
 ghost use Rattle.dict_meaning.specs.Plain.{plain};

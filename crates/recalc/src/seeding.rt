@@ -3,7 +3,7 @@ ghost use Rattle.std.specs.Prelude.{◌≡◌, ◌||◌, ◌&&◌, ◌∷◌, []
 ghost use Rattle.fact_values.specs.declared.slot.Slot.{Slot as OneSlot};
 ghost use Rattle.answers.specs.Meaning.{answered, change};
 ghost use Rattle.dict_source.specs.Finding.{IsNumber};
-ghost use Rattle.dictionary.specs.Kept.{accepted};
+ghost use Rattle.dictionary.specs.AcceptedParts.{accepted};
 ghost use Rattle.dict_meaning.specs.Slots.{stands};
 ghost use Rattle.dict_meaning.specs.Undone.{differs, is_touched_first, IsUndone};
 ghost use Rattle.recalc.specs.Running.{AreWaiting};

@@ -4,7 +4,7 @@ ghost use Rattle.std.specs.FinMap as map;
 ghost use Rattle.fact_values.specs.declared.slot.Slot.{Slot as OneSlot};
 ghost use Rattle.answers.specs.Meaning.{answered};
 ghost use Rattle.dict_meaning.specs.Fits.{AnswersFit};
-ghost use Rattle.dictionary.specs.Kept.{accepted};
+ghost use Rattle.dictionary.specs.AcceptedParts.{accepted};
 ghost use Rattle.visit_counts.specs.SlotVisits.{whole_visits};
 ghost use Rattle.recalc.specs.EngineInvariant.{IsGraphOf, IsIdle, results_of};
 ghost use Rattle.recalc.specs.Running.{stamped_cell};

@@ -1,5 +1,5 @@
 -- Texts of a kind, each of which is a carried text: at which line others are refused, and how they end.
-use Rattle.save_file.proofs.Common.{AllByRecursion, BadSaved, Bool, CarriedRead, CarriedStage, CarriedText, EndsCarried, GivesLines, IsCarried, IsCarriedStage, IsOf, IsRefusedAt, IsTrue, Kept, Lines, List, LoadFault, Number, Opening, Option, Refuses, Result, Whole, [], ap, append-nil, arith, carried, carried_lines, end_line, false, inl, inr, joined, length, line_text, lines_of, map, next_line, opening_line, stage_lines, subst, suc, sym, text_of, texts_of, true, ℕ, ◌++◌, ◌+◌, ◌↔◌, ◌∙◌, ◌∷◌, ◌≡◌, ◌≢◌, ◌⊎◌}
+use Rattle.save_file.proofs.Common.{AllByRecursion, BadSaved, Bool, CarriedRead, CarriedStage, CarriedText, EndsCarried, GivesLines, IsCarried, IsCarriedStage, IsOf, IsRefusedAt, IsTrue, AcceptedParts, Lines, List, LoadFault, Number, Opening, Option, Refuses, Result, Whole, [], ap, append-nil, arith, carried, carried_lines, end_line, false, inl, inr, joined, length, line_text, lines_of, map, next_line, opening_line, stage_lines, subst, suc, sym, text_of, texts_of, true, ℕ, ◌++◌, ◌+◌, ◌↔◌, ◌∙◌, ◌∷◌, ◌≡◌, ◌≢◌, ◌⊎◌}
 use Rattle.saved_text.proofs.CarriedSteps.{left, more_left}
 use Rattle.saved_text.proofs.LineTexts.{IsLine}
 use Rattle.saved_text.proofs.TextLaws.{ended_joined, joined_ended}
@@ -8,7 +8,7 @@ use Rattle.saved_text.proofs.TextLaws as texts
 
 -- ---- texts of a kind, each of which is a carried text
 
-module _ (whose : Option Kept) {A : Type 0} (P : A → Type 0) (text : A → List (List ℕ)) (as_carried : (a : A) → P a → (c : CarriedText) × IsCarried c × IsOf whose c.lines × (text a ≡ carried_lines c))
+module _ (whose : Option AcceptedParts) {A : Type 0} (P : A → Type 0) (text : A → List (List ℕ)) (as_carried : (a : A) → P a → (c : CarriedText) × IsCarried c × IsOf whose c.lines × (text a ≡ carried_lines c))
     (stage : CarriedStage) (sound : IsCarriedStage stage) (found : A) (is_one : P found) (to_come : List (List ℕ)) (begun : text found ≡ texts_of stage ++ to_come)
     (bytes behind : List ℕ) (lines : lines_of bytes ≡ texts_of stage ++ lines_of behind) (number : ℕ) (counted : number ≡ length (texts_of stage) + 1) where
   abbrev pub IsText : List ℕ → Type 0

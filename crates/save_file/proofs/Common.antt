@@ -19,7 +19,7 @@ pub use Rattle.dict_meaning.specs.Slots.{is_member, slot_same, slots_up_to, stan
 pub use Rattle.dict_source.proofs.Guards.{guarded}
 pub use Rattle.dict_source.specs.Dictionary.{is_collection as is_collection_type, too_many}
 pub use Rattle.dict_source.specs.Facts.{fact_size}
-pub use Rattle.dictionary.specs.Kept.{Kept}
+pub use Rattle.dictionary.specs.AcceptedParts.{AcceptedParts}
 pub use Rattle.fact_paths.specs.Cuts.{IsFirstAt}
 pub use Rattle.graph_session.proofs.NamingLaws.{found_number}
 pub use Rattle.graph_session.specs.Kinds.{is_given, value_spelled}

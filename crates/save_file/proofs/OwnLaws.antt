@@ -1,5 +1,5 @@
 -- Lines of a carried text that are those of a saved text over a dictionary: where they stand, with one more behind them, and those that come first.
-use Rattle.save_file.proofs.Common.{AllByRecursion, AreOwn, Bool, CarriedLine, CarriedRead, CarriedStage, CarriedText, Contains, Err, Global, Grows, IfOk, IsCarried, IsCarriedStage, IsHighest, IsNext, IsOf, IsOfUpTo, IsPositionOfLast, IsPrinted, IsTrue, JudgesLast, Kept, Lines, List, LoadFault, Member, NamesOther, None, Number, Ok, Opening, Option, Pairs, Result, Side, Some, TextLine, Tree, Value, Whole, [], accepted, ap, append_assoc, arith, carried_lines, codes, collection, cond, counted_from, entry, equal_bytes, fact_of, false, find, guarded, has_its_member, if◌then◌else◌, inl, inr, is_list_named, is_own, key_text, length, length-append, length-map, line_of, list_any, lists_member, map, member_place, members_by, members_in, members_named, nat_lt, nat_tests, none-some, option_map, place_in, position, position_behind, position_of_last, read_lines as lines_of, refl, same_Some, same_bytes, slice_get, stage_lines, start, subst, suc, sym, taken_value, texts_of, true, value_printed, ℕ, ◌*◌, ◌++◌, ◌+◌, ◌-◌, ◌<◌, ◌∙◌, ◌∷◌, ◌≡◌, ◌≢◌, ◌≤◌, ◌⊎◌}
+use Rattle.save_file.proofs.Common.{AllByRecursion, AreOwn, Bool, CarriedLine, CarriedRead, CarriedStage, CarriedText, Contains, Err, Global, Grows, IfOk, IsCarried, IsCarriedStage, IsHighest, IsNext, IsOf, IsOfUpTo, IsPositionOfLast, IsPrinted, IsTrue, JudgesLast, AcceptedParts, Lines, List, LoadFault, Member, NamesOther, None, Number, Ok, Opening, Option, Pairs, Result, Side, Some, TextLine, Tree, Value, Whole, [], accepted, ap, append_assoc, arith, carried_lines, codes, collection, cond, counted_from, entry, equal_bytes, fact_of, false, find, guarded, has_its_member, if◌then◌else◌, inl, inr, is_list_named, is_own, key_text, length, length-append, length-map, line_of, list_any, lists_member, map, member_place, members_by, members_in, members_named, nat_lt, nat_tests, none-some, option_map, place_in, position, position_behind, position_of_last, read_lines as lines_of, refl, same_Some, same_bytes, slice_get, stage_lines, start, subst, suc, sym, taken_value, texts_of, true, value_printed, ℕ, ◌*◌, ◌++◌, ◌+◌, ◌-◌, ◌<◌, ◌∙◌, ◌∷◌, ◌≡◌, ◌≢◌, ◌≤◌, ◌⊎◌}
 use Rattle.save_file.proofs.CarriedAnswers.{any_listed, spelled_fits, taken_takes}
 use Rattle.saved_text.proofs.CarriedLines.{pairs-push, pairs_before, pairs_front}
 use Rattle.saved_text.proofs.CarriedSteps.{found_of, left, lines_left}
@@ -181,26 +181,26 @@ kept_up : (d : Tree) (xs ys : List CarriedLine) (last p : ℕ) → ys ≡ xs →
 kept_up d xs ys last p same e is =
     subst (λ (zs : List CarriedLine). AreOwn d zs × IsHighest d zs p) (sym same) (subst (λ (n : ℕ). AreOwn d xs × IsHighest d xs n) (sym (same_Some p last e)) is)
 
-pub next_of : (whose : Option Kept) (old new : CarriedStage) → IsCarriedStage old → (last : ℕ) → IsOfUpTo whose (stage_lines old) last → Grows old new → (p : ℕ) → JudgesLast whose new last (Some p) → IsOfUpTo whose (stage_lines new) p
+pub next_of : (whose : Option AcceptedParts) (old new : CarriedStage) → IsCarriedStage old → (last : ℕ) → IsOfUpTo whose (stage_lines old) last → Grows old new → (p : ℕ) → JudgesLast whose new last (Some p) → IsOfUpTo whose (stage_lines new) p
 next_of None old new sound last is grows p of = tt
 next_of (Some k) old Opening sound last is grows p of = kept_up (accepted k).tree (stage_lines old) [] last p grows of is
 next_of (Some k) old Number sound last is grows p of = kept_up (accepted k).tree (stage_lines old) [] last p grows of is
 next_of (Some k) old (Lines r) sound last is grows p of = last_own (accepted k).tree old sound last is.0 is.1 r grows (Some p) of p refl
 next_of (Some k) old (Whole r) sound last is grows p of = kept_up (accepted k).tree (stage_lines old) (lines_of r) last p grows of is
 
-not_of : (whose : Option Kept) (old new : CarriedStage) → IsCarriedStage old → (last : ℕ) → IsOfUpTo whose (stage_lines old) last → Grows old new → JudgesLast whose new last None → IsOf whose (stage_lines new) → ⊥
+not_of : (whose : Option AcceptedParts) (old new : CarriedStage) → IsCarriedStage old → (last : ℕ) → IsOfUpTo whose (stage_lines old) last → Grows old new → JudgesLast whose new last None → IsOf whose (stage_lines new) → ⊥
 not_of None old new sound last is grows of all = none-some last of
 not_of (Some k) old Opening sound last is grows of all = none-some last of
 not_of (Some k) old Number sound last is grows of all = none-some last of
 not_of (Some k) old (Lines r) sound last is grows of all = last_not (accepted k).tree old sound last is.0 is.1 r grows of all
 not_of (Some k) old (Whole r) sound last is grows of all = none-some last of
 
-front_of : (whose : Option Kept) (stage : CarriedStage) → IsCarriedStage stage → (rest : List CarriedLine) → IsOf whose (stage_lines stage ++ rest) → IsOf whose (stage_lines stage)
+front_of : (whose : Option AcceptedParts) (stage : CarriedStage) → IsCarriedStage stage → (rest : List CarriedLine) → IsOf whose (stage_lines stage ++ rest) → IsOf whose (stage_lines stage)
 front_of None stage sound rest all = tt
 front_of (Some k) stage sound rest all = own_front (accepted k).tree (stage_lines stage) (members_there stage sound) rest all
 
 -- where the line that was read isn't of the kind, no text of the kind goes on with it
-pub none_goes_on : (whose : Option Kept) (old new : CarriedStage) (line : List ℕ) (last : ℕ) → IsCarriedStage old → IsOfUpTo whose (stage_lines old) last → IsNext old line new → JudgesLast whose new last None
+pub none_goes_on : (whose : Option AcceptedParts) (old new : CarriedStage) (line : List ℕ) (last : ℕ) → IsCarriedStage old → IsOfUpTo whose (stage_lines old) last → IsNext old line new → JudgesLast whose new last None
     → (c : CarriedText) (more : List (List ℕ)) → IsCarried c → IsOf whose c.lines → carried_lines c ≢ texts_of old ++ line ∷ more
 none_goes_on whose old new line last sound is next of c more text own e =
     let whole : carried_lines c ≡ texts_of new ++ more = e ∙ sym (append_assoc (texts_of old) (line ∷ []) more) ∙ ap (λ (ls : List (List ℕ)). ls ++ more) (sym next.1) in

@@ -1,5 +1,5 @@
 -- Lines of a carried text that are own and rise are those of a saved text, and of no other.
-use Rattle.save_file.proofs.Common.{Accepted, AllByRecursion, Answer, Answered, AnswersFit, AreLists, AreOwn, BadSaved, Bool, CarriedLine, CarriedRead, CarriedStage, CarriedText, Contains, EndsCarried, Err, FactPath, FactsRise, FromOne, GivesLines, Global, HasPath, IfErr, IfOk, IsAccepted, IsCarried, IsCarriedStage, IsOf, IsOfLists, IsOfUpTo, IsSlot, IsSlotPath, IsTrue, IsWhose, Kept, Lines, List, LoadFault, Member, None, Number, Ok, Opening, Option, Override, Pairs, ReadsNext, Refuses, RefusesText, Result, Rise, Side, Slot, SlotPath, Some, Tree, Value, WellFormed, Whole, [], accepted, answered, ap, append-nil, arith, both, carried, carried_lines, collection, counted_from, end_line, entered, entries, entry, equal_bytes, fact_of, false, global_has_none, has_its_member, home, home_is_collection, if◌then◌else◌, is_member, is_own, is_printed_of, is_some, kept_collection, length, lines_of, list_any, list_of, lists_lines, map, member_of, member_place, members_named, members_of_home, named_fact, names_of, nat_eq, next_line, opened, place_in, position, printed, refl, same_Some, same_bytes, same_number, saved, saved_lines, slot, slot_of, slot_path_of, something, stage_lines, stands, start, start_at, start_fits, subst, suc, sym, taken_value, takes, text_of, texts_of, true, value_of, value_spelled, ℕ, ◌*◌, ◌++◌, ◌+◌, ◌<◌, ◌↔◌, ◌∙◌, ◌∷◌, ◌≡◌, ◌≤◌}
+use Rattle.save_file.proofs.Common.{Accepted, AllByRecursion, Answer, Answered, AnswersFit, AreLists, AreOwn, BadSaved, Bool, CarriedLine, CarriedRead, CarriedStage, CarriedText, Contains, EndsCarried, Err, FactPath, FactsRise, FromOne, GivesLines, Global, HasPath, IfErr, IfOk, IsAccepted, IsCarried, IsCarriedStage, IsOf, IsOfLists, IsOfUpTo, IsSlot, IsSlotPath, IsTrue, IsWhose, AcceptedParts, Lines, List, LoadFault, Member, None, Number, Ok, Opening, Option, Override, Pairs, ReadsNext, Refuses, RefusesText, Result, Rise, Side, Slot, SlotPath, Some, Tree, Value, WellFormed, Whole, [], accepted, answered, ap, append-nil, arith, both, carried, carried_lines, collection, counted_from, end_line, entered, entries, entry, equal_bytes, fact_of, false, global_has_none, has_its_member, home, home_is_collection, if◌then◌else◌, is_member, is_own, is_printed_of, is_some, kept_collection, length, lines_of, list_any, list_of, lists_lines, map, member_of, member_place, members_named, members_of_home, named_fact, names_of, nat_eq, next_line, opened, place_in, position, printed, refl, same_Some, same_bytes, same_number, saved, saved_lines, slot, slot_of, slot_path_of, something, stage_lines, stands, start, start_at, start_fits, subst, suc, sym, taken_value, takes, text_of, texts_of, true, value_of, value_spelled, ℕ, ◌*◌, ◌++◌, ◌+◌, ◌<◌, ◌↔◌, ◌∙◌, ◌∷◌, ◌≡◌, ◌≤◌}
 use Rattle.std.proofs.Common.{unwrap_or}
 use Rattle.answers.proofs.OpenedListsLaws.{given_well, of_lists}
 use Rattle.answers.specs.OpenedLists.{with_all}
@@ -234,7 +234,7 @@ module _ (names : List (List ℕ)) (d : Accepted) (is : IsAccepted names d) (enu
   found (Lines r) sound own = let so = with_lines (text_of r) sound.text own in (so.0, so.1, (end_line ∷ [], so.2))
   found (Whole r) sound own = let so = with_lines (text_of r) sound own in (so.0, so.1, ([], so.2 ∙ sym (append-nil (carried_lines (text_of r)))))
 
-own_carried : (k : Kept) → IsWhose (Some k) → (a : Answered) → AnswersFit (accepted k).tree a → (c : CarriedText) × IsCarried c × IsOf (Some k) c.lines × (saved_lines (accepted k).tree a ≡ carried_lines c)
+own_carried : (k : AcceptedParts) → IsWhose (Some k) → (a : Answered) → AnswersFit (accepted k).tree a → (c : CarriedText) × IsCarried c × IsOf (Some k) c.lines × (saved_lines (accepted k).tree a ≡ carried_lines c)
 own_carried k whose a fit = (
   own_text (accepted k).tree a,
   is_carried (names_of k.checks) (accepted k) whose.0 whose.1 a fit,
@@ -243,7 +243,7 @@ own_carried k whose a fit = (
 )
 
 module _ (stage : CarriedStage) (sound : IsCarriedStage stage) (last : ℕ) (bytes behind : List ℕ) (lines : lines_of bytes ≡ texts_of stage ++ lines_of behind) (number : ℕ) (counted : number ≡ length (texts_of stage) + 1) where
-  pub refused_next : (whose : Option Kept) → IsWhose whose → IsOfUpTo whose (stage_lines stage) last → (line : List ℕ) (more : List (List ℕ)) → lines_of behind ≡ line ∷ more → (fault : LoadFault) → ReadsNext whose stage line number (Err fault) → Refuses whose bytes fault
+  pub refused_next : (whose : Option AcceptedParts) → IsWhose whose → IsOfUpTo whose (stage_lines stage) last → (line : List ℕ) (more : List (List ℕ)) → lines_of behind ≡ line ∷ more → (fault : LoadFault) → ReadsNext whose stage line number (Err fault) → Refuses whose bytes fault
   refused_next None is own line more at_line NoMemory reads = tt
   refused_next (Some k) is own line more at_line NoMemory reads = tt
   refused_next None is own line more at_line (BadSaved n) reads =
@@ -255,7 +255,7 @@ module _ (stage : CarriedStage) (sound : IsCarriedStage stage) (last : ℕ) (byt
       subst (λ (m : ℕ). Refuses (Some k) bytes (BadSaved m)) (sym reads.0)
       (line_refused (Some k) (AnswersFit (accepted k).tree) (saved_lines (accepted k).tree) (own_carried k is) stage sound one.0 one.1 one.2.0 one.2.1 bytes behind lines number counted line more at_line reads.1)
 
-  pub ends : (whose : Option Kept) → IsWhose whose → IsOfUpTo whose (stage_lines stage) last → behind ≡ [] → (ended : Bool) → IsTrue ended ↔ ((front : List ℕ) × (bytes ≡ front ++ 10 ∷ [])) → (result : Result CarriedRead LoadFault) → EndsCarried stage ended number result → GivesLines whose bytes result
+  pub ends : (whose : Option AcceptedParts) → IsWhose whose → IsOfUpTo whose (stage_lines stage) last → behind ≡ [] → (ended : Bool) → IsTrue ended ↔ ((front : List ℕ) × (bytes ≡ front ++ 10 ∷ [])) → (result : Result CarriedRead LoadFault) → EndsCarried stage ended number result → GivesLines whose bytes result
   ends None is own none ended tells result e =
       let one = goes_on stage sound in
       finished None IsCarried carried_lines (λ c text. (c, text, tt, refl)) stage sound one.0 one.2 one.1 one.3 bytes behind lines number counted none ended tells (λ n refused. refused) tt result stage ended refl refl e
@@ -264,7 +264,7 @@ module _ (stage : CarriedStage) (sound : IsCarriedStage stage) (last : ℕ) (byt
       finished (Some k) (AnswersFit (accepted k).tree) (saved_lines (accepted k).tree) (own_carried k is) stage sound one.0 one.1 one.2.0 one.2.1 bytes behind lines number counted none ended tells (λ n refused. refused) own.0 result stage ended refl refl e
 
 -- nothing was read yet
-pub none_read : (whose : Option Kept) → IsOfUpTo whose [] 0
+pub none_read : (whose : Option AcceptedParts) → IsOfUpTo whose [] 0
 none_read None = tt
 none_read (Some k) = (record { own = tt; rise = tt }, record { high = tt; least = λ n all. omega arith })
 

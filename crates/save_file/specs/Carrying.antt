@@ -11,7 +11,7 @@ use Rattle.answers.specs.declared.edit.Side.{Side}
 use Rattle.answers.specs.declared.edit.Side.TheVariants.{Answer, Override}
 use Rattle.value_text.specs.Enums.{AreLists}
 use Rattle.dict_meaning.specs.Accepted.{Accepted, IsAccepted}
-use Rattle.dictionary.specs.Kept.{names_of}
+use Rattle.dictionary.specs.AcceptedParts.{names_of}
 use Rattle.dict_meaning.specs.Fits.{AnswersFit, is_answered_by, is_list, is_overridden_by}
 use Rattle.graph_session.specs.Kinds.{value_spelled}
 use Rattle.graph_session.specs.Naming.{fact_of, slot_of}

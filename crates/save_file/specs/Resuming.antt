@@ -8,7 +8,7 @@ use Rattle.fact_values.specs.declared.value.Value.{Value}
 use Rattle.answers.specs.Answered.{Answered, value_of}
 use Rattle.answers.specs.declared.edit.Side.TheVariants.{Answer, Override}
 use Rattle.dict_meaning.specs.Accepted.{IsAccepted}
-use Rattle.dictionary.specs.Kept.{names_of}
+use Rattle.dictionary.specs.AcceptedParts.{names_of}
 use Rattle.dict_meaning.specs.Fits.{AnswersFit, is_answered_by}
 use Rattle.graph_session.specs.Naming.{fact_of, is_unknown}
 use Rattle.graph_session.specs.Refusals.{first_of, limit_refusals, set_refusals, value_refusals, when}

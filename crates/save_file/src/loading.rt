@@ -2,7 +2,7 @@
 ghost use Rattle.std.specs.Prelude.{◌≡◌, ◌<◌, IfErr, IfOk, length};
 ghost use Rattle.answers.specs.Answered.{Answered};
 ghost use Rattle.answers.specs.Meaning.{answered};
-ghost use Rattle.dictionary.specs.Kept.{accepted};
+ghost use Rattle.dictionary.specs.AcceptedParts.{accepted};
 ghost use Rattle.dict_meaning.specs.Fits.{AnswersFit};
 ghost use Rattle.saved_text.specs.CarriedParsing.{lines_of, text_of};
 ghost use Rattle.saved_text.specs.CarriedText.{IsCarried, carried};

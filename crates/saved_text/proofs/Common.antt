@@ -23,7 +23,7 @@ pub use Rattle.dict_source.proofs.FindingLaws.{find_path-first}
 pub use Rattle.dict_source.specs.Dictionary.{Dictionary as Tree}
 pub use Rattle.dict_source.specs.Facts.{Fact}
 pub use Rattle.dict_source.specs.Finding.{HasPath, fact_at, find_path}
-pub use Rattle.dictionary.specs.Kept.{accepted, names_of}
+pub use Rattle.dictionary.specs.AcceptedParts.{accepted, names_of}
 pub use Rattle.evaluation.proofs.MemberLaws.{member_list-length}
 pub use Rattle.evaluation.specs.Results.{slot}
 pub use Rattle.fact_paths.proofs.CutLaws.{after-append, after_some, cut-append, cut-lacks, cut_some, front_lacks, uncut_lacks}

@@ -1,7 +1,7 @@
 // A cursor over the slots that stand.
 ghost use Rattle.std.specs.Prelude.{◌≡◌};
 ghost use Rattle.answers.specs.Meaning.{answered};
-ghost use Rattle.dictionary.specs.Kept.{accepted};
+ghost use Rattle.dictionary.specs.AcceptedParts.{accepted};
 ghost use Rattle.saved_text.specs.Cursors.{first_left, slots_left};
 ghost use Rattle.saved_text.specs.SavedText.{slots};
 

@@ -3,7 +3,7 @@ ghost use Rattle.std.specs.Prelude.{◌≡◌, ◌+◌, ◌≤◌, ◌++◌, ◌
 ghost use Rattle.answers.specs.Answered.{value_of};
 ghost use Rattle.answers.specs.Meaning.{answered};
 ghost use Rattle.value_text.specs.Values.{IsPrinted};
-ghost use Rattle.dictionary.specs.Kept.{accepted};
+ghost use Rattle.dictionary.specs.AcceptedParts.{accepted};
 ghost use Rattle.dict_meaning.specs.Fits.{AnswersFit};
 ghost use Rattle.dict_meaning.specs.SlotText.{IsSlot, slot_text};
 ghost use Rattle.saved_text.specs.SavedText.{entries, entry_line, entry_lines, side_word as word_of_side};

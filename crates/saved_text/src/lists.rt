@@ -4,7 +4,7 @@ ghost use Rattle.std.specs.List.{list_all};
 ghost use Rattle.fact_values.specs.Members.{IsMemberList, is_member};
 ghost use Rattle.value_text.specs.MemberTexts.{printed_item, printed_rest};
 ghost use Rattle.answers.specs.Meaning.{answered};
-ghost use Rattle.dictionary.specs.Kept.{accepted};
+ghost use Rattle.dictionary.specs.AcceptedParts.{accepted};
 ghost use Rattle.dict_meaning.specs.Fits.{AnswersFit};
 ghost use Rattle.evaluation.specs.Results.{slot};
 ghost use Rattle.dict_meaning.specs.SlotText.{IsSlot};

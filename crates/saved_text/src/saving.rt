@@ -4,7 +4,7 @@ ghost use Rattle.answers.specs.Meaning.{answered};
 ghost use Rattle.fg_io.specs.Outside.{HasCause};
 ghost use Rattle.fg_io.specs.Puts.{PutAs};
 ghost use Rattle.fg_io.specs.Sent.{Sent};
-ghost use Rattle.dictionary.specs.Kept.{accepted};
+ghost use Rattle.dictionary.specs.AcceptedParts.{accepted};
 ghost use Rattle.dict_meaning.specs.Fits.{AnswersFit};
 ghost use Rattle.saved_text.specs.SavedText.{next_line, saved, saved_lines};
 ghost use Rattle.saved_text.specs.Writing.{WroteAs, pieces_of};

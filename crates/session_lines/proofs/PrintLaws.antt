@@ -9,7 +9,7 @@ use Rattle.three_state.specs.declared.res.Res.TheVariants.{Complete, Placeholder
 use Rattle.evaluation.specs.Typed.{IsResOfType}
 use Rattle.answers.specs.Answered.{Answered}
 use Rattle.dict_meaning.specs.Accepted.{Accepted, IsAccepted}
-use Rattle.dictionary.specs.Kept.{Kept, accepted, names_of}
+use Rattle.dictionary.specs.AcceptedParts.{AcceptedParts, accepted, names_of}
 use Rattle.dict_meaning.specs.Fits.{AnswersFit, domains}
 use Rattle.dict_meaning.specs.Plain.{plain}
 use Rattle.dict_meaning.specs.Slots.{stands}
@@ -37,9 +37,9 @@ result_printed names d accepted a fit s r e =
     res_printed d.tree a r typed.0 (typed_results names d accepted a fit s r e typed.0 (type_of_number d.tree s.fact there.0 typed.0 there.1 typed.1.stated))
 
 -- the same of a session's result: its dictionary is seen through the source and the lists that were asked for
-pub result_listed : (k : Kept) (a : Answered) (s : Slot) (r : Res) (dict : Kept) (source : Written) (lists : List Listed) → dict ≡ k → source ≡ dict.source → lists ≡ source.enums
+pub result_listed : (k : AcceptedParts) (a : Answered) (s : Slot) (r : Res) (dict : AcceptedParts) (source : Written) (lists : List Listed) → dict ≡ k → source ≡ dict.source → lists ≡ source.enums
     → IsAccepted (names_of dict.checks) (accepted dict) → AnswersFit (accepted k).tree a → plain (accepted k) a s ≡ Some r → IsResPrinted lists r
 result_listed k a s r dict source lists same of_dict of_source is fit e =
-    let enums : lists ≡ (accepted k).tree.enums = of_source ∙ ap (λ (w : Written). w.enums) (of_dict ∙ ap (λ (d : Kept). d.source) same) in
+    let enums : lists ≡ (accepted k).tree.enums = of_source ∙ ap (λ (w : Written). w.enums) (of_dict ∙ ap (λ (d : AcceptedParts). d.source) same) in
     let kept : IsAccepted (names_of k.checks) (accepted k) = subst (λ d. IsAccepted (names_of d.checks) (accepted d)) same is in
     subst (λ l. IsResPrinted l r) (sym enums) (result_printed (names_of k.checks) (accepted k) kept a fit s r e)

@@ -4,7 +4,7 @@ use Rattle.std.specs.Prelude.{◌+◌, codes}
 use Rattle.std.specs.List.{position_from}
 use Rattle.std.specs.Str.{bytes_eq}
 use Rattle.text_checks.specs.Places.{place_of}
-use Rattle.dictionary.specs.Kept.{Named}
+use Rattle.dictionary.specs.AcceptedParts.{Named}
 use Rattle.fact_watch.specs.Refusals.{Refused}
 use Rattle.fact_watch.specs.Watching.{Pair}
 use Rattle.fact_watch.specs.declared.commands.WatchRefusal.{WatchRefusal}

@@ -7,7 +7,7 @@ use Rattle.session_lines.specs.declared.progress.Progress.TheVariants.{More, Ove
 use Rattle.graph_session.specs.Rules.{Rules, rules}
 use Rattle.graph_session.specs.Run.{is_memory}
 use Rattle.graph_session.specs.SessionView.{SessionView, session_state}
-use Rattle.dictionary.specs.Kept.{Named, accepted}
+use Rattle.dictionary.specs.AcceptedParts.{Named, accepted}
 use Rattle.evaluation.specs.Results.{Results}
 use Rattle.dict_meaning.specs.Plain.{plain}
 use Rattle.fact_watch.specs.Tables.{named_relations}

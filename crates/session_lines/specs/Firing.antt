@@ -1,7 +1,7 @@
 -- Which watches fire at a change, and the lines of those that do.
 use Rattle.std.specs.Prelude.{ℕ, List, [], ◌∷◌, ◌++◌, Option, Some, None, codes, filter, map, option_map, slice_get, unwrap_or}
 use Rattle.dict_source.specs.Dictionary.{Dictionary as Tree}
-use Rattle.dictionary.specs.Kept.{Named}
+use Rattle.dictionary.specs.AcceptedParts.{Named}
 use Rattle.evaluation.specs.Results.{Results}
 use Rattle.dict_meaning.specs.SlotText.{slot_text}
 use Rattle.fact_watch.specs.Says.{slot_says}

@@ -12,7 +12,7 @@ use Rattle.script_lines.specs.declared.command.Command.TheVariants as commands
 use Rattle.script_lines.specs.declared.kind.Kind.{Kind}
 use Rattle.script_lines.specs.declared.kind.Kind.TheVariants as kinds
 use Rattle.answers.specs.Answered.{Answered}
-use Rattle.dictionary.specs.Kept.{Named}
+use Rattle.dictionary.specs.AcceptedParts.{Named}
 use Rattle.dict_meaning.specs.Plain.{plain}
 use Rattle.graph_session.specs.Refusals.{slot_found}
 use Rattle.graph_session.specs.Rules.{Rules, tree_of}

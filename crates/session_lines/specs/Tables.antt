@@ -4,7 +4,7 @@ use Rattle.std.specs.Prelude.{ℕ, Bool, false, List, [], ◌∷◌, codes}
 use Rattle.script_lines.specs.Parsing.{Heard, nothing, bad_line, command, heard_in}
 use Rattle.script_lines.specs.declared.lines.Ready.{Ready}
 use Rattle.script_lines.specs.declared.lines.Ready.TheVariants.{NotYet, Whole, Long}
-use Rattle.dictionary.specs.Kept.{Named}
+use Rattle.dictionary.specs.AcceptedParts.{Named}
 use Rattle.graph_session.specs.Refusals.{asks_checks}
 
 abbrev pub standard_checks : List Named

@@ -1,7 +1,7 @@
 // Answers the commands of the session, and tells the watches that fire behind a change.
 ghost use Rattle.std.specs.Prelude.{◌≡◌, ◌≤◌, ◌<◌, ◌+◌, ◌^◌, ◌∷◌, [], true, if◌then◌else◌, IsTrue};
 ghost use Rattle.text_checks.specs.Tables.{named_checks};
-ghost use Rattle.dictionary.specs.Kept.{accepted};
+ghost use Rattle.dictionary.specs.AcceptedParts.{accepted};
 ghost use Rattle.dict_meaning.specs.Plain.{plain};
 ghost use Rattle.evaluation.specs.Results.{Results};
 ghost use Rattle.fact_watch.specs.Tables.{named_relations};

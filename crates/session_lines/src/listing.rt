@@ -1,6 +1,6 @@
 // Writes the reply of `missing`: how many slots there are, and each in a line.
 ghost use Rattle.std.specs.Prelude.{◌≤◌, ◌∷◌, [], All, IsTrue, codes, map};
-ghost use Rattle.dictionary.specs.Kept.{accepted};
+ghost use Rattle.dictionary.specs.AcceptedParts.{accepted};
 ghost use Rattle.dict_meaning.specs.SlotText.{slot_text};
 ghost use Rattle.dict_meaning.specs.Slots.{stands};
 ghost use Rattle.graph_session.specs.Refusals.{slot_found};

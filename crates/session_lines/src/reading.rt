@@ -1,6 +1,6 @@
 // Answers which slots a slot reads: why its result is what it is.
 ghost use Rattle.std.specs.Prelude.{◌≡◌, ◌≤◌, IsTrue};
-ghost use Rattle.dictionary.specs.Kept.{accepted};
+ghost use Rattle.dictionary.specs.AcceptedParts.{accepted};
 ghost use Rattle.dict_meaning.specs.Slots.{stands};
 ghost use Rattle.graph_session.specs.Refusals.{slot_found};
 ghost use Rattle.graph_session.specs.Rules.{rules};

@@ -1,6 +1,6 @@
 // The texts of replies and refusals. Nothing here takes memory.
 ghost use Rattle.std.specs.Prelude.{◌≡◌, ◌+◌, ◌≤◌, ◌++◌, [], codes, length};
-ghost use Rattle.dictionary.specs.Kept.{accepted};
+ghost use Rattle.dictionary.specs.AcceptedParts.{accepted};
 ghost use Rattle.dict_meaning.specs.Final.{is_final as is_final_in};
 ghost use Rattle.dict_meaning.specs.Plain.{plain};
 ghost use Rattle.graph_session.specs.Rules.{rules, tree_of};

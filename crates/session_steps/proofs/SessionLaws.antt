@@ -2,7 +2,7 @@
 use Rattle.std.proofs.Common.{◌≡◌, ℕ, ◌+◌, Bool, true, false, if◌then◌else◌, IsTrue, Option, Some, None, is_some, option_map, refl, sym, ap, ◌∙◌, subst}
 use Rattle.fact_values.specs.declared.slot.Slot.{Slot}
 use Rattle.session_undo.specs.Timeline.{Timeline}
-use Rattle.dictionary.specs.Kept.{names_of}
+use Rattle.dictionary.specs.AcceptedParts.{names_of}
 use Rattle.dict_meaning.specs.Slots.{stands}
 use Rattle.dict_meaning.specs.Touched.{stamped, touches}
 use Rattle.dict_meaning.specs.Weights.{touched_weight}

@@ -4,7 +4,7 @@ use Rattle.fact_values.specs.declared.slot.Slot.{Slot}
 use Rattle.script_lines.specs.declared.command.Command.{Command}
 use Rattle.answers.specs.Answered.{Answered}
 use Rattle.dict_meaning.specs.Accepted.{IsAccepted}
-use Rattle.dictionary.specs.Kept.{names_of}
+use Rattle.dictionary.specs.AcceptedParts.{names_of}
 use Rattle.dict_meaning.specs.Fits.{AnswersFit}
 use Rattle.dict_meaning.specs.Plain.{plain}
 use Rattle.dict_meaning.specs.Slots.{stands}

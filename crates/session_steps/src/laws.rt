@@ -1,6 +1,6 @@
 // What the commands of a session take and leave. Each function's contract is its laws.
 ghost use Rattle.std.specs.Prelude.{◌≡◌, false, IsTrue, Ok, Err};
-ghost use Rattle.dictionary.specs.Kept.{accepted};
+ghost use Rattle.dictionary.specs.AcceptedParts.{accepted};
 ghost use Rattle.dict_meaning.specs.Weights.{touched_weight};
 ghost use Rattle.graph_session.specs.Rules.{rules};
 ghost use Rattle.graph_session.specs.SessionView.{SessionState, session_state};

@@ -5,7 +5,7 @@ ghost use Rattle.answers.specs.Meaning.{answered};
 ghost use Rattle.answers.specs.WellFormed.{FromOne, WellFormed};
 ghost use Rattle.dict_source.specs.Dictionary.{is_collection};
 ghost use Rattle.dict_source.specs.Facts.{stated_view};
-ghost use Rattle.dictionary.specs.Kept.{accepted};
+ghost use Rattle.dictionary.specs.AcceptedParts.{accepted};
 ghost use Rattle.dict_meaning.specs.Fits.{AnswersFit, is_list as is_list_fact};
 
 use answers::Answers;

@@ -6,7 +6,7 @@ use Rattle.fact_values.specs.declared.slot.Slot.{Slot}
 use Rattle.script_lines.specs.declared.command.Command.{Command}
 use Rattle.common_lemmas.proofs.Numbers.{nat_eq-comm}
 use Rattle.answers.specs.Answered.{Answered}
-use Rattle.dictionary.specs.Kept.{Kept, accepted}
+use Rattle.dictionary.specs.AcceptedParts.{AcceptedParts, accepted}
 use Rattle.dict_meaning.specs.Slots.{slot_same}
 use Rattle.graph_session.specs.Naming.{slot_of}
 use Rattle.graph_session.specs.Refusals.{first_of as first_session, slot_found, slot_refusals}
@@ -30,7 +30,7 @@ use Rattle.shared_desk.proofs.StepLaws.{shows_appends_none, shows_no_change}
 pub stepped_from : (u v : DeskView) (p : ℕ) (c : Command) (answer : Result Reply DeskRefusal) (w : DeskView) → u ≡ v → HasStepped u p c answer w → HasStepped v p c answer w
 stepped_from u v p c answer w e h = subst (λ (x : DeskView). HasStepped x p c answer w) e h
 
-pub stands_begun : (k : Kept) (a : Answered) (v : DeskView) (stamps : Bool) → v.session ≡ start_at k a stamps → stamps ≡ true → v.changers ≡ [] → v.entries ≡ [] → v.asked ≡ [] → StandsFor v (desk_begun (rules k) a)
+pub stands_begun : (k : AcceptedParts) (a : Answered) (v : DeskView) (stamps : Bool) → v.session ≡ start_at k a stamps → stamps ≡ true → v.changers ≡ [] → v.entries ≡ [] → v.asked ≡ [] → StandsFor v (desk_begun (rules k) a)
 stands_begun k a v stamps e kept_stamps no_changers no_entries nothing_seen = record {
   orderly = order_begun (rules k) a;
   session_state = ap session_state e ∙ ap (begun (accepted k) a) kept_stamps;

@@ -17,7 +17,7 @@ use Rattle.answers.specs.Answered.{Answered, value_of}
 use Rattle.answers.specs.declared.edit.Side.TheVariants.{Answer, Override}
 use Rattle.session_undo.specs.Timeline.{Timeline}
 use Rattle.dict_meaning.specs.Accepted.{Accepted, IsAccepted}
-use Rattle.dictionary.specs.Kept.{names_of}
+use Rattle.dictionary.specs.AcceptedParts.{names_of}
 use Rattle.dict_meaning.specs.Extension.{both_same, extends}
 use Rattle.dict_meaning.specs.Final.{is_final}
 use Rattle.dict_meaning.specs.Fits.{AnswersFit}

@@ -7,7 +7,7 @@ use Rattle.script_lines.specs.declared.command.Command.{Command}
 use Rattle.answers.specs.Answered.{Answered, value_of}
 use Rattle.answers.specs.declared.edit.Side.TheVariants.{Answer, Override}
 use Rattle.dict_meaning.specs.Accepted.{Accepted, IsAccepted}
-use Rattle.dictionary.specs.Kept.{names_of}
+use Rattle.dictionary.specs.AcceptedParts.{names_of}
 use Rattle.dict_meaning.specs.Fits.{AnswersFit}
 use Rattle.dict_meaning.specs.Plain.{plain}
 use Rattle.graph_session.specs.Naming.{slot_of}

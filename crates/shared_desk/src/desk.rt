@@ -1,7 +1,7 @@
 // A session that several parties use.
 ghost use Rattle.std.specs.Prelude.{◌≡◌, ◌+◌, ◌<◌, ◌≤◌, ◌^◌, ◌&&◌, not, [], IfErr, IfOk, IsTrue, OnErr, OnOk, None, Some, Ok, true, false};
 ghost use Rattle.text_checks.specs.Tables.{named_checks};
-ghost use Rattle.dictionary.specs.Kept.{accepted};
+ghost use Rattle.dictionary.specs.AcceptedParts.{accepted};
 ghost use Rattle.dict_meaning.specs.Fits.{AnswersFit, is_list as is_list_of};
 ghost use Rattle.dict_meaning.specs.Slots.{is_member, stands};
 ghost use Rattle.answers.specs.Answered.{start};

@@ -10,7 +10,7 @@ use Rattle.dict_order.specs.MentionGraph.{mention_graph}
 use Rattle.dict_order.specs.Ranks.{are_ranks}
 use Rattle.dict_order.proofs.RankLaws.{no_cycle, test_tells}
 use Rattle.dict_meaning.specs.Accepted.{IsAccepted}
-use Rattle.dictionary.specs.Kept.{Kept, accepted}
+use Rattle.dictionary.specs.AcceptedParts.{AcceptedParts, accepted}
 use Rattle.dictionary.specs.Faults.{HasNoFault}
 use Rattle.dictionary.proofs.FirstLaws.{has_no_fault}
 use Rattle.tax_2023.specs.Facts.{dictionary}
@@ -48,6 +48,6 @@ year_has_none y = no_fault (dictionary (figures (tables_of y))) ranks (sound y)
 
 -- ---- the dictionary that is answered is that of the year
 
-pub is_of_year : (y : Year) (source : Written) → dictionary_view source ≡ dictionary (figures y) → (r : Result Kept NoMemory) → IfOk r (λ d. IsAccepted [] (accepted d)) → IfOk r (λ d. d.source ≡ source) → IfOk r (λ d. IsOfYear y (accepted d))
+pub is_of_year : (y : Year) (source : Written) → dictionary_view source ≡ dictionary (figures y) → (r : Result AcceptedParts NoMemory) → IfOk r (λ d. IsAccepted [] (accepted d)) → IfOk r (λ d. d.source ≡ source) → IfOk r (λ d. IsOfYear y (accepted d))
 is_of_year y source e (Ok d) h k = record { is_accepted = h; facts = ap dictionary_view k ∙ e }
 is_of_year y source e (Err fault) h k = tt

@@ -1,6 +1,6 @@
 // The dictionary of each year.
 ghost use Rattle.std.specs.Prelude.{◌≡◌, [], IfOk};
-ghost use Rattle.dictionary.specs.Kept.{accepted};
+ghost use Rattle.dictionary.specs.AcceptedParts.{accepted};
 ghost use Rattle.tax_2023.specs.Laws.{IsOfYear};
 ghost use Rattle.tax_2023.specs.Years.{tables_of};
 ghost use Rattle.tax_2023.specs.declared.years.TaxYear.TheVariants.{Year2023, Year2024};

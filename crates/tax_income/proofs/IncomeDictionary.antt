@@ -7,7 +7,7 @@ use Rattle.dict_source.specs.Dictionary.{Written, dictionary_view}
 use Rattle.dict_order.specs.MentionGraph.{mention_graph}
 use Rattle.dict_order.specs.Ranks.{are_ranks}
 use Rattle.dict_meaning.specs.Accepted.{IsAccepted}
-use Rattle.dictionary.specs.Kept.{Kept, accepted}
+use Rattle.dictionary.specs.AcceptedParts.{AcceptedParts, accepted}
 use Rattle.dictionary.specs.Faults.{HasNoFault}
 use Rattle.written_facts.specs.Figures.{Named}
 use Rattle.tax_2023.specs.Figures.{figures, spelled_day, spelled_dollars}
@@ -44,6 +44,6 @@ pub income_has_none : (y : TaxYear) → HasNoFault (dictionary_of (income_of y))
 income_has_none y = no_fault (dictionary_of (income_of y)) (ranks ++ further_ranks) (sound y)
 
 -- the dictionary that is answered is that of the year
-pub is_of_income : (y : IncomeYear) (source : Written) → dictionary_view source ≡ dictionary_of y → (r : Result Kept NoMemory) → IfOk r (λ d. IsAccepted [] (accepted d)) → IfOk r (λ d. d.source ≡ source) → IfOk r (λ d. IsOfIncome y (accepted d))
+pub is_of_income : (y : IncomeYear) (source : Written) → dictionary_view source ≡ dictionary_of y → (r : Result AcceptedParts NoMemory) → IfOk r (λ d. IsAccepted [] (accepted d)) → IfOk r (λ d. d.source ≡ source) → IfOk r (λ d. IsOfIncome y (accepted d))
 is_of_income y source e (Ok d) h k = record { is_accepted = h; facts = ap dictionary_view k ∙ e }
 is_of_income y source e (Err fault) h k = tt

@@ -1,6 +1,6 @@
 // The dictionary of each year.
 ghost use Rattle.std.specs.Prelude.{◌≡◌, [], IfOk};
-ghost use Rattle.dictionary.specs.Kept.{accepted};
+ghost use Rattle.dictionary.specs.AcceptedParts.{accepted};
 ghost use Rattle.tax_income.specs.Laws.{IsOfIncome};
 ghost use Rattle.tax_income.specs.Years.{income_of};
 

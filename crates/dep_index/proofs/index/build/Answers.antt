@@ -1,6 +1,6 @@
 use Rattle.std.proofs.Common.{◌≤◌, ap, sym, subst, ◌∙◌, arith, length}
 use Rattle.std.proofs.lemmas.List.{drop_all}
-use Rattle.dictionary.specs.Kept.{accepted, names_of}
+use Rattle.dictionary.specs.AcceptedParts.{accepted, names_of}
 use Rattle.dep_index.specs.Noting.{with_facts}
 use Rattle.dep_index.specs.Readers.{AreReaders, readers_of}
 use Rattle.dep_index.proofs.ReaderLaws.{readers_in_order}

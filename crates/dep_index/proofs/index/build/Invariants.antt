@@ -1,6 +1,6 @@
 use Rattle.std.proofs.Common.{◌≡◌, ℕ, [], drop, length}
 use Rattle.std.specs.Prelude.{vec_len}
-use Rattle.dictionary.specs.Kept.{accepted}
+use Rattle.dictionary.specs.AcceptedParts.{accepted}
 use Rattle.dep_index.specs.Noting.{with_facts}
 use Rattle.dep_index.specs.Readers.{readers_of}
 use Rattle.dep_index.proofs.index.build.Given as goal

@@ -1,7 +1,7 @@
 use Rattle.std.proofs.Common.{ℕ, List, [], map, subst}
 use Rattle.dict_source.specs.Dictionary.{dictionary_view}
 use Rattle.dict_meaning.specs.Accepted.{IsAccepted}
-use Rattle.dictionary.specs.Kept.{accepted}
+use Rattle.dictionary.specs.AcceptedParts.{accepted}
 use Rattle.dictionary.specs.Faults.{IsFaultOf, Refuses}
 use Rattle.dictionary.proofs.FirstLaws.{only_memory}
 use Rattle.dictionary.proofs.faultless.of_faultless_source.Goals as goal

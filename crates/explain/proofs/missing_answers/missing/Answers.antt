@@ -3,7 +3,7 @@ use Rattle.std.specs.Prelude.{IfOk}
 use Rattle.common_lemmas.proofs.Lists.{same_filter}
 use Rattle.fact_values.specs.declared.slot.Slot.{Slot}
 use Rattle.dict_meaning.specs.Accepted.{IsAccepted}
-use Rattle.dictionary.specs.Kept.{Kept, accepted, names_of}
+use Rattle.dictionary.specs.AcceptedParts.{AcceptedParts, accepted, names_of}
 use Rattle.dict_meaning.specs.Slots.{standing}
 use Rattle.explain.specs.Listing.{is_listed}
 use Rattle.explain.specs.Missing.{Keeps, is_missing, is_unanswered}
@@ -27,6 +27,6 @@ returns-clause-keeps g c =
     (λ ts e.
     subst (λ (l : List Slot). Keeps d s.timeline.now c.args.slot l) (sym e)
     (missing_keep (names_of s.dict.checks) d
-    (subst (λ (k : Kept). IsAccepted (names_of k.checks) (accepted k)) c.dict-dict.ensures c.source-accepted.ensures.is_accepted)
+    (subst (λ (k : AcceptedParts). IsAccepted (names_of k.checks) (accepted k)) c.dict-dict.ensures c.source-accepted.ensures.is_accepted)
     s.timeline.now c.args.slot c.requires))
     c.list.result (returns-clause-value g c)

@@ -1,7 +1,7 @@
 use Rattle.std.proofs.Common.{IsTrue, List, false, sym, subst}
 use Rattle.std.specs.Prelude.{All}
 use Rattle.fact_values.specs.declared.slot.Slot.{Slot}
-use Rattle.dictionary.specs.Kept.{accepted}
+use Rattle.dictionary.specs.AcceptedParts.{accepted}
 use Rattle.dict_meaning.specs.Slots.{stands}
 use Rattle.explain.specs.Reads.{slot_reads, standing_reads}
 use Rattle.explain.proofs.ListingLaws.{if_ok}

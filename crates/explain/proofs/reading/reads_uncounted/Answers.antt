@@ -1,6 +1,6 @@
 use Rattle.std.proofs.Common.{◌≡◌, Bool, false, List, filter, ap, ◌∙◌, ◌++◌}
 use Rattle.fact_values.specs.declared.slot.Slot.{Slot}
-use Rattle.dictionary.specs.Kept.{accepted}
+use Rattle.dictionary.specs.AcceptedParts.{accepted}
 use Rattle.dict_meaning.specs.Slots.{stands}
 use Rattle.explain.specs.Found.{has}
 use Rattle.explain.specs.Reads.{new_among, slot_reads}

@@ -1,5 +1,5 @@
 use Rattle.std.proofs.Common.{is_some, sym, ap, ◌∙◌}
-use Rattle.dictionary.specs.Kept.{accepted}
+use Rattle.dictionary.specs.AcceptedParts.{accepted}
 use Rattle.dict_meaning.proofs.PlainLaws.{standing_have_results}
 use Rattle.explain.specs.SessionContext.{tree_of}
 use Rattle.explain.proofs.WalkLaws.{added_if, skipped}

@@ -1,5 +1,5 @@
 use Rattle.std.proofs.Common.{◌+◌, length}
-use Rattle.dictionary.specs.Kept.{accepted}
+use Rattle.dictionary.specs.AcceptedParts.{accepted}
 use Rattle.explain.specs.SessionContext.{tree_of}
 use Rattle.explain.specs.Walk.{IsWalked, unfound}
 use Rattle.explain.proofs.walk.find_reads.Given as goal

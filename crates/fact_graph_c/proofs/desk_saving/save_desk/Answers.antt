@@ -1,6 +1,6 @@
 use Rattle.std.proofs.Common.{◌≡◌, List, ℕ, ◌++◌, refl, ap, ◌∙◌}
 use Rattle.answers.specs.Meaning.{answered}
-use Rattle.dictionary.specs.Kept.{accepted}
+use Rattle.dictionary.specs.AcceptedParts.{accepted}
 use Rattle.saved_text.specs.SavedText.{saved}
 use Rattle.graph_session.specs.SessionView.{SessionView}
 use Rattle.fact_graph_c.proofs.TextLaws.{put_whole}

@@ -1,5 +1,5 @@
 use Rattle.std.proofs.Common.{ℕ, List, sym, ap, subst, ◌∙◌}
-use Rattle.dictionary.specs.Kept.{accepted, names_of}
+use Rattle.dictionary.specs.AcceptedParts.{accepted, names_of}
 use Rattle.dictionary.specs.Faults.{AreAccepted, IsFault, Refuses}
 use Rattle.dictionary.proofs.KeptLaws.{names_are}
 use Rattle.fact_graph_c.proofs.opening.accepted_dictionary.Goals as goal

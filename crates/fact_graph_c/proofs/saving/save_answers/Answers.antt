@@ -1,6 +1,6 @@
 use Rattle.std.proofs.Common.{◌≡◌, List, ℕ, ◌++◌, refl, ap, ◌∙◌}
 use Rattle.answers.specs.Meaning.{answered}
-use Rattle.dictionary.specs.Kept.{accepted}
+use Rattle.dictionary.specs.AcceptedParts.{accepted}
 use Rattle.saved_text.specs.SavedText.{saved}
 use Rattle.fact_graph_c.proofs.TextLaws.{put_whole}
 use Rattle.fact_graph_c.proofs.saving.save_answers.Goals as goal

@@ -1,5 +1,5 @@
 use Rattle.std.proofs.Common.{sym, subst}
-use Rattle.dictionary.specs.Kept.{accepted}
+use Rattle.dictionary.specs.AcceptedParts.{accepted}
 use Rattle.dict_meaning.specs.Fits.{AnswersFit}
 use Rattle.dict_meaning.proofs.FitStart.{start_fits}
 use Rattle.graph_session.specs.Rules.{rules}

@@ -2,7 +2,7 @@ use Rattle.std.proofs.Common.{ℕ, ◌+◌, ◌∙◌, ap, arith, drop, get_or, 
 use Rattle.std.proofs.lemmas.List.{at_drop_more}
 use Rattle.std.proofs.lemmas.List.Sums.{sum_by-cons}
 use Rattle.answers.specs.Meaning.{answered}
-use Rattle.dictionary.specs.Kept.{accepted, names_of}
+use Rattle.dictionary.specs.AcceptedParts.{accepted, names_of}
 use Rattle.dict_meaning.specs.Slots.{slots_of}
 use Rattle.dict_meaning.specs.Weights.{slot_weight}
 use Rattle.dictionary.proofs.ByRankLaws.{fact_at_place}

@@ -1,6 +1,6 @@
 use Rattle.std.proofs.Common.{◌≡◌, ◌+◌, ◌≤◌, drop, take, sum_by}
 use Rattle.answers.specs.Meaning.{answered}
-use Rattle.dictionary.specs.Kept.{accepted}
+use Rattle.dictionary.specs.AcceptedParts.{accepted}
 use Rattle.dict_meaning.specs.Slots.{slots_of}
 use Rattle.dict_meaning.specs.Weights.{slot_weight, whole_weight}
 use Rattle.visit_counts.specs.SlotVisits.{slot_visits, whole_visits}

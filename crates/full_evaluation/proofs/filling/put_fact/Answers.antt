@@ -1,7 +1,7 @@
 use Rattle.std.proofs.Common.{◌≡◌, ℕ, ◌+◌, List, map, sum_by, sym, ap, subst, ◌∙◌}
 use Rattle.std.specs.Prelude.{OnOk}
 use Rattle.answers.specs.Meaning.{answered}
-use Rattle.dictionary.specs.Kept.{accepted}
+use Rattle.dictionary.specs.AcceptedParts.{accepted}
 use Rattle.evaluation.specs.Results.{slot}
 use Rattle.dict_meaning.specs.Slots.{members_of_home}
 use Rattle.visit_counts.specs.SlotVisits.{slot_visits}

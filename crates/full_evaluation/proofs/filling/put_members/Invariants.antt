@@ -1,7 +1,7 @@
 use Rattle.std.proofs.Common.{◌≡◌, ◌+◌, ◌≤◌, drop, sum_by}
 use Rattle.fact_values.specs.declared.slot.Slot.{Slot}
 use Rattle.answers.specs.Meaning.{answered}
-use Rattle.dictionary.specs.Kept.{accepted}
+use Rattle.dictionary.specs.AcceptedParts.{accepted}
 use Rattle.dict_meaning.specs.Plain.{IsPlainBelow, rank}
 use Rattle.evaluation.specs.Results.{slot}
 use Rattle.dict_meaning.specs.Weights.{slot_weight}

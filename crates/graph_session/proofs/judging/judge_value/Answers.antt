@@ -1,4 +1,4 @@
-use Rattle.dictionary.specs.Kept.{accepted, names_of}
+use Rattle.dictionary.specs.AcceptedParts.{accepted, names_of}
 use Rattle.graph_session.proofs.LimitLaws.{value_measured}
 use Rattle.graph_session.proofs.judging.judge_value.Goals as goal
 

@@ -1,7 +1,7 @@
 use Rattle.std.proofs.Common.{◌≡◌, List, [], Option, ap, sym, length, ◌≤◌, subst}
 use Rattle.std.specs.Prelude.{unwrap_or}
 use Rattle.dict_types.specs.declared.limit.Limit.{Limit}
-use Rattle.dictionary.specs.Kept.{accepted, names_of}
+use Rattle.dictionary.specs.AcceptedParts.{accepted, names_of}
 use Rattle.graph_session.specs.Kinds.{limits_of}
 use Rattle.graph_session.proofs.LimitLaws.{limits_few}
 use Rattle.graph_session.proofs.TypeLaws.{kept_there}

@@ -1,4 +1,4 @@
-use Rattle.dictionary.specs.Kept.{accepted, names_of}
+use Rattle.dictionary.specs.AcceptedParts.{accepted, names_of}
 use Rattle.graph_session.proofs.TypeLaws.{given_read}
 use Rattle.graph_session.proofs.judging.read_value.Goals as goal
 

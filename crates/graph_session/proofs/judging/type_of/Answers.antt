@@ -1,4 +1,4 @@
-use Rattle.dictionary.specs.Kept.{accepted, names_of}
+use Rattle.dictionary.specs.AcceptedParts.{accepted, names_of}
 use Rattle.graph_session.proofs.TypeLaws.{type_kept, kept_there}
 use Rattle.graph_session.proofs.judging.type_of.Goals as goal
 

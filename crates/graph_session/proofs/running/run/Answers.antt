@@ -2,7 +2,7 @@ use Rattle.std.proofs.Common.{◌≡◌, ◌+◌, ◌∷◌, ◌++◌, List, dro
 use Rattle.std.proofs.lemmas.List.{drop_more}
 use Rattle.std.specs.Prelude.{Result, Ok, IfErr, IfOk}
 use Rattle.script_lines.specs.declared.command.Command.{Command}
-use Rattle.dictionary.specs.Kept.{Kept}
+use Rattle.dictionary.specs.AcceptedParts.{AcceptedParts}
 use Rattle.graph_session.specs.Refusals.{Refused}
 use Rattle.graph_session.specs.Rules.{rules}
 use Rattle.graph_session.specs.Run.{IsAfterSome, replies}
@@ -25,8 +25,8 @@ returns-in_err-push-clause-stopped g c =
     let i = c.loop-command.command-index in
     let x = c.command-item.result in
     let answer = c.command-said.result in
-    let ok = subst (λ (k : Kept). IfOk answer (λ q. step (rules k) (session_state s) x ≡ Ok (q, session_state t))) c.loop-command.invariant.dict c.command-said.ensures.ok in
-    let refused = subst (λ (k : Kept). IfErr answer (λ q. Refused q (refusal (rules k) (session_state s) x))) c.loop-command.invariant.dict c.command-said.ensures.refused in
+    let ok = subst (λ (k : AcceptedParts). IfOk answer (λ q. step (rules k) (session_state s) x ≡ Ok (q, session_state t))) c.loop-command.invariant.dict c.command-said.ensures.ok in
+    let refused = subst (λ (k : AcceptedParts). IfErr answer (λ q. Refused q (refusal (rules k) (session_state s) x))) c.loop-command.invariant.dict c.command-said.ensures.refused in
     let on : Follows r (session_state s) (session_state t) x answer =
     follows r (session_state s) (session_state t) x answer (sym c.is_memory.ensures ∙ c.if-is_memory.false) ok refused (same_session_state s t answer c.command-said.ensures.unchanged) in
     either_way (IsAfterSome r (session_state c.args.session.now) c.args.commands.now (session_state t)) c.from_residual.result
@@ -42,8 +42,8 @@ loop-command-preserved g c =
     let x = c.command-item.result in
     let answer = c.command-said.result in
     let here : drop i cs ≡ x ∷ drop (i + 1) cs = drop_more cs i x c.loop-command-test.true ∙ ap (λ (y : Command). y ∷ drop (i + 1) cs) (sym c.command-item.is) in
-    let ok = subst (λ (k : Kept). IfOk answer (λ q. step (rules k) (session_state s) x ≡ Ok (q, session_state t))) c.loop-command.invariant.dict c.command-said.ensures.ok in
-    let refused = subst (λ (k : Kept). IfErr answer (λ q. Refused q (refusal (rules k) (session_state s) x))) c.loop-command.invariant.dict c.command-said.ensures.refused in
+    let ok = subst (λ (k : AcceptedParts). IfOk answer (λ q. step (rules k) (session_state s) x ≡ Ok (q, session_state t))) c.loop-command.invariant.dict c.command-said.ensures.ok in
+    let refused = subst (λ (k : AcceptedParts). IfErr answer (λ q. Refused q (refusal (rules k) (session_state s) x))) c.loop-command.invariant.dict c.command-said.ensures.refused in
     let on : Follows r (session_state s) (session_state t) x answer =
     follows r (session_state s) (session_state t) x answer (sym c.is_memory.ensures ∙ c.if-is_memory.false) ok refused (same_session_state s t answer c.command-said.ensures.unchanged) in
     record {

@@ -1,6 +1,6 @@
 use Rattle.std.proofs.Common.{◌++◌, codes, length}
 use Rattle.dictionary.specs.Keeping.{node_count}
-use Rattle.dictionary.specs.Kept.{accepted}
+use Rattle.dictionary.specs.AcceptedParts.{accepted}
 use Rattle.session_lines.specs.Replies.{numbered}
 use Rattle.interview.specs.FaultLines.{fault_name, fault_place}
 use Rattle.interview.specs.declared.fetching.Fetched.TheVariants as fetches

@@ -1,5 +1,5 @@
 use Rattle.std.proofs.Common.{◌≡◌, ◌∙◌}
-use Rattle.dictionary.specs.Kept.{accepted}
+use Rattle.dictionary.specs.AcceptedParts.{accepted}
 use Rattle.interview.specs.Interview.{defined_accepted}
 use Rattle.interview.specs.FaultLines.{accepted_line}
 use Rattle.interview.proofs.checking.end_accepted.Goals as goal

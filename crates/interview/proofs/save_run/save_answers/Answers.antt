@@ -1,7 +1,7 @@
 use Rattle.std.proofs.Common.{◌≡◌, inl, inr, refl, subst}
 use Rattle.fg_io.proofs.SentLaws.{sent_whole}
 use Rattle.answers.specs.Meaning.{answered}
-use Rattle.dictionary.specs.Kept.{accepted}
+use Rattle.dictionary.specs.AcceptedParts.{accepted}
 use Rattle.saved_text.specs.SavedText.{saved_lines}
 use Rattle.session_lines.specs.Writing.{WroteLines, WroteSome}
 use Rattle.interview.proofs.save_run.save_answers.Goals as goal

@@ -1,6 +1,6 @@
 use Rattle.std.proofs.Common.{◌≡◌, map, subst}
 use Rattle.dict_source.specs.Dictionary.{Written, dictionary_view}
-use Rattle.dictionary.specs.Kept.{names_of}
+use Rattle.dictionary.specs.AcceptedParts.{names_of}
 use Rattle.node_compile.specs.Compiling.{facts_trees}
 use Rattle.node_compile.specs.FactTrees.{trees_of}
 use Rattle.node_compile.proofs.FactLaws.{is_compiled}

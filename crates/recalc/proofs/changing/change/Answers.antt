@@ -1,5 +1,5 @@
 use Rattle.std.proofs.Common.{◌∙◌}
-use Rattle.dictionary.specs.Kept.{names_of}
+use Rattle.dictionary.specs.AcceptedParts.{names_of}
 use Rattle.recalc.specs.Updates.{answers_after, dict_of, undo_of}
 use Rattle.recalc.proofs.EngineLaws.{changed_count, changed_results, changed_stamps}
 use Rattle.recalc.proofs.changing.change.Goals as goal

@@ -1,6 +1,6 @@
 use Rattle.std.proofs.Common.{ℕ, Bool, ◌≡◌, ◌≤◌, ◌+◌, subst, sym}
 use Rattle.std.specs.Prelude.{OnOk}
-use Rattle.dictionary.specs.Kept.{names_of}
+use Rattle.dictionary.specs.AcceptedParts.{names_of}
 use Rattle.recalc.specs.Running.{IsPropagation, IsRunning}
 use Rattle.recalc.specs.Updates.{answers_after, dict_of, undo_of, update_setting, update_spread}
 use Rattle.recalc.proofs.EngineLaws.{change_propagation, change_running, change_visits, change_weight}

@@ -5,7 +5,7 @@ use Rattle.dict_source.specs.Facts.{fact_view}
 use Rattle.dict_source.specs.Finding.{fact_at}
 use Rattle.three_state.specs.declared.res.Res.{Res}
 use Rattle.answers.specs.Meaning.{answered}
-use Rattle.dictionary.specs.Kept.{accepted, names_of}
+use Rattle.dictionary.specs.AcceptedParts.{accepted, names_of}
 use Rattle.recalc.specs.Running.{live_results}
 use Rattle.recalc.proofs.EvaluatingLaws.{nodes_give_plain, nodes_visit, nodes_weigh}
 use Rattle.recalc.proofs.Outcomes.{ok_then}

@@ -1,4 +1,4 @@
-use Rattle.dictionary.specs.Kept.{accepted, names_of}
+use Rattle.dictionary.specs.AcceptedParts.{accepted, names_of}
 use Rattle.recalc.proofs.SeedingLaws.{order_numbers}
 use Rattle.recalc.proofs.global_places.global_places.Goals as goal
 

@@ -2,7 +2,7 @@ use Rattle.std.proofs.Common.{◌≡◌, ◌||◌, Bool, true, false, IsTrue, Al
 use Rattle.fact_values.specs.declared.slot.Slot.{Slot}
 use Rattle.answers.specs.Answered.{Answered}
 use Rattle.answers.specs.Meaning.{answered}
-use Rattle.dictionary.specs.Kept.{accepted}
+use Rattle.dictionary.specs.AcceptedParts.{accepted}
 use Rattle.dict_source.specs.Finding.{IsNumber}
 use Rattle.dep_index.specs.Readers.{readers_of}
 use Rattle.dep_index.specs.declared.readers_of.ReaderOf.{ReaderOf}

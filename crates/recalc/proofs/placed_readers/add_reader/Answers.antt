@@ -1,5 +1,5 @@
 use Rattle.std.proofs.Common.{refl}
-use Rattle.dictionary.specs.Kept.{accepted}
+use Rattle.dictionary.specs.AcceptedParts.{accepted}
 use Rattle.recalc.proofs.PlacingLaws.{one_placed}
 use Rattle.recalc.proofs.placed_readers.add_reader.Goals as goal
 

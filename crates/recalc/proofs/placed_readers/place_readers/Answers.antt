@@ -1,6 +1,6 @@
 use Rattle.std.proofs.Common.{◌≡◌, ◌+◌, ℕ, All, List, [], length, subst, sym, arith}
 use Rattle.std.specs.Prelude.{IfSome, slice_get}
-use Rattle.dictionary.specs.Kept.{accepted}
+use Rattle.dictionary.specs.AcceptedParts.{accepted}
 use Rattle.dict_source.specs.Finding.{IsNumber}
 use Rattle.dep_index.specs.Readers.{readers_of}
 use Rattle.dep_index.specs.declared.readers_of.ReaderOf.{ReaderOf}

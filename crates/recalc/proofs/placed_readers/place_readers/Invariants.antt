@@ -1,6 +1,6 @@
 use Rattle.std.proofs.Common.{◌≡◌, ◌+◌, ℕ, []}
 use Rattle.std.specs.Prelude.{IfSome, slice_get, vec_len}
-use Rattle.dictionary.specs.Kept.{accepted}
+use Rattle.dictionary.specs.AcceptedParts.{accepted}
 use Rattle.dep_index.specs.Readers.{readers_of}
 use Rattle.recalc.specs.PlacedReaders.{ArePlaced}
 use Rattle.recalc.proofs.placed_readers.place_readers.Given as goal

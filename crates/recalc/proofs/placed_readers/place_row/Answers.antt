@@ -1,6 +1,6 @@
 use Rattle.std.proofs.Common.{◌+◌, drop, List, subst}
 use Rattle.std.proofs.lemmas.List.{at_drop_more}
-use Rattle.dictionary.specs.Kept.{accepted}
+use Rattle.dictionary.specs.AcceptedParts.{accepted}
 use Rattle.dep_index.specs.declared.readers_of.ReaderOf.{ReaderOf}
 use Rattle.recalc.specs.PlacedReaders.{ArePlaced}
 use Rattle.recalc.proofs.placed_readers.place_row.Goals as goal

@@ -1,5 +1,5 @@
 use Rattle.std.proofs.Common.{drop}
-use Rattle.dictionary.specs.Kept.{accepted}
+use Rattle.dictionary.specs.AcceptedParts.{accepted}
 use Rattle.recalc.specs.PlacedReaders.{ArePlaced}
 use Rattle.recalc.proofs.placed_readers.place_row.Given as goal
 

@@ -1,5 +1,5 @@
 use Rattle.std.proofs.Common.{◌≡◌, ◌||◌, drop}
-use Rattle.dictionary.specs.Kept.{accepted}
+use Rattle.dictionary.specs.AcceptedParts.{accepted}
 use Rattle.recalc.specs.Seeding.{is_field}
 use Rattle.dirty_slots.specs.Waiting.{waits}
 use Rattle.dirty_slots.specs.declared.dirty_slot.DirtySlot.{DirtySlot}

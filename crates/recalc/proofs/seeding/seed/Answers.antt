@@ -1,6 +1,6 @@
 use Rattle.std.proofs.Common.{◌||◌, ap, ◌∙◌}
 use Rattle.answers.specs.Meaning.{answered, change}
-use Rattle.dictionary.specs.Kept.{accepted, names_of}
+use Rattle.dictionary.specs.AcceptedParts.{accepted, names_of}
 use Rattle.recalc.specs.Seeding.{is_came, is_own}
 use Rattle.recalc.proofs.Outcomes.{ok_then}
 use Rattle.recalc.proofs.SeedingLaws.{first_wait, order_numbers, own_number}

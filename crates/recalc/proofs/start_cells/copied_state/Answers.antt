@@ -1,7 +1,7 @@
 use Rattle.std.proofs.Common.{◌≡◌, sym, subst}
 use Rattle.std.proofs.lemmas.Result.{IfOk-weaker}
 use Rattle.cell_store.specs.declared.store.Store.{Store}
-use Rattle.dictionary.specs.Kept.{accepted, names_of}
+use Rattle.dictionary.specs.AcceptedParts.{accepted, names_of}
 use Rattle.recalc.specs.Sharing.{AreAtStart}
 use Rattle.recalc.specs.declared.engine_state.EngineState.{EngineState}
 use Rattle.recalc.proofs.SharingLaws.{copies_are_at_start}

@@ -7,7 +7,7 @@ use Rattle.session_lines.specs.Answering.{line_state_of}
 use Rattle.session_lines.specs.Replies.{reply_text}
 use Rattle.session_lines.specs.Stepping.{said}
 use Rattle.session_lines.proofs.AnsweringLaws.{refusal_keeps, refusal_steps, reply_keeps, reply_steps}
-use Rattle.dictionary.specs.Kept.{accepted}
+use Rattle.dictionary.specs.AcceptedParts.{accepted}
 use Rattle.dict_meaning.specs.Plain.{plain}
 use Rattle.session_lines.proofs.changing.answer_noted.Goals as goal
 

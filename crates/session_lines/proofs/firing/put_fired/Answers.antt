@@ -1,5 +1,5 @@
 use Rattle.std.proofs.Common.{◌+◌, drop, slice_get, subst, arith}
-use Rattle.dictionary.specs.Kept.{accepted}
+use Rattle.dictionary.specs.AcceptedParts.{accepted}
 use Rattle.dict_meaning.specs.Plain.{plain}
 use Rattle.fact_watch.specs.Tables.{named_relations}
 use Rattle.session_lines.specs.Firing.{firing_lines, firing_lines_at}

@@ -1,5 +1,5 @@
 use Rattle.std.proofs.Common.{map, drop}
-use Rattle.dictionary.specs.Kept.{accepted}
+use Rattle.dictionary.specs.AcceptedParts.{accepted}
 use Rattle.dict_meaning.specs.SlotText.{slot_text}
 use Rattle.session_lines.specs.Marks.{marked}
 use Rattle.session_lines.proofs.WritingLaws.{LinesSoFar}

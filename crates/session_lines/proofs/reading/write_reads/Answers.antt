@@ -1,7 +1,7 @@
 use Rattle.std.proofs.Common.{List, map, sym, subst, ◌∙◌}
 use Rattle.std.specs.Prelude.{All, IsTrue}
 use Rattle.fact_values.specs.declared.slot.Slot.{Slot}
-use Rattle.dictionary.specs.Kept.{accepted}
+use Rattle.dictionary.specs.AcceptedParts.{accepted}
 use Rattle.dict_meaning.specs.SlotText.{slot_text}
 use Rattle.dict_meaning.specs.Slots.{stands}
 use Rattle.session_lines.specs.Answering.{OutputAs}

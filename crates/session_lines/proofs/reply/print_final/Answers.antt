@@ -1,6 +1,6 @@
 use Rattle.std.proofs.Common.{ap, sym, ◌∙◌}
 use Rattle.std.specs.Prelude.{option_copied}
-use Rattle.dictionary.specs.Kept.{accepted}
+use Rattle.dictionary.specs.AcceptedParts.{accepted}
 use Rattle.session_lines.proofs.PrintLaws.{result_listed, stands_with}
 use Rattle.session_lines.proofs.reply.print_final.Goals as goal
 

@@ -1,7 +1,7 @@
 use Rattle.std.proofs.Common.{List, ap, ◌∙◌}
 use Rattle.text_checks.specs.Tables.{named_checks}
 use Rattle.dict_source.specs.Dictionary.{dictionary_view}
-use Rattle.dictionary.specs.Kept.{Named}
+use Rattle.dictionary.specs.AcceptedParts.{Named}
 use Rattle.dictionary.specs.Checks.{same_checks}
 use Rattle.dictionary.proofs.CheckLaws.{tells_same}
 use Rattle.dictionary.proofs.dictionary.Dictionary.same_checks.Goals as goal

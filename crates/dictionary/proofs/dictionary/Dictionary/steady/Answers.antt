@@ -1,7 +1,7 @@
 use Rattle.std.proofs.Common.{◌≡◌, ◌-◌, subst, arith}
 use Rattle.std.specs.Prelude.{◌↔◌, IsTrue}
 use Rattle.dict_source.specs.Dictionary.{dictionary_view}
-use Rattle.dictionary.specs.Kept.{Kept, accepted}
+use Rattle.dictionary.specs.AcceptedParts.{AcceptedParts, accepted}
 use Rattle.dict_meaning.specs.Steady.{IsSteady, steady_by_rank}
 use Rattle.dictionary.proofs.KeptLaws.{steady_of_fact, tells_by}
 use Rattle.dict_meaning.proofs.SteadyLaws.{tells}
@@ -14,7 +14,7 @@ value c =
 
 pub returns-clause-tells : goal.returns-clause-tells
 returns-clause-tells c =
-    subst (λ (k : Kept). IsTrue c.index.result.now ↔ IsSteady (accepted k).tree c.args.fact) c.self.view_is
+    subst (λ (k : AcceptedParts). IsTrue c.index.result.now ↔ IsSteady (accepted k).tree c.args.fact) c.self.view_is
     (tells_by c.index.result.now _ (value c) (tells (dictionary_view c.self.inside.contents.value.source) c.self.inside.contents.value.ranks.items c.self.invariant.is_accepted.ranked c.args.fact))
 
 pub returns-clause-value : goal.returns-clause-value

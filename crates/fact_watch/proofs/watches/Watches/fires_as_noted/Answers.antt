@@ -1,4 +1,4 @@
-use Rattle.dictionary.specs.Kept.{accepted}
+use Rattle.dictionary.specs.AcceptedParts.{accepted}
 use Rattle.dict_meaning.specs.Plain.{plain}
 use Rattle.fact_watch.specs.Watching.{code_at}
 use Rattle.fact_watch.proofs.FiringLaws.{fires_some}

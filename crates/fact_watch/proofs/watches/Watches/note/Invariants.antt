@@ -1,5 +1,5 @@
 use Rattle.std.proofs.Common.{◌≡◌, map, take}
-use Rattle.dictionary.specs.Kept.{accepted}
+use Rattle.dictionary.specs.AcceptedParts.{accepted}
 use Rattle.dict_meaning.specs.Plain.{plain}
 use Rattle.fact_watch.specs.Watching.{Pair}
 use Rattle.fact_watch.proofs.watches.Watches.note.Given as goal

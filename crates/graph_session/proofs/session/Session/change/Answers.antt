@@ -6,7 +6,7 @@ use Rattle.session_undo.specs.History.{behind, place}
 use Rattle.session_undo.specs.UndoState.{changed}
 use Rattle.session_undo.specs.Timeline.{timeline}
 use Rattle.session_undo.proofs.TimelineLaws.{timeline_changed}
-use Rattle.dictionary.specs.Kept.{accepted, names_of}
+use Rattle.dictionary.specs.AcceptedParts.{accepted, names_of}
 use Rattle.dict_meaning.specs.Allowed.{IsAllowed}
 use Rattle.dictionary.specs.Engines.{AreMarkedBy}
 use Rattle.dict_meaning.proofs.FitChangeLaws.{allowed_changes_fit}

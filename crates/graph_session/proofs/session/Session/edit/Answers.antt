@@ -1,6 +1,6 @@
 use Rattle.std.proofs.Common.{◌≡◌, ◌+◌, ◌≤◌, ℕ, Some, None, ap, sym, ◌∙◌, subst}
 use Rattle.answers.specs.Meaning.{answered, change}
-use Rattle.dictionary.specs.Kept.{accepted}
+use Rattle.dictionary.specs.AcceptedParts.{accepted}
 use Rattle.graph_session.specs.Changes.{change_of, change_refusals, change_reply}
 use Rattle.graph_session.specs.Refusals.{first_of}
 use Rattle.graph_session.specs.Rules.{rules, tree_of}

@@ -5,7 +5,7 @@ use Rattle.answers.specs.Meaning.{change}
 use Rattle.session_undo.specs.Directions.{reversed}
 use Rattle.session_undo.specs.History.{place}
 use Rattle.session_undo.specs.Timeline.{Timeline, timeline}
-use Rattle.dictionary.specs.Kept.{accepted}
+use Rattle.dictionary.specs.AcceptedParts.{accepted}
 use Rattle.dictionary.specs.Engines.{AreMarkedBy}
 use Rattle.dict_meaning.specs.Fits.{AnswersFit}
 use Rattle.graph_session.specs.Moves.{step_command, timeline_stepped}

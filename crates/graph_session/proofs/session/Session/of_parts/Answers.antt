@@ -1,6 +1,6 @@
 use Rattle.std.proofs.Common.{refl}
 use Rattle.answers.specs.Meaning.{answered}
-use Rattle.dictionary.specs.Kept.{accepted}
+use Rattle.dictionary.specs.AcceptedParts.{accepted}
 use Rattle.graph_session.proofs.CountLaws.{fresh_offered}
 use Rattle.graph_session.proofs.session.Session.of_parts.Goals as goal
 

@@ -1,6 +1,6 @@
 use Rattle.std.proofs.Common.{◌∙◌}
 use Rattle.answers.specs.Meaning.{answered}
-use Rattle.dictionary.specs.Kept.{accepted}
+use Rattle.dictionary.specs.AcceptedParts.{accepted}
 use Rattle.graph_session.proofs.CountLaws.{offered_stamp}
 use Rattle.graph_session.proofs.session.Session.stamp.Goals as goal
 

@@ -5,7 +5,7 @@ use Rattle.dict_source.specs.Facts.{fact_view}
 use Rattle.dict_source.specs.Finding.{fact_at}
 use Rattle.three_state.specs.declared.res.Res.{Res}
 use Rattle.answers.specs.Meaning.{answered}
-use Rattle.dictionary.specs.Kept.{accepted, names_of}
+use Rattle.dictionary.specs.AcceptedParts.{accepted, names_of}
 use Rattle.dict_meaning.specs.Plain.{slot_result}
 use Rattle.visit_counts.specs.SlotVisits.{slot_visits, visits_over}
 use Rattle.visit_counts.proofs.SlotVisitLaws.{visits_over_lower}

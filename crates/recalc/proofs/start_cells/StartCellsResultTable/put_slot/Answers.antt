@@ -1,6 +1,6 @@
 use Rattle.std.proofs.lemmas.Result.{on_ok_weaker}
 use Rattle.answers.specs.Meaning.{answered}
-use Rattle.dictionary.specs.Kept.{accepted}
+use Rattle.dictionary.specs.AcceptedParts.{accepted}
 use Rattle.recalc.proofs.SharingLaws.{first_has_no_stamp, first_is_filled}
 use Rattle.recalc.proofs.start_cells.StartCellsResultTable.put_slot.Goals as goal
 

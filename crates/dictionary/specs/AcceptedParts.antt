@@ -12,11 +12,11 @@ abbrev pub names_of : List Named → List (List ℕ)
 names_of checks = map (λ (c : Named). c.0) checks
 
 -- what was accepted, with the facts as they lie in memory, and the checks with which it was accepted
-pub record Kept : Type 0 where
+pub record AcceptedParts : Type 0 where
   pub source : Written
   pub typed : TypedDictionary
   pub ranks : List ℕ
   pub checks : List Named
 
-abbrev pub accepted : Kept → Accepted
+abbrev pub accepted : AcceptedParts → Accepted
 accepted k = record { tree = dictionary_view k.source; typed = k.typed; ranks = k.ranks }
