@@ -18,7 +18,8 @@ pub entry_same : (d e : Entry) → d.values ≡ e.values → d.overrides ≡ e.o
 entry_same d e v o = λ i. record { values = v i; overrides = o i }
 
 -- the side of what stands at a fact
-pub side_at : (side : Side) (es : List (ℕ × Sides)) (f : ℕ) → map.get (of_side side (entry_in es)) f ≡ and_then (side_of side) (lookup (nat_eq f) es)
+pub side_at : (side : Side) (es : List (ℕ × Sides)) (f : ℕ)
+    → map.get (of_side side (entry_in es)) f ≡ and_then (side_of side) (lookup (nat_eq f) es)
 side_at Answer es f = get_map_of (side_of Answer) es f
 side_at Override es f = get_map_of (side_of Override) es f
 
@@ -44,7 +45,8 @@ side_written Override ds es f v p h own other = entry_same _ _
     (one_changed (side_of Override) ds es f (Some p) h ∙ ap (put_at (entry_in ds).overrides f) own)
 
 -- nothing is taken away at a fact without a place
-pub side_cleared : (side : Side) (es : List (ℕ × Sides)) (f : ℕ) → lookup (nat_eq f) es ≡ None → entry_in es ≡ with_value side f None (entry_in es)
+pub side_cleared : (side : Side) (es : List (ℕ × Sides)) (f : ℕ) → lookup (nat_eq f) es ≡ None
+    → entry_in es ≡ with_value side f None (entry_in es)
 side_cleared Answer es f h = entry_same _ _ (sym (put_same (entry_in es).values f None (side_at Answer es f ∙ ap (and_then (side_of Answer)) h))) refl
 side_cleared Override es f h = entry_same _ _ refl (sym (put_same (entry_in es).overrides f None (side_at Override es f ∙ ap (and_then (side_of Override)) h)))
 

@@ -189,7 +189,8 @@ module _ (d : Tree) (fact base : ℕ) where
       behind_list (type_at d) t.first t.second s.0 m (base_number d (Some s.2.0)) s.1 e (list_target d (Some s.0) s.2.0 s.2.1)
 
   sum_has : (c : Condition) (path : UsePath) (m : ℕ) (u : FactType) → is_in_place d fact (uses.Read CollectionSum) c path ≡ true → last_target path (targets_of path) ≡ Some m → option_and_then field_sum_type (type_at d m) ≡ Some u
-      → read_type (type_at d) (read_of d (targets_of path) CollectionSum) (resolved_path path (targets_of path)) ≡ Some u
+      → read_type (type_at d) (read_of d (targets_of path) CollectionSum) (resolved_path path (targets_of path))
+      ≡ Some u
   sum_has c (Each n x) m u h e k =
       let t = targets_of (Each n x) in
       let kind = ap (option_and_then (type_at d)) e in

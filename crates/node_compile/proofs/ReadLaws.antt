@@ -103,7 +103,8 @@ module _ (d : Tree) (results : Results) (base : ℕ) (at : NodePosition) where
 
   -- the collection of a Filter or a Find, whose base is known
   pub list_by_path : (fact : ℕ) (path : Option UsePath) (c : ℕ) → known (condition_base d fact base path) ≡ Some c
-      → nodes.collection results (resolved_use d fact base path) ≡ paths.source_result d results fact (standing base at) path
+      → nodes.collection results (resolved_use d fact base path)
+      ≡ paths.source_result d results fact (standing base at) path
   list_by_path fact None c e = absurd cc
   list_by_path fact (Some p) c e =
       let first = condition_lists d fact base p c e in

@@ -93,8 +93,8 @@ read_type facts node_read.SumInt r = option_and_then int_sum (field_type facts r
 read_type facts node_read.SumDollar r = option_and_then dollar_sum (field_type facts r)
 read_type facts node_read.Count r = option_and_then counted (field_type facts r)
 
--- A path says itself under which condition it stands, so the types are those of every base. Every table fits: those of a
--- dictionary were judged when it was read.
+-- A path says itself under which condition it stands, so the types are those of every base. Every table fits: those of
+-- a dictionary were judged when it was read.
 abbrev pub node_types : FactTypes → Types Value Reading ResolvedPath
 node_types facts = record {
   constant = constant_type;
